@@ -1,0 +1,5 @@
+pub mod Client
+pub mod Check
+pub mod Frame
+pub mod Stream
+pub mod Index

@@ -1,0 +1,119 @@
+//! A frame and its bytes.
+use crate::reading::stored;
+use crate::writing::text_of;
+use arrayvec::ArrayVec;
+use std::marker::Model;
+
+/// An address of one, two or four bytes.
+#[derive(Clone, Copy, Debug, PartialEq, Eq)]
+pub enum Address {
+    One(u8),
+    Two(u8, u8),
+    Four(u16, u16),
+}
+
+/// What stands before the information.
+#[derive(Clone, Copy)]
+pub(crate) struct Header {
+    pub(crate) segmented: bool,
+    pub(crate) len: usize,
+    pub(crate) dest: Address,
+    pub(crate) src: Address,
+    pub(crate) control: u8,
+}
+
+/// What stands between two flags.
+#[derive(Drop)]
+pub struct Frame {
+    pub segmented: bool,
+    pub dest: Address,
+    pub src: Address,
+    pub control: u8,
+    pub info: ArrayVec<u8, 2038>,
+}
+
+impl Model for Frame {
+    ghost use Rattle.dlms_frame.specs.Frame.{Parts, IsFrame};
+
+    ghost Value = { Parts };
+
+    ghost view = { λ f. record { segmented = f.segmented; dest = f.dest; src = f.src; control = f.control; info = f.info.items } };
+
+    ghost invariant = { λ f. IsFrame (record { segmented = f.segmented; dest = f.dest; src = f.src; control = f.control; info = f.info.items }) };
+}
+
+impl Address {
+    ghost use Rattle.std.specs.Prelude.{◌≡◌, length};
+    ghost use Rattle.dlms_frame.specs.Frame.{address_bytes};
+
+    /// How many bytes it takes.
+    pub fn len(self) -> usize
+        ensures { result ≡ length (address_bytes self) }
+    {
+        match self {
+            Address::One(_) => 1,
+            Address::Two(_, _) => 2,
+            Address::Four(_, _) => 4,
+        }
+    }
+}
+
+impl Frame {
+    ghost use Rattle.std.specs.Prelude.{◌≡◌, ◌≤◌, length};
+    ghost use Rattle.dlms_frame.specs.Frame.{FrameSpelling, frame_len, IsAddress};
+
+    /// A frame of these parts, that fits whatever forms its addresses have.
+    pub fn new(segmented: bool, dest: Address, src: Address, control: u8, info: &[u8]) -> Frame
+        requires dest { IsAddress dest }
+        requires src { IsAddress src }
+        requires short { length info.now ≤ 2032 }
+        ensures { result ≡ record { segmented = segmented; dest = dest; src = src; control = control; info = info.now } }
+    {
+        Frame {
+            segmented,
+            dest,
+            src,
+            control,
+            info: stored(info),
+        }
+    }
+
+    /// An equal frame.
+    pub fn copy(&self) -> Frame
+        ensures { result ≡ self.now }
+    {
+        Frame {
+            segmented: self.segmented,
+            dest: self.dest,
+            src: self.src,
+            control: self.control,
+            info: stored(self.info.as_slice()),
+        }
+    }
+
+    /// How many bytes stand between the flags.
+    pub fn len(&self) -> usize
+        ensures { result ≡ frame_len self.now }
+    {
+        let tail = if self.info.is_empty() {
+            2
+        } else {
+            self.info.len() + 4
+        };
+        3 + self.dest.len() + self.src.len() + tail
+    }
+
+    /// The bytes of the frame.
+    pub fn put(&self) -> ArrayVec<u8, 2049>
+        ensures { FrameSpelling result.items self.now }
+    {
+        let header = Header {
+            segmented: self.segmented,
+            len: self.len(),
+            dest: self.dest,
+            src: self.src,
+            control: self.control,
+        };
+        text_of(header, self.info.as_slice())
+    }
+}

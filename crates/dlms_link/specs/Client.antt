@@ -1,0 +1,155 @@
+-- The client's link: one frame is out, and then it waits.
+use Rattle.std.specs.Prelude.{ℕ, ◌+◌, ◌==◌, ◌&&◌, if◌then◌else◌, List, [], ◌++◌, take, drop, Bool, true, false, Option, None, Some, nat_lt}
+use Rattle.dlms_frame.specs.Client.{sap_of}
+use Rattle.dlms_frame.specs.declared.client.Client.{Client}
+use Rattle.dlms_frame.specs.declared.frame.Address.{Address}
+use Rattle.dlms_frame.specs.declared.frame.Address.TheVariants.{One, Two, Four}
+use Rattle.dlms_frame.specs.Frame.{Parts}
+use Rattle.dlms_link.specs.declared.control.Control.{Control}
+use Rattle.dlms_link.specs.declared.control.Control.TheVariants.{Snrm, Disc, Ua, Dm, Information, Ready, NotReady, Other}
+use Rattle.dlms_link.specs.declared.out.Phase.{Phase}
+use Rattle.dlms_link.specs.declared.out.Phase.TheVariants.{Closed, Connecting, Open, Closing}
+use Rattle.dlms_link.specs.declared.out.ClientOut.{ClientOut}
+use Rattle.dlms_link.specs.declared.out.ClientOut.TheVariants.{Nothing, Up, Send, Apdu, Down}
+use Rattle.dlms_link.specs.declared.way.Way.{Way}
+use Rattle.dlms_link.specs.declared.way.Way.TheVariants.{Takes, TakenBefore, LetsNext, Leaves}
+use Rattle.dlms_link.specs.Octet.{control_of, information_octet, ready_octet, next, before}
+use Rattle.dlms_link.specs.Kept.{Kept, Fresh, Good, TooLong, BadStart, kept_after, llc, from_client, from_meter, is_more}
+use Rattle.dlms_link.specs.Server.{is_client}
+
+pub record ClientRecord : Type 0 where
+  pub client : Client
+  pub phase : Phase
+  pub send_next : ℕ
+  pub receive_next : ℕ
+  -- the frame that is out
+  pub waits : Option Parts
+  -- the time-outs in a row
+  pub repeats : ℕ
+  pub kept : Kept
+  pub apdu : List ℕ
+  pub unsent : List ℕ
+
+abbrev pub fresh_client : Client → ClientRecord
+fresh_client who = record { client = who; phase = Closed; send_next = 0; receive_next = 0; waits = None; repeats = 0; kept = Fresh; apdu = []; unsent = [] }
+
+-- a frame to the meter
+abbrev pub to_meter : Client → ℕ → Bool → List ℕ → Parts
+to_meter who octet segmented info = record { segmented = segmented; dest = One 1; src = One (sap_of who); control = octet; info = info }
+
+-- no link
+abbrev pub closed : ClientRecord → ClientRecord
+closed c = record c { phase = Closed; send_next = 0; receive_next = 0; waits = None; repeats = 0; kept = Fresh; unsent = [] }
+
+abbrev pub connected : ClientRecord → ClientRecord
+connected c = record c { phase = Open; send_next = 0; receive_next = 0; waits = None; repeats = 0; kept = Fresh; unsent = [] }
+
+-- a frame goes out
+abbrev pub out : ClientRecord → Parts → ClientRecord
+out c f = record c { waits = Some f; repeats = 0 }
+
+abbrev pub snrm_of : ClientRecord → Parts
+snrm_of c = to_meter c.client 147 false []
+
+abbrev pub disc_of : ClientRecord → Parts
+disc_of c = to_meter c.client 83 false []
+
+abbrev pub client_connect : ClientRecord → ClientRecord
+client_connect c = record (out c (snrm_of c)) { phase = Connecting }
+
+abbrev pub client_disconnect : ClientRecord → ClientRecord
+client_disconnect c = record (out c (disc_of c)) { phase = Closing }
+
+-- the next unsent segment as an I
+abbrev pub client_segment : ClientRecord → Parts
+client_segment c = to_meter c.client (information_octet c.send_next c.receive_next) (is_more (drop 128 c.unsent)) (take 128 c.unsent)
+
+abbrev pub after_client_segment : ClientRecord → ClientRecord
+after_client_segment c = record (out c (client_segment c)) { send_next = next c.send_next; unsent = drop 128 c.unsent }
+
+abbrev pub client_giving : ClientRecord → List ℕ → ClientRecord
+client_giving c apdu = record c { kept = Fresh; unsent = llc from_client ++ apdu }
+
+abbrev pub client_send : ClientRecord → List ℕ → ClientRecord × Parts
+client_send c apdu = (after_client_segment (client_giving c apdu), client_segment (client_giving c apdu))
+
+-- receive-ready, with the number that is expected
+abbrev pub client_ready : ClientRecord → Parts
+client_ready c = to_meter c.client (ready_octet c.receive_next) false []
+
+-- an I that is taken: where it is a segment the client sends RR
+abbrev pub takes : ClientRecord → Bool → Kept → ClientRecord × ClientOut
+takes c true (Good bytes) =
+    let d = record c { receive_next = next c.receive_next; kept = Good bytes; unsent = [] } in
+    (out d (client_ready d), Send (client_ready d))
+takes c false (Good bytes) =
+    (record c { receive_next = next c.receive_next; kept = Fresh; apdu = bytes; waits = None; repeats = 0; unsent = [] }, Apdu)
+takes c segmented Fresh = (closed c, Down)
+takes c segmented TooLong = (closed c, Down)
+takes c segmented BadStart = (closed c, Down)
+
+abbrev pub on_ua : ClientRecord → Phase → ClientRecord × ClientOut
+on_ua c Closed = (c, Nothing)
+on_ua c Connecting = (connected c, Up)
+on_ua c Open = (c, Nothing)
+on_ua c Closing = (closed c, Down)
+
+abbrev pub on_dm : ClientRecord → Phase → ClientRecord × ClientOut
+on_dm c Closed = (c, Nothing)
+on_dm c Connecting = (closed c, Down)
+on_dm c Open = (closed c, Down)
+on_dm c Closing = (closed c, Down)
+
+-- what an open link does with an I or an RR
+unfoldable pub way_of : ClientRecord → Control → Way
+way_of c (Information send receive) =
+    if (send == c.receive_next) && (receive == c.send_next) then Takes
+    else (if send == before c.receive_next then TakenBefore else Leaves)
+way_of c (Ready receive) = if (receive == c.send_next) && is_more c.unsent then LetsNext else Leaves
+way_of c Snrm = Leaves
+way_of c Disc = Leaves
+way_of c Ua = Leaves
+way_of c Dm = Leaves
+way_of c NotReady = Leaves
+way_of c Other = Leaves
+
+abbrev pub by_way : ClientRecord → Parts → Way → ClientRecord × ClientOut
+by_way c f Takes = takes c f.segmented (kept_after from_meter c.kept f.info)
+by_way c f TakenBefore = (out c (client_ready c), Send (client_ready c))
+by_way c f LetsNext = (after_client_segment c, Send (client_segment c))
+by_way c f Leaves = (c, Nothing)
+
+abbrev pub on_counted : ClientRecord → Parts → Phase → ClientRecord × ClientOut
+on_counted c f Open = by_way c f (way_of c (control_of f.control))
+on_counted c f Closed = (c, Nothing)
+on_counted c f Connecting = (c, Nothing)
+on_counted c f Closing = (c, Nothing)
+
+abbrev pub on_control : ClientRecord → Parts → Control → ClientRecord × ClientOut
+on_control c f Ua = on_ua c c.phase
+on_control c f Dm = on_dm c c.phase
+on_control c f (Information send receive) = on_counted c f c.phase
+on_control c f (Ready receive) = on_counted c f c.phase
+on_control c f Snrm = (c, Nothing)
+on_control c f Disc = (c, Nothing)
+on_control c f NotReady = (c, Nothing)
+on_control c f Other = (c, Nothing)
+
+abbrev pub is_server : Address → Bool
+is_server (One upper) = upper == 1
+is_server (Two upper lower) = false
+is_server (Four upper lower) = false
+
+unfoldable pub is_answer : ClientRecord → Parts → Bool
+is_answer c f = is_client c.client f.dest && is_server f.src
+
+abbrev pub client_on : ClientRecord → Parts → ClientRecord × ClientOut
+client_on c f = if is_answer c f then on_control c f (control_of f.control) else (c, Nothing)
+
+-- a time-out, while a frame is out: it goes again, and at the fourth in a row the link is down
+abbrev pub by_count : ClientRecord → Bool → ClientRecord × Option Parts
+by_count c true = (record c { repeats = c.repeats + 1 }, c.waits)
+by_count c false = (closed c, None)
+
+abbrev pub client_timeout : ClientRecord → ClientRecord × Option Parts
+client_timeout c = by_count c (nat_lt c.repeats 3)

@@ -1,0 +1,10 @@
+pub mod Octet
+pub mod Kept
+pub mod View
+pub mod Parameters
+pub mod Server
+pub mod ServerView
+pub mod Client
+pub mod ClientView
+pub mod World
+pub mod Segments

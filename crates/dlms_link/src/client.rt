@@ -1,0 +1,315 @@
+//! The client's end of the link: one frame is out, and then it waits.
+
+ghost use Rattle.std.specs.Prelude.{◌≡◌, ◌≤◌, ◌<◌, ℕ, IsTrue, IsSome, List, length, take, drop, MatchResult};
+ghost use Rattle.dlms_link.specs.Client.{fresh_client, to_meter, client_connect, client_disconnect, client_send, client_on, client_timeout, client_segment, after_client_segment, client_ready, snrm_of, disc_of, closed, connected, out, way_of, is_answer, is_server, takes, by_way, on_counted};
+ghost use Rattle.dlms_link.specs.Server.{is_client};
+
+use crate::control::{Control, before, information_octet, next, read, ready_octet};
+use crate::kept::{Assembly, Progress};
+use crate::out::{ClientOut, Phase};
+use crate::segments::cut;
+use crate::server::is_client;
+use crate::way::Way;
+use arrayvec::ArrayVec;
+use dlms_frame::{Address, Client, Frame};
+use std::marker::Model;
+
+/// Nobody answers.
+#[derive(Clone, Copy, Debug, PartialEq, Eq)]
+pub struct LineFault;
+
+/// The client's end of the link.
+#[derive(Drop)]
+pub struct ClientLink {
+    client: Client,
+    phase: Phase,
+    send_next: u8,
+    receive_next: u8,
+    waits: Option<Frame>,
+    repeats: u8,
+    kept: Assembly,
+    apdu: ArrayVec<u8, 1024>,
+    unsent: ArrayVec<u8, 1027>,
+}
+
+impl Model for ClientLink {
+    ghost use Rattle.dlms_link.specs.Client.{ClientRecord};
+
+    ghost Value = { ClientRecord };
+
+    ghost use Rattle.dlms_link.specs.ClientView.{record_of, IsInRange};
+
+    ghost view = { record_of };
+
+    ghost invariant = { IsInRange };
+}
+
+/// A frame to the meter.
+fn to_meter(client: Client, control: u8, segmented: bool, bytes: &[u8]) -> Frame
+    requires { length bytes.now ≤ 2032 }
+    ensures { result ≡ to_meter client control segmented bytes.now }
+{
+    Frame::new(
+        segmented,
+        Address::One(1),
+        Address::One(client.sap()),
+        control,
+        bytes,
+    )
+}
+
+impl ClientLink {
+    pub fn new(client: Client) -> Self
+        ensures { result ≡ fresh_client client }
+    {
+        ClientLink {
+            client,
+            phase: Phase::Closed,
+            send_next: 0,
+            receive_next: 0,
+            waits: None,
+            repeats: 0,
+            kept: Assembly::new(),
+            apdu: ArrayVec::new(),
+            unsent: ArrayVec::new(),
+        }
+    }
+
+    /// The last APDU that was handed up.
+    pub fn apdu(&self) -> &[u8]
+        ensures { result.now ≡ self.now.apdu }
+    {
+        self.apdu.as_slice()
+    }
+
+    /// Whether the link is up and awaits nothing.
+    pub fn is_idle(&self) -> bool
+        ensures idle { IsTrue result → (self.now.phase ≡ Phase.Open) × (self.now.waits ≡ None) }
+        ensures busy { (self.now.phase ≡ Phase.Open) → (self.now.waits ≡ None) → IsTrue result }
+    {
+        self.phase == Phase::Open && self.waits.is_none()
+    }
+
+    /// Asks for a connection.
+    pub fn connect(&mut self) -> Frame
+        requires down { self.old.phase ≡ Phase.Closed }
+        requires idle { self.old.waits ≡ None }
+        ensures frame { result ≡ snrm_of self.old }
+        ensures after { self.new ≡ client_connect self.old }
+    {
+        let frame = to_meter(self.client, 0x93, false, &[]);
+        self.phase = Phase::Connecting;
+        self.goes_out(&frame);
+        frame
+    }
+
+    /// Asks for the connection's end.
+    pub fn disconnect(&mut self) -> Frame
+        requires up { self.old.phase ≡ Phase.Open }
+        requires idle { self.old.waits ≡ None }
+        ensures frame { result ≡ disc_of self.old }
+        ensures after { self.new ≡ client_disconnect self.old }
+    {
+        let frame = to_meter(self.client, 0x53, false, &[]);
+        self.phase = Phase::Closing;
+        self.goes_out(&frame);
+        frame
+    }
+
+    /// Sends an APDU: its first segment.
+    pub fn send(&mut self, apdu: &[u8]) -> Frame
+        requires up { self.old.phase ≡ Phase.Open }
+        requires idle { self.old.waits ≡ None }
+        requires short { length apdu.now ≤ 1024 }
+        ensures frame { result ≡ (client_send self.old apdu.now).1 }
+        ensures after { self.new ≡ (client_send self.old apdu.now).0 }
+    {
+        let mut unsent = ArrayVec::new();
+        let _ = unsent.try_extend_from_slice(&[0xe6, 0xe6, 0x00]);
+        let _ = unsent.try_extend_from_slice(apdu);
+        self.unsent = unsent;
+        self.kept = Assembly::new();
+        self.segment()
+    }
+
+    /// A time-out of the frame that is out: it goes again, and the fourth in a row ends the link.
+    pub fn timeout(&mut self) -> Result<Frame, LineFault>
+        requires { IsSome self.old.waits }
+        ensures frame { MatchResult result (λ f. (client_timeout self.old).1 ≡ Some f) (λ _. (client_timeout self.old).1 ≡ None) }
+        ensures after { self.new ≡ (client_timeout self.old).0 }
+    {
+        if self.repeats < 3 {
+            if let Some(frame) = &self.waits {
+                let again = frame.copy();
+                self.repeats += 1;
+                return Ok(again);
+            }
+        }
+        self.close();
+        Err(LineFault)
+    }
+
+    /// What the link makes of a frame.
+    pub fn on(&mut self, frame: &Frame) -> ClientOut
+        ensures out { result ≡ (client_on self.old frame.now).1 }
+        ensures after { self.new ≡ (client_on self.old frame.now).0 }
+    {
+        if !self.is_answer(frame) {
+            return ClientOut::Nothing;
+        }
+        let control = read(frame.control);
+        match (control, self.phase) {
+            (Control::Ua, Phase::Connecting) => {
+                self.close();
+                self.phase = Phase::Open;
+                ClientOut::Up
+            }
+            (Control::Ua, Phase::Closing) => {
+                self.close();
+                ClientOut::Down
+            }
+            (Control::Dm, Phase::Connecting | Phase::Open | Phase::Closing) => {
+                self.close();
+                ClientOut::Down
+            }
+            (Control::Information(_, _) | Control::Ready(_), Phase::Open) => {
+                self.by_way(frame, self.way(control))
+            }
+            _ => ClientOut::Nothing,
+        }
+    }
+
+    /// Whether a frame is from the meter to this client.
+    #[tactic(auto, unfolding(crate::specs::Client::is_answer))]
+    fn is_answer(&self, frame: &Frame) -> bool
+        ensures { result ≡ is_answer self.now frame.now }
+    {
+        is_client(self.client, frame.dest) && is_server(frame.src)
+    }
+
+    /// What an open link does with an I or an RR.
+    #[tactic(auto, unfolding(crate::specs::Client::way_of))]
+    fn way(&self, control: Control) -> Way
+        ensures { result ≡ way_of self.now control }
+    {
+        match control {
+            Control::Information(send, receive) => {
+                if send == self.receive_next && receive == self.send_next {
+                    Way::Takes
+                } else if send == before(self.receive_next) {
+                    Way::TakenBefore
+                } else {
+                    Way::Leaves
+                }
+            }
+            Control::Ready(receive) => {
+                if receive == self.send_next && !self.unsent.is_empty() {
+                    Way::LetsNext
+                } else {
+                    Way::Leaves
+                }
+            }
+            _ => Way::Leaves,
+        }
+    }
+
+    fn by_way(&mut self, frame: &Frame, way: Way) -> ClientOut
+        ensures out { result ≡ (by_way self.old frame.now way).1 }
+        ensures after { self.new ≡ (by_way self.old frame.now way).0 }
+    {
+        match way {
+            Way::Takes => {
+                self.kept.take(0xe7, frame.info.as_slice());
+                self.takes(frame.segmented)
+            }
+            Way::TakenBefore => ClientOut::Send(self.ready()),
+            Way::LetsNext => ClientOut::Send(self.segment()),
+            Way::Leaves => ClientOut::Nothing,
+        }
+    }
+
+    /// A segment of an answer was kept.
+    fn takes(&mut self, segmented: bool) -> ClientOut
+        ensures out { result ≡ (takes self.old segmented self.old.kept).1 }
+        ensures after { self.new ≡ (takes self.old segmented self.old.kept).0 }
+    {
+        match self.kept.progress() {
+            Progress::Good => {
+                self.receive_next = next(self.receive_next);
+                self.unsent.clear();
+                if segmented {
+                    ClientOut::Send(self.ready())
+                } else {
+                    self.apdu = self.kept.apdu();
+                    self.kept = Assembly::new();
+                    self.waits = None;
+                    self.repeats = 0;
+                    ClientOut::Apdu
+                }
+            }
+            _ => {
+                self.close();
+                ClientOut::Down
+            }
+        }
+    }
+
+    /// The next segment of what is sent.
+    fn segment(&mut self) -> Frame
+        ensures frame { result ≡ client_segment self.old }
+        ensures after { self.new ≡ after_client_segment self.old }
+    {
+        let (front, more) = cut(&mut self.unsent, 128);
+        let frame = to_meter(
+            self.client,
+            information_octet(self.send_next, self.receive_next),
+            more,
+            front.as_slice(),
+        );
+        self.send_next = next(self.send_next);
+        self.goes_out(&frame);
+        frame
+    }
+
+    /// An RR with the number that is expected.
+    fn ready(&mut self) -> Frame
+        ensures frame { result ≡ client_ready self.old }
+        ensures after { self.new ≡ out self.old (client_ready self.old) }
+    {
+        let frame = to_meter(self.client, ready_octet(self.receive_next), false, &[]);
+        self.goes_out(&frame);
+        frame
+    }
+
+    /// The frame is out.
+    fn goes_out(&mut self, frame: &Frame)
+        ensures { self.new ≡ out self.old frame.now }
+    {
+        self.waits = Some(frame.copy());
+        self.repeats = 0;
+    }
+
+    /// No link.
+    fn close(&mut self)
+        ensures { self.new ≡ closed self.old }
+    {
+        self.phase = Phase::Closed;
+        self.send_next = 0;
+        self.receive_next = 0;
+        self.waits = None;
+        self.repeats = 0;
+        self.kept = Assembly::new();
+        self.unsent.clear();
+    }
+}
+
+/// Whether an address is the meter's, as it answers this client.
+fn is_server(address: Address) -> bool
+    ensures { result ≡ is_server address }
+{
+    match address {
+        Address::One(upper) => upper == 1,
+        Address::Two(_, _) => false,
+        Address::Four(_, _) => false,
+    }
+}

@@ -1,0 +1,91 @@
+//! The parameters of a link: what an SNRM proposes, and what the UA answers.
+
+ghost use Rattle.std.specs.Prelude.{◌≡◌, ◌≤◌, ◌<◌, ℕ, IfSome, IfNone, IsTrue, length, None};
+ghost use Rattle.dlms_link.specs.Parameters.{IsFirst, has_lawful_length, number_of, read_group, size_of, information_of, own_parameters};
+
+/// Whether a parameter may have a value of this length.
+fn has_lawful_length(id: u8, len: usize) -> bool
+    ensures { result ≡ has_lawful_length id len }
+{
+    if 5 <= id && id <= 8 {
+        len == 1 || len == 2 || len == 4
+    } else {
+        true
+    }
+}
+
+/// The number of one, two or four octets.
+fn number_of(octets: &[u8]) -> u32
+    requires { IsTrue (has_lawful_length 6 (length octets.now)) }
+    ensures { result ≡ number_of octets.now }
+{
+    match octets {
+        [a] => u32::from(*a),
+        [a, b] => u32::from(*a) * 256 + u32::from(*b),
+        [a, b, c, d] => {
+            ((u32::from(*a) * 256 + u32::from(*b)) * 256 + u32::from(*c)) * 256 + u32::from(*d)
+        }
+        _ => 0,
+    }
+}
+
+/// The parameter at the front, as its identifier and its value, and the bytes behind it.
+fn first_parameter(bytes: &[u8]) -> Option<(u8, &[u8], &[u8])>
+    requires { 0 < length bytes.now }
+    ensures found { IfSome result (λ r. IsFirst r.0 r.1.now r.2.now bytes.now) }
+    ensures none { IfNone result ((n received : ℕ) → read_group n received bytes.now ≡ None) }
+{
+    let (id, rest) = bytes.split_first()?;
+    let (len, rest) = rest.split_first()?;
+    let len = usize::from(*len);
+    if has_lawful_length(*id, len) && len <= rest.len() {
+        Some((*id, &rest[..len], &rest[len..]))
+    } else {
+        None
+    }
+}
+
+/// The greatest information that a group's parameters say is received.
+fn greatest_received(group: &[u8]) -> Option<u32>
+    ensures { result ≡ read_group (length group.now) 128 group.now }
+{
+    let mut received = 128;
+    let mut rest = group;
+    while !rest.is_empty() {
+        let (id, value, behind) = first_parameter(rest)?;
+        if id == 6 {
+            received = number_of(value);
+        }
+        rest = behind;
+    }
+    Some(received)
+}
+
+/// The most information of a frame that the meter sends to a client with these parameters.
+#[tactic(auto, unfolding(crate::specs::Parameters::size_of))]
+pub(crate) fn size_of(info: &[u8]) -> Option<u8>
+    ensures size { result ≡ size_of info.now }
+    ensures within { IfSome result (λ size. (32 ≤ size) × (size ≤ 128)) }
+{
+    match info {
+        [] => Some(128),
+        [0x81, 0x80, len, group @ ..] if usize::from(*len) == group.len() => {
+            let received = greatest_received(group)?;
+            if received < 32 {
+                None
+            } else {
+                Some(received.min(128) as u8)
+            }
+        }
+        _ => None,
+    }
+}
+
+/// The information of the meter's UA.
+pub(crate) fn parameters(size: u8) -> [u8; 21]
+    ensures { result ≡ information_of (own_parameters size) }
+{
+    [
+        0x81, 0x80, 18, 5, 1, size, 6, 1, 128, 7, 4, 0, 0, 0, 1, 8, 4, 0, 0, 0, 1,
+    ]
+}

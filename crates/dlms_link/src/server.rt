@@ -1,0 +1,324 @@
+//! The meter's end of a client's link.
+
+ghost use Rattle.std.specs.Prelude.{◌≡◌, ◌≤◌, ◌<◌, ℕ, ◌↔◌, IsTrue, is_some, IsSome, IfSome, List, length, true, take, drop, nat_le};
+ghost use Rattle.dlms_frame.specs.Frame.{IsAddress};
+ghost use Rattle.dlms_link.specs.Parameters.{size_of};
+ghost use Rattle.dlms_link.specs.Server.{again, fresh_server, is_meter, is_client, to_client, row_of, row_of_snrm, row_while_up, row_while_down, ready_frame, server_on, server_send, awaits, HasSize, segment_of, after_segment, was_information};
+
+use crate::control::{Control, before, information_octet, next, read, ready_octet};
+use crate::kept::Assembly;
+use crate::out::{Answer, LinkOut};
+use crate::parameters::{parameters, size_of};
+use crate::row::Row;
+use crate::segments::cut;
+use arrayvec::ArrayVec;
+use dlms_frame::{Address, Client, Frame};
+use std::marker::Model;
+
+/// The meter's end of a client's link.
+#[derive(Drop)]
+pub struct ServerLink {
+    client: Client,
+    up: bool,
+    send_next: u8,
+    receive_next: u8,
+    last: Answer,
+    took_information: bool,
+    kept: Assembly,
+    apdu: ArrayVec<u8, 1024>,
+    unsent: ArrayVec<u8, 1027>,
+    size: u8,
+    waits: Option<Address>,
+}
+
+impl Model for ServerLink {
+    ghost use Rattle.dlms_link.specs.Server.{ServerRecord};
+
+    ghost Value = { ServerRecord };
+
+    ghost use Rattle.dlms_link.specs.ServerView.{record_of, IsInRange};
+
+    ghost view = { record_of };
+
+    ghost invariant = { IsInRange };
+}
+
+/// Whether an address is the meter's.
+fn is_meter(address: Address) -> bool
+    ensures { result ≡ is_meter address }
+{
+    match address {
+        Address::One(upper) => upper == 1,
+        Address::Two(upper, lower) => upper == 1 && lower == 17,
+        Address::Four(upper, lower) => upper == 1 && lower == 17,
+    }
+}
+
+/// Whether an address is this client's.
+pub fn is_client(client: Client, address: Address) -> bool
+    ensures { result ≡ is_client client address }
+{
+    match address {
+        Address::One(sap) => sap == client.sap(),
+        Address::Two(_, _) => false,
+        Address::Four(_, _) => false,
+    }
+}
+
+/// A frame to the client, from the address that it spoke to.
+fn to_client(client: Client, from: Address, control: u8, segmented: bool, bytes: &[u8]) -> Frame
+    requires from { IsAddress from }
+    requires short { length bytes.now ≤ 2032 }
+    ensures { result ≡ to_client client from control segmented bytes.now }
+{
+    Frame::new(segmented, Address::One(client.sap()), from, control, bytes)
+}
+
+/// An equal answer as what comes out.
+fn again(last: &Answer) -> LinkOut
+    ensures { result ≡ again last.now }
+{
+    match last {
+        Answer::NoAnswer => LinkOut::Nothing,
+        Answer::WasReady(frame) => LinkOut::Reply(frame.copy()),
+        Answer::WasInformation(frame) => LinkOut::Reply(frame.copy()),
+    }
+}
+
+/// Whether the last answer was an I.
+fn was_information(last: &Answer) -> bool
+    ensures { result ≡ was_information last.now }
+{
+    match last {
+        Answer::NoAnswer => false,
+        Answer::WasReady(_) => false,
+        Answer::WasInformation(_) => true,
+    }
+}
+
+impl ServerLink {
+    pub fn new(client: Client) -> Self
+        ensures { result ≡ fresh_server client }
+    {
+        ServerLink {
+            client,
+            up: false,
+            send_next: 0,
+            receive_next: 0,
+            last: Answer::NoAnswer,
+            took_information: false,
+            kept: Assembly::new(),
+            apdu: ArrayVec::new(),
+            unsent: ArrayVec::new(),
+            size: 128,
+            waits: None,
+        }
+    }
+
+    /// The last APDU that was handed up.
+    pub fn apdu(&self) -> &[u8]
+        ensures { result.now ≡ self.now.apdu }
+    {
+        self.apdu.as_slice()
+    }
+
+    /// Whether an APDU waits for its answer.
+    pub fn waits(&self) -> bool
+        ensures { IsTrue result ↔ IsSome self.now.waits }
+    {
+        self.waits.is_some()
+    }
+
+    /// The row of the table that a frame fits.
+    #[tactic(auto, unfolding(crate::specs::Server::row_of))]
+    fn row(&self, frame: &Frame) -> Row
+        ensures row { result ≡ row_of self.now frame.now }
+        ensures size { HasSize result }
+    {
+        if !(is_meter(frame.dest) && is_client(self.client, frame.src)) {
+            return Row::Ignores;
+        }
+        let control = read(frame.control);
+        if self.up {
+            self.row_while_up(frame.segmented, frame.info.as_slice(), control)
+        } else {
+            row_while_down(frame.info.as_slice(), control)
+        }
+    }
+
+    /// The row of a frame that comes while the link is up.
+    fn row_while_up(&self, segmented: bool, info: &[u8], control: Control) -> Row
+        ensures row { result ≡ row_while_up self.now segmented info.now control }
+        ensures size { HasSize result }
+    {
+        match control {
+            Control::Snrm => row_of_snrm(info),
+            Control::Disc => Row::Disconnects,
+            Control::Information(send, receive) => {
+                if send == self.receive_next && receive == self.send_next {
+                    if segmented { Row::Keeps } else { Row::HandsUp }
+                } else if send == before(self.receive_next) && self.took_information {
+                    Row::Repeats
+                } else {
+                    Row::Ignores
+                }
+            }
+            Control::Ready(receive) => {
+                if receive == self.send_next {
+                    if self.unsent.is_empty() {
+                        Row::SaysReady
+                    } else {
+                        Row::SendsNext
+                    }
+                } else if receive == before(self.send_next) && was_information(&self.last) {
+                    Row::Repeats
+                } else {
+                    Row::Ignores
+                }
+            }
+            Control::NotReady | Control::Ua | Control::Dm | Control::Other => Row::Ignores,
+        }
+    }
+
+    /// The next segment of the answer.
+    fn segment(&mut self, from: Address) -> Frame
+        requires { IsAddress from }
+        ensures frame { result ≡ segment_of self.old from }
+        ensures after { self.new ≡ after_segment self.old from }
+    {
+        let (front, more) = cut(&mut self.unsent, self.size as usize);
+        let frame = to_client(
+            self.client,
+            from,
+            information_octet(self.send_next, self.receive_next),
+            more,
+            front.as_slice(),
+        );
+        self.send_next = next(self.send_next);
+        self.last = Answer::WasInformation(frame.copy());
+        frame
+    }
+
+    /// The answer to the APDU that was handed up: its first segment.
+    pub fn send(&mut self, answer: &[u8]) -> Frame
+        requires waits { IsSome self.old.waits }
+        requires short { length answer.now ≤ 1024 }
+        ensures frame { result ≡ (server_send self.old answer.now).1 }
+        ensures after { self.new ≡ (server_send self.old answer.now).0 }
+        ensures idle { self.new.waits ≡ None }
+    {
+        let from = self.waits.unwrap_or(Address::One(1));
+        let mut unsent = ArrayVec::new();
+        let _ = unsent.try_extend_from_slice(&[0xe6, 0xe7, 0x00]);
+        let _ = unsent.try_extend_from_slice(answer);
+        self.unsent = unsent;
+        self.waits = None;
+        self.segment(from)
+    }
+
+    /// What the link makes of a frame.
+    pub fn on(&mut self, frame: &Frame) -> LinkOut
+        requires { self.old.waits ≡ None }
+        ensures out { result ≡ (server_on self.old frame.now).1 }
+        ensures after { self.new ≡ (server_on self.old frame.now).0 }
+        ensures waits { is_some self.new.waits ≡ awaits result }
+    {
+        match self.row(frame) {
+            Row::Connects(size) => {
+                let client = self.client;
+                *self = ServerLink::connected(client, size);
+                LinkOut::Up(to_client(client, frame.dest, 0x73, false, &parameters(size)))
+            }
+            Row::Refuses => {
+                self.up = false;
+                LinkOut::Down(to_client(self.client, frame.dest, 0x1f, false, &[]))
+            }
+            Row::Disconnects => {
+                self.up = false;
+                LinkOut::Down(to_client(self.client, frame.dest, 0x73, false, &[]))
+            }
+            Row::Keeps => {
+                self.receive_next = next(self.receive_next);
+                self.took_information = true;
+                self.kept.take(0xe6, frame.info.as_slice());
+                LinkOut::Reply(self.ready(frame.dest))
+            }
+            Row::HandsUp => {
+                self.receive_next = next(self.receive_next);
+                self.took_information = true;
+                self.kept.take(0xe6, frame.info.as_slice());
+                let told = self.kept.told();
+                self.apdu = self.kept.apdu();
+                self.kept = Assembly::new();
+                self.unsent.clear();
+                self.waits = Some(frame.dest);
+                told
+            }
+            Row::Repeats => again(&self.last),
+            Row::SendsNext => {
+                self.took_information = false;
+                LinkOut::Reply(self.segment(frame.dest))
+            }
+            Row::SaysReady => {
+                self.took_information = false;
+                LinkOut::Reply(self.ready(frame.dest))
+            }
+            Row::Ignores => LinkOut::Nothing,
+        }
+    }
+
+    /// An RR, as the last answer.
+    fn ready(&mut self, from: Address) -> Frame
+        requires { IsAddress from }
+        ensures frame { result ≡ ready_frame self.old from }
+        ensures after { self.new ≡ record self.old { last = Answer.WasReady (ready_frame self.old from) } }
+    {
+        let frame = to_client(
+            self.client,
+            from,
+            ready_octet(self.receive_next),
+            false,
+            &[],
+        );
+        self.last = Answer::WasReady(frame.copy());
+        frame
+    }
+
+    /// A link that has just come up.
+    fn connected(client: Client, size: u8) -> Self
+        requires least { 32 ≤ size }
+        requires most { size ≤ 128 }
+        ensures { result ≡ record (fresh_server client) { up = true; size = size } }
+    {
+        ServerLink {
+            up: true,
+            size,
+            ..ServerLink::new(client)
+        }
+    }
+}
+
+/// The row of an SNRM.
+fn row_of_snrm(info: &[u8]) -> Row
+    ensures row { result ≡ row_of_snrm (size_of info.now) }
+    ensures size { HasSize result }
+{
+    match size_of(info) {
+        Some(size) => Row::Connects(size),
+        None => Row::Refuses,
+    }
+}
+
+/// The row of a frame that comes while the link is down.
+fn row_while_down(info: &[u8], control: Control) -> Row
+    ensures row { result ≡ row_while_down info.now control }
+    ensures size { HasSize result }
+{
+    match control {
+        Control::Snrm => row_of_snrm(info),
+        Control::Disc | Control::Information(_, _) | Control::Ready(_) | Control::NotReady => {
+            Row::Refuses
+        }
+        Control::Ua | Control::Dm | Control::Other => Row::Ignores,
+    }
+}

@@ -1,0 +1,42 @@
+-- Lines of a text, each ended by a line feed, which the last may lack.
+use Rattle.std.specs.Prelude.{◌≡◌, ◌≢◌, ◌<◌, ◌==◌, ℕ, List, [], ◌∷◌, ◌++◌, length, Option, Some, None, if◌then◌else◌, ⊤}
+use Rattle.std.specs.Io.KnownBytes.{Consumes, IsAtEnd}
+use Rattle.dlms_program.specs.declared.lines.Taken.{Taken}
+use Rattle.dlms_program.specs.declared.lines.Taken.TheVariants.{End, Whole, Long}
+
+-- a byte before the first of some lines
+abbrev pub onto_first : ℕ → List (List ℕ) → List (List ℕ)
+onto_first byte [] = (byte ∷ []) ∷ []
+onto_first byte (line ∷ rest) = (byte ∷ line) ∷ rest
+
+-- the lines of a text, with no line feed
+abbrev pub lines_of : List ℕ → List (List ℕ)
+lines_of [] = []
+lines_of (byte ∷ bytes) = if byte == 10 then [] ∷ lines_of bytes else onto_first byte (lines_of bytes)
+
+-- a reader's known bytes are a line, the rest of them what it has left
+abbrev pub LosesLine : Option (List ℕ) → Option (List ℕ) → List ℕ → Type 0
+LosesLine None new line = ⊤
+LosesLine (Some text) None line = ⊥
+LosesLine (Some text) (Some rest) line = lines_of text ≡ line ∷ lines_of rest
+
+-- the first line of a reader's known bytes is longer than that
+abbrev pub HasLongLine : Option (List ℕ) → ℕ → Type 0
+HasLongLine None most = ⊤
+HasLongLine (Some text) most = (line : List ℕ) × (rest : List (List ℕ)) × (lines_of text ≡ line ∷ rest) × (most < length line)
+
+-- what a line was taken as, from known bytes
+abbrev pub TakesLine : Option (List ℕ) → Option (List ℕ) → List ℕ → ℕ → Taken → Type 0
+TakesLine old new line most End = IsAtEnd old
+TakesLine old new line most Whole = LosesLine old new line
+TakesLine old new line most Long = HasLongLine old most
+
+-- one byte was taken from known bytes, or there was none
+abbrev pub TakesByte : Option (List ℕ) → Option (List ℕ) → Option ℕ → Type 0
+TakesByte old new None = Consumes old new [] × IsAtEnd new
+TakesByte old new (Some byte) = Consumes old new (byte ∷ [])
+
+-- none of the bytes is a line feed
+abbrev pub HasNoFeed : List ℕ → Type 0
+HasNoFeed [] = Unit {0}
+HasNoFeed (byte ∷ bytes) = (byte ≢ 10) × HasNoFeed bytes

@@ -1,0 +1,13 @@
+-- Numbers in decimal digits, without a sign.
+use Rattle.std.specs.Prelude.{◌≡◌, ◌≢◌, ℕ, List, [], ◌∷◌}
+use Rattle.std.specs.Str.Parse.{IsNumeral, digits_value}
+
+-- one or more digits, leading zeros among them, that write the number
+pub record IsNumberOf (digits : List ℕ) (number : ℕ) : Type 0 where
+  pub numeral : IsNumeral 10 digits
+  pub value : digits_value 10 digits ≡ number
+
+-- none of the bytes is a space
+abbrev pub HasNoSpace : List ℕ → Type 0
+HasNoSpace [] = Unit {0}
+HasNoSpace (byte ∷ bytes) = (byte ≢ 32) × HasNoSpace bytes

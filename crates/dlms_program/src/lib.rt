@@ -1,0 +1,20 @@
+//! What the program does: its words, and the replay of a transcript on a meter.
+#![tactic(auto)]
+
+mod fault;
+mod lines;
+mod meter;
+mod numbers;
+mod orders;
+mod pairs;
+mod printing;
+mod replaying;
+mod service;
+mod work;
+mod working;
+
+pub use fault::ReplayFault;
+pub use meter::{Meter, Reply};
+pub use replaying::replay;
+pub use work::Job;
+pub use working::job;
