@@ -1,9 +1,10 @@
-//! What a service speaks of.
+//! What services name.
 
 use crate::data::Data;
 use std::alloc::{Allocator, Global};
 
-/// The attribute or method of an object.
+/// An attribute or a method of an object (the cosem-attribute-descriptor and cosem-method-descriptor of
+/// IEC 62056-5-3): the class, the logical name, and the number of the attribute or method.
 #[derive(Clone, Copy, Debug, PartialEq, Eq)]
 pub struct Descriptor {
     pub class: u16,
@@ -11,7 +12,7 @@ pub struct Descriptor {
     pub id: u8,
 }
 
-/// Which part of an attribute is asked for.
+/// Which part of an attribute is wanted (selective access): the selector's number, and its parameters.
 #[derive(Debug, Drop)]
 pub struct Selector<A: Allocator = Global> {
     pub number: u8,

@@ -1,22 +1,33 @@
-//! Values of A-XDR, read and written.
+//! Values of A-XDR, read and written, and the clock's seconds as date-times.
 #![tactic(auto)]
 
+mod bits;
+mod bytes;
 mod data;
+mod date_time;
 mod descriptor;
 mod fault;
 mod fitting;
+pub mod laws;
+mod parts;
+mod plain;
 mod reading;
 mod scanning;
+mod sizing;
+mod source;
 mod tag;
 mod writing;
 
-pub use data::{Bytes, Data, Items};
+pub use bits::Bits;
+pub use bytes::Bytes;
+pub use data::{Data, Items};
+pub use date_time::{LAST_SECOND, octets, secs};
 pub use descriptor::{Descriptor, Selector};
 pub use fault::DataFault;
 pub use fitting::fits;
 pub use reading::read;
-pub use scanning::span;
-pub use writing::write;
+pub use scanning::{is_value, span};
+pub use writing::{append, write};
 
 #[cfg(test)]
 mod tests;

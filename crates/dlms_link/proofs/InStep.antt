@@ -12,8 +12,8 @@ use Rattle.dlms_link.specs.declared.out.ClientOut.TheVariants.{Nothing as Nothin
 use Rattle.dlms_link.specs.Octet.{information_octet}
 use Rattle.dlms_link.specs.Kept.{Kept, Good, kept_after, from_client, is_more}
 use Rattle.dlms_link.specs.Server.{ServerRecord, server_on}
-use Rattle.dlms_link.specs.Client.{client_on, client_timeout}
-use Rattle.dlms_link.specs.World.{World, Event, Connect, Give, Disconnect, ReachesMeter, ReachesClient, LostUp, LostDown, TimesOut, Restarts, Intrudes, happens, connects, gives, disconnects, meter_does, reaches_meter, client_does, reaches_client, times_out, intrudes, run, start}
+use Rattle.dlms_link.specs.Client.{client_step, client_timeout}
+use Rattle.dlms_link.specs.World.{World, Event, Connect, Give, Disconnect, ReachesMeter, ReachesClient, LostUp, LostDown, TimesOut, Restarts, Intrudes, TakesOver, happens, connects, gives, disconnects, meter_does, reaches_meter, client_does, reaches_client, times_out, intrudes, takes_over, run, start}
 use Rattle.dlms_link.proofs.Numbers.{next_lt, before-next}
 use Rattle.dlms_link.proofs.Joining.{Joins, IsFirst, kept_goes_on}
 use Rattle.dlms_link.proofs.Rows.{row_of-expected, row_of-repeated, row_of-goes_on, row_of-snrm, row_of-disc_up, row_of-disc_down}
@@ -115,16 +115,16 @@ reaches_meter_step : (w : World) (answer : List ℕ) (line : List Parts) → IsT
 reaches_meter_step w answer [] f h = h
 reaches_meter_step w answer (g ∷ rest) f h = meter_step (record w { meter = (server_on w.meter g).0; up_line = rest }) answer (server_on w.meter g).1 f h
 
-client_step : (w : World) (result : ClientOut) → InStep w → InStep (client_does w result)
-client_step w NothingTaken h = h
-client_step w IsUp h = h
-client_step w (Send f) h = h
-client_step w ApduTaken h = h
-client_step w IsDown h = h
+client_does_step : (w : World) (result : ClientOut) → InStep w → InStep (client_does w result)
+client_does_step w NothingTaken h = h
+client_does_step w IsUp h = h
+client_does_step w (Send f) h = h
+client_does_step w ApduTaken h = h
+client_does_step w IsDown h = h
 
 reaches_client_step : (w : World) (line : List Parts) → InStep w → InStep (reaches_client w line)
 reaches_client_step w [] h = h
-reaches_client_step w (g ∷ rest) h = client_step (record w { client = (client_on w.client g).0; down_line = rest }) (client_on w.client g).1 h
+reaches_client_step w (g ∷ rest) h = client_does_step (record w { client = (client_step w.client g).0; down_line = rest }) (client_step w.client g).1 h
 
 times_out_step : (w : World) (waits : Option Parts) (up down : List Parts) → InStep w → InStep (times_out w waits up down)
 times_out_step w None up down h = h
@@ -138,6 +138,11 @@ intrudes_step w frame answer Connecting h = h
 intrudes_step w frame answer Open h = h
 intrudes_step w frame answer Closing h = h
 
+takes_over_step : (w : World) (up down : List Parts) → InStep w → InStep (takes_over w up down)
+takes_over_step w [] [] h = h
+takes_over_step w [] (g ∷ down) h = h
+takes_over_step w (g ∷ up) down h = h
+
 module _ (who : Client) where
   step : (w : World) (e : Event) → Sound who w → InStep w → InStep (happens w e)
   step w Connect good h = connects_step w w.client.phase h
@@ -150,6 +155,7 @@ module _ (who : Client) where
   step w TimesOut good h = times_out_step w w.client.waits w.up_line w.down_line h
   step w Restarts good h = h
   step w (Intrudes frame answer) good h = intrudes_step w frame answer w.client.phase h
+  step w TakesOver good h = takes_over_step w w.up_line w.down_line h
 
   steps : (es : List Event) (w : World) → Sound who w → InStep w → InStep (run es w)
   steps [] w good h = h

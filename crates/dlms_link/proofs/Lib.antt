@@ -6,3 +6,6 @@ pub mod Sound
 pub mod Steps
 pub mod InStep
 pub mod Whole
+pub mod ParameterLaws
+pub mod Sending
+pub mod OneRow

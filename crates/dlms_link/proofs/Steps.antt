@@ -16,7 +16,7 @@ use Rattle.dlms_link.specs.declared.out.LinkOut.TheVariants.{Nothing, Reply, Apd
 use Rattle.dlms_link.specs.declared.row.Row.{Row}
 use Rattle.dlms_link.specs.declared.row.Row.TheVariants.{Ignores, SaysReady, Repeats, Disconnects, Refuses, Connects, Keeps, HandsUp, SendsNext}
 use Rattle.dlms_link.specs.Client.{by_count, to_meter}
-use Rattle.dlms_link.specs.World.{settled, World, replies, Event, Connect, Give, Disconnect, ReachesMeter, ReachesClient, LostUp, LostDown, TimesOut, Restarts, Intrudes, after_both, happens, timed_out, run, start, IsBeginningOf}
+use Rattle.dlms_link.specs.World.{settled, World, replies, Event, Connect, Give, Disconnect, ReachesMeter, ReachesClient, LostUp, LostDown, TimesOut, Restarts, Intrudes, TakesOver, after_both, happens, timed_out, run, start, IsBeginningOf}
 use Rattle.dlms_link.proofs.Numbers.{next_lt, before-next, control_of-information, control_of-ready, control_of-ua, control_of-dm}
 use Rattle.dlms_link.proofs.Joining.{Joins, IsFirst, kept_goes_on, first_is_whole}
 use Rattle.dlms_link.proofs.Rows.{row_of-expected, row_of-repeated, row_of-goes_on, row_of-ready_repeated, row_of-snrm, row_of-disc_up, row_of-disc_down, IsRefused, information_refused, ready_refused, is_answer-to_client, way_of-expected, way_of-goes_on}
@@ -40,6 +40,7 @@ module _ (who : Client) where
   keep_idle s n size last took ap x given got hs hn hz Connect = Idle s n size last took ap x given got hs hn hz
   keep_idle s n size last took ap x given got hs hn hz Restarts = LostIdle s n x given given got got hs hn (whole given) (whole got)
   keep_idle s n size last took ap x given got hs hn hz (Intrudes frame answer) = Idle s n size last took ap x given got hs hn hz
+  keep_idle s n size last took ap x given got hs hn hz TakesOver = Away (server_at who n s last took Fresh ap [] size) [] given given got got (whole given) (whole got)
   keep_idle s n size last took ap x given got hs hn hz (Give apdu short) =
       Asking true s n size 0 last took Fresh ap x (take 128 (llc from_client ++ apdu)) (drop 128 (llc from_client ++ apdu)) apdu given got hs hn hz
       (take-append-drop 128 (llc from_client ++ apdu)) (first_is_whole from_client 128 apdu (omega arith)) short
@@ -80,6 +81,7 @@ module _ (who : Client) where
   keep_away m x asked served answers taken ps pt Connect = Calling true m 0 x
   keep_away m x asked served answers taken ps pt Restarts = Away (fresh_server who) x asked served answers taken ps pt
   keep_away m x asked served answers taken ps pt (Intrudes frame answer) = intruded x asked served answers taken ps pt answer m frame (row_of (at who m) frame)
+  keep_away m x asked served answers taken ps pt TakesOver = Away m [] asked served answers taken ps pt
   keep_away m x asked served answers taken ps pt (Give apdu short) = Away m x asked served answers taken ps pt
   keep_away m x asked served answers taken ps pt Disconnect = Away m x asked served answers taken ps pt
   keep_away m x asked served answers taken ps pt (ReachesMeter answer short) = Away m x asked served answers taken ps pt
@@ -99,6 +101,8 @@ module _ (who : Client) where
   keep_calling sent m t x Connect = Calling sent m t x
   keep_calling sent m t x Restarts = Calling sent (fresh_server who) t x
   keep_calling sent m t x (Intrudes frame answer) = Calling sent m t x
+  keep_calling true m t x TakesOver = Calling true m t x
+  keep_calling false m t x TakesOver = Away m [] [] [] [] [] (none []) (none [])
   keep_calling sent m t x (Give apdu short) = Calling sent m t x
   keep_calling sent m t x Disconnect = Calling sent m t x
   keep_calling sent m t x ReachesClient = Calling sent m t x
@@ -117,6 +121,7 @@ module _ (who : Client) where
   keep_called t x Connect = Called t x
   keep_called t x Restarts = LostCalled t x
   keep_called t x (Intrudes frame answer) = Called t x
+  keep_called t x TakesOver = Called t x
   keep_called t x (Give apdu short) = Called t x
   keep_called t x Disconnect = Called t x
   keep_called t x (ReachesMeter answer short) = Called t x
@@ -144,6 +149,8 @@ module _ (who : Client) where
   keep_leaving sent m s n t k x u asked served answers taken ps pt Connect = Leaving sent m s n t k x u asked served answers taken ps pt
   keep_leaving sent m s n t k x u asked served answers taken ps pt Restarts = Leaving sent (fresh_server who) s n t k x u asked served answers taken ps pt
   keep_leaving sent m s n t k x u asked served answers taken ps pt (Intrudes frame answer) = Leaving sent m s n t k x u asked served answers taken ps pt
+  keep_leaving true m s n t k x u asked served answers taken ps pt TakesOver = Leaving true m s n t k x u asked served answers taken ps pt
+  keep_leaving false m s n t k x u asked served answers taken ps pt TakesOver = Away m [] asked served answers taken ps pt
   keep_leaving sent m s n t k x u asked served answers taken ps pt (Give apdu short) = Leaving sent m s n t k x u asked served answers taken ps pt
   keep_leaving sent m s n t k x u asked served answers taken ps pt Disconnect = Leaving sent m s n t k x u asked served answers taken ps pt
   keep_leaving sent m s n t k x u asked served answers taken ps pt ReachesClient = Leaving sent m s n t k x u asked served answers taken ps pt
@@ -163,6 +170,7 @@ module _ (who : Client) where
   keep_left was m s n t k x u asked served answers taken ps pt Connect = Left was m s n t k x u asked served answers taken ps pt
   keep_left was m s n t k x u asked served answers taken ps pt Restarts = Left was (fresh_server who) s n t k x u asked served answers taken ps pt
   keep_left was m s n t k x u asked served answers taken ps pt (Intrudes frame answer) = Left was m s n t k x u asked served answers taken ps pt
+  keep_left was m s n t k x u asked served answers taken ps pt TakesOver = Left was m s n t k x u asked served answers taken ps pt
   keep_left was m s n t k x u asked served answers taken ps pt (Give apdu short) = Left was m s n t k x u asked served answers taken ps pt
   keep_left was m s n t k x u asked served answers taken ps pt Disconnect = Left was m s n t k x u asked served answers taken ps pt
   keep_left was m s n t k x u asked served answers taken ps pt (ReachesMeter answer short) = Left was m s n t k x u asked served answers taken ps pt
@@ -208,6 +216,8 @@ module _ (who : Client) where
   keep_asking sent s n size t last took k had x info u apdu given got hs hn hz j i short Connect = Asking sent s n size t last took k had x info u apdu given got hs hn hz j i short
   keep_asking sent s n size t last took k had x info u apdu given got hs hn hz j i short Restarts = LostAsking sent (to_meter who (information_octet s n) (is_more u) info) (next s) n t Fresh x u (given ++ apdu ∷ []) given got got (information_refused who (is_more u) info s n hs hn) (longer given apdu) (whole got)
   keep_asking sent s n size t last took k had x info u apdu given got hs hn hz j i short (Intrudes frame answer) = Asking sent s n size t last took k had x info u apdu given got hs hn hz j i short
+  keep_asking true s n size t last took k had x info u apdu given got hs hn hz j i short TakesOver = Asking true s n size t last took k had x info u apdu given got hs hn hz j i short
+  keep_asking false s n size t last took k had x info u apdu given got hs hn hz j i short TakesOver = Away (server_at who n s last took k had [] size) [] (given ++ apdu ∷ []) given got got (longer given apdu) (whole got)
   keep_asking sent s n size t last took k had x info u apdu given got hs hn hz j i short (Give more m) = Asking sent s n size t last took k had x info u apdu given got hs hn hz j i short
   keep_asking sent s n size t last took k had x info u apdu given got hs hn hz j i short Disconnect = Asking sent s n size t last took k had x info u apdu given got hs hn hz j i short
   keep_asking sent s n size t last took k had x info u apdu given got hs hn hz j i short ReachesClient = Asking sent s n size t last took k had x info u apdu given got hs hn hz j i short
@@ -236,6 +246,9 @@ module _ (who : Client) where
     keep_received Going t Restarts = LostAsking true (to_meter who (information_octet s n) true info) (next s) n t Fresh x (y ∷ u) (given ++ apdu ∷ []) given got got (information_refused who true info s n hs hn) (longer given apdu) (whole got)
     keep_received Coming t Restarts = LostReceived s n t y x info u apdu given got hs hn
     keep_received line t (Intrudes frame answer) = is_received line t
+    keep_received Silent t TakesOver = Away (received Silent t).meter [] (given ++ apdu ∷ []) given got got (longer given apdu) (whole got)
+    keep_received Going t TakesOver = is_received Going t
+    keep_received Coming t TakesOver = is_received Coming t
     keep_received line t (Give more m) = is_received line t
     keep_received line t Disconnect = is_received line t
     keep_received Silent t LostUp = is_received Silent t
@@ -288,6 +301,9 @@ module _ (who : Client) where
       keep_answered Going t Restarts = LostAsking true q s n t k x [] given given (got ++ answer ∷ []) got refuses (whole given) (longer got answer)
       keep_answered Coming t Restarts = LostAnswered s n t q k x info u answer given got hs hn j i short refuses
       keep_answered line t (Intrudes frame answer) = is_answered line t
+      keep_answered Silent t TakesOver = Away (answered u Silent t).meter [] given given (got ++ answer ∷ []) got (whole given) (longer got answer)
+      keep_answered Going t TakesOver = is_answered Going t
+      keep_answered Coming t TakesOver = is_answered Coming t
       keep_answered line t (Give more m) = is_answered line t
       keep_answered line t Disconnect = is_answered line t
       keep_answered Silent t LostUp = is_answered Silent t
@@ -321,6 +337,8 @@ module _ (who : Client) where
     keep_readying sent t Connect = is_readying sent t
     keep_readying sent t Restarts = LostAsking sent (to_meter who (ready_octet n) false []) s n t (Good bytes) x [] given given (got ++ answer ∷ []) got (ready_refused who n hn) (whole given) (longer got answer)
     keep_readying sent t (Intrudes frame answer) = is_readying sent t
+    keep_readying true t TakesOver = is_readying true t
+    keep_readying false t TakesOver = Away (readying false t).meter [] given given (got ++ answer ∷ []) got (whole given) (longer got answer)
     keep_readying sent t (Give more m) = is_readying sent t
     keep_readying sent t Disconnect = is_readying sent t
     keep_readying sent t ReachesClient = is_readying sent t
@@ -350,6 +368,7 @@ module _ (who : Client) where
   keep_lost_called t x TimesOut = LostCalled t x
   keep_lost_called t x Restarts = LostCalled t x
   keep_lost_called t x (Intrudes frame answer) = LostCalled t x
+  keep_lost_called t x TakesOver = LostCalled t x
 
   more_asked : (served asked : List (List ℕ)) (apdu : List ℕ) → IsBeginningOf served asked → IsBeginningOf served (asked ++ apdu ∷ [])
   more_asked served asked apdu h = (h.0 ++ apdu ∷ [], sym (append_assoc served h.0 (apdu ∷ [])) ∙ ap (λ xs. xs ++ apdu ∷ []) h.1)
@@ -368,6 +387,7 @@ module _ (who : Client) where
     keep_lost_idle TimesOut = LostIdle s n x asked served answers taken hs hn ps pt
     keep_lost_idle Restarts = LostIdle s n x asked served answers taken hs hn ps pt
     keep_lost_idle (Intrudes frame answer) = LostIdle s n x asked served answers taken hs hn ps pt
+    keep_lost_idle TakesOver = Away (fresh_server who) [] asked served answers taken ps pt
 
   module _ (q : Parts) (s n : ℕ) (k : Kept) (x u : List ℕ) (asked served answers taken : List (List ℕ)) (refuses : IsRefused who q) (ps : IsBeginningOf served asked) (pt : IsBeginningOf taken answers) where
     abbrev lost_asking : Bool → ℕ → World
@@ -398,6 +418,8 @@ module _ (who : Client) where
     keep_lost_asking false t TimesOut = lost_late t (nat_lt t 3)
     keep_lost_asking sent t Restarts = is_lost sent t
     keep_lost_asking sent t (Intrudes frame answer) = is_lost sent t
+    keep_lost_asking true t TakesOver = is_lost true t
+    keep_lost_asking false t TakesOver = Away (fresh_server who) [] asked served answers taken ps pt
 
     keep_denied : (t : ℕ) (e : Event) → Sound who (happens (record { meter = fresh_server who; client = client_at who Open s n (Some q) t k x u; up_line = []; down_line = gone who false ∷ []; asked = asked; served = served; answers = answers; taken = taken }) e)
     keep_denied t ReachesClient = rw (is_answer-to_client (lost_asking false t).client 31 false [], control_of-dm) (Away (fresh_server who) x asked served answers taken ps pt)
@@ -410,6 +432,7 @@ module _ (who : Client) where
     keep_denied t TimesOut = is_denied t
     keep_denied t Restarts = is_denied t
     keep_denied t (Intrudes frame answer) = is_denied t
+    keep_denied t TakesOver = is_denied t
 
   module _ (s n t y : ℕ) (x info u apdu : List ℕ) (given got : List (List ℕ)) (hs : s < 8) (hn : n < 8) where
     abbrev lost_received : World
@@ -429,6 +452,7 @@ module _ (who : Client) where
     keep_lost_received TimesOut = LostReceived s n t y x info u apdu given got hs hn
     keep_lost_received Restarts = LostReceived s n t y x info u apdu given got hs hn
     keep_lost_received (Intrudes frame answer) = LostReceived s n t y x info u apdu given got hs hn
+    keep_lost_received TakesOver = LostReceived s n t y x info u apdu given got hs hn
 
   module _ (s n t : ℕ) (q : Parts) (k : Kept) (x info answer : List ℕ) (given got : List (List ℕ)) (hs : s < 8) (hn : n < 8) where
     abbrev lost_answered : List ℕ → World
@@ -457,6 +481,7 @@ module _ (who : Client) where
       keep_lost_answered TimesOut = LostAnswered s n t q k x info u answer given got hs hn j i short refuses
       keep_lost_answered Restarts = LostAnswered s n t q k x info u answer given got hs hn j i short refuses
       keep_lost_answered (Intrudes frame more) = LostAnswered s n t q k x info u answer given got hs hn j i short refuses
+      keep_lost_answered TakesOver = LostAnswered s n t q k x info u answer given got hs hn j i short refuses
 
   -- each event keeps the invariant
   pub keep : {w : World} (e : Event) → Sound who w → Sound who (happens w e)

@@ -39,3 +39,10 @@ read_at_once side (x ∷ y ∷ z ∷ rest) infos h = begun ((x == 230) && (y == 
     begun : (b : Bool) → kept_after_all side (if b then capped rest else BadStart) infos ≡ (if b then capped (rest ++ joined infos) else BadStart)
     begun true = goes_on side infos rest
     begun false = stays_bad side infos
+
+pub bad_at_once : (side : ℕ) (first : List ℕ) (infos : List (List ℕ)) → length first < 3 → kept_after_all side Fresh (first ∷ infos) ≡ BadStart
+unfolding kept_after
+bad_at_once side [] infos h = stays_bad side infos
+bad_at_once side (x ∷ []) infos h = stays_bad side infos
+bad_at_once side (x ∷ y ∷ []) infos h = stays_bad side infos
+bad_at_once side (x ∷ y ∷ z ∷ rest) infos h = absurd (omega arith)

@@ -1,5 +1,5 @@
 -- The client's link: one frame is out, and then it waits.
-use Rattle.std.specs.Prelude.{ℕ, ◌+◌, ◌==◌, ◌&&◌, if◌then◌else◌, List, [], ◌++◌, take, drop, Bool, true, false, Option, None, Some, nat_lt}
+use Rattle.std.specs.Prelude.{◌≡◌, ℕ, ◌+◌, ◌==◌, ◌&&◌, if◌then◌else◌, List, [], ◌++◌, take, drop, Bool, true, false, Option, None, Some, nat_lt}
 use Rattle.dlms_frame.specs.Client.{sap_of}
 use Rattle.dlms_frame.specs.declared.client.Client.{Client}
 use Rattle.dlms_frame.specs.declared.frame.Address.{Address}
@@ -94,12 +94,6 @@ on_ua c Connecting = (connected c, Up)
 on_ua c Open = (c, Nothing)
 on_ua c Closing = (closed c, Down)
 
-abbrev pub on_dm : ClientRecord → Phase → ClientRecord × ClientOut
-on_dm c Closed = (c, Nothing)
-on_dm c Connecting = (closed c, Down)
-on_dm c Open = (closed c, Down)
-on_dm c Closing = (closed c, Down)
-
 -- what an open link does with an I or an RR
 unfoldable pub way_of : ClientRecord → Control → Way
 way_of c (Information send receive) =
@@ -127,7 +121,7 @@ on_counted c f Closing = (c, Nothing)
 
 abbrev pub on_control : ClientRecord → Parts → Control → ClientRecord × ClientOut
 on_control c f Ua = on_ua c c.phase
-on_control c f Dm = on_dm c c.phase
+on_control c f Dm = (closed c, Down)
 on_control c f (Information send receive) = on_counted c f c.phase
 on_control c f (Ready receive) = on_counted c f c.phase
 on_control c f Snrm = (c, Nothing)
@@ -143,8 +137,9 @@ is_server (Four upper lower) = false
 unfoldable pub is_answer : ClientRecord → Parts → Bool
 is_answer c f = is_client c.client f.dest && is_server f.src
 
-abbrev pub client_on : ClientRecord → Parts → ClientRecord × ClientOut
-client_on c f = if is_answer c f then on_control c f (control_of f.control) else (c, Nothing)
+-- a frame comes: the rules of the client's link
+abbrev pub client_step : ClientRecord → Parts → ClientRecord × ClientOut
+client_step c f = if is_answer c f then on_control c f (control_of f.control) else (c, Nothing)
 
 -- a time-out, while a frame is out: it goes again, and at the fourth in a row the link is down
 abbrev pub by_count : ClientRecord → Bool → ClientRecord × Option Parts
@@ -153,3 +148,19 @@ by_count c false = (closed c, None)
 
 abbrev pub client_timeout : ClientRecord → ClientRecord × Option Parts
 client_timeout c = by_count c (nat_lt c.repeats 3)
+
+-- the link is down, and nothing is awaited
+abbrev pub IsDown : ClientRecord → Type 0
+IsDown c = (c.phase ≡ Closed) × (c.waits ≡ None)
+
+-- the link is up, and nothing is awaited
+abbrev pub IsIdle : ClientRecord → Type 0
+IsIdle c = (c.phase ≡ Open) × (c.waits ≡ None)
+
+-- where the link stands after what came out
+abbrev pub StandsAfter : ClientRecord → ClientOut → ClientRecord → Type 0
+StandsAfter old Nothing new = new ≡ old
+StandsAfter old Up new = IsIdle new
+StandsAfter old (Send f) new = (new.phase ≡ Open) × (new.waits ≡ Some f)
+StandsAfter old Apdu new = IsIdle new
+StandsAfter old Down new = IsDown new

@@ -188,5 +188,25 @@ row_done r answer BadLlc = ((server_send r answer).0, Some (server_send r answer
 row_done r answer (Up f) = (r, Some f)
 row_done r answer (Down f) = (r, Some f)
 
-abbrev pub server_row : ServerRecord → Parts → List ℕ → ServerRecord × Option Parts
-server_row r f answer = row_done (server_on r f).0 answer (server_on r f).1
+abbrev pub link_step : ServerRecord → Parts → List ℕ → ServerRecord × Option Parts
+link_step r f answer = row_done (server_on r f).0 answer (server_on r f).1
+
+-- the row of a whole APDU and its answer: the answer's first segment goes as an I, what is unsent of an older answer is dropped
+abbrev pub first_segment : ServerRecord → Parts → List ℕ → Parts
+first_segment r f text = to_client r.client f.dest (information_octet r.send_next (next r.receive_next)) (is_more (drop r.size text)) (take r.size text)
+
+abbrev pub answered : ServerRecord → Parts → List ℕ → ServerRecord × Option Parts
+answered r f answer =
+    let text = llc from_meter ++ answer in (
+      record r {
+        send_next = next r.send_next;
+        receive_next = next r.receive_next;
+        last = WasInformation (first_segment r f text);
+        took_information = true;
+        kept = Fresh;
+        apdu = apdu_of (kept_after from_client r.kept f.info);
+        unsent = drop r.size text;
+        waits = None;
+      },
+      Some (first_segment r f text),
+    )

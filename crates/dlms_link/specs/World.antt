@@ -9,7 +9,7 @@ use Rattle.dlms_link.specs.declared.out.LinkOut.TheVariants.{Nothing, Reply, Apd
 use Rattle.dlms_link.specs.declared.out.ClientOut.{ClientOut}
 use Rattle.dlms_link.specs.declared.out.ClientOut.TheVariants.{Nothing as NothingTaken, Up as IsUp, Send, Apdu as ApduTaken, Down as IsDown}
 use Rattle.dlms_link.specs.Server.{ServerRecord, fresh_server, server_on, server_send}
-use Rattle.dlms_link.specs.Client.{ClientRecord, fresh_client, client_connect, client_disconnect, client_send, client_on, client_timeout, snrm_of, disc_of}
+use Rattle.dlms_link.specs.Client.{ClientRecord, fresh_client, client_connect, client_disconnect, client_send, client_step, client_timeout, snrm_of, disc_of}
 
 pub record World : Type 0 where
   pub meter : ServerRecord
@@ -39,6 +39,8 @@ pub data Event : Type 0 where
   Restarts : Event
   -- another hand sends a frame while the client's link is closed: the meter takes it at once, and its answer reaches nobody
   Intrudes : (frame : Parts) → (answer : List ℕ) → Event
+  -- a new client takes the place of the old one, in whatever state that is, once nothing is on the line
+  TakesOver : Event
 
 abbrev pub connects : World → Phase → World
 connects w Closed = record w { client = client_connect w.client; up_line = w.up_line ++ snrm_of w.client ∷ []; asked = []; served = []; answers = []; taken = [] }
@@ -87,7 +89,7 @@ client_does w IsDown = w
 
 abbrev pub reaches_client : World → List Parts → World
 reaches_client w [] = w
-reaches_client w (f ∷ rest) = let done = client_on w.client f in client_does (record w { client = done.0; down_line = rest }) done.1
+reaches_client w (f ∷ rest) = let done = client_step w.client f in client_does (record w { client = done.0; down_line = rest }) done.1
 
 abbrev pub without_first : List Parts → List Parts
 without_first [] = []
@@ -126,6 +128,11 @@ intrudes w frame answer Connecting = w
 intrudes w frame answer Open = w
 intrudes w frame answer Closing = w
 
+abbrev pub takes_over : World → List Parts → List Parts → World
+takes_over w [] [] = record w { client = fresh_client w.client.client }
+takes_over w [] (g ∷ down) = w
+takes_over w (g ∷ up) down = w
+
 abbrev pub happens : World → Event → World
 happens w Connect = connects w w.client.phase
 happens w (Give apdu short) = gives w apdu w.client.phase w.client.waits
@@ -136,6 +143,7 @@ happens w LostUp = record w { up_line = without_first w.up_line }
 happens w LostDown = record w { down_line = without_first w.down_line }
 happens w Restarts = record w { meter = fresh_server w.meter.client }
 happens w (Intrudes frame answer) = intrudes w frame answer w.client.phase
+happens w TakesOver = takes_over w w.up_line w.down_line
 happens w TimesOut = times_out w w.client.waits w.up_line w.down_line
 
 -- a whole run

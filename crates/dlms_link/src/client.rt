@@ -1,7 +1,7 @@
 //! The client's end of the link: one frame is out, and then it waits.
 
-ghost use Rattle.std.specs.Prelude.{◌≡◌, ◌≤◌, ◌<◌, ℕ, IsTrue, IsSome, List, length, take, drop, MatchResult};
-ghost use Rattle.dlms_link.specs.Client.{fresh_client, to_meter, client_connect, client_disconnect, client_send, client_on, client_timeout, client_segment, after_client_segment, client_ready, snrm_of, disc_of, closed, connected, out, way_of, is_answer, is_server, takes, by_way, on_counted};
+ghost use Rattle.std.specs.Prelude.{◌≡◌, ◌≤◌, ◌<◌, ℕ, ◌↔◌, IsTrue, IsOk, IsSome, Some, IfOk, OnOk, OnErr, List, length, take, drop, MatchResult};
+ghost use Rattle.dlms_link.specs.Client.{IsDown, IsIdle, StandsAfter, fresh_client, to_meter, client_connect, client_disconnect, client_send, client_step, client_timeout, client_segment, after_client_segment, client_ready, snrm_of, disc_of, closed, connected, out, way_of, is_answer, is_server, takes, by_way, on_counted};
 ghost use Rattle.dlms_link.specs.Server.{is_client};
 
 use crate::control::{Control, before, information_octet, next, read, ready_octet};
@@ -77,23 +77,36 @@ impl ClientLink {
 
     /// The last APDU that was handed up.
     pub fn apdu(&self) -> &[u8]
-        ensures { result.now ≡ self.now.apdu }
+        ensures value { result.now ≡ self.now.apdu }
+        ensures short { length result.now ≤ 1024 }
     {
         self.apdu.as_slice()
     }
 
-    /// Whether the link is up and awaits nothing.
+    /// Whether the link is down, and nothing is awaited: `connect` may be called.
+    pub fn is_down(&self) -> bool
+        ensures { IsTrue result ↔ IsDown self.now }
+    {
+        self.phase == Phase::Closed && self.waits.is_none()
+    }
+
+    /// Whether the link is up, and nothing is awaited: `send` and `disconnect` may be called.
     pub fn is_idle(&self) -> bool
-        ensures idle { IsTrue result → (self.now.phase ≡ Phase.Open) × (self.now.waits ≡ None) }
-        ensures busy { (self.now.phase ≡ Phase.Open) → (self.now.waits ≡ None) → IsTrue result }
+        ensures { IsTrue result ↔ IsIdle self.now }
     {
         self.phase == Phase::Open && self.waits.is_none()
     }
 
+    /// Whether a frame is out and its answer is awaited: `timeout` may be called.
+    pub fn is_waiting(&self) -> bool
+        ensures { IsTrue result ↔ IsSome self.now.waits }
+    {
+        self.waits.is_some()
+    }
+
     /// Asks for a connection.
     pub fn connect(&mut self) -> Frame
-        requires down { self.old.phase ≡ Phase.Closed }
-        requires idle { self.old.waits ≡ None }
+        requires { IsDown self.old }
         ensures frame { result ≡ snrm_of self.old }
         ensures after { self.new ≡ client_connect self.old }
     {
@@ -105,8 +118,7 @@ impl ClientLink {
 
     /// Asks for the connection's end.
     pub fn disconnect(&mut self) -> Frame
-        requires up { self.old.phase ≡ Phase.Open }
-        requires idle { self.old.waits ≡ None }
+        requires { IsIdle self.old }
         ensures frame { result ≡ disc_of self.old }
         ensures after { self.new ≡ client_disconnect self.old }
     {
@@ -118,8 +130,7 @@ impl ClientLink {
 
     /// Sends an APDU: its first segment.
     pub fn send(&mut self, apdu: &[u8]) -> Frame
-        requires up { self.old.phase ≡ Phase.Open }
-        requires idle { self.old.waits ≡ None }
+        requires idle { IsIdle self.old }
         requires short { length apdu.now ≤ 1024 }
         ensures frame { result ≡ (client_send self.old apdu.now).1 }
         ensures after { self.new ≡ (client_send self.old apdu.now).0 }
@@ -137,6 +148,10 @@ impl ClientLink {
         requires { IsSome self.old.waits }
         ensures frame { MatchResult result (λ f. (client_timeout self.old).1 ≡ Some f) (λ _. (client_timeout self.old).1 ≡ None) }
         ensures after { self.new ≡ (client_timeout self.old).0 }
+        ensures counts { IsOk result ↔ (self.old.repeats < 3) }
+        ensures again { IfOk result (λ f. self.old.waits ≡ Some f) }
+        ensures waiting { OnOk result (self.new.waits ≡ self.old.waits) }
+        ensures down { OnErr result (IsDown self.new) }
     {
         if self.repeats < 3 {
             if let Some(frame) = &self.waits {
@@ -151,8 +166,10 @@ impl ClientLink {
 
     /// What the link makes of a frame.
     pub fn on(&mut self, frame: &Frame) -> ClientOut
-        ensures out { result ≡ (client_on self.old frame.now).1 }
-        ensures after { self.new ≡ (client_on self.old frame.now).0 }
+        ensures out { result ≡ (client_step self.old frame.now).1 }
+        ensures after { self.new ≡ (client_step self.old frame.now).0 }
+        ensures stands { StandsAfter self.old result self.new }
+        ensures client { self.new.client ≡ self.old.client }
     {
         if !self.is_answer(frame) {
             return ClientOut::Nothing;
@@ -168,7 +185,7 @@ impl ClientLink {
                 self.close();
                 ClientOut::Down
             }
-            (Control::Dm, Phase::Connecting | Phase::Open | Phase::Closing) => {
+            (Control::Dm, _) => {
                 self.close();
                 ClientOut::Down
             }

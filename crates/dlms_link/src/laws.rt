@@ -1,9 +1,14 @@
 //! Laws over whole runs. They make no call.
 
-ghost use Rattle.std.specs.Prelude.{◌≡◌, ◌≤◌, ◌∷◌, ℕ, List, length};
+ghost use Rattle.std.specs.Prelude.{◌≡◌, ◌≤◌, ◌<◌, ◌∷◌, ◌++◌, ℕ, List, length, map, Some};
 ghost use Rattle.dlms_frame.specs.declared.client.Client.{Client};
-ghost use Rattle.dlms_link.specs.Kept.{Fresh};
-ghost use Rattle.dlms_link.specs.Segments.{joined, kept_after_all, read_whole};
+ghost use Rattle.dlms_link.specs.declared.row.Row.TheVariants.{HandsUp};
+ghost use Rattle.dlms_link.specs.Kept.{Fresh, BadStart, llc, from_meter, from_client, capped};
+ghost use Rattle.dlms_link.specs.Parameters.{Parameter, IsInformation, greatest_received, capped_size, size_of};
+ghost use Rattle.dlms_link.specs.Segments.{joined, kept_after_all, read_whole, IsSegmented, SendsRest, ClientSendsRest};
+ghost use Rattle.dlms_frame.specs.Frame.{Parts};
+ghost use Rattle.dlms_link.specs.Server.{ServerRecord, answered, link_step, row_of, server_send};
+ghost use Rattle.dlms_link.specs.Client.{ClientRecord, client_send};
 ghost use Rattle.dlms_link.specs.World.{Event, run, start, IsBeginningOf};
 
 /// Over a line that loses any frames, and in which a time-out comes only where nothing is on the
@@ -15,8 +20,31 @@ pub fn in_order()
     ensures in_step { (who : Client) (events : List Event) → length (run events (start who)).served ≡ length (run events (start who)).answers }
 {}
 
-/// Segments that are taken one by one are read as what they are joined, where the first one holds
-/// the whole LLC.
+/// An APDU that is handed up and the answer that is sent for it are one row of the meter's table.
+pub fn apdu_and_answer_are_one_row()
+    ensures { (r : ServerRecord) (f : Parts) (answer : List ℕ) → row_of r f ≡ HandsUp → link_step r f answer ≡ answered r f answer }
+{}
+
+/// Segments that are taken one by one are read as what they are joined, where the first one holds the whole LLC. A first one
+/// that doesn't is a bad start, whatever follows.
 pub fn segments_are_joined()
-    ensures { (side : ℕ) (first : List ℕ) (infos : List (List ℕ)) → 3 ≤ length first → kept_after_all side Fresh (first ∷ infos) ≡ read_whole side (joined (first ∷ infos)) }
+    ensures bad_start { (side : ℕ) (first : List ℕ) (infos : List (List ℕ)) → length first < 3 → kept_after_all side Fresh (first ∷ infos) ≡ BadStart }
+    ensures whole { (side : ℕ) (first : List ℕ) (infos : List (List ℕ)) → 3 ≤ length first → kept_after_all side Fresh (first ∷ infos) ≡ read_whole side (joined (first ∷ infos)) }
+{}
+
+/// An SNRM's parameters are read exactly: information that spells parameters is read as what they say, and nothing else is.
+pub fn parameters_are_read()
+    ensures read { (info : List ℕ) (ps : List Parameter) → IsInformation info ps → size_of info ≡ capped_size (greatest_received ps) }
+    ensures found { (info : List ℕ) (size : ℕ) → size_of info ≡ Some size → (ps : List Parameter) × IsInformation info ps }
+{}
+
+/// An APDU goes out in segments: their information, joined, is the LLC and the APDU, all but the last have exactly the size
+/// of the link, and the last alone says that nothing follows. Read by the other end, they are the APDU again.
+pub fn segments_are_sent()
+    ensures meter { (r : ServerRecord) (answer : List ℕ) (frames : List Parts) → SendsRest (server_send r answer).0 frames
+        → IsSegmented r.size (llc from_meter ++ answer) ((server_send r answer).1 ∷ frames) }
+    ensures client { (c : ClientRecord) (apdu : List ℕ) (frames : List Parts) → ClientSendsRest (client_send c apdu).0 frames
+        → IsSegmented 128 (llc from_client ++ apdu) ((client_send c apdu).1 ∷ frames) }
+    ensures read_again { (side size : ℕ) (apdu : List ℕ) (frames : List Parts) → 3 ≤ size → IsSegmented size (llc side ++ apdu) frames
+        → kept_after_all side Fresh (map (λ f. f.info) frames) ≡ capped apdu }
 {}

@@ -15,9 +15,5 @@ mod tests;
 mod way;
 
 pub use client::{ClientLink, LineFault};
-pub use control::Control;
-pub use kept::{Assembly, Progress};
-pub use out::{Answer, ClientOut, LinkOut, Phase};
-pub use row::Row;
+pub use out::{ClientOut, LinkOut};
 pub use server::ServerLink;
-pub use way::Way;

@@ -55,7 +55,7 @@ fn is_meter(address: Address) -> bool
 }
 
 /// Whether an address is this client's.
-pub fn is_client(client: Client, address: Address) -> bool
+pub(crate) fn is_client(client: Client, address: Address) -> bool
     ensures { result ≡ is_client client address }
 {
     match address {
@@ -117,16 +117,10 @@ impl ServerLink {
 
     /// The last APDU that was handed up.
     pub fn apdu(&self) -> &[u8]
-        ensures { result.now ≡ self.now.apdu }
+        ensures value { result.now ≡ self.now.apdu }
+        ensures short { length result.now ≤ 1024 }
     {
         self.apdu.as_slice()
-    }
-
-    /// Whether an APDU waits for its answer.
-    pub fn waits(&self) -> bool
-        ensures { IsTrue result ↔ IsSome self.now.waits }
-    {
-        self.waits.is_some()
     }
 
     /// The row of the table that a frame fits.
@@ -206,6 +200,7 @@ impl ServerLink {
         ensures frame { result ≡ (server_send self.old answer.now).1 }
         ensures after { self.new ≡ (server_send self.old answer.now).0 }
         ensures idle { self.new.waits ≡ None }
+        ensures client { self.new.client ≡ self.old.client }
     {
         let from = self.waits.unwrap_or(Address::One(1));
         let mut unsent = ArrayVec::new();
@@ -222,6 +217,7 @@ impl ServerLink {
         ensures out { result ≡ (server_on self.old frame.now).1 }
         ensures after { self.new ≡ (server_on self.old frame.now).0 }
         ensures waits { is_some self.new.waits ≡ awaits result }
+        ensures client { self.new.client ≡ self.old.client }
     {
         match self.row(frame) {
             Row::Connects(size) => {

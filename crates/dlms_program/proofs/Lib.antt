@@ -1,2 +1,5 @@
 pub mod LineLemmas
 pub mod NumberLemmas
+pub mod ReplayLemmas
+pub mod RunLemmas
+pub mod StepLemmas

@@ -3,5 +3,9 @@ pub mod MeterValue
 pub mod Numbers
 pub mod Orders
 pub mod Pairs
+pub mod Printed
+pub mod Replay
+pub mod Run
 pub mod Service
+pub mod Steps
 pub mod Words

@@ -1,6 +1,8 @@
 //! Why a replay ended early.
+ghost use Rattle.std.specs.Prelude.{◌≡◌};
+ghost use Rattle.dlms_program.specs.declared.fault.ReplayFault.TheVariants.{Io};
 
-use std::fmt;
+use std::{fmt, io};
 
 /// Why a replay ended early. What was written before stays.
 #[derive(Clone, Copy, Debug, PartialEq, Eq)]
@@ -23,5 +25,13 @@ impl fmt::Display for ReplayFault {
             ReplayFault::Io => write!(f, "io"),
             ReplayFault::Memory => write!(f, "memory"),
         }
+    }
+}
+
+impl From<io::Error> for ReplayFault {
+    ghost from_gives = { λ _ e. e ≡ Io };
+
+    fn from(_error: io::Error) -> ReplayFault {
+        ReplayFault::Io
     }
 }

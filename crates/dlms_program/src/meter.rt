@@ -1,12 +1,17 @@
 //! The meter: one client's link over the state.
-ghost use Rattle.std.specs.Prelude.{◌≤◌, ◌<◌, length, IfNone, IfSome, ◌≡◌};
+ghost use Rattle.std.specs.Prelude.{◌≡◌, ◌≤◌, ◌<◌, [], List, length, take, IfOk, option_map};
+ghost use Rattle.dlms_frame.specs.Frame.{Parts, spelling};
+ghost use Rattle.dlms_state.specs.declared.event.Event.{Event};
+ghost use Rattle.dlms_state.specs.StateValue.{IsStateOf};
+ghost use Rattle.dlms_program.specs.Service.{Choice};
+ghost use Rattle.dlms_program.specs.Run.{Stands, Feeds, Judges, World, first_world, silent, handled};
 
 use crate::service::{serve, too_long, unknown_service};
 use arrayvec::ArrayVec;
 use dlms_frame::{Client, Deframer, Frame};
 use dlms_link::{LinkOut, ServerLink};
 use dlms_state::{Event, Refused, State};
-use std::alloc::{AllocError, Global};
+use std::alloc::{AllocError, Allocator, Global};
 use std::marker::Model;
 
 /// The bytes of one reply frame, flags included.
@@ -14,27 +19,30 @@ pub type Reply = ArrayVec<u8, 2049>;
 
 /// A meter with three registers, which the public client reads.
 #[derive(Drop)]
-pub struct Meter {
-    alloc: Global,
+pub struct Meter<A: Allocator + Copy = Global> {
+    alloc: A,
     deframer: Deframer,
     link: ServerLink,
-    state: State,
+    state: State<A>,
 }
 
-impl Model for Meter {
+impl<A: Allocator + Copy> Model for Meter<A> {
     ghost use Rattle.std.specs.Prelude.{◌≡◌, None};
+    ghost use Rattle.dlms_frame.specs.declared.client.Client.TheVariants.{Public};
     ghost use Rattle.dlms_program.specs.MeterValue.{MeterValue};
 
     ghost Value = { MeterValue };
 
     ghost view = { λ m. record { kept = m.deframer; link = m.link; state = m.state } };
 
-    ghost invariant = { λ m. m.link.waits ≡ None };
+    ghost invariant = { λ m. (m.link.waits ≡ None) × (m.link.client ≡ Public) };
 }
 
-impl Meter {
+impl<A: Allocator + Copy> Meter<A> {
     /// A meter in which nothing has happened; its memory is taken here.
-    pub fn new(alloc: Global) -> Result<Self, AllocError> {
+    pub fn new(alloc: A) -> Result<Self, AllocError>
+        ensures { IfOk result (λ meter. Stands meter first_world) }
+    {
         Ok(Meter {
             alloc,
             deframer: Deframer::new(),
@@ -44,22 +52,30 @@ impl Meter {
     }
 
     /// Pulses on a channel.
-    pub fn pulses(&mut self, channel: u8, count: u32) -> Result<(), Refused> {
+    pub fn pulses(&mut self, channel: u8, count: u32) -> Result<(), Refused>
+        ensures { Judges self.old (Event.Pulses channel count) result self.new }
+    {
         self.accept(Event::Pulses(channel, count))
     }
 
     /// The meter's own running second.
-    pub fn moment(&mut self, second: u32) -> Result<(), Refused> {
+    pub fn moment(&mut self, second: u32) -> Result<(), Refused>
+        ensures { Judges self.old (Event.Moment second) result self.new }
+    {
         self.accept(Event::Moment(second))
     }
 
     /// Silence on the line: half a frame is forgotten.
-    pub fn idle(&mut self) {
+    pub fn idle(&mut self)
+        ensures { (w : World) → Stands self.old w → Stands self.new (silent w) }
+    {
         self.deframer.idle();
     }
 
     /// What the accepted events have left.
-    pub fn state(&self) -> &State {
+    pub fn state(&self) -> &State<A>
+        ensures { result.now ≡ self.now.state }
+    {
         &self.state
     }
 
@@ -67,6 +83,7 @@ impl Meter {
     pub fn feed(&mut self, bytes: &[u8]) -> (usize, Option<Reply>)
         ensures len { result.0 ≤ length bytes.now }
         ensures some { 0 < length bytes.now → 0 < result.0 }
+        ensures feeds { Feeds self.old (take result.0 bytes.now) (option_map (λ reply. reply.items) result.1) self.new }
     {
         let (taken, frame) = self.deframer.feed(bytes);
         match frame {
@@ -76,14 +93,20 @@ impl Meter {
     }
 
     /// Accepts an event, or says why it is refused.
-    fn accept(&mut self, event: Event) -> Result<(), Refused> {
+    fn accept(&mut self, event: Event) -> Result<(), Refused>
+        ensures { Judges self.old event result self.new }
+    {
         self.state.check(&event)?;
         self.state.apply(event);
         Ok(())
     }
 
     /// The reply to a frame.
-    fn answer(&mut self, frame: &Frame) -> Option<Reply> {
+    fn answer(&mut self, frame: &Frame) -> Option<Reply>
+        ensures { (E : List Event) → IsStateOf E self.old.state → (choice : Choice)
+            × (self.new ≡ record self.old { link = (handled choice E self.old.link frame.now).own })
+            × (option_map (λ reply. reply.items) result ≡ option_map spelling (handled choice E self.old.link frame.now).reply) }
+    {
         let reply = match self.link.on(frame) {
             LinkOut::Nothing => return None,
             LinkOut::Reply(reply) | LinkOut::Up(reply) | LinkOut::Down(reply) => reply,

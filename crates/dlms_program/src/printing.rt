@@ -1,7 +1,12 @@
 //! What a replay writes.
+ghost use Rattle.std.specs.Prelude.{OnOk, option_map};
+ghost use Rattle.std.specs.Io.KnownBytes.{Appends};
+ghost use Rattle.dlms_program.specs.Printed.{reply_line, reply_lines, refusal_line, registers_text, clock_text, state_line};
+ghost use Rattle.dlms_program.specs.Run.{listed};
 
 use crate::meter::Reply;
 use dlms_state::{Refused, State};
+use std::alloc::Allocator;
 use std::io;
 use std::io::Write;
 
@@ -9,7 +14,9 @@ use std::io::Write;
 const MOST_DIGITS: usize = 4098;
 
 /// Writes a reply frame in hexadecimal digits, as `< 7ea0..`.
-pub fn write_reply<W: Write>(reply: &Reply, writer: &mut W) -> io::Result<()> {
+fn write_reply<W: Write>(reply: &Reply, writer: &mut W) -> io::Result<()>
+    ensures { OnOk result (Appends (W.contents writer.old) (W.contents writer.new) (reply_line reply.now.items)) }
+{
     let bytes = reply.as_slice();
     let mut room = [0u8; MOST_DIGITS];
     let digits = &mut room[..2 * bytes.len()];
@@ -19,8 +26,20 @@ pub fn write_reply<W: Write>(reply: &Reply, writer: &mut W) -> io::Result<()> {
     writer.write_all(b"\n")
 }
 
+/// Writes the reply, if there is one.
+pub fn write_answer<W: Write>(reply: &Option<Reply>, writer: &mut W) -> io::Result<()>
+    ensures { OnOk result (Appends (W.contents writer.old) (W.contents writer.new) (reply_lines (listed (option_map (λ reply. reply.items) reply.now)))) }
+{
+    match reply {
+        Some(reply) => write_reply(reply, writer),
+        None => Ok(()),
+    }
+}
+
 /// Writes why an event was refused, by its number in the table of refusals; a moment that went back with the last.
-pub fn write_refusal<W: Write>(refused: Refused, writer: &mut W) -> io::Result<()> {
+pub fn write_refusal<W: Write>(refused: Refused, writer: &mut W) -> io::Result<()>
+    ensures { OnOk result (Appends (W.contents writer.old) (W.contents writer.new) (refusal_line refused)) }
+{
     match refused {
         Refused::MomentBack(last) => writeln!(writer, "refused 1 {last}"),
         Refused::Range => writeln!(writer, "refused 2"),
@@ -30,10 +49,28 @@ pub fn write_refusal<W: Write>(refused: Refused, writer: &mut W) -> io::Result<(
     }
 }
 
+/// Writes the three registers.
+fn write_registers<W: Write>(registers: &[u32; 3], writer: &mut W) -> io::Result<()>
+    ensures { OnOk result (Appends (W.contents writer.old) (W.contents writer.new) (registers_text registers.now)) }
+{
+    let [first, second, third] = *registers;
+    write!(writer, "state {first} {second} {third}")
+}
+
+/// Writes the clock and the count of rows.
+fn write_clock<W: Write>(clock: u32, rows: usize, writer: &mut W) -> io::Result<()>
+    ensures { OnOk result (Appends (W.contents writer.old) (W.contents writer.new) (clock_text clock rows)) }
+{
+    writeln!(writer, " {clock} {rows}")
+}
+
 /// Writes the registers, the clock and the count of rows, as `state 42 0 0 900 1`.
-pub fn write_state<W: Write>(state: &State, writer: &mut W) -> io::Result<()> {
-    let [first, second, third] = state.registers();
-    let clock = state.clock();
-    let rows = state.rows().len();
-    writeln!(writer, "state {first} {second} {third} {clock} {rows}")
+pub fn write_state<W: Write, A: Allocator + Copy>(
+    state: &State<A>,
+    writer: &mut W,
+) -> io::Result<()>
+    ensures { OnOk result (Appends (W.contents writer.old) (W.contents writer.new) (state_line state.now)) }
+{
+    write_registers(&state.registers(), writer)?;
+    write_clock(state.clock(), state.rows().len(), writer)
 }

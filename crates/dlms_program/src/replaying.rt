@@ -1,31 +1,43 @@
 //! The replay of a transcript on a meter.
+ghost use Rattle.std.specs.Prelude.{◌≡◌, ◌≤◌, List, ℕ, OnOk, length};
+ghost use Rattle.dlms_state.specs.declared.event.Event.{Event};
+ghost use Rattle.std.specs.Io.KnownBytes.{Appends};
+ghost use Rattle.dlms_program.specs.Replay.{Did, WroteReplay, bad_line, outcome_line};
+ghost use Rattle.dlms_program.specs.Run.{World, Stands, Judges};
 
 use crate::fault::ReplayFault;
 use crate::lines::{Taken, take_line};
 use crate::meter::Meter;
 use crate::orders::{Order, order_of};
 use crate::pairs::Pairs;
-use crate::printing::{write_refusal, write_reply, write_state};
+use crate::printing::{write_answer, write_refusal, write_state};
 use arrayvec::ArrayVec;
 use dlms_state::Refused;
+use std::alloc::Allocator;
 use std::io;
 use std::io::{Read, Write};
 
 /// Feeds bytes, and writes each reply.
-fn feed<W: Write>(meter: &mut Meter, bytes: &[u8], writer: &mut W) -> io::Result<()> {
+fn feed<W: Write, A: Allocator + Copy>(
+    meter: &mut Meter<A>,
+    bytes: &[u8],
+    writer: &mut W,
+) -> io::Result<()>
+    ensures { OnOk result ((w : World) → Stands meter.old w → Did (W.contents writer.old) (W.contents writer.new) w bytes.now Order.Feed meter.new) }
+{
     let mut rest = bytes;
     'frames: while !rest.is_empty() {
         let (taken, reply) = meter.feed(rest);
-        if let Some(reply) = reply {
-            write_reply(&reply, writer)?;
-        }
+        write_answer(&reply, writer)?;
         rest = &rest[taken..];
     }
     Ok(())
 }
 
 /// Writes the refusal, if there is one.
-fn answer<W: Write>(outcome: Result<(), Refused>, writer: &mut W) -> io::Result<()> {
+fn answer<W: Write>(outcome: Result<(), Refused>, writer: &mut W) -> io::Result<()>
+    ensures { OnOk result (Appends (W.contents writer.old) (W.contents writer.new) (outcome_line outcome)) }
+{
     match outcome {
         Ok(()) => Ok(()),
         Err(refused) => write_refusal(refused, writer),
@@ -33,12 +45,14 @@ fn answer<W: Write>(outcome: Result<(), Refused>, writer: &mut W) -> io::Result<
 }
 
 /// Does what a line asks for.
-fn obey<W: Write>(
+fn obey<W: Write, A: Allocator + Copy>(
     order: Order,
     bytes: &Pairs,
-    meter: &mut Meter,
+    meter: &mut Meter<A>,
     writer: &mut W,
-) -> io::Result<()> {
+) -> io::Result<()>
+    ensures { OnOk result ((w : World) → Stands meter.old w → Did (W.contents writer.old) (W.contents writer.new) w bytes.now order meter.new) }
+{
     match order {
         Order::Skip => Ok(()),
         Order::Feed => feed(meter, bytes.as_slice(), writer),
@@ -53,12 +67,15 @@ fn obey<W: Write>(
 }
 
 /// Does what the lines of `reader` ask of the meter, and writes what comes of them, up to the first line that is of no
-/// known form or too long. After 2^32 - 1 reads it ends with `ReplayFault::Io`.
-pub fn replay<R: Read, W: Write>(
+/// known form or too long. After 2^32 - 1 reads it ends with `ReplayFault::Io`, as where the reader or the writer
+/// fails.
+pub fn replay<R: Read, W: Write, A: Allocator + Copy>(
     reader: &mut R,
     writer: &mut W,
-    meter: &mut Meter,
-) -> Result<(), ReplayFault> {
+    meter: &mut Meter<A>,
+) -> Result<(), ReplayFault>
+    ensures { (w : World) → Stands meter.old w → WroteReplay (W.contents writer.old) (W.contents writer.new) w (R.remaining reader.old) (bad_line result) meter.new }
+{
     let mut reads = u32::MAX;
     let mut line = ArrayVec::new();
     let mut bytes = Pairs::new();
@@ -71,9 +88,7 @@ pub fn replay<R: Read, W: Write>(
         let Some(order) = order_of(line.as_slice(), &mut bytes) else {
             return Err(ReplayFault::Line(number));
         };
-        if obey(order, &bytes, meter, writer).is_err() {
-            return Err(ReplayFault::Io);
-        }
+        obey(order, &bytes, meter, writer)?;
     }
     Err(ReplayFault::Io)
 }

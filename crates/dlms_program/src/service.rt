@@ -1,12 +1,16 @@
 //! The one service of the meter: GET of a register.
-
-ghost use Rattle.std.specs.Prelude.{◌≡◌, ◌<◌, IfSome};
-ghost use Rattle.dlms_program.specs.Service.{channel_of};
+ghost use Rattle.std.specs.Prelude.{◌≡◌, ◌⊎◌, ◌<◌, ◌≤◌, List, ℕ, ◌++◌, length, Ok, Err, IfSome, MatchResult};
+ghost use Rattle.dlms_data.specs.Value.{double_long_unsigned};
+ghost use Rattle.dlms_data.specs.Writing.{canonical};
+ghost use Rattle.dlms_state.specs.declared.event.Event.{Event};
+ghost use Rattle.dlms_state.specs.Events.{register_after};
+ghost use Rattle.dlms_state.specs.StateValue.{IsStateOf};
+ghost use Rattle.dlms_program.specs.Service.{Choice, request_of, channel_of, outcome_after, result_of, response_of, chosen, answer_after, unknown_service, too_long};
 
 use arrayvec::ArrayVec;
 use dlms_data::{Data, Descriptor, write};
 use dlms_state::State;
-use std::alloc::{AllocError, Global};
+use std::alloc::{AllocError, Allocator};
 
 /// The most bytes of an answer.
 const MOST_BYTES: usize = 16;
@@ -39,29 +43,38 @@ pub struct GetRequest {
 }
 
 /// The bytes of an answer.
-fn bytes_of(bytes: &[u8]) -> Answer {
+fn bytes_of(bytes: &[u8]) -> Answer
+    requires { length bytes.now ≤ 16 }
+    ensures { result.items ≡ bytes.now }
+{
     let mut answer = ArrayVec::new();
     let _fits = answer.try_extend_from_slice(bytes);
     answer
 }
 
 /// The answer to what is not read, or of no known kind: the service is unknown.
-pub fn unknown_service() -> Answer {
+pub fn unknown_service() -> Answer
+    ensures { result.items ≡ unknown_service }
+{
     bytes_of(&[0xd8, 0x02, 0x02])
 }
 
 /// The answer to more bytes than fit: the service is refused for another reason.
-pub fn too_long() -> Answer {
+pub fn too_long() -> Answer
+    ensures { result.items ≡ too_long }
+{
     bytes_of(&[0xd8, 0x01, 0x03])
 }
 
 /// The request that these bytes are.
-fn read_get(apdu: &[u8]) -> Option<GetRequest> {
+fn read_get(apdu: &[u8]) -> Option<GetRequest>
+    ensures { result ≡ request_of apdu.now }
+{
     match apdu {
         [0xc0, 0x01, invoke, high, low, a, b, c, d, e, f, id, 0x00] => Some(GetRequest {
             invoke: *invoke,
             descriptor: Descriptor {
-                class: u16::from_be_bytes([*high, *low]),
+                class: u16::from(*high) * 256 + u16::from(*low),
                 name: [*a, *b, *c, *d, *e, *f],
                 id: *id,
             },
@@ -82,8 +95,22 @@ fn channel_of(name: [u8; 6]) -> Option<usize>
     }
 }
 
+/// The value of the register on a channel.
+fn register_of<A: Allocator + Copy>(state: &State<A>, channel: usize) -> u32
+    requires { channel < 3 }
+    ensures { (E : List Event) → IsStateOf E state.now → result ≡ register_after channel E }
+{
+    let registers = state.registers();
+    registers[channel]
+}
+
 /// The register's value that a descriptor names.
-fn value_of(state: &State, descriptor: Descriptor) -> Result<u32, AccessFault> {
+fn value_of<A: Allocator + Copy>(
+    state: &State<A>,
+    descriptor: Descriptor,
+) -> Result<u32, AccessFault>
+    ensures { (E : List Event) → IsStateOf E state.now → result ≡ outcome_after E descriptor }
+{
     let Some(channel) = channel_of(descriptor.name) else {
         return Err(AccessFault::ObjectUndefined);
     };
@@ -93,20 +120,13 @@ fn value_of(state: &State, descriptor: Descriptor) -> Result<u32, AccessFault> {
     if descriptor.id != VALUE {
         return Err(AccessFault::ObjectUndefined);
     }
-    Ok(state.registers()[channel])
-}
-
-/// The bytes of the value that a descriptor names.
-fn data_of(alloc: Global, state: &State, descriptor: Descriptor) -> Result<Vec<u8>, AccessFault> {
-    let value: Data = Data::DoubleLongUnsigned(value_of(state, descriptor)?);
-    match write(alloc, &value) {
-        Ok(data) => Ok(data),
-        Err(AllocError) => Err(AccessFault::TemporaryFailure),
-    }
+    Ok(register_of(state, channel))
 }
 
 /// The number of a fault in the standard's list of results.
-fn result_of(fault: AccessFault) -> u8 {
+fn result_of(fault: AccessFault) -> u8
+    ensures { result ≡ result_of fault }
+{
     match fault {
         AccessFault::TemporaryFailure => 2,
         AccessFault::ObjectUndefined => 4,
@@ -114,22 +134,37 @@ fn result_of(fault: AccessFault) -> u8 {
     }
 }
 
-/// The answer that carries data, or says why there is none.
-fn get_answer(alloc: Global, state: &State, request: GetRequest) -> Answer {
-    match data_of(alloc, state, request.descriptor) {
+/// The answer that carries a value; the result of a temporary failure, where its bytes find no memory.
+fn data_answer<A: Allocator + Copy>(alloc: A, invoke: u8, value: u32) -> Answer
+    ensures { (choice : Choice) × (result.items ≡ response_of invoke (chosen choice (Ok value))) }
+{
+    let value: Data<A> = Data::DoubleLongUnsigned(value);
+    match write(alloc, &value) {
         Ok(data) => {
-            let mut answer = bytes_of(&[0xc4, 0x01, request.invoke, 0x00]);
+            let mut answer = bytes_of(&[0xc4, 0x01, invoke, 0x00]);
             let _fits = answer.try_extend_from_slice(data.as_slice());
             answer
         }
-        Err(fault) => bytes_of(&[0xc4, 0x01, request.invoke, 0x01, result_of(fault)]),
+        Err(AllocError) => fault_answer(invoke, AccessFault::TemporaryFailure),
     }
 }
 
+/// The answer that says why there is no data.
+fn fault_answer(invoke: u8, fault: AccessFault) -> Answer
+    ensures { result.items ≡ response_of invoke (Err fault) }
+{
+    bytes_of(&[0xc4, 0x01, invoke, 0x01, result_of(fault)])
+}
+
 /// The answer to an APDU.
-pub fn serve(alloc: Global, state: &State, apdu: &[u8]) -> Answer {
-    match read_get(apdu) {
-        Some(request) => get_answer(alloc, state, request),
-        None => unknown_service(),
+pub fn serve<A: Allocator + Copy>(alloc: A, state: &State<A>, apdu: &[u8]) -> Answer
+    ensures { (E : List Event) → IsStateOf E state.now → (choice : Choice) × (result.items ≡ answer_after E choice apdu.now) }
+{
+    let Some(request) = read_get(apdu) else {
+        return unknown_service();
+    };
+    match value_of(state, request.descriptor) {
+        Ok(value) => data_answer(alloc, request.invoke, value),
+        Err(fault) => fault_answer(request.invoke, fault),
     }
 }

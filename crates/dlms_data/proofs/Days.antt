@@ -1,0 +1,61 @@
+-- The clock's first and last day on the calendar.
+use Rattle.std.proofs.Common.{rules, arith, refl, sym, inl, subst, ap₂, slice_index, ap, ◌∙◌, ◌≡◌, ◌≤◌, ◌+◌, ◌*◌, ◌/◌, ◌%◌, ℕ, List, [], ◌∷◌, ℤ, pos, unsigned_abs, ◌≤ℤ◌, ◌<ℤ◌}
+use Rattle.std.proofs.lemmas.Int.{by_lt_z}
+use Rattle.jiff_core.specs.Calendar.{day_count, days_from_civil, IsCivilDate}
+use Rattle.jiff_core.specs.Date.{epoch_day, IsYmd}
+use Rattle.jiff_core.specs.declared.civil.date.Date.{Date}
+use Rattle.jiff_core.proofs.CalendarLemmas.{day_count-last_of_year, day_count-lt_year, day_count-next_year, days_from_civil-day_count}
+use Rattle.jiff_core.proofs.MarchLemmas.{day_count-early}
+use Rattle.jiff_core.proofs.DateLemmas.{civil}
+use Rattle.jiff_core.proofs.SignedLemmas.{signed_arith}
+use Rattle.dlms_data.specs.DateTime.{NamesSecond, last_second}
+
+pub day_count-2000 : day_count (pos 2000) 1 1 ≡ 4_382_910
+day_count-2000 = day_count-early (pos 2000) 11999 1 1 refl (omega arith) (omega arith) (omega arith)
+
+pub day_count-2100 : day_count (pos 2100) 1 1 ≡ 4_419_435
+day_count-2100 = day_count-early (pos 2100) 12099 1 1 refl (omega arith) (omega arith) (omega arith)
+
+pub day-2000 : days_from_civil (pos 2000) 1 1 ≡ pos 10957
+day-2000 = omega (arith, signed_arith, days_from_civil-day_count, day_count-2000)
+
+pub day-2100 : days_from_civil (pos 2100) 1 1 ≡ pos 47482
+day-2100 = omega (arith, signed_arith, days_from_civil-day_count, day_count-2100)
+
+-- a day from 2000-01-01 on lies in the year 2000 or later
+pub year_from : (y : ℤ) (m d : ℕ) → IsCivilDate y m d → pos 10957 ≤ℤ days_from_civil y m d → pos 2000 ≤ℤ y
+year_from y m d h day =
+    by_lt_z y (pos 2000)
+    (λ lt. absurd (omega (arith, signed_arith, days_from_civil-day_count, day_count-2000, day_count-lt_year y m d (pos 2000) 1 1 h (omega arith) lt)))
+    (λ le. le)
+
+-- and one before 2100-01-01 in the year 2099 or earlier
+pub year_to : (y : ℤ) (m d : ℕ) → IsCivilDate y m d → days_from_civil y m d <ℤ pos 47482 → y ≤ℤ pos 2099
+year_to y m d h day =
+    by_lt_z (pos 2099) y
+    (λ lt. absurd (omega (arith, signed_arith, days_from_civil-day_count, day_count-2100, day_count-last_of_year (pos 2099), day_count-next_year (pos 2099) (pos 2100) (search rules) refl, day_count-lt_year (pos 2099) 12 31 y m d (search rules) h.2.0 lt)))
+    (λ le. le)
+
+-- the octets of a date and a time name the second that they were made of
+pub names_second : (d : Date) (year : List ℕ) (weekday secs : ℕ) → secs ≤ last_second → epoch_day d ≡ pos (10957 + secs / 86400)
+    → pos (256 * slice_index year 0 + slice_index year 1) ≡ d.year
+    → NamesSecond (slice_index year 0 ∷ slice_index year 1 ∷ d.month ∷ d.day ∷ weekday ∷ secs % 86400 / 3600 ∷ secs % 86400 / 60 % 60 ∷ secs % 86400 % 60 ∷ 0 ∷ 0 ∷ 0 ∷ 0 ∷ []) secs
+names_second d year weekday secs h day is_year =
+    let number : days_from_civil (pos (256 * slice_index year 0 + slice_index year 1)) d.month d.day ≡ pos (10957 + secs / 86400) = rw is_year day in
+    record {
+      size = refl;
+      date = subst (λ (y : ℤ). IsCivilDate y d.month d.day) (sym is_year) (civil d);
+      time = (omega arith, omega arith, omega arith);
+      deviation = (inl refl, refl);
+      range = h;
+      value = rw (number, day-2000) (omega (arith, signed_arith));
+    }
+
+-- a date is known by its parts
+pub of_parts : (date : Date) (y m d : ℕ) → IsYmd (pos y) (pos m) (pos d) date → IsCivilDate (pos y) m d × (epoch_day date ≡ days_from_civil (pos y) m d)
+of_parts date y m d h =
+    let month : date.month ≡ m = ap unsigned_abs h.1 in
+    let day : date.day ≡ d = ap unsigned_abs h.2 in
+    let in_year = subst (λ (z : ℤ). IsCivilDate z date.month date.day) h.0 (civil date) in
+    let in_month = subst (λ (k : ℕ). IsCivilDate (pos y) k date.day) month in_year in
+    (subst (λ (k : ℕ). IsCivilDate (pos y) m k) day in_month, ap (λ (z : ℤ). days_from_civil z date.month date.day) h.0 ∙ ap₂ (days_from_civil (pos y)) month day)

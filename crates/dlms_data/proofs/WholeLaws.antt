@@ -1,0 +1,24 @@
+-- The laws.
+use Rattle.std.proofs.Common.{◌≡◌, ℕ, List, ◌++◌, length, take, refl, sym, ap, ◌∙◌, arith}
+use Rattle.std.proofs.lemmas.List.{take_at, length-append}
+use Rattle.dlms_data.specs.Value.{Value}
+use Rattle.dlms_data.specs.Writing.{canonical}
+use Rattle.dlms_data.specs.Laws.{ReadsWhatIsSpelled, ReadsOneValue, ReadsWhatWasWritten}
+use Rattle.dlms_data.proofs.Takes.{data_takes, spelled, ok_is}
+use Rattle.dlms_data.proofs.Written.{is_spelled}
+
+pub reads_what_is_spelled : ReadsWhatIsSpelled
+reads_what_is_spelled bytes rest v =
+    (λ h. let t = data_takes 8 bytes (v, rest) h in (t.0.0, t.0.1, (t.0.2, t.1)), λ h. spelled bytes v h.0 rest h.2 h.1)
+
+pub reads_one_value : ReadsOneValue
+reads_one_value bytes one one_rest other other_rest v w first second a b =
+    let same : (v, one_rest) ≡ (w, other_rest) = ok_is (v, one_rest) (w, other_rest) (sym (spelled bytes v one one_rest a first) ∙ spelled bytes w other other_rest b second) in
+    let value : v ≡ w = ap (λ (x : Value × List ℕ). x.0) same in
+    let rest : one_rest ≡ other_rest = ap (λ (x : Value × List ℕ). x.1) same in
+    let len : length other ≡ length one = omega (arith, ap length first, ap length second, length-append one one_rest, length-append other other_rest, ap length rest) in
+    let text : one ≡ other = sym (take_at one one_rest (length one) refl) ∙ ap (take (length one)) (sym first ∙ second) ∙ take_at other other_rest (length one) len in
+    (text, value)
+
+pub reads_what_was_written : ReadsWhatWasWritten
+reads_what_was_written v rest fits = spelled (canonical v ++ rest) v (canonical v) rest (is_spelled v fits) refl

@@ -1,0 +1,48 @@
+//! Strings of octets.
+
+ghost use Rattle.std.specs.Prelude.{◌≡◌, IfOk, length};
+
+use std::alloc::{AllocError, Allocator, Global};
+use std::marker::Model;
+
+/// Bytes that contracts see as a list.
+#[derive(Debug, Drop)]
+pub struct Bytes<A: Allocator = Global> {
+    bytes: Vec<u8, A>,
+}
+
+impl<A: Allocator> Model for Bytes<A> {
+    ghost use Rattle.std.specs.Prelude.{List, ℕ};
+
+    ghost Value = { List ℕ };
+
+    ghost view = { λ b. b.bytes.items };
+}
+
+impl<A: Allocator> Bytes<A> {
+    /// A copy of bytes.
+    pub fn from_slice(alloc: A, bytes: &[u8]) -> Result<Bytes<A>, AllocError>
+        ensures { IfOk result (λ b. b ≡ bytes.now) }
+    {
+        let bytes = Vec::from_slice(alloc, bytes)?;
+        Ok(Bytes { bytes })
+    }
+
+    pub fn from_vec(bytes: Vec<u8, A>) -> Bytes<A>
+        ensures { result ≡ bytes.items }
+    {
+        Bytes { bytes }
+    }
+
+    pub fn as_slice(&self) -> &[u8]
+        ensures { result.now ≡ self.now }
+    {
+        &self.bytes
+    }
+
+    pub fn into_vec(self) -> Vec<u8, A>
+        ensures { result.items ≡ self }
+    {
+        self.bytes
+    }
+}

@@ -1,0 +1,31 @@
+//! What holds of all values and of all seconds. Nobody needs to call these functions: their contracts
+//! are the laws.
+
+ghost use Rattle.std.specs.Prelude.{◌≡◌, ◌≤◌, Some};
+ghost use Rattle.dlms_data.specs.Laws.{ReadsWhatIsSpelled, ReadsOneValue, ReadsWhatWasWritten};
+
+use crate::date_time::{LAST_SECOND, octets, secs};
+
+/// What is read is what the grammar has: the value, and what follows it.
+pub fn reads_what_is_spelled()
+    ensures { ReadsWhatIsSpelled }
+{}
+
+/// No bytes begin with the spellings of two values.
+pub fn reads_one_value()
+    ensures { ReadsOneValue }
+{}
+
+/// The canonical spelling of a value is read again, whatever follows it.
+pub fn reads_what_was_written()
+    ensures { ReadsWhatWasWritten }
+{}
+
+/// Each second is read again as it was written.
+pub fn reads_each_second(second: u32) -> Option<u32>
+    requires { second ≤ LAST_SECOND }
+    ensures { result ≡ Some second }
+{
+    let written = octets(second);
+    secs(written.as_slice())
+}

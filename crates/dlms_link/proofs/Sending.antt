@@ -1,0 +1,194 @@
+-- What goes out in segments is the LLC and the APDU.
+use Rattle.std.proofs.Common.{◌≡◌, ℕ, ◌+◌, ◌≤◌, ◌<◌, ◌==◌, ◌&&◌, ◌⊎◌, inl, inr, if◌then◌else◌, refl, sym, ◌∙◌, arith, ap, Bool, true, false, List, [], ◌∷◌, ◌++◌, length, take, drop, map, All, None, Some, min, Option, length-append, length-drop, append_assoc}
+use Rattle.std.proofs.lemmas.Bool.Decides.{nat_tests}
+use Rattle.std.proofs.lemmas.List.{take-append-drop, append-nil, length-take}
+use Rattle.std.proofs.lemmas.List.Elements.{All-cons, All-nil, All-head}
+use Rattle.dlms_frame.specs.Frame.{Parts}
+use Rattle.dlms_link.specs.declared.out.LinkOut.{LinkOut}
+use Rattle.dlms_link.specs.declared.out.LinkOut.TheVariants.{Reply}
+use Rattle.dlms_link.specs.declared.out.ClientOut.{ClientOut}
+use Rattle.dlms_link.specs.declared.out.ClientOut.TheVariants.{Send}
+use Rattle.dlms_link.specs.declared.out.Phase.TheVariants.{Closed, Connecting, Open, Closing}
+use Rattle.dlms_link.specs.declared.control.Control.{Control}
+use Rattle.dlms_link.specs.declared.control.Control.TheVariants.{Snrm, Disc, Ua, Dm, Information, Ready, NotReady, Other}
+use Rattle.dlms_link.specs.declared.row.Row.{Row}
+use Rattle.dlms_link.specs.declared.row.Row.TheVariants.{Connects, Refuses, Disconnects, Keeps, HandsUp, Repeats, SendsNext, SaysReady, Ignores}
+use Rattle.dlms_link.specs.declared.way.Way.{Way}
+use Rattle.dlms_link.specs.declared.way.Way.TheVariants.{Takes, TakenBefore, LetsNext, Leaves}
+use Rattle.dlms_link.specs.Octet.{control_of, before}
+use Rattle.dlms_link.specs.Kept.{Fresh, Good, kept_after, capped, llc, from_meter, from_client, is_more}
+use Rattle.dlms_link.specs.Server.{ServerRecord, row_of, row_of_snrm, is_meter, is_client, row_while_up, row_while_down, was_information, server_on, by_row, server_send, segment_of}
+use Rattle.dlms_link.specs.Parameters.{size_of}
+use Rattle.dlms_link.specs.Client.{ClientRecord, is_answer, way_of, client_step, client_send, client_segment, after_client_segment, on_control, by_way}
+use Rattle.dlms_link.specs.Segments.{joined, kept_after_all, read_whole, IsSegmented, SendsRest, AllSent, SendsOne, Between, LetsGo, ClientSendsRest, ClientSentAll, ClientSendsOne}
+use Rattle.dlms_link.proofs.Whole.{read_at_once}
+
+same : (n : ℕ) → (n == n) ≡ true
+same n = grind (arith, nat_tests)
+
+-- what is left is sent: nothing, or in segments
+abbrev IsSent : ℕ → List ℕ → List Parts → Type 0
+IsSent size text frames = ((text ≡ []) × (frames ≡ [])) ⊎ ((is_more text ≡ true) × IsSegmented size text frames)
+
+not_more : (xs : List ℕ) → is_more xs ≡ true → 0 < length xs
+not_more [] e = cc
+not_more (x ∷ xs) e = omega arith
+
+fills : (size : ℕ) (text : List ℕ) → is_more (drop size text) ≡ true → length (take size text) ≡ size
+fills size text h = omega (arith, not_more (drop size text) h, length-drop size text, length-take size text)
+
+-- a text whose first segment is this frame, and the rest of it in those that follow
+begins : (size : ℕ) (text : List ℕ) (f : Parts) (frames : List Parts) → f.info ≡ take size text → f.segmented ≡ is_more (drop size text) → IsSent size (drop size text) frames → IsSegmented size text (f ∷ frames)
+begins size text f frames ei es (inl h) = record {
+  front = [];
+  last = f;
+  in_order = rw h.1 refl;
+  text_joined = rw (h.1, ei) (ap (λ zs. take size text ++ zs) (sym h.0) ∙ take-append-drop size text);
+  full = All-nil (λ (g : Parts). length g.info ≡ size);
+  go_on = All-nil (λ (g : Parts). g.segmented ≡ true);
+  short = rw ei (omega (arith, length-take size text));
+  ends = es ∙ ap is_more h.0;
+}
+begins size text f frames ei es (inr h) =
+    let s = h.1 in
+    record {
+      front = f ∷ s.front;
+      last = s.last;
+      in_order = ap (λ gs. f ∷ gs) s.in_order;
+      text_joined = rw (ei, s.text_joined) (take-append-drop size text);
+      full = All-cons (λ (g : Parts). length g.info ≡ size) f s.front (rw ei (fills size text h.0)) s.full;
+      go_on = All-cons (λ (g : Parts). g.segmented ≡ true) f s.front (es ∙ h.0) s.go_on;
+      short = s.short;
+      ends = s.ends;
+    }
+
+-- the row of the next segment is met only where a segment is unsent
+snrm_sends_none : (o : Option ℕ) → row_of_snrm o ≡ SendsNext → ⊥
+snrm_sends_none None e = cc
+snrm_sends_none (Some size) e = cc
+
+information_sends_none : (a b c : Bool) → (if a then (if b then Keeps else HandsUp) else (if c then Repeats else Ignores)) ≡ SendsNext → ⊥
+information_sends_none true true c e = cc
+information_sends_none true false c e = cc
+information_sends_none false b true e = cc
+information_sends_none false b false e = cc
+
+ready_sends : (a m c : Bool) → (if a then (if m then SendsNext else SaysReady) else (if c then Repeats else Ignores)) ≡ SendsNext → m ≡ true
+ready_sends true true c e = refl
+ready_sends true false c e = cc
+ready_sends false m true e = cc
+ready_sends false m false e = cc
+
+up_sends : (r : ServerRecord) (segmented : Bool) (info : List ℕ) (k : Control) → row_while_up r segmented info k ≡ SendsNext → is_more r.unsent ≡ true
+up_sends r segmented info Snrm e = absurd (snrm_sends_none (size_of info) e)
+up_sends r segmented info Disc e = cc
+up_sends r segmented info Ua e = cc
+up_sends r segmented info Dm e = cc
+up_sends r segmented info NotReady e = cc
+up_sends r segmented info Other e = cc
+up_sends r segmented info (Information s n) e = absurd (information_sends_none ((s == r.receive_next) && (n == r.send_next)) segmented ((s == before r.receive_next) && r.took_information) e)
+up_sends r segmented info (Ready n) e = ready_sends (n == r.send_next) (is_more r.unsent) ((n == before r.send_next) && was_information r.last) e
+
+down_sends_none : (info : List ℕ) (k : Control) → row_while_down info k ≡ SendsNext → ⊥
+down_sends_none info Snrm e = absurd (snrm_sends_none (size_of info) e)
+down_sends_none info Disc e = cc
+down_sends_none info Ua e = cc
+down_sends_none info Dm e = cc
+down_sends_none info NotReady e = cc
+down_sends_none info Other e = cc
+down_sends_none info (Information s n) e = cc
+down_sends_none info (Ready n) e = cc
+
+sends_more : (r : ServerRecord) (f : Parts) → row_of r f ≡ SendsNext → is_more r.unsent ≡ true
+unfolding row_of
+sends_more r f e = by_tests (is_meter f.dest && is_client r.client f.src) r.up e
+  where
+    by_tests : (a up : Bool) → (if a then (if up then row_while_up r f.segmented f.info (control_of f.control) else row_while_down f.info (control_of f.control)) else Ignores) ≡ SendsNext → is_more r.unsent ≡ true
+    by_tests true true e = up_sends r f.segmented f.info (control_of f.control) e
+    by_tests true false e = absurd (down_sends_none f.info (control_of f.control) e)
+    by_tests false up e = cc
+
+is_reply : (f g : Parts) → Reply f ≡ Reply g → f ≡ g
+is_reply f g e = cc
+
+rest_sent : {r : ServerRecord} {frames : List Parts} → SendsRest r frames → IsSent r.size r.unsent frames
+rest_sent (AllSent r e) = inl (e, refl)
+rest_sent (SendsOne r f sent rest er es more) =
+    let later = rest_sent more in
+    let after = rw er at later in
+    let reply = rw er at es in
+    let one : segment_of r f.dest ≡ sent = is_reply (segment_of r f.dest) sent reply in
+    inr (sends_more r f er, begins r.size r.unsent sent rest (ap (λ (g : Parts). g.info) (sym one)) (ap (λ (g : Parts). g.segmented) (sym one)) after)
+rest_sent (Between r f rest (inl e) more) = let later = rest_sent more in rw e at later
+rest_sent (Between r f rest (inr e) more) = let later = rest_sent more in rw e at later
+
+pub meter_sends : (r : ServerRecord) (answer : List ℕ) (frames : List Parts) → SendsRest (server_send r answer).0 frames → IsSegmented r.size (llc from_meter ++ answer) ((server_send r answer).1 ∷ frames)
+meter_sends r answer frames h = begins r.size (llc from_meter ++ answer) (server_send r answer).1 frames refl refl (rest_sent h)
+
+-- the way by which the client's next segment goes is taken only where one is unsent
+information_lets_none : (a b : Bool) → (if a then Takes else (if b then TakenBefore else Leaves)) ≡ LetsNext → ⊥
+information_lets_none true b e = cc
+information_lets_none false true e = cc
+information_lets_none false false e = cc
+
+ready_lets : (a m : Bool) → (if a && m then LetsNext else Leaves) ≡ LetsNext → m ≡ true
+ready_lets true true e = refl
+ready_lets true false e = cc
+ready_lets false m e = cc
+
+lets_more : (c : ClientRecord) (k : Control) → way_of c k ≡ LetsNext → is_more c.unsent ≡ true
+unfolding way_of
+lets_more c (Information s n) e = absurd (information_lets_none ((s == c.receive_next) && (n == c.send_next)) (s == before c.receive_next) e)
+lets_more c (Ready n) e = ready_lets (n == c.send_next) (is_more c.unsent) e
+lets_more c Snrm e = cc
+lets_more c Disc e = cc
+lets_more c Ua e = cc
+lets_more c Dm e = cc
+lets_more c NotReady e = cc
+lets_more c Other e = cc
+
+lets_one : (c : ClientRecord) (f : Parts) (k : Control) → c.phase ≡ Open → way_of c (control_of f.control) ≡ LetsNext → way_of c k ≡ LetsNext → on_control c f k ≡ (after_client_segment c, Send (client_segment c))
+unfolding way_of
+lets_one c f (Information s n) up e ek = rw (up, e) refl
+lets_one c f (Ready n) up e ek = rw (up, e) refl
+lets_one c f Snrm up e ek = cc
+lets_one c f Disc up e ek = cc
+lets_one c f Ua up e ek = cc
+lets_one c f Dm up e ek = cc
+lets_one c f NotReady up e ek = cc
+lets_one c f Other up e ek = cc
+
+lets_go : (c : ClientRecord) (f : Parts) → LetsGo c f → client_step c f ≡ (after_client_segment c, Send (client_segment c))
+lets_go c f h = rw h.from_meter (lets_one c f (control_of f.control) h.up h.way h.way)
+
+is_sent : (f g : Parts) → Send f ≡ Send g → f ≡ g
+is_sent f g e = cc
+
+rest_of_client : {c : ClientRecord} {frames : List Parts} → ClientSendsRest c frames → IsSent 128 c.unsent frames
+rest_of_client (ClientSentAll c e) = inl (e, refl)
+rest_of_client (ClientSendsOne c f sent rest goes es more) =
+    let later = rest_of_client more in
+    let after = rw (lets_go c f goes) at later in
+    let out = rw (lets_go c f goes) at es in
+    let one : client_segment c ≡ sent = is_sent (client_segment c) sent out in
+    inr (lets_more c (control_of f.control) goes.way, begins 128 c.unsent sent rest (ap (λ (g : Parts). g.info) (sym one)) (ap (λ (g : Parts). g.segmented) (sym one)) after)
+
+pub client_sends : (c : ClientRecord) (apdu : List ℕ) (frames : List Parts) → ClientSendsRest (client_send c apdu).0 frames → IsSegmented 128 (llc from_client ++ apdu) ((client_send c apdu).1 ∷ frames)
+client_sends c apdu frames h = begins 128 (llc from_client ++ apdu) (client_send c apdu).1 frames refl refl (rest_of_client h)
+
+-- segments whose first one holds the LLC are read again
+reads : (side : ℕ) (apdu : List ℕ) (g : Parts) (gs : List Parts) → 3 ≤ length g.info → joined (map (λ (f : Parts). f.info) (g ∷ gs)) ≡ llc side ++ apdu →
+    kept_after_all side Fresh (map (λ (f : Parts). f.info) (g ∷ gs)) ≡ capped apdu
+reads side apdu g gs h e = read_at_once side g.info (map (λ (f : Parts). f.info) gs) h ∙ ap (read_whole side) e ∙ rw (same side) refl
+
+again : (side size : ℕ) (apdu : List ℕ) (front frames : List Parts) (last : Parts) → 3 ≤ size → frames ≡ front ++ last ∷ [] → joined (map (λ (f : Parts). f.info) frames) ≡ llc side ++ apdu →
+    All (λ (f : Parts). length f.info ≡ size) front → kept_after_all side Fresh (map (λ (f : Parts). f.info) frames) ≡ capped apdu
+again side size apdu [] frames last h e j full =
+    let j' = rw e at j in
+    rw e (reads side apdu last [] (omega (arith, ap length j', length-append last.info [])) j')
+again side size apdu (f ∷ front) frames last h e j full =
+    let j' = rw e at j in
+    rw e (reads side apdu f (front ++ last ∷ []) (omega (arith, h, All-head (λ (f : Parts). length f.info ≡ size) f front full)) j')
+
+pub read_again : (side size : ℕ) (apdu : List ℕ) (frames : List Parts) → 3 ≤ size → IsSegmented size (llc side ++ apdu) frames → kept_after_all side Fresh (map (λ f. f.info) frames) ≡ capped apdu
+read_again side size apdu frames h s = again side size apdu s.front frames s.last h s.in_order s.text_joined s.full

@@ -1,0 +1,41 @@
+//! Worked examples of the definitions, and laws over whole lists of rows. They make no call.
+ghost use Rattle.std.specs.Prelude.{◌≡◌, ℕ, ◌<◌, List, [], ◌∷◌};
+ghost use Rattle.circular_buffer.specs.Buffer.{keep_last};
+ghost use Rattle.dlms_profile.specs.declared.rows.Row.{Row};
+ghost use Rattle.dlms_profile.specs.Rows.{in_range, entries, row_at};
+
+/// A range has its first and its last second.
+pub fn a_range_has_both_its_ends()
+    ensures { in_range 900 1800 (row_at 899 ∷ row_at 900 ∷ row_at 1800 ∷ row_at 1801 ∷ []) ≡ row_at 900 ∷ row_at 1800 ∷ [] }
+{}
+
+/// A range that ends before it begins names no row.
+pub fn a_range_turned_round_is_empty()
+    ensures { (first last : ℕ) (rows : List Row) → last < first → in_range first last rows ≡ [] }
+{}
+
+/// The oldest row is entry 1.
+pub fn entries_count_from_one()
+    ensures { entries 1 1 (row_at 900 ∷ row_at 1800 ∷ row_at 2700 ∷ []) ≡ row_at 900 ∷ [] }
+{}
+
+/// Where 0 stands for the last entry, or a last entry past the newest row is named, the rows go to the newest.
+pub fn the_last_entry_is_the_newest_row()
+    ensures open_end { entries 2 0 (row_at 900 ∷ row_at 1800 ∷ row_at 2700 ∷ []) ≡ row_at 1800 ∷ row_at 2700 ∷ [] }
+    ensures past_end { entries 2 9 (row_at 900 ∷ row_at 1800 ∷ row_at 2700 ∷ []) ≡ row_at 1800 ∷ row_at 2700 ∷ [] }
+{}
+
+/// A first entry past the newest row names no row.
+pub fn a_first_entry_past_the_last_names_none()
+    ensures { entries 4 0 (row_at 900 ∷ row_at 1800 ∷ row_at 2700 ∷ []) ≡ [] }
+{}
+
+/// Entries 1 to 0 are all rows.
+pub fn entries_one_to_none_are_all()
+    ensures { (rows : List Row) → entries 1 0 rows ≡ rows }
+{}
+
+/// Of four rows a buffer of three keeps the last three.
+pub fn the_oldest_row_goes_first()
+    ensures { keep_last 3 (row_at 1 ∷ row_at 2 ∷ row_at 3 ∷ row_at 4 ∷ []) ≡ row_at 2 ∷ row_at 3 ∷ row_at 4 ∷ [] }
+{}

@@ -1,0 +1,15 @@
+use Rattle.std.proofs.Common.{rules, sym}
+use Rattle.dlms_program.proofs.ReplayLemmas.{fed_start, fed_call, fed_all, taken_and_left}
+use Rattle.dlms_program.proofs.replaying.feed.Goals as goal
+
+pub frames-init : goal.frames-init
+frames-init g c = fed_start _ _ _
+
+pub frames-preserved : goal.frames-preserved
+frames-preserved g c =
+    fed_call (g.W.Write.contents c.args.writer.now) (g.W.Write.contents c.frames.writer) (g.W.Write.contents c.write_answer.new.writer)
+    c.args.meter.now c.frames.meter c.feed-taken.new.self c.args.bytes.now c.frames.rest.now _ _ _
+    (taken_and_left c.feed-taken.result.0 c.frames.rest.now) c.frames.invariant c.feed-taken.ensures.feeds c.in_ok-write_answer.ensures
+
+pub returns : goal.returns
+returns g c = fed_all (g.W.Write.contents c.args.writer.now) (g.W.Write.contents c.frames.writer) c.args.meter.now c.frames.meter c.args.bytes.now c.frames.rest.now (search rules) c.frames.invariant

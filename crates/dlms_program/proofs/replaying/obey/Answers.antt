@@ -1,0 +1,18 @@
+use Rattle.std.proofs.Common.{sym, subst}
+use Rattle.dlms_program.specs.declared.orders.Order.{Order}
+use Rattle.dlms_program.specs.Replay.{Did}
+use Rattle.dlms_program.specs.Run.{World, Stands}
+use Rattle.dlms_program.proofs.ReplayLemmas.{on_ok, pulses_told, moment_told}
+use Rattle.dlms_program.proofs.replaying.obey.Goals as goal
+
+pub returns-in-Pulses : goal.returns-in-Pulses
+returns-in-Pulses g c =
+    on_ok _ _ c.answer.result (λ appends. λ w stands.
+    subst (λ (order : Order). Did (g.W.Write.contents c.args.writer.now) (g.W.Write.contents c.answer.new.writer) w c.args.bytes.now order c.pulses.new.self) (sym c.in-Pulses.is)
+    (pulses_told _ _ c.args.meter.now c.pulses.new.self c.args.bytes.now c.in-Pulses.channel c.in-Pulses.count c.pulses.result c.pulses.ensures appends w stands)) c.answer.ensures
+
+pub returns-in-Moment : goal.returns-in-Moment
+returns-in-Moment g c =
+    on_ok _ _ c.answer-in-Moment.result (λ appends. λ w stands.
+    subst (λ (order : Order). Did (g.W.Write.contents c.args.writer.now) (g.W.Write.contents c.answer-in-Moment.new.writer) w c.args.bytes.now order c.moment.new.self) (sym c.in-Moment.is)
+    (moment_told _ _ c.args.meter.now c.moment.new.self c.args.bytes.now c.in-Moment.second c.moment.result c.moment.ensures appends w stands)) c.answer-in-Moment.ensures

@@ -1,0 +1,18 @@
+//! Laws over whole runs. They make no call: the calls' own contracts cite the same definitions.
+ghost use Rattle.std.specs.Prelude.{◌≡◌, ℕ, List, ◌++◌, map};
+ghost use Rattle.dlms_program.specs.MeterValue.{MeterValue};
+ghost use Rattle.dlms_program.specs.Run.{World, Stands, Comes};
+ghost use Rattle.dlms_program.specs.Steps.{Call, Calls, Run, step_of};
+
+/// The calls of a meter, one after another, are a run from each world that it stood for, and it then stands for the
+/// world that the run leads to.
+pub fn calls_are_a_run()
+    ensures { (calls : List Call) (old new : MeterValue) (w : World) → Calls old calls new → Stands old w
+        → (w' : World) × Run w (map step_of calls) w' × Stands new w' }
+{}
+
+/// However a piece of bytes is cut in two, its frames and replies are the same.
+pub fn pieces_join()
+    ensures { (w m w' : World) (front back : List ℕ) (first second : List (List ℕ)) → Comes w front first m → Comes m back second w'
+        → Comes w (front ++ back) (first ++ second) w' }
+{}

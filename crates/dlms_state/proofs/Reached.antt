@@ -1,0 +1,181 @@
+-- Each state within limits is the state of some legal list: moments, then for each row its clock and registers and a capture,
+-- and at last the clock and the registers of the state.
+use Rattle.std.proofs.Common.{◌≡◌, ℕ, suc, ◌+◌, ◌-◌, ◌%◌, ◌^◌, ◌<◌, ◌≤◌, min, true, false, List, [], ◌∷◌, ◌++◌, length, None, refl, arith, lit≤, lit<}
+use Rattle.std.specs.Prelude.{All, ℤ, pos, ◌-ℤ◌, ◌+ℤ◌, ◌≤ℤ◌, int_le, nat_le, nat_lt}
+use Rattle.std.proofs.lemmas.Int.{ints}
+use Rattle.std.proofs.lemmas.Bool.Decides.{nat_tests}
+use Rattle.std.proofs.lemmas.List.{length-append, append-nil}
+use Rattle.std.proofs.Math.Seq.{append_snoc}
+use Rattle.circular_buffer.specs.Buffer.{keep_last}
+use Rattle.arrayvec.specs.ArrayVec.{ArrayVec}
+use Rattle.dlms_profile.specs.declared.rows.Row.{Row}
+use Rattle.dlms_profile.specs.Rows.{IsRow, no_rows}
+use Rattle.dlms_state.specs.declared.event.Event.{Event}
+use Rattle.dlms_state.specs.declared.event.Event.TheVariants.{Pulses, Moment, SetTime, SetPeriod, SetText, SetSecret, ResetRegister, Capture}
+use Rattle.dlms_state.specs.declared.event.Refused.TheVariants.{Range}
+use Rattle.dlms_state.specs.Types.{FitsType, AreBytes}
+use Rattle.dlms_state.specs.Events.{clock_at, first_secret, register_after, moment_after, offset_after, period_after, text_after, secret_after, kept_after, ends_in_clearing, ends_in_capture}
+use Rattle.dlms_state.specs.Refusal.{refusal, unless, clock_is_in_range}
+use Rattle.dlms_state.specs.StateValue.{StateValue, state_of, HasEvents, IsWithinLimits, FitsTypes}
+use Rattle.dlms_state.specs.Step.{step}
+use Rattle.dlms_state.proofs.Legal.{IsLegal-none}
+use Rattle.dlms_state.proofs.StateLaw.{IsStateOf-step}
+
+-- ---- one event more
+
+HasEvents-step : (s : StateValue) (e : Event) → FitsType e → refusal s.last s.offset e ≡ None → HasEvents s → HasEvents (step e s)
+HasEvents-step s e fits fine had = record { events = had.events ++ e ∷ []; state = IsStateOf-step s (step e s) e e refl fits fine refl had.events had.state }
+
+abbrev first_state : StateValue
+first_state = record { registers = 0 ∷ 0 ∷ 0 ∷ []; last = 0; offset = pos 0; period = 900; text = []; secret = first_secret; rows = no_rows }
+
+first_is : first_state ≡ state_of []
+unfolding register_after moment_after offset_after period_after text_after secret_after kept_after ends_in_clearing ends_in_capture
+first_is = refl
+
+HasEvents-first : HasEvents first_state
+HasEvents-first = record { events = []; state = record { legal = IsLegal-none; value = first_is } }
+
+-- ---- events that pass
+
+in_range_passes : (z : ℤ) → pos 0 ≤ℤ z → z ≤ℤ pos 3155759999 → unless Range (clock_is_in_range z) ≡ None
+in_range_passes z low high =
+    let above : int_le (pos 0) z ≡ true = grind (arith, ints) in
+    let below : int_le z (pos 3155759999) ≡ true = grind (arith, ints) in
+    rw (above, below) refl
+
+moment_passes : (last t : ℕ) (offset : ℤ) → last ≤ t → pos 0 ≤ℤ (pos t +ℤ offset) → (pos t +ℤ offset) ≤ℤ pos 3155759999 → refusal last offset (Moment t) ≡ None
+moment_passes last t offset on low high =
+    let not_back : nat_lt t last ≡ false = grind (arith, nat_tests) in
+    rw not_back (in_range_passes (pos t +ℤ offset) low high)
+
+time_passes : (last : ℕ) (offset : ℤ) (t : ℕ) → t ≤ 3155759999 → refusal last offset (SetTime t) ≡ None
+time_passes last offset t high = in_range_passes (pos t) (omega (arith, ints)) (omega (arith, ints))
+
+period_passes : (last : ℕ) (offset : ℤ) (p : ℕ) → p ≤ 86400 → refusal last offset (SetPeriod p) ≡ None
+period_passes last offset p high =
+    let fits : nat_le p 86400 ≡ true = grind (arith, nat_tests) in
+    rw fits refl
+
+secret_passes : (last : ℕ) (offset : ℤ) (b : ArrayVec ℕ) → 0 < length b.items → refusal last offset (SetSecret b) ≡ None
+secret_passes last offset b some =
+    let fits : nat_lt 0 (length b.items) ≡ true = grind (arith, nat_tests) in
+    rw fits refl
+
+-- ---- the moment, the period, the text and the secret, with no row
+
+-- the last moment that the clock can pass without being set
+abbrev stop_at : ℕ → ℕ
+stop_at last = min last 3155759999
+
+-- a state with no row, its registers at 0, its clock where the moments leave it
+abbrev settled : ℕ → ℕ → List ℕ → List ℕ → StateValue
+settled last period text secret = record { registers = 0 ∷ 0 ∷ 0 ∷ []; last = last; offset = pos 0 -ℤ pos (stop_at last); period = period; text = text; secret = secret; rows = no_rows }
+
+abbrev bytes_of : List ℕ → ArrayVec ℕ
+bytes_of bytes = record { items = bytes }
+
+HasEvents-moments : (last : ℕ) → last < 2 ^ 32 → HasEvents (settled last 0 [] first_secret)
+HasEvents-moments last small =
+    let stop : ℕ = stop_at last in
+    let low : stop ≤ last = omega arith in
+    let high : stop ≤ 3155759999 = omega arith in
+    let near : last ≤ stop + 3155759999 = omega arith in
+    let quiet = HasEvents-step first_state (SetPeriod 0) (lit< tt) refl HasEvents-first in
+    let stopped = HasEvents-step _ (Moment stop) (omega arith) (moment_passes 0 stop (pos 0) (omega arith) (omega (arith, ints)) (omega (arith, ints))) quiet in
+    let set = HasEvents-step _ (SetTime 0) (lit< tt) (time_passes stop (pos 0) 0 (lit≤ tt)) stopped in
+    HasEvents-step _ (Moment last) small (moment_passes stop last (pos 0 -ℤ pos stop) low (omega (arith, ints)) (omega (arith, ints))) set
+
+HasEvents-settled : (last period : ℕ) (text secret : List ℕ) → last < 2 ^ 32 → period ≤ 86400 → AreBytes 240 text → AreBytes 16 secret → 0 < length secret → HasEvents (settled last period text secret)
+HasEvents-settled last period text secret small day text_fits secret_fits some =
+    let timed = HasEvents-step (settled last 0 [] first_secret) (SetPeriod period) (omega arith) (period_passes last (pos 0 -ℤ pos (stop_at last)) period day) (HasEvents-moments last small) in
+    let texted = HasEvents-step (settled last period [] first_secret) (SetText (bytes_of text)) text_fits refl timed in
+    HasEvents-step (settled last period text first_secret) (SetSecret (bytes_of secret)) secret_fits (secret_passes last (pos 0 -ℤ pos (stop_at last)) (bytes_of secret) some) texted
+
+-- ---- the clock and the registers
+
+abbrev with_values : StateValue → ℕ → ℕ → ℕ → ℤ → StateValue
+with_values s x y z offset = record s { registers = x ∷ y ∷ z ∷ []; offset = offset }
+
+abbrev with_rows : StateValue → List Row → StateValue
+with_rows s rows = record s { rows = record s.rows { items = rows } }
+
+-- events leave the state, with some clock and some registers
+record HasSome (s : StateValue) : Type 0 where
+  a : ℕ
+  b : ℕ
+  c : ℕ
+  offset : ℤ
+  events : HasEvents (with_values s a b c offset)
+
+counted_up : (x : ℕ) → x < 2 ^ 32 → (0 + x) % 2 ^ 32 ≡ x
+counted_up x small = omega arith
+
+HasEvents-values : (s : StateValue) (x y z clock : ℕ) → x < 2 ^ 32 → y < 2 ^ 32 → z < 2 ^ 32 → clock ≤ 3155759999 → HasSome s → HasEvents (with_values s x y z (pos clock -ℤ pos s.last))
+HasEvents-values s x y z clock fx fy fz high some =
+    let o : ℤ = pos clock -ℤ pos s.last in
+    let set = HasEvents-step (with_values s some.a some.b some.c some.offset) (SetTime clock) (omega arith) (time_passes s.last some.offset clock high) some.events in
+    let none0 = HasEvents-step (with_values s some.a some.b some.c o) (ResetRegister 0) (lit< tt) refl set in
+    let none1 = HasEvents-step (with_values s 0 some.b some.c o) (ResetRegister 1) (lit< tt) refl none0 in
+    let none2 = HasEvents-step (with_values s 0 0 some.c o) (ResetRegister 2) (lit< tt) refl none1 in
+    let one = rw (counted_up x fx) at (HasEvents-step (with_values s 0 0 0 o) (Pulses 0 x) (lit< tt, fx) refl none2) in
+    let two = rw (counted_up y fy) at (HasEvents-step (with_values s x 0 0 o) (Pulses 1 y) (lit< tt, fy) refl one) in
+    rw (counted_up z fz) at (HasEvents-step (with_values s x y 0 o) (Pulses 2 z) (lit< tt, fz) refl two)
+
+-- ---- the rows
+
+shown : (clock last : ℕ) → clock_at last (pos clock -ℤ pos last) ≡ clock
+shown clock last = omega (arith, ints)
+
+all_kept : (rows : List Row) → length rows ≤ 960 → keep_last 960 rows ≡ rows
+all_kept rows short =
+    let none : length rows - 960 ≡ 0 = omega arith in
+    rw none refl
+
+HasSome-row : (s : StateValue) (clock : ℕ) (registers : List ℕ) → clock ≤ 3155759999 → length registers ≡ 3 → All (λ value. value < 2 ^ 32) registers → length s.rows.items < 960 →
+    HasSome s → HasSome (with_rows s (s.rows.items ++ (record { clock = clock; registers = registers }) ∷ []))
+HasSome-row s clock [] high count fit room some = cc
+HasSome-row s clock (x ∷ []) high count fit room some = cc
+HasSome-row s clock (x ∷ y ∷ []) high count fit room some = cc
+HasSome-row s clock (x ∷ y ∷ z ∷ w ∷ more) high count fit room some = cc
+HasSome-row s clock (x ∷ y ∷ z ∷ []) high count fit room some =
+    let row : Row = record { clock = clock; registers = x ∷ y ∷ z ∷ [] } in
+    let o : ℤ = pos clock -ℤ pos s.last in
+    let set = HasEvents-values s x y z clock (fit 0 0 (lit< tt)) (fit 1 0 (lit< tt)) (fit 2 0 (lit< tt)) high some in
+    let taken = HasEvents-step (with_values s x y z o) Capture tt refl set in
+    let short : length (s.rows.items ++ row ∷ []) ≤ 960 = simp length-append (omega arith) in
+    record { a = x; b = y; c = z; offset = o; events = rw (all_kept (s.rows.items ++ row ∷ []) short) at (rw (shown clock s.last) at taken) }
+
+HasSome-rows : (rows : List Row) (s : StateValue) → All IsRow rows → All (λ row. row.clock ≤ 3155759999) rows → length s.rows.items + length rows ≤ 960 → HasSome s → HasSome (with_rows s (s.rows.items ++ rows))
+HasSome-rows [] s fit clocks room some = rw (append-nil s.rows.items) some
+HasSome-rows (row ∷ rows) s fit clocks room some =
+    let is : IsRow row = fit 0 row (omega arith) in
+    let first = HasSome-row s row.clock row.registers (clocks 0 row (omega arith)) is.count is.registers (omega arith) some in
+    let next : StateValue = with_rows s (s.rows.items ++ row ∷ []) in
+    let count : length next.rows.items + length rows ≤ 960 = simp length-append (omega arith) in
+    rw append_snoc at (HasSome-rows rows next (λ k d low. fit (suc k) d (omega arith)) (λ k d low. clocks (suc k) d (omega arith)) count first)
+
+-- ---- the whole state
+
+back_to : (last : ℕ) (offset : ℤ) → pos 0 ≤ℤ (pos last +ℤ offset) → (pos (clock_at last offset) -ℤ pos last) ≡ offset
+back_to last offset low = omega (arith, ints)
+
+clock_le : (last : ℕ) (offset : ℤ) → pos 0 ≤ℤ (pos last +ℤ offset) → (pos last +ℤ offset) ≤ℤ pos 3155759999 → clock_at last offset ≤ 3155759999
+clock_le last offset low high = grind (arith, ints)
+
+with_registers : (registers : List ℕ) (s : StateValue) → length registers ≡ 3 → All (λ value. value < 2 ^ 32) registers → pos 0 ≤ℤ (pos s.last +ℤ s.offset) → (pos s.last +ℤ s.offset) ≤ℤ pos 3155759999 →
+    HasSome s → HasEvents (record s { registers = registers })
+with_registers [] s count fit low high some = cc
+with_registers (x ∷ []) s count fit low high some = cc
+with_registers (x ∷ y ∷ []) s count fit low high some = cc
+with_registers (x ∷ y ∷ z ∷ w ∷ more) s count fit low high some = cc
+with_registers (x ∷ y ∷ z ∷ []) s count fit low high some =
+    rw (back_to s.last s.offset low) at (HasEvents-values s x y z (clock_at s.last s.offset) (fit 0 0 (lit< tt)) (fit 1 0 (lit< tt)) (fit 2 0 (lit< tt)) (clock_le s.last s.offset low high) some)
+
+pub HasEvents-within : (s : StateValue) → IsWithinLimits s → FitsTypes s → HasEvents s
+HasEvents-within s limits types =
+    let start = HasEvents-settled s.last s.period s.text s.secret types.last limits.period types.text types.secret limits.secret in
+    let settings : StateValue = record s { rows = no_rows } in
+    let some : HasSome settings = record { a = 0; b = 0; c = 0; offset = pos 0 -ℤ pos (stop_at s.last); events = start } in
+    let filled = HasSome-rows s.rows.items settings types.rows limits.rows (let room : length s.rows.items ≤ 960 = types.room in omega arith) some in
+    with_registers s.registers s types.count types.registers limits.not_before limits.not_after (record { a = filled.a; b = filled.b; c = filled.c; offset = filled.offset; events = filled.events })

@@ -1,0 +1,99 @@
+//! What each event does to a state. `apply` calls one of these, and the proofs tie it to the list of events.
+ghost use Rattle.std.specs.Prelude.{◌≡◌, ◌<◌, ◌≤◌, None};
+ghost use Rattle.arrayvec.specs.ArrayVec.{array_vec_len};
+ghost use Rattle.dlms_state.specs.Refusal.{refusal};
+
+use crate::event;
+use crate::state::State;
+use arrayvec::ArrayVec;
+use dlms_profile::Row;
+use std::alloc::Allocator;
+
+impl<A: Allocator + Copy> State<A> {
+    ghost use Rattle.dlms_state.specs.declared.event.Event.{Event};
+    ghost use Rattle.dlms_state.specs.Step.{step};
+
+    pub(super) fn count_pulses(&mut self, channel: u8, count: u32)
+        requires { channel < 3 }
+        ensures { self.new ≡ step (Event.Pulses channel count) self.old }
+    {
+        let channel = channel as usize;
+        self.registers[channel] = self.registers[channel].wrapping_add(count);
+    }
+
+    pub(super) fn pass_moment(&mut self, moment: u32)
+        requires { refusal self.old.last self.old.offset (Event.Moment moment) ≡ None }
+        ensures { self.new ≡ step (Event.Moment moment) self.old }
+    {
+        let before = self.clock();
+        self.last = moment;
+        let after = self.clock();
+        if self.period > 0 && before / self.period < after / self.period {
+            self.capture();
+        }
+    }
+
+    pub(super) fn set_time(&mut self, seconds: u32)
+        requires { refusal self.old.last self.old.offset (Event.SetTime seconds) ≡ None }
+        ensures { self.new ≡ step (Event.SetTime seconds) self.old }
+    {
+        self.offset = i64::from(seconds) - i64::from(self.last);
+    }
+
+    pub(super) fn shift(&mut self, by: i16)
+        requires { refusal self.old.last self.old.offset (Event.Shift by) ≡ None }
+        ensures { self.new ≡ step (Event.Shift by) self.old }
+    {
+        self.offset += i64::from(by);
+    }
+
+    pub(super) fn adjust_minute(&mut self)
+        requires { refusal self.old.last self.old.offset Event.AdjustMinute ≡ None }
+        ensures { self.new ≡ step Event.AdjustMinute self.old }
+    {
+        let minute = event::nearest_minute(self.clock());
+        self.offset = i64::from(minute) - i64::from(self.last);
+    }
+
+    pub(super) fn set_period(&mut self, period: u32)
+        requires { period ≤ 86400 }
+        ensures { self.new ≡ step (Event.SetPeriod period) self.old }
+    {
+        self.period = period;
+        self.rows.clear();
+    }
+
+    pub(super) fn set_text(&mut self, text: ArrayVec<u8, 240>)
+        ensures { self.new ≡ step (Event.SetText text) self.old }
+    {
+        self.text = text;
+    }
+
+    pub(super) fn set_secret(&mut self, secret: ArrayVec<u8, 16>)
+        requires { 0 < array_vec_len secret }
+        ensures { self.new ≡ step (Event.SetSecret secret) self.old }
+    {
+        self.secret = secret;
+    }
+
+    pub(super) fn reset_register(&mut self, channel: u8)
+        requires { channel < 3 }
+        ensures { self.new ≡ step (Event.ResetRegister channel) self.old }
+    {
+        self.registers[channel as usize] = 0;
+    }
+
+    pub(super) fn reset_profile(&mut self)
+        ensures { self.new ≡ step Event.ResetProfile self.old }
+    {
+        self.rows.clear();
+    }
+
+    pub(super) fn capture(&mut self)
+        ensures { self.new ≡ step Event.Capture self.old }
+    {
+        let clock = self.clock();
+        let registers = self.registers;
+        self.rows.push(Row { clock, registers });
+    }
+}

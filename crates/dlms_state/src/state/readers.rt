@@ -1,0 +1,83 @@
+//! What a state holds. Each reader's value is that of the definitions, for every list of events that leaves the state.
+ghost use Rattle.std.specs.Prelude.{◌≡◌, ◌<◌, ◌≤◌, List, All, length};
+ghost use Rattle.dlms_state.specs.Events.{clock_at, registers_after, clock_after, moment_after, offset_after, period_after, text_after, secret_after, buffer_after};
+
+use crate::event;
+use crate::state::State;
+use dlms_profile::Rows;
+use std::alloc::Allocator;
+
+impl<A: Allocator + Copy> State<A> {
+    ghost use Rattle.dlms_state.specs.declared.event.Event.{Event};
+    ghost use Rattle.dlms_state.specs.StateValue.{IsStateOf};
+
+    /// The three registers.
+    pub fn registers(&self) -> [u32; 3]
+        ensures value { result ≡ self.now.registers }
+        ensures after { (E : List Event) → IsStateOf E self.now → result ≡ registers_after E }
+    {
+        self.registers
+    }
+
+    /// The second that the clock shows.
+    pub fn clock(&self) -> u32
+        ensures value { result ≡ clock_at self.now.last self.now.offset }
+        ensures after { (E : List Event) → IsStateOf E self.now → result ≡ clock_after E }
+        ensures in_range { result ≤ 3155759999 }
+    {
+        event::clock_of(self.last, self.offset)
+    }
+
+    /// The last moment.
+    pub fn last(&self) -> u32
+        ensures value { result ≡ self.now.last }
+        ensures after { (E : List Event) → IsStateOf E self.now → result ≡ moment_after E }
+    {
+        self.last
+    }
+
+    /// What is added to the last moment to make the clock.
+    pub fn offset(&self) -> i64
+        ensures value { result ≡ self.now.offset }
+        ensures after { (E : List Event) → IsStateOf E self.now → result ≡ offset_after E }
+    {
+        self.offset
+    }
+
+    /// The capture period in seconds; 0 is none.
+    pub fn period(&self) -> u32
+        ensures value { result ≡ self.now.period }
+        ensures after { (E : List Event) → IsStateOf E self.now → result ≡ period_after E }
+        ensures limit { result ≤ 86400 }
+    {
+        self.period
+    }
+
+    /// The text of the device.
+    pub fn text(&self) -> &[u8]
+        ensures value { result.now ≡ self.now.text }
+        ensures after { (E : List Event) → IsStateOf E self.now → result.now ≡ text_after E }
+        ensures limit { length self.now.text ≤ 240 }
+    {
+        self.text.as_slice()
+    }
+
+    /// Management's secret.
+    pub fn secret(&self) -> &[u8]
+        ensures value { result.now ≡ self.now.secret }
+        ensures after { (E : List Event) → IsStateOf E self.now → result.now ≡ secret_after E }
+        ensures not_empty { 0 < length self.now.secret }
+        ensures limit { length self.now.secret ≤ 16 }
+    {
+        self.secret.as_slice()
+    }
+
+    /// The rows captured.
+    pub fn rows(&self) -> &Rows<A>
+        ensures value { result.now ≡ self.now.rows }
+        ensures after { (E : List Event) → IsStateOf E self.now → result.now.items ≡ buffer_after E }
+        ensures clocks { All (λ row. row.clock ≤ 3155759999) self.now.rows.items }
+    {
+        &self.rows
+    }
+}
