@@ -58,7 +58,10 @@ fn run(rt: &HostRuntime) -> io::Result<ExitCode> {
     }
     match job(rt.alloc(), words.as_slice()) {
         Ok(Job::Replay) => finish(rt, run_replay(rt)),
-        Err(error) if error.kind() == ErrorKind::OutOfMemory => finish(rt, Err(ReplayFault::Memory)),
+        Err(error) if error.kind() == ErrorKind::OutOfMemory => finish(
+            rt,
+            Err(ReplayFault::Memory),
+        ),
         Err(error) => {
             rt.eprint(&error)?;
             Ok(ExitCode::from(2))

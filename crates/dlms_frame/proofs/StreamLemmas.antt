@@ -1,5 +1,5 @@
 -- Frames in a stretch.
-use Rattle.std.proofs.Common.{◌≡◌, ℕ, ◌+◌, ◌-◌, ◌*◌, ◌/◌, ◌%◌, ◌<◌, ◌≤◌, ◌⊎◌, Bool, true, false, List, [], ◌∷◌, ◌++◌, length, take, drop, get_or, refl, sym, ap, subst, ◌∙◌, inl, inr, arith, append_assoc, length-append, Option, Some, None}
+use Rattle.std.proofs.Common.{◌≢◌, ◌≡◌, ℕ, ◌+◌, ◌-◌, ◌*◌, ◌/◌, ◌%◌, ◌<◌, ◌≤◌, ◌⊎◌, Bool, true, false, List, [], ◌∷◌, ◌++◌, length, take, drop, get_or, refl, sym, ap, subst, ◌∙◌, inl, inr, arith, append_assoc, length-append, Option, Some, None}
 use Rattle.std.proofs.lemmas.Bool.{cases_eq}
 use Rattle.std.proofs.lemmas.List.{take_at, drop_at, drop-drop, drop-append-le, length-drop, append-nil, nil_from_length, take-append-drop, length-take-le, get_or-drop, get_or_at}
 use Rattle.dlms_frame.specs.Frame.{Parts, FrameSpelling, frame_len, segment_bit, body, spelling}
@@ -242,3 +242,12 @@ last_is_flag bytes k f h =
     let place : get_or (drop k bytes) (length (126 ∷ body f)) 0 ≡ get_or bytes (length bytes - 1) 0 =
     get_or-drop k bytes (length (126 ∷ body f)) 0 ∙ ap (λ n. get_or bytes n 0) e in
     (omega arith, sym place ∙ ap (λ t. get_or t (length (126 ∷ body f)) 0) h.text ∙ get_or_at (126 ∷ body f) 126 [] 0 (length (126 ∷ body f)) refl)
+
+-- bytes that end with another byte are no frame
+pub closed_by_flag : (kept pushed : List ℕ) (byte : ℕ) → byte ≢ 126 → pushed ≡ kept ++ byte ∷ [] → (k : ℕ) (f : Parts) → FrameSpelling (drop k pushed) f → ⊥
+closed_by_flag kept pushed byte other is k f h =
+    let flag = last_is_flag pushed k f h in
+    let len : length pushed ≡ length kept + 1 = ap length is ∙ length-append kept (byte ∷ []) in
+    let at : length pushed - 1 ≡ length kept = omega arith in
+    let last : get_or pushed (length pushed - 1) 0 ≡ byte = ap (λ n. get_or pushed n 0) at ∙ ap (λ t. get_or t (length kept) 0) is ∙ get_or_at kept byte [] 0 (length kept) refl in
+    other (sym last ∙ flag.1)

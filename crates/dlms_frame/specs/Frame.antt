@@ -1,4 +1,4 @@
--- What bytes a frame is.
+-- What bytes a frame is (IEC 62056-46, 6.4.1, HDLC frame format type 3, and 6.4.2, addressing; there is no byte stuffing).
 use Rattle.std.specs.Prelude.{◌≡◌, ℕ, ◌+◌, ◌*◌, ◌/◌, ◌%◌, ◌^◌, ◌<◌, ◌≤◌, Bool, true, false, List, [], ◌∷◌, ◌++◌, length}
 use Rattle.dlms_frame.specs.declared.frame.Address.{Address}
 use Rattle.dlms_frame.specs.declared.frame.Address.TheVariants.{One, Two, Four}

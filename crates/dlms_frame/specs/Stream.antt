@@ -1,4 +1,5 @@
--- The frames of a stream.
+-- The frames of a stream. A stretch is what comes between two silences. The standard (IEC 62056-46, 6.4.1) finds a frame's end
+-- by its length; which frame is the next where several might be is this project's own choice.
 use Rattle.std.specs.Prelude.{◌≡◌, ℕ, ◌+◌, ◌≤◌, List, [], ◌∷◌, ◌++◌, length, drop, Option, Some, None}
 use Rattle.std.specs.List.{flat_map, filter_map}
 use Rattle.dlms_frame.specs.Frame.{Parts, IsFrame, FrameSpelling, spelling}

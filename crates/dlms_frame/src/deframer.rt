@@ -1,5 +1,5 @@
 //! Frames of a stream that comes in pieces.
-ghost use Rattle.std.specs.Prelude.{◌≡◌, ◌+◌, ◌-◌, ◌<◌, ◌≤◌, List, ℕ, [], ◌∷◌, ◌++◌, length, take, drop, IsTrue, IfSome, IfNone, IsSome};
+ghost use Rattle.std.specs.Prelude.{◌≡◌, ◌≢◌, ◌+◌, ◌-◌, ◌<◌, ◌≤◌, List, ℕ, [], ◌∷◌, ◌++◌, length, take, drop, IsTrue, IfSome, IfNone, IsSome, None};
 ghost use Rattle.dlms_frame.specs.Frame.{Parts};
 ghost use Rattle.dlms_frame.specs.Stream.{IsOver, Keeps, Fits, Takes};
 
@@ -33,6 +33,9 @@ fn shrink(window: &mut Window)
 }
 
 /// Finds the frames of a stream that comes in pieces.
+///
+/// It keeps at most the last 4,096 bytes, and of them only those in which a frame may still begin, with a table of where the
+/// frames that open among them would end: so no input costs more than a bounded work a byte. It is about 20 KB, on the stack.
 #[derive(Drop)]
 pub struct Deframer {
     window: Window,
@@ -56,14 +59,24 @@ impl Deframer {
         }
     }
 
-    /// Silence: a new stretch begins.
+    /// Silence on the line: every kept byte is forgotten, and a new stretch begins.
     pub fn idle(&mut self)
         ensures { Fits self.new [] 0 }
     {
         self.window.clear();
     }
 
-    fn take_byte(&mut self, byte: u8) -> Option<Frame>
+    /// Keeps a byte that closes no frame.
+    fn keep(&mut self, byte: u8)
+        requires { byte ≢ 126 }
+        ensures { Takes self.old (byte ∷ []) None self.new }
+    {
+        self.window.push(byte);
+        shrink(&mut self.window);
+    }
+
+    /// Keeps a byte, and gives the frame that it closes, if it closes one.
+    fn close(&mut self, byte: u8) -> Option<Frame>
         ensures { Takes self.old (byte ∷ []) result self.new }
     {
         self.window.push(byte);
@@ -75,7 +88,9 @@ impl Deframer {
         None
     }
 
-    /// Takes bytes up to and including the closing flag of the first frame that becomes whole, or all of them.
+    /// Takes bytes up to and including the closing flag of the first frame that becomes whole, or all of them. How many bytes it
+    /// took, and that frame. Of several frames that one flag closes it is the one that begins earliest, and the search for the
+    /// next begins at that closing flag.
     pub fn feed(&mut self, bytes: &[u8]) -> (usize, Option<Frame>)
         ensures len { result.0 ≤ length bytes.now }
         ensures some { 0 < length bytes.now → 0 < result.0 }
@@ -83,37 +98,12 @@ impl Deframer {
         ensures takes { Takes self.old (take result.0 bytes.now) result.1 self.new }
     {
         for (i, byte) in bytes.iter().enumerate() {
-            if let Some(frame) = self.take_byte(*byte) {
+            if *byte != FLAG {
+                self.keep(*byte);
+            } else if let Some(frame) = self.close(*byte) {
                 return (i + 1, Some(frame));
             }
         }
         (bytes.len(), None)
-    }
-}
-
-#[cfg(test)]
-mod tests {
-    use super::*;
-    use crate::frame::Address;
-    use std::test::Fail;
-
-    const SNRM: [u8; 9] = [0x7e, 0xa0, 0x07, 0x03, 0x21, 0x93, 0x0f, 0x01, 0x7e];
-
-    #[test]
-    fn finds_a_frame_byte_by_byte(rt: HostRuntime) -> Result<(), Fail> {
-        let mut deframer = Deframer::new();
-        for byte in [0x7e, 0x7e, 0xa0] {
-            assert!(rt; deframer.feed(&[byte]).1.is_none());
-        }
-        for byte in &SNRM[..8] {
-            assert!(rt; deframer.feed(&[*byte]).1.is_none());
-        }
-        let (taken, frame) = deframer.feed(&SNRM[8..]);
-        assert_eq!(rt; taken, 1);
-        let frame = frame.ok_or("none")?;
-        assert_eq!(rt; frame.control, 0x93);
-        assert_eq!(rt; frame.put().as_slice(), SNRM.as_slice());
-        assert!(rt; matches!(frame.dest, Address::One(1)));
-        Ok(())
     }
 }

@@ -4,11 +4,15 @@ use crate::writing::text_of;
 use arrayvec::ArrayVec;
 use std::marker::Model;
 
-/// An address of one, two or four bytes.
+/// An address of one, two or four bytes (IEC 62056-46, 6.4.2). The type alone doesn't bound its parts: an address with a part
+/// that is too great is one that no frame can have.
 #[derive(Clone, Copy, Debug, PartialEq, Eq)]
 pub enum Address {
+    /// An upper part of 7 bits, as a client's is.
     One(u8),
+    /// An upper and a lower part of 7 bits each.
     Two(u8, u8),
+    /// An upper and a lower part of 14 bits each.
     Four(u16, u16),
 }
 
@@ -22,7 +26,8 @@ pub(crate) struct Header {
     pub(crate) control: u8,
 }
 
-/// What stands between two flags.
+/// A frame of format type 3 (IEC 62056-46, 6.4.1): what stands between two flags, without its length and its checks. Its
+/// addresses have parts of 7 or 14 bits, and it has at most 2,047 bytes between the flags.
 #[derive(Drop)]
 pub struct Frame {
     pub segmented: bool,
@@ -62,7 +67,8 @@ impl Frame {
     ghost use Rattle.std.specs.Prelude.{◌≡◌, ◌≤◌, length};
     ghost use Rattle.dlms_frame.specs.Frame.{FrameSpelling, frame_len, IsAddress};
 
-    /// A frame of these parts, that fits whatever forms its addresses have.
+    /// A frame of these parts. This much information fits whatever forms the addresses have; a frame with short addresses and
+    /// more information is written as a literal.
     pub fn new(segmented: bool, dest: Address, src: Address, control: u8, info: &[u8]) -> Frame
         requires dest { IsAddress dest }
         requires src { IsAddress src }

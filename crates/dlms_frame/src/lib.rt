@@ -8,6 +8,9 @@ mod division;
 mod frame;
 pub mod laws;
 mod reading;
+mod tables;
+#[cfg(test)]
+mod tests;
 mod window;
 mod writing;
 

@@ -1,6 +1,6 @@
 -- How a text is cut into its first line and the rest.
-use Rattle.std.proofs.Common.{rules, arith, refl, sym, ap, subst, append-nil, append_assoc, ◌∙◌, ◌≡◌, ◌≢◌, ◌<◌, ◌==◌, ℕ, suc, List, [], ◌∷◌, ◌++◌, length}
-use Rattle.std.specs.Prelude.{Option, Some, None, if◌then◌else◌}
+use Rattle.std.proofs.Common.{rules, arith, refl, sym, ap, subst, append-nil, append_assoc, ◌∙◌, ◌≡◌, ◌≢◌, ◌<◌, ℕ, suc, List, [], ◌∷◌, ◌++◌, length}
+use Rattle.std.specs.Prelude.{Option, Some, None}
 use Rattle.std.specs.Io.KnownBytes.{Consumes, IsAtEnd}
 use Rattle.dlms_program.specs.Lines.{lines_of, onto_first, HasLongLine, HasNoFeed, LosesLine}
 

@@ -1,12 +1,11 @@
 -- How the calls of a meter make a run.
-use Rattle.std.proofs.Common.{arith, refl, sym, ap, subst, inl, inr, append-nil, append_assoc, ◌∙◌, ◌≡◌, ◌⊎◌, ◌≤◌, ◌<◌, ◌+◌, ℕ, List, [], ◌∷◌, ◌++◌, length, take, drop}
+use Rattle.std.proofs.Common.{arith, refl, sym, ap, subst, inl, inr, append-nil, append_assoc, ◌∙◌, ◌≡◌, ◌≤◌, ◌<◌, ℕ, List, [], ◌∷◌, ◌++◌, length}
 use Rattle.std.specs.Prelude.{Option, Some, None, option_map, true, false, Bool, ◌&&◌, if◌then◌else◌}
 use Rattle.dlms_frame.specs.Frame.{Parts, spelling}
 use Rattle.dlms_frame.specs.declared.client.Client.{Client}
 use Rattle.dlms_frame.specs.declared.client.Client.TheVariants.{Public, Management}
-use Rattle.dlms_frame.specs.declared.frame.Address.{Address}
 use Rattle.dlms_frame.specs.Stream.{FrameAt, IsNext, Fits, Takes}
-use Rattle.dlms_frame.proofs.StreamLemmas.{frame_room, frame_in_front}
+use Rattle.dlms_frame.proofs.StreamLemmas.{frame_room}
 use Rattle.dlms_frame.proofs.LawLemmas.{next_stays}
 use Rattle.dlms_link.specs.Server.{ServerRecord, is_client, is_meter, by_row, row_of}
 use Rattle.dlms_link.specs.declared.row.Row.{Row}

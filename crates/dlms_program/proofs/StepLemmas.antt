@@ -1,15 +1,15 @@
 -- Calls make runs, and pieces join.
-use Rattle.std.proofs.Common.{arith, refl, sym, ap, subst, inl, inr, append-nil, append_assoc, ◌∙◌, ◌≡◌, ◌≤◌, ◌<◌, ◌+◌, ℕ, List, [], ◌∷◌, ◌++◌, length, length-append}
-use Rattle.std.specs.Prelude.{Option, Some, None, map}
+use Rattle.std.proofs.Common.{arith, refl, sym, ap, subst, inl, inr, append-nil, append_assoc, ◌∙◌, ◌≡◌, ◌<◌, ℕ, List, [], ◌∷◌, ◌++◌, length}
+use Rattle.std.specs.Prelude.{Option, map}
 use Rattle.std.proofs.lemmas.Bool.{cases_lt}
 use Rattle.dlms_frame.specs.Frame.{Parts}
-use Rattle.dlms_frame.specs.Stream.{FrameAt, IsNext}
+use Rattle.dlms_frame.specs.Stream.{IsNext}
 use Rattle.dlms_frame.proofs.StreamLemmas.{frame_room, frame_in_front, frame_in_whole}
 use Rattle.dlms_state.specs.declared.event.Event.{Event}
 use Rattle.dlms_program.specs.MeterValue.{MeterValue}
-use Rattle.dlms_program.specs.Run.{World, Records, Turn, Stands, Comes, Fed, Answers, HasNoFrame, listed, replied, turned, silent}
-use Rattle.dlms_program.specs.Steps.{Call, Calls, IsCall, Run, Leads, step_of, Fed as FedCall, Idled, Told}
-use Rattle.dlms_program.proofs.RunLemmas.{none_ended, goes_start, goes_call, goes_end, GoesOn}
+use Rattle.dlms_program.specs.Run.{World, Records, Turn, Stands, Comes, Fed, Answers, listed, replied, turned, silent}
+use Rattle.dlms_program.specs.Steps.{Call, Calls, Run, step_of, Fed as FedCall, Idled, Told}
+use Rattle.dlms_program.proofs.RunLemmas.{goes_start, goes_call, goes_end, GoesOn}
 
 -- a call of feed is a piece
 piece : (w : World) (taken : List ℕ) (reply : Option (List ℕ)) (w' : World) (meter : MeterValue) → Fed w taken reply w' → Stands meter w' → Comes w taken (listed reply) w'

@@ -1,5 +1,5 @@
 -- A run of the meter as a list of steps.
-use Rattle.std.specs.Prelude.{◌≡◌, ℕ, List, [], ◌∷◌, ◌++◌, Option, Result, map}
+use Rattle.std.specs.Prelude.{◌≡◌, ℕ, List, [], ◌∷◌, Option, Result}
 use Rattle.dlms_state.specs.declared.event.Event.{Event}
 use Rattle.dlms_state.specs.declared.event.Refused.{Refused}
 use Rattle.dlms_program.specs.MeterValue.{MeterValue}

@@ -11,7 +11,7 @@ impl<A: Allocator + Copy> State<A> {
     ghost use Rattle.dlms_state.specs.declared.event.Event.{Event};
     ghost use Rattle.dlms_state.specs.StateValue.{IsStateOf};
 
-    /// The three registers.
+    /// The three registers: Wh imported, Wh exported, varh.
     pub fn registers(&self) -> [u32; 3]
         ensures value { result ≡ self.now.registers }
         ensures after { (E : List Event) → IsStateOf E self.now → result ≡ registers_after E }
@@ -19,7 +19,7 @@ impl<A: Allocator + Copy> State<A> {
         self.registers
     }
 
-    /// The second that the clock shows.
+    /// The second that the clock shows, counted from 2000-01-01 00:00:00.
     pub fn clock(&self) -> u32
         ensures value { result ≡ clock_at self.now.last self.now.offset }
         ensures after { (E : List Event) → IsStateOf E self.now → result ≡ clock_after E }
@@ -28,7 +28,7 @@ impl<A: Allocator + Copy> State<A> {
         event::clock_of(self.last, self.offset)
     }
 
-    /// The last moment.
+    /// The last moment, 0 before any.
     pub fn last(&self) -> u32
         ensures value { result ≡ self.now.last }
         ensures after { (E : List Event) → IsStateOf E self.now → result ≡ moment_after E }
@@ -53,7 +53,7 @@ impl<A: Allocator + Copy> State<A> {
         self.period
     }
 
-    /// The text of the device.
+    /// The text of the device, at most 240 bytes.
     pub fn text(&self) -> &[u8]
         ensures value { result.now ≡ self.now.text }
         ensures after { (E : List Event) → IsStateOf E self.now → result.now ≡ text_after E }
@@ -62,7 +62,7 @@ impl<A: Allocator + Copy> State<A> {
         self.text.as_slice()
     }
 
-    /// Management's secret.
+    /// Management's secret, 1 to 16 bytes.
     pub fn secret(&self) -> &[u8]
         ensures value { result.now ≡ self.now.secret }
         ensures after { (E : List Event) → IsStateOf E self.now → result.now ≡ secret_after E }
@@ -72,7 +72,7 @@ impl<A: Allocator + Copy> State<A> {
         self.secret.as_slice()
     }
 
-    /// The rows captured.
+    /// The load profile's buffer.
     pub fn rows(&self) -> &Rows<A>
         ensures value { result.now ≡ self.now.rows }
         ensures after { (E : List Event) → IsStateOf E self.now → result.now.items ≡ buffer_after E }

@@ -1,5 +1,5 @@
-use Rattle.std.proofs.Common.{rules, arith, subst, sym, ap, refl, ◌≡◌, List, ℕ, ◌++◌, ◌∷◌, []}
-use Rattle.std.specs.Prelude.{Option, Some, None}
+use Rattle.std.proofs.Common.{rules, subst, sym, ◌≡◌, List, ℕ, ◌∷◌, []}
+use Rattle.std.specs.Prelude.{Option}
 use Rattle.std.specs.Io.KnownBytes.{Consumes}
 use Rattle.dlms_program.specs.Lines.{TakesByte, HasNoFeed}
 use Rattle.dlms_program.proofs.LineLemmas.{loses_ended, loses_last, goes_on, one_more, no_feed-append}

@@ -1,4 +1,4 @@
-use Rattle.std.proofs.Common.{rules, sym}
+use Rattle.std.proofs.Common.{rules}
 use Rattle.dlms_program.proofs.ReplayLemmas.{fed_start, fed_call, fed_all, taken_and_left}
 use Rattle.dlms_program.proofs.replaying.feed.Goals as goal
 

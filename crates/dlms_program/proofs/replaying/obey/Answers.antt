@@ -1,7 +1,6 @@
 use Rattle.std.proofs.Common.{sym, subst}
 use Rattle.dlms_program.specs.declared.orders.Order.{Order}
 use Rattle.dlms_program.specs.Replay.{Did}
-use Rattle.dlms_program.specs.Run.{World, Stands}
 use Rattle.dlms_program.proofs.ReplayLemmas.{on_ok, pulses_told, moment_told}
 use Rattle.dlms_program.proofs.replaying.obey.Goals as goal
 

@@ -1,7 +1,7 @@
 use Rattle.std.proofs.Common.{sym, subst, ℕ, List}
 use Rattle.dlms_program.specs.Lines.{LosesLine, TakesLine}
 use Rattle.dlms_program.specs.declared.lines.Taken.{Taken}
-use Rattle.dlms_program.proofs.ReplayLemmas.{replay_start, replay_line, replay_end, replay_unknown, replay_long}
+use Rattle.dlms_program.proofs.ReplayLemmas.{replay_line, replay_end, replay_unknown, replay_long}
 use Rattle.dlms_program.proofs.replaying.replay.Goals as goal
 
 pub returns-in-End : goal.returns-in-End

@@ -1,4 +1,4 @@
-use Rattle.std.proofs.Common.{subst, take, Some, None, option_map}
+use Rattle.std.proofs.Common.{subst, take, None, option_map}
 use Rattle.dlms_program.specs.MeterValue.{MeterValue}
 use Rattle.dlms_program.specs.Run.{Feeds}
 use Rattle.dlms_program.proofs.RunLemmas.{fed_none, fed_one}
