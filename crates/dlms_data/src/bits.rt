@@ -1,6 +1,6 @@
 //! Bit strings.
 
-ghost use Rattle.std.specs.Prelude.{◌≡◌, length, take};
+ghost use Rattle.std.specs.Prelude.{◌≡◌, ◌↔◌, length, take, IsTrue};
 ghost use Rattle.dlms_data.specs.Bits.{bits_of, bytes_for, HoldsBits};
 
 use std::alloc::{Allocator, Global};
@@ -39,6 +39,13 @@ impl<A: Allocator> Bits<A> {
         ensures { result ≡ length self.now }
     {
         self.count
+    }
+
+    /// Whether there are none.
+    pub fn is_empty(&self) -> bool
+        ensures { IsTrue result ↔ (length self.now ≡ 0) }
+    {
+        self.len() == 0
     }
 
     /// The bytes that hold the bits. What stands behind the last bit is anything.

@@ -28,18 +28,21 @@ impl<A: Allocator> Bytes<A> {
         Ok(Bytes { bytes })
     }
 
+    /// The bytes of a vector.
     pub fn from_vec(bytes: Vec<u8, A>) -> Bytes<A>
         ensures { result ≡ bytes.items }
     {
         Bytes { bytes }
     }
 
+    /// The bytes, in their order.
     pub fn as_slice(&self) -> &[u8]
         ensures { result.now ≡ self.now }
     {
         &self.bytes
     }
 
+    /// The vector of the bytes.
     pub fn into_vec(self) -> Vec<u8, A>
         ensures { result.items ≡ self }
     {

@@ -1,11 +1,20 @@
 //! How long a spelling is going to be, so that its memory is asked for at once.
 
+ghost use Rattle.std.specs.Prelude.{◌≡◌, ◌+◌, ◌-◌, ◌^◌, length, min};
+ghost use Rattle.dlms_data.specs.Value.{bit_string};
+ghost use Rattle.dlms_data.specs.View.{value_of, values_of};
+ghost use Rattle.dlms_data.specs.Writing.{canonical, all_canonical, short_length, InRange, AllInRange};
+
+use crate::bits::Bits;
 use crate::data::Data;
 use crate::source::{Source, Sources};
 use std::alloc::Allocator;
 
 /// How many bytes a tag and a length take.
-fn head_size(len: usize) -> usize {
+#[tactic(auto, unfolding(crate::specs::Writing::short_length))]
+fn head_size(len: usize) -> usize
+    ensures { result ≡ length (short_length len) + 1 }
+{
     if len < 128 {
         2
     } else if len < 256 {
@@ -20,13 +29,26 @@ fn head_size(len: usize) -> usize {
 }
 
 /// How many bytes a tag, a length and so many octets take.
-fn counted_size(len: usize) -> usize {
+fn counted_size(len: usize) -> usize
+    ensures { result ≡ min (length (short_length len) + 1 + len) (2 ^ 64 - 1) }
+{
     head_size(len).saturating_add(len)
 }
 
-/// How many bytes the canonical spelling takes.
+/// How many bytes a bit string takes.
+fn bits_size<B: Allocator>(bits: &Bits<B>) -> usize
+    ensures { result ≡ min (length (canonical (bit_string bits.now))) (2 ^ 64 - 1) }
+{
+    head_size(bits.len()).saturating_add(bits.as_bytes().len())
+}
+
+/// How many bytes the canonical spelling takes, or the largest `usize` where it takes more.
 #[cycle(sizing)]
-pub fn size<B: Allocator>(source: Source<'_, B>) -> usize {
+#[tactic(auto, using(crate::proofs::Sizes::length_counted))]
+pub fn size<B: Allocator>(source: Source<'_, B>) -> usize
+    requires { InRange (value_of source.value.now) }
+    ensures { result ≡ min (length (canonical (value_of source.entry.value.now))) (2 ^ 64 - 1) }
+{
     match source.value {
         Data::Array(items) => head_size(items.len()).saturating_add(size_all(Sources {
             values: items.as_slice(),
@@ -34,10 +56,7 @@ pub fn size<B: Allocator>(source: Source<'_, B>) -> usize {
         Data::Structure(items) => head_size(items.len()).saturating_add(size_all(Sources {
             values: items.as_slice(),
         })),
-        Data::BitString(bits) => {
-            let count = bits.len();
-            head_size(count).saturating_add(bits.as_bytes().len())
-        }
+        Data::BitString(bits) => bits_size(bits),
         Data::OctetString(octets) => counted_size(octets.as_slice().len()),
         Data::VisibleString(octets) => counted_size(octets.as_slice().len()),
         Data::Utf8String(octets) => counted_size(octets.as_slice().len()),
@@ -53,8 +72,11 @@ pub fn size<B: Allocator>(source: Source<'_, B>) -> usize {
 
 /// How many bytes the canonical spellings take together.
 #[cycle(sizing)]
-#[tactic(auto, using(crate::proofs::Walk::depth_at))]
-fn size_all<B: Allocator>(sources: Sources<'_, B>) -> usize {
+#[tactic(auto, using(crate::proofs::Walk::depth_at, crate::proofs::Walk::in_range_at, crate::proofs::Sizes::size_at))]
+fn size_all<B: Allocator>(sources: Sources<'_, B>) -> usize
+    requires { AllInRange (values_of sources.values.now) }
+    ensures { result ≡ min (length (all_canonical (values_of sources.entry.values.now))) (2 ^ 64 - 1) }
+{
     let mut total = 0usize;
     let items = sources.values;
     for item in items {

@@ -1,5 +1,5 @@
 -- Frames in a stretch.
-use Rattle.std.proofs.Common.{◌≢◌, ◌≡◌, ℕ, ◌+◌, ◌-◌, ◌*◌, ◌/◌, ◌%◌, ◌<◌, ◌≤◌, ◌⊎◌, Bool, true, false, List, [], ◌∷◌, ◌++◌, length, take, drop, get_or, refl, sym, ap, subst, ◌∙◌, inl, inr, arith, append_assoc, length-append, Option, Some, None}
+use Rattle.std.proofs.Common.{◌≢◌, ◌≡◌, ℕ, ◌+◌, ◌-◌, ◌/◌, ◌%◌, ◌<◌, ◌≤◌, List, [], ◌∷◌, ◌++◌, length, take, drop, get_or, refl, sym, ap, subst, ◌∙◌, inl, inr, arith, append_assoc, length-append, Option, Some, None}
 use Rattle.std.proofs.lemmas.Bool.{cases_eq}
 use Rattle.std.proofs.lemmas.List.{take_at, drop_at, drop-drop, drop-append-le, length-drop, append-nil, nil_from_length, take-append-drop, length-take-le, get_or-drop, get_or_at}
 use Rattle.dlms_frame.specs.Frame.{Parts, FrameSpelling, frame_len, segment_bit, body, spelling}
@@ -189,27 +189,7 @@ Takes-after old mid new front taken byte (Some f) is first next = λ s place fit
     subst (λ (t : List ℕ). (i : ℕ) × (j : ℕ) × (j + 1 ≡ length t) × IsNext t place i j f × Fits new t j)
     (append_assoc s front (byte ∷ []) ∙ ap (λ t. s ++ t) (sym is)) (next (s ++ front) place (first s place fits))
 
-pub Keeps-more : (old mid seen new : List ℕ) → seen ≡ mid → new ≡ drop 1 mid → IsOver seen → 0 < length seen → Keeps old mid → Keeps old new
-Keeps-more old mid seen new is_seen is_new over some keeps s place fits =
-    subst (λ (t : List ℕ). Fits t s place) (sym is_new)
-    (Fits-drop mid s place (subst IsOver is_seen over) (subst (λ (t : List ℕ). 0 < length t) is_seen some) (keeps s place fits))
-
 -- ---- bytes that begin no frame
-
-third : (a b c : ℕ) (xs ys : List ℕ) (l more : List ℕ) → 3 ≤ length l → l ++ more ≡ a ∷ b ∷ c ∷ ys → (get_or l 1 0 ≡ b) × (get_or l 2 0 ≡ c)
-third a b c xs ys [] more len e = absurd (omega arith)
-third a b c xs ys (x ∷ []) more len e = absurd (omega arith)
-third a b c xs ys (x ∷ y ∷ []) more len e = absurd (omega arith)
-third a b c xs ys (x ∷ y ∷ z ∷ l) more len e = (cc, cc)
-
-second : (a b : ℕ) (ys : List ℕ) (l more : List ℕ) → 2 ≤ length l → l ++ more ≡ a ∷ b ∷ ys → get_or l 1 0 ≡ b
-second a b ys [] more len e = absurd (omega arith)
-second a b ys (x ∷ []) more len e = absurd (omega arith)
-second a b ys (x ∷ y ∷ l) more len e = cc
-
-bit_low : (b : Bool) → (segment_bit b ≡ 0) ⊎ (segment_bit b ≡ 8)
-bit_low false = inl refl
-bit_low true = inr refl
 
 -- the first three bytes of a frame
 pub spelling_front : (f : Parts) (after : List ℕ) → (rest : List ℕ) × (spelling f ++ after ≡ 126 ∷ (160 + segment_bit f.segmented + frame_len f / 256) ∷ frame_len f % 256 ∷ rest)
@@ -217,22 +197,16 @@ spelling_front f after =
     let parts = body_parts f in
     (_, ap (λ t. 126 ∷ (t ++ 126 ∷ [] ++ after)) parts.1)
 
-pub over_by_format : (bytes : List ℕ) → 2 ≤ length bytes → (get_or bytes 1 0 / 16 ≡ 10 → ⊥) → IsOver bytes
-over_by_format bytes len other f more after fits text =
-    let front = spelling_front f after in
-    let high : get_or bytes 1 0 ≡ 160 + segment_bit f.segmented + frame_len f / 256 = second _ _ _ bytes more len (text ∙ front.1) in
-    let short : frame_len f ≤ 2047 = fits.len in
-    absurd (other (elim (bit_low f.segmented) [ inl e ↦ omega arith | inr e ↦ omega arith ]))
-
-pub over_by_len : (bytes : List ℕ) → 3 ≤ length bytes → get_or bytes 1 0 % 8 * 256 + get_or bytes 2 0 + 2 ≤ length bytes → IsOver bytes
-over_by_len bytes len le f more after fits text =
-    let front = spelling_front f after in
-    let both = third _ _ _ [] _ bytes more len (text ∙ front.1) in
-    let high : get_or bytes 1 0 ≡ 160 + segment_bit f.segmented + frame_len f / 256 = both.0 in
-    let low : get_or bytes 2 0 ≡ frame_len f % 256 = both.1 in
+-- so many bytes as no frame has
+pub over_by_size : (bytes : List ℕ) → 2049 ≤ length bytes → IsOver bytes
+over_by_size bytes long f more after fits text =
     let short : frame_len f ≤ 2047 = fits.len in
     let all : length (spelling f) ≡ frame_len f + 2 = length-spelling f in
-    elim (bit_low f.segmented) [ inl e ↦ omega arith | inr e ↦ omega arith ]
+    omega arith
+
+pub Keeps-long : (old new : List ℕ) → new ≡ drop 1 old → 2049 ≤ length old → Keeps old new
+Keeps-long old new is long s place fits =
+    subst (λ (t : List ℕ). Fits t s place) (sym is) (Fits-drop old s place (over_by_size old long) (omega arith) fits)
 
 -- a frame ends with a flag
 pub last_is_flag : (bytes : List ℕ) (k : ℕ) (f : Parts) → FrameSpelling (drop k bytes) f → (0 < length bytes) × (get_or bytes (length bytes - 1) 0 ≡ 126)

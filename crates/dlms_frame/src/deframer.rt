@@ -8,34 +8,21 @@ use crate::reading::FLAG;
 use crate::window::Window;
 use std::marker::Model;
 
-/// Whether each frame that begins with these bytes, however it goes on, has ended.
-fn is_over(bytes: &[u8]) -> bool
-    ensures over { IsTrue result → IsOver bytes.now }
-    ensures full { 2049 ≤ length bytes.now → IsTrue result }
-    ensures some { IsTrue result → 0 < length bytes.now }
-{
-    match bytes {
-        [flag, ..] if *flag != FLAG => true,
-        [_, high, ..] if *high / 16 != 10 => true,
-        [_, high, low, ..] => usize::from(*high) % 8 * 256 + usize::from(*low) + 2 <= bytes.len(),
-        _ => false,
-    }
-}
-
-/// Drops in front where no frame begins that is still to come.
+/// Drops the first byte where there are more bytes than a frame has: a frame that begins there has ended.
 fn shrink(window: &mut Window)
+    requires { length window.old ≤ 2049 }
     ensures keeps { Keeps window.old window.new }
     ensures len { length window.new ≤ 2048 }
 {
-    while is_over(window.as_slice()) {
+    if window.len() > 2048 {
         window.drop_front();
     }
 }
 
 /// Finds the frames of a stream that comes in pieces.
 ///
-/// It keeps at most the last 4,096 bytes, and of them only those in which a frame may still begin, with a table of where the
-/// frames that open among them would end: so no input costs more than a bounded work a byte. It is about 20 KB, on the stack.
+/// It looks for frames in at most the last 2,048 bytes, and keeps a table of where the frames that open among them would end: so
+/// no input costs more than a bounded work a byte. It is about 20 KB, on the stack.
 #[derive(Drop)]
 pub struct Deframer {
     window: Window,

@@ -1,4 +1,4 @@
-//! The bytes at the end of a stretch in which a frame may still begin.
+//! The bytes at the end of a stretch in which frames are looked for.
 ghost use Rattle.std.specs.Prelude.{◌≡◌, ◌+◌, ◌-◌, ◌<◌, ◌≤◌, List, ℕ, [], ◌∷◌, ◌++◌, length, drop, IfSome, IfNone};
 ghost use Rattle.dlms_frame.specs.Frame.{Parts, FrameSpelling};
 ghost use Rattle.dlms_frame.specs.Stream.{IsLongest};
@@ -31,6 +31,13 @@ impl Window {
             buffer: Buffer::new(),
             from: 0,
         }
+    }
+
+    /// How many bytes there are.
+    pub(crate) fn len(&self) -> usize
+        ensures { result ≡ length self.now }
+    {
+        self.buffer.len() - self.from
     }
 
     /// The bytes.

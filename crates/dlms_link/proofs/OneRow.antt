@@ -1,5 +1,5 @@
 -- What is handed up and what answers it are one row.
-use Rattle.std.proofs.Common.{◌≡◌, ℕ, List, refl, ◌∙◌, ap, Some}
+use Rattle.std.proofs.Common.{◌≡◌, ℕ, List, refl, Some}
 use Rattle.dlms_frame.specs.Frame.{Parts}
 use Rattle.dlms_link.specs.declared.row.Row.TheVariants.{HandsUp}
 use Rattle.dlms_link.specs.Kept.{Kept, Fresh, Good, TooLong, BadStart, kept_after, from_client}

@@ -1,25 +1,21 @@
 -- What goes out in segments is the LLC and the APDU.
-use Rattle.std.proofs.Common.{◌≡◌, ℕ, ◌+◌, ◌≤◌, ◌<◌, ◌==◌, ◌&&◌, ◌⊎◌, inl, inr, if◌then◌else◌, refl, sym, ◌∙◌, arith, ap, Bool, true, false, List, [], ◌∷◌, ◌++◌, length, take, drop, map, All, None, Some, min, Option, length-append, length-drop, append_assoc}
+use Rattle.std.proofs.Common.{◌≡◌, ℕ, ◌≤◌, ◌<◌, ◌==◌, ◌&&◌, ◌⊎◌, inl, inr, if◌then◌else◌, refl, sym, ◌∙◌, arith, ap, Bool, true, false, List, [], ◌∷◌, ◌++◌, length, take, drop, map, All, None, Some, Option, length-append, length-drop}
 use Rattle.std.proofs.lemmas.Bool.Decides.{nat_tests}
-use Rattle.std.proofs.lemmas.List.{take-append-drop, append-nil, length-take}
+use Rattle.std.proofs.lemmas.List.{take-append-drop, length-take}
 use Rattle.std.proofs.lemmas.List.Elements.{All-cons, All-nil, All-head}
 use Rattle.dlms_frame.specs.Frame.{Parts}
-use Rattle.dlms_link.specs.declared.out.LinkOut.{LinkOut}
 use Rattle.dlms_link.specs.declared.out.LinkOut.TheVariants.{Reply}
-use Rattle.dlms_link.specs.declared.out.ClientOut.{ClientOut}
 use Rattle.dlms_link.specs.declared.out.ClientOut.TheVariants.{Send}
-use Rattle.dlms_link.specs.declared.out.Phase.TheVariants.{Closed, Connecting, Open, Closing}
+use Rattle.dlms_link.specs.declared.out.Phase.TheVariants.{Open}
 use Rattle.dlms_link.specs.declared.control.Control.{Control}
 use Rattle.dlms_link.specs.declared.control.Control.TheVariants.{Snrm, Disc, Ua, Dm, Information, Ready, NotReady, Other}
-use Rattle.dlms_link.specs.declared.row.Row.{Row}
-use Rattle.dlms_link.specs.declared.row.Row.TheVariants.{Connects, Refuses, Disconnects, Keeps, HandsUp, Repeats, SendsNext, SaysReady, Ignores}
-use Rattle.dlms_link.specs.declared.way.Way.{Way}
+use Rattle.dlms_link.specs.declared.row.Row.TheVariants.{Keeps, HandsUp, Repeats, SendsNext, SaysReady, Ignores}
 use Rattle.dlms_link.specs.declared.way.Way.TheVariants.{Takes, TakenBefore, LetsNext, Leaves}
 use Rattle.dlms_link.specs.Octet.{control_of, before}
-use Rattle.dlms_link.specs.Kept.{Fresh, Good, kept_after, capped, llc, from_meter, from_client, is_more}
-use Rattle.dlms_link.specs.Server.{ServerRecord, row_of, row_of_snrm, is_meter, is_client, row_while_up, row_while_down, was_information, server_on, by_row, server_send, segment_of}
+use Rattle.dlms_link.specs.Kept.{Fresh, capped, llc, from_meter, from_client, is_more}
+use Rattle.dlms_link.specs.Server.{ServerRecord, row_of, row_of_snrm, is_meter, is_client, row_while_up, row_while_down, was_information, server_send, segment_of}
 use Rattle.dlms_link.specs.Parameters.{size_of}
-use Rattle.dlms_link.specs.Client.{ClientRecord, is_answer, way_of, client_step, client_send, client_segment, after_client_segment, on_control, by_way}
+use Rattle.dlms_link.specs.Client.{ClientRecord, way_of, client_step, client_send, client_segment, after_client_segment, on_control}
 use Rattle.dlms_link.specs.Segments.{joined, kept_after_all, read_whole, IsSegmented, SendsRest, AllSent, SendsOne, Between, LetsGo, ClientSendsRest, ClientSentAll, ClientSendsOne}
 use Rattle.dlms_link.proofs.Whole.{read_at_once}
 

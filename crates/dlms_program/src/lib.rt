@@ -19,3 +19,6 @@ pub use meter::{Meter, Reply};
 pub use replaying::replay;
 pub use work::Job;
 pub use working::job;
+
+#[cfg(test)]
+mod tests;

@@ -79,7 +79,7 @@ pub fn replay<R: Read, W: Write, A: Allocator + Copy>(
     let mut reads = u32::MAX;
     let mut line = ArrayVec::new();
     let mut bytes = Pairs::new();
-    'lines: for number in 1..u32::MAX {
+    'lines: for number in 1..=u32::MAX {
         match take_line(reader, &mut reads, &mut line)? {
             Taken::End => return Ok(()),
             Taken::Long => return Err(ReplayFault::Line(number)),

@@ -1,0 +1,5 @@
+pub mod Takes
+pub mod Walk
+pub mod Apdus
+pub mod Again
+pub mod Inside

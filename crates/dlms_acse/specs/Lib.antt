@@ -1,0 +1,5 @@
+pub mod Fault
+pub mod Verdict
+pub mod Writing
+pub mod Reading
+pub mod Spelling

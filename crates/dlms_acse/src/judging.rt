@@ -1,0 +1,127 @@
+//! Who may talk to the meter.
+
+ghost use Rattle.std.specs.Prelude.{◌≡◌, Some, option_map, unwrap_or};
+ghost use Rattle.std.specs.Str.{bytes_eq};
+ghost use Rattle.dlms_acse.specs.Verdict.{request_of, verdict as verdict_of, is_secret, refused, initiate_error, first_fit, doubts, objections, accepted};
+
+use crate::aarq::{Aarq, Initiate, Mechanism};
+use crate::conformance::Conformance;
+use crate::outcome::Verdict;
+use arrayvec::ArrayVec;
+use dlms_frame::Client;
+
+// Whether two secrets are the same. Every byte is compared, whatever the ones before it gave, so that the work tells
+// nothing of where the secrets differ: keep this form, which no contract can ask for.
+fn is_same(one: &[u8], other: &[u8]) -> bool
+    ensures { result ≡ bytes_eq one.now other.now }
+{
+    if one.len() != other.len() {
+        return false;
+    }
+    let mut same = true;
+    for (i, byte) in one.iter().enumerate() {
+        same &= *byte == other[i];
+    }
+    same
+}
+
+/// Whether this is the secret, whole.
+fn is_right(given: &Option<ArrayVec<u8, 16>>, secret: &[u8]) -> bool
+    ensures { result ≡ is_secret secret.now (option_map (λ s. s.items) given.now) }
+{
+    match given {
+        None => false,
+        Some(given) => is_same(given.as_slice(), secret),
+    }
+}
+
+/// A refusal whose cause is not the services.
+fn refused(diagnostic: u8) -> Verdict
+    ensures { result ≡ refused diagnostic }
+{
+    Verdict::Refused {
+        diagnostic,
+        initiate: None,
+    }
+}
+
+/// A refusal whose cause is the services.
+fn initiate_error(error: u8) -> Verdict
+    ensures { result ≡ initiate_error error }
+{
+    Verdict::Refused {
+        diagnostic: 1,
+        initiate: Some(error),
+    }
+}
+
+/// The refusal of a client that may not be who it says.
+fn doubt(aarq: &Aarq, client: Client, secret: &[u8]) -> Option<Verdict>
+    ensures { result ≡ first_fit (doubts (request_of aarq.now) client secret.now) }
+{
+    match (client, aarq.mechanism) {
+        (Client::Public, Mechanism::Absent | Mechanism::Lowest) => None,
+        (Client::Public, _) => Some(refused(11)),
+        (Client::Management, Mechanism::Absent | Mechanism::Lowest) => Some(refused(14)),
+        (Client::Management, Mechanism::Other) => Some(refused(11)),
+        (Client::Management, Mechanism::Low) => {
+            if is_right(&aarq.secret, secret) {
+                None
+            } else {
+                Some(refused(13))
+            }
+        }
+    }
+}
+
+/// What the proposed services come to.
+fn services(initiate: Initiate) -> Verdict
+    ensures { result ≡ unwrap_or (first_fit (objections (Some initiate))) (accepted (Some initiate)) }
+{
+    let agreed = initiate.conformance.0 & Conformance::OFFERED.0;
+    if initiate.version < 6 {
+        initiate_error(1)
+    } else if agreed & Conformance::GET.0 == 0 {
+        initiate_error(2)
+    } else if 0 < initiate.size && initiate.size < 64 {
+        initiate_error(3)
+    } else {
+        Verdict::Accepted {
+            conformance: Conformance(agreed),
+            size: if initiate.size == 0 {
+                1024
+            } else {
+                initiate.size.min(1024)
+            },
+        }
+    }
+}
+
+/// What the meter answers to this request of this client, whose secret at the meter is the one given: the first of these
+/// cases that fits.
+///
+/// | Case | Diagnostic | Initiate error |
+/// |---|---|---|
+/// | no or another application context | 2 | |
+/// | the public client with a mechanism that is not the lowest | 11 | |
+/// | management with no mechanism or the lowest | 14 | |
+/// | management with a mechanism that is not low-level | 11 | |
+/// | management with no secret or another | 13 | |
+/// | no initiate request that can be read | 1 | |
+/// | a version below 6 | 1 | 1 |
+/// | the services of both ends have no get | 1 | 2 |
+/// | a size of 1 to 63 | 1 | 3 |
+pub fn verdict(aarq: &Aarq, client: Client, secret: &[u8]) -> Verdict
+    ensures { result ≡ verdict_of (request_of aarq.now) client secret.now }
+{
+    if !aarq.context {
+        return refused(2);
+    }
+    if let Some(refusal) = doubt(aarq, client, secret) {
+        return refusal;
+    }
+    match aarq.initiate {
+        None => refused(1),
+        Some(initiate) => services(initiate),
+    }
+}

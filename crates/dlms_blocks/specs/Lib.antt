@@ -1,0 +1,5 @@
+pub mod Block
+pub mod BlockView
+pub mod Going
+pub mod Coming
+pub mod Joining

@@ -1,0 +1,17 @@
+//! Long values in numbered blocks, both directions and both ends.
+#![tactic(auto)]
+
+mod block;
+mod coming;
+mod going;
+mod joining;
+pub mod laws;
+mod sending;
+
+pub use block::{Block, PutStep, UNKNOWN_BLOCK};
+pub use coming::PutIn;
+pub use going::{GetOut, PutOut};
+pub use joining::GetIn;
+
+#[cfg(test)]
+mod tests;
