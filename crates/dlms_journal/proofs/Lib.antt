@@ -1,0 +1,4 @@
+pub mod Again
+pub mod Found
+pub mod Lists
+pub mod Pages

@@ -1,0 +1,3 @@
+pub mod Page
+pub mod Reading
+pub mod Record
