@@ -8,13 +8,13 @@ use Rattle.dlms_acse.specs.Reading.{on_some, ok_of, alone, octets_at, inner_at, 
 use Rattle.dlms_acse.specs.Spelling.{Counts, IsSecret}
 use Rattle.dlms_acse.proofs.Takes.{octets_takes, octets_again}
 
-some_is : {A : Type 0} {x y : A} → Some x ≡ Some y → x ≡ y
+pub some_is : {A : Type 0} {x y : A} → Some x ≡ Some y → x ≡ y
 some_is e = cc
 
-none_is : {A : Type 0} {x : A} → None ≡ Some x → ⊥
+pub none_is : {A : Type 0} {x : A} → None ≡ Some x → ⊥
 none_is e = cc
 
-abbrev Stands : ℕ → List ℕ → List ℕ → Type 0
+abbrev pub Stands : ℕ → List ℕ → List ℕ → Type 0
 Stands tag value x = (text : List ℕ) × (value ≡ tag ∷ text) × Counts 2 text x
 
 alone_is : (value rest x : List ℕ) → alone (value, rest) ≡ Some x → (rest ≡ []) × (value ≡ x)
@@ -33,7 +33,7 @@ from_octets tag rest x (Ok y) h e =
     (took.0, ap (λ (w : List ℕ). tag ∷ w) text, subst (λ (w : List ℕ). Counts 2 took.0 w) end.1 took.2)
 from_octets tag rest x (Err f) h e = absurd (none_is e)
 
-inner_is : (tag : ℕ) (value x : List ℕ) → inner_at tag value ≡ Some x → Stands tag value x
+pub inner_is : (tag : ℕ) (value x : List ℕ) → inner_at tag value ≡ Some x → Stands tag value x
 unfolding inner_at
 inner_is tag [] x e = absurd (none_is e)
 inner_is tag (t ∷ rest) x e = by_test (t == tag) refl e
@@ -44,7 +44,7 @@ inner_is tag (t ∷ rest) x e = by_test (t == tag) refl e
         subst (λ (k : ℕ). Stands tag (k ∷ rest) x) same (from_octets tag rest x (octets_at 2 rest) refl e)
     by_test false h e = absurd (none_is e)
 
-inner_of : (tag : ℕ) (text x : List ℕ) → Counts 2 text x → inner_at tag (tag ∷ text) ≡ Some x
+pub inner_of : (tag : ℕ) (text x : List ℕ) → Counts 2 text x → inner_at tag (tag ∷ text) ≡ Some x
 unfolding inner_at
 inner_of tag text x h =
     let octets : octets_at 2 text ≡ Ok (x, []) = ap (octets_at 2) (sym (append-nil text)) ∙ octets_again 2 text x [] h in

@@ -3,3 +3,4 @@ pub mod Walk
 pub mod Apdus
 pub mod Again
 pub mod Inside
+pub mod Initiates

@@ -1,9 +1,10 @@
 -- The spellings of an association's fields: which bytes stand for them (BER, ISO/IEC 8825-1, with tags of one byte and
 -- definite lengths).
-use Rattle.std.specs.Prelude.{◌≡◌, ℕ, ◌<◌, ◌≤◌, ◌+◌, ◌==◌, if◌then◌else◌, true, false, List, [], ◌∷◌, ◌++◌, length, Option, Some, None, Ok}
+use Rattle.std.specs.Prelude.{◌≡◌, ℕ, ◌<◌, ◌≤◌, ◌+◌, ◌*◌, ◌⊎◌, ◌==◌, if◌then◌else◌, true, false, List, [], ◌∷◌, ◌++◌, length, Option, Some, None, Ok}
 use Rattle.byteorder.specs.Endian.{big_number}
 use Rattle.dlms_frame.specs.declared.client.Client.{Client}
 use Rattle.dlms_frame.specs.declared.client.Client.TheVariants.{Public, Management}
+use Rattle.dlms_acse.specs.declared.aarq.Initiate.{Initiate}
 use Rattle.dlms_acse.specs.declared.aarq.Mechanism.TheVariants.{Absent, Low}
 use Rattle.dlms_acse.specs.declared.outcome.Verdict.{Verdict}
 use Rattle.dlms_acse.specs.declared.outcome.Verdict.TheVariants.{Accepted, Refused}
@@ -57,6 +58,34 @@ IsAare bytes v = (fs : List Field) × IsApdu 0x61 bytes fs × (verdict_from (λ 
 -- a secret of at most 16 bytes
 abbrev pub IsSecret : List ℕ → List ℕ → Type 0
 IsSecret value secret = (text : List ℕ) × (value ≡ 0x80 ∷ text) × Counts 2 text secret × (length secret ≤ 16)
+
+-- a dedicated key: 00, or 01 and a length with the key
+abbrev pub IsKey : List ℕ → Type 0
+IsKey text = (text ≡ 0x00 ∷ []) ⊎ ((counted key : List ℕ) × (text ≡ 0x01 ∷ counted) × Counts 4 counted key)
+
+-- an option of one byte: 00, or 01 and the byte
+abbrev pub IsOption : List ℕ → Type 0
+IsOption text = (text ≡ 0x00 ∷ []) ⊎ ((b : ℕ) × (text ≡ 0x01 ∷ b ∷ []))
+
+-- the head of the conformance block: its tag, its length and no unused bits; or with the tag's first byte alone
+abbrev pub IsHead : List ℕ → Type 0
+IsHead text = (text ≡ 0x5F ∷ 0x1F ∷ 0x04 ∷ 0x00 ∷ []) ⊎ (text ≡ 0x5F ∷ 0x04 ∷ 0x00 ∷ [])
+
+-- behind a version and that head: three bytes of conformance, two of the size
+abbrev pub IsBlock : List ℕ → Initiate → Type 0
+IsBlock text i = (h m l s t : ℕ) × (text ≡ h ∷ m ∷ l ∷ s ∷ t ∷ [])
+    × (i.conformance ≡ record { 0 = 65536 * h + 256 * m + l }) × (i.size ≡ 256 * s + t)
+
+-- An initiate request: a key, whether a response is allowed, a quality of service, the version, conformance and size
+-- (IEC 62056-5-3, InitiateRequest in A-XDR).
+abbrev pub SpellsInitiate : List ℕ → Initiate → Type 0
+SpellsInitiate bytes i = (key response quality head block : List ℕ)
+    × (bytes ≡ 0x01 ∷ (key ++ (response ++ (quality ++ (i.version ∷ (head ++ block))))))
+    × IsKey key × IsOption response × IsOption quality × IsHead head × IsBlock block i
+
+-- the field with an initiate request
+abbrev pub IsInitiate : List ℕ → Initiate → Type 0
+IsInitiate value i = (text content : List ℕ) × (value ≡ 0x04 ∷ text) × Counts 2 text content × SpellsInitiate content i
 
 -- ---- what is written
 
