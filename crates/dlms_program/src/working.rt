@@ -1,6 +1,6 @@
 //! What the program's words ask for.
-ghost use Rattle.std.specs.Prelude.{◌≡◌, [], OnOk, false, IfOk, map};
-ghost use Rattle.clap.specs.Words.{app_of, fault_of, FailsBy, subcommand_rows_of, subcommand_of};
+ghost use Rattle.std.specs.Prelude.{◌≡◌, ◌≢◌, [], OnOk, false, IfErr, IfOk, map};
+ghost use Rattle.clap.specs.Words.{app_of, fault_of, FailsBy, HasKind, subcommand_rows_of, subcommand_of};
 ghost use Rattle.clap.specs.declared.builder.command.Command.TheViews.{out-Command as fields_of};
 ghost use Rattle.dlms_program.specs.Words.{dlms, replay_command, Asks, command_of};
 
@@ -38,6 +38,7 @@ fn parsed<'a>(alloc: Global, words: &'a [&'a str]) -> Result<ArgMatches<'a>, Err
 pub fn job<'a>(alloc: Global, words: &'a [&'a str]) -> Result<Job, Error>
     ensures ok { IfOk result (Asks (subcommand_of dlms (map (λ word. word.now) words.entry.now))) }
     ensures only_ok { OnOk result (fault_of dlms (map (λ word. word.now) words.entry.now) ≡ []) }
+    ensures fault { IfErr result (λ e. fault_of dlms (map (λ word. word.now) words.entry.now) ≢ [] → HasKind (fault_of dlms (map (λ word. word.now) words.entry.now)) e) }
 {
     let matches = parsed(alloc, words)?;
     if matches.subcommand_name() == Some("replay") {
