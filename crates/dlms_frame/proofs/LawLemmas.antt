@@ -52,7 +52,7 @@ same_place s i j f g a b =
 ≤_both : (a b : ℕ) → a ≤ b → b ≤ a → a ≡ b
 ≤_both a b p q = omega arith
 
-one_next : (s : List ℕ) (place i j i' j' : ℕ) (f g : Parts) → IsNext s place i j f → IsNext s place i' j' g → (j ≡ j') × (f ≡ g)
+pub one_next : (s : List ℕ) (place i j i' j' : ℕ) (f g : Parts) → IsNext s place i j f → IsNext s place i' j' g → (j ≡ j') × (f ≡ g)
 one_next s place i j i' j' f g a b =
     let same_j : j ≡ j' = ≤_both j j' (a.earliest i' j' g b.behind b.stands) (b.earliest i j f a.behind a.stands) in
     let other : FrameAt s i' j g = subst (λ n. FrameAt s i' n g) (sym same_j) b.stands in

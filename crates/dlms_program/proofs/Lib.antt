@@ -3,3 +3,4 @@ pub mod NumberLemmas
 pub mod ReplayLemmas
 pub mod RunLemmas
 pub mod StepLemmas
+pub mod OutcomeLemmas

@@ -22,7 +22,7 @@ pub no_space-more : (bytes : List ℕ) (at : ℕ) → at < length bytes → HasN
 no_space-more bytes at within h k = subst HasNoSpace (sym (take_more bytes at 0 within)) (no_space-append (take at bytes) (get_or bytes at 0) h k)
 
 -- digits have no space
-digits_no_space : (digits : List ℕ) → AllDigits 10 digits → HasNoSpace digits
+pub digits_no_space : (digits : List ℕ) → AllDigits 10 digits → HasNoSpace digits
 digits_no_space [] h = tt
 digits_no_space (c ∷ cs) h = ((λ e. let bad : digit_value 32 < 10 = subst (λ (b : ℕ). digit_value b < 10) e h.0 in absurd (omega arith)), digits_no_space cs h.1)
 
