@@ -3,7 +3,7 @@
 ghost use Rattle.std.specs.Prelude.{◌≡◌, ◌≤◌, ◌<◌, ℕ, ◌↔◌, IsTrue, is_some, IsSome, IfSome, List, length, true, take, drop, nat_le};
 ghost use Rattle.dlms_frame.specs.Frame.{IsAddress};
 ghost use Rattle.dlms_link.specs.Parameters.{size_of};
-ghost use Rattle.dlms_link.specs.Server.{again, fresh_server, is_meter, is_client, to_client, row_of, row_of_snrm, row_while_up, row_while_down, ready_frame, server_on, server_send, awaits, HasSize, segment_of, after_segment, was_information};
+ghost use Rattle.dlms_link.specs.Server.{again, fresh_server, is_meter, is_client, to_client, row_of, row_of_snrm, row_while_up, row_while_down, by_row, ready_frame, server_on, server_send, awaits, HasSize, segment_of, after_segment, was_information};
 
 use crate::control::{Control, before, information_octet, next, read, ready_octet};
 use crate::kept::Assembly;
@@ -220,47 +220,91 @@ impl ServerLink {
         ensures client { self.new.client ≡ self.old.client }
     {
         match self.row(frame) {
-            Row::Connects(size) => {
-                let client = self.client;
-                *self = ServerLink::connected(client, size);
-                LinkOut::Up(to_client(client, frame.dest, 0x73, false, &parameters(size)))
-            }
-            Row::Refuses => {
-                self.up = false;
-                LinkOut::Down(to_client(self.client, frame.dest, 0x1f, false, &[]))
-            }
-            Row::Disconnects => {
-                self.up = false;
-                LinkOut::Down(to_client(self.client, frame.dest, 0x73, false, &[]))
-            }
-            Row::Keeps => {
-                self.receive_next = next(self.receive_next);
-                self.took_information = true;
-                self.kept.take(0xe6, frame.info.as_slice());
-                LinkOut::Reply(self.ready(frame.dest))
-            }
-            Row::HandsUp => {
-                self.receive_next = next(self.receive_next);
-                self.took_information = true;
-                self.kept.take(0xe6, frame.info.as_slice());
-                let told = self.kept.told();
-                self.apdu = self.kept.apdu();
-                self.kept = Assembly::new();
-                self.unsent.clear();
-                self.waits = Some(frame.dest);
-                told
-            }
+            Row::Connects(size) => self.connects(frame, size),
+            Row::Refuses => self.refuses(frame),
+            Row::Disconnects => self.disconnects(frame),
+            Row::Keeps => self.keeps(frame),
+            Row::HandsUp => self.hands_up(frame),
             Row::Repeats => again(&self.last),
-            Row::SendsNext => {
-                self.took_information = false;
-                LinkOut::Reply(self.segment(frame.dest))
-            }
-            Row::SaysReady => {
-                self.took_information = false;
-                LinkOut::Reply(self.ready(frame.dest))
-            }
+            Row::SendsNext => self.sends_next(frame),
+            Row::SaysReady => self.says_ready(frame),
             Row::Ignores => LinkOut::Nothing,
         }
+    }
+
+    /// The link comes up.
+    fn connects(&mut self, frame: &Frame, size: u8) -> LinkOut
+        requires least { 32 ≤ size }
+        requires most { size ≤ 128 }
+        requires idle { self.old.waits ≡ None }
+        ensures out { result ≡ (by_row self.old frame.now (Row.Connects size)).1 }
+        ensures after { self.new ≡ (by_row self.old frame.now (Row.Connects size)).0 }
+    {
+        let client = self.client;
+        *self = ServerLink::connected(client, size);
+        LinkOut::Up(to_client(client, frame.dest, 0x73, false, &parameters(size)))
+    }
+
+    /// The link is down, or comes down for an SNRM that can't be met.
+    fn refuses(&mut self, frame: &Frame) -> LinkOut
+        ensures out { result ≡ (by_row self.old frame.now Row.Refuses).1 }
+        ensures after { self.new ≡ (by_row self.old frame.now Row.Refuses).0 }
+    {
+        self.up = false;
+        LinkOut::Down(to_client(self.client, frame.dest, 0x1f, false, &[]))
+    }
+
+    /// The link comes down, as the client wants it.
+    fn disconnects(&mut self, frame: &Frame) -> LinkOut
+        ensures out { result ≡ (by_row self.old frame.now Row.Disconnects).1 }
+        ensures after { self.new ≡ (by_row self.old frame.now Row.Disconnects).0 }
+    {
+        self.up = false;
+        LinkOut::Down(to_client(self.client, frame.dest, 0x73, false, &[]))
+    }
+
+    /// A segment is kept.
+    fn keeps(&mut self, frame: &Frame) -> LinkOut
+        ensures out { result ≡ (by_row self.old frame.now Row.Keeps).1 }
+        ensures after { self.new ≡ (by_row self.old frame.now Row.Keeps).0 }
+    {
+        self.receive_next = next(self.receive_next);
+        self.took_information = true;
+        self.kept.take(0xe6, frame.info.as_slice());
+        LinkOut::Reply(self.ready(frame.dest))
+    }
+
+    /// The APDU is whole, and is handed up.
+    fn hands_up(&mut self, frame: &Frame) -> LinkOut
+        ensures out { result ≡ (by_row self.old frame.now Row.HandsUp).1 }
+        ensures after { self.new ≡ (by_row self.old frame.now Row.HandsUp).0 }
+    {
+        self.receive_next = next(self.receive_next);
+        self.took_information = true;
+        self.kept.take(0xe6, frame.info.as_slice());
+        let told = self.kept.told();
+        self.kept.give(&mut self.apdu);
+        self.unsent.clear();
+        self.waits = Some(frame.dest);
+        told
+    }
+
+    /// The next segment of the answer goes out.
+    fn sends_next(&mut self, frame: &Frame) -> LinkOut
+        ensures out { result ≡ (by_row self.old frame.now Row.SendsNext).1 }
+        ensures after { self.new ≡ (by_row self.old frame.now Row.SendsNext).0 }
+    {
+        self.took_information = false;
+        LinkOut::Reply(self.segment(frame.dest))
+    }
+
+    /// No segment is left: an RR goes out.
+    fn says_ready(&mut self, frame: &Frame) -> LinkOut
+        ensures out { result ≡ (by_row self.old frame.now Row.SaysReady).1 }
+        ensures after { self.new ≡ (by_row self.old frame.now Row.SaysReady).0 }
+    {
+        self.took_information = false;
+        LinkOut::Reply(self.ready(frame.dest))
     }
 
     /// An RR, as the last answer.

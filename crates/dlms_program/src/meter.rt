@@ -1,6 +1,7 @@
 //! The meter: one client's link over the state.
-ghost use Rattle.std.specs.Prelude.{◌≡◌, ◌≤◌, ◌<◌, [], List, length, take, IfOk, option_map};
+ghost use Rattle.std.specs.Prelude.{◌≡◌, ◌≤◌, ◌<◌, [], List, None, length, take, IfOk, IsSome, option_map};
 ghost use Rattle.dlms_frame.specs.Frame.{Parts, spelling};
+ghost use Rattle.dlms_link.specs.Server.{server_send};
 ghost use Rattle.dlms_state.specs.declared.event.Event.{Event};
 ghost use Rattle.dlms_state.specs.StateValue.{IsStateOf};
 ghost use Rattle.dlms_program.specs.Service.{Choice};
@@ -107,16 +108,27 @@ impl<A: Allocator + Copy> Meter<A> {
             × (self.new ≡ record self.old { link = (handled choice E self.old.link frame.now).own })
             × (option_map (λ reply. reply.items) result ≡ option_map spelling (handled choice E self.old.link frame.now).reply) }
     {
-        let reply = match self.link.on(frame) {
-            LinkOut::Nothing => return None,
-            LinkOut::Reply(reply) | LinkOut::Up(reply) | LinkOut::Down(reply) => reply,
+        match self.link.on(frame) {
+            LinkOut::Nothing => None,
+            LinkOut::Reply(reply) | LinkOut::Up(reply) | LinkOut::Down(reply) => Some(reply.put()),
             LinkOut::Apdu => {
                 let answer = serve(self.alloc, &self.state, self.link.apdu());
-                self.link.send(answer.as_slice())
+                Some(send(&mut self.link, answer.as_slice()))
             }
-            LinkOut::Oversize => self.link.send(too_long().as_slice()),
-            LinkOut::BadLlc => self.link.send(unknown_service().as_slice()),
-        };
-        Some(reply.put())
+            LinkOut::Oversize => Some(send(&mut self.link, too_long().as_slice())),
+            LinkOut::BadLlc => Some(send(&mut self.link, unknown_service().as_slice())),
+        }
     }
+}
+
+/// The frame in which an answer goes out.
+fn send(link: &mut ServerLink, answer: &[u8]) -> Reply
+    requires waits { IsSome link.old.waits }
+    requires short { length answer.now ≤ 1024 }
+    ensures frame { result.items ≡ spelling (server_send link.old answer.now).1 }
+    ensures after { link.new ≡ (server_send link.old answer.now).0 }
+    ensures idle { link.new.waits ≡ None }
+    ensures client { link.new.client ≡ link.old.client }
+{
+    link.send(answer).put()
 }

@@ -1,5 +1,5 @@
 //! What a replay writes.
-ghost use Rattle.std.specs.Prelude.{OnOk, option_map};
+ghost use Rattle.std.specs.Prelude.{◌≤◌, ◌*◌, OnOk, length, option_map};
 ghost use Rattle.std.specs.Io.KnownBytes.{Appends};
 ghost use Rattle.dlms_program.specs.Printed.{reply_line, reply_lines, refusal_line, registers_text, clock_text, state_line};
 ghost use Rattle.dlms_program.specs.Run.{listed};
@@ -13,17 +13,33 @@ use std::io::Write;
 /// The most hexadecimal digits of a reply.
 const MOST_DIGITS: usize = 4098;
 
-/// Writes a reply frame in hexadecimal digits, as `< 7ea0..`.
-fn write_reply<W: Write>(reply: &Reply, writer: &mut W) -> io::Result<()>
-    ensures { OnOk result (Appends (W.contents writer.old) (W.contents writer.new) (reply_line reply.now.items)) }
+/// The most hexadecimal digits of a short reply: the meter sends at most 128 bytes of information in a frame.
+const SHORT_DIGITS: usize = 512;
+
+/// Writes a reply frame in hexadecimal digits, as `< 7ea0..`, through a buffer of `ROOM` digits.
+fn write_digits<const ROOM: usize, W: Write>(bytes: &[u8], writer: &mut W) -> io::Result<()>
+    requires fits { 2 * length bytes.now ≤ ROOM }
+    requires small { ROOM ≤ 4098 }
+    ensures { OnOk result (Appends (W.contents writer.old) (W.contents writer.new) (reply_line bytes.now)) }
 {
-    let bytes = reply.as_slice();
-    let mut room = [0u8; MOST_DIGITS];
+    let mut room = [0u8; ROOM];
     let digits = &mut room[..2 * bytes.len()];
     let _fits = hex::encode_to_slice(bytes, digits);
     writer.write_all(b"< ")?;
     writer.write_all(digits)?;
     writer.write_all(b"\n")
+}
+
+/// Writes a reply frame.
+fn write_reply<W: Write>(reply: &Reply, writer: &mut W) -> io::Result<()>
+    ensures { OnOk result (Appends (W.contents writer.old) (W.contents writer.new) (reply_line reply.now.items)) }
+{
+    let bytes = reply.as_slice();
+    if 2 * bytes.len() <= SHORT_DIGITS {
+        write_digits::<SHORT_DIGITS, W>(bytes, writer)
+    } else {
+        write_digits::<MOST_DIGITS, W>(bytes, writer)
+    }
 }
 
 /// Writes the reply, if there is one.
