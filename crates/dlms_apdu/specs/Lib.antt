@@ -1,0 +1,5 @@
+pub mod Fault
+pub mod Forms
+pub mod View
+pub mod Spelling
+pub mod Reading
