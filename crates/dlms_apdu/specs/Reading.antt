@@ -220,3 +220,92 @@ HoldsValue (set_block invoke last n raw) = ⊥
 HoldsValue (action_normal invoke d p) = IsThere p
 HoldsValue (action_first invoke d last n raw) = ⊥
 HoldsValue (action_block invoke last n raw) = ⊥
+
+-- ---- the responses
+
+unfoldable pub get_data_at : ℕ → List ℕ → Result ResponseForm Refusal
+get_data_at invoke bytes = do
+  v ← value_at bytes
+  ended (get_data invoke v.0) v.1
+
+unfoldable pub get_result_at : ℕ → List ℕ → Result ResponseForm Refusal
+get_result_at invoke bytes = do
+  r ← byte_at bytes
+  ended (get_result invoke r.0) r.1
+
+unfoldable pub get_answer_at : List ℕ → Result ResponseForm Refusal
+get_answer_at bytes = do
+  invoke ← byte_at bytes
+  choice_at ((0, get_data_at invoke.0) ∷ (1, get_result_at invoke.0) ∷ []) invoke.1
+
+unfoldable pub get_raw_at : ℕ → Bool → ℕ → List ℕ → Result ResponseForm Refusal
+get_raw_at invoke last n bytes = do
+  raw ← raw_at bytes
+  ended (get_block invoke last n raw.0) raw.1
+
+unfoldable pub get_block_result_at : ℕ → ℕ → List ℕ → Result ResponseForm Refusal
+get_block_result_at invoke n bytes = do
+  r ← byte_at bytes
+  ended (get_block_result invoke n r.0) r.1
+
+-- a result stands only where the last block would
+unfoldable pub get_block_answer_at : List ℕ → Result ResponseForm Refusal
+get_block_answer_at bytes = do
+  invoke ← byte_at bytes
+  last ← flag_at invoke.1
+  n ← number_at 4 last.1
+  choice_at ((0, get_raw_at invoke.0 last.0 n.0) ∷ (if last.0 then (1, get_block_result_at invoke.0 n.0) ∷ [] else [])) n.1
+
+unfoldable pub set_result_at : List ℕ → Result ResponseForm Refusal
+set_result_at bytes = do
+  invoke ← byte_at bytes
+  r ← byte_at invoke.1
+  ended (set_result invoke.0 r.0) r.1
+
+unfoldable pub set_block_taken_at : List ℕ → Result ResponseForm Refusal
+set_block_taken_at bytes = do
+  invoke ← byte_at bytes
+  n ← number_at 4 invoke.1
+  ended (set_block_taken invoke.0 n.0) n.1
+
+unfoldable pub set_last_at : List ℕ → Result ResponseForm Refusal
+set_last_at bytes = do
+  invoke ← byte_at bytes
+  r ← byte_at invoke.1
+  n ← number_at 4 r.1
+  ended (set_last invoke.0 r.0 n.0) n.1
+
+-- nothing is returned beside the result
+unfoldable pub action_result_at : List ℕ → Result ResponseForm Refusal
+action_result_at bytes = do
+  invoke ← byte_at bytes
+  r ← byte_at invoke.1
+  choice_at ((0, ended (action_result invoke.0 r.0)) ∷ []) r.1
+
+unfoldable pub action_block_taken_at : List ℕ → Result ResponseForm Refusal
+action_block_taken_at bytes = do
+  invoke ← byte_at bytes
+  n ← number_at 4 invoke.1
+  ended (action_block_taken invoke.0 n.0) n.1
+
+unfoldable pub exception_at : List ℕ → Result ResponseForm Refusal
+exception_at bytes = do
+  state ← byte_at bytes
+  service ← byte_at state.1
+  ended (exception state.0 service.0) service.1
+
+unfoldable pub get_response_at : List ℕ → Result ResponseForm Refusal
+get_response_at bytes = choice_at ((1, get_answer_at) ∷ (2, get_block_answer_at) ∷ []) bytes
+
+unfoldable pub set_response_at : List ℕ → Result ResponseForm Refusal
+set_response_at bytes = choice_at ((1, set_result_at) ∷ (2, set_block_taken_at) ∷ (3, set_last_at) ∷ []) bytes
+
+unfoldable pub action_response_at : List ℕ → Result ResponseForm Refusal
+action_response_at bytes = choice_at ((1, action_result_at) ∷ (4, action_block_taken_at) ∷ []) bytes
+
+unfoldable pub response_at : List ℕ → Result ResponseForm Refusal
+response_at bytes = choice_at ((0xC4, get_response_at) ∷ (0xC5, set_response_at) ∷ (0xC7, action_response_at) ∷ (0xD8, exception_at) ∷ []) bytes
+
+abbrev pub HoldsData : ResponseForm → Type 0
+HoldsData (get_data invoke v) = Unit {0}
+HoldsData _ = ⊥

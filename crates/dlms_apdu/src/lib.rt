@@ -1,9 +1,11 @@
 //! The service forms: what a client asks and a meter answers, read and written.
 #![tactic(auto)]
 
+mod answered;
+mod asked;
 mod fault;
 mod parts;
-mod reading;
+
 mod request;
 mod response;
 

@@ -155,3 +155,58 @@ fn action_block<A: Allocator>(bytes: &[u8]) -> Result<Request<'_, A>, Refusal>
         raw,
     })
 }
+
+/// A GET, behind the service's byte.
+#[tactic(auto, using(crate::proofs::Forms::told), unfolding(crate::specs::Reading::get_at))]
+fn get<A: Allocator + Copy>(alloc: A, bytes: &[u8]) -> Result<Request<'_, A>, ApduFault>
+    ensures { Answers request_of HoldsValue result (get_at bytes.now) }
+{
+    match bytes {
+        [] => Err(ApduFault::Short),
+        [1, rest @ ..] => get_normal(alloc, rest),
+        [2, rest @ ..] => Ok(get_next(rest)?),
+        _ => Err(ApduFault::Choice),
+    }
+}
+
+/// A SET, behind the service's byte.
+#[tactic(auto, using(crate::proofs::Forms::told), unfolding(crate::specs::Reading::set_at))]
+fn set<A: Allocator + Copy>(alloc: A, bytes: &[u8]) -> Result<Request<'_, A>, ApduFault>
+    ensures { Answers request_of HoldsValue result (set_at bytes.now) }
+{
+    match bytes {
+        [] => Err(ApduFault::Short),
+        [1, rest @ ..] => set_normal(alloc, rest),
+        [2, rest @ ..] => set_first(alloc, rest),
+        [3, rest @ ..] => Ok(set_block(rest)?),
+        _ => Err(ApduFault::Choice),
+    }
+}
+
+/// An ACTION, behind the service's byte.
+#[tactic(auto, using(crate::proofs::Forms::told), unfolding(crate::specs::Reading::action_at))]
+fn action<A: Allocator + Copy>(alloc: A, bytes: &[u8]) -> Result<Request<'_, A>, ApduFault>
+    ensures { Answers request_of HoldsValue result (action_at bytes.now) }
+{
+    match bytes {
+        [] => Err(ApduFault::Short),
+        [1, rest @ ..] => action_normal(alloc, rest),
+        [4, rest @ ..] => Ok(action_first(rest)?),
+        [6, rest @ ..] => Ok(action_block(rest)?),
+        _ => Err(ApduFault::Choice),
+    }
+}
+
+/// A request.
+#[tactic(auto, using(crate::proofs::Forms::told), unfolding(crate::specs::Reading::request_at))]
+fn request<A: Allocator + Copy>(alloc: A, bytes: &[u8]) -> Result<Request<'_, A>, ApduFault>
+    ensures { Answers request_of HoldsValue result (request_at bytes.now) }
+{
+    match bytes {
+        [] => Err(ApduFault::Short),
+        [0xc0, rest @ ..] => get(alloc, rest),
+        [0xc1, rest @ ..] => set(alloc, rest),
+        [0xc3, rest @ ..] => action(alloc, rest),
+        _ => Err(ApduFault::Choice),
+    }
+}
