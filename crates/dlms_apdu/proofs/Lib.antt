@@ -1,2 +1,5 @@
 pub mod Behind
 pub mod Forms
+pub mod Takes
+pub mod Options
+pub mod Requests
