@@ -3,3 +3,4 @@ pub mod Forms
 pub mod Takes
 pub mod Options
 pub mod Requests
+pub mod Responses

@@ -202,3 +202,6 @@ pub headed : (a b : ℕ) (bytes front behind next rest : List ℕ) → bytes ≡
 headed a b bytes front behind next rest e p d q =
     let second : behind ≡ b ∷ rest = d ∙ ap (λ (w : List ℕ). w ++ rest) q in
     e ∙ ap (λ (w : List ℕ). w ++ behind) p ∙ ap (λ (w : List ℕ). a ∷ w) second
+
+pub behind_head : (a : ℕ) (bytes front behind : List ℕ) → bytes ≡ front ++ behind → IsByte a front → bytes ≡ a ∷ behind
+behind_head a bytes front behind e p = e ∙ ap (λ (w : List ℕ). w ++ behind) p
