@@ -4,3 +4,4 @@ pub mod Takes
 pub mod Options
 pub mod Requests
 pub mod Responses
+pub mod Written

@@ -3,3 +3,4 @@ pub mod Forms
 pub mod View
 pub mod Spelling
 pub mod Reading
+pub mod Writing

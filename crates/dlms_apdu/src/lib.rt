@@ -3,6 +3,7 @@
 
 mod answered;
 mod asked;
+mod asking;
 mod fault;
 mod parts;
 
