@@ -3,7 +3,9 @@
 ghost use Rattle.std.specs.Prelude.{◌≡◌, IfOk, MatchResult};
 ghost use Rattle.dlms_apdu.specs.Forms.{ResponseForm};
 ghost use Rattle.dlms_apdu.specs.Reading.{Tells, Answers, HoldsData, get_data_at, get_result_at, get_answer_at, get_raw_at, get_block_result_at, get_block_answer_at, set_result_at, set_block_taken_at, set_last_at, action_result_at, action_block_taken_at, exception_at, get_response_at, set_response_at, action_response_at, response_at};
+ghost use Rattle.dlms_apdu.specs.Spelling.{SpellsResponse};
 ghost use Rattle.dlms_apdu.specs.View.{response_of};
+ghost use Rattle.dlms_apdu.specs.declared.fault.ApduFault.TheVariants.{Memory};
 
 use crate::fault::{ApduFault, Refusal};
 use crate::parts::{after_value, byte, ended, flag, four, raw, value};
@@ -234,4 +236,20 @@ fn response<A: Allocator + Copy>(
         [0xd8, rest @ ..] => Ok(exception(rest)?),
         _ => Err(ApduFault::Choice),
     }
+}
+
+/// Reads a response, which is all of the bytes. The first fault from left to right is told. A block's bytes stay
+/// where they are; memory is taken for a value alone, and asked for only where the bytes are a response.
+pub fn read_response<A: Allocator + Copy>(
+    alloc: A,
+    bytes: &[u8],
+) -> Result<Response<'_, A>, ApduFault>
+    // The bytes are a spelling of what is read.
+    ensures found { IfOk result (λ r. SpellsResponse bytes.now (response_of r)) }
+    // What the bytes are a spelling of is read, unless it holds a value and memory runs out.
+    ensures only { (r : ResponseForm) → SpellsResponse bytes.now r → MatchResult result (λ x. response_of x ≡ r) (λ e. (e ≡ Memory) × HoldsData r) }
+    // Which fault it is.
+    ensures exact { Answers response_of HoldsData result (response_at bytes.now) }
+{
+    response(alloc, bytes)
 }

@@ -3,7 +3,9 @@
 ghost use Rattle.std.specs.Prelude.{◌≡◌, IfOk, MatchResult};
 ghost use Rattle.dlms_apdu.specs.Forms.{RequestForm};
 ghost use Rattle.dlms_apdu.specs.Reading.{Tells, Answers, HoldsValue, get_normal_at, get_next_at, set_normal_at, set_first_at, set_block_at, action_normal_at, action_first_at, action_block_at, get_at, set_at, action_at, request_at};
+ghost use Rattle.dlms_apdu.specs.Spelling.{SpellsRequest};
 ghost use Rattle.dlms_apdu.specs.View.{request_of};
+ghost use Rattle.dlms_apdu.specs.declared.fault.ApduFault.TheVariants.{Memory};
 
 use crate::fault::{ApduFault, Refusal};
 use crate::parts::{
@@ -209,4 +211,21 @@ fn request<A: Allocator + Copy>(alloc: A, bytes: &[u8]) -> Result<Request<'_, A>
         [0xc3, rest @ ..] => action(alloc, rest),
         _ => Err(ApduFault::Choice),
     }
+}
+
+/// Reads a request, which is all of the bytes. The first fault from left to right is told. A block's bytes stay
+/// where they are; memory is taken for values alone, and asked for only where the bytes are a request, so that a GET
+/// without a selector is read without any.
+pub fn read_request<A: Allocator + Copy>(
+    alloc: A,
+    bytes: &[u8],
+) -> Result<Request<'_, A>, ApduFault>
+    // The bytes are a spelling of what is read.
+    ensures found { IfOk result (λ r. SpellsRequest bytes.now (request_of r)) }
+    // What the bytes are a spelling of is read, unless it holds a value and memory runs out.
+    ensures only { (r : RequestForm) → SpellsRequest bytes.now r → MatchResult result (λ x. request_of x ≡ r) (λ e. (e ≡ Memory) × HoldsValue r) }
+    // Which fault it is.
+    ensures exact { Answers request_of HoldsValue result (request_at bytes.now) }
+{
+    request(alloc, bytes)
 }

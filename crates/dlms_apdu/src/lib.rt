@@ -2,6 +2,7 @@
 #![tactic(auto)]
 
 mod answered;
+mod answering;
 mod asked;
 mod asking;
 mod fault;
@@ -10,6 +11,9 @@ mod parts;
 mod request;
 mod response;
 
+pub use answered::read_response;
+pub use asked::read_request;
+pub use asking::write_request;
 pub use fault::ApduFault;
 pub use request::Request;
 pub use response::Response;

@@ -1,0 +1,65 @@
+//! Responses, written as bytes.
+
+ghost use Rattle.std.specs.Prelude.{◌≡◌, ◌≤◌, length, IfOk, IfSome, IfNone, OnOk, OnSome};
+ghost use Rattle.dlms_apdu.specs.Forms.{get_block};
+ghost use Rattle.dlms_apdu.specs.Spelling.{SpellsResponse};
+ghost use Rattle.dlms_apdu.specs.View.{response_of};
+ghost use Rattle.dlms_apdu.specs.Writing.{response_bytes, RawFits, ResponseFits, ResponseInRange, IsShort};
+
+use crate::response::Response;
+use arrayvec::ArrayVec;
+use dlms_data::{append, append_counted};
+use std::alloc::{AllocError, Allocator};
+
+/// At most ten bytes.
+fn bytes_of(bytes: &[u8]) -> ArrayVec<u8, 10>
+    requires { length bytes.now ≤ 10 }
+    ensures { result.items ≡ bytes.now }
+{
+    let mut text = ArrayVec::new();
+    let _ = text.try_extend_from_slice(bytes);
+    text
+}
+
+/// The spelling of a response that holds neither a value nor raw bytes.
+fn short<B: Allocator>(response: &Response<'_, B>) -> Option<ArrayVec<u8, 10>>
+    ensures canonical { IfSome result (λ text. text.items ≡ response_bytes (response_of response.now)) }
+    ensures in_range { OnSome result (ResponseInRange (response_of response.now)) }
+    ensures none { IfNone result (IsShort (response_of response.now) → ⊥) }
+{
+    match response {
+        Response::GetData { .. } | Response::GetBlock { .. } => None,
+        Response::GetResult { invoke, result } => {
+            Some(bytes_of(&[0xc4, 1, *invoke, 1, *result]))
+        }
+        Response::GetBlockResult {
+            invoke,
+            number,
+            result,
+        } => {
+            let [a, b, c, d] = number.to_be_bytes();
+            Some(bytes_of(&[0xc4, 2, *invoke, 1, a, b, c, d, 1, *result]))
+        }
+        Response::SetResult { invoke, result } => Some(bytes_of(&[0xc5, 1, *invoke, *result])),
+        Response::SetBlock { invoke, number } => {
+            let [a, b, c, d] = number.to_be_bytes();
+            Some(bytes_of(&[0xc5, 2, *invoke, a, b, c, d]))
+        }
+        Response::SetLast {
+            invoke,
+            result,
+            number,
+        } => {
+            let [a, b, c, d] = number.to_be_bytes();
+            Some(bytes_of(&[0xc5, 3, *invoke, *result, a, b, c, d]))
+        }
+        Response::ActionResult { invoke, result } => {
+            Some(bytes_of(&[0xc7, 1, *invoke, *result, 0]))
+        }
+        Response::ActionBlock { invoke, number } => {
+            let [a, b, c, d] = number.to_be_bytes();
+            Some(bytes_of(&[0xc7, 4, *invoke, a, b, c, d]))
+        }
+        Response::Exception { state, service } => Some(bytes_of(&[0xd8, *state, *service])),
+    }
+}
