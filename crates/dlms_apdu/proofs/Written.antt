@@ -8,7 +8,7 @@ use Rattle.dlms_data.specs.Writing.{short_length, Fits}
 use Rattle.dlms_data.proofs.Written.{number_back, length_spelled, is_spelled}
 use Rattle.dlms_apdu.specs.Forms.{Selection, RequestForm, ResponseForm, get_normal, get_next, set_normal, set_first, set_block, action_normal, action_first, action_block, get_data, get_result, get_block, get_block_result, set_result, set_block_taken, set_last, action_result, action_block_taken, exception}
 use Rattle.dlms_apdu.specs.Spelling.{◌▷◌, IsNumber, IsFlag, IsDescriptor, IsSelector, IsParameter, IsRaw, SpellsRequest, SpellsResponse}
-use Rattle.dlms_apdu.specs.Writing.{descriptor_bytes, selector_bytes, parameter_bytes, raw_bytes, block_bytes, request_bytes, response_bytes, SelectorFits, ParameterFits, RawFits, RequestFits, ResponseFits, DescriptorInRange, RequestInRange, ResponseInRange}
+use Rattle.dlms_apdu.specs.Writing.{descriptor_bytes, selector_bytes, parameter_bytes, raw_bytes, block_bytes, request_bytes, response_bytes, SelectorFits, ParameterFits, RawFits, RequestFits, ResponseFits, DescriptorInRange, RequestInRange, ResponseInRange, IsShort}
 
 four : (n : ℕ) → n < 2 ^ 32 → IsNumber 4 n (big_bytes 4 n)
 four n h = (refl, number_back 4 n (omega arith))
@@ -73,3 +73,11 @@ pub response_was : {T E : Type 0} (items : T → List ℕ) (r : ResponseForm) (r
     → IfOk result (λ out. SpellsResponse (items out) r)
 response_was items r (Ok out) fits e h = subst (λ (w : List ℕ). SpellsResponse w r) (sym e) (response_spelled r fits h)
 response_was items r (Err e) fits f h = tt
+
+short_fits : (r : ResponseForm) → IsShort r → ResponseFits r
+short_fits (get_data i v) h = absurd h
+short_fits (get_block i last n b) h = absurd h
+short_fits _ h = tt
+
+pub short_was : (text : List ℕ) (r : ResponseForm) → IsShort r → text ≡ response_bytes r → ResponseInRange r → SpellsResponse text r
+short_was text r short e h = subst (λ (w : List ℕ). SpellsResponse w r) (sym e) (response_spelled r (short_fits r short) h)

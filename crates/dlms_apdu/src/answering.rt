@@ -63,3 +63,73 @@ fn short<B: Allocator>(response: &Response<'_, B>) -> Option<ArrayVec<u8, 10>>
         Response::Exception { state, service } => Some(bytes_of(&[0xd8, *state, *service])),
     }
 }
+
+/// A block's spelling.
+fn block_text<A: Allocator>(
+    alloc: A,
+    invoke: u8,
+    last: bool,
+    number: u32,
+    raw: &[u8],
+) -> Result<Vec<u8, A>, AllocError>
+    requires { RawFits raw.now }
+    ensures canonical { IfOk result (λ out. out.items ≡ response_bytes (get_block invoke last number raw.now)) }
+    ensures in_range { OnOk result (ResponseInRange (get_block invoke last number raw.now)) }
+{
+    let mut out = Vec::from_slice(alloc, &[0xc4, 2, invoke, u8::from(last)])?;
+    out.extend_from_slice(&number.to_be_bytes())?;
+    out.push(0)?;
+    Ok(append_counted(out, raw)?)
+}
+
+/// A response's spelling.
+fn text<A: Allocator, B: Allocator>(
+    alloc: A,
+    response: &Response<'_, B>,
+) -> Result<Vec<u8, A>, AllocError>
+    requires { ResponseFits (response_of response.now) }
+    ensures canonical { IfOk result (λ out. out.items ≡ response_bytes (response_of response.now)) }
+    ensures in_range { OnOk result (ResponseInRange (response_of response.now)) }
+{
+    if let Some(text) = short(response) {
+        return Ok(Vec::from_slice(alloc, text.as_slice())?);
+    }
+    match response {
+        Response::GetData { invoke, value } => {
+            let out = Vec::from_slice(alloc, &[0xc4, 1, *invoke, 0])?;
+            Ok(append(out, value)?)
+        }
+        Response::GetBlock {
+            invoke,
+            last,
+            number,
+            raw,
+        } => block_text(alloc, *invoke, *last, *number, raw),
+        _ => unreachable!(),
+    }
+}
+
+/// The canonical spelling of a response, which `read_response` reads again.
+pub fn write_response<A: Allocator, B: Allocator>(
+    alloc: A,
+    response: &Response<'_, B>,
+) -> Result<Vec<u8, A>, AllocError>
+    requires { ResponseFits (response_of response.now) }
+    ensures canonical { IfOk result (λ out. out.items ≡ response_bytes (response_of response.now)) }
+    ensures spelled { IfOk result (λ out. SpellsResponse out.items (response_of response.now)) }
+{
+    text(alloc, response)
+}
+
+/// The canonical spelling of a response that holds neither a value nor a block's bytes. It takes no memory, so that a
+/// want of memory can be answered.
+pub fn write_short<B: Allocator>(response: &Response<'_, B>) -> ArrayVec<u8, 10>
+    requires { IsShort (response_of response.now) }
+    ensures canonical { result.items ≡ response_bytes (response_of response.now) }
+    ensures spelled { SpellsResponse result.items (response_of response.now) }
+{
+    match short(response) {
+        Some(text) => text,
+        None => unreachable!(),
+    }
+}

@@ -12,6 +12,7 @@ mod request;
 mod response;
 
 pub use answered::read_response;
+pub use answering::{write_response, write_short};
 pub use asked::read_request;
 pub use asking::write_request;
 pub use fault::ApduFault;
