@@ -5,3 +5,4 @@ pub mod Options
 pub mod Requests
 pub mod Responses
 pub mod Written
+pub mod WholeLaws

@@ -4,3 +4,4 @@ pub mod View
 pub mod Spelling
 pub mod Reading
 pub mod Writing
+pub mod Laws

@@ -6,6 +6,8 @@ mod answering;
 mod asked;
 mod asking;
 mod fault;
+mod fitting;
+pub mod laws;
 mod parts;
 
 mod request;
