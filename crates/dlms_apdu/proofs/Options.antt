@@ -31,9 +31,9 @@ selector_takes bytes x e =
     elim (choice_found ((0, no_option_at) ∷ (1, some_selector_at) ∷ []) bytes x e) [
       | inl h ↦ subst (λ (y : Option Selection × List ℕ). Takes IsSelector bytes y) (ok_is (None, h.0) x h.2) (0 ∷ [], h.1, refl)
       | inr g ↦ elim g [
-          | inl h ↦ subst (λ (w : List ℕ). Takes IsSelector w x) (sym h.1) (some_selector_takes h.0 x h.2)
-          | inr h ↦ absurd h
-        ]
+        | inl h ↦ subst (λ (w : List ℕ). Takes IsSelector w x) (sym h.1) (some_selector_takes h.0 x h.2)
+        | inr h ↦ absurd h
+      ]
     ]
 
 pub selector_again : (s : Option Selection) (front rest : List ℕ) → IsSelector s front → selector_at (front ++ rest) ≡ Ok (s, rest)
@@ -58,9 +58,9 @@ parameter_takes bytes x e =
     elim (choice_found ((0, no_option_at) ∷ (1, some_parameter_at) ∷ []) bytes x e) [
       | inl h ↦ subst (λ (y : Option Value × List ℕ). Takes IsParameter bytes y) (ok_is (None, h.0) x h.2) (0 ∷ [], h.1, refl)
       | inr g ↦ elim g [
-          | inl h ↦ subst (λ (w : List ℕ). Takes IsParameter w x) (sym h.1) (some_parameter_takes h.0 x h.2)
-          | inr h ↦ absurd h
-        ]
+        | inl h ↦ subst (λ (w : List ℕ). Takes IsParameter w x) (sym h.1) (some_parameter_takes h.0 x h.2)
+        | inr h ↦ absurd h
+      ]
     ]
 
 pub parameter_again : (p : Option Value) (front rest : List ℕ) → IsParameter p front → parameter_at (front ++ rest) ≡ Ok (p, rest)

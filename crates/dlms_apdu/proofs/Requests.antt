@@ -171,9 +171,9 @@ get_found bytes r e =
     elim (choice_found ((1, get_normal_at) ∷ (2, get_next_at) ∷ []) bytes r e) [
       | inl h ↦ subst (λ (w : List ℕ). SpellsRequest (0xC0 ∷ w) r) (sym h.1) (get_normal_found h.0 r h.2)
       | inr g ↦ elim g [
-          | inl h ↦ subst (λ (w : List ℕ). SpellsRequest (0xC0 ∷ w) r) (sym h.1) (get_next_found h.0 r h.2)
-          | inr h ↦ absurd h
-        ]
+        | inl h ↦ subst (λ (w : List ℕ). SpellsRequest (0xC0 ∷ w) r) (sym h.1) (get_next_found h.0 r h.2)
+        | inr h ↦ absurd h
+      ]
     ]
 
 set_found : (bytes : List ℕ) (r : RequestForm) → set_at bytes ≡ Ok r → SpellsRequest (0xC1 ∷ bytes) r
@@ -182,12 +182,12 @@ set_found bytes r e =
     elim (choice_found ((1, set_normal_at) ∷ (2, set_first_at) ∷ (3, set_block_at) ∷ []) bytes r e) [
       | inl h ↦ subst (λ (w : List ℕ). SpellsRequest (0xC1 ∷ w) r) (sym h.1) (set_normal_found h.0 r h.2)
       | inr g ↦ elim g [
-          | inl h ↦ subst (λ (w : List ℕ). SpellsRequest (0xC1 ∷ w) r) (sym h.1) (set_first_found h.0 r h.2)
-          | inr g ↦ elim g [
-              | inl h ↦ subst (λ (w : List ℕ). SpellsRequest (0xC1 ∷ w) r) (sym h.1) (set_block_found h.0 r h.2)
-              | inr h ↦ absurd h
-            ]
+        | inl h ↦ subst (λ (w : List ℕ). SpellsRequest (0xC1 ∷ w) r) (sym h.1) (set_first_found h.0 r h.2)
+        | inr g ↦ elim g [
+          | inl h ↦ subst (λ (w : List ℕ). SpellsRequest (0xC1 ∷ w) r) (sym h.1) (set_block_found h.0 r h.2)
+          | inr h ↦ absurd h
         ]
+      ]
     ]
 
 action_found : (bytes : List ℕ) (r : RequestForm) → action_at bytes ≡ Ok r → SpellsRequest (0xC3 ∷ bytes) r
@@ -196,12 +196,12 @@ action_found bytes r e =
     elim (choice_found ((1, action_normal_at) ∷ (4, action_first_at) ∷ (6, action_block_at) ∷ []) bytes r e) [
       | inl h ↦ subst (λ (w : List ℕ). SpellsRequest (0xC3 ∷ w) r) (sym h.1) (action_normal_found h.0 r h.2)
       | inr g ↦ elim g [
-          | inl h ↦ subst (λ (w : List ℕ). SpellsRequest (0xC3 ∷ w) r) (sym h.1) (action_first_found h.0 r h.2)
-          | inr g ↦ elim g [
-              | inl h ↦ subst (λ (w : List ℕ). SpellsRequest (0xC3 ∷ w) r) (sym h.1) (action_block_found h.0 r h.2)
-              | inr h ↦ absurd h
-            ]
+        | inl h ↦ subst (λ (w : List ℕ). SpellsRequest (0xC3 ∷ w) r) (sym h.1) (action_first_found h.0 r h.2)
+        | inr g ↦ elim g [
+          | inl h ↦ subst (λ (w : List ℕ). SpellsRequest (0xC3 ∷ w) r) (sym h.1) (action_block_found h.0 r h.2)
+          | inr h ↦ absurd h
         ]
+      ]
     ]
 
 -- what is read is spelled so
@@ -211,12 +211,12 @@ request_found bytes r e =
     elim (choice_found ((0xC0, get_at) ∷ (0xC1, set_at) ∷ (0xC3, action_at) ∷ []) bytes r e) [
       | inl h ↦ subst (λ (w : List ℕ). SpellsRequest w r) (sym h.1) (get_found h.0 r h.2)
       | inr g ↦ elim g [
-          | inl h ↦ subst (λ (w : List ℕ). SpellsRequest w r) (sym h.1) (set_found h.0 r h.2)
-          | inr g ↦ elim g [
-              | inl h ↦ subst (λ (w : List ℕ). SpellsRequest w r) (sym h.1) (action_found h.0 r h.2)
-              | inr h ↦ absurd h
-            ]
+        | inl h ↦ subst (λ (w : List ℕ). SpellsRequest w r) (sym h.1) (set_found h.0 r h.2)
+        | inr g ↦ elim g [
+          | inl h ↦ subst (λ (w : List ℕ). SpellsRequest w r) (sym h.1) (action_found h.0 r h.2)
+          | inr h ↦ absurd h
         ]
+      ]
     ]
 
 -- what is spelled so is read

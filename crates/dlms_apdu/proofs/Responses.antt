@@ -60,12 +60,12 @@ get_answer_found bytes r e =
           subst (λ (y : ResponseForm). SpellsResponse (0xC4 ∷ 1 ∷ bytes) y) k.1
           (0xC4 ∷ [], 1 ∷ bytes, refl, refl, (1 ∷ [], bytes, refl, refl, (ti.0, i.value.1, ti.1, ti.2, (0 ∷ [], h.0, h.1, refl, k.2))))
       | inr g ↦ elim g [
-          | inl h ↦
-              let k = get_result_found i.value.0 h.0 r h.2 in
-              subst (λ (y : ResponseForm). SpellsResponse (0xC4 ∷ 1 ∷ bytes) y) k.1
-              (0xC4 ∷ [], 1 ∷ bytes, refl, refl, (1 ∷ [], bytes, refl, refl, (ti.0, i.value.1, ti.1, ti.2, (1 ∷ [], h.0, h.1, refl, k.2))))
-          | inr h ↦ absurd h
-        ]
+        | inl h ↦
+            let k = get_result_found i.value.0 h.0 r h.2 in
+            subst (λ (y : ResponseForm). SpellsResponse (0xC4 ∷ 1 ∷ bytes) y) k.1
+            (0xC4 ∷ [], 1 ∷ bytes, refl, refl, (1 ∷ [], bytes, refl, refl, (ti.0, i.value.1, ti.1, ti.2, (1 ∷ [], h.0, h.1, refl, k.2))))
+        | inr h ↦ absurd h
+      ]
     ]
 
 get_data_again : (i : ℕ) (v : Value) (bytes : List ℕ) → (IsByte i ▷ IsByte 0 ▷ IsValue v) bytes → get_answer_at bytes ≡ Ok (get_data i v)
@@ -251,9 +251,9 @@ get_response_found bytes r e =
     elim (choice_found ((1, get_answer_at) ∷ (2, get_block_answer_at) ∷ []) bytes r e) [
       | inl h ↦ subst (λ (w : List ℕ). SpellsResponse (0xC4 ∷ w) r) (sym h.1) (get_answer_found h.0 r h.2)
       | inr g ↦ elim g [
-          | inl h ↦ subst (λ (w : List ℕ). SpellsResponse (0xC4 ∷ w) r) (sym h.1) (get_block_answer_found h.0 r h.2)
-          | inr h ↦ absurd h
-        ]
+        | inl h ↦ subst (λ (w : List ℕ). SpellsResponse (0xC4 ∷ w) r) (sym h.1) (get_block_answer_found h.0 r h.2)
+        | inr h ↦ absurd h
+      ]
     ]
 
 set_response_found : (bytes : List ℕ) (r : ResponseForm) → set_response_at bytes ≡ Ok r → SpellsResponse (0xC5 ∷ bytes) r
@@ -262,12 +262,12 @@ set_response_found bytes r e =
     elim (choice_found ((1, set_result_at) ∷ (2, set_block_taken_at) ∷ (3, set_last_at) ∷ []) bytes r e) [
       | inl h ↦ subst (λ (w : List ℕ). SpellsResponse (0xC5 ∷ w) r) (sym h.1) (set_result_found h.0 r h.2)
       | inr g ↦ elim g [
-          | inl h ↦ subst (λ (w : List ℕ). SpellsResponse (0xC5 ∷ w) r) (sym h.1) (set_block_taken_found h.0 r h.2)
-          | inr g ↦ elim g [
-              | inl h ↦ subst (λ (w : List ℕ). SpellsResponse (0xC5 ∷ w) r) (sym h.1) (set_last_found h.0 r h.2)
-              | inr h ↦ absurd h
-            ]
+        | inl h ↦ subst (λ (w : List ℕ). SpellsResponse (0xC5 ∷ w) r) (sym h.1) (set_block_taken_found h.0 r h.2)
+        | inr g ↦ elim g [
+          | inl h ↦ subst (λ (w : List ℕ). SpellsResponse (0xC5 ∷ w) r) (sym h.1) (set_last_found h.0 r h.2)
+          | inr h ↦ absurd h
         ]
+      ]
     ]
 
 action_response_found : (bytes : List ℕ) (r : ResponseForm) → action_response_at bytes ≡ Ok r → SpellsResponse (0xC7 ∷ bytes) r
@@ -276,9 +276,9 @@ action_response_found bytes r e =
     elim (choice_found ((1, action_result_at) ∷ (4, action_block_taken_at) ∷ []) bytes r e) [
       | inl h ↦ subst (λ (w : List ℕ). SpellsResponse (0xC7 ∷ w) r) (sym h.1) (action_result_found h.0 r h.2)
       | inr g ↦ elim g [
-          | inl h ↦ subst (λ (w : List ℕ). SpellsResponse (0xC7 ∷ w) r) (sym h.1) (action_block_taken_found h.0 r h.2)
-          | inr h ↦ absurd h
-        ]
+        | inl h ↦ subst (λ (w : List ℕ). SpellsResponse (0xC7 ∷ w) r) (sym h.1) (action_block_taken_found h.0 r h.2)
+        | inr h ↦ absurd h
+      ]
     ]
 
 -- what is read is spelled so
@@ -288,15 +288,15 @@ response_found bytes r e =
     elim (choice_found ((0xC4, get_response_at) ∷ (0xC5, set_response_at) ∷ (0xC7, action_response_at) ∷ (0xD8, exception_at) ∷ []) bytes r e) [
       | inl h ↦ subst (λ (w : List ℕ). SpellsResponse w r) (sym h.1) (get_response_found h.0 r h.2)
       | inr g ↦ elim g [
-          | inl h ↦ subst (λ (w : List ℕ). SpellsResponse w r) (sym h.1) (set_response_found h.0 r h.2)
+        | inl h ↦ subst (λ (w : List ℕ). SpellsResponse w r) (sym h.1) (set_response_found h.0 r h.2)
+        | inr g ↦ elim g [
+          | inl h ↦ subst (λ (w : List ℕ). SpellsResponse w r) (sym h.1) (action_response_found h.0 r h.2)
           | inr g ↦ elim g [
-              | inl h ↦ subst (λ (w : List ℕ). SpellsResponse w r) (sym h.1) (action_response_found h.0 r h.2)
-              | inr g ↦ elim g [
-                  | inl h ↦ subst (λ (w : List ℕ). SpellsResponse w r) (sym h.1) (exception_found h.0 r h.2)
-                  | inr h ↦ absurd h
-                ]
-            ]
+            | inl h ↦ subst (λ (w : List ℕ). SpellsResponse w r) (sym h.1) (exception_found h.0 r h.2)
+            | inr h ↦ absurd h
+          ]
         ]
+      ]
     ]
 
 -- what is spelled so is read

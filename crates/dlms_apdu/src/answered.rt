@@ -40,10 +40,7 @@ fn get_result<A: Allocator>(invoke: u8, bytes: &[u8]) -> Result<Response<'_, A>,
 
 /// The answer to a GET, behind the form's byte.
 #[tactic(auto, using(crate::proofs::Forms::told), unfolding(crate::specs::Reading::get_answer_at, crate::specs::Reading::and_then))]
-fn get_answer<A: Allocator + Copy>(
-    alloc: A,
-    bytes: &[u8],
-) -> Result<Response<'_, A>, ApduFault>
+fn get_answer<A: Allocator + Copy>(alloc: A, bytes: &[u8]) -> Result<Response<'_, A>, ApduFault>
     ensures { Answers response_of HoldsData result (get_answer_at bytes.now) }
 {
     let (invoke, rest) = byte(bytes)?;
@@ -57,7 +54,12 @@ fn get_answer<A: Allocator + Copy>(
 
 /// A block.
 #[tactic(auto, unfolding(crate::specs::Reading::get_raw_at, crate::specs::Reading::and_then))]
-fn get_raw<A: Allocator>(invoke: u8, last: bool, number: u32, bytes: &[u8]) -> Result<Response<'_, A>, Refusal>
+fn get_raw<A: Allocator>(
+    invoke: u8,
+    last: bool,
+    number: u32,
+    bytes: &[u8],
+) -> Result<Response<'_, A>, Refusal>
     ensures { Tells response_of result (get_raw_at invoke last number bytes.now) }
 {
     let (raw, rest) = raw(bytes)?;
@@ -72,7 +74,11 @@ fn get_raw<A: Allocator>(invoke: u8, last: bool, number: u32, bytes: &[u8]) -> R
 
 /// A result in place of a block.
 #[tactic(auto, unfolding(crate::specs::Reading::get_block_result_at, crate::specs::Reading::and_then))]
-fn get_block_result<A: Allocator>(invoke: u8, number: u32, bytes: &[u8]) -> Result<Response<'_, A>, Refusal>
+fn get_block_result<A: Allocator>(
+    invoke: u8,
+    number: u32,
+    bytes: &[u8],
+) -> Result<Response<'_, A>, Refusal>
     ensures { Tells response_of result (get_block_result_at invoke number bytes.now) }
 {
     let (result, rest) = byte(bytes)?;
@@ -179,10 +185,7 @@ fn exception<A: Allocator>(bytes: &[u8]) -> Result<Response<'_, A>, Refusal>
 
 /// An answer to a GET, behind the service's byte.
 #[tactic(auto, using(crate::proofs::Forms::told), unfolding(crate::specs::Reading::get_response_at))]
-fn get_response<A: Allocator + Copy>(
-    alloc: A,
-    bytes: &[u8],
-) -> Result<Response<'_, A>, ApduFault>
+fn get_response<A: Allocator + Copy>(alloc: A, bytes: &[u8]) -> Result<Response<'_, A>, ApduFault>
     ensures { Answers response_of HoldsData result (get_response_at bytes.now) }
 {
     match bytes {
@@ -222,10 +225,7 @@ fn action_response<A: Allocator>(bytes: &[u8]) -> Result<Response<'_, A>, Refusa
 
 /// A response.
 #[tactic(auto, using(crate::proofs::Forms::told), unfolding(crate::specs::Reading::response_at))]
-fn response<A: Allocator + Copy>(
-    alloc: A,
-    bytes: &[u8],
-) -> Result<Response<'_, A>, ApduFault>
+fn response<A: Allocator + Copy>(alloc: A, bytes: &[u8]) -> Result<Response<'_, A>, ApduFault>
     ensures { Answers response_of HoldsData result (response_at bytes.now) }
 {
     match bytes {

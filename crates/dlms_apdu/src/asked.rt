@@ -17,10 +17,7 @@ use std::alloc::Allocator;
 
 /// GET of an attribute, behind the form's byte.
 #[tactic(auto, using(crate::proofs::Forms::told), unfolding(crate::specs::Reading::get_normal_at, crate::specs::Reading::and_then))]
-fn get_normal<A: Allocator + Copy>(
-    alloc: A,
-    bytes: &[u8],
-) -> Result<Request<'_, A>, ApduFault>
+fn get_normal<A: Allocator + Copy>(alloc: A, bytes: &[u8]) -> Result<Request<'_, A>, ApduFault>
     ensures { Answers request_of HoldsValue result (get_normal_at bytes.now) }
 {
     let (invoke, rest) = byte(bytes)?;
@@ -46,10 +43,7 @@ fn get_next<A: Allocator>(bytes: &[u8]) -> Result<Request<'_, A>, Refusal>
 
 /// SET of an attribute, behind the form's byte.
 #[tactic(auto, using(crate::proofs::Forms::told), unfolding(crate::specs::Reading::set_normal_at, crate::specs::Reading::and_then))]
-fn set_normal<A: Allocator + Copy>(
-    alloc: A,
-    bytes: &[u8],
-) -> Result<Request<'_, A>, ApduFault>
+fn set_normal<A: Allocator + Copy>(alloc: A, bytes: &[u8]) -> Result<Request<'_, A>, ApduFault>
     ensures { Answers request_of HoldsValue result (set_normal_at bytes.now) }
 {
     let (invoke, rest) = byte(bytes)?;
@@ -66,10 +60,7 @@ fn set_normal<A: Allocator + Copy>(
 
 /// SET of an attribute, the first block, behind the form's byte.
 #[tactic(auto, using(crate::proofs::Forms::told), unfolding(crate::specs::Reading::set_first_at, crate::specs::Reading::and_then))]
-fn set_first<A: Allocator + Copy>(
-    alloc: A,
-    bytes: &[u8],
-) -> Result<Request<'_, A>, ApduFault>
+fn set_first<A: Allocator + Copy>(alloc: A, bytes: &[u8]) -> Result<Request<'_, A>, ApduFault>
     ensures { Answers request_of HoldsValue result (set_first_at bytes.now) }
 {
     let (invoke, rest) = byte(bytes)?;
@@ -106,10 +97,7 @@ fn set_block<A: Allocator>(bytes: &[u8]) -> Result<Request<'_, A>, Refusal>
 
 /// ACTION, behind the form's byte.
 #[tactic(auto, using(crate::proofs::Forms::told), unfolding(crate::specs::Reading::action_normal_at, crate::specs::Reading::and_then))]
-fn action_normal<A: Allocator + Copy>(
-    alloc: A,
-    bytes: &[u8],
-) -> Result<Request<'_, A>, ApduFault>
+fn action_normal<A: Allocator + Copy>(alloc: A, bytes: &[u8]) -> Result<Request<'_, A>, ApduFault>
     ensures { Answers request_of HoldsValue result (action_normal_at bytes.now) }
 {
     let (invoke, rest) = byte(bytes)?;

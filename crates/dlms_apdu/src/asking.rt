@@ -111,7 +111,7 @@ fn set_normal_text<A: Allocator, B: Allocator>(
     ensures in_range { OnOk result (DescriptorInRange descriptor) }
 {
     let out = with_head(alloc, 0xc1, 1, invoke, descriptor)?;
-    Ok(append(with_selector(out, selector)?, value)?)
+    append(with_selector(out, selector)?, value)
 }
 
 /// A request's spelling.
@@ -130,7 +130,7 @@ fn text<A: Allocator, B: Allocator>(
             selector,
         } => {
             let out = with_head(alloc, 0xc0, 1, *invoke, *descriptor)?;
-            Ok(with_selector(out, selector)?)
+            with_selector(out, selector)
         }
         Request::GetNext { invoke, number } => {
             let mut out = Vec::from_slice(alloc, &[0xc0, 2, *invoke])?;
@@ -152,7 +152,7 @@ fn text<A: Allocator, B: Allocator>(
             raw,
         } => {
             let out = with_head(alloc, 0xc1, 2, *invoke, *descriptor)?;
-            Ok(with_block(with_selector(out, selector)?, *last, *number, raw)?)
+            with_block(with_selector(out, selector)?, *last, *number, raw)
         }
         Request::SetBlock {
             invoke,
@@ -161,7 +161,7 @@ fn text<A: Allocator, B: Allocator>(
             raw,
         } => {
             let out = Vec::from_slice(alloc, &[0xc1, 3, *invoke])?;
-            Ok(with_block(out, *last, *number, raw)?)
+            with_block(out, *last, *number, raw)
         }
         Request::ActionNormal {
             invoke,
@@ -169,7 +169,7 @@ fn text<A: Allocator, B: Allocator>(
             parameter,
         } => {
             let out = with_head(alloc, 0xc3, 1, *invoke, *descriptor)?;
-            Ok(with_parameter(out, parameter)?)
+            with_parameter(out, parameter)
         }
         Request::ActionFirst {
             invoke,
@@ -179,7 +179,7 @@ fn text<A: Allocator, B: Allocator>(
             raw,
         } => {
             let out = with_head(alloc, 0xc3, 4, *invoke, *descriptor)?;
-            Ok(with_block(out, *last, *number, raw)?)
+            with_block(out, *last, *number, raw)
         }
         Request::ActionBlock {
             invoke,
@@ -188,7 +188,7 @@ fn text<A: Allocator, B: Allocator>(
             raw,
         } => {
             let out = Vec::from_slice(alloc, &[0xc3, 6, *invoke])?;
-            Ok(with_block(out, *last, *number, raw)?)
+            with_block(out, *last, *number, raw)
         }
     }
 }

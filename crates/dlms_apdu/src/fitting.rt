@@ -46,7 +46,9 @@ impl<A: Allocator> Request<'_, A> {
             Request::GetNormal { selector, .. } => selector_fits(selector),
             Request::GetNext { .. } => true,
             Request::SetNormal {
-                selector, value, ..
+                selector,
+                value,
+                ..
             } => selector_fits(selector) && fits(value),
             Request::SetFirst { selector, raw, .. } => selector_fits(selector) && raw_fits(raw),
             Request::SetBlock { raw, .. } => raw_fits(raw),

@@ -9,7 +9,6 @@ mod fault;
 mod fitting;
 pub mod laws;
 mod parts;
-
 mod request;
 mod response;
 
@@ -20,3 +19,6 @@ pub use asking::write_request;
 pub use fault::ApduFault;
 pub use request::Request;
 pub use response::Response;
+
+#[cfg(test)]
+mod tests;

@@ -178,10 +178,7 @@ pub fn after_parameter(bytes: &[u8]) -> Result<&[u8], Refusal>
 
 /// The parameter that stands at the front, or none.
 #[tactic(auto, unfolding(crate::specs::Reading::parameter_at, crate::specs::Reading::some_parameter_at, crate::specs::Reading::and_then))]
-pub fn parameter<A: Allocator + Copy>(
-    alloc: A,
-    bytes: &[u8],
-) -> Result<Option<Data<A>>, ApduFault>
+pub fn parameter<A: Allocator + Copy>(alloc: A, bytes: &[u8]) -> Result<Option<Data<A>>, ApduFault>
     requires { IsOk (parameter_at bytes.now) }
     ensures { Makes (option_map value_of) IsThere result (parameter_at bytes.now) }
 {

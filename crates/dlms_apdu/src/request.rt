@@ -14,7 +14,10 @@ pub enum Request<'a, A: Allocator = Global> {
         selector: Option<Selector<A>>,
     },
     /// Asks for the block behind the one with this number.
-    GetNext { invoke: u8, number: u32 },
+    GetNext {
+        invoke: u8,
+        number: u32,
+    },
     SetNormal {
         invoke: u8,
         descriptor: Descriptor,

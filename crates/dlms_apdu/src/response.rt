@@ -8,8 +8,14 @@ use std::alloc::{Allocator, Global};
 /// number of a block; `raw` are a block's bytes, which stay where they were read.
 #[derive(Debug, Drop)]
 pub enum Response<'a, A: Allocator = Global> {
-    GetData { invoke: u8, value: Data<A> },
-    GetResult { invoke: u8, result: u8 },
+    GetData {
+        invoke: u8,
+        value: Data<A>,
+    },
+    GetResult {
+        invoke: u8,
+        result: u8,
+    },
     GetBlock {
         invoke: u8,
         last: bool,
@@ -17,15 +23,38 @@ pub enum Response<'a, A: Allocator = Global> {
         raw: &'a [u8],
     },
     /// No block: the transfer ends with a result.
-    GetBlockResult { invoke: u8, number: u32, result: u8 },
-    SetResult { invoke: u8, result: u8 },
+    GetBlockResult {
+        invoke: u8,
+        number: u32,
+        result: u8,
+    },
+    SetResult {
+        invoke: u8,
+        result: u8,
+    },
     /// A block of a value to set has come, and it was not the last one.
-    SetBlock { invoke: u8, number: u32 },
+    SetBlock {
+        invoke: u8,
+        number: u32,
+    },
     /// The last block has come, or the transfer ends before it.
-    SetLast { invoke: u8, result: u8, number: u32 },
-    ActionResult { invoke: u8, result: u8 },
+    SetLast {
+        invoke: u8,
+        result: u8,
+        number: u32,
+    },
+    ActionResult {
+        invoke: u8,
+        result: u8,
+    },
     /// A block of a method's parameter has come, and it was not the last one.
-    ActionBlock { invoke: u8, number: u32 },
+    ActionBlock {
+        invoke: u8,
+        number: u32,
+    },
     /// The request was not served: the state error and the service error.
-    Exception { state: u8, service: u8 },
+    Exception {
+        state: u8,
+        service: u8,
+    },
 }
