@@ -79,7 +79,7 @@ fn block_text<A: Allocator>(
     let mut out = Vec::from_slice(alloc, &[0xc4, 2, invoke, u8::from(last)])?;
     out.extend_from_slice(&number.to_be_bytes())?;
     out.push(0)?;
-    Ok(append_counted(out, raw)?)
+    append_counted(out, raw)
 }
 
 /// A response's spelling.
@@ -92,12 +92,12 @@ fn text<A: Allocator, B: Allocator>(
     ensures in_range { OnOk result (ResponseInRange (response_of response.now)) }
 {
     if let Some(text) = short(response) {
-        return Ok(Vec::from_slice(alloc, text.as_slice())?);
+        return Vec::from_slice(alloc, text.as_slice());
     }
     match response {
         Response::GetData { invoke, value } => {
             let out = Vec::from_slice(alloc, &[0xc4, 1, *invoke, 0])?;
-            Ok(append(out, value)?)
+            append(out, value)
         }
         Response::GetBlock {
             invoke,
