@@ -118,7 +118,7 @@ counted : (bytes : List ℕ) (n : ℕ) (mid rest : List ℕ) (content : List ℕ
 counted bytes n mid rest content a b =
     (a.0 ++ b.0, a.1 ∙ ap (λ (t : List ℕ). a.0 ++ t) b.1 ∙ sym (append_assoc a.0 b.0 rest), (a.0, b.0, refl, a.2, b.2))
 
-octets_takes : (bytes : List ℕ) (x : List ℕ × List ℕ) → octets_at bytes ≡ Ok x → Takes bytes x.1 (λ text. Counted text (length x.0) (λ body. body ≡ x.0))
+pub octets_takes : (bytes : List ℕ) (x : List ℕ × List ℕ) → octets_at bytes ≡ Ok x → Takes bytes x.1 (λ text. Counted text (length x.0) (λ body. body ≡ x.0))
 unfolding octets_at
 octets_takes bytes x e =
     let n = bind_ok (length_at bytes) (λ n. taken_at n.0 n.1) x e in
@@ -126,7 +126,7 @@ octets_takes bytes x e =
     let len : Takes bytes n.0.1 (λ text. IsLength text (length x.0)) = subst (λ (k : ℕ). Takes bytes n.0.1 (λ text. IsLength text k)) (sym parts.1) (length_takes bytes n.0 n.1) in
     counted bytes (length x.0) n.0.1 x.1 (λ body. body ≡ x.0) len (x.0, parts.0, refl)
 
-octets_again : (text b rest : List ℕ) → Counted text (length b) (λ body. body ≡ b) → octets_at (text ++ rest) ≡ Ok (b, rest)
+pub octets_again : (text b rest : List ℕ) → Counted text (length b) (λ body. body ≡ b) → octets_at (text ++ rest) ≡ Ok (b, rest)
 unfolding octets_at
 octets_again text b rest h =
     let regrouped : text ++ rest ≡ h.0 ++ (b ++ rest) = ap (λ (t : List ℕ). t ++ rest) (h.2 ∙ ap (λ (t : List ℕ). h.0 ++ t) h.4) ∙ append_assoc h.0 b rest in

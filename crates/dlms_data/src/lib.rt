@@ -25,9 +25,10 @@ pub use date_time::{LAST_SECOND, octets, secs};
 pub use descriptor::{Descriptor, Selector};
 pub use fault::DataFault;
 pub use fitting::fits;
+pub use parts::counted;
 pub use reading::read;
 pub use scanning::{is_value, span};
-pub use writing::{append, write};
+pub use writing::{append, append_counted, write};
 
 #[cfg(test)]
 mod tests;

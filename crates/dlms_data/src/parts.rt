@@ -99,7 +99,8 @@ pub fn length_of(bytes: &[u8]) -> Result<(u32, &[u8]), DataFault>
     }
 }
 
-/// A length and so many octets: where they stand.
+/// A length, in any of its spellings, and so many octets: where they stand, and what follows them. No memory is
+/// taken.
 #[tactic(auto, unfolding(crate::specs::Reading::octets_at))]
 pub fn counted(bytes: &[u8]) -> Result<(&[u8], &[u8]), DataFault>
     ensures exact { Gives (λ x. (x.0.now, x.1.now)) result (octets_at bytes.now) }

@@ -1,0 +1,314 @@
+-- Responses: what is read is spelled so, and what is spelled so is read.
+use Rattle.std.proofs.Common.{◌≡◌, ℕ, Bool, true, false, cond, if◌then◌else◌, List, [], ◌∷◌, ◌++◌, Result, Ok, refl, sym, ap, subst, ◌∙◌, inl, inr}
+use Rattle.dlms_data.specs.Value.{Value}
+use Rattle.dlms_apdu.specs.declared.fault.Refusal.{Refusal}
+use Rattle.dlms_apdu.specs.Forms.{ResponseForm, get_data, get_result, get_block, get_block_result, set_result, set_block_taken, set_last, action_result, action_block_taken, exception}
+use Rattle.dlms_apdu.specs.Reading.{byte_at, number_at, flag_at, value_at, raw_at, ended, choice_at, get_data_at, get_result_at, get_answer_at, get_raw_at, get_block_result_at, get_block_answer_at, set_result_at, set_block_taken_at, set_last_at, action_result_at, action_block_taken_at, exception_at, get_response_at, set_response_at, action_response_at, response_at}
+use Rattle.dlms_apdu.specs.Spelling.{◌▷◌, IsByte, IsNumber, IsFlag, IsValue, IsRaw, SpellsResponse}
+use Rattle.dlms_apdu.proofs.Takes.{step, goes_on, ends_with, ended_ok, ended_again, alone, headed, behind_head, Chose, choice_found, byte_takes, byte_again, number_takes, number_again, flag_takes, flag_again, value_takes, value_again, raw_takes, raw_again}
+
+-- ---- behind what has chosen the form
+
+get_data_found : (i : ℕ) (bytes : List ℕ) (r : ResponseForm) → get_data_at i bytes ≡ Ok r → (v : Value) × (get_data i v ≡ r) × IsValue v bytes
+unfolding get_data_at
+get_data_found i bytes r e =
+    let v = step _ _ r e in
+    let tv = value_takes bytes v.value v.is in
+    let z = ended_ok _ r _ v.further in
+    (v.value.0, z.1, alone IsValue bytes v.value tv z.0)
+
+get_result_found : (i : ℕ) (bytes : List ℕ) (r : ResponseForm) → get_result_at i bytes ≡ Ok r → (q : ℕ) × (get_result i q ≡ r) × IsByte q bytes
+unfolding get_result_at
+get_result_found i bytes r e =
+    let q = step _ _ r e in
+    let tq = byte_takes bytes q.value q.is in
+    let z = ended_ok _ r _ q.further in
+    (q.value.0, z.1, alone IsByte bytes q.value tq z.0)
+
+get_raw_found : (i : ℕ) (last : Bool) (n : ℕ) (bytes : List ℕ) (r : ResponseForm) → get_raw_at i last n bytes ≡ Ok r → (raw : List ℕ) × (get_block i last n raw ≡ r) × IsRaw raw bytes
+unfolding get_raw_at
+get_raw_found i last n bytes r e =
+    let b = step _ _ r e in
+    let tb = raw_takes bytes b.value b.is in
+    let z = ended_ok _ r _ b.further in
+    (b.value.0, z.1, alone IsRaw bytes b.value tb z.0)
+
+get_block_result_found : (i n : ℕ) (bytes : List ℕ) (r : ResponseForm) → get_block_result_at i n bytes ≡ Ok r → (q : ℕ) × (get_block_result i n q ≡ r) × IsByte q bytes
+unfolding get_block_result_at
+get_block_result_found i n bytes r e =
+    let q = step _ _ r e in
+    let tq = byte_takes bytes q.value q.is in
+    let z = ended_ok _ r _ q.further in
+    (q.value.0, z.1, alone IsByte bytes q.value tq z.0)
+
+-- a choice that there is only where a test holds
+chose_if : {Y : Type 0} (b : Bool) (row : ℕ × (List ℕ → Result Y Refusal)) (bytes : List ℕ) (y : Y) → Chose (cond b (row ∷ []) []) bytes y
+    → (b ≡ true) × ((rest : List ℕ) × (bytes ≡ row.0 ∷ rest) × (row.1 rest ≡ Ok y))
+chose_if true row bytes y h = elim h [ inl g ↦ (refl, g) | inr g ↦ absurd g ]
+chose_if false row bytes y h = absurd h
+
+-- ---- GET
+
+get_answer_found : (bytes : List ℕ) (r : ResponseForm) → get_answer_at bytes ≡ Ok r → SpellsResponse (0xC4 ∷ 1 ∷ bytes) r
+unfolding get_answer_at
+get_answer_found bytes r e =
+    let i = step _ _ r e in
+    let ti = byte_takes bytes i.value i.is in
+    elim (choice_found ((0, get_data_at i.value.0) ∷ (1, get_result_at i.value.0) ∷ []) i.value.1 r i.further) [
+      | inl h ↦
+          let k = get_data_found i.value.0 h.0 r h.2 in
+          subst (λ (y : ResponseForm). SpellsResponse (0xC4 ∷ 1 ∷ bytes) y) k.1
+          (0xC4 ∷ [], 1 ∷ bytes, refl, refl, (1 ∷ [], bytes, refl, refl, (ti.0, i.value.1, ti.1, ti.2, (0 ∷ [], h.0, h.1, refl, k.2))))
+      | inr g ↦ elim g [
+        | inl h ↦
+            let k = get_result_found i.value.0 h.0 r h.2 in
+            subst (λ (y : ResponseForm). SpellsResponse (0xC4 ∷ 1 ∷ bytes) y) k.1
+            (0xC4 ∷ [], 1 ∷ bytes, refl, refl, (1 ∷ [], bytes, refl, refl, (ti.0, i.value.1, ti.1, ti.2, (1 ∷ [], h.0, h.1, refl, k.2))))
+        | inr h ↦ absurd h
+      ]
+    ]
+
+get_data_again : (i : ℕ) (v : Value) (bytes : List ℕ) → (IsByte i ▷ IsByte 0 ▷ IsValue v) bytes → get_answer_at bytes ≡ Ok (get_data i v)
+unfolding get_answer_at get_data_at
+get_data_again i v bytes h =
+    goes_on byte_at _ bytes h.0 h.1 i h.2 (byte_again i h.0 h.1 h.3)
+    ∙ ap (choice_at ((0, get_data_at i) ∷ (1, get_result_at i) ∷ [])) (behind_head 0 h.1 h.4.0 h.4.1 h.4.2 h.4.3)
+    ∙ ends_with value_at _ h.4.1 v (value_again v h.4.1 [] h.4.4)
+    ∙ ended_again (get_data i v)
+
+get_result_again : (i q : ℕ) (bytes : List ℕ) → (IsByte i ▷ IsByte 1 ▷ IsByte q) bytes → get_answer_at bytes ≡ Ok (get_result i q)
+unfolding get_answer_at get_result_at
+get_result_again i q bytes h =
+    goes_on byte_at _ bytes h.0 h.1 i h.2 (byte_again i h.0 h.1 h.3)
+    ∙ ap (choice_at ((0, get_data_at i) ∷ (1, get_result_at i) ∷ [])) (behind_head 1 h.1 h.4.0 h.4.1 h.4.2 h.4.3)
+    ∙ ends_with byte_at _ h.4.1 q (byte_again q h.4.1 [] h.4.4)
+    ∙ ended_again (get_result i q)
+
+abbrev block_rows : ℕ → Bool → ℕ → List (ℕ × (List ℕ → Result ResponseForm Refusal))
+block_rows i last n = (0, get_raw_at i last n) ∷ (if last then (1, get_block_result_at i n) ∷ [] else [])
+
+get_block_answer_found : (bytes : List ℕ) (r : ResponseForm) → get_block_answer_at bytes ≡ Ok r → SpellsResponse (0xC4 ∷ 2 ∷ bytes) r
+unfolding get_block_answer_at
+get_block_answer_found bytes r e =
+    let i = step _ _ r e in
+    let ti = byte_takes bytes i.value i.is in
+    let f = step _ _ r i.further in
+    let tf = flag_takes i.value.1 f.value f.is in
+    let n = step _ _ r f.further in
+    let tn = number_takes 4 f.value.1 n.value n.is in
+    elim (choice_found (block_rows i.value.0 f.value.0 n.value.0) n.value.1 r n.further) [
+      | inl h ↦
+          let k = get_raw_found i.value.0 f.value.0 n.value.0 h.0 r h.2 in
+          subst (λ (y : ResponseForm). SpellsResponse (0xC4 ∷ 2 ∷ bytes) y) k.1
+          (0xC4 ∷ [], 2 ∷ bytes, refl, refl, (2 ∷ [], bytes, refl, refl, (ti.0, i.value.1, ti.1, ti.2, (tf.0, f.value.1, tf.1, tf.2, (tn.0, n.value.1, tn.1, tn.2, (0 ∷ [], h.0, h.1, refl, k.2))))))
+      | inr g ↦
+          let h = chose_if f.value.0 (1, get_block_result_at i.value.0 n.value.0) n.value.1 r g in
+          let k = get_block_result_found i.value.0 n.value.0 h.1.0 r h.1.2 in
+          let flag : IsFlag true tf.0 = subst (λ (b : Bool). IsFlag b tf.0) h.0 tf.2 in
+          subst (λ (y : ResponseForm). SpellsResponse (0xC4 ∷ 2 ∷ bytes) y) k.1
+          (0xC4 ∷ [], 2 ∷ bytes, refl, refl, (2 ∷ [], bytes, refl, refl, (ti.0, i.value.1, ti.1, ti.2, (tf.0, f.value.1, tf.1, flag, (tn.0, n.value.1, tn.1, tn.2, (1 ∷ [], h.1.0, h.1.1, refl, k.2))))))
+    ]
+
+get_block_again : (i : ℕ) (last : Bool) (n : ℕ) (raw bytes : List ℕ) → (IsByte i ▷ IsFlag last ▷ IsNumber 4 n ▷ IsByte 0 ▷ IsRaw raw) bytes → get_block_answer_at bytes ≡ Ok (get_block i last n raw)
+unfolding get_block_answer_at get_raw_at
+get_block_again i last n raw bytes h =
+    goes_on byte_at _ bytes h.0 h.1 i h.2 (byte_again i h.0 h.1 h.3)
+    ∙ goes_on flag_at _ h.1 h.4.0 h.4.1 last h.4.2 (flag_again last h.4.0 h.4.1 h.4.3)
+    ∙ goes_on (number_at 4) _ h.4.1 h.4.4.0 h.4.4.1 n h.4.4.2 (number_again 4 n h.4.4.0 h.4.4.1 h.4.4.3)
+    ∙ ap (choice_at (block_rows i last n)) (behind_head 0 h.4.4.1 h.4.4.4.0 h.4.4.4.1 h.4.4.4.2 h.4.4.4.3)
+    ∙ ends_with raw_at _ h.4.4.4.1 raw (raw_again raw h.4.4.4.1 [] h.4.4.4.4)
+    ∙ ended_again (get_block i last n raw)
+
+get_block_result_again : (i n q : ℕ) (bytes : List ℕ) → (IsByte i ▷ IsFlag true ▷ IsNumber 4 n ▷ IsByte 1 ▷ IsByte q) bytes → get_block_answer_at bytes ≡ Ok (get_block_result i n q)
+unfolding get_block_answer_at get_block_result_at
+get_block_result_again i n q bytes h =
+    goes_on byte_at _ bytes h.0 h.1 i h.2 (byte_again i h.0 h.1 h.3)
+    ∙ goes_on flag_at _ h.1 h.4.0 h.4.1 true h.4.2 (flag_again true h.4.0 h.4.1 h.4.3)
+    ∙ goes_on (number_at 4) _ h.4.1 h.4.4.0 h.4.4.1 n h.4.4.2 (number_again 4 n h.4.4.0 h.4.4.1 h.4.4.3)
+    ∙ ap (choice_at (block_rows i true n)) (behind_head 1 h.4.4.1 h.4.4.4.0 h.4.4.4.1 h.4.4.4.2 h.4.4.4.3)
+    ∙ ends_with byte_at _ h.4.4.4.1 q (byte_again q h.4.4.4.1 [] h.4.4.4.4)
+    ∙ ended_again (get_block_result i n q)
+
+-- ---- SET and ACTION
+
+set_result_found : (bytes : List ℕ) (r : ResponseForm) → set_result_at bytes ≡ Ok r → SpellsResponse (0xC5 ∷ 1 ∷ bytes) r
+unfolding set_result_at
+set_result_found bytes r e =
+    let i = step _ _ r e in
+    let ti = byte_takes bytes i.value i.is in
+    let q = step _ _ r i.further in
+    let tq = byte_takes i.value.1 q.value q.is in
+    let z = ended_ok _ r _ q.further in
+    subst (λ (y : ResponseForm). SpellsResponse (0xC5 ∷ 1 ∷ bytes) y) z.1 (0xC5 ∷ [], 1 ∷ bytes, refl, refl, (1 ∷ [], bytes, refl, refl, (ti.0, i.value.1, ti.1, ti.2, alone IsByte i.value.1 q.value tq z.0)))
+
+set_result_again : (i : ℕ) (q : ℕ) (bytes : List ℕ) → (IsByte i ▷ IsByte q) bytes → set_result_at bytes ≡ Ok (set_result i q)
+unfolding set_result_at
+set_result_again i q bytes h =
+    goes_on byte_at _ bytes h.0 h.1 i h.2 (byte_again i h.0 h.1 h.3)
+    ∙ ends_with byte_at _ h.1 q (byte_again q h.1 [] h.4)
+    ∙ ended_again (set_result i q)
+
+set_block_taken_found : (bytes : List ℕ) (r : ResponseForm) → set_block_taken_at bytes ≡ Ok r → SpellsResponse (0xC5 ∷ 2 ∷ bytes) r
+unfolding set_block_taken_at
+set_block_taken_found bytes r e =
+    let i = step _ _ r e in
+    let ti = byte_takes bytes i.value i.is in
+    let n = step _ _ r i.further in
+    let tn = number_takes 4 i.value.1 n.value n.is in
+    let z = ended_ok _ r _ n.further in
+    subst (λ (y : ResponseForm). SpellsResponse (0xC5 ∷ 2 ∷ bytes) y) z.1 (0xC5 ∷ [], 2 ∷ bytes, refl, refl, (2 ∷ [], bytes, refl, refl, (ti.0, i.value.1, ti.1, ti.2, alone (IsNumber 4) i.value.1 n.value tn z.0)))
+
+set_block_taken_again : (i : ℕ) (n : ℕ) (bytes : List ℕ) → (IsByte i ▷ IsNumber 4 n) bytes → set_block_taken_at bytes ≡ Ok (set_block_taken i n)
+unfolding set_block_taken_at
+set_block_taken_again i n bytes h =
+    goes_on byte_at _ bytes h.0 h.1 i h.2 (byte_again i h.0 h.1 h.3)
+    ∙ ends_with (number_at 4) _ h.1 n (number_again 4 n h.1 [] h.4)
+    ∙ ended_again (set_block_taken i n)
+
+set_last_found : (bytes : List ℕ) (r : ResponseForm) → set_last_at bytes ≡ Ok r → SpellsResponse (0xC5 ∷ 3 ∷ bytes) r
+unfolding set_last_at
+set_last_found bytes r e =
+    let i = step _ _ r e in
+    let ti = byte_takes bytes i.value i.is in
+    let q = step _ _ r i.further in
+    let tq = byte_takes i.value.1 q.value q.is in
+    let n = step _ _ r q.further in
+    let tn = number_takes 4 q.value.1 n.value n.is in
+    let z = ended_ok _ r _ n.further in
+    subst (λ (y : ResponseForm). SpellsResponse (0xC5 ∷ 3 ∷ bytes) y) z.1 (0xC5 ∷ [], 3 ∷ bytes, refl, refl, (3 ∷ [], bytes, refl, refl, (ti.0, i.value.1, ti.1, ti.2, (tq.0, q.value.1, tq.1, tq.2, alone (IsNumber 4) q.value.1 n.value tn z.0))))
+
+set_last_again : (i : ℕ) (q : ℕ) (n : ℕ) (bytes : List ℕ) → (IsByte i ▷ IsByte q ▷ IsNumber 4 n) bytes → set_last_at bytes ≡ Ok (set_last i q n)
+unfolding set_last_at
+set_last_again i q n bytes h =
+    goes_on byte_at _ bytes h.0 h.1 i h.2 (byte_again i h.0 h.1 h.3)
+    ∙ goes_on byte_at _ h.1 h.4.0 h.4.1 q h.4.2 (byte_again q h.4.0 h.4.1 h.4.3)
+    ∙ ends_with (number_at 4) _ h.4.1 n (number_again 4 n h.4.1 [] h.4.4)
+    ∙ ended_again (set_last i q n)
+
+action_block_taken_found : (bytes : List ℕ) (r : ResponseForm) → action_block_taken_at bytes ≡ Ok r → SpellsResponse (0xC7 ∷ 4 ∷ bytes) r
+unfolding action_block_taken_at
+action_block_taken_found bytes r e =
+    let i = step _ _ r e in
+    let ti = byte_takes bytes i.value i.is in
+    let n = step _ _ r i.further in
+    let tn = number_takes 4 i.value.1 n.value n.is in
+    let z = ended_ok _ r _ n.further in
+    subst (λ (y : ResponseForm). SpellsResponse (0xC7 ∷ 4 ∷ bytes) y) z.1 (0xC7 ∷ [], 4 ∷ bytes, refl, refl, (4 ∷ [], bytes, refl, refl, (ti.0, i.value.1, ti.1, ti.2, alone (IsNumber 4) i.value.1 n.value tn z.0)))
+
+action_block_taken_again : (i : ℕ) (n : ℕ) (bytes : List ℕ) → (IsByte i ▷ IsNumber 4 n) bytes → action_block_taken_at bytes ≡ Ok (action_block_taken i n)
+unfolding action_block_taken_at
+action_block_taken_again i n bytes h =
+    goes_on byte_at _ bytes h.0 h.1 i h.2 (byte_again i h.0 h.1 h.3)
+    ∙ ends_with (number_at 4) _ h.1 n (number_again 4 n h.1 [] h.4)
+    ∙ ended_again (action_block_taken i n)
+
+action_result_found : (bytes : List ℕ) (r : ResponseForm) → action_result_at bytes ≡ Ok r → SpellsResponse (0xC7 ∷ 1 ∷ bytes) r
+unfolding action_result_at
+action_result_found bytes r e =
+    let i = step _ _ r e in
+    let ti = byte_takes bytes i.value i.is in
+    let q = step _ _ r i.further in
+    let tq = byte_takes i.value.1 q.value q.is in
+    elim (choice_found ((0, ended (action_result i.value.0 q.value.0)) ∷ []) q.value.1 r q.further) [
+      | inl h ↦
+          let z = ended_ok (action_result i.value.0 q.value.0) r h.0 h.2 in
+          let nothing : q.value.1 ≡ 0 ∷ [] = h.1 ∙ ap (λ (w : List ℕ). 0 ∷ w) z.0 in
+          subst (λ (y : ResponseForm). SpellsResponse (0xC7 ∷ 1 ∷ bytes) y) z.1
+          (0xC7 ∷ [], 1 ∷ bytes, refl, refl, (1 ∷ [], bytes, refl, refl, (ti.0, i.value.1, ti.1, ti.2, (tq.0, q.value.1, tq.1, tq.2, nothing))))
+      | inr h ↦ absurd h
+    ]
+
+action_result_again : (i q : ℕ) (bytes : List ℕ) → (IsByte i ▷ IsByte q ▷ IsByte 0) bytes → action_result_at bytes ≡ Ok (action_result i q)
+unfolding action_result_at
+action_result_again i q bytes h =
+    goes_on byte_at _ bytes h.0 h.1 i h.2 (byte_again i h.0 h.1 h.3)
+    ∙ goes_on byte_at _ h.1 h.4.0 h.4.1 q h.4.2 (byte_again q h.4.0 h.4.1 h.4.3)
+    ∙ ap (choice_at ((0, ended (action_result i q)) ∷ [])) h.4.4
+    ∙ ended_again (action_result i q)
+
+exception_found : (bytes : List ℕ) (r : ResponseForm) → exception_at bytes ≡ Ok r → SpellsResponse (0xD8 ∷ bytes) r
+unfolding exception_at
+exception_found bytes r e =
+    let i = step _ _ r e in
+    let ti = byte_takes bytes i.value i.is in
+    let q = step _ _ r i.further in
+    let tq = byte_takes i.value.1 q.value q.is in
+    let z = ended_ok _ r _ q.further in
+    subst (λ (y : ResponseForm). SpellsResponse (0xD8 ∷ bytes) y) z.1 (0xD8 ∷ [], bytes, refl, refl, (ti.0, i.value.1, ti.1, ti.2, alone IsByte i.value.1 q.value tq z.0))
+
+exception_again : (i q : ℕ) (bytes : List ℕ) → (IsByte i ▷ IsByte q) bytes → exception_at bytes ≡ Ok (exception i q)
+unfolding exception_at
+exception_again i q bytes h =
+    goes_on byte_at _ bytes h.0 h.1 i h.2 (byte_again i h.0 h.1 h.3)
+    ∙ ends_with byte_at _ h.1 q (byte_again q h.1 [] h.4)
+    ∙ ended_again (exception i q)
+
+-- ---- all of them
+
+get_response_found : (bytes : List ℕ) (r : ResponseForm) → get_response_at bytes ≡ Ok r → SpellsResponse (0xC4 ∷ bytes) r
+unfolding get_response_at
+get_response_found bytes r e =
+    elim (choice_found ((1, get_answer_at) ∷ (2, get_block_answer_at) ∷ []) bytes r e) [
+      | inl h ↦ subst (λ (w : List ℕ). SpellsResponse (0xC4 ∷ w) r) (sym h.1) (get_answer_found h.0 r h.2)
+      | inr g ↦ elim g [
+        | inl h ↦ subst (λ (w : List ℕ). SpellsResponse (0xC4 ∷ w) r) (sym h.1) (get_block_answer_found h.0 r h.2)
+        | inr h ↦ absurd h
+      ]
+    ]
+
+set_response_found : (bytes : List ℕ) (r : ResponseForm) → set_response_at bytes ≡ Ok r → SpellsResponse (0xC5 ∷ bytes) r
+unfolding set_response_at
+set_response_found bytes r e =
+    elim (choice_found ((1, set_result_at) ∷ (2, set_block_taken_at) ∷ (3, set_last_at) ∷ []) bytes r e) [
+      | inl h ↦ subst (λ (w : List ℕ). SpellsResponse (0xC5 ∷ w) r) (sym h.1) (set_result_found h.0 r h.2)
+      | inr g ↦ elim g [
+        | inl h ↦ subst (λ (w : List ℕ). SpellsResponse (0xC5 ∷ w) r) (sym h.1) (set_block_taken_found h.0 r h.2)
+        | inr g ↦ elim g [
+          | inl h ↦ subst (λ (w : List ℕ). SpellsResponse (0xC5 ∷ w) r) (sym h.1) (set_last_found h.0 r h.2)
+          | inr h ↦ absurd h
+        ]
+      ]
+    ]
+
+action_response_found : (bytes : List ℕ) (r : ResponseForm) → action_response_at bytes ≡ Ok r → SpellsResponse (0xC7 ∷ bytes) r
+unfolding action_response_at
+action_response_found bytes r e =
+    elim (choice_found ((1, action_result_at) ∷ (4, action_block_taken_at) ∷ []) bytes r e) [
+      | inl h ↦ subst (λ (w : List ℕ). SpellsResponse (0xC7 ∷ w) r) (sym h.1) (action_result_found h.0 r h.2)
+      | inr g ↦ elim g [
+        | inl h ↦ subst (λ (w : List ℕ). SpellsResponse (0xC7 ∷ w) r) (sym h.1) (action_block_taken_found h.0 r h.2)
+        | inr h ↦ absurd h
+      ]
+    ]
+
+-- what is read is spelled so
+pub response_found : (bytes : List ℕ) (r : ResponseForm) → response_at bytes ≡ Ok r → SpellsResponse bytes r
+unfolding response_at
+response_found bytes r e =
+    elim (choice_found ((0xC4, get_response_at) ∷ (0xC5, set_response_at) ∷ (0xC7, action_response_at) ∷ (0xD8, exception_at) ∷ []) bytes r e) [
+      | inl h ↦ subst (λ (w : List ℕ). SpellsResponse w r) (sym h.1) (get_response_found h.0 r h.2)
+      | inr g ↦ elim g [
+        | inl h ↦ subst (λ (w : List ℕ). SpellsResponse w r) (sym h.1) (set_response_found h.0 r h.2)
+        | inr g ↦ elim g [
+          | inl h ↦ subst (λ (w : List ℕ). SpellsResponse w r) (sym h.1) (action_response_found h.0 r h.2)
+          | inr g ↦ elim g [
+            | inl h ↦ subst (λ (w : List ℕ). SpellsResponse w r) (sym h.1) (exception_found h.0 r h.2)
+            | inr h ↦ absurd h
+          ]
+        ]
+      ]
+    ]
+
+-- what is spelled so is read
+pub response_again : (bytes : List ℕ) (r : ResponseForm) → SpellsResponse bytes r → response_at bytes ≡ Ok r
+unfolding response_at get_response_at set_response_at action_response_at
+response_again bytes (get_data invoke v) h = ap response_at (headed 0xC4 1 bytes h.0 h.1 h.4.0 h.4.1 h.2 h.3 h.4.2 h.4.3) ∙ get_data_again invoke v h.4.1 h.4.4
+response_again bytes (get_result invoke q) h = ap response_at (headed 0xC4 1 bytes h.0 h.1 h.4.0 h.4.1 h.2 h.3 h.4.2 h.4.3) ∙ get_result_again invoke q h.4.1 h.4.4
+response_again bytes (get_block invoke last n raw) h = ap response_at (headed 0xC4 2 bytes h.0 h.1 h.4.0 h.4.1 h.2 h.3 h.4.2 h.4.3) ∙ get_block_again invoke last n raw h.4.1 h.4.4
+response_again bytes (get_block_result invoke n q) h = ap response_at (headed 0xC4 2 bytes h.0 h.1 h.4.0 h.4.1 h.2 h.3 h.4.2 h.4.3) ∙ get_block_result_again invoke n q h.4.1 h.4.4
+response_again bytes (set_result invoke q) h = ap response_at (headed 0xC5 1 bytes h.0 h.1 h.4.0 h.4.1 h.2 h.3 h.4.2 h.4.3) ∙ set_result_again invoke q h.4.1 h.4.4
+response_again bytes (set_block_taken invoke n) h = ap response_at (headed 0xC5 2 bytes h.0 h.1 h.4.0 h.4.1 h.2 h.3 h.4.2 h.4.3) ∙ set_block_taken_again invoke n h.4.1 h.4.4
+response_again bytes (set_last invoke q n) h = ap response_at (headed 0xC5 3 bytes h.0 h.1 h.4.0 h.4.1 h.2 h.3 h.4.2 h.4.3) ∙ set_last_again invoke q n h.4.1 h.4.4
+response_again bytes (action_result invoke q) h = ap response_at (headed 0xC7 1 bytes h.0 h.1 h.4.0 h.4.1 h.2 h.3 h.4.2 h.4.3) ∙ action_result_again invoke q h.4.1 h.4.4
+response_again bytes (action_block_taken invoke n) h = ap response_at (headed 0xC7 4 bytes h.0 h.1 h.4.0 h.4.1 h.2 h.3 h.4.2 h.4.3) ∙ action_block_taken_again invoke n h.4.1 h.4.4
+response_again bytes (exception state service) h = ap response_at (behind_head 0xD8 bytes h.0 h.1 h.2 h.3) ∙ exception_again state service h.1 h.4
