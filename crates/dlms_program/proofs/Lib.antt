@@ -4,3 +4,4 @@ pub mod ReplayLemmas
 pub mod RunLemmas
 pub mod StepLemmas
 pub mod OutcomeLemmas
+pub mod ServiceLemmas

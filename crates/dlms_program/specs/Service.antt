@@ -1,7 +1,10 @@
 -- The one service of the meter: GET of a register.
 use Rattle.std.specs.Prelude.{ℕ, ◌==◌, ◌&&◌, ◌+◌, ◌-◌, ◌*◌, nat_le, List, [], ◌∷◌, ◌++◌, Option, Some, None, Result, Ok, Err, if◌then◌else◌}
 use Rattle.dlms_data.specs.Value.{double_long_unsigned}
-use Rattle.dlms_data.specs.Writing.{canonical}
+use Rattle.dlms_apdu.specs.Forms.{RequestForm, ResponseForm, get_normal, get_data, get_result, exception}
+use Rattle.dlms_apdu.specs.Reading.{request_at}
+use Rattle.dlms_apdu.specs.declared.fault.Refusal.{Refusal}
+use Rattle.dlms_apdu.specs.Writing.{response_bytes}
 use Rattle.dlms_data.specs.declared.descriptor.Descriptor.{Descriptor}
 use Rattle.dlms_state.specs.declared.event.Event.{Event}
 use Rattle.dlms_state.specs.Events.{register_after}
@@ -9,14 +12,13 @@ use Rattle.dlms_program.specs.declared.service.GetRequest.{GetRequest}
 use Rattle.dlms_program.specs.declared.service.AccessFault.{AccessFault}
 use Rattle.dlms_program.specs.declared.service.AccessFault.TheVariants.{TemporaryFailure, ObjectUndefined, ClassInconsistent}
 
--- The request that an APDU is: GET normal (IEC 62056-5-3, get-request-normal) without a selection. C0 01, the invoke
--- byte, class, name and attribute, and 00.
-abbrev pub request_of : List ℕ → Option GetRequest
-request_of (service ∷ kind ∷ invoke ∷ high ∷ low ∷ a ∷ b ∷ c ∷ d ∷ e ∷ f ∷ id ∷ selection ∷ []) =
-    if (service == 192) && (kind == 1) && (selection == 0)
-    then Some (record { invoke = invoke; descriptor = record { class = high * 256 + low; name = a ∷ b ∷ c ∷ d ∷ e ∷ f ∷ []; id = id } })
-    else None
-request_of _ = None
+-- The request that an APDU is: GET normal (IEC 62056-5-3, get-request-normal) without a selection.
+abbrev pub as_get : Result RequestForm Refusal → Option GetRequest
+as_get (Ok (get_normal invoke descriptor None)) = Some (record { invoke = invoke; descriptor = descriptor })
+as_get _ = None
+
+abbrev pub get_in : List ℕ → Option GetRequest
+get_in apdu = as_get (request_at apdu)
 
 -- The channel of the register with this logical name, group by group (IEC 62056-6-1): electricity, no channel, the
 -- quantity (1 active energy imported, 2 active energy exported, 3 reactive energy imported), its time integral since
@@ -53,24 +55,27 @@ result_of TemporaryFailure = 2
 result_of ObjectUndefined = 4
 result_of ClassInconsistent = 9
 
--- get-response-normal: C4 01, the invoke byte, and 00 with the data or 01 with the result
-abbrev pub response_of : ℕ → Result ℕ AccessFault → List ℕ
-response_of invoke (Ok value) = (196 ∷ 1 ∷ invoke ∷ 0 ∷ []) ++ canonical (double_long_unsigned value)
-response_of invoke (Err fault) = 196 ∷ 1 ∷ invoke ∷ 1 ∷ result_of fault ∷ []
+-- get-response-normal, with the data or the result
+abbrev pub answer_form : ℕ → Result ℕ AccessFault → ResponseForm
+answer_form invoke (Ok value) = get_data invoke (double_long_unsigned value)
+answer_form invoke (Err fault) = get_result invoke (result_of fault)
+
+abbrev pub answer_bytes : ℕ → Result ℕ AccessFault → List ℕ
+answer_bytes invoke outcome = response_bytes (answer_form invoke outcome)
 
 -- exception-response: the service is unknown and not supported
 abbrev pub unknown_service : List ℕ
-unknown_service = 216 ∷ 2 ∷ 2 ∷ []
+unknown_service = response_bytes (exception 2 2)
 
 -- exception-response: not allowed, for another reason
 abbrev pub too_long : List ℕ
-too_long = 216 ∷ 1 ∷ 3 ∷ []
+too_long = response_bytes (exception 1 3)
 
 -- the answer to a request, if the APDU is one
 abbrev pub answer_to : Option GetRequest → Choice → List Event → List ℕ
 answer_to None choice E = unknown_service
-answer_to (Some request) choice E = response_of request.invoke (chosen choice (outcome_after E request.descriptor))
+answer_to (Some request) choice E = answer_bytes request.invoke (chosen choice (outcome_after E request.descriptor))
 
 -- the answer to an APDU after these events
 abbrev pub answer_after : List Event → Choice → List ℕ → List ℕ
-answer_after E choice apdu = answer_to (request_of apdu) choice E
+answer_after E choice apdu = answer_to (get_in apdu) choice E

@@ -1,14 +1,15 @@
 //! The one service of the meter: GET of a register.
 ghost use Rattle.std.specs.Prelude.{◌≡◌, ◌⊎◌, ◌<◌, ◌≤◌, List, ℕ, ◌++◌, length, Ok, Err, IfSome, MatchResult};
-ghost use Rattle.dlms_data.specs.Value.{double_long_unsigned};
-ghost use Rattle.dlms_data.specs.Writing.{canonical};
+ghost use Rattle.dlms_apdu.specs.View.{request_of, response_of};
+ghost use Rattle.dlms_apdu.specs.Writing.{IsShort, response_bytes};
 ghost use Rattle.dlms_state.specs.declared.event.Event.{Event};
 ghost use Rattle.dlms_state.specs.Events.{register_after};
 ghost use Rattle.dlms_state.specs.StateValue.{IsStateOf};
-ghost use Rattle.dlms_program.specs.Service.{Choice, request_of, channel_of, outcome_after, result_of, response_of, chosen, answer_after, unknown_service, too_long};
+ghost use Rattle.dlms_program.specs.Service.{Choice, as_get, get_in, channel_of, outcome_after, result_of, answer_bytes, chosen, answer_after, unknown_service, too_long};
 
 use arrayvec::ArrayVec;
-use dlms_data::{Data, Descriptor, write};
+use dlms_apdu::{Request, Response, read_request, write_response, write_short};
+use dlms_data::{Data, Descriptor};
 use dlms_state::State;
 use std::alloc::{AllocError, Allocator};
 
@@ -52,34 +53,69 @@ fn bytes_of(bytes: &[u8]) -> Answer
     answer
 }
 
+/// An answer that holds neither a value nor a block's bytes.
+fn short(response: &Response<'_>) -> Answer
+    requires { IsShort (response_of response.now) }
+    ensures { result.items ≡ response_bytes (response_of response.now) }
+{
+    bytes_of(write_short(response).as_slice())
+}
+
 /// The answer to what is not read, or of no known kind: the service is unknown.
 pub fn unknown_service() -> Answer
     ensures { result.items ≡ unknown_service }
 {
-    bytes_of(&[0xd8, 0x02, 0x02])
+    short(&Response::Exception {
+        state: 2,
+        service: 2,
+    })
 }
 
 /// The answer to more bytes than fit: the service is refused for another reason.
 pub fn too_long() -> Answer
     ensures { result.items ≡ too_long }
 {
-    bytes_of(&[0xd8, 0x01, 0x03])
+    short(&Response::Exception {
+        state: 1,
+        service: 3,
+    })
 }
 
-/// The request that these bytes are.
-fn read_get(apdu: &[u8]) -> Option<GetRequest>
-    ensures { result ≡ request_of apdu.now }
+/// The GET without a selection that a request is.
+fn get_of<A: Allocator + Copy>(request: &Request<'_, A>) -> Option<GetRequest>
+    ensures { result ≡ as_get (Ok (request_of request.now)) }
 {
-    match apdu {
-        [0xc0, 0x01, invoke, high, low, a, b, c, d, e, f, id, 0x00] => Some(GetRequest {
+    match request {
+        Request::GetNormal {
+            invoke,
+            descriptor,
+            selector: None,
+        } => Some(GetRequest {
             invoke: *invoke,
-            descriptor: Descriptor {
-                class: u16::from(*high) * 256 + u16::from(*low),
-                name: [*a, *b, *c, *d, *e, *f],
-                id: *id,
-            },
+            descriptor: *descriptor,
         }),
-        _ => None,
+        Request::GetNormal {
+            selector: Some(_), ..
+        } => None,
+        Request::GetNext { .. } => None,
+        Request::SetNormal { .. } => None,
+        Request::SetFirst { .. } => None,
+        Request::SetBlock { .. } => None,
+        Request::ActionNormal { .. } => None,
+        Request::ActionFirst { .. } => None,
+        Request::ActionBlock { .. } => None,
+    }
+}
+
+/// The request that these bytes are: GET of one attribute, without a selection. Want of memory for another request makes
+/// no difference: that one is not served.
+#[tactic(auto, using(crate::proofs::ServiceLemmas::no_get))]
+fn read_get<A: Allocator + Copy>(alloc: A, apdu: &[u8]) -> Option<GetRequest>
+    ensures { result ≡ get_in apdu.now }
+{
+    match read_request(alloc, apdu) {
+        Ok(request) => get_of(&request),
+        Err(_) => None,
     }
 }
 
@@ -136,31 +172,30 @@ fn result_of(fault: AccessFault) -> u8
 
 /// The answer that carries a value; the result of a temporary failure, where its bytes find no memory.
 fn data_answer<A: Allocator + Copy>(alloc: A, invoke: u8, value: u32) -> Answer
-    ensures { (choice : Choice) × (result.items ≡ response_of invoke (chosen choice (Ok value))) }
+    ensures { (choice : Choice) × (result.items ≡ answer_bytes invoke (chosen choice (Ok value))) }
 {
     let value: Data<A> = Data::DoubleLongUnsigned(value);
-    match write(alloc, &value) {
-        Ok(data) => {
-            let mut answer = bytes_of(&[0xc4, 0x01, invoke, 0x00]);
-            let _fits = answer.try_extend_from_slice(data.as_slice());
-            answer
-        }
+    match write_response(alloc, &Response::GetData { invoke, value }) {
+        Ok(answer) => bytes_of(answer.as_slice()),
         Err(AllocError) => fault_answer(invoke, AccessFault::TemporaryFailure),
     }
 }
 
 /// The answer that says why there is no data.
 fn fault_answer(invoke: u8, fault: AccessFault) -> Answer
-    ensures { result.items ≡ response_of invoke (Err fault) }
+    ensures { result.items ≡ answer_bytes invoke (Err fault) }
 {
-    bytes_of(&[0xc4, 0x01, invoke, 0x01, result_of(fault)])
+    short(&Response::GetResult {
+        invoke,
+        result: result_of(fault),
+    })
 }
 
 /// The answer to an APDU.
 pub fn serve<A: Allocator + Copy>(alloc: A, state: &State<A>, apdu: &[u8]) -> Answer
     ensures { (E : List Event) → IsStateOf E state.now → (choice : Choice) × (result.items ≡ answer_after E choice apdu.now) }
 {
-    let Some(request) = read_get(apdu) else {
+    let Some(request) = read_get(alloc, apdu) else {
         return unknown_service();
     };
     match value_of(state, request.descriptor) {
