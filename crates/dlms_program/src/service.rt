@@ -95,7 +95,8 @@ fn get_of<A: Allocator + Copy>(request: &Request<'_, A>) -> Option<GetRequest>
             descriptor: *descriptor,
         }),
         Request::GetNormal {
-            selector: Some(_), ..
+            selector: Some(_),
+            ..
         } => None,
         Request::GetNext { .. } => None,
         Request::SetNormal { .. } => None,
