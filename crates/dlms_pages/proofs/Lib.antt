@@ -1,0 +1,5 @@
+pub mod Calls
+pub mod Kept
+pub mod Moments
+pub mod Picks
+pub mod Views
