@@ -2,4 +2,5 @@ pub mod Calls
 pub mod Kept
 pub mod Moments
 pub mod Picks
+pub mod Slots
 pub mod Views

@@ -1,7 +1,9 @@
 pub mod Device
 pub mod Disk
+pub mod File
 pub mod History
 pub mod Memory
 pub mod MemoryRules
 pub mod Pick
+pub mod Seal
 pub mod Stops

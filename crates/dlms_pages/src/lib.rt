@@ -2,11 +2,14 @@
 #![tactic(auto)]
 
 mod device;
+mod file;
 mod history;
 mod memory;
 mod pick;
 mod plan;
+mod seal;
 
 pub use device::{DeviceFault, PageRead, Pages};
+pub use file::FilePages;
 pub use memory::{Call, MemoryPages};
 pub use pick::{Choice, Pick};

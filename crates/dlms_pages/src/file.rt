@@ -1,0 +1,128 @@
+//! Pages in a file, each under a seal.
+ghost use Rattle.std.specs.Prelude.{◌≡◌, ◌<◌, ◌≤◌, ◌+◌, ◌-◌, ◌^◌, min, true, false, length, replicate, slice_set, Ok, Some, None, IfOk, IfSome, OnErr, OnOk};
+
+use crate::seal::{SLOT, opened, sealed};
+use crate::{DeviceFault, PageRead, Pages};
+use std::alloc::{Allocator, Global};
+use std::fs::{File, Files, OpenFile, OpenOptions};
+use std::io;
+use std::io::{ErrorKind, Read, Seek, SeekFrom, Write};
+use std::marker::Model;
+use std::path::Path;
+
+/// Pages in a file. Page `i` stands at byte `544 * i`: its 512 bytes, and the SHA-256 of `i` (two bytes, the high one
+/// first) and of those 512. A part that the file lacks, or that does not match, reads as damaged.
+///
+/// What was written since the last sync that succeeded is kept in memory too: a read gives it from there, and where a
+/// write or a sync has failed since, the next sync writes all of it again before it may succeed. The room for it is
+/// made by `create` and `open`, and no other call asks for memory.
+///
+/// Whether a file keeps the disk rules is not known. Everything that the rules say of it has that premise.
+#[derive(Drop)]
+pub struct FilePages<F = File, A: Allocator = Global> {
+    file: F,
+    unsynced: Vec<Option<[u8; 512]>, A>,
+    behind: bool,
+    faults: u64,
+}
+
+impl<F, A: Allocator> Model for FilePages<F, A> {
+    ghost use Rattle.std.specs.Prelude.{◌<◌, ◌^◌, length};
+    ghost use Rattle.dlms_pages.specs.File.{FileValue};
+
+    ghost Value = { FileValue };
+
+    ghost view = { λ f. record { unsynced = f.unsynced.items; behind = f.behind; faults = f.faults } };
+
+    ghost invariant = { λ f. length f.unsynced.items < 2 ^ 16 };
+}
+
+impl<F: Read + Write + Seek + OpenFile + Drop, A: Allocator> FilePages<F, A> {
+    ghost use Rattle.dlms_pages.specs.File.{IsFresh};
+
+    /// Makes the file, with so many pages that all read as damaged, in place of one that is there.
+    pub fn create<R: Files<File = F> + Alloc<A = A>>(
+        rt: &R,
+        path: &str,
+        count: u16,
+    ) -> io::Result<FilePages<F, A>>
+        ensures { IfOk result (IsFresh count) }
+    {
+        let unsynced = vec![in rt.alloc(); None; count as usize]?;
+        let file = OpenOptions::new()
+            .read(true)
+            .write(true)
+            .create(true)
+            .truncate(true)
+            .open(rt, path)?;
+        file.set_len(u64::from(count) * SLOT as u64)?;
+        sync_folder(rt, path)?;
+        Ok(FilePages {
+            file,
+            unsynced,
+            behind: false,
+            faults: 0,
+        })
+    }
+
+    /// Opens a file that is there. What it has past its pages stays.
+    pub fn open<R: Files<File = F> + Alloc<A = A>>(
+        rt: &R,
+        path: &str,
+        count: u16,
+    ) -> io::Result<FilePages<F, A>>
+        ensures { IfOk result (IsFresh count) }
+    {
+        let unsynced = vec![in rt.alloc(); None; count as usize]?;
+        let file = OpenOptions::new().read(true).write(true).open(rt, path)?;
+        Ok(FilePages {
+            file,
+            unsynced,
+            behind: false,
+            faults: 0,
+        })
+    }
+}
+
+/// Makes the name of a new file outlast a stop.
+fn sync_folder<R: Files>(rt: &R, path: &str) -> io::Result<()> {
+    let folder = match Path::new(path).parent() {
+        Some(folder) if !folder.as_str().is_empty() => folder,
+        _ => Path::new("."),
+    };
+    OpenOptions::new().read(true).open(rt, folder)?.sync_all()
+}
+
+/// Reads the slot of a page, and says whether the file has all of it.
+fn read_slot<F: Read + Seek>(file: &mut F, index: u16, slot: &mut [u8; 544]) -> io::Result<bool> {
+    file.seek(SeekFrom::Start(u64::from(index) * SLOT as u64))?;
+    match file.read_exact(slot) {
+        Ok(()) => Ok(true),
+        Err(e) if e.kind() == ErrorKind::UnexpectedEof => Ok(false),
+        Err(e) => Err(e),
+    }
+}
+
+fn write_slot<F: Write + Seek>(file: &mut F, index: u16, slot: &[u8; 544]) -> io::Result<()> {
+    file.seek(SeekFrom::Start(u64::from(index) * SLOT as u64))?;
+    file.write_all(slot.as_slice())
+}
+
+/// Writes again what was written.
+fn write_again<F: Write + Seek>(file: &mut F, pages: &[Option<[u8; 512]>]) -> io::Result<()>
+    requires { length pages.now < 2 ^ 16 }
+{
+    for index in 0..pages.len() {
+        if let Some(content) = &pages[index] {
+            let index = index as u16;
+            write_slot(file, index, &sealed(index, content))?;
+        }
+    }
+    Ok(())
+}
+
+fn forget(pages: &mut [Option<[u8; 512]>])
+    ensures { pages.new ≡ replicate (length pages.old) None }
+{
+    pages.fill(None);
+}
