@@ -1,4 +1,5 @@
 pub mod Calls
+pub mod Files
 pub mod Kept
 pub mod Moments
 pub mod Picks

@@ -1,5 +1,5 @@
 //! Pages in a file, each under a seal.
-ghost use Rattle.std.specs.Prelude.{◌≡◌, ◌<◌, ◌≤◌, ◌+◌, ◌-◌, ◌^◌, min, true, false, length, replicate, slice_set, Ok, Some, None, IfOk, IfSome, OnErr, OnOk};
+ghost use Rattle.std.specs.Prelude.{◌≡◌, ◌<◌, ◌≤◌, ◌^◌, true, false, length, replicate, slice_index_or, slice_set, IfOk, IfSome, OnErr, OnOk};
 
 use crate::seal::{SLOT, opened, sealed};
 use crate::{DeviceFault, PageRead, Pages};
@@ -30,9 +30,9 @@ impl<F, A: Allocator> Model for FilePages<F, A> {
     ghost use Rattle.std.specs.Prelude.{◌<◌, ◌^◌, length};
     ghost use Rattle.dlms_pages.specs.File.{FileValue};
 
-    ghost Value = { FileValue };
+    ghost Value = { FileValue F };
 
-    ghost view = { λ f. record { unsynced = f.unsynced.items; behind = f.behind; faults = f.faults } };
+    ghost view = { λ f. record { file = f.file; unsynced = f.unsynced.items; behind = f.behind; faults = f.faults } };
 
     ghost invariant = { λ f. length f.unsynced.items < 2 ^ 16 };
 }
@@ -82,6 +82,125 @@ impl<F: Read + Write + Seek + OpenFile + Drop, A: Allocator> FilePages<F, A> {
             faults: 0,
         })
     }
+}
+
+impl<F: Read + Write + Seek + OpenFile + Drop, A: Allocator> FilePages<F, A> {
+    ghost use Rattle.dlms_pages.specs.File.{faults_after, GivesPage, KeepsPage, Settles};
+
+    // One more fault.
+    fn fail(&mut self) -> DeviceFault
+        ensures counted { self.new ≡ record self.old { faults = faults_after self.old.faults } }
+        ensures later { self.old.faults ≤ self.new.faults }
+    {
+        self.faults = self.faults.saturating_add(1);
+        DeviceFault
+    }
+
+    // What a page reads as.
+    fn read_page(&mut self, index: u16) -> Result<PageRead, DeviceFault>
+        requires { index < length self.old.unsynced }
+        ensures { GivesPage index self.old self.new result }
+    {
+        if let Some(content) = self.unsynced[index as usize] {
+            return Ok(PageRead::Content(content));
+        }
+        let mut slot = [0u8; 544];
+        match read_slot(&mut self.file, index, &mut slot) {
+            Ok(true) => Ok(opened(index, &slot)),
+            Ok(false) => Ok(PageRead::Damaged),
+            Err(_) => Err(self.fail()),
+        }
+    }
+
+    // Writes a page, and keeps what was written.
+    fn write_page(&mut self, index: u16, bytes: &[u8; 512]) -> Result<(), DeviceFault>
+        requires { index < length self.old.unsynced }
+        ensures { KeepsPage index bytes.now self.old self.new result }
+    {
+        self.unsynced[index as usize] = Some(*bytes);
+        match write_slot(&mut self.file, index, &sealed(index, bytes)) {
+            Ok(()) => Ok(()),
+            Err(_) => {
+                self.behind = true;
+                Err(self.fail())
+            }
+        }
+    }
+
+    // Makes all that was written outlast a stop.
+    fn sync_pages(&mut self) -> Result<(), DeviceFault>
+        ensures { Settles self.old self.new result }
+    {
+        match settle(&mut self.file, &self.unsynced, self.behind) {
+            Ok(()) => {
+                forget(&mut self.unsynced);
+                self.behind = false;
+                Ok(())
+            }
+            Err(_) => {
+                self.behind = true;
+                Err(self.fail())
+            }
+        }
+    }
+}
+
+impl<F: Read + Write + Seek + OpenFile + Drop, A: Allocator> Pages for FilePages<F, A> {
+    ghost use Rattle.dlms_pages.specs.Device.{Goes, Reads, Writes, Syncs};
+    ghost use Rattle.dlms_pages.specs.File.{file_view, file_rules, GivesPage, KeepsPage, Settles};
+
+    ghost view = { λ f. file_view f };
+
+    ghost rules = { λ f honest. file_rules f };
+
+    fn count(&self) -> u16 {
+        self.unsynced.len() as u16
+    }
+
+    fn faults(&self) -> u64 {
+        self.faults
+    }
+
+    fn read(&mut self, index: u16) -> Result<PageRead, DeviceFault>
+        requires { index < length (file_view self.old).seen }
+        ensures goes { Goes (file_view self.old) (file_view self.new) result }
+        ensures page { (file_view self.old).honest ≡ true → Reads index (file_view self.old) (file_view self.new) result }
+        ensures file { GivesPage index self.old self.new result }
+    {
+        self.read_page(index)
+    }
+
+    fn write(&mut self, index: u16, bytes: &[u8; 512]) -> Result<(), DeviceFault>
+        requires { index < length (file_view self.old).seen }
+        ensures goes { Goes (file_view self.old) (file_view self.new) result }
+        ensures written { (file_view self.old).honest ≡ true → Writes index bytes.now (file_view self.old) (file_view self.new) result }
+        ensures file { KeepsPage index bytes.now self.old self.new result }
+    {
+        self.write_page(index, bytes)
+    }
+
+    fn sync(&mut self) -> Result<(), DeviceFault>
+        ensures goes { Goes (file_view self.old) (file_view self.new) result }
+        ensures synced { (file_view self.old).honest ≡ true → Syncs (file_view self.old) (file_view self.new) result }
+        ensures file { Settles self.old self.new result }
+    {
+        self.sync_pages()
+    }
+}
+
+/// Makes what the file holds outlast a stop. Where a write or a sync has failed, all is written again first, since a
+/// system may drop what a failed sync had before it, and call the next one a success.
+fn settle<F: Write + Seek + OpenFile>(
+    file: &mut F,
+    pages: &[Option<[u8; 512]>],
+    behind: bool,
+) -> io::Result<()>
+    requires { length pages.now < 2 ^ 16 }
+{
+    if behind {
+        write_again(file, pages)?;
+    }
+    file.sync_all()
 }
 
 /// Makes the name of a new file outlast a stop.
