@@ -4,6 +4,7 @@
 mod device;
 mod file;
 mod history;
+pub mod laws;
 mod memory;
 mod pick;
 mod plan;
