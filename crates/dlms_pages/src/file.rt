@@ -3,7 +3,7 @@ ghost use Rattle.std.specs.Prelude.{◌≡◌, ◌<◌, ◌≤◌, ◌^◌, true
 
 use crate::seal::{SLOT, opened, sealed};
 use crate::{DeviceFault, PageRead, Pages};
-use std::alloc::{Allocator, Global};
+use std::alloc::{AllocError, Allocator, Global};
 use std::fs::{File, Files, OpenFile, OpenOptions};
 use std::io;
 use std::io::{ErrorKind, Read, Seek, SeekFrom, Write};
@@ -48,7 +48,7 @@ impl<F: Read + Write + Seek + OpenFile + Drop, A: Allocator> FilePages<F, A> {
     ) -> io::Result<FilePages<F, A>>
         ensures { IfOk result (IsFresh count) }
     {
-        let unsynced = vec![in rt.alloc(); None; count as usize]?;
+        let unsynced = room(rt.alloc(), count)?;
         let file = OpenOptions::new()
             .read(true)
             .write(true)
@@ -57,12 +57,7 @@ impl<F: Read + Write + Seek + OpenFile + Drop, A: Allocator> FilePages<F, A> {
             .open(rt, path)?;
         file.set_len(u64::from(count) * SLOT as u64)?;
         sync_folder(rt, path)?;
-        Ok(FilePages {
-            file,
-            unsynced,
-            behind: false,
-            faults: 0,
-        })
+        Ok(FilePages::fresh(file, unsynced))
     }
 
     /// Opens a file that is there. What it has past its pages stays.
@@ -73,19 +68,27 @@ impl<F: Read + Write + Seek + OpenFile + Drop, A: Allocator> FilePages<F, A> {
     ) -> io::Result<FilePages<F, A>>
         ensures { IfOk result (IsFresh count) }
     {
-        let unsynced = vec![in rt.alloc(); None; count as usize]?;
+        let unsynced = room(rt.alloc(), count)?;
         let file = OpenOptions::new().read(true).write(true).open(rt, path)?;
-        Ok(FilePages {
-            file,
-            unsynced,
-            behind: false,
-            faults: 0,
-        })
+        Ok(FilePages::fresh(file, unsynced))
     }
 }
 
 impl<F: Read + Write + Seek + OpenFile + Drop, A: Allocator> FilePages<F, A> {
     ghost use Rattle.dlms_pages.specs.File.{faults_after, GivesPage, KeepsPage, Settles};
+
+    // Nothing is written yet, and nothing has failed.
+    fn fresh(file: F, unsynced: Vec<Option<[u8; 512]>, A>) -> FilePages<F, A>
+        requires { length unsynced.items < 2 ^ 16 }
+        ensures { result ≡ record { file = file; unsynced = unsynced.items; behind = false; faults = 0 } }
+    {
+        FilePages {
+            file,
+            unsynced,
+            behind: false,
+            faults: 0,
+        }
+    }
 
     // One more fault.
     fn fail(&mut self) -> DeviceFault
@@ -188,6 +191,13 @@ impl<F: Read + Write + Seek + OpenFile + Drop, A: Allocator> Pages for FilePages
     }
 }
 
+/// The room for what is written between two syncs.
+fn room<A: Allocator>(alloc: A, count: u16) -> Result<Vec<Option<[u8; 512]>, A>, AllocError>
+    ensures { IfOk result (λ pages. pages.items ≡ replicate count None) }
+{
+    vec![in alloc; None; count as usize]
+}
+
 /// Makes what the file holds outlast a stop. Where a write or a sync has failed, all is written again first, since a
 /// system may drop what a failed sync had before it, and call the next one a success.
 fn settle<F: Write + Seek + OpenFile>(
@@ -245,3 +255,6 @@ fn forget(pages: &mut [Option<[u8; 512]>])
 {
     pages.fill(None);
 }
+
+#[cfg(test)]
+mod tests;

@@ -10,18 +10,15 @@ use crate::Pages;
 /// page as it was then, or as a write since left it.
 pub fn a_stop_leaves_old_new_or_torn_pages<P: Pages>()
     ensures { StopsKeepTheRules P.view }
-{
-}
+{}
 
 /// After a sync that succeeded a stop leaves what reads give.
 pub fn a_sync_leaves_one_image<P: Pages>()
     ensures { SyncsLeaveOneImage P.view }
-{
-}
+{}
 
 /// The rules are not trivial: in memory, a page that was written, synced and written again may be left old, new or torn,
 /// and in no other way.
 pub fn each_outcome_may_be_left_and_no_other()
     ensures { (memory : Memory) (index : ℕ) (old new : List ℕ) → index < length memory.first → memory.calls ≡ Write index old ∷ Sync ∷ Write index new ∷ [] → LeavesEachOutcome memory index old new }
-{
-}
+{}

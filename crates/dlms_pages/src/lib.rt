@@ -14,3 +14,6 @@ pub use device::{DeviceFault, PageRead, Pages};
 pub use file::FilePages;
 pub use memory::{Call, MemoryPages};
 pub use pick::{Choice, Pick};
+
+#[cfg(test)]
+mod tests;
