@@ -4,7 +4,7 @@ use Rattle.std.proofs.lemmas.List.{get_or-set_other, get_or-set_same, get_or_pas
 use Rattle.std.proofs.lemmas.Bool.{cases_eq, cases_lt}
 use Rattle.dlms_pages.specs.declared.device.PageRead.{PageRead}
 use Rattle.dlms_pages.specs.declared.device.PageRead.TheVariants.{Content, Damaged}
-use Rattle.dlms_pages.specs.Device.{View, Image, Outcome, page_at}
+use Rattle.dlms_pages.specs.Device.{View, Image, Outcome, Rules, page_at}
 use Rattle.dlms_pages.specs.Device.Outcome.{Old, New, Torn}
 use Rattle.dlms_pages.specs.Disk.{Disk, Left, IsImage}
 use Rattle.dlms_pages.specs.Laws.{Run}
@@ -51,3 +51,24 @@ run_leaves view start image fixed _ _ Begins c left = record { count = ap length
 run_leaves view start image fixed writes _ (ThenRead {mid = mid} now index result run reads) c left = run_leaves view start image fixed writes mid run c (reads.crash c left)
 run_leaves view start image fixed _ _ (ThenWrite {writes = writes} {mid = mid} now index bytes result run writing) c left = after_write image index bytes writes (view mid).may_leave (run_leaves view start image fixed writes mid run) c (writing.crash c left)
 run_leaves view start image fixed writes _ (ThenFailedSync {mid = mid} now fault run syncs) c left = run_leaves view start image fixed writes mid run c (syncs.crash c left)
+
+later : {P : Type 0} (view : P → View) (start : P) (writes : List (ℕ × List ℕ)) (now : P) → Run view start writes now → (view start).moment ≤ (view now).moment
+later view start _ _ Begins = omega arith
+later view start writes _ (ThenRead {mid = mid} now index result run reads) = omega (arith, later view start writes mid run, reads.time.later)
+later view start _ _ (ThenWrite {writes = writes} {mid = mid} now index bytes result run writing) = omega (arith, later view start writes mid run, writing.time.later)
+later view start writes _ (ThenFailedSync {mid = mid} now fault run syncs) = omega (arith, later view start writes mid run, syncs.time.later)
+
+pub run_left : {P : Type 0} (view : P → View) (start : P) (image : Image) → IsFixed (view start) image → Rules (view start) → (writes : List (ℕ × List ℕ)) (now : P) → Run view start writes now → (c : Image) → (view now).left_since (view start).moment c → IsImage (disk_with image writes) c
+run_left view start image fixed rules _ _ Begins c left = run_leaves view start image fixed [] start Begins c (rules.only_now c left)
+run_left view start image fixed rules writes _ (ThenRead {mid = mid} now index result run reads) c left = ⊎_elim
+    (λ past. run_left view start image fixed rules writes mid run c past)
+    (λ here. run_leaves view start image fixed writes now (ThenRead {mid = mid} now index result run reads) c here)
+    (reads.time.nothing_else (view start).moment c (later view start writes mid run) left)
+run_left view start image fixed rules _ _ (ThenWrite {writes = writes} {mid = mid} now index bytes result run writing) c left = ⊎_elim
+    (λ past. nothing image (index, bytes) writes c (run_left view start image fixed rules writes mid run c past))
+    (λ here. run_leaves view start image fixed ((index, bytes) ∷ writes) now (ThenWrite {mid = mid} now index bytes result run writing) c here)
+    (writing.time.nothing_else (view start).moment c (later view start writes mid run) left)
+run_left view start image fixed rules writes _ (ThenFailedSync {mid = mid} now fault run syncs) c left = ⊎_elim
+    (λ past. run_left view start image fixed rules writes mid run c past)
+    (λ here. run_leaves view start image fixed writes now (ThenFailedSync {mid = mid} now fault run syncs) c here)
+    (syncs.time.nothing_else (view start).moment c (later view start writes mid run) left)

@@ -22,6 +22,10 @@ pub data Run {P : Type 0} (view : P → View) (start : P) : List (ℕ × List �
 abbrev pub StopsKeepTheRules : {P : Type 0} → (P → View) → Type 0
 StopsKeepTheRules {P} view = (start now : P) (image : Image) (writes : List (ℕ × List ℕ)) → IsFixed (view start) image → Run view start writes now → (c : Image) → (view now).may_leave c → IsImage (record { stable = image; seen = image; since = writes }) c
 
+-- The same of a stop at any moment since then.
+abbrev pub StopsSinceKeepTheRules : {P : Type 0} → (P → View) → Type 0
+StopsSinceKeepTheRules {P} view = (start now : P) (image : Image) (writes : List (ℕ × List ℕ)) → IsFixed (view start) image → Run view start writes now → (c : Image) → (view now).left_since (view start).moment c → IsImage (record { stable = image; seen = image; since = writes }) c
+
 -- A sync that succeeds leaves one image, which is what reads give.
 abbrev pub SyncsLeaveOneImage : {P : Type 0} → (P → View) → Type 0
 SyncsLeaveOneImage {P} view = (before now : P) → (view before).honest ≡ true → Goes {T = Unit {0}} (view before) (view now) (Ok tt) → Syncs {T = Unit {0}} (view before) (view now) (Ok tt) → IsFixed (view now) (view now).seen

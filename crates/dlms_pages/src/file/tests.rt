@@ -97,19 +97,30 @@ fn opened_again(rt: HostRuntime) -> Result<(), Fail> {
 }
 
 /// The bytes of a file of three pages that hold 1, 2 and 3.
-fn three(rt: &HostRuntime, path: &str) -> Result<[u8; 1632], Fail> {
+fn three(rt: &HostRuntime, path: &str) -> Result<Vec<u8>, Fail> {
     let mut device: FilePages = FilePages::create(rt, path, 3)?;
     put(&mut device, 0, &[1; 512])??;
     put(&mut device, 1, &[2; 512])??;
     put(&mut device, 2, &[3; 512])??;
     device.sync()?;
-    let bytes = fs::read(rt, path)?;
-    let mut array = [0u8; 1632];
-    if bytes.len() != 1632 {
-        return Err("three slots".into());
+    Ok(fs::read(rt, path)?)
+}
+
+fn part(bytes: &[u8], from: usize, to: usize) -> Result<&[u8], Fail> {
+    match bytes.get(from..to) {
+        Some(part) => Ok(part),
+        None => Err("a part".into()),
     }
-    array.copy_from_slice(&bytes);
-    Ok(array)
+}
+
+/// The bytes with one bit of one of them turned.
+fn turned(rt: &HostRuntime, bytes: &[u8], at: usize) -> Result<Vec<u8>, Fail> {
+    let mut bytes = Vec::from_slice(rt.alloc(), bytes)?;
+    match bytes.get_mut(at) {
+        Some(byte) => *byte ^= 4,
+        None => return Err("a byte".into()),
+    }
+    Ok(bytes)
 }
 
 /// What the three pages read as where the file holds these bytes.
@@ -127,22 +138,21 @@ fn reads(
     ])
 }
 
-/// A byte flipped, in the content and in the seal; a slot in another's place.
+/// A byte changed, in the content and in the seal; a slot in another's place.
 #[test]
 fn damaged(rt: HostRuntime) -> Result<(), Fail> {
     let path = path_of(&rt, "damaged")?;
     let path = path.as_str();
     let whole = three(&rt, path)?;
     assert_eq!(rt; reads(&rt, path, &whole)?, [page(1), page(2), page(3)]);
-    let mut bytes = whole;
-    bytes[600] ^= 1;
+    let bytes = turned(&rt, &whole, 600)?;
     assert_eq!(rt; reads(&rt, path, &bytes)?, [page(1), DAMAGED, page(3)]);
-    let mut bytes = whole;
-    bytes[1631] ^= 128;
+    let bytes = turned(&rt, &whole, 1631)?;
     assert_eq!(rt; reads(&rt, path, &bytes)?, [page(1), page(2), DAMAGED]);
-    let mut swapped = whole;
-    swapped[..544].copy_from_slice(&whole[544..1088]);
-    swapped[544..1088].copy_from_slice(&whole[..544]);
+    let mut swapped = Vec::new(rt.alloc());
+    swapped.extend_from_slice(part(&whole, 544, 1088)?)?;
+    swapped.extend_from_slice(part(&whole, 0, 544)?)?;
+    swapped.extend_from_slice(part(&whole, 1088, 1632)?)?;
     assert_eq!(rt; reads(&rt, path, &swapped)?, [DAMAGED, DAMAGED, page(3)]);
     fs::remove_file(&rt, path)?;
     Ok(())
@@ -153,19 +163,14 @@ fn damaged(rt: HostRuntime) -> Result<(), Fail> {
 fn short_and_long(rt: HostRuntime) -> Result<(), Fail> {
     let path = path_of(&rt, "length")?;
     let path = path.as_str();
-    let whole = three(&rt, path)?;
-    assert_eq!(rt;
-        reads(&rt, path, &whole[..1631])?,
-        [page(1), page(2), DAMAGED]
-    );
-    assert_eq!(rt;
-        reads(&rt, path, &whole[..544])?,
-        [page(1), DAMAGED, DAMAGED]
-    );
-    assert_eq!(rt; reads(&rt, path, &[])?, [DAMAGED, DAMAGED, DAMAGED]);
-    let mut long = [7u8; 2400];
-    long[..1632].copy_from_slice(&whole);
-    assert_eq!(rt; reads(&rt, path, &long)?, [page(1), page(2), page(3)]);
+    let mut bytes = three(&rt, path)?;
+    let short = part(&bytes, 0, 1631)?;
+    assert_eq!(rt; reads(&rt, path, short)?, [page(1), page(2), DAMAGED]);
+    let short = part(&bytes, 0, 544)?;
+    assert_eq!(rt; reads(&rt, path, short)?, [page(1), DAMAGED, DAMAGED]);
+    assert_eq!(rt; reads(&rt, path, b"")?, [DAMAGED, DAMAGED, DAMAGED]);
+    bytes.extend_from_slice(&[7; 700])?;
+    assert_eq!(rt; reads(&rt, path, &bytes)?, [page(1), page(2), page(3)]);
     let device: FilePages = FilePages::create(&rt, path, 2)?;
     assert_eq!(rt; device.count(), 2);
     assert_eq!(rt; fs::read(&rt, path)?.len(), 1088);
