@@ -1,5 +1,5 @@
 -- How a file goes on.
-use Rattle.std.proofs.Common.{◌≡◌, ◌<◌, ◌≤◌, ◌∙◌, sym, subst, ap, refl, arith, ℕ, List, length, Result, Ok, Err, OnErr, Option, None, Some, replicate}
+use Rattle.std.proofs.Common.{◌≡◌, ◌∙◌, sym, subst, ap, refl, arith, ℕ, List, length, Result, Ok, Err, OnErr, None, Some}
 use Rattle.std.proofs.lemmas.List.{length-set, length-replicate}
 use Rattle.dlms_pages.specs.Device.{Goes, Rose}
 use Rattle.dlms_pages.specs.File.{FileValue, file_view, length-file_seen, CountsFaults, GivesPage, KeepsPage, Settles}

@@ -1,13 +1,13 @@
 -- A page that was written, synced and written again may be left in each of three ways.
-use Rattle.std.proofs.Common.{◌≡◌, ◌≢◌, ◌<◌, ◌≤◌, ◌⊎◌, inl, inr, ⊎_elim, ℕ, List, [], ◌∷◌, length, get_or, set, refl, sym, ◌∙◌, ap, subst, arith}
-use Rattle.std.proofs.lemmas.List.{get_or-set_other, get_or-set_same, get_or_past, length-set, ext_get_or}
-use Rattle.std.proofs.lemmas.Bool.{cases_eq, cases_lt}
+use Rattle.std.proofs.Common.{◌≡◌, ◌≢◌, ◌<◌, ◌⊎◌, inl, inr, ⊎_elim, ℕ, List, [], ◌∷◌, length, get_or, set, refl, sym, ◌∙◌, ap, subst}
+use Rattle.std.proofs.lemmas.List.{get_or-set_other, get_or-set_same, length-set, ext_get_or}
+use Rattle.std.proofs.lemmas.Bool.{cases_eq}
 use Rattle.dlms_pages.specs.declared.device.PageRead.{PageRead}
 use Rattle.dlms_pages.specs.declared.device.PageRead.TheVariants.{Content, Damaged}
 use Rattle.dlms_pages.specs.declared.memory.Call.{Call}
 use Rattle.dlms_pages.specs.declared.memory.Call.TheVariants.{Write, Sync}
 use Rattle.dlms_pages.specs.Device.{Image, page_at}
-use Rattle.dlms_pages.specs.Disk.{Disk, Left, IsImage, at_first, disk_after}
+use Rattle.dlms_pages.specs.Disk.{Disk, IsImage, at_first, disk_after}
 use Rattle.dlms_pages.specs.Laws.{LeavesEachOutcome}
 use Rattle.dlms_pages.specs.Memory.{Memory, disk_of}
 

@@ -1,7 +1,7 @@
 -- What is known of pages in a file: how many there are, what was written since the last sync, how often a call
 -- failed. Nothing is known of what the file holds.
 use Rattle.std.specs.Prelude.{◌≡◌, ◌≤◌, ◌+◌, ◌-◌, ◌^◌, min, ℕ, Bool, true, false, List, length, Option, Some, None, IfSome, Result, Ok, OnOk, OnErr, replicate, slice_index_or, slice_set, refl}
-use Rattle.std.proofs.Common.{ap, arith}
+use Rattle.std.proofs.Common.{ap}
 use Rattle.std.proofs.lemmas.List.{length-replicate}
 use Rattle.dlms_pages.specs.Device.{View, Image, Rules, Reads, Writes, Syncs}
 use Rattle.dlms_pages.specs.declared.device.PageRead.{PageRead}

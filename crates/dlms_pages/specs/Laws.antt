@@ -1,11 +1,10 @@
 -- What holds of every run of a device that keeps the disk rules.
-use Rattle.std.specs.Prelude.{◌≡◌, ◌<◌, ◌⊎◌, ◌↔◌, ℕ, true, List, [], ◌∷◌, length, Result, Ok, Err, OnErr, slice_set}
+use Rattle.std.specs.Prelude.{◌≡◌, ◌⊎◌, ◌↔◌, ℕ, true, List, [], ◌∷◌, Result, Ok, Err, slice_set}
 use Rattle.dlms_pages.specs.declared.device.PageRead.{PageRead}
 use Rattle.dlms_pages.specs.declared.device.PageRead.TheVariants.{Content, Damaged}
 use Rattle.dlms_pages.specs.declared.device.DeviceFault.{DeviceFault}
-use Rattle.dlms_pages.specs.declared.memory.Call.TheVariants.{Write, Sync}
-use Rattle.dlms_pages.specs.Device.{View, Image, Goes, Reads, Writes, Syncs, Rules}
-use Rattle.dlms_pages.specs.Disk.{Disk, at_first, IsImage}
+use Rattle.dlms_pages.specs.Device.{View, Image, Goes, Reads, Writes, Syncs}
+use Rattle.dlms_pages.specs.Disk.{IsImage}
 use Rattle.dlms_pages.specs.Memory.{Memory, view_of}
 use Rattle.dlms_pages.specs.Stops.{IsFixed}
 

@@ -1,4 +1,3 @@
-use Rattle.std.proofs.Common.{subst, sym}
 use Rattle.dlms_pages.proofs.Outcomes.{each_outcome}
 use Rattle.dlms_pages.proofs.laws.each_outcome_may_be_left_and_no_other.Goals as goal
 
