@@ -37,18 +37,21 @@ pub trait Pages {
     fn read(&mut self, index: u16) -> Result<PageRead, DeviceFault>
         requires { index < length (view self.old).seen }
         ensures goes { Goes (view self.old) (view self.new) result }
-        ensures page { (view self.old).honest ≡ true → Reads index (view self.old) (view self.new) result };
+        ensures page { (view self.old).honest ≡ true
+            → Reads index (view self.old) (view self.new) result };
 
     /// Writes a page. A stop before the next sync may undo it, or tear the page.
     fn write(&mut self, index: u16, bytes: &[u8; 512]) -> Result<(), DeviceFault>
         requires { index < length (view self.old).seen }
         ensures goes { Goes (view self.old) (view self.new) result }
-        ensures written { (view self.old).honest ≡ true → Writes index bytes.now (view self.old) (view self.new) result };
+        ensures written { (view self.old).honest ≡ true
+            → Writes index bytes.now (view self.old) (view self.new) result };
 
     /// Makes everything that was written outlast a stop.
     fn sync(&mut self) -> Result<(), DeviceFault>
         ensures goes { Goes (view self.old) (view self.new) result }
-        ensures synced { (view self.old).honest ≡ true → Syncs (view self.old) (view self.new) result };
+        ensures synced { (view self.old).honest ≡ true
+            → Syncs (view self.old) (view self.new) result };
 
     /// The rules that hold at each moment.
     ghost rules: { (device : Self) → (view device).honest ≡ true → Rules (view device) };

@@ -32,7 +32,12 @@ impl<F, A: Allocator> Model for FilePages<F, A> {
 
     ghost Value = { FileValue F };
 
-    ghost view = { λ f. record { file = f.file; unsynced = f.unsynced.items; behind = f.behind; faults = f.faults } };
+    ghost view = { λ f. record {
+      file = f.file;
+      unsynced = f.unsynced.items;
+      behind = f.behind;
+      faults = f.faults;
+    } };
 
     ghost invariant = { λ f. length f.unsynced.items < 2 ^ 16 };
 }
@@ -80,7 +85,12 @@ impl<F: Read + Write + Seek + OpenFile + Drop, A: Allocator> FilePages<F, A> {
     // Nothing is written yet, and nothing has failed.
     fn fresh(file: F, unsynced: Vec<Option<[u8; 512]>, A>) -> FilePages<F, A>
         requires { length unsynced.items < 2 ^ 16 }
-        ensures { result ≡ record { file = file; unsynced = unsynced.items; behind = false; faults = 0 } }
+        ensures { result ≡ record {
+          file = file;
+          unsynced = unsynced.items;
+          behind = false;
+          faults = 0;
+        } }
     {
         FilePages {
             file,
@@ -97,6 +107,16 @@ impl<F: Read + Write + Seek + OpenFile + Drop, A: Allocator> FilePages<F, A> {
     {
         self.faults = self.faults.saturating_add(1);
         DeviceFault
+    }
+
+    // One more fault, after which what is unsynced is to be written again.
+    fn fall_behind(&mut self) -> DeviceFault
+        ensures counted { self.new
+            ≡ record self.old { behind = true; faults = faults_after self.old.faults } }
+        ensures later { self.old.faults ≤ self.new.faults }
+    {
+        self.behind = true;
+        self.fail()
     }
 
     // What a page reads as.
@@ -123,10 +143,7 @@ impl<F: Read + Write + Seek + OpenFile + Drop, A: Allocator> FilePages<F, A> {
         self.unsynced[index as usize] = Some(*bytes);
         match write_slot(&mut self.file, index, &sealed(index, bytes)) {
             Ok(()) => Ok(()),
-            Err(_) => {
-                self.behind = true;
-                Err(self.fail())
-            }
+            Err(_) => Err(self.fall_behind()),
         }
     }
 
@@ -140,10 +157,7 @@ impl<F: Read + Write + Seek + OpenFile + Drop, A: Allocator> FilePages<F, A> {
                 self.behind = false;
                 Ok(())
             }
-            Err(_) => {
-                self.behind = true;
-                Err(self.fail())
-            }
+            Err(_) => Err(self.fall_behind()),
         }
     }
 }
@@ -167,7 +181,8 @@ impl<F: Read + Write + Seek + OpenFile + Drop, A: Allocator> Pages for FilePages
     fn read(&mut self, index: u16) -> Result<PageRead, DeviceFault>
         requires { index < length (file_view self.old).seen }
         ensures goes { Goes (file_view self.old) (file_view self.new) result }
-        ensures page { (file_view self.old).honest ≡ true → Reads index (file_view self.old) (file_view self.new) result }
+        ensures page { (file_view self.old).honest ≡ true
+            → Reads index (file_view self.old) (file_view self.new) result }
         ensures file { GivesPage index self.old self.new result }
     {
         self.read_page(index)
@@ -176,7 +191,8 @@ impl<F: Read + Write + Seek + OpenFile + Drop, A: Allocator> Pages for FilePages
     fn write(&mut self, index: u16, bytes: &[u8; 512]) -> Result<(), DeviceFault>
         requires { index < length (file_view self.old).seen }
         ensures goes { Goes (file_view self.old) (file_view self.new) result }
-        ensures written { (file_view self.old).honest ≡ true → Writes index bytes.now (file_view self.old) (file_view self.new) result }
+        ensures written { (file_view self.old).honest ≡ true
+            → Writes index bytes.now (file_view self.old) (file_view self.new) result }
         ensures file { KeepsPage index bytes.now self.old self.new result }
     {
         self.write_page(index, bytes)
@@ -184,7 +200,8 @@ impl<F: Read + Write + Seek + OpenFile + Drop, A: Allocator> Pages for FilePages
 
     fn sync(&mut self) -> Result<(), DeviceFault>
         ensures goes { Goes (file_view self.old) (file_view self.new) result }
-        ensures synced { (file_view self.old).honest ≡ true → Syncs (file_view self.old) (file_view self.new) result }
+        ensures synced { (file_view self.old).honest ≡ true
+            → Syncs (file_view self.old) (file_view self.new) result }
         ensures file { Settles self.old self.new result }
     {
         self.sync_pages()

@@ -16,7 +16,8 @@ pub struct History {
 
 /// What became of a page that held `first` before the calls.
 pub fn history_of(first: PageRead, calls: &[Call], index: u16) -> History
-    ensures { (image : Image) → index < length image → page_at image index ≡ first → IsHistory (disk_after (at_first image) calls.now) index result }
+    ensures { (image : Image) → index < length image → page_at image index ≡ first
+        → IsHistory (disk_after (at_first image) calls.now) index result }
 {
     let mut history = History {
         stable: first,
@@ -30,7 +31,8 @@ pub fn history_of(first: PageRead, calls: &[Call], index: u16) -> History
 }
 
 fn after_call(history: History, call: &Call, index: u16) -> History
-    ensures { (disk : Disk) → IsHistory disk index history → IsHistory (after disk call.now) index result }
+    ensures { (disk : Disk) → IsHistory disk index history
+        → IsHistory (after disk call.now) index result }
 {
     match call {
         Call::Write { index: at, bytes } => {

@@ -21,5 +21,7 @@ pub fn a_sync_leaves_one_image<P: Pages>()
 /// The rules are not trivial: in memory, a page that was written, synced and written again may be left old, new or torn,
 /// and in no other way.
 pub fn each_outcome_may_be_left_and_no_other()
-    ensures { (memory : Memory) (index : ℕ) (old new : List ℕ) → index < length memory.first → memory.calls ≡ Write index old ∷ Sync ∷ Write index new ∷ [] → LeavesEachOutcome memory index old new }
+    ensures { (memory : Memory) (index : ℕ) (old new : List ℕ) → index < length memory.first
+        → memory.calls ≡ Write index old ∷ Sync ∷ Write index new ∷ []
+        → LeavesEachOutcome memory index old new }
 {}

@@ -36,7 +36,13 @@ impl<A: Allocator> Model for MemoryPages<A> {
 
     ghost Value = { Memory };
 
-    ghost view = { λ m. record { first = m.first.items; calls = m.calls.items; plan = m.plan; room = vec_capacity m.calls - vec_len m.calls; faults = m.faults } };
+    ghost view = { λ m. record {
+      first = m.first.items;
+      calls = m.calls.items;
+      plan = m.plan;
+      room = vec_capacity m.calls - vec_len m.calls;
+      faults = m.faults;
+    } };
 
     ghost invariant = { λ m. IsKept m.first.items m.calls.items m.pages.items };
 }
@@ -79,7 +85,8 @@ impl<A: Allocator + Copy> MemoryPages<A> {
 
     /// Stops the power. The pages hold what was picked for them, nothing is unsynced, and no call is to fail.
     pub fn cut(self, pick: Pick<'_>) -> Self
-        ensures pages { (k : ℕ) → k < length self.first → page_at result.first k ≡ page_left (disk_of self) (choice_at pick.entry k) k }
+        ensures pages { (k : ℕ) → k < length self.first
+            → page_at result.first k ≡ page_left (disk_of self) (choice_at pick.entry k) k }
         ensures count { length result.first ≡ length self.first }
         ensures calls { result.calls ≡ [] }
         ensures plan { (k : ℕ) → fails_at result.plan k ≡ false }
@@ -113,7 +120,8 @@ impl<A: Allocator + Copy> MemoryPages<A> {
 
     // One more fault.
     fn fail(&mut self) -> DeviceFault
-        ensures counted { self.new ≡ record self.old { faults = min (self.old.faults + 1) (2 ^ 64 - 1) } }
+        ensures counted { self.new
+            ≡ record self.old { faults = min (self.old.faults + 1) (2 ^ 64 - 1) } }
         ensures later { self.old.faults ≤ self.new.faults }
     {
         self.faults = self.faults.saturating_add(1);
@@ -137,7 +145,8 @@ impl<A: Allocator + Copy> MemoryPages<A> {
         requires { index < length (disk_of self.old).seen }
         ensures due { fails_at self.old.plan 0 ≡ true → IsErr result }
         ensures cause { OnErr result ((fails_at self.old.plan 0 ≡ true) ⊎ (self.old.room ≡ 0)) }
-        ensures passed { OnOk result (Passes self.old self.new (self.old.calls ++ Call.Write index bytes.now ∷ [])) }
+        ensures passed { OnOk result (Passes self.old self.new
+            (self.old.calls ++ Call.Write index bytes.now ∷ [])) }
         ensures failed { OnErr result (Fails self.old self.new) }
     {
         self.pass()?;
@@ -184,7 +193,8 @@ fn left(history: History, choice: Choice) -> PageRead
 fn choose(first: &[PageRead], calls: &[Call], pages: &mut [PageRead], pick: Pick<'_>)
     requires same { length first.now ≡ length pages.old }
     requires small { length pages.old < 2 ^ 16 }
-    ensures { (k : ℕ) → k < length pages.new → page_at pages.new k ≡ page_left (disk_after (at_first first.now) calls.now) (choice_at pick.entry k) k }
+    ensures { (k : ℕ) → k < length pages.new
+        → page_at pages.new k ≡ page_left (disk_after (at_first first.now) calls.now) (choice_at pick.entry k) k }
 {
     for index in 0..pages.len() {
         let history = history_of(first[index], calls, index as u16);
@@ -212,7 +222,8 @@ impl<A: Allocator + Copy> Pages for MemoryPages<A> {
     fn read(&mut self, index: u16) -> Result<PageRead, DeviceFault>
         requires { index < length (view_of self.old).seen }
         ensures goes { Goes (view_of self.old) (view_of self.new) result }
-        ensures page { (view_of self.old).honest ≡ true → Reads index (view_of self.old) (view_of self.new) result }
+        ensures page { (view_of self.old).honest ≡ true
+            → Reads index (view_of self.old) (view_of self.new) result }
         ensures due { IsErr result ↔ (fails_at self.old.plan 0 ≡ true) }
         ensures passed { OnOk result (Passes self.old self.new self.old.calls) }
         ensures failed { OnErr result (Fails self.old self.new) }
@@ -224,10 +235,12 @@ impl<A: Allocator + Copy> Pages for MemoryPages<A> {
     fn write(&mut self, index: u16, bytes: &[u8; 512]) -> Result<(), DeviceFault>
         requires { index < length (view_of self.old).seen }
         ensures goes { Goes (view_of self.old) (view_of self.new) result }
-        ensures written { (view_of self.old).honest ≡ true → Writes index bytes.now (view_of self.old) (view_of self.new) result }
+        ensures written { (view_of self.old).honest ≡ true
+            → Writes index bytes.now (view_of self.old) (view_of self.new) result }
         ensures due { fails_at self.old.plan 0 ≡ true → IsErr result }
         ensures cause { OnErr result ((fails_at self.old.plan 0 ≡ true) ⊎ (self.old.room ≡ 0)) }
-        ensures passed { OnOk result (Passes self.old self.new (self.old.calls ++ Call.Write index bytes.now ∷ [])) }
+        ensures passed { OnOk result (Passes self.old self.new
+            (self.old.calls ++ Call.Write index bytes.now ∷ [])) }
         ensures failed { OnErr result (Fails self.old self.new) }
     {
         self.record_write(index, bytes)
@@ -235,7 +248,8 @@ impl<A: Allocator + Copy> Pages for MemoryPages<A> {
 
     fn sync(&mut self) -> Result<(), DeviceFault>
         ensures goes { Goes (view_of self.old) (view_of self.new) result }
-        ensures synced { (view_of self.old).honest ≡ true → Syncs (view_of self.old) (view_of self.new) result }
+        ensures synced { (view_of self.old).honest ≡ true
+            → Syncs (view_of self.old) (view_of self.new) result }
         ensures due { fails_at self.old.plan 0 ≡ true → IsErr result }
         ensures cause { OnErr result ((fails_at self.old.plan 0 ≡ true) ⊎ (self.old.room ≡ 0)) }
         ensures passed { OnOk result (Passes self.old self.new (self.old.calls ++ Call.Sync ∷ [])) }
