@@ -1,0 +1,9 @@
+pub mod Calls
+pub mod Files
+pub mod Kept
+pub mod Moments
+pub mod Outcomes
+pub mod Picks
+pub mod Runs
+pub mod Slots
+pub mod Views

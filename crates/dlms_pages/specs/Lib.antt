@@ -1,0 +1,10 @@
+pub mod Device
+pub mod Disk
+pub mod File
+pub mod History
+pub mod Laws
+pub mod Memory
+pub mod MemoryRules
+pub mod Pick
+pub mod Seal
+pub mod Stops

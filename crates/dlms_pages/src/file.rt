@@ -1,0 +1,277 @@
+//! Pages in a file, each under a seal.
+ghost use Rattle.std.specs.Prelude.{◌≡◌, ◌<◌, ◌≤◌, ◌^◌, true, false, length, replicate, slice_index_or, slice_set, IfOk, IfSome, OnErr, OnOk};
+
+use crate::seal::{SLOT, opened, sealed};
+use crate::{DeviceFault, PageRead, Pages};
+use std::alloc::{AllocError, Allocator, Global};
+use std::fs::{File, Files, OpenFile, OpenOptions};
+use std::io;
+use std::io::{ErrorKind, Read, Seek, SeekFrom, Write};
+use std::marker::Model;
+use std::path::Path;
+
+/// Pages in a file. Page `i` stands at byte `544 * i`: its 512 bytes, and the SHA-256 of `i` (two bytes, the high one
+/// first) and of those 512. A part that the file lacks, or that does not match, reads as damaged.
+///
+/// What was written since the last sync that succeeded is kept in memory too: a read gives it from there, and where a
+/// write or a sync has failed since, the next sync writes all of it again before it may succeed. The room for it is
+/// made by `create` and `open`, and no other call asks for memory.
+///
+/// Whether a file keeps the disk rules is not known. Everything that the rules say of it has that premise.
+#[derive(Drop)]
+pub struct FilePages<F = File, A: Allocator = Global> {
+    file: F,
+    unsynced: Vec<Option<[u8; 512]>, A>,
+    behind: bool,
+    faults: u64,
+}
+
+impl<F, A: Allocator> Model for FilePages<F, A> {
+    ghost use Rattle.std.specs.Prelude.{◌<◌, ◌^◌, length};
+    ghost use Rattle.dlms_pages.specs.File.{FileValue};
+
+    ghost Value = { FileValue F };
+
+    ghost view = { λ f. record {
+      file = f.file;
+      unsynced = f.unsynced.items;
+      behind = f.behind;
+      faults = f.faults;
+    } };
+
+    ghost invariant = { λ f. length f.unsynced.items < 2 ^ 16 };
+}
+
+impl<F: Read + Write + Seek + OpenFile + Drop, A: Allocator> FilePages<F, A> {
+    ghost use Rattle.dlms_pages.specs.File.{IsFresh};
+
+    /// Makes the file, with so many pages that all read as damaged, in place of one that is there.
+    pub fn create<R: Files<File = F> + Alloc<A = A>>(
+        rt: &R,
+        path: &str,
+        count: u16,
+    ) -> io::Result<FilePages<F, A>>
+        ensures { IfOk result (IsFresh count) }
+    {
+        let unsynced = room(rt.alloc(), count)?;
+        let file = OpenOptions::new()
+            .read(true)
+            .write(true)
+            .create(true)
+            .truncate(true)
+            .open(rt, path)?;
+        file.set_len(u64::from(count) * SLOT as u64)?;
+        sync_folder(rt, path)?;
+        Ok(FilePages::fresh(file, unsynced))
+    }
+
+    /// Opens a file that is there. What it has past its pages stays.
+    pub fn open<R: Files<File = F> + Alloc<A = A>>(
+        rt: &R,
+        path: &str,
+        count: u16,
+    ) -> io::Result<FilePages<F, A>>
+        ensures { IfOk result (IsFresh count) }
+    {
+        let unsynced = room(rt.alloc(), count)?;
+        let file = OpenOptions::new().read(true).write(true).open(rt, path)?;
+        Ok(FilePages::fresh(file, unsynced))
+    }
+}
+
+impl<F: Read + Write + Seek + OpenFile + Drop, A: Allocator> FilePages<F, A> {
+    ghost use Rattle.dlms_pages.specs.File.{faults_after, GivesPage, KeepsPage, Settles};
+
+    // Nothing is written yet, and nothing has failed.
+    fn fresh(file: F, unsynced: Vec<Option<[u8; 512]>, A>) -> FilePages<F, A>
+        requires { length unsynced.items < 2 ^ 16 }
+        ensures { result ≡ record {
+          file = file;
+          unsynced = unsynced.items;
+          behind = false;
+          faults = 0;
+        } }
+    {
+        FilePages {
+            file,
+            unsynced,
+            behind: false,
+            faults: 0,
+        }
+    }
+
+    // One more fault.
+    fn fail(&mut self) -> DeviceFault
+        ensures counted { self.new ≡ record self.old { faults = faults_after self.old.faults } }
+        ensures later { self.old.faults ≤ self.new.faults }
+    {
+        self.faults = self.faults.saturating_add(1);
+        DeviceFault
+    }
+
+    // One more fault, after which what is unsynced is to be written again.
+    fn fall_behind(&mut self) -> DeviceFault
+        ensures counted { self.new
+            ≡ record self.old { behind = true; faults = faults_after self.old.faults } }
+        ensures later { self.old.faults ≤ self.new.faults }
+    {
+        self.behind = true;
+        self.fail()
+    }
+
+    // What a page reads as.
+    fn read_page(&mut self, index: u16) -> Result<PageRead, DeviceFault>
+        requires { index < length self.old.unsynced }
+        ensures { GivesPage index self.old self.new result }
+    {
+        if let Some(content) = self.unsynced[index as usize] {
+            return Ok(PageRead::Content(content));
+        }
+        let mut slot = [0u8; 544];
+        match read_slot(&mut self.file, index, &mut slot) {
+            Ok(true) => Ok(opened(index, &slot)),
+            Ok(false) => Ok(PageRead::Damaged),
+            Err(_) => Err(self.fail()),
+        }
+    }
+
+    // Writes a page, and keeps what was written.
+    fn write_page(&mut self, index: u16, bytes: &[u8; 512]) -> Result<(), DeviceFault>
+        requires { index < length self.old.unsynced }
+        ensures { KeepsPage index bytes.now self.old self.new result }
+    {
+        self.unsynced[index as usize] = Some(*bytes);
+        match write_slot(&mut self.file, index, &sealed(index, bytes)) {
+            Ok(()) => Ok(()),
+            Err(_) => Err(self.fall_behind()),
+        }
+    }
+
+    // Makes all that was written outlast a stop.
+    fn sync_pages(&mut self) -> Result<(), DeviceFault>
+        ensures { Settles self.old self.new result }
+    {
+        match settle(&mut self.file, &self.unsynced, self.behind) {
+            Ok(()) => {
+                forget(&mut self.unsynced);
+                self.behind = false;
+                Ok(())
+            }
+            Err(_) => Err(self.fall_behind()),
+        }
+    }
+}
+
+impl<F: Read + Write + Seek + OpenFile + Drop, A: Allocator> Pages for FilePages<F, A> {
+    ghost use Rattle.dlms_pages.specs.Device.{Goes, Reads, Writes, Syncs};
+    ghost use Rattle.dlms_pages.specs.File.{file_view, file_rules, GivesPage, KeepsPage, Settles};
+
+    ghost view = { λ f. file_view f };
+
+    ghost rules = { λ f honest. file_rules f };
+
+    fn count(&self) -> u16 {
+        self.unsynced.len() as u16
+    }
+
+    fn faults(&self) -> u64 {
+        self.faults
+    }
+
+    fn read(&mut self, index: u16) -> Result<PageRead, DeviceFault>
+        requires { index < length (file_view self.old).seen }
+        ensures goes { Goes (file_view self.old) (file_view self.new) result }
+        ensures page { (file_view self.old).honest ≡ true
+            → Reads index (file_view self.old) (file_view self.new) result }
+        ensures file { GivesPage index self.old self.new result }
+    {
+        self.read_page(index)
+    }
+
+    fn write(&mut self, index: u16, bytes: &[u8; 512]) -> Result<(), DeviceFault>
+        requires { index < length (file_view self.old).seen }
+        ensures goes { Goes (file_view self.old) (file_view self.new) result }
+        ensures written { (file_view self.old).honest ≡ true
+            → Writes index bytes.now (file_view self.old) (file_view self.new) result }
+        ensures file { KeepsPage index bytes.now self.old self.new result }
+    {
+        self.write_page(index, bytes)
+    }
+
+    fn sync(&mut self) -> Result<(), DeviceFault>
+        ensures goes { Goes (file_view self.old) (file_view self.new) result }
+        ensures synced { (file_view self.old).honest ≡ true
+            → Syncs (file_view self.old) (file_view self.new) result }
+        ensures file { Settles self.old self.new result }
+    {
+        self.sync_pages()
+    }
+}
+
+/// The room for what is written between two syncs.
+fn room<A: Allocator>(alloc: A, count: u16) -> Result<Vec<Option<[u8; 512]>, A>, AllocError>
+    ensures { IfOk result (λ pages. pages.items ≡ replicate count None) }
+{
+    vec![in alloc; None; count as usize]
+}
+
+/// Makes what the file holds outlast a stop. Where a write or a sync has failed, all is written again first, since a
+/// system may drop what a failed sync had before it, and call the next one a success.
+fn settle<F: Write + Seek + OpenFile>(
+    file: &mut F,
+    pages: &[Option<[u8; 512]>],
+    behind: bool,
+) -> io::Result<()>
+    requires { length pages.now < 2 ^ 16 }
+{
+    if behind {
+        write_again(file, pages)?;
+    }
+    file.sync_all()
+}
+
+/// Makes the name of a new file outlast a stop.
+fn sync_folder<R: Files>(rt: &R, path: &str) -> io::Result<()> {
+    let folder = match Path::new(path).parent() {
+        Some(folder) if !folder.as_str().is_empty() => folder,
+        _ => Path::new("."),
+    };
+    OpenOptions::new().read(true).open(rt, folder)?.sync_all()
+}
+
+/// Reads the slot of a page, and says whether the file has all of it.
+fn read_slot<F: Read + Seek>(file: &mut F, index: u16, slot: &mut [u8; 544]) -> io::Result<bool> {
+    file.seek(SeekFrom::Start(u64::from(index) * SLOT as u64))?;
+    match file.read_exact(slot) {
+        Ok(()) => Ok(true),
+        Err(e) if e.kind() == ErrorKind::UnexpectedEof => Ok(false),
+        Err(e) => Err(e),
+    }
+}
+
+fn write_slot<F: Write + Seek>(file: &mut F, index: u16, slot: &[u8; 544]) -> io::Result<()> {
+    file.seek(SeekFrom::Start(u64::from(index) * SLOT as u64))?;
+    file.write_all(slot.as_slice())
+}
+
+/// Writes again what was written.
+fn write_again<F: Write + Seek>(file: &mut F, pages: &[Option<[u8; 512]>]) -> io::Result<()>
+    requires { length pages.now < 2 ^ 16 }
+{
+    for index in 0..pages.len() {
+        if let Some(content) = &pages[index] {
+            let index = index as u16;
+            write_slot(file, index, &sealed(index, content))?;
+        }
+    }
+    Ok(())
+}
+
+fn forget(pages: &mut [Option<[u8; 512]>])
+    ensures { pages.new ≡ replicate (length pages.old) None }
+{
+    pages.fill(None);
+}
+
+#[cfg(test)]
+mod tests;

@@ -1,0 +1,27 @@
+//! What holds of every run of device calls, as functions whose contracts are the laws. They make no call.
+ghost use Rattle.std.specs.Prelude.{◌≡◌, ◌<◌, ℕ, List, [], ◌∷◌, length};
+ghost use Rattle.dlms_pages.specs.declared.memory.Call.TheVariants.{Write, Sync};
+ghost use Rattle.dlms_pages.specs.Laws.{StopsKeepTheRules, StopsSinceKeepTheRules, SyncsLeaveOneImage, LeavesEachOutcome};
+ghost use Rattle.dlms_pages.specs.Memory.{Memory};
+
+use crate::Pages;
+
+/// Whatever calls were made of a device since a moment at which a stop could leave one image alone, a stop leaves each
+/// page as it was then, or as a write since left it. So does a stop at any moment between.
+pub fn a_stop_leaves_old_new_or_torn_pages<P: Pages>()
+    ensures now { StopsKeepTheRules P.view }
+    ensures since { StopsSinceKeepTheRules P.view }
+{}
+
+/// After a sync that succeeded a stop leaves what reads give.
+pub fn a_sync_leaves_one_image<P: Pages>()
+    ensures { SyncsLeaveOneImage P.view }
+{}
+
+/// The rules are not trivial: in memory, a page that was written, synced and written again may be left old, new or torn,
+/// and in no other way.
+pub fn each_outcome_may_be_left_and_no_other()
+    ensures { (memory : Memory) (index : ℕ) (old new : List ℕ) → index < length memory.first
+        → memory.calls ≡ Write index old ∷ Sync ∷ Write index new ∷ []
+        → LeavesEachOutcome memory index old new }
+{}

@@ -1,0 +1,19 @@
+//! Devices of pages of 512 bytes, and what a stop of the power may leave of them.
+#![tactic(auto)]
+
+mod device;
+mod file;
+mod history;
+pub mod laws;
+mod memory;
+mod pick;
+mod plan;
+mod seal;
+
+pub use device::{DeviceFault, PageRead, Pages};
+pub use file::FilePages;
+pub use memory::{Call, MemoryPages};
+pub use pick::{Choice, Pick};
+
+#[cfg(test)]
+mod tests;

@@ -1,0 +1,260 @@
+//! Pages in memory, which keep what they held at first and every write and sync since.
+ghost use Rattle.std.specs.Prelude.{◌≡◌, ◌<◌, ◌≤◌, ◌+◌, ◌-◌, ◌^◌, ◌⊎◌, ◌↔◌, ℕ, [], ◌∷◌, ◌++◌, min, true, false, length, nat_eq, nat_le, IfOk, IsErr, OnErr, OnOk};
+ghost use Rattle.dlms_pages.specs.Device.{page_at};
+ghost use Rattle.dlms_pages.specs.Disk.{Disk, at_first, disk_after};
+ghost use Rattle.dlms_pages.specs.History.{IsHistory};
+ghost use Rattle.dlms_pages.specs.Memory.{fails_at, Passes, Fails};
+ghost use Rattle.dlms_pages.specs.Pick.{choice_at, page_left};
+
+use crate::history::{History, history_of};
+use crate::plan::{Plan, next_of};
+use crate::{Choice, DeviceFault, PageRead, Pages, Pick};
+use std::alloc::{AllocError, Allocator, Global};
+use std::marker::Model;
+
+/// A call that a stop may undo.
+#[derive(Clone, Copy, Debug, PartialEq, Eq)]
+pub enum Call {
+    Write { index: u16, bytes: [u8; 512] },
+    Sync,
+}
+
+/// A device in memory that keeps the disk rules, and that can be made to fail or to lose power. It keeps a record of
+/// each write and sync, which asks for memory as it grows; a call that finds none for it is a fault.
+#[derive(Drop)]
+pub struct MemoryPages<A: Allocator = Global> {
+    first: Vec<PageRead, A>,
+    calls: Vec<Call, A>,
+    pages: Vec<PageRead, A>,
+    plan: Plan,
+    faults: u64,
+}
+
+impl<A: Allocator> Model for MemoryPages<A> {
+    ghost use Rattle.std.specs.Prelude.{◌-◌, vec_len, vec_capacity};
+    ghost use Rattle.dlms_pages.specs.Memory.{Memory, IsKept};
+
+    ghost Value = { Memory };
+
+    ghost view = { λ m. record {
+      first = m.first.items;
+      calls = m.calls.items;
+      plan = m.plan;
+      room = vec_capacity m.calls - vec_len m.calls;
+      faults = m.faults;
+    } };
+
+    ghost invariant = { λ m. IsKept m.first.items m.calls.items m.pages.items };
+}
+
+impl<A: Allocator + Copy> MemoryPages<A> {
+    ghost use Rattle.dlms_pages.specs.Memory.{IsNew, disk_of, view_of};
+    ghost use Rattle.dlms_pages.specs.Stops.{IsFixed};
+
+    /// So many pages of zeros, as after a sync.
+    pub fn new(alloc: A, count: u16) -> Result<Self, AllocError>
+        ensures { IfOk result (IsNew count) }
+    {
+        let page = PageRead::Content([0; 512]);
+        let first = vec![in alloc; page; count as usize]?;
+        let pages = vec![in alloc; page; count as usize]?;
+        Ok(MemoryPages {
+            first,
+            calls: Vec::new(alloc),
+            pages,
+            plan: Plan::Never,
+            faults: 0,
+        })
+    }
+
+    /// Lets so many calls pass, and fails every later one.
+    pub fn fuse(&mut self, calls: u64)
+        ensures fails { (k : ℕ) → fails_at self.new.plan k ≡ nat_le calls k }
+        ensures rest { self.new ≡ record self.old { plan = self.new.plan } }
+    {
+        self.plan = Plan::From(calls);
+    }
+
+    /// Lets so many calls pass, fails the next, and lets all later ones pass.
+    pub fn fail_once(&mut self, calls: u64)
+        ensures fails { (k : ℕ) → fails_at self.new.plan k ≡ nat_eq k calls }
+        ensures rest { self.new ≡ record self.old { plan = self.new.plan } }
+    {
+        self.plan = Plan::Once(calls);
+    }
+
+    /// Stops the power. The pages hold what was picked for them, nothing is unsynced, and no call is to fail.
+    pub fn cut(self, pick: Pick<'_>) -> Self
+        ensures pages { (k : ℕ) → k < length self.first
+            → page_at result.first k ≡ page_left (disk_of self) (choice_at pick.entry k) k }
+        ensures count { length result.first ≡ length self.first }
+        ensures calls { result.calls ≡ [] }
+        ensures plan { (k : ℕ) → fails_at result.plan k ≡ false }
+        ensures faults { result.faults ≡ self.faults }
+
+        // What the power leaves is one of the images that a stop may leave, and afterwards the only one.
+        ensures left { (view_of self).may_leave result.first }
+        ensures fixed { IsFixed (view_of result) result.first }
+    {
+        let MemoryPages {
+            first,
+            calls,
+            pages,
+            plan: _,
+            faults,
+        } = self;
+        let mut first = first;
+        let mut calls = calls;
+        let mut pages = pages;
+        choose(&first, &calls, &mut pages, pick);
+        first.copy_from_slice(&pages);
+        calls.clear();
+        MemoryPages {
+            first,
+            calls,
+            pages,
+            plan: Plan::Never,
+            faults,
+        }
+    }
+
+    // One more fault.
+    fn fail(&mut self) -> DeviceFault
+        ensures counted { self.new
+            ≡ record self.old { faults = min (self.old.faults + 1) (2 ^ 64 - 1) } }
+        ensures later { self.old.faults ≤ self.new.faults }
+    {
+        self.faults = self.faults.saturating_add(1);
+        DeviceFault
+    }
+
+    // Passes one more call, or fails it where that was asked for.
+    fn pass(&mut self) -> Result<(), DeviceFault>
+        ensures due { IsErr result ↔ (fails_at self.old.plan 0 ≡ true) }
+        ensures passed { OnOk result (Passes self.old self.new self.old.calls) }
+        ensures failed { OnErr result (Fails self.old self.new) }
+        ensures room { self.new.room ≡ self.old.room }
+    {
+        let (due, later) = next_of(self.plan);
+        self.plan = later;
+        if due { Err(self.fail()) } else { Ok(()) }
+    }
+
+    // A write that is kept in the record.
+    fn record_write(&mut self, index: u16, bytes: &[u8; 512]) -> Result<(), DeviceFault>
+        requires { index < length (disk_of self.old).seen }
+        ensures due { fails_at self.old.plan 0 ≡ true → IsErr result }
+        ensures cause { OnErr result ((fails_at self.old.plan 0 ≡ true) ⊎ (self.old.room ≡ 0)) }
+        ensures passed { OnOk result (Passes self.old self.new
+            (self.old.calls ++ Call.Write index bytes.now ∷ [])) }
+        ensures failed { OnErr result (Fails self.old self.new) }
+    {
+        self.pass()?;
+        let call = Call::Write {
+            index,
+            bytes: *bytes,
+        };
+        if self.calls.push(call).is_err() {
+            return Err(self.fail());
+        }
+        self.pages[index as usize] = PageRead::Content(*bytes);
+        Ok(())
+    }
+
+    // A sync that is kept in the record.
+    fn record_sync(&mut self) -> Result<(), DeviceFault>
+        ensures due { fails_at self.old.plan 0 ≡ true → IsErr result }
+        ensures cause { OnErr result ((fails_at self.old.plan 0 ≡ true) ⊎ (self.old.room ≡ 0)) }
+        ensures passed { OnOk result (Passes self.old self.new (self.old.calls ++ Call.Sync ∷ [])) }
+        ensures failed { OnErr result (Fails self.old self.new) }
+    {
+        self.pass()?;
+        if self.calls.push(Call::Sync).is_err() {
+            return Err(self.fail());
+        }
+        Ok(())
+    }
+}
+
+// What a stop leaves of one page.
+fn left(history: History, choice: Choice) -> PageRead
+    ensures { (disk : Disk) (k : ℕ) → IsHistory disk k history → result ≡ page_left disk choice k }
+{
+    if !history.written {
+        return history.stable;
+    }
+    match choice {
+        Choice::Old => history.stable,
+        Choice::New => history.seen,
+        Choice::Torn => PageRead::Damaged,
+    }
+}
+
+fn choose(first: &[PageRead], calls: &[Call], pages: &mut [PageRead], pick: Pick<'_>)
+    requires same { length first.now ≡ length pages.old }
+    requires small { length pages.old < 2 ^ 16 }
+    ensures { (k : ℕ) → k < length pages.new
+        → page_at pages.new k ≡ page_left (disk_after (at_first first.now) calls.now) (choice_at pick.entry k) k }
+{
+    for index in 0..pages.len() {
+        let history = history_of(first[index], calls, index as u16);
+        pages[index] = left(history, pick.choice(index));
+    }
+}
+
+impl<A: Allocator + Copy> Pages for MemoryPages<A> {
+    ghost use Rattle.dlms_pages.specs.Device.{Goes, Reads, Writes, Syncs};
+    ghost use Rattle.dlms_pages.specs.Memory.{view_of};
+    ghost use Rattle.dlms_pages.specs.MemoryRules.{memory_rules};
+
+    ghost view = { λ m. view_of m };
+
+    ghost rules = { λ m honest. memory_rules m };
+
+    fn count(&self) -> u16 {
+        self.pages.len() as u16
+    }
+
+    fn faults(&self) -> u64 {
+        self.faults
+    }
+
+    fn read(&mut self, index: u16) -> Result<PageRead, DeviceFault>
+        requires { index < length (view_of self.old).seen }
+        ensures goes { Goes (view_of self.old) (view_of self.new) result }
+        ensures page { (view_of self.old).honest ≡ true
+            → Reads index (view_of self.old) (view_of self.new) result }
+        ensures due { IsErr result ↔ (fails_at self.old.plan 0 ≡ true) }
+        ensures passed { OnOk result (Passes self.old self.new self.old.calls) }
+        ensures failed { OnErr result (Fails self.old self.new) }
+    {
+        self.pass()?;
+        Ok(self.pages[index as usize])
+    }
+
+    fn write(&mut self, index: u16, bytes: &[u8; 512]) -> Result<(), DeviceFault>
+        requires { index < length (view_of self.old).seen }
+        ensures goes { Goes (view_of self.old) (view_of self.new) result }
+        ensures written { (view_of self.old).honest ≡ true
+            → Writes index bytes.now (view_of self.old) (view_of self.new) result }
+        ensures due { fails_at self.old.plan 0 ≡ true → IsErr result }
+        ensures cause { OnErr result ((fails_at self.old.plan 0 ≡ true) ⊎ (self.old.room ≡ 0)) }
+        ensures passed { OnOk result (Passes self.old self.new
+            (self.old.calls ++ Call.Write index bytes.now ∷ [])) }
+        ensures failed { OnErr result (Fails self.old self.new) }
+    {
+        self.record_write(index, bytes)
+    }
+
+    fn sync(&mut self) -> Result<(), DeviceFault>
+        ensures goes { Goes (view_of self.old) (view_of self.new) result }
+        ensures synced { (view_of self.old).honest ≡ true
+            → Syncs (view_of self.old) (view_of self.new) result }
+        ensures due { fails_at self.old.plan 0 ≡ true → IsErr result }
+        ensures cause { OnErr result ((fails_at self.old.plan 0 ≡ true) ⊎ (self.old.room ≡ 0)) }
+        ensures passed { OnOk result (Passes self.old self.new (self.old.calls ++ Call.Sync ∷ [])) }
+        ensures failed { OnErr result (Fails self.old self.new) }
+    {
+        self.record_sync()
+    }
+}
