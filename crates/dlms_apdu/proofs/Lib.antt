@@ -4,5 +4,7 @@ pub mod Takes
 pub mod Options
 pub mod Requests
 pub mod Responses
+pub mod Followed
+pub mod Firm
 pub mod Written
 pub mod WholeLaws

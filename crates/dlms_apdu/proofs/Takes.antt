@@ -9,7 +9,7 @@ use Rattle.dlms_data.specs.Reading.{Fault, data_at, octets_at}
 use Rattle.dlms_data.proofs.Takes.{octets_takes, octets_again, spelled}
 use Rattle.dlms_data.proofs.WholeLaws.{reads_what_is_spelled}
 use Rattle.dlms_apdu.specs.declared.fault.Refusal.{Refusal}
-use Rattle.dlms_apdu.specs.declared.fault.Refusal.TheVariants.{Short, Choice, Data}
+use Rattle.dlms_apdu.specs.declared.fault.Refusal.TheVariants.{Short, Choice, Trailing, Data}
 use Rattle.dlms_apdu.specs.Forms.{Selection, BlockForm}
 use Rattle.dlms_apdu.specs.Reading.{and_then, byte_at, taken_at, number_at, flag_at, descriptor_at, value_from, value_at, raw_from, raw_at, end_at, ended, chosen, choice_at, no_option_at, some_selector_at, selector_at, some_parameter_at, parameter_at, block_at}
 use Rattle.dlms_apdu.specs.Spelling.{◌▷◌, IsByte, IsNumber, AreBytes, IsFlag, IsDescriptor, IsValue, IsSelector, IsParameter, IsRaw}
@@ -30,6 +30,9 @@ step (Err d) f y e = absurd cc
 abbrev pub done : {A : Type 0} → A → Result A Refusal
 done x = Ok x
 
+abbrev pub failed : {A : Type 0} → Refusal → Result A Refusal
+failed d = Err d
+
 pub ok_is : {A : Type 0} (x y : A) → done x ≡ done y → x ≡ y
 ok_is x y e = cc
 
@@ -41,16 +44,15 @@ goes_on r f bytes front rest x parts e =
     let whole : r bytes ≡ done (x, rest) = ap r parts ∙ e in
     rw whole refl
 
--- and of bytes that are the part
-pub ends_with : {X B : Type 0} (r : List ℕ → Result (X × List ℕ) Refusal) (f : X × List ℕ → Result B Refusal) (bytes : List ℕ) (x : X) → r (bytes ++ []) ≡ Ok (x, [])
-    → and_then (r bytes) f ≡ f (x, [])
-ends_with r f bytes x e = goes_on r f bytes bytes [] x (sym (append-nil bytes)) e
-
 -- nothing stands behind
 pub ended_ok : {Y : Type 0} (y z : Y) (rest : List ℕ) → ended y rest ≡ Ok z → (rest ≡ []) × (y ≡ z)
 unfolding and_then
 ended_ok y z [] e = (refl, ok_is y z e)
 ended_ok y z (b ∷ rest) e = absurd cc
+
+pub ended_before : {Y : Type 0} (y : Y) (b : ℕ) (more : List ℕ) → ended y (b ∷ more) ≡ Err Trailing
+unfolding and_then
+ended_before y b more = refl
 
 pub ended_again : {Y : Type 0} (y : Y) → ended y [] ≡ Ok y
 unfolding and_then
@@ -82,7 +84,7 @@ abbrev pub Chose : {Y : Type 0} → List (ℕ × (List ℕ → Result Y Refusal)
 Chose [] bytes y = ⊥
 Chose (row ∷ rows) bytes y = ((rest : List ℕ) × (bytes ≡ row.0 ∷ rest) × (row.1 rest ≡ Ok y)) ⊎ Chose rows bytes y
 
-went : {A : Type 0} (b : Bool) (x y z : A) → cond b x y ≡ z → ((b ≡ true) × (x ≡ z)) ⊎ (y ≡ z)
+pub went : {A : Type 0} (b : Bool) (x y z : A) → cond b x y ≡ z → ((b ≡ true) × (x ≡ z)) ⊎ (y ≡ z)
 went true x y z e = inl (refl, e)
 went false x y z e = inr e
 

@@ -1,5 +1,6 @@
 -- Laws of reading and writing.
-use Rattle.std.specs.Prelude.{◌≡◌, ◌↔◌, ℕ, List, Ok}
+use Rattle.std.specs.Prelude.{◌≡◌, ◌↔◌, ◌⊎◌, ℕ, List, ◌∷◌, ◌++◌, Ok, Err}
+use Rattle.dlms_apdu.specs.declared.fault.Refusal.TheVariants.{Short, Choice, Trailing, Data}
 use Rattle.dlms_apdu.specs.Forms.{RequestForm, ResponseForm}
 use Rattle.dlms_apdu.specs.Reading.{request_at, response_at}
 use Rattle.dlms_apdu.specs.Spelling.{SpellsRequest, SpellsResponse}
@@ -25,3 +26,28 @@ ReadsWrittenRequests = (r : RequestForm) → RequestFits r → RequestInRange r 
 
 abbrev pub ReadsWrittenResponses : Type 0
 ReadsWrittenResponses = (r : ResponseForm) → ResponseFits r → ResponseInRange r → response_at (response_bytes r) ≡ Ok r
+
+-- Trailing is told where a spelling stands in front of more bytes, and nowhere else
+abbrev pub TellsWhatFollowsARequest : Type 0
+TellsWhatFollowsARequest =
+    (bytes : List ℕ) → (request_at bytes ≡ Err Trailing) ↔ ((front : List ℕ) × (b : ℕ) × (more : List ℕ) × (bytes ≡ front ++ b ∷ more) × ((r : RequestForm) × SpellsRequest front r))
+
+abbrev pub TellsWhatFollowsAResponse : Type 0
+TellsWhatFollowsAResponse =
+    (bytes : List ℕ) → (response_at bytes ≡ Err Trailing) ↔ ((front : List ℕ) × (b : ℕ) × (more : List ℕ) × (bytes ≡ front ++ b ∷ more) × ((r : ResponseForm) × SpellsResponse front r))
+
+-- Choice is told for good: however the bytes go on, it is told again
+abbrev pub KeepsRefusingRequests : Type 0
+KeepsRefusingRequests = (bytes more : List ℕ) → request_at bytes ≡ Err Choice → request_at (bytes ++ more) ≡ Err Choice
+
+abbrev pub KeepsRefusingResponses : Type 0
+KeepsRefusingResponses = (bytes more : List ℕ) → response_at bytes ≡ Err Choice → response_at (bytes ++ more) ≡ Err Choice
+
+-- a spelling that is cut short is refused as Short, or as Data where it is a value that is cut
+abbrev pub TellsBeginningsOfRequests : Type 0
+TellsBeginningsOfRequests =
+    (bytes more : List ℕ) (b : ℕ) (r : RequestForm) → SpellsRequest (bytes ++ b ∷ more) r → (request_at bytes ≡ Err Short) ⊎ (request_at bytes ≡ Err Data)
+
+abbrev pub TellsBeginningsOfResponses : Type 0
+TellsBeginningsOfResponses =
+    (bytes more : List ℕ) (b : ℕ) (r : ResponseForm) → SpellsResponse (bytes ++ b ∷ more) r → (response_at bytes ≡ Err Short) ⊎ (response_at bytes ≡ Err Data)

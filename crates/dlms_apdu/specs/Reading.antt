@@ -10,6 +10,7 @@ use Rattle.dlms_apdu.specs.declared.fault.Refusal.{Refusal}
 use Rattle.dlms_apdu.specs.declared.fault.Refusal.TheVariants.{Short, Choice, Trailing, Data}
 use Rattle.dlms_apdu.specs.Forms.{Selection, BlockForm, RequestForm, ResponseForm, get_normal, get_next, set_normal, set_first, set_block, action_normal, action_first, action_block, get_data, get_result, get_block, get_block_result, set_result, set_block_taken, set_last, action_result, action_block_taken, exception}
 
+-- what is read further, where a step did not fail
 unfoldable pub and_then : {A B : Type 0} → Result A Refusal → (A → Result B Refusal) → Result B Refusal
 and_then (Ok x) f = f x
 and_then (Err e) f = Err e
@@ -206,7 +207,8 @@ action_at bytes = choice_at ((1, action_normal_at) ∷ (4, action_first_at) ∷ 
 unfoldable pub request_at : List ℕ → Result RequestForm Refusal
 request_at bytes = choice_at ((0xC0, get_at) ∷ (0xC1, set_at) ∷ (0xC3, action_at) ∷ []) bytes
 
--- what needs memory: a value
+-- ---- what needs memory: a value
+
 abbrev pub IsThere : {Y : Type 0} → Option Y → Type 0
 IsThere None = ⊥
 IsThere (Some y) = Unit {0}
@@ -306,6 +308,7 @@ action_response_at bytes = choice_at ((1, action_result_at) ∷ (4, action_block
 unfoldable pub response_at : List ℕ → Result ResponseForm Refusal
 response_at bytes = choice_at ((0xC4, get_response_at) ∷ (0xC5, set_response_at) ∷ (0xC7, action_response_at) ∷ (0xD8, exception_at) ∷ []) bytes
 
+-- and of a response
 abbrev pub HoldsData : ResponseForm → Type 0
 HoldsData (get_data invoke v) = Unit {0}
 HoldsData _ = ⊥

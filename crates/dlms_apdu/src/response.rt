@@ -8,51 +8,56 @@ use std::alloc::{Allocator, Global};
 /// number of a block; `raw` are a block's bytes, which stay where they were read.
 #[derive(Debug, Drop)]
 pub enum Response<'a, A: Allocator = Global> {
+    /// `c4 01`, invoke, `00`, value.
     GetData {
         invoke: u8,
         value: Data<A>,
     },
+    /// `c4 01`, invoke, `01`, result.
     GetResult {
         invoke: u8,
         result: u8,
     },
+    /// `c4 02`, invoke, last (a byte), number (4), `00`, a length and the raw bytes.
     GetBlock {
         invoke: u8,
         last: bool,
         number: u32,
         raw: &'a [u8],
     },
-    /// No block: the transfer ends with a result.
+    /// `c4 02`, invoke, `01`, number, `01`, result: no block, the transfer ends with a result.
     GetBlockResult {
         invoke: u8,
         number: u32,
         result: u8,
     },
+    /// `c5 01`, invoke, result.
     SetResult {
         invoke: u8,
         result: u8,
     },
-    /// A block of a value to set has come, and it was not the last one.
+    /// `c5 02`, invoke, number: a block of a value to set has come, and it was not the last one.
     SetBlock {
         invoke: u8,
         number: u32,
     },
-    /// The last block has come, or the transfer ends before it.
+    /// `c5 03`, invoke, result, number: the last block has come, or the transfer ends before it.
     SetLast {
         invoke: u8,
         result: u8,
         number: u32,
     },
+    /// `c7 01`, invoke, result, `00` (nothing is returned beside the result).
     ActionResult {
         invoke: u8,
         result: u8,
     },
-    /// A block of a method's parameter has come, and it was not the last one.
+    /// `c7 04`, invoke, number: a block of a method's parameter has come, and it was not the last one.
     ActionBlock {
         invoke: u8,
         number: u32,
     },
-    /// The request was not served: the state error and the service error.
+    /// `d8`, state, service: the request was not served, with the state error and the service error.
     Exception {
         state: u8,
         service: u8,

@@ -1,0 +1,5 @@
+use Rattle.dlms_apdu.proofs.WholeLaws.{tells_beginnings_of_requests}
+use Rattle.dlms_apdu.proofs.laws.tells_beginnings_of_requests.Goals as goal
+
+pub returns : goal.returns
+returns c = tells_beginnings_of_requests
