@@ -1,0 +1,10 @@
+//! The objects of the meter, who may do what with them, and what a service on one of them answers.
+#![tactic(auto)]
+
+mod access;
+mod lookup;
+mod planning;
+mod table;
+
+pub use access::AccessResult;
+pub use planning::{plan_action, plan_set};
