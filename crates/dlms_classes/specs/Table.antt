@@ -80,18 +80,35 @@ watt_hours = 30
 abbrev pub var_hours : ℕ
 var_hours = 32
 
+abbrev pub clock : Entry
+clock = clock_entry (0 ∷ 0 ∷ 1 ∷ 0 ∷ 0 ∷ 255 ∷ [])
+
+abbrev pub energy_imported : Entry
+energy_imported = register_entry (1 ∷ 0 ∷ 1 ∷ 8 ∷ 0 ∷ 255 ∷ []) 0 watt_hours
+
+abbrev pub energy_exported : Entry
+energy_exported = register_entry (1 ∷ 0 ∷ 2 ∷ 8 ∷ 0 ∷ 255 ∷ []) 1 watt_hours
+
+abbrev pub reactive_energy : Entry
+reactive_energy = register_entry (1 ∷ 0 ∷ 3 ∷ 8 ∷ 0 ∷ 255 ∷ []) 2 var_hours
+
+-- the objects, in the order of the object list
 abbrev pub objects : List Entry
 objects =
     data_entry (0 ∷ 0 ∷ 42 ∷ 0 ∷ 0 ∷ 255 ∷ []) (shows DeviceName)
     ∷ association_entry (0 ∷ 0 ∷ 40 ∷ 0 ∷ 0 ∷ 255 ∷ [])
-    ∷ clock_entry (0 ∷ 0 ∷ 1 ∷ 0 ∷ 0 ∷ 255 ∷ [])
+    ∷ clock
     ∷ data_entry (0 ∷ 0 ∷ 96 ∷ 1 ∷ 0 ∷ 255 ∷ []) (shows SerialNumber)
     ∷ data_entry (0 ∷ 0 ∷ 96 ∷ 1 ∷ 1 ∷ 255 ∷ []) (sets Text)
-    ∷ register_entry (1 ∷ 0 ∷ 1 ∷ 8 ∷ 0 ∷ 255 ∷ []) 0 watt_hours
-    ∷ register_entry (1 ∷ 0 ∷ 2 ∷ 8 ∷ 0 ∷ 255 ∷ []) 1 watt_hours
-    ∷ register_entry (1 ∷ 0 ∷ 3 ∷ 8 ∷ 0 ∷ 255 ∷ []) 2 var_hours
+    ∷ energy_imported
+    ∷ energy_exported
+    ∷ reactive_energy
     ∷ profile_entry (1 ∷ 0 ∷ 99 ∷ 1 ∷ 0 ∷ 255 ∷ [])
     ∷ []
+
+-- the objects whose second attribute is a column of the load profile, in the order of the columns
+abbrev pub columns : List Entry
+columns = clock ∷ energy_imported ∷ energy_exported ∷ reactive_energy ∷ []
 
 -- a row of the program's table as a row of this one
 abbrev pub entry_of : Object → Entry

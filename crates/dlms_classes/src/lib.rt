@@ -2,9 +2,16 @@
 #![tactic(auto)]
 
 mod access;
+mod building;
+mod choosing;
+mod listing;
 mod lookup;
 mod planning;
+mod reading;
+mod rows;
+mod showing;
 mod table;
 
 pub use access::AccessResult;
 pub use planning::{plan_action, plan_set};
+pub use reading::get;

@@ -1,5 +1,10 @@
 //! The objects: the one place that says which there are, what they hold, and who may read, write and call it.
 
+/// Units, in the standard's numbering.
+const WATT_HOURS: u8 = 30;
+
+const VAR_HOURS: u8 = 32;
+
 /// What an attribute holds.
 #[derive(Clone, Copy, Debug, PartialEq, Eq)]
 pub enum Content {
@@ -71,277 +76,168 @@ pub struct Object {
     pub methods: &'static [Call],
 }
 
-const NAME: Attribute = Attribute {
-    content: Content::LogicalName,
-    public: Rights::Read,
-    management: Rights::Read,
+/// An attribute with the rights of the public client and of management.
+macro_rules! holds {
+    ($content:expr, $public:ident, $management:ident) => {
+        Attribute {
+            content: $content,
+            public: Rights::$public,
+            management: Rights::$management,
+        }
+    };
+}
+
+/// An attribute that both clients may read.
+macro_rules! shows {
+    ($content:expr) => {
+        holds!($content, Read, Read)
+    };
+}
+
+/// An attribute that both clients may read, and management may set.
+macro_rules! sets {
+    ($content:expr) => {
+        holds!($content, Read, ReadWrite)
+    };
+}
+
+const DEVICE_NAME: Object = Object {
+    class: 1,
+    version: 0,
+    name: [0, 0, 42, 0, 0, 255],
+    attributes: &[shows!(Content::LogicalName), shows!(Content::DeviceName)],
+    methods: &[],
 };
 
-const DEVICE_NAME: Attribute = Attribute {
-    content: Content::DeviceName,
-    public: Rights::Read,
-    management: Rights::Read,
+const ASSOCIATION: Object = Object {
+    class: 15,
+    version: 0,
+    name: [0, 0, 40, 0, 0, 255],
+    attributes: &[
+        shows!(Content::LogicalName),
+        shows!(Content::ObjectList),
+        shows!(Content::AssociatedPartners),
+        holds!(Content::Withheld, Nothing, Nothing),
+        holds!(Content::Withheld, Nothing, Nothing),
+        holds!(Content::Withheld, Nothing, Nothing),
+        holds!(Content::Secret, Nothing, Write),
+        shows!(Content::AssociationStatus),
+    ],
+    methods: &[
+        Call::Withheld,
+        Call::Withheld,
+        Call::Withheld,
+        Call::Withheld,
+    ],
 };
 
-const SERIAL_NUMBER: Attribute = Attribute {
-    content: Content::SerialNumber,
-    public: Rights::Read,
-    management: Rights::Read,
+/// The first of the columns, and the object of a selection by range.
+pub const CLOCK: Object = Object {
+    class: 8,
+    version: 0,
+    name: [0, 0, 1, 0, 0, 255],
+    attributes: &[
+        shows!(Content::LogicalName),
+        sets!(Content::Time),
+        shows!(Content::TimeZone),
+        shows!(Content::ClockStatus),
+        shows!(Content::DaylightTime),
+        shows!(Content::DaylightTime),
+        shows!(Content::DaylightDeviation),
+        shows!(Content::DaylightEnabled),
+        shows!(Content::ClockBase),
+    ],
+    methods: &[
+        Call::Withheld,
+        Call::Withheld,
+        Call::AdjustToMinute,
+        Call::Withheld,
+        Call::Withheld,
+        Call::ShiftTime,
+    ],
 };
 
-const TEXT: Attribute = Attribute {
-    content: Content::Text,
-    public: Rights::Read,
-    management: Rights::ReadWrite,
+const SERIAL_NUMBER: Object = Object {
+    class: 1,
+    version: 0,
+    name: [0, 0, 96, 1, 0, 255],
+    attributes: &[shows!(Content::LogicalName), shows!(Content::SerialNumber)],
+    methods: &[],
 };
 
-const TIME: Attribute = Attribute {
-    content: Content::Time,
-    public: Rights::Read,
-    management: Rights::ReadWrite,
+const TEXT: Object = Object {
+    class: 1,
+    version: 0,
+    name: [0, 0, 96, 1, 1, 255],
+    attributes: &[shows!(Content::LogicalName), sets!(Content::Text)],
+    methods: &[],
 };
 
-const TIME_ZONE: Attribute = Attribute {
-    content: Content::TimeZone,
-    public: Rights::Read,
-    management: Rights::Read,
+const ENERGY_IMPORTED: Object = Object {
+    class: 3,
+    version: 0,
+    name: [1, 0, 1, 8, 0, 255],
+    attributes: &[
+        shows!(Content::LogicalName),
+        shows!(Content::Register(0)),
+        shows!(Content::ScalerUnit(WATT_HOURS)),
+    ],
+    methods: &[Call::ResetRegister(0)],
 };
 
-const CLOCK_STATUS: Attribute = Attribute {
-    content: Content::ClockStatus,
-    public: Rights::Read,
-    management: Rights::Read,
+const ENERGY_EXPORTED: Object = Object {
+    class: 3,
+    version: 0,
+    name: [1, 0, 2, 8, 0, 255],
+    attributes: &[
+        shows!(Content::LogicalName),
+        shows!(Content::Register(1)),
+        shows!(Content::ScalerUnit(WATT_HOURS)),
+    ],
+    methods: &[Call::ResetRegister(1)],
 };
 
-const DAYLIGHT_TIME: Attribute = Attribute {
-    content: Content::DaylightTime,
-    public: Rights::Read,
-    management: Rights::Read,
+const REACTIVE_ENERGY: Object = Object {
+    class: 3,
+    version: 0,
+    name: [1, 0, 3, 8, 0, 255],
+    attributes: &[
+        shows!(Content::LogicalName),
+        shows!(Content::Register(2)),
+        shows!(Content::ScalerUnit(VAR_HOURS)),
+    ],
+    methods: &[Call::ResetRegister(2)],
 };
 
-const DAYLIGHT_DEVIATION: Attribute = Attribute {
-    content: Content::DaylightDeviation,
-    public: Rights::Read,
-    management: Rights::Read,
-};
-
-const DAYLIGHT_ENABLED: Attribute = Attribute {
-    content: Content::DaylightEnabled,
-    public: Rights::Read,
-    management: Rights::Read,
-};
-
-const CLOCK_BASE: Attribute = Attribute {
-    content: Content::ClockBase,
-    public: Rights::Read,
-    management: Rights::Read,
-};
-
-const OBJECT_LIST: Attribute = Attribute {
-    content: Content::ObjectList,
-    public: Rights::Read,
-    management: Rights::Read,
-};
-
-const ASSOCIATED_PARTNERS: Attribute = Attribute {
-    content: Content::AssociatedPartners,
-    public: Rights::Read,
-    management: Rights::Read,
-};
-
-const WITHHELD: Attribute = Attribute {
-    content: Content::Withheld,
-    public: Rights::Nothing,
-    management: Rights::Nothing,
-};
-
-const SECRET: Attribute = Attribute {
-    content: Content::Secret,
-    public: Rights::Nothing,
-    management: Rights::Write,
-};
-
-const ASSOCIATION_STATUS: Attribute = Attribute {
-    content: Content::AssociationStatus,
-    public: Rights::Read,
-    management: Rights::Read,
-};
-
-const BUFFER: Attribute = Attribute {
-    content: Content::Buffer,
-    public: Rights::Nothing,
-    management: Rights::Read,
-};
-
-const CAPTURE_OBJECTS: Attribute = Attribute {
-    content: Content::CaptureObjects,
-    public: Rights::Read,
-    management: Rights::Read,
-};
-
-const CAPTURE_PERIOD: Attribute = Attribute {
-    content: Content::CapturePeriod,
-    public: Rights::Read,
-    management: Rights::ReadWrite,
-};
-
-const SORT_METHOD: Attribute = Attribute {
-    content: Content::SortMethod,
-    public: Rights::Read,
-    management: Rights::Read,
-};
-
-const SORT_OBJECT: Attribute = Attribute {
-    content: Content::SortObject,
-    public: Rights::Read,
-    management: Rights::Read,
-};
-
-const ENTRIES_IN_USE: Attribute = Attribute {
-    content: Content::EntriesInUse,
-    public: Rights::Read,
-    management: Rights::Read,
-};
-
-const PROFILE_ENTRIES: Attribute = Attribute {
-    content: Content::ProfileEntries,
-    public: Rights::Read,
-    management: Rights::Read,
-};
-
-const ENERGY_IMPORTED: Attribute = Attribute {
-    content: Content::Register(0),
-    public: Rights::Read,
-    management: Rights::Read,
-};
-
-const ENERGY_EXPORTED: Attribute = Attribute {
-    content: Content::Register(1),
-    public: Rights::Read,
-    management: Rights::Read,
-};
-
-const REACTIVE_ENERGY: Attribute = Attribute {
-    content: Content::Register(2),
-    public: Rights::Read,
-    management: Rights::Read,
-};
-
-const WATT_HOURS: Attribute = Attribute {
-    content: Content::ScalerUnit(30),
-    public: Rights::Read,
-    management: Rights::Read,
-};
-
-const VAR_HOURS: Attribute = Attribute {
-    content: Content::ScalerUnit(32),
-    public: Rights::Read,
-    management: Rights::Read,
+const PROFILE: Object = Object {
+    class: 7,
+    version: 1,
+    name: [1, 0, 99, 1, 0, 255],
+    attributes: &[
+        shows!(Content::LogicalName),
+        holds!(Content::Buffer, Nothing, Read),
+        shows!(Content::CaptureObjects),
+        sets!(Content::CapturePeriod),
+        shows!(Content::SortMethod),
+        shows!(Content::SortObject),
+        shows!(Content::EntriesInUse),
+        shows!(Content::ProfileEntries),
+    ],
+    methods: &[Call::ResetProfile, Call::Capture],
 };
 
 /// The objects, in the order of the object list.
 pub const OBJECTS: [Object; 9] = [
-    Object {
-        class: 1,
-        version: 0,
-        name: [0, 0, 42, 0, 0, 255],
-        attributes: &[NAME, DEVICE_NAME],
-        methods: &[],
-    },
-    Object {
-        class: 15,
-        version: 0,
-        name: [0, 0, 40, 0, 0, 255],
-        attributes: &[
-            NAME,
-            OBJECT_LIST,
-            ASSOCIATED_PARTNERS,
-            WITHHELD,
-            WITHHELD,
-            WITHHELD,
-            SECRET,
-            ASSOCIATION_STATUS,
-        ],
-        methods: &[
-            Call::Withheld,
-            Call::Withheld,
-            Call::Withheld,
-            Call::Withheld,
-        ],
-    },
-    Object {
-        class: 8,
-        version: 0,
-        name: [0, 0, 1, 0, 0, 255],
-        attributes: &[
-            NAME,
-            TIME,
-            TIME_ZONE,
-            CLOCK_STATUS,
-            DAYLIGHT_TIME,
-            DAYLIGHT_TIME,
-            DAYLIGHT_DEVIATION,
-            DAYLIGHT_ENABLED,
-            CLOCK_BASE,
-        ],
-        methods: &[
-            Call::Withheld,
-            Call::Withheld,
-            Call::AdjustToMinute,
-            Call::Withheld,
-            Call::Withheld,
-            Call::ShiftTime,
-        ],
-    },
-    Object {
-        class: 1,
-        version: 0,
-        name: [0, 0, 96, 1, 0, 255],
-        attributes: &[NAME, SERIAL_NUMBER],
-        methods: &[],
-    },
-    Object {
-        class: 1,
-        version: 0,
-        name: [0, 0, 96, 1, 1, 255],
-        attributes: &[NAME, TEXT],
-        methods: &[],
-    },
-    Object {
-        class: 3,
-        version: 0,
-        name: [1, 0, 1, 8, 0, 255],
-        attributes: &[NAME, ENERGY_IMPORTED, WATT_HOURS],
-        methods: &[Call::ResetRegister(0)],
-    },
-    Object {
-        class: 3,
-        version: 0,
-        name: [1, 0, 2, 8, 0, 255],
-        attributes: &[NAME, ENERGY_EXPORTED, WATT_HOURS],
-        methods: &[Call::ResetRegister(1)],
-    },
-    Object {
-        class: 3,
-        version: 0,
-        name: [1, 0, 3, 8, 0, 255],
-        attributes: &[NAME, REACTIVE_ENERGY, VAR_HOURS],
-        methods: &[Call::ResetRegister(2)],
-    },
-    Object {
-        class: 7,
-        version: 1,
-        name: [1, 0, 99, 1, 0, 255],
-        attributes: &[
-            NAME,
-            BUFFER,
-            CAPTURE_OBJECTS,
-            CAPTURE_PERIOD,
-            SORT_METHOD,
-            SORT_OBJECT,
-            ENTRIES_IN_USE,
-            PROFILE_ENTRIES,
-        ],
-        methods: &[Call::ResetProfile, Call::Capture],
-    },
+    DEVICE_NAME,
+    ASSOCIATION,
+    CLOCK,
+    SERIAL_NUMBER,
+    TEXT,
+    ENERGY_IMPORTED,
+    ENERGY_EXPORTED,
+    REACTIVE_ENERGY,
+    PROFILE,
 ];
+
+/// The objects whose second attribute is a column of the load profile, in the order of the columns.
+pub const COLUMNS: [Object; 4] = [CLOCK, ENERGY_IMPORTED, ENERGY_EXPORTED, REACTIVE_ENERGY];

@@ -1,0 +1,4 @@
+pub mod Answering
+pub mod Fours
+pub mod Listed
+pub mod Matching
