@@ -1,5 +1,5 @@
 -- The answer of GET, step by step.
-use Rattle.std.proofs.Common.{◌≡◌, ℕ, Option, Result, Ok, Err}
+use Rattle.std.proofs.Common.{◌≡◌, Option, Result, Ok, Err}
 use Rattle.dlms_data.specs.declared.data.Data.{Data}
 use Rattle.dlms_data.specs.declared.descriptor.Descriptor.{Descriptor}
 use Rattle.dlms_data.specs.View.{value_of}
@@ -12,7 +12,7 @@ use Rattle.dlms_classes.specs.declared.choosing.Choice.TheVariants.{Whole, Betwe
 use Rattle.dlms_classes.specs.declared.table.Attribute.{Attribute}
 use Rattle.dlms_classes.specs.declared.table.Content.{Content}
 use Rattle.dlms_classes.specs.Access.{◌>>=◌, readable}
-use Rattle.dlms_classes.specs.Answer.{IsAnswer, Wanted, Lacks, wanted}
+use Rattle.dlms_classes.specs.Answer.{IsAnswer, Wanted, wanted}
 use Rattle.dlms_classes.specs.Choice.{Selection, part_of, Picks, HasSeconds, IsChoice}
 use Rattle.dlms_classes.specs.Shown.{Part, whole, between, cut, Shows, shown}
 

@@ -1,5 +1,5 @@
 -- The values of a structure of four.
-use Rattle.std.proofs.Common.{◌≡◌, ℕ, List, [], ◌∷◌, length, get_or, Ok, Err, refl}
+use Rattle.std.proofs.Common.{◌≡◌, List, [], ◌∷◌, length, get_or, Ok, Err, refl}
 use Rattle.dlms_data.specs.declared.data.Data.{Data}
 use Rattle.dlms_data.specs.Value.{structure}
 use Rattle.dlms_data.specs.View.{value_of, values_of}

@@ -2,3 +2,5 @@ pub mod Answering
 pub mod Fours
 pub mod Listed
 pub mod Matching
+pub mod OneValue
+pub mod Times

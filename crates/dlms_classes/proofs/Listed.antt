@@ -2,7 +2,7 @@
 use Rattle.std.proofs.Common.{◌≡◌, ℕ, suc, ◌+◌, ◌<◌, List, [], ◌∷◌, ◌++◌, length, take, map, get_or, refl, ap, ◌∙◌, sym, arith, add-zero, length-take}
 use Rattle.std.specs.List.{enumerate_from}
 use Rattle.std.proofs.lemmas.List.{take_more, map-append}
-use Rattle.dlms_data.specs.Value.{Value, Values, none, cons, push_value}
+use Rattle.dlms_data.specs.Value.{Value, Values, cons, push_value}
 use Rattle.dlms_classes.specs.Listing.{map_values}
 
 pub map_values-push : {X : Type 0} (f : X → Value) (xs : List X) (x : X) → map_values f (xs ++ x ∷ []) ≡ push_value (map_values f xs) (f x)

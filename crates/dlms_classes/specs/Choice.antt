@@ -1,9 +1,9 @@
 -- Which part of the buffer a selector wants (buffer of class Profile generic, Blue Book 4.3.6: range_descriptor and
 -- entry_descriptor). All types are looked at before any value.
-use Rattle.std.specs.Prelude.{◌≡◌, ◌<◌, ◌≤◌, ℕ, ◌==◌, ◌&&◌, ◌||◌, nat_le, nat_lt, if◌then◌else◌, Bool, true, false, List, Option, Some, None, Result, Ok, Err, MatchResult, ℤ, pos, ⊤}
+use Rattle.std.specs.Prelude.{◌≡◌, ◌<◌, ◌≤◌, ℕ, ◌==◌, ◌&&◌, nat_le, nat_lt, if◌then◌else◌, Bool, true, false, List, Option, Some, None, Result, Ok, Err, MatchResult, ℤ, pos, ⊤}
 use Rattle.std.specs.Ordering.{int_eq}
 use Rattle.std.specs.Str.{bytes_eq}
-use Rattle.dlms_data.specs.Value.{Value, Values, array, structure, double_long_unsigned, octet_string, integer, long_unsigned, none, cons}
+use Rattle.dlms_data.specs.Value.{Value, array, structure, double_long_unsigned, octet_string, integer, long_unsigned, none, cons}
 use Rattle.dlms_data.specs.View.{value_of}
 use Rattle.dlms_data.specs.DateTime.{NamesSecond}
 use Rattle.dlms_data.specs.declared.descriptor.Selector.{Selector}

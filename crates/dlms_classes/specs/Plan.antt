@@ -1,6 +1,6 @@
 -- Which event a service asks for: the values that SET and ACTION take (IEC 62056-6-2: value of class Data, time of class
 -- Clock, capture_period of class Profile generic, secret of class Association LN, and the methods).
-use Rattle.std.specs.Prelude.{◌≡◌, ℕ, ◌==◌, if◌then◌else◌, List, length, Option, Some, None, Result, Ok, Err, MatchResult}
+use Rattle.std.specs.Prelude.{◌≡◌, ℕ, ◌==◌, if◌then◌else◌, List, length, Option, Some, Result, Ok, Err, MatchResult}
 use Rattle.dlms_data.specs.Value.{Value, octet_string, visible_string, double_long_unsigned, long, date_time}
 use Rattle.dlms_data.specs.DateTime.{NamesSecond}
 use Rattle.dlms_data.specs.declared.descriptor.Descriptor.{Descriptor}

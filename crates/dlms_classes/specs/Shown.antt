@@ -1,6 +1,6 @@
 -- What an answer shows, and which value shows it: the attributes' values of IEC 62056-6-2 (Blue Book: Data 4.3.1, Register
 -- 4.3.2, Profile generic 4.3.6, Association LN 4.4.4, Clock 4.5.1). The constants are the meter's own.
-use Rattle.std.specs.Prelude.{◌≡◌, ℕ, ◌-◌, ◌==◌, ◌≤◌, ◌||◌, nat_lt, if◌then◌else◌, List, [], ◌∷◌, map, length, slice_index, slice_range, codes, replicate, pos, ⊤, false}
+use Rattle.std.specs.Prelude.{◌≡◌, ℕ, ◌-◌, ◌==◌, ◌<◌, ◌≤◌, ◌^◌, All, ◌||◌, nat_lt, if◌then◌else◌, List, [], ◌∷◌, map, length, slice_index, slice_range, codes, replicate, pos, ⊤, false}
 use Rattle.dlms_data.specs.Value.{Value, Values, null, array, structure, boolean, double_long_unsigned, octet_string, integer, long, unsigned, long_unsigned, enumerated, none, cons}
 use Rattle.dlms_data.specs.DateTime.{NamesSecond, IsPlainlyWritten, last_second}
 use Rattle.dlms_data.specs.declared.descriptor.Descriptor.{Descriptor}
@@ -101,6 +101,7 @@ shown s client d p Secret = as_value null
 -- an octet-string of the second's date-time, plainly written
 pub record IsTime (moment : ℕ) (v : Value) : Type 0 where
   pub octets : List ℕ
+  pub bytes : All (λ octet. octet < 2 ^ 8) octets
   pub value : v ≡ octet_string octets
   pub names : NamesSecond octets moment
   pub plainly : IsPlainlyWritten octets

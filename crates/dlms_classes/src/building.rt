@@ -1,6 +1,6 @@
 //! Values made of parts.
 
-ghost use Rattle.std.specs.Prelude.{◌≡◌, ◌≤◌, IfOk};
+ghost use Rattle.std.specs.Prelude.{◌≡◌, ◌<◌, ◌≤◌, ◌^◌, All, IfOk};
 ghost use Rattle.dlms_data.specs.Value.{octet_string, cons, none};
 ghost use Rattle.dlms_data.specs.View.{value_of};
 ghost use Rattle.dlms_classes.specs.Shown.{IsTime};
@@ -71,11 +71,19 @@ pub fn octets_of<A: Allocator + Copy>(alloc: A, bytes: &[u8]) -> Result<Data<A>,
     Ok(Data::OctetString(Bytes::from_slice(alloc, bytes)?))
 }
 
+/// Says what the type of bytes says, for a proof.
+fn bytes_fit(bytes: &[u8])
+    ensures { All (λ octet. octet < 2 ^ 8) bytes.now }
+{
+    let _bytes = bytes;
+}
+
 /// The octet-string of a second's date-time.
 pub fn time_of<A: Allocator + Copy>(alloc: A, second: u32) -> Result<Data<A>, AllocError>
     requires { second ≤ LAST_SECOND }
     ensures { IfOk result (λ v. IsTime second (value_of v)) }
 {
     let octets = octets(second);
+    bytes_fit(octets.as_slice());
     octets_of(alloc, octets.as_slice())
 }

@@ -4,6 +4,7 @@
 mod access;
 mod building;
 mod choosing;
+pub mod laws;
 mod listing;
 mod lookup;
 mod planning;

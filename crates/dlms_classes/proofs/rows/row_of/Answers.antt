@@ -1,4 +1,4 @@
-use Rattle.std.proofs.Common.{◌-◌, drop}
+use Rattle.std.proofs.Common.{◌-◌}
 use Rattle.std.proofs.lemmas.List.Elements.{All-take, All-drop}
 use Rattle.dlms_classes.specs.Shown.{HasTime}
 use Rattle.dlms_classes.proofs.Matching.{has_times}
