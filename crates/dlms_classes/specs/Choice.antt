@@ -14,7 +14,7 @@ use Rattle.dlms_classes.specs.declared.choosing.Choice.TheVariants.{Whole, Betwe
 use Rattle.dlms_classes.specs.declared.table.Content.{Content}
 use Rattle.dlms_classes.specs.Access.{◌>>=◌}
 use Rattle.dlms_classes.specs.Plan.{octets_of_time}
-use Rattle.dlms_classes.specs.Table.{clock}
+use Rattle.dlms_classes.specs.Table.{clock, captured_attribute}
 use Rattle.dlms_classes.specs.Listing.{is_selective}
 use Rattle.dlms_classes.specs.Shown.{Part, whole, between, cut, last_column}
 
@@ -64,7 +64,7 @@ is_clock_column v =
     octet_string_of fields.1 >>= λ name.
     integer_of fields.2 >>= λ attribute.
     long_unsigned_of fields.3 >>= λ index.
-    Ok ((class == clock.class) && bytes_eq name clock.name && int_eq attribute (pos 2) && (index == 0))
+    Ok ((class == clock.class) && bytes_eq name clock.name && int_eq attribute (pos captured_attribute) && (index == 0))
 
 -- restricting_object, from_value, to_value, selected_values
 abbrev pub range_of : Value → Result Part AccessResult

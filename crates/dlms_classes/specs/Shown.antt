@@ -14,7 +14,7 @@ use Rattle.dlms_classes.specs.declared.rows.Cell.{Cell}
 use Rattle.dlms_classes.specs.declared.rows.Cell.TheVariants.{Second, Number}
 use Rattle.dlms_classes.specs.declared.table.Content.{Content}
 use Rattle.dlms_classes.specs.declared.table.Content.TheVariants.{LogicalName, DeviceName, SerialNumber, Text, Register, ScalerUnit, Time, TimeZone, ClockStatus, DaylightTime, DaylightDeviation, DaylightEnabled, ClockBase, ObjectList, AssociatedPartners, Withheld, Secret, AssociationStatus, Buffer, CaptureObjects, CapturePeriod, SortMethod, SortObject, EntriesInUse, ProfileEntries}
-use Rattle.dlms_classes.specs.Table.{Entry, columns}
+use Rattle.dlms_classes.specs.Table.{Entry, columns, captured_attribute}
 use Rattle.dlms_classes.specs.Listing.{object_list, map_values}
 
 -- ---- what is shown
@@ -38,7 +38,7 @@ cells row = Second row.clock ∷ Number (slice_index row.registers 0) ∷ Number
 
 -- the columns first to last, counted from 1; 0 or past the end is the last one
 abbrev pub last_column : ℕ → ℕ
-last_column last = if (last == 0) || nat_lt 4 last then 4 else last
+last_column last = if (last == 0) || nat_lt (length columns) last then length columns else last
 
 abbrev pub columns_between : ℕ → ℕ → List Cell → List Cell
 columns_between first last row = slice_range row (first - 1) (last_column last)
@@ -55,9 +55,9 @@ two a b = cons a (cons b none)
 abbrev pub four : Value → Value → Value → Value → Values
 four a b c d = cons a (cons b (cons c (cons d none)))
 
--- the column that an object's second attribute is: class_id, logical_name, attribute_index, data_index
+-- the column that an object gives: class_id, logical_name, attribute_index, data_index
 abbrev pub column_value : Entry → Value
-column_value o = structure (four (long_unsigned o.class) (octet_string o.name) (integer (pos 2)) (long_unsigned 0))
+column_value o = structure (four (long_unsigned o.class) (octet_string o.name) (integer (pos captured_attribute)) (long_unsigned 0))
 
 -- no object: the sort method needs none
 abbrev pub no_column : Value

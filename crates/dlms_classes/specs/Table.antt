@@ -106,9 +106,13 @@ objects =
     ∷ profile_entry (1 ∷ 0 ∷ 99 ∷ 1 ∷ 0 ∷ 255 ∷ [])
     ∷ []
 
--- the objects whose second attribute is a column of the load profile, in the order of the columns
+-- the objects of which an attribute is a column of the load profile, in the order of the columns
 abbrev pub columns : List Entry
 columns = clock ∷ energy_imported ∷ energy_exported ∷ reactive_energy ∷ []
+
+-- the attribute of each of them that is captured: the time of the clock, the value of a register
+abbrev pub captured_attribute : ℕ
+captured_attribute = 2
 
 -- a row of the program's table as a row of this one
 abbrev pub entry_of : Object → Entry

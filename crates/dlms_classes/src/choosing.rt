@@ -9,7 +9,7 @@ ghost use Rattle.dlms_classes.specs.Shown.{last_column as last_of, between as be
 
 use crate::access::AccessResult;
 use crate::planning::time_octets;
-use crate::table::{CLOCK, Content};
+use crate::table::{CAPTURED_ATTRIBUTE, CLOCK, COLUMNS, Content};
 use dlms_data::{Data, Selector, secs};
 use std::alloc::Allocator;
 
@@ -19,7 +19,7 @@ pub const BY_RANGE: u8 = 1;
 pub const BY_ENTRY: u8 = 2;
 
 /// How many columns a row has.
-pub const COLUMN_COUNT: u16 = 4;
+const COLUMN_COUNT: u16 = COLUMNS.len() as u16;
 
 /// The part of the buffer that is wanted.
 #[derive(Clone, Copy, Debug)]
@@ -110,7 +110,12 @@ fn is_clock_column<A: Allocator>(value: &Data<A>) -> Result<bool, AccessResult>
     let name = octet_string(name)?;
     let attribute = integer(attribute)?;
     let index = long_unsigned(index)?;
-    Ok(class == CLOCK.class && name == CLOCK.name.as_slice() && attribute == 2 && index == 0)
+    Ok(
+        class == CLOCK.class
+            && name == CLOCK.name.as_slice()
+            && attribute == CAPTURED_ATTRIBUTE
+            && index == 0,
+    )
 }
 
 /// The choice of the rows between two date-times.

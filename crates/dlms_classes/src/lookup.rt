@@ -1,20 +1,13 @@
 //! What a descriptor names, and whether the client may use it so.
 
-ghost use Rattle.std.specs.Prelude.{◌≡◌, map, option_map};
-ghost use Rattle.dlms_classes.specs.Table.{objects, entry_of, rights_of, may_read as reads, may_write as writes, may_call as calls};
+ghost use Rattle.std.specs.Prelude.{◌≡◌, option_map};
+ghost use Rattle.dlms_classes.specs.Table.{entry_of, rights_of, may_read as reads, may_write as writes, may_call as calls};
 ghost use Rattle.dlms_classes.specs.Access.{Tells, object_named, object_of, numbered as nth, attribute_of, method_of, readable as read_of, writable as write_of, callable as call_of};
 
 use crate::access::AccessResult;
 use crate::table::{Attribute, Call, OBJECTS, Object, Rights};
 use dlms_data::Descriptor;
 use dlms_frame::Client;
-
-/// The table, which is that of the definitions.
-pub fn table() -> [Object; 9]
-    ensures { map entry_of result ≡ objects }
-{
-    OBJECTS
-}
 
 /// The object of a name.
 #[tactic(auto, unfolding(crate::specs::Access::object_named))]

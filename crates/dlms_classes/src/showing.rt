@@ -13,7 +13,7 @@ use crate::building::{four, octets_of, room, time_of, two};
 use crate::choosing::Choice;
 use crate::listing::object_list;
 use crate::rows::buffer;
-use crate::table::{COLUMNS, Content, Object};
+use crate::table::{CAPTURED_ATTRIBUTE, COLUMNS, Content, Object};
 use dlms_data::{Data, Descriptor};
 use dlms_frame::Client;
 use dlms_profile::CAPACITY;
@@ -25,13 +25,13 @@ const OPEN_TIME: [u8; 12] = [
     0xff, 0xff, 0xff, 0xff, 0xff, 0xff, 0xff, 0xff, 0xff, 0x80, 0x00, 0xff,
 ];
 
-/// The column that an object's second attribute is.
+/// The column that an object gives.
 fn column_of<A: Allocator + Copy>(alloc: A, object: Object) -> Result<Data<A>, AllocError>
     ensures { IfOk result (λ v. value_of v ≡ column (entry_of object)) }
 {
     let name = octets_of(alloc, object.name.as_slice())?;
     let class = Data::LongUnsigned(object.class);
-    let attribute = Data::Integer(2);
+    let attribute = Data::Integer(CAPTURED_ATTRIBUTE);
     let index = Data::LongUnsigned(0);
     Ok(Data::Structure(four(alloc, class, name, attribute, index)?))
 }

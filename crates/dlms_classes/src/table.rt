@@ -239,5 +239,8 @@ pub const OBJECTS: [Object; 9] = [
     PROFILE,
 ];
 
-/// The objects whose second attribute is a column of the load profile, in the order of the columns.
+/// The attribute of each object of `COLUMNS` that is captured.
+pub const CAPTURED_ATTRIBUTE: i8 = 2;
+
+/// The objects of which an attribute is a column of the load profile, in the order of the columns.
 pub const COLUMNS: [Object; 4] = [CLOCK, ENERGY_IMPORTED, ENERGY_EXPORTED, REACTIVE_ENERGY];

@@ -1,5 +1,5 @@
 use crate::{AccessResult, get, plan_action, plan_set};
-use dlms_data::{Bytes, Data, Descriptor, Selector, fits, read, write};
+use dlms_data::{Data, Descriptor, Selector, fits, read, write};
 use dlms_frame::Client;
 use dlms_state::{Event, State};
 use linked_list_allocator::LocalHeap;
@@ -69,6 +69,14 @@ fn value(alloc: Global, bytes: &[u8]) -> Result<Data, Fail> {
     Ok(value)
 }
 
+/// The number of the refusal of a SET, or 0.
+fn planned(client: Client, descriptor: Descriptor, value: &Data) -> u8 {
+    match plan_set(client, descriptor, value) {
+        Ok(_) => 0,
+        Err(refused) => refused.number(),
+    }
+}
+
 /// Plans an event and has the state take it: 0, or the number of the refusal.
 fn set(alloc: Global, state: &mut State, descriptor: Descriptor, bytes: &[u8]) -> Result<u8, Fail> {
     let value = value(alloc, bytes)?;
@@ -113,16 +121,17 @@ fn check_rows<R: AllocGlobal + std::process::Abort>(rt: &R, rows: &[Row]) -> Res
             bytes,
         )?;
         assert!(rt; read, "management {descriptor:?}");
-        let null: Data = Data::Null;
         let unset = if public == 4 { 4 } else { 3 };
-        match plan_set(Client::Public, descriptor, &null) {
-            Ok(_) => assert!(rt; false, "{descriptor:?}"),
-            Err(refused) => assert_eq!(rt; refused.number(), unset, "{descriptor:?}"),
-        }
-        match plan_set(Client::Management, descriptor, &null) {
-            Ok(_) => assert!(rt; false, "{descriptor:?}"),
-            Err(refused) => assert_eq!(rt; refused.number(), by_set, "{descriptor:?}"),
-        }
+        assert_eq!(rt;
+            planned(Client::Public, descriptor, &Data::Null),
+            unset,
+            "{descriptor:?}"
+        );
+        assert_eq!(rt;
+            planned(Client::Management, descriptor, &Data::Null),
+            by_set,
+            "{descriptor:?}"
+        );
     }
     Ok(())
 }
@@ -286,139 +295,144 @@ fn methods(rt: HostRuntime) {
 fn shifts(rt: HostRuntime) -> Result<(), Fail> {
     let mut state = State::new(rt.alloc())?;
     let descriptor = named(8, CLOCK, 6);
-    for (by, fine) in [(-1i16, false), (901, false), (900, true)] {
+    for (by, clock) in [(-1i16, 0u32), (901, 0), (900, 900)] {
         let parameter: Data = Data::Long(by);
-        let planned = plan_action(Client::Management, descriptor, Some(&parameter));
-        assert_eq!(rt; planned, Ok(Event::Shift(by)));
-        if let Ok(event) = planned {
-            assert_eq!(rt; state.check(&event).is_ok(), fine);
-            if state.check(&event).is_ok() {
-                state.apply(event);
-            }
+        let Ok(event) = plan_action(Client::Management, descriptor, Some(&parameter)) else {
+            return Err("a shift".into());
+        };
+        if state.check(&event).is_ok() {
+            state.apply(event);
         }
+        assert_eq!(rt; state.clock(), clock);
     }
-    let time = [9, 12, 7, 0xd0, 1, 1, 6, 0, 15, 0, 0, 0, 0, 0];
-    let clock = named(8, CLOCK, 2);
-    assert!(rt; gives(rt.alloc(), &state, Client::Public, clock, 0, &time)?);
     Ok(())
 }
 
-/// The clock's last second, and one second later.
+/// The clock's last second, one second later, a date-time, and octets that are no time: the result, and the clock after it.
 #[test]
 fn sets_the_time(rt: HostRuntime) -> Result<(), Fail> {
-    let alloc = rt.alloc();
-    let mut state = State::new(alloc)?;
-    let clock = named(8, CLOCK, 2);
-    let end = [9, 12, 8, 0x33, 12, 31, 4, 23, 59, 59, 0, 0, 0, 0];
-    assert_eq!(rt; set(alloc, &mut state, clock, &end)?, 0);
-    assert!(rt; gives(alloc, &state, Client::Public, clock, 0, &end)?);
-    let past = [9, 12, 8, 0x34, 1, 1, 5, 0, 0, 0, 0, 0, 0, 0];
-    assert_eq!(rt; set(alloc, &mut state, clock, &past)?, 250);
-    assert!(rt; gives(alloc, &state, Client::Public, clock, 0, &end)?);
-    let as_date_time = [25, 7, 0xd0, 1, 1, 255, 0, 1, 0, 255, 0x80, 0, 0];
-    assert_eq!(rt; set(alloc, &mut state, clock, &as_date_time)?, 0);
-    assert_eq!(rt; state.clock(), 60);
-    let short = [9, 11, 7, 0xd0, 1, 1, 6, 0, 0, 0, 0, 0, 0];
-    assert_eq!(rt; set(alloc, &mut state, clock, &short)?, 12);
-    let visible = [10, 12, 7, 0xd0, 1, 1, 6, 0, 0, 0, 0, 0, 0, 0];
-    assert_eq!(rt; set(alloc, &mut state, clock, &visible)?, 12);
-    Ok(())
-}
-
-#[test]
-fn sets_text_secret_and_period(rt: HostRuntime) -> Result<(), Fail> {
-    let alloc = rt.alloc();
-    let mut state = State::new(alloc)?;
-    let text = named(1, TEXT, 2);
-    assert_eq!(rt; set(alloc, &mut state, text, &[9, 4, 65, 66, 67, 68])?, 0);
+    let mut state = State::new(rt.alloc())?;
+    let rows: [(&[u8], u8, u32); 5] = [
+        (
+            &[9, 12, 8, 0x33, 12, 31, 4, 23, 59, 59, 0, 0, 0, 0],
+            0,
+            3155759999,
+        ),
+        (
+            &[9, 12, 8, 0x34, 1, 1, 5, 0, 0, 0, 0, 0, 0, 0],
+            250,
+            3155759999,
+        ),
+        (&[25, 7, 0xd0, 1, 1, 255, 0, 1, 0, 255, 0x80, 0, 0], 0, 60),
+        (&[9, 11, 7, 0xd0, 1, 1, 6, 0, 0, 0, 0, 0, 0], 12, 60),
+        (&[10, 12, 7, 0xd0, 1, 1, 6, 0, 0, 0, 0, 0, 0, 0], 12, 60),
+    ];
+    for (bytes, wanted, clock) in rows {
+        let got = set(rt.alloc(), &mut state, named(8, CLOCK, 2), bytes)?;
+        assert_eq!(rt; (got, state.clock()), (wanted, clock));
+    }
+    let end = [9, 12, 7, 0xd0, 1, 1, 6, 0, 1, 0, 0, 0, 0, 0];
     assert!(rt;
         gives(
-            alloc,
+            rt.alloc(),
             &state,
             Client::Public,
-            text,
+            named(8, CLOCK, 2),
             0,
-            &[9, 4, 65, 66, 67, 68]
+            &end
         )?
     );
-    assert_eq!(rt; set(alloc, &mut state, text, &[10, 1, 69])?, 0);
-    assert!(rt; gives(alloc, &state, Client::Public, text, 0, &[9, 1, 69])?);
-    assert_eq!(rt; set(alloc, &mut state, text, &[12, 1, 70])?, 12);
-    let long = Data::OctetString(Bytes::from_slice(alloc, &[88; 241])?);
-    match plan_set(Client::Management, text, &long) {
-        Ok(_) => assert!(rt; false),
-        Err(refused) => assert_eq!(rt; refused, AccessResult::OtherReason),
-    }
-    let full = Data::OctetString(Bytes::from_slice(alloc, &[88; 240])?);
-    match plan_set(Client::Management, text, &full) {
-        Ok(event) => take(&mut state, event)?,
-        Err(_) => assert!(rt; false),
-    }
-    assert_eq!(rt; state.text().len(), 240);
-    let secret = named(15, ASSOCIATION, 7);
-    assert_eq!(rt; set(alloc, &mut state, secret, &[9, 0])?, 250);
-    let abcdefgh = [9, 8, 97, 98, 99, 100, 101, 102, 103, 104];
-    assert_eq!(rt; set(alloc, &mut state, secret, &abcdefgh)?, 0);
-    assert_eq!(rt; state.secret(), b"abcdefgh".as_slice());
-    let long = Data::OctetString(Bytes::from_slice(alloc, &[88; 17])?);
-    match plan_set(Client::Management, secret, &long) {
-        Ok(_) => assert!(rt; false),
-        Err(refused) => assert_eq!(rt; refused, AccessResult::OtherReason),
-    }
-    take(&mut state, Event::Capture)?;
-    let period = named(7, PROFILE, 4);
-    assert_eq!(rt;
-        set(alloc, &mut state, period, &[6, 0, 1, 0x51, 0x81])?,
-        250
-    );
-    assert_eq!(rt; state.rows().len(), 1);
-    assert_eq!(rt; set(alloc, &mut state, period, &[6, 0, 1, 0x51, 0x80])?, 0);
-    assert_eq!(rt; state.rows().len(), 0);
-    assert_eq!(rt; set(alloc, &mut state, period, &[18, 0, 1])?, 12);
     Ok(())
 }
 
-/// Of two faults the first of the order is told.
+/// Texts, and how long the text is after them.
+#[test]
+fn sets_the_text(rt: HostRuntime) -> Result<(), Fail> {
+    let mut state = State::new(rt.alloc())?;
+    let mut long = [88u8; 244];
+    long[0] = 9;
+    long[1] = 0x81;
+    long[2] = 241;
+    let mut full = [88u8; 243];
+    full[0] = 9;
+    full[1] = 0x81;
+    full[2] = 240;
+    let rows: [(&[u8], u8, usize); 5] = [
+        (&[9, 4, 65, 66, 67, 68], 0, 4),
+        (&[12, 1, 70], 12, 4),
+        (&[10, 1, 69], 0, 1),
+        (&long, 250, 1),
+        (&full, 0, 240),
+    ];
+    for (bytes, wanted, len) in rows {
+        let got = set(rt.alloc(), &mut state, named(1, TEXT, 2), bytes)?;
+        assert_eq!(rt; (got, state.text().len()), (wanted, len));
+    }
+    Ok(())
+}
+
+/// Secrets, and how long the secret is after them.
+#[test]
+fn sets_the_secret(rt: HostRuntime) -> Result<(), Fail> {
+    let mut state = State::new(rt.alloc())?;
+    let mut long = [88u8; 19];
+    long[0] = 9;
+    long[1] = 17;
+    let rows: [(&[u8], u8, usize); 4] = [
+        (&[9, 0], 250, 8),
+        (&[10, 1, 69], 12, 8),
+        (&long, 250, 8),
+        (&[9, 3, 97, 98, 99], 0, 3),
+    ];
+    for (bytes, wanted, len) in rows {
+        let got = set(rt.alloc(), &mut state, named(15, ASSOCIATION, 7), bytes)?;
+        assert_eq!(rt; (got, state.secret().len()), (wanted, len));
+    }
+    Ok(())
+}
+
+/// Periods, and how many rows there are after them.
+#[test]
+fn sets_the_period(rt: HostRuntime) -> Result<(), Fail> {
+    let mut state = State::new(rt.alloc())?;
+    take(&mut state, Event::Capture)?;
+    let rows: [(&[u8], u8, usize); 3] = [
+        (&[18, 0, 1], 12, 1),
+        (&[6, 0, 1, 0x51, 0x81], 250, 1),
+        (&[6, 0, 1, 0x51, 0x80], 0, 0),
+    ];
+    for (bytes, wanted, len) in rows {
+        let got = set(rt.alloc(), &mut state, named(7, PROFILE, 4), bytes)?;
+        assert_eq!(rt; (got, state.rows().len()), (wanted, len));
+    }
+    Ok(())
+}
+
+/// Of two faults the first of the order is told: the client, what it reads, the selector's number, the result.
 #[test]
 fn the_first_that_fits(rt: HostRuntime) -> Result<(), Fail> {
-    let alloc = rt.alloc();
-    let state = State::new(alloc)?;
+    let state = State::new(rt.alloc())?;
     let unknown = [1, 0, 9, 8, 0, 255];
-    let selector = Selector {
-        number: 3,
-        value: Data::Null,
-    };
-    let public = Client::Public;
-    let rows: [(Descriptor, u8); 5] = [
-        (named(9, unknown, 77), 4),
-        (named(3, unknown, 2), 4),
-        (named(4, register(0), 77), 9),
-        (named(7, PROFILE, 77), 4),
-        (named(7, PROFILE, 2), 3),
+    let rows: [(Client, Descriptor, u8, u8); 8] = [
+        (Client::Public, named(9, unknown, 77), 3, 4),
+        (Client::Public, named(3, unknown, 2), 3, 4),
+        (Client::Public, named(4, register(0), 77), 3, 9),
+        (Client::Public, named(7, PROFILE, 77), 3, 4),
+        (Client::Public, named(7, PROFILE, 2), 3, 3),
+        (Client::Management, named(3, register(0), 2), 1, 13),
+        (Client::Management, named(7, PROFILE, 2), 3, 13),
+        (Client::Management, named(7, PROFILE, 2), 1, 12),
     ];
-    for (descriptor, wanted) in rows {
-        let answer = got(alloc, &state, public, descriptor, Some(&selector))?;
+    for (client, descriptor, number, wanted) in rows {
+        let selector = Selector {
+            number,
+            value: Data::Null,
+        };
+        let answer = got(rt.alloc(), &state, client, descriptor, Some(&selector))?;
         assert_eq!(rt; answer.err(), Some(wanted), "{descriptor:?}");
     }
-    let management = Client::Management;
-    let register = named(3, register(0), 2);
-    let answer = got(alloc, &state, management, register, Some(&selector))?;
-    assert_eq!(rt; answer.err(), Some(13));
-    let buffer = named(7, PROFILE, 2);
-    let answer = got(alloc, &state, management, buffer, Some(&selector))?;
-    assert_eq!(rt; answer.err(), Some(13));
-    // The first entry is 0, and the last column is of another type.
-    let value = value(
-        alloc,
-        &[2, 4, 6, 0, 0, 0, 0, 6, 0, 0, 0, 0, 18, 0, 1, 17, 0],
-    )?;
-    let selector = Selector { number: 2, value };
-    let answer = got(alloc, &state, management, buffer, Some(&selector))?;
-    assert_eq!(rt; answer.err(), Some(12));
-    let null: Data = Data::Null;
-    assert!(rt; plan_set(public, named(1, TEXT, 2), &null) == Err(AccessResult::ReadWriteDenied));
-    assert!(rt;
-        plan_set(public, named(2, TEXT, 9), &null) == Err(AccessResult::ObjectClassInconsistent)
-    );
+    let null = Data::Null;
+    assert_eq!(rt; planned(Client::Public, named(1, TEXT, 2), &null), 3);
+    assert_eq!(rt; planned(Client::Public, named(2, TEXT, 9), &null), 9);
     Ok(())
 }

@@ -9,6 +9,21 @@ fn two_rows(alloc: Global) -> Result<State, Fail> {
     Ok(state)
 }
 
+/// Whether the buffer gives management these bytes with this selector, or where the result isn't 0 this refusal.
+fn selects(
+    alloc: Global,
+    state: &State,
+    number: u8,
+    selector: &[u8],
+    wanted: u8,
+    bytes: &[u8],
+) -> Result<bool, Fail> {
+    Ok(match selected(alloc, state, number, selector)? {
+        Ok(read) => wanted == 0 && read.as_slice() == bytes,
+        Err(refused) => refused == wanted,
+    })
+}
+
 /// What the buffer gives management with this selector.
 fn selected(
     alloc: Global,
@@ -62,32 +77,22 @@ const FIRST_ROW: [u8; 33] = [
 
 #[test]
 fn by_range(rt: HostRuntime) -> Result<(), Fail> {
-    let alloc = rt.alloc();
-    let state = two_rows(alloc)?;
-    let one = selected(alloc, &state, 1, &range(15, 15))?
-        .ok()
-        .ok_or("rows")?;
-    assert_eq!(rt; one.as_slice(), FIRST_ROW.as_slice());
-    let turned = selected(alloc, &state, 1, &range(30, 15))?
-        .ok()
-        .ok_or("rows")?;
-    assert_eq!(rt; turned.as_slice(), [1, 0].as_slice());
-    let between = selected(alloc, &state, 1, &range(16, 44))?
-        .ok()
-        .ok_or("rows")?;
-    assert_eq!(rt; between.as_slice(), [1, 0].as_slice());
-    let both = selected(alloc, &state, 1, &range(15, 45))?
-        .ok()
-        .ok_or("rows")?;
-    assert_eq!(rt; both.len(), 64);
+    let state = two_rows(rt.alloc())?;
+    let rows: [(u8, u8, &[u8]); 3] = [(15, 15, &FIRST_ROW), (30, 15, &[1, 0]), (16, 44, &[1, 0])];
+    for (from, to, bytes) in rows {
+        let selector = range(from, to);
+        assert!(rt;
+            selects(rt.alloc(), &state, 1, &selector, 0, bytes)?,
+            "{from} to {to}"
+        );
+    }
     Ok(())
 }
 
 /// Each way in which a range can be wrong: the byte that is changed, its new value, and the result.
 #[test]
 fn wrong_ranges(rt: HostRuntime) -> Result<(), Fail> {
-    let alloc = rt.alloc();
-    let state = two_rows(alloc)?;
+    let state = two_rows(rt.alloc())?;
     let rows: [(usize, u8, u8); 11] = [
         (0, 1, 12),
         (2, 1, 12),
@@ -106,85 +111,85 @@ fn wrong_ranges(rt: HostRuntime) -> Result<(), Fail> {
         if place < 50 {
             bytes[place] = byte;
         }
-        let answer = selected(alloc, &state, 1, &bytes)?;
-        assert_eq!(rt; answer.err(), Some(wanted), "{place}");
+        assert!(rt;
+            selects(rt.alloc(), &state, 1, &bytes, wanted, &[])?,
+            "{place}"
+        );
     }
-    // One value more, and a list that is not empty.
-    let mut five = [0u8; 51];
-    let four = range(15, 15);
-    for (to, from) in five.iter_mut().zip(four.iter()) {
-        *to = *from;
-    }
-    five[1] = 5;
-    assert_eq!(rt; selected(alloc, &state, 1, &five)?.err(), Some(12));
-    five[1] = 4;
-    five[49] = 1;
-    assert_eq!(rt; selected(alloc, &state, 1, &five)?.err(), Some(250));
     Ok(())
 }
 
+/// Five values in place of four, and a list that is not empty.
+#[test]
+fn longer_ranges(rt: HostRuntime) -> Result<(), Fail> {
+    let state = two_rows(rt.alloc())?;
+    let mut bytes = [0u8; 51];
+    for (to, from) in bytes.iter_mut().zip(range(15, 15).iter()) {
+        *to = *from;
+    }
+    bytes[1] = 5;
+    assert!(rt; selects(rt.alloc(), &state, 1, &bytes, 12, &[])?);
+    bytes[1] = 4;
+    bytes[49] = 1;
+    assert!(rt; selects(rt.alloc(), &state, 1, &bytes, 250, &[])?);
+    Ok(())
+}
+
+/// Entries and columns, the result and the bytes.
 #[test]
 fn by_entry(rt: HostRuntime) -> Result<(), Fail> {
-    let alloc = rt.alloc();
-    let state = two_rows(alloc)?;
-    let clock = selected(alloc, &state, 2, &entries(1, 1, 1, 1))?
-        .ok()
-        .ok_or("rows")?;
-    let wanted = [1, 1, 2, 1, 9, 12, 7, 0xd0, 1, 1, 6, 0, 15, 0, 0, 0, 0, 0];
-    assert_eq!(rt; clock.as_slice(), wanted.as_slice());
-    let buffer = named(7, PROFILE, 2);
-    let whole = got(alloc, &state, Client::Management, buffer, None)?
-        .ok()
-        .ok_or("rows")?;
-    let all = selected(alloc, &state, 2, &entries(1, 0, 1, 0))?
-        .ok()
-        .ok_or("rows")?;
-    assert_eq!(rt; all.as_slice(), whole.as_slice());
-    let past = selected(alloc, &state, 2, &entries(1, 9, 1, 9))?
-        .ok()
-        .ok_or("rows")?;
-    assert_eq!(rt; past.as_slice(), whole.as_slice());
-    let none = selected(alloc, &state, 2, &entries(3, 0, 1, 0))?
-        .ok()
-        .ok_or("rows")?;
-    assert_eq!(rt; none.as_slice(), [1, 0].as_slice());
-    let last = selected(alloc, &state, 2, &entries(2, 2, 2, 3))?
-        .ok()
-        .ok_or("rows")?;
-    let wanted = [1, 1, 2, 2, 6, 0, 0, 0, 0, 6, 0, 0, 0, 0];
-    assert_eq!(rt; last.as_slice(), wanted.as_slice());
-    for wrong in [
-        entries(0, 1, 1, 1),
-        entries(1, 1, 0, 1),
-        entries(1, 1, 5, 0),
-        entries(1, 1, 3, 2),
-    ] {
-        assert_eq!(rt; selected(alloc, &state, 2, &wrong)?.err(), Some(250));
+    let state = two_rows(rt.alloc())?;
+    let rows: [([u8; 4], u8, &[u8]); 7] = [
+        (
+            [1, 1, 1, 1],
+            0,
+            &[1, 1, 2, 1, 9, 12, 7, 0xd0, 1, 1, 6, 0, 15, 0, 0, 0, 0, 0],
+        ),
+        ([2, 2, 2, 3], 0, &[1, 1, 2, 2, 6, 0, 0, 0, 0, 6, 0, 0, 0, 0]),
+        ([3, 0, 1, 0], 0, &[1, 0]),
+        ([0, 1, 1, 1], 250, &[]),
+        ([1, 1, 0, 1], 250, &[]),
+        ([1, 1, 5, 0], 250, &[]),
+        ([1, 1, 3, 2], 250, &[]),
+    ];
+    for (row, wanted, bytes) in rows {
+        let selector = entries(row[0], row[1], row[2], row[3]);
+        assert!(rt;
+            selects(rt.alloc(), &state, 2, &selector, wanted, bytes)?,
+            "{row:?}"
+        );
     }
-    assert_eq!(rt;
-        selected(alloc, &state, 0, &entries(1, 1, 1, 1))?.err(),
-        Some(13)
-    );
+    Ok(())
+}
+
+/// Entries 1 to 0 and columns 1 to 0, and ends past the end, are the whole buffer.
+#[test]
+fn all_entries(rt: HostRuntime) -> Result<(), Fail> {
+    let state = two_rows(rt.alloc())?;
+    let buffer = named(7, PROFILE, 2);
+    let Ok(whole) = got(rt.alloc(), &state, Client::Management, buffer, None)? else {
+        return Err("the buffer".into());
+    };
+    for last in [0, 9] {
+        let selector = entries(1, last, 1, last);
+        assert!(rt; selects(rt.alloc(), &state, 2, &selector, 0, whole.as_slice())?);
+    }
     Ok(())
 }
 
 /// After 961 captures entry 1 is the second of them, and 960 are in use.
 #[test]
 fn the_full_buffer(rt: HostRuntime) -> Result<(), Fail> {
-    let alloc = rt.alloc();
-    let mut state = State::new(alloc)?;
+    let mut state = State::new(rt.alloc())?;
     for period in 1..962u32 {
         take(&mut state, Event::Moment(900 * period))?;
     }
-    let first = selected(alloc, &state, 2, &entries(1, 1, 1, 1))?
-        .ok()
-        .ok_or("rows")?;
-    let wanted = [1, 1, 2, 1, 9, 12, 7, 0xd0, 1, 1, 6, 0, 30, 0, 0, 0, 0, 0];
-    assert_eq!(rt; first.as_slice(), wanted.as_slice());
+    let first = [1, 1, 2, 1, 9, 12, 7, 0xd0, 1, 1, 6, 0, 30, 0, 0, 0, 0, 0];
+    assert!(rt; selects(rt.alloc(), &state, 2, &entries(1, 1, 1, 1), 0, &first)?);
     let in_use = named(7, PROFILE, 7);
     assert!(rt;
         gives(
-            alloc,
+            rt.alloc(),
             &state,
             Client::Public,
             in_use,
@@ -193,11 +198,8 @@ fn the_full_buffer(rt: HostRuntime) -> Result<(), Fail> {
         )?
     );
     let buffer = named(7, PROFILE, 2);
-    let whole = got(alloc, &state, Client::Management, buffer, None)?
-        .ok()
-        .ok_or("rows")?;
-    assert_eq!(rt; whole.len(), 29764);
-    assert!(rt; gives(alloc, &state, Client::Public, buffer, 3, &[])?);
+    let whole = got(rt.alloc(), &state, Client::Management, buffer, None)?;
+    assert_eq!(rt; whole.map_or(0, |bytes| bytes.len()), 29764);
     Ok(())
 }
 
@@ -206,7 +208,6 @@ fn the_full_buffer(rt: HostRuntime) -> Result<(), Fail> {
 #[test]
 fn refused_growths(rt: HostRuntime) -> Result<(), Fail> {
     let mut refused = 0u32;
-    let mut given = 0u32;
     let mut size = 15360usize;
     for _ in 0..256 {
         let heap = LocalHeap::new(rt.alloc(), size)?;
@@ -218,22 +219,19 @@ fn refused_growths(rt: HostRuntime) -> Result<(), Fail> {
             }
             let used = heap.used();
             let buffer = named(7, PROFILE, 2);
-            match get(&heap, &state, Client::Management, buffer, None) {
-                Ok(_) => given = given.saturating_add(1),
-                Err(result) => {
-                    assert_eq!(rt; result, AccessResult::TemporaryFailure);
-                    refused = refused.saturating_add(1);
-                }
+            if let Err(cause) = get(&heap, &state, Client::Management, buffer, None) {
+                assert_eq!(rt; cause, AccessResult::TemporaryFailure);
+                refused = refused.saturating_add(1);
             }
             assert_eq!(rt; heap.used(), used);
             match get(&heap, &state, Client::Public, buffer, None) {
                 Ok(_) => assert!(rt; false),
-                Err(result) => assert_eq!(rt; result, AccessResult::ReadWriteDenied),
+                Err(cause) => assert_eq!(rt; cause, AccessResult::ReadWriteDenied),
             }
         }
         assert_eq!(rt; heap.used(), 0);
         size = size.saturating_add(16);
     }
-    assert!(rt; 10 < refused && 10 < given);
+    assert!(rt; 10 < refused && refused < 250);
     Ok(())
 }
