@@ -1,0 +1,6 @@
+pub mod Answering
+pub mod Fours
+pub mod Listed
+pub mod Matching
+pub mod OneValue
+pub mod Times

@@ -1,0 +1,8 @@
+use Rattle.std.proofs.Common.{◌≡◌, take}
+use Rattle.std.specs.List.{enumerate_from}
+use Rattle.dlms_classes.specs.Listing.{map_values, listed_attribute}
+use Rattle.dlms_classes.proofs.listing.listed_attributes.Given as goal
+
+-- the entries so far
+abbrev pub invariant-loop-i : goal.invariant-loop-i
+invariant-loop-i g l = l.items ≡ map_values (listed_attribute l.client) (enumerate_from 1 (take l.i l.attributes))

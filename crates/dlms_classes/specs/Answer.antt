@@ -1,0 +1,43 @@
+-- The answer of GET.
+use Rattle.std.specs.Prelude.{◌≡◌, List, Option, Result, Ok, Err, MatchResult}
+use Rattle.dlms_data.specs.declared.data.Data.{Data}
+use Rattle.dlms_data.specs.declared.descriptor.Descriptor.{Descriptor}
+use Rattle.dlms_data.specs.View.{value_of}
+use Rattle.dlms_frame.specs.declared.client.Client.{Client}
+use Rattle.dlms_state.specs.declared.event.Event.{Event}
+use Rattle.dlms_state.specs.StateValue.{StateValue, state_of}
+use Rattle.dlms_classes.specs.declared.access.AccessResult.{AccessResult}
+use Rattle.dlms_classes.specs.declared.access.AccessResult.TheVariants.{TemporaryFailure, OtherReason}
+use Rattle.dlms_classes.specs.declared.table.Content.{Content}
+use Rattle.dlms_classes.specs.Access.{◌>>=◌, readable}
+use Rattle.dlms_classes.specs.Choice.{Selection, part_of, HasSeconds}
+use Rattle.dlms_classes.specs.Shown.{Part, Shows, shown}
+
+-- an attribute, and which part of it
+pub record Wanted : Type 0 where
+  pub content : Content
+  pub part : Part
+
+-- what GET asks for, or the first refusal that fits: name, class, attribute, right, selector, and the types and values of
+-- its parameters
+abbrev pub wanted : Client → Descriptor → Option Selection → Result Wanted AccessResult
+wanted client d selection =
+    readable client d >>= λ a.
+    part_of a.content selection >>= λ p.
+    Ok (record { content = a.content; part = p })
+
+-- why there is no value of what could be shown: want of memory; or another reason, where the octets that bound a range name
+-- no second of the clock
+abbrev pub Lacks : Part → AccessResult → Type 0
+Lacks p TemporaryFailure = HasSeconds p
+Lacks p OtherReason = ¬ (HasSeconds p)
+Lacks p _ = ⊥
+
+-- the value that shows what is wanted of a state, or why there is none
+abbrev pub IsAnswer : {A : Type 0} → StateValue → Client → Descriptor → Result Wanted AccessResult → Result (Data A) AccessResult → Type 0
+IsAnswer s client d (Err r) result = result ≡ Err r
+IsAnswer s client d (Ok w) result = MatchResult result (λ v. Shows (shown s client d w.part w.content) (value_of v)) (Lacks w.part)
+
+-- the answer after a list of events: the state is that of the definitions of settings, registers, clock and buffer
+abbrev pub AnswersAfter : {A : Type 0} → List Event → Client → Descriptor → Option Selection → Result (Data A) AccessResult → Type 0
+AnswersAfter E client d selection result = IsAnswer (state_of E) client d (wanted client d selection) result

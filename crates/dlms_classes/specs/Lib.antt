@@ -1,0 +1,7 @@
+pub mod Table
+pub mod Access
+pub mod Plan
+pub mod Listing
+pub mod Shown
+pub mod Choice
+pub mod Answer

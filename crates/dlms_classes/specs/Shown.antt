@@ -1,0 +1,145 @@
+-- What an answer shows, and which value shows it: the attributes' values of IEC 62056-6-2 (Blue Book: Data 4.3.1, Register
+-- 4.3.2, Profile generic 4.3.6, Association LN 4.4.4, Clock 4.5.1). The constants are the meter's own.
+use Rattle.std.specs.Prelude.{◌≡◌, ℕ, ◌-◌, ◌==◌, ◌<◌, ◌≤◌, ◌^◌, All, ◌||◌, nat_lt, if◌then◌else◌, List, [], ◌∷◌, map, length, slice_index, slice_range, codes, replicate, pos, ⊤, false}
+use Rattle.dlms_data.specs.Value.{Value, Values, null, array, structure, boolean, double_long_unsigned, octet_string, integer, long, unsigned, long_unsigned, enumerated, none, cons}
+use Rattle.dlms_data.specs.DateTime.{NamesSecond, IsPlainlyWritten, last_second}
+use Rattle.dlms_data.specs.declared.descriptor.Descriptor.{Descriptor}
+use Rattle.dlms_frame.specs.Client.{sap_of}
+use Rattle.dlms_frame.specs.declared.client.Client.{Client}
+use Rattle.dlms_profile.specs.declared.rows.Row.{Row}
+use Rattle.dlms_profile.specs.Rows.{in_range, entries}
+use Rattle.dlms_state.specs.Events.{clock_at}
+use Rattle.dlms_state.specs.StateValue.{StateValue}
+use Rattle.dlms_classes.specs.declared.rows.Cell.{Cell}
+use Rattle.dlms_classes.specs.declared.rows.Cell.TheVariants.{Second, Number}
+use Rattle.dlms_classes.specs.declared.table.Content.{Content}
+use Rattle.dlms_classes.specs.declared.table.Content.TheVariants.{LogicalName, DeviceName, SerialNumber, Text, Register, ScalerUnit, Time, TimeZone, ClockStatus, DaylightTime, DaylightDeviation, DaylightEnabled, ClockBase, ObjectList, AssociatedPartners, Withheld, Secret, AssociationStatus, Buffer, CaptureObjects, CapturePeriod, SortMethod, SortObject, EntriesInUse, ProfileEntries}
+use Rattle.dlms_classes.specs.Table.{Entry, columns, captured_attribute}
+use Rattle.dlms_classes.specs.Listing.{object_list, map_values}
+
+-- ---- what is shown
+
+-- Which part of the buffer is wanted: all of it; the rows between two date-times; entries and columns, counted from 1.
+pub data Part : Type 0 where
+  whole : Part
+  between : (first last : List ℕ) → Part
+  cut : (first last first_column last_column : ℕ) → Part
+
+-- A value, a second of the clock, rows, or the rows whose clock lies between two date-times.
+pub data Shown : Type 0 where
+  as_value : Value → Shown
+  as_time : ℕ → Shown
+  as_table : List (List Cell) → Shown
+  as_range : (first last : List ℕ) → List Row → Shown
+
+-- the columns of a row: the clock, and the three registers
+abbrev pub cells : Row → List Cell
+cells row = Second row.clock ∷ Number (slice_index row.registers 0) ∷ Number (slice_index row.registers 1) ∷ Number (slice_index row.registers 2) ∷ []
+
+-- the columns first to last, counted from 1; 0 or past the end is the last one
+abbrev pub last_column : ℕ → ℕ
+last_column last = if (last == 0) || nat_lt (length columns) last then length columns else last
+
+abbrev pub columns_between : ℕ → ℕ → List Cell → List Cell
+columns_between first last row = slice_range row (first - 1) (last_column last)
+
+abbrev pub part_shown : Part → List Row → Shown
+part_shown whole rows = as_table (map cells rows)
+part_shown (between first last) rows = as_range first last rows
+part_shown (cut first last first_column last_column) rows =
+    as_table (map (λ row. columns_between first_column last_column (cells row)) (entries first last rows))
+
+abbrev pub two : Value → Value → Values
+two a b = cons a (cons b none)
+
+abbrev pub four : Value → Value → Value → Value → Values
+four a b c d = cons a (cons b (cons c (cons d none)))
+
+-- the column that an object gives: class_id, logical_name, attribute_index, data_index
+abbrev pub column_value : Entry → Value
+column_value o = structure (four (long_unsigned o.class) (octet_string o.name) (integer (pos captured_attribute)) (long_unsigned 0))
+
+-- no object: the sort method needs none
+abbrev pub no_column : Value
+no_column = structure (four (long_unsigned 0) (octet_string (replicate 6 0)) (integer (pos 0)) (long_unsigned 0))
+
+-- a date-time of which nothing is said
+abbrev pub open_time : List ℕ
+open_time = 255 ∷ 255 ∷ 255 ∷ 255 ∷ 255 ∷ 255 ∷ 255 ∷ 255 ∷ 255 ∷ 128 ∷ 0 ∷ 255 ∷ []
+
+-- what an attribute shows of a state to a client; of the buffer, the part that is wanted
+abbrev pub shown : StateValue → Client → Descriptor → Part → Content → Shown
+shown s client d p LogicalName = as_value (octet_string d.name)
+shown s client d p DeviceName = as_value (octet_string (codes "RTL0000000000001"))
+shown s client d p SerialNumber = as_value (octet_string (codes "00000001"))
+shown s client d p Text = as_value (octet_string s.text)
+shown s client d p (Register channel) = as_value (double_long_unsigned (slice_index s.registers channel))
+shown s client d p (ScalerUnit unit) = as_value (structure (two (integer (pos 0)) (enumerated unit)))
+shown s client d p Time = as_time (clock_at s.last s.offset)
+shown s client d p TimeZone = as_value (long (pos 0))
+shown s client d p ClockStatus = as_value (unsigned 0)
+shown s client d p DaylightTime = as_value (octet_string open_time)
+shown s client d p DaylightDeviation = as_value (integer (pos 0))
+shown s client d p DaylightEnabled = as_value (boolean false)
+shown s client d p ClockBase = as_value (enumerated 1)
+shown s client d p ObjectList = as_value (object_list client)
+shown s client d p AssociatedPartners = as_value (structure (two (integer (pos (sap_of client))) (long_unsigned 1)))
+shown s client d p AssociationStatus = as_value (enumerated 2)
+shown s client d p Buffer = part_shown p s.rows.items
+shown s client d p CaptureObjects = as_value (array (map_values column_value columns))
+shown s client d p CapturePeriod = as_value (double_long_unsigned s.period)
+shown s client d p SortMethod = as_value (enumerated 1)
+shown s client d p SortObject = as_value no_column
+shown s client d p EntriesInUse = as_value (double_long_unsigned (length s.rows.items))
+shown s client d p ProfileEntries = as_value (double_long_unsigned 960)
+-- these two nobody may read
+shown s client d p Withheld = as_value null
+shown s client d p Secret = as_value null
+
+-- ---- which value shows it
+
+-- an octet-string of the second's date-time, plainly written
+pub record IsTime (moment : ℕ) (v : Value) : Type 0 where
+  pub octets : List ℕ
+  pub bytes : All (λ octet. octet < 2 ^ 8) octets
+  pub value : v ≡ octet_string octets
+  pub names : NamesSecond octets moment
+  pub plainly : IsPlainlyWritten octets
+
+-- the second is one of the clock's
+abbrev pub HasTime : Cell → Type 0
+HasTime (Second s) = s ≤ last_second
+HasTime (Number n) = ⊤
+
+abbrev pub IsCell : Cell → Value → Type 0
+IsCell (Second s) v = IsTime s v
+IsCell (Number n) v = v ≡ double_long_unsigned n
+
+-- as many values as elements, each of which shows its element
+abbrev pub Match : {X : Type 0} → (X → Value → Type 0) → List X → Values → Type 0
+Match R [] none = ⊤
+Match R [] (cons v vs) = ⊥
+Match R (x ∷ xs) none = ⊥
+Match R (x ∷ xs) (cons v vs) = R x v × Match R xs vs
+
+abbrev pub IsRow : List Cell → Value → Type 0
+IsRow row (structure vs) = Match IsCell row vs
+IsRow row _ = ⊥
+
+abbrev pub IsTable : List (List Cell) → Value → Type 0
+IsTable rows (array vs) = Match IsRow rows vs
+IsTable rows _ = ⊥
+
+-- the rows whose clock lies between the seconds that two date-times name, both included
+pub record IsRange (first last : List ℕ) (rows : List Row) (v : Value) : Type 0 where
+  pub from : ℕ
+  pub to : ℕ
+  pub names_from : NamesSecond first from
+  pub names_to : NamesSecond last to
+  pub value : IsTable (map cells (in_range from to rows)) v
+
+abbrev pub Shows : Shown → Value → Type 0
+Shows (as_value v) w = w ≡ v
+Shows (as_time s) w = IsTime s w
+Shows (as_table rows) w = IsTable rows w
+Shows (as_range first last rows) w = IsRange first last rows w

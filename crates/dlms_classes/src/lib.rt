@@ -1,0 +1,21 @@
+//! The objects of the meter, who may do what with them, and what a service on one of them answers.
+#![tactic(auto)]
+
+mod access;
+mod building;
+mod choosing;
+pub mod laws;
+mod listing;
+mod lookup;
+mod planning;
+mod reading;
+mod rows;
+mod showing;
+mod table;
+
+pub use access::AccessResult;
+pub use planning::{plan_action, plan_set};
+pub use reading::get;
+
+#[cfg(test)]
+mod tests;

@@ -1,0 +1,51 @@
+//! What GET answers.
+
+ghost use Rattle.std.specs.Prelude.{◌≡◌, List, option_map};
+ghost use Rattle.dlms_state.specs.declared.event.Event.{Event};
+ghost use Rattle.dlms_state.specs.StateValue.{IsStateOf};
+ghost use Rattle.dlms_classes.specs.Answer.{IsAnswer, AnswersAfter, wanted};
+ghost use Rattle.dlms_classes.specs.Choice.{selection_of};
+
+use crate::access::AccessResult;
+use crate::choosing::chosen;
+use crate::lookup::readable;
+use crate::showing::value;
+use dlms_data::{Data, Descriptor, Selector};
+use dlms_frame::Client;
+use dlms_state::State;
+use std::alloc::Allocator;
+
+/// The answer of a state.
+fn answer<A: Allocator + Copy>(
+    alloc: A,
+    state: &State<A>,
+    client: Client,
+    descriptor: Descriptor,
+    selector: Option<&Selector<A>>,
+) -> Result<Data<A>, AccessResult>
+    ensures { IsAnswer state.now client descriptor (wanted client descriptor (option_map (λ s. selection_of s.now) selector.entry)) result }
+{
+    let attribute = readable(client, descriptor)?;
+    let choice = chosen(attribute.content, selector)?;
+    Ok(value(alloc, state, client, descriptor, choice, attribute.content)?)
+}
+
+/// The value of an attribute, as this client may read it, or why it is refused: the first that fits of name, class,
+/// attribute, right, selector, types of its parameters and their values. A refusal takes no memory, and want of memory is
+/// answered only where a value would have been.
+///
+/// A selector is taken by the load profile's buffer alone: 1 by range, a structure of the clock's column, from and to (octet
+/// strings of twelve or date-times) and an empty array; 2 by entry, a structure of first and last entry (double-long-unsigned)
+/// and first and last column (long-unsigned), counted from 1, where 0 as the last stands for the end. No attribute takes
+/// another selector.
+pub fn get<A: Allocator + Copy>(
+    alloc: A,
+    state: &State<A>,
+    client: Client,
+    descriptor: Descriptor,
+    selector: Option<&Selector<A>>,
+) -> Result<Data<A>, AccessResult>
+    ensures { (E : List Event) → IsStateOf E state.now → AnswersAfter E client descriptor (option_map (λ s. selection_of s.now) selector.entry) result }
+{
+    answer(alloc, state, client, descriptor, selector)
+}
