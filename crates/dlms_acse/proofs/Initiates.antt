@@ -73,7 +73,7 @@ key_takes (o ∷ more) rest e =
           let x = bind_some (ok_of (octets_at 4 more)) (λ x. Some x.1) rest g.1 in
           let took = octets_takes 4 more x.0 (ok_is_some (octets_at 4 more) x.0 x.1) in
           let text : o ∷ more ≡ 1 ∷ (took.0 ++ rest) =
-              ap (λ (k : ℕ). k ∷ more) (is_equal o 1 g.0) ∙ ap (λ (w : List ℕ). 1 ∷ w) took.1 ∙ ap (λ (w : List ℕ). 1 ∷ (took.0 ++ w)) (some_is x.2) in
+          ap (λ (k : ℕ). k ∷ more) (is_equal o 1 g.0) ∙ ap (λ (w : List ℕ). 1 ∷ w) took.1 ∙ ap (λ (w : List ℕ). 1 ∷ (took.0 ++ w)) (some_is x.2) in
           (1 ∷ took.0, text, inr (took.0, x.0.0, refl, took.2))
     ]
 
@@ -128,7 +128,7 @@ long_head v a b c d rest i t e =
     let first = both _ _ all.0 in
     let front = both _ _ first.0 in
     let text : v ∷ a ∷ b ∷ c ∷ d ∷ rest ≡ i.version ∷ 0x5F ∷ 0x1F ∷ 0x04 ∷ 0x00 ∷ rest =
-        rw (is_equal a 0x5F front.0, is_equal b 0x1F front.1, is_equal c 0x04 first.1, is_equal d 0x00 all.1, block.0) refl in
+    rw (is_equal a 0x5F front.0, is_equal b 0x1F front.1, is_equal c 0x04 first.1, is_equal d 0x00 all.1, block.0) refl in
     (0x5F ∷ 0x1F ∷ 0x04 ∷ 0x00 ∷ [], rest, text, inl refl, block.1)
 
 short_head : (v a b c : ℕ) (rest : List ℕ) (i : Initiate) → ((a == 0x5F) && (b == 0x04) && (c == 0x00)) ≡ true → block_at v rest ≡ Some i → Proposes (v ∷ a ∷ b ∷ c ∷ rest) i
@@ -137,7 +137,7 @@ short_head v a b c rest i t e =
     let all = both _ _ t in
     let front = both _ _ all.0 in
     let text : v ∷ a ∷ b ∷ c ∷ rest ≡ i.version ∷ 0x5F ∷ 0x04 ∷ 0x00 ∷ rest =
-        rw (is_equal a 0x5F front.0, is_equal b 0x04 front.1, is_equal c 0x00 all.1, block.0) refl in
+    rw (is_equal a 0x5F front.0, is_equal b 0x04 front.1, is_equal c 0x00 all.1, block.0) refl in
     (0x5F ∷ 0x04 ∷ 0x00 ∷ [], rest, text, inr refl, block.1)
 
 proposal_takes : (bytes : List ℕ) (i : Initiate) → proposal_at bytes ≡ Some i → Proposes bytes i
@@ -187,10 +187,10 @@ request_found (t ∷ rest) i e =
     let q = option_takes response.0 quality.0 response.2 in
     let p = proposal_takes quality.0 i quality.2 in
     let text : t ∷ rest ≡ 0x01 ∷ (k.0 ++ (r.0 ++ (q.0 ++ (i.version ∷ (p.0 ++ p.1))))) =
-        ap (λ (n : ℕ). n ∷ rest) (is_equal t 1 g.0) ∙ ap (λ (w : List ℕ). 0x01 ∷ w) k.1
-        ∙ ap (λ (w : List ℕ). 0x01 ∷ (k.0 ++ w)) r.1
-        ∙ ap (λ (w : List ℕ). 0x01 ∷ (k.0 ++ (r.0 ++ w))) q.1
-        ∙ ap (λ (w : List ℕ). 0x01 ∷ (k.0 ++ (r.0 ++ (q.0 ++ w)))) p.2 in
+    ap (λ (n : ℕ). n ∷ rest) (is_equal t 1 g.0) ∙ ap (λ (w : List ℕ). 0x01 ∷ w) k.1
+    ∙ ap (λ (w : List ℕ). 0x01 ∷ (k.0 ++ w)) r.1
+    ∙ ap (λ (w : List ℕ). 0x01 ∷ (k.0 ++ (r.0 ++ w))) q.1
+    ∙ ap (λ (w : List ℕ). 0x01 ∷ (k.0 ++ (r.0 ++ (q.0 ++ w)))) p.2 in
     (k.0, r.0, q.0, p.0, p.1, text, k.2, r.2, q.2, p.3, p.4)
 
 request_front : (rest : List ℕ) → request_at (0x01 ∷ rest) ≡ on_some (on_some (on_some (key_at rest) option_at) option_at) proposal_at
@@ -203,7 +203,7 @@ request_only bytes i (key, response, quality, head, block, text, k, r, q, h, b) 
     let second : List ℕ = quality ++ third in
     let first : List ℕ = response ++ second in
     let steps : on_some (on_some (on_some (key_at (key ++ first)) option_at) option_at) proposal_at ≡ Some i =
-        rw (key_again key first k, option_again response second r, option_again quality third q) (proposal_again head block i h b) in
+    rw (key_again key first k, option_again response second r, option_again quality third q) (proposal_again head block i h b) in
     ap request_at text ∙ request_front (key ++ first) ∙ steps
 
 initiate_found : (value : List ℕ) (i : Initiate) → initiate_at value ≡ Some i → IsInitiate value i
