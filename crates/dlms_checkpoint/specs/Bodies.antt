@@ -1,0 +1,42 @@
+-- How the bytes of a checkpoint are cut into bodies, each the payload of a page, and what the first body must say.
+use Rattle.std.specs.Prelude.{ℕ, ◌+◌, ◌-◌, ◌*◌, ◌/◌, min, nat_lt, nat_le, nat_eq, ◌&&◌, if◌then◌else◌, List, length, take, drop, slice_index, Bool, Option, Some, None}
+use Rattle.byteorder.specs.Endian.{big_from}
+use Rattle.dlms_checkpoint.specs.declared.reading.BodyFault.{BodyFault}
+use Rattle.dlms_checkpoint.specs.declared.reading.BodyFault.TheVariants.{Length, Counts}
+
+-- the body at this place, counted from 0
+abbrev pub body_at : ℕ → List ℕ → List ℕ
+body_at index bytes = take 496 (drop (496 * index) bytes)
+
+-- how many bodies the bytes fill; none is empty
+abbrev pub body_count : List ℕ → ℕ
+body_count bytes = (length bytes + 495) / 496
+
+-- the counts that a first body says
+abbrev pub secret_count : List ℕ → ℕ
+secret_count bytes = slice_index bytes 28
+
+abbrev pub text_count : List ℕ → ℕ
+text_count bytes = slice_index bytes 45
+
+abbrev pub row_count : List ℕ → ℕ
+row_count bytes = big_from 286 2 bytes
+
+-- a secret of at most 16 bytes, a text of at most 240, at most 960 rows
+abbrev pub counts_fit : List ℕ → Bool
+counts_fit bytes = nat_le (secret_count bytes) 16 && (nat_le (text_count bytes) 240 && nat_le (row_count bytes) 960)
+
+-- how many bytes there are in all, as the first body says
+abbrev pub whole_length : List ℕ → ℕ
+whole_length bytes = 288 + 16 * row_count bytes
+
+-- how long the next body is, where these bytes were taken; 0 where there is none
+abbrev pub awaited : List ℕ → ℕ
+awaited bytes = min 496 (whole_length bytes - length bytes)
+
+-- why bytes are no first body, or None
+abbrev pub first_fault : List ℕ → Option BodyFault
+first_fault bytes =
+    if nat_lt (length bytes) 288 then Some Length
+    else if counts_fit bytes then (if nat_eq (length bytes) (min 496 (whole_length bytes)) then None else Some Length)
+    else Some Counts
