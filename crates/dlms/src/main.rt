@@ -2,7 +2,8 @@
 #![tactic(auto)]
 
 use clap::error::ErrorKind;
-use dlms_program::{Job, Meter, ReplayFault, job, replay};
+use dlms_meter::Meter;
+use dlms_program::{Job, ReplayFault, job, replay};
 use std::alloc::AllocError;
 use std::io::{BufReader, BufWriter, Write};
 use std::process::ExitCode;

@@ -1,7 +1,5 @@
--- A text has one outcome, given its choices.
+-- A text has one outcome, where memory is found.
 use Rattle.std.proofs.Common.{◌≡◌, ℕ, ◌+◌, ◌≤◌, List, [], ◌∷◌, ◌++◌, length, Option, Some, None, option_map, Result, Ok, Err, refl, sym, ap, subst, ◌∙◌, arith, inl, inr}
-use Rattle.dlms_frame.specs.Frame.{Parts, spelling}
-use Rattle.dlms_frame.proofs.LawLemmas.{one_next}
 use Rattle.dlms_state.specs.declared.event.Event.{Event}
 use Rattle.dlms_state.specs.declared.event.Event.TheVariants.{Pulses as PulseEvent, Moment as MomentEvent}
 use Rattle.dlms_state.specs.declared.event.Refused.{Refused}
@@ -10,75 +8,23 @@ use Rattle.hex.specs.Hex.{decode_of}
 use Rattle.std.specs.Str.Parse.{digits_value}
 use Rattle.dlms_program.specs.declared.orders.Order.{Order}
 use Rattle.dlms_program.specs.declared.orders.Order.TheVariants.{Skip, Feed, Pulses, Moment, Silence, Show}
-use Rattle.dlms_program.specs.Service.{Choice}
 use Rattle.dlms_program.specs.Numbers.{IsNumberOf}
 use Rattle.dlms_program.specs.Orders.{SpellsBytes, SpellsMoment, SpellsPulses, Spells}
 use Rattle.dlms_program.specs.Printed.{reply_lines, state_line}
-use Rattle.dlms_program.specs.Run.{Records, World, Turn, Answers, Comes, Judged, client_at, listed, records_after, replied, reply_after, silent, turned}
+use Rattle.dlms_meter.specs.Run.{World, Answers, Comes, FoundMemory, Judged, grown, silent}
+use Rattle.dlms_meter.proofs.OneOutcome.{same_comes}
 use Rattle.dlms_program.specs.Replay.{Does, IsBad, Replays, Tells, outcome_line}
-use Rattle.dlms_program.specs.Outcome.{turn_choices, line_choices, choices_of}
+use Rattle.dlms_program.specs.Outcome.{LineFound, AllFound}
 use Rattle.dlms_program.proofs.NumberLemmas.{pulses_parts, digits_no_space}
 
 -- ---- one piece of bytes
 
-first_is : {A : Type 0} {x y : A} {xs ys : List A} → x ∷ xs ≡ y ∷ ys → x ≡ y
-first_is e = cc
-
-others_are : {A : Type 0} {x y : A} {xs ys : List A} → x ∷ xs ≡ y ∷ ys → xs ≡ ys
-others_are e = cc
-
-no_front : {A : Type 0} {x : A} {xs : List A} → [] ≡ x ∷ xs → ⊥
-no_front e = cc
-
-abbrev reply_by : List Event → Records → Choice → Parts → Option (List ℕ)
-reply_by E records choice frame = option_map spelling (reply_after choice E records frame (client_at frame.src))
-
-abbrev records_by : List Event → Records → Choice → Parts → Records
-records_by E records choice frame = records_after choice E records frame (client_at frame.src)
-
-same_replied : (E : List Event) (records : Records) (t u : Turn) → t.choice ≡ u.choice → t.frame ≡ u.frame → replied E records t ≡ replied E records u
-same_replied E records t u c f = ap (λ (x : Choice). reply_by E records x t.frame) c ∙ ap (reply_by E records u.choice) f
-
-same_turned : (E : List Event) (records : Records) (t u : Turn) → t.choice ≡ u.choice → t.frame ≡ u.frame → turned E records t ≡ turned E records u
-same_turned E records t u c f = ap (λ (x : Choice). records_by E records x t.frame) c ∙ ap (records_by E records u.choice) f
-
-same_answers : (s : List ℕ) (E : List Event) (place : ℕ) (records : Records) (ts us : List Turn) (xs ys : List (List ℕ)) (p q : ℕ) (r v : Records)
-    → Answers s E place records ts xs p r → Answers s E place records us ys q v → turn_choices ts ≡ turn_choices us → (xs ≡ ys) × (p ≡ q) × (r ≡ v)
-same_answers s E place records [] [] xs ys p q r v a b e = (a.1 ∙ sym b.1, a.2 ∙ sym b.2, a.3 ∙ sym b.3)
-same_answers s E place records [] (u ∷ us) xs ys p q r v a b e = absurd (no_front e)
-same_answers s E place records (t ∷ ts) [] xs ys p q r v a b e = absurd (no_front (sym e))
-same_answers s E place records (t ∷ ts) (u ∷ us) xs ys p q r v (next, more, joins, answers) (next', more', joins', answers') e =
-    let one = one_next s place t.from t.to u.from u.to t.frame u.frame next next' in
-    let choice : t.choice ≡ u.choice = first_is e in
-    let reply = same_replied E records t u choice one.1 in
-    let after = same_turned E records t u choice one.1 in
-    let moved : Answers s E t.to (turned E records t) us more' q v =
-    subst (λ (n : ℕ). Answers s E n (turned E records t) us more' q v) (sym one.0)
-    (subst (λ (w : Records). Answers s E u.to w us more' q v) (sym after) answers') in
-    let rest = same_answers s E t.to (turned E records t) ts us more more' p q r v answers moved (others_are e) in
-    let text : xs ≡ ys =
-    joins ∙ ap (λ (o : Option (List ℕ)). listed o ++ more) reply ∙ ap (λ (w : List (List ℕ)). listed (replied E records u) ++ w) rest.0 ∙ sym joins' in
-    (text, rest.1, rest.2)
-
-same_world : (a b : World) → a.stretch ≡ b.stretch → a.place ≡ b.place → a.records ≡ b.records → a.events ≡ b.events → a ≡ b
-same_world a b s p r e =
-    ap (λ (x : List ℕ). world x a.place a.records a.events) s ∙ ap (λ (x : ℕ). world b.stretch x a.records a.events) p
-    ∙ ap (λ (x : Records). world b.stretch b.place x a.events) r ∙ ap (λ (x : List Event). world b.stretch b.place b.records x) e
-  where
-    world : List ℕ → ℕ → Records → List Event → World
-    world s p r e = record { stretch = s; place = p; records = r; events = e }
-
-same_comes : (w w' : World) (bytes bytes' : List ℕ) (xs ys : List (List ℕ)) (a b : World) → w ≡ w' → bytes ≡ bytes'
-    → (c : Comes w bytes xs a) (d : Comes w' bytes' ys b) → turn_choices c.turns ≡ turn_choices d.turns → (xs ≡ ys) × (a ≡ b)
-same_comes w w' bytes bytes' xs ys a b same piece c d e =
-    let moved : Answers (w.stretch ++ bytes) w.events w.place w.records d.turns ys b.place b.records =
-    subst (λ (v : World). Answers (v.stretch ++ bytes) v.events v.place v.records d.turns ys b.place b.records) (sym same)
-    (subst (λ (z : List ℕ). Answers (w'.stretch ++ z) w'.events w'.place w'.records d.turns ys b.place b.records) (sym piece) d.answers) in
-    let one = same_answers (w.stretch ++ bytes) w.events w.place w.records c.turns d.turns xs ys a.place b.place a.records b.records c.answers moved e in
-    let stretch : a.stretch ≡ b.stretch =
-    c.stretch ∙ ap (λ (v : World). v.stretch ++ bytes) same ∙ ap (λ (z : List ℕ). w'.stretch ++ z) piece ∙ sym d.stretch in
-    let events : a.events ≡ b.events = c.events ∙ ap (λ (v : World). v.events) same ∙ sym d.events in
-    (one.0, same_world a b stretch one.1 one.2 events)
+same_piece : (w w' : World) (bytes bytes' : List ℕ) (xs ys : List (List ℕ)) (a b : World) → w ≡ w' → bytes ≡ bytes'
+    → (c : Comes w bytes xs a) (d : Comes w' bytes' ys b) → FoundMemory c.turns → FoundMemory d.turns → (xs ≡ ys) × (a ≡ b)
+same_piece w w' bytes bytes' xs ys a b same piece c d found found' =
+    let moved : Answers (grown w bytes) d.turns ys b =
+    subst (λ (v : World). Answers (grown v bytes) d.turns ys b) (sym same) (subst (λ (z : List ℕ). Answers (grown w' z) d.turns ys b) (sym piece) d.answers) in
+    same_comes w a b bytes xs ys c (record { turns = d.turns; answers = moved }) found found'
 
 -- ---- an event
 
@@ -153,49 +99,49 @@ one_pulses line c n d m h g =
 -- ---- one line
 
 same_line : (line bytes bytes' : List ℕ) (order order' : Order) (w w' a b : World) (s t : List ℕ) → w ≡ w' → Spells line bytes order → Spells line bytes' order'
-    → (c : Does w bytes order a s) (d : Does w' bytes' order' b t) → line_choices w bytes order a s c ≡ line_choices w' bytes' order' b t d → (a ≡ b) × (s ≡ t)
-same_line line bytes bytes' Skip Skip w w' a b s t same h g c d e = (c.0 ∙ same ∙ sym d.0, c.1 ∙ sym d.1)
-same_line line bytes bytes' Feed Feed w w' a b s t same h g (xs, comes, is) (ys, comes', is') e =
-    let one = same_comes w w' bytes bytes' xs ys a b same (one_piece line bytes bytes' h g) comes comes' e in
+    → (c : Does w bytes order a s) (d : Does w' bytes' order' b t) → LineFound w bytes order a s c → LineFound w' bytes' order' b t d → (a ≡ b) × (s ≡ t)
+same_line line bytes bytes' Skip Skip w w' a b s t same h g c d e e' = (c.0 ∙ same ∙ sym d.0, c.1 ∙ sym d.1)
+same_line line bytes bytes' Feed Feed w w' a b s t same h g (xs, comes, is) (ys, comes', is') e e' =
+    let one = same_piece w w' bytes bytes' xs ys a b same (one_piece line bytes bytes' h g) comes comes' e e' in
     (one.1, is ∙ ap reply_lines one.0 ∙ sym is')
-same_line line bytes bytes' (Pulses p q) (Pulses p' q') w w' a b s t same h g c d e =
+same_line line bytes bytes' (Pulses p q) (Pulses p' q') w w' a b s t same h g c d e e' =
     let one = one_pulses line p q p' q' h g in
     same_told w w' (PulseEvent p q) (PulseEvent p' q') a b s t same (ap (λ (x : ℕ). PulseEvent x q) one.0 ∙ ap (PulseEvent p') one.1) c d
-same_line line bytes bytes' (Moment m) (Moment m') w w' a b s t same h g c d e =
+same_line line bytes bytes' (Moment m) (Moment m') w w' a b s t same h g c d e e' =
     same_told w w' (MomentEvent m) (MomentEvent m') a b s t same (ap MomentEvent (one_moment line m m' h g)) c d
-same_line line bytes bytes' Silence Silence w w' a b s t same h g c d e = (c.0 ∙ ap silent same ∙ sym d.0, c.1 ∙ sym d.1)
-same_line line bytes bytes' Show Show w w' a b s t same h g c d e =
+same_line line bytes bytes' Silence Silence w w' a b s t same h g c d e e' = (c.0 ∙ ap silent same ∙ sym d.0, c.1 ∙ sym d.1)
+same_line line bytes bytes' Show Show w w' a b s t same h g c d e e' =
     (c.0 ∙ same ∙ sym d.0, c.1 ∙ ap (λ (v : World). state_line (state_of v.events)) same ∙ sym d.1)
-same_line line bytes bytes' Skip Feed w w' a b s t same h g c d e = absurd (omega (arith, begins line bytes Skip h, begins line bytes' Feed g))
-same_line line bytes bytes' Skip (Pulses p' q') w w' a b s t same h g c d e = absurd (omega (arith, begins line bytes Skip h, begins line bytes' (Pulses p' q') g))
-same_line line bytes bytes' Skip (Moment m') w w' a b s t same h g c d e = absurd (omega (arith, begins line bytes Skip h, begins line bytes' (Moment m') g))
-same_line line bytes bytes' Skip Silence w w' a b s t same h g c d e = absurd (omega (arith, begins line bytes Skip h, begins line bytes' Silence g))
-same_line line bytes bytes' Skip Show w w' a b s t same h g c d e = absurd (omega (arith, begins line bytes Skip h, begins line bytes' Show g))
-same_line line bytes bytes' Feed Skip w w' a b s t same h g c d e = absurd (omega (arith, begins line bytes Feed h, begins line bytes' Skip g))
-same_line line bytes bytes' Feed (Pulses p' q') w w' a b s t same h g c d e = absurd (omega (arith, begins line bytes Feed h, begins line bytes' (Pulses p' q') g))
-same_line line bytes bytes' Feed (Moment m') w w' a b s t same h g c d e = absurd (omega (arith, begins line bytes Feed h, begins line bytes' (Moment m') g))
-same_line line bytes bytes' Feed Silence w w' a b s t same h g c d e = absurd (omega (arith, begins line bytes Feed h, begins line bytes' Silence g))
-same_line line bytes bytes' Feed Show w w' a b s t same h g c d e = absurd (omega (arith, begins line bytes Feed h, begins line bytes' Show g))
-same_line line bytes bytes' (Pulses p q) Skip w w' a b s t same h g c d e = absurd (omega (arith, begins line bytes (Pulses p q) h, begins line bytes' Skip g))
-same_line line bytes bytes' (Pulses p q) Feed w w' a b s t same h g c d e = absurd (omega (arith, begins line bytes (Pulses p q) h, begins line bytes' Feed g))
-same_line line bytes bytes' (Pulses p q) (Moment m') w w' a b s t same h g c d e = absurd (omega (arith, begins line bytes (Pulses p q) h, begins line bytes' (Moment m') g))
-same_line line bytes bytes' (Pulses p q) Silence w w' a b s t same h g c d e = absurd (omega (arith, begins line bytes (Pulses p q) h, begins line bytes' Silence g))
-same_line line bytes bytes' (Pulses p q) Show w w' a b s t same h g c d e = absurd (omega (arith, begins line bytes (Pulses p q) h, begins line bytes' Show g))
-same_line line bytes bytes' (Moment m) Skip w w' a b s t same h g c d e = absurd (omega (arith, begins line bytes (Moment m) h, begins line bytes' Skip g))
-same_line line bytes bytes' (Moment m) Feed w w' a b s t same h g c d e = absurd (omega (arith, begins line bytes (Moment m) h, begins line bytes' Feed g))
-same_line line bytes bytes' (Moment m) (Pulses p' q') w w' a b s t same h g c d e = absurd (omega (arith, begins line bytes (Moment m) h, begins line bytes' (Pulses p' q') g))
-same_line line bytes bytes' (Moment m) Silence w w' a b s t same h g c d e = absurd (omega (arith, begins line bytes (Moment m) h, begins line bytes' Silence g))
-same_line line bytes bytes' (Moment m) Show w w' a b s t same h g c d e = absurd (omega (arith, begins line bytes (Moment m) h, begins line bytes' Show g))
-same_line line bytes bytes' Silence Skip w w' a b s t same h g c d e = absurd (omega (arith, begins line bytes Silence h, begins line bytes' Skip g))
-same_line line bytes bytes' Silence Feed w w' a b s t same h g c d e = absurd (omega (arith, begins line bytes Silence h, begins line bytes' Feed g))
-same_line line bytes bytes' Silence (Pulses p' q') w w' a b s t same h g c d e = absurd (omega (arith, begins line bytes Silence h, begins line bytes' (Pulses p' q') g))
-same_line line bytes bytes' Silence (Moment m') w w' a b s t same h g c d e = absurd (omega (arith, begins line bytes Silence h, begins line bytes' (Moment m') g))
-same_line line bytes bytes' Silence Show w w' a b s t same h g c d e = absurd (omega (arith, begins line bytes Silence h, begins line bytes' Show g))
-same_line line bytes bytes' Show Skip w w' a b s t same h g c d e = absurd (omega (arith, begins line bytes Show h, begins line bytes' Skip g))
-same_line line bytes bytes' Show Feed w w' a b s t same h g c d e = absurd (omega (arith, begins line bytes Show h, begins line bytes' Feed g))
-same_line line bytes bytes' Show (Pulses p' q') w w' a b s t same h g c d e = absurd (omega (arith, begins line bytes Show h, begins line bytes' (Pulses p' q') g))
-same_line line bytes bytes' Show (Moment m') w w' a b s t same h g c d e = absurd (omega (arith, begins line bytes Show h, begins line bytes' (Moment m') g))
-same_line line bytes bytes' Show Silence w w' a b s t same h g c d e = absurd (omega (arith, begins line bytes Show h, begins line bytes' Silence g))
+same_line line bytes bytes' Skip Feed w w' a b s t same h g c d e e' = absurd (omega (arith, begins line bytes Skip h, begins line bytes' Feed g))
+same_line line bytes bytes' Skip (Pulses p' q') w w' a b s t same h g c d e e' = absurd (omega (arith, begins line bytes Skip h, begins line bytes' (Pulses p' q') g))
+same_line line bytes bytes' Skip (Moment m') w w' a b s t same h g c d e e' = absurd (omega (arith, begins line bytes Skip h, begins line bytes' (Moment m') g))
+same_line line bytes bytes' Skip Silence w w' a b s t same h g c d e e' = absurd (omega (arith, begins line bytes Skip h, begins line bytes' Silence g))
+same_line line bytes bytes' Skip Show w w' a b s t same h g c d e e' = absurd (omega (arith, begins line bytes Skip h, begins line bytes' Show g))
+same_line line bytes bytes' Feed Skip w w' a b s t same h g c d e e' = absurd (omega (arith, begins line bytes Feed h, begins line bytes' Skip g))
+same_line line bytes bytes' Feed (Pulses p' q') w w' a b s t same h g c d e e' = absurd (omega (arith, begins line bytes Feed h, begins line bytes' (Pulses p' q') g))
+same_line line bytes bytes' Feed (Moment m') w w' a b s t same h g c d e e' = absurd (omega (arith, begins line bytes Feed h, begins line bytes' (Moment m') g))
+same_line line bytes bytes' Feed Silence w w' a b s t same h g c d e e' = absurd (omega (arith, begins line bytes Feed h, begins line bytes' Silence g))
+same_line line bytes bytes' Feed Show w w' a b s t same h g c d e e' = absurd (omega (arith, begins line bytes Feed h, begins line bytes' Show g))
+same_line line bytes bytes' (Pulses p q) Skip w w' a b s t same h g c d e e' = absurd (omega (arith, begins line bytes (Pulses p q) h, begins line bytes' Skip g))
+same_line line bytes bytes' (Pulses p q) Feed w w' a b s t same h g c d e e' = absurd (omega (arith, begins line bytes (Pulses p q) h, begins line bytes' Feed g))
+same_line line bytes bytes' (Pulses p q) (Moment m') w w' a b s t same h g c d e e' = absurd (omega (arith, begins line bytes (Pulses p q) h, begins line bytes' (Moment m') g))
+same_line line bytes bytes' (Pulses p q) Silence w w' a b s t same h g c d e e' = absurd (omega (arith, begins line bytes (Pulses p q) h, begins line bytes' Silence g))
+same_line line bytes bytes' (Pulses p q) Show w w' a b s t same h g c d e e' = absurd (omega (arith, begins line bytes (Pulses p q) h, begins line bytes' Show g))
+same_line line bytes bytes' (Moment m) Skip w w' a b s t same h g c d e e' = absurd (omega (arith, begins line bytes (Moment m) h, begins line bytes' Skip g))
+same_line line bytes bytes' (Moment m) Feed w w' a b s t same h g c d e e' = absurd (omega (arith, begins line bytes (Moment m) h, begins line bytes' Feed g))
+same_line line bytes bytes' (Moment m) (Pulses p' q') w w' a b s t same h g c d e e' = absurd (omega (arith, begins line bytes (Moment m) h, begins line bytes' (Pulses p' q') g))
+same_line line bytes bytes' (Moment m) Silence w w' a b s t same h g c d e e' = absurd (omega (arith, begins line bytes (Moment m) h, begins line bytes' Silence g))
+same_line line bytes bytes' (Moment m) Show w w' a b s t same h g c d e e' = absurd (omega (arith, begins line bytes (Moment m) h, begins line bytes' Show g))
+same_line line bytes bytes' Silence Skip w w' a b s t same h g c d e e' = absurd (omega (arith, begins line bytes Silence h, begins line bytes' Skip g))
+same_line line bytes bytes' Silence Feed w w' a b s t same h g c d e e' = absurd (omega (arith, begins line bytes Silence h, begins line bytes' Feed g))
+same_line line bytes bytes' Silence (Pulses p' q') w w' a b s t same h g c d e e' = absurd (omega (arith, begins line bytes Silence h, begins line bytes' (Pulses p' q') g))
+same_line line bytes bytes' Silence (Moment m') w w' a b s t same h g c d e e' = absurd (omega (arith, begins line bytes Silence h, begins line bytes' (Moment m') g))
+same_line line bytes bytes' Silence Show w w' a b s t same h g c d e e' = absurd (omega (arith, begins line bytes Silence h, begins line bytes' Show g))
+same_line line bytes bytes' Show Skip w w' a b s t same h g c d e e' = absurd (omega (arith, begins line bytes Show h, begins line bytes' Skip g))
+same_line line bytes bytes' Show Feed w w' a b s t same h g c d e e' = absurd (omega (arith, begins line bytes Show h, begins line bytes' Feed g))
+same_line line bytes bytes' Show (Pulses p' q') w w' a b s t same h g c d e e' = absurd (omega (arith, begins line bytes Show h, begins line bytes' (Pulses p' q') g))
+same_line line bytes bytes' Show (Moment m') w w' a b s t same h g c d e e' = absurd (omega (arith, begins line bytes Show h, begins line bytes' (Moment m') g))
+same_line line bytes bytes' Show Silence w w' a b s t same h g c d e e' = absurd (omega (arith, begins line bytes Show h, begins line bytes' Silence g))
 
 -- ---- the whole
 
@@ -205,17 +151,17 @@ not_bad line bytes order short spells (inr none) = none bytes order spells
 
 same_run : (lines : List (List ℕ)) (number : ℕ) (w w' : World) (s t : List ℕ) (bad bad' : Option ℕ) (last last' : World) → w ≡ w'
     → (a : Replays w number lines s bad last) (b : Replays w' number lines t bad' last')
-    → choices_of w number lines s bad last a ≡ choices_of w' number lines t bad' last' b → (s ≡ t) × (bad ≡ bad') × (last ≡ last')
-same_run [] number w w' s t bad bad' last last' same a b e = (a.0 ∙ sym b.0, a.1 ∙ sym b.1, a.2 ∙ same ∙ sym b.2)
-same_run (line ∷ lines) number w w' s t bad bad' last last' same (inl a) (inl b) e = (a.1 ∙ sym b.1, a.2 ∙ sym b.2, a.3 ∙ same ∙ sym b.3)
-same_run (line ∷ lines) number w w' s t bad bad' last last' same (inl a) (inr b) e = absurd (not_bad line b.1 b.2 b.0 b.6 a.0)
-same_run (line ∷ lines) number w w' s t bad bad' last last' same (inr a) (inl b) e = absurd (not_bad line a.1 a.2 a.0 a.6 b.0)
-same_run (line ∷ lines) number w w' s t bad bad' last last' same (inr (short, bytes, order, v, first, rest, spells, does, replays, joins)) (inr (short', bytes', order', v', first', rest', spells', does', replays', joins')) e =
-    let one = same_line line bytes bytes' order order' w w' v v' first first' same spells spells' does does' (first_is e) in
-    let more = same_run lines (number + 1) v v' rest rest' bad bad' last last' one.0 replays replays' (others_are e) in
+    → AllFound w number lines s bad last a → AllFound w' number lines t bad' last' b → (s ≡ t) × (bad ≡ bad') × (last ≡ last')
+same_run [] number w w' s t bad bad' last last' same a b e e' = (a.0 ∙ sym b.0, a.1 ∙ sym b.1, a.2 ∙ same ∙ sym b.2)
+same_run (line ∷ lines) number w w' s t bad bad' last last' same (inl a) (inl b) e e' = (a.1 ∙ sym b.1, a.2 ∙ sym b.2, a.3 ∙ same ∙ sym b.3)
+same_run (line ∷ lines) number w w' s t bad bad' last last' same (inl a) (inr b) e e' = absurd (not_bad line b.1 b.2 b.0 b.6 a.0)
+same_run (line ∷ lines) number w w' s t bad bad' last last' same (inr a) (inl b) e e' = absurd (not_bad line a.1 a.2 a.0 a.6 b.0)
+same_run (line ∷ lines) number w w' s t bad bad' last last' same (inr (short, bytes, order, v, first, rest, spells, does, replays, joins)) (inr (short', bytes', order', v', first', rest', spells', does', replays', joins')) e e' =
+    let one = same_line line bytes bytes' order order' w w' v v' first first' same spells spells' does does' e.0 e'.0 in
+    let more = same_run lines (number + 1) v v' rest rest' bad bad' last last' one.0 replays replays' e.1 e'.1 in
     (joins ∙ ap (λ (x : List ℕ). x ++ rest) one.1 ∙ ap (λ (x : List ℕ). first' ++ x) more.0 ∙ sym joins', more.1, more.2)
 
 pub one_outcome_of : (lines : List (List ℕ)) (number : ℕ) (w : World) (s t : List ℕ) (bad bad' : Option ℕ) (last last' : World)
     → (a : Replays w number lines s bad last) (b : Replays w number lines t bad' last')
-    → choices_of w number lines s bad last a ≡ choices_of w number lines t bad' last' b → (s ≡ t) × (bad ≡ bad') × (last ≡ last')
-one_outcome_of lines number w s t bad bad' last last' a b e = same_run lines number w w s t bad bad' last last' refl a b e
+    → AllFound w number lines s bad last a → AllFound w number lines t bad' last' b → (s ≡ t) × (bad ≡ bad') × (last ≡ last')
+one_outcome_of lines number w s t bad bad' last last' a b e e' = same_run lines number w w s t bad bad' last last' refl a b e e'

@@ -8,12 +8,12 @@ use Rattle.dlms_state.specs.declared.event.Refused.{Refused}
 use Rattle.dlms_program.specs.declared.orders.Order.{Order}
 use Rattle.dlms_program.specs.declared.orders.Order.TheVariants.{Feed, Pulses, Moment}
 use Rattle.dlms_program.specs.Lines.{lines_of, HasLongLine, LosesLine}
-use Rattle.dlms_program.specs.MeterValue.{MeterValue}
+use Rattle.dlms_meter.specs.MeterValue.{MeterValue}
 use Rattle.dlms_program.specs.Orders.{Spells}
 use Rattle.dlms_program.specs.Printed.{reply_lines, reply_line}
 use Rattle.dlms_program.specs.Replay.{Did, IsBad, Replays, WroteReplay, outcome_line}
-use Rattle.dlms_program.specs.Run.{World, Stands, Feeds, Judges, listed}
-use Rattle.dlms_program.proofs.RunLemmas.{GoesOn, goes_start as start_piece, goes_call, goes_end as end_piece}
+use Rattle.dlms_meter.specs.Run.{World, Stands, Feeds, Judges, listed}
+use Rattle.dlms_meter.proofs.RunLemmas.{GoesOn, goes_start as start_piece, goes_call, goes_end as end_piece}
 
 -- ---- known bytes
 

@@ -1,12 +1,8 @@
 pub mod Outcome
 pub mod Lines
-pub mod MeterValue
 pub mod Numbers
 pub mod Orders
 pub mod Pairs
 pub mod Printed
 pub mod Replay
-pub mod Run
-pub mod Service
-pub mod Steps
 pub mod Words

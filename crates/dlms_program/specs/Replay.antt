@@ -10,10 +10,10 @@ use Rattle.dlms_program.specs.declared.fault.ReplayFault.TheVariants.{Line, Io, 
 use Rattle.dlms_program.specs.declared.orders.Order.{Order}
 use Rattle.dlms_program.specs.declared.orders.Order.TheVariants.{Skip, Feed, Pulses, Moment, Silence, Show}
 use Rattle.dlms_program.specs.Lines.{lines_of}
-use Rattle.dlms_program.specs.MeterValue.{MeterValue}
+use Rattle.dlms_meter.specs.MeterValue.{MeterValue}
 use Rattle.dlms_program.specs.Orders.{Spells}
 use Rattle.dlms_program.specs.Printed.{reply_lines, refusal_line, state_line}
-use Rattle.dlms_program.specs.Run.{World, Comes, Judged, silent, Stands}
+use Rattle.dlms_meter.specs.Run.{World, Comes, Judged, silent, Stands}
 
 -- what is written of an event: nothing, or why it was refused
 abbrev pub outcome_line : Result (Unit {0}) Refused → List ℕ

@@ -4,18 +4,15 @@
 mod fault;
 pub mod laws;
 mod lines;
-mod meter;
 mod numbers;
 mod orders;
 mod pairs;
 mod printing;
 mod replaying;
-mod service;
 mod work;
 mod working;
 
 pub use fault::ReplayFault;
-pub use meter::{Meter, Reply};
 pub use replaying::replay;
 pub use work::Job;
 pub use working::job;

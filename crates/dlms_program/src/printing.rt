@@ -2,9 +2,9 @@
 ghost use Rattle.std.specs.Prelude.{◌≤◌, ◌*◌, OnOk, length, option_map};
 ghost use Rattle.std.specs.Io.KnownBytes.{Appends};
 ghost use Rattle.dlms_program.specs.Printed.{reply_line, reply_lines, refusal_line, registers_text, clock_text, state_line};
-ghost use Rattle.dlms_program.specs.Run.{listed};
+ghost use Rattle.dlms_meter.specs.Run.{listed};
 
-use crate::meter::Reply;
+use dlms_meter::Reply;
 use dlms_state::{Refused, State};
 use std::alloc::Allocator;
 use std::io;

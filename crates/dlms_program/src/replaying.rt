@@ -3,15 +3,15 @@ ghost use Rattle.std.specs.Prelude.{◌≡◌, ◌≤◌, List, ℕ, OnOk, lengt
 ghost use Rattle.dlms_state.specs.declared.event.Event.{Event};
 ghost use Rattle.std.specs.Io.KnownBytes.{Appends};
 ghost use Rattle.dlms_program.specs.Replay.{Did, WroteReplay, bad_line, outcome_line};
-ghost use Rattle.dlms_program.specs.Run.{World, Stands, Judges};
+ghost use Rattle.dlms_meter.specs.Run.{World, Stands, Judges};
 
 use crate::fault::ReplayFault;
 use crate::lines::{Taken, take_line};
-use crate::meter::Meter;
 use crate::orders::{Order, order_of};
 use crate::pairs::Pairs;
 use crate::printing::{write_answer, write_refusal, write_state};
 use arrayvec::ArrayVec;
+use dlms_meter::Meter;
 use dlms_state::Refused;
 use std::alloc::Allocator;
 use std::io;

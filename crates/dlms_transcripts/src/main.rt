@@ -5,7 +5,8 @@
 #![tactic(auto)]
 
 use anyhow::Result;
-use dlms_program::{Meter, replay};
+use dlms_meter::Meter;
+use dlms_program::replay;
 use std::fs;
 use std::io::ErrorKind;
 use std::process::ExitCode;

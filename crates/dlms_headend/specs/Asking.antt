@@ -1,0 +1,69 @@
+-- What a poll asks of the meter, in the order of the requests: the association (IEC 62056-5-3, the establishment of an
+-- application association), the buffer of the load profile with selective access by range (Blue Book 4.3.6,
+-- range_descriptor), further blocks, and the release.
+use Rattle.std.specs.Prelude.{◌≡◌, ℕ, List, [], ◌∷◌, Option, Some, unwrap_or, pos}
+use Rattle.dlms_frame.specs.declared.client.Client.{Client}
+use Rattle.dlms_data.specs.DateTime.{NamesSecond, IsPlainlyWritten, last_second}
+use Rattle.dlms_data.specs.Value.{Value, array, structure, octet_string, integer, long_unsigned, none, cons}
+use Rattle.dlms_data.specs.declared.descriptor.Descriptor.{Descriptor}
+use Rattle.dlms_acse.specs.Writing.{aarq_bytes}
+use Rattle.dlms_apdu.specs.Forms.{get_normal, get_next}
+use Rattle.dlms_apdu.specs.Writing.{request_bytes}
+
+-- what is polled, as a contract sees it
+pub record PlanValue : Type 0 where
+  pub client : Client
+  pub secret : List ℕ
+  pub after : Option ℕ
+
+-- the invoke-id-and-priority byte
+abbrev pub invoke : ℕ
+invoke = 0xC1
+
+-- the association request: the services 00 7E 1F are proposed, and APDUs of 1,200 bytes
+abbrev pub association_bytes : PlanValue → List ℕ
+association_bytes plan = aarq_bytes plan.client plan.secret 0x007E1F 1200
+
+-- the load profile 1.0.99.1.0.255 of class 7, and its buffer
+abbrev pub buffer : Descriptor
+buffer = record { class = 7; name = 1 ∷ 0 ∷ 99 ∷ 1 ∷ 0 ∷ 255 ∷ []; id = 2 }
+
+-- the capture object that is the clock's time: class 8, 0.0.1.0.0.255, attribute 2, data index 0
+abbrev pub clock_column : Value
+clock_column =
+    structure (cons (long_unsigned 8) (cons (octet_string (0 ∷ 0 ∷ 1 ∷ 0 ∷ 0 ∷ 255 ∷ [])) (cons (integer (pos 2)) (cons (long_unsigned 0) none))))
+
+-- the rows from one date-time to another, with all columns
+abbrev pub range : Value → Value → Value
+range first last = structure (cons clock_column (cons first (cons last (cons (array none) none))))
+
+-- an octet-string that names the second, plainly written
+pub record IsTime (second : ℕ) (value : Value) : Type 0 where
+  pub octets : List ℕ
+  pub is : value ≡ octet_string octets
+  pub names : NamesSecond octets second
+  pub plain : IsPlainlyWritten octets
+
+-- the rows from a second to the last one of the clock, both included
+pub record IsRange (first_second : ℕ) (value : Value) : Type 0 where
+  pub first : Value
+  pub last : Value
+  pub is : value ≡ range first last
+  pub from_first : IsTime first_second first
+  pub to_last : IsTime last_second last
+
+abbrev pub first_second : Option ℕ → ℕ
+first_second after = unwrap_or after 0
+
+abbrev pub buffer_bytes : Value → List ℕ
+buffer_bytes value = request_bytes (get_normal invoke buffer (Some (record { number = 1; value = value })))
+
+-- a GET of the buffer with selector 1, from `after` (0 where there is none) to the clock's last second
+pub record IsBufferRequest (after : Option ℕ) (apdu : List ℕ) : Type 0 where
+  pub value : Value
+  pub is : apdu ≡ buffer_bytes value
+  pub wanted : IsRange (first_second after) value
+
+-- a GET of the block behind the one with this number
+abbrev pub next_bytes : ℕ → List ℕ
+next_bytes number = request_bytes (get_next invoke number)

@@ -1,0 +1,12 @@
+pub mod Lines
+pub mod Merged
+pub mod ReadingsFault
+pub mod PollFault
+pub mod Rows
+pub mod Asking
+pub mod Poll
+pub mod Heard
+pub mod TalkValue
+pub mod Talk
+pub mod PollerValue
+pub mod Polling

@@ -1,0 +1,67 @@
+-- The text of a readings file: a line for each row, its clock and its three registers in plain decimal, parted by commas
+-- and ended by a line feed.
+use Rattle.std.specs.Prelude.{◌≡◌, ◌≢◌, ℕ, ◌+◌, ◌<◌, ◌≤◌, ◌^◌, List, [], ◌∷◌, ◌++◌, length, slice_index, All, Bool, false, not, ◌==◌, ◌&&◌}
+use Rattle.std.specs.Fmt.{decimal}
+use Rattle.dlms_data.specs.DateTime.{last_second}
+use Rattle.dlms_headend.specs.declared.row.Row.{Row}
+use Rattle.dlms_headend.specs.declared.readings_fault.ReadingsFault.{ReadingsFault}
+use Rattle.dlms_headend.specs.declared.readings_fault.ReadingsFault.TheVariants.{Line, Memory}
+
+-- a row that a file may hold: its clock is one of the meter's clock, and it has three registers of 32 bits
+pub record IsReading (row : Row) : Type 0 where
+  pub clock : row.clock ≤ last_second
+  pub count : length row.registers ≡ 3
+  pub registers : All (λ register. register < 2 ^ 32) row.registers
+
+-- no sign stands in front, and no leading zero
+abbrev pub is_plain : List ℕ → Bool
+is_plain [] = false
+is_plain (first ∷ []) = not (first == 43)
+is_plain (first ∷ next ∷ rest) = not (first == 43) && not (first == 48)
+
+-- none of the bytes is the separator
+abbrev pub Lacks : ℕ → List ℕ → Type 0
+Lacks separator [] = Unit {0}
+Lacks separator (byte ∷ bytes) = (byte ≢ separator) × Lacks separator bytes
+
+-- a number, what ends it, and what follows
+abbrev pub field : ℕ → ℕ → List ℕ → List ℕ
+field number separator rest = decimal number ++ separator ∷ rest
+
+-- a row's line, and what follows it; the comma is 44 and the line feed 10
+abbrev pub line : Row → List ℕ → List ℕ
+line row rest =
+    field row.clock 44 (field (slice_index row.registers 0) 44 (field (slice_index row.registers 1) 44 (field (slice_index row.registers 2) 10 rest)))
+
+-- the lines of the rows, in their order, and what follows them
+abbrev pub lines : List Row → List ℕ → List ℕ
+lines [] rest = rest
+lines (row ∷ rows) rest = line row (lines rows rest)
+
+abbrev pub text_of : List Row → List ℕ
+text_of rows = lines rows []
+
+-- the text is that of these rows
+pub record IsFile (text : List ℕ) (rows : List Row) : Type 0 where
+  pub spelled : text ≡ text_of rows
+  pub readings : All IsReading rows
+
+-- the text begins with the line of this row
+pub record BeginsWith (text : List ℕ) (row : Row) (rest : List ℕ) : Type 0 where
+  pub spelled : text ≡ line row rest
+  pub reading : IsReading row
+
+-- behind the lines of some rows something stands that begins with no line: the first such line has this number
+pub record IsFirstFault (text : List ℕ) (number : ℕ) : Type 0 where
+  pub rows : List Row
+  pub rest : List ℕ
+  pub spelled : text ≡ lines rows rest
+  pub readings : All IsReading rows
+  pub counted : number ≡ length rows + 1
+  pub more : 0 < length rest
+  pub no_line : (row : Row) (behind : List ℕ) → BeginsWith rest row behind → ⊥
+
+-- what a refusal says of the text; memory is wanting only for a file
+abbrev pub Refuses : List ℕ → ReadingsFault → Type 0
+Refuses text (Line number) = IsFirstFault text number
+Refuses text Memory = (rows : List Row) × IsFile text rows

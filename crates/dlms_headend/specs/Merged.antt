@@ -1,0 +1,20 @@
+-- Readings that grow by the rows of a poll.
+use Rattle.std.specs.Prelude.{ℕ, Bool, true, nat_lt, List, ◌++◌, filter, Option, Some, None, option_map, slice_get, length, ◌-◌}
+use Rattle.dlms_headend.specs.declared.row.Row.{Row}
+
+-- the clock of the last row
+abbrev pub last_clock : List Row → Option ℕ
+last_clock rows = option_map (λ row. row.clock) (slice_get rows (length rows - 1))
+
+-- the row's clock is greater than that one, if there is one
+abbrev pub is_later : Option ℕ → Row → Bool
+is_later None row = true
+is_later (Some clock) row = nat_lt clock row.clock
+
+-- the given rows, in their order, whose clock is greater than that of the file's last row; all of them after an empty file
+abbrev pub added : List Row → List Row → List Row
+added file given = filter (is_later (last_clock file)) given
+
+-- the file's rows, followed by those
+abbrev pub merged : List Row → List Row → List Row
+merged file given = file ++ added file given

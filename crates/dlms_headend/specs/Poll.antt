@@ -1,0 +1,136 @@
+-- A poll of the load profile, by the APDUs that it took since its link came up: an association response that accepts, then
+-- answers to GET whose data, or whose blocks joined, spell an array of rows, then the answer to the release. What it sends
+-- next, and why it fails, is said of the whole list of these APDUs.
+use Rattle.std.specs.Prelude.{◌≡◌, ℕ, ◌+◌, ◌<◌, ◌==◌, if◌then◌else◌, Bool, true, false, List, [], ◌∷◌, ◌++◌, Result, Ok, Err}
+use Rattle.dlms_acse.specs.declared.fault.AcseFault.{AcseFault}
+use Rattle.dlms_acse.specs.declared.outcome.Verdict.{Verdict}
+use Rattle.dlms_acse.specs.declared.outcome.Verdict.TheVariants.{Accepted, Refused as Rejected}
+use Rattle.dlms_acse.specs.Reading.{aare_at}
+use Rattle.dlms_acse.specs.Writing.{release_request}
+use Rattle.dlms_apdu.specs.declared.fault.Refusal.{Refusal}
+use Rattle.dlms_apdu.specs.Forms.{ResponseForm, get_data, get_result, get_block, get_block_result, exception}
+use Rattle.dlms_apdu.specs.Reading.{response_at}
+use Rattle.dlms_headend.specs.declared.row.Row.{Row}
+use Rattle.dlms_headend.specs.declared.poll_fault.PollFault.{PollFault}
+use Rattle.dlms_headend.specs.declared.poll_fault.PollFault.TheVariants.{Refused, Result as BadResult, Protocol}
+use Rattle.dlms_headend.specs.Rows.{IsProfile, IsEncoded}
+use Rattle.dlms_headend.specs.Asking.{PlanValue, association_bytes, IsBufferRequest, next_bytes}
+
+-- ---- one APDU
+
+-- an exception in place of an answer: its tag, the state error and the service error
+abbrev pub is_exception : List ℕ → Bool
+is_exception (tag ∷ state ∷ service ∷ []) = tag == 0xD8
+is_exception _ = false
+
+-- an APDU of another form than the awaited one
+abbrev pub other_fault : List ℕ → PollFault
+other_fault apdu = if is_exception apdu then BadResult 250 else Protocol
+
+-- the association is accepted
+abbrev pub AcceptsBy : Result Verdict AcseFault → Type 0
+AcceptsBy (Ok (Accepted conformance size)) = Unit {0}
+AcceptsBy (Ok (Rejected diagnostic error)) = ⊥
+AcceptsBy (Err fault) = ⊥
+
+abbrev pub Accepts : List ℕ → Type 0
+Accepts apdu = AcceptsBy (aare_at apdu)
+
+-- it is refused, or the APDU is no association response
+abbrev pub DeniesBy : Result Verdict AcseFault → List ℕ → PollFault → Type 0
+DeniesBy (Ok (Accepted conformance size)) apdu fault = ⊥
+DeniesBy (Ok (Rejected diagnostic error)) apdu fault = fault ≡ Refused diagnostic
+DeniesBy (Err unread) apdu fault = fault ≡ other_fault apdu
+
+abbrev pub Denies : List ℕ → PollFault → Type 0
+Denies apdu fault = DeniesBy (aare_at apdu) apdu fault
+
+-- After so many blocks, whose bytes were joined: a further block with the next number, which is not the last one.
+abbrev pub IsMoreBy : ℕ → Result ResponseForm Refusal → List ℕ → Type 0
+IsMoreBy taken (Ok (get_block invoke last number raw)) bytes = (last ≡ false) × (number ≡ taken + 1) × (raw ≡ bytes)
+IsMoreBy taken _ bytes = ⊥
+
+abbrev pub IsMore : ℕ → List ℕ → List ℕ → Type 0
+IsMore taken apdu bytes = IsMoreBy taken (response_at apdu) bytes
+
+-- Or the rows are there: in an answer with data, where no block came before, or with the last block.
+abbrev pub SpellsBy : ℕ → List ℕ → Result ResponseForm Refusal → List Row → Type 0
+SpellsBy taken joined (Ok (get_data invoke v)) rows = (taken ≡ 0) × IsProfile v rows
+SpellsBy taken joined (Ok (get_block invoke last number raw)) rows = (last ≡ true) × (number ≡ taken + 1) × IsEncoded (joined ++ raw) rows
+SpellsBy taken joined _ rows = ⊥
+
+abbrev pub Spells : ℕ → List ℕ → List ℕ → List Row → Type 0
+Spells taken joined apdu rows = SpellsBy taken joined (response_at apdu) rows
+
+-- neither
+pub record IsNeither (taken : ℕ) (joined : List ℕ) (read : Result ResponseForm Refusal) : Type 0 where
+  pub no_more : (bytes : List ℕ) → IsMoreBy taken read bytes → ⊥
+  pub no_rows : (rows : List Row) → SpellsBy taken joined read rows → ⊥
+
+-- Then it is a result, which stands in place of data where no block came before, or in place of a block; or an exception; or an
+-- APDU of another form.
+abbrev pub FailsBy : ℕ → List ℕ → Result ResponseForm Refusal → PollFault → Type 0
+FailsBy taken joined (Ok (get_result invoke code)) fault = fault ≡ (if taken == 0 then BadResult code else Protocol)
+FailsBy taken joined (Ok (get_block_result invoke number code)) fault = fault ≡ BadResult code
+FailsBy taken joined (Ok (exception state service)) fault = fault ≡ BadResult 250
+FailsBy taken joined read fault = (fault ≡ Protocol) × IsNeither taken joined read
+
+abbrev pub Fails : ℕ → List ℕ → List ℕ → PollFault → Type 0
+Fails taken joined apdu fault = FailsBy taken joined (response_at apdu) fault
+
+-- memory may be wanting for data and for a block
+abbrev pub NeedsBy : Result ResponseForm Refusal → Type 0
+NeedsBy (Ok (get_data invoke v)) = Unit {0}
+NeedsBy (Ok (get_block invoke last number raw)) = Unit {0}
+NeedsBy _ = ⊥
+
+-- the answer to the release, which is any APDU that begins so
+abbrev pub is_release : List ℕ → Bool
+is_release [] = false
+is_release (tag ∷ rest) = tag == 0x63
+
+-- ---- all APDUs
+
+-- these are the blocks behind number `before`, up to number `taken`, none of them the last; their bytes are joined
+abbrev pub AreBlocks : ℕ → List (List ℕ) → ℕ → List ℕ → Type 0
+AreBlocks before [] taken joined = (taken ≡ before) × (joined ≡ [])
+AreBlocks before (apdu ∷ apdus) taken joined = (bytes : List ℕ) × (rest : List ℕ) × IsMore before apdu bytes × (joined ≡ bytes ++ rest) × AreBlocks (before + 1) apdus taken rest
+
+-- the association was accepted, and then came so many blocks
+pub record HasBlocks (apdus : List (List ℕ)) (taken : ℕ) (joined : List ℕ) : Type 0 where
+  pub response : List ℕ
+  pub blocks : List (List ℕ)
+  pub are : apdus ≡ response ∷ blocks
+  pub accepts : Accepts response
+  pub come : AreBlocks 0 blocks taken joined
+
+-- and then the rows
+pub record HasRows (apdus : List (List ℕ)) (rows : List Row) : Type 0 where
+  pub before : List (List ℕ)
+  pub answer : List ℕ
+  pub taken : ℕ
+  pub joined : List ℕ
+  pub are : apdus ≡ before ++ answer ∷ []
+  pub blocks : HasBlocks before taken joined
+  pub spelled : Spells taken joined answer rows
+
+-- and then the answer to the release
+pub record HasReleased (apdus : List (List ℕ)) (rows : List Row) : Type 0 where
+  pub before : List (List ℕ)
+  pub answer : List ℕ
+  pub are : apdus ≡ before ++ answer ∷ []
+  pub polled : HasRows before rows
+  pub released : is_release answer ≡ true
+
+-- what a poll sends once it took these: an association request, a GET of the buffer, a GET of the next block, a release
+pub data Asks (plan : PlanValue) (apdus : List (List ℕ)) (apdu : List ℕ) : Type 0 where
+  associates : apdus ≡ [] → apdu ≡ association_bytes plan → Asks plan apdus apdu
+  gets : (joined : List ℕ) → HasBlocks apdus 0 joined → IsBufferRequest plan.after apdu → Asks plan apdus apdu
+  goes_on : (taken : ℕ) (joined : List ℕ) → 0 < taken → HasBlocks apdus taken joined → apdu ≡ next_bytes taken → Asks plan apdus apdu
+  releases : (rows : List Row) → HasRows apdus rows → apdu ≡ release_request → Asks plan apdus apdu
+
+-- why the last of these ends a poll that had taken the others
+pub data Refuses (before : List (List ℕ)) (apdu : List ℕ) (fault : PollFault) : Type 0 where
+  denied : before ≡ [] → Denies apdu fault → Refuses before apdu fault
+  unanswered : (taken : ℕ) (joined : List ℕ) → HasBlocks before taken joined → Fails taken joined apdu fault → Refuses before apdu fault
+  unreleased : (rows : List Row) → HasRows before rows → is_release apdu ≡ false → fault ≡ other_fault apdu → Refuses before apdu fault

@@ -1,0 +1,23 @@
+-- What a contract sees of a poll.
+use Rattle.std.specs.Prelude.{◌≡◌, ◌≤◌, IfSome}
+use Rattle.dlms_data.specs.DateTime.{last_second}
+use Rattle.dlms_link.specs.Client.{ClientRecord, IsDown}
+use Rattle.dlms_headend.specs.declared.plan.Plan.{Plan}
+use Rattle.dlms_headend.specs.declared.stage.Course.{Course}
+use Rattle.dlms_headend.specs.declared.stage.Course.TheVariants.{Ready}
+use Rattle.dlms_headend.specs.Asking.{PlanValue}
+use Rattle.dlms_headend.specs.TalkValue.{TalkValue}
+
+pub record PollerValue : Type 0 where
+  pub plan : PlanValue
+  pub link : ClientRecord
+  pub course : Course
+  pub talk : TalkValue
+
+abbrev pub plan_of : Plan → PlanValue
+plan_of plan = record { client = plan.client; secret = plan.secret.items; after = plan.after }
+
+-- before the first frame the link is down; the plan's second is one of the clock
+pub record IsStanding (plan : Plan) (link : ClientRecord) (course : Course) : Type 0 where
+  pub down : course ≡ Ready → IsDown link
+  pub second : IfSome plan.after (λ second. second ≤ last_second)

@@ -1,0 +1,175 @@
+-- A poll over the client's link, frame by frame.
+use Rattle.std.specs.Prelude.{◌≡◌, ◌⊎◌, ◌<◌, ℕ, List, [], ◌∷◌, ◌++◌, Option, Some, None, Result, Ok, Err, IsSome}
+use Rattle.dlms_acse.specs.Writing.{release_request}
+use Rattle.dlms_frame.specs.Frame.{Parts}
+use Rattle.dlms_link.specs.Client.{ClientRecord, fresh_client, snrm_of, disc_of, client_connect, client_disconnect, client_send, client_step, client_timeout}
+use Rattle.dlms_link.specs.declared.out.Phase.{Phase}
+use Rattle.dlms_link.specs.declared.out.Phase.TheVariants.{Connecting, Open, Closing}
+use Rattle.dlms_link.specs.declared.out.ClientOut.{ClientOut}
+use Rattle.dlms_link.specs.declared.out.ClientOut.TheVariants as out
+use Rattle.dlms_headend.specs.declared.stage.Stage.{Stage}
+use Rattle.dlms_headend.specs.declared.stage.Stage.TheVariants.{Associating, Getting, Releasing, Leaving}
+use Rattle.dlms_headend.specs.declared.stage.Course.{Course}
+use Rattle.dlms_headend.specs.declared.stage.Course.TheVariants.{Ready, Running, Done, Failed}
+use Rattle.dlms_headend.specs.declared.step.PollStep.{PollStep}
+use Rattle.dlms_headend.specs.declared.step.PollStep.TheVariants as step
+use Rattle.dlms_headend.specs.declared.poll_fault.PollFault.{PollFault}
+use Rattle.dlms_headend.specs.declared.poll_fault.PollFault.TheVariants.{Line, Protocol, Memory}
+use Rattle.dlms_headend.specs.declared.row.Row.{Row}
+use Rattle.dlms_headend.specs.Asking.{PlanValue, association_bytes, IsBufferRequest, next_bytes}
+use Rattle.dlms_headend.specs.Poll.{HasBlocks, HasReleased, Asks}
+use Rattle.dlms_headend.specs.Talk.{fresh_talk, FitsTalk, Ends}
+use Rattle.dlms_headend.specs.PollerValue.{PollerValue}
+
+-- a poll that begins
+abbrev pub fresh_poll : PlanValue → PollerValue
+fresh_poll plan = record { plan = plan; link = fresh_client plan.client; course = Ready; talk = fresh_talk }
+
+-- ---- what is sent
+
+-- the link is given this APDU
+abbrev pub Gives : ClientRecord → List ℕ → Parts → ClientRecord → Type 0
+Gives link apdu frame new = (frame ≡ (client_send link apdu).1) × (new ≡ (client_send link apdu).0)
+
+-- the request for the next block; for the buffer, where none has come
+abbrev pub IsGet : PlanValue → ℕ → List ℕ → Type 0
+IsGet plan taken apdu = ((taken ≡ 0) × IsBufferRequest plan.after apdu) ⊎ ((0 < taken) × (apdu ≡ next_bytes taken))
+
+-- what goes out at this stage
+abbrev pub IsDue : PlanValue → Stage → ClientRecord → Parts → ClientRecord → Type 0
+IsDue plan Associating link frame new = Gives link (association_bytes plan) frame new
+IsDue plan (Getting taken) link frame new = (apdu : List ℕ) × IsGet plan taken apdu × Gives link apdu frame new
+IsDue plan Releasing link frame new = Gives link release_request frame new
+IsDue plan Leaving link frame new = (frame ≡ disc_of link) × (new ≡ client_disconnect link)
+
+abbrev pub IsGetting : Stage → Type 0
+IsGetting Associating = ⊥
+IsGetting (Getting taken) = Unit {0}
+IsGetting Releasing = ⊥
+IsGetting Leaving = ⊥
+
+-- what a poll sends once it took these APDUs: the APDU that it asks, or the link's end
+pub data Goes (plan : PlanValue) (apdus : List (List ℕ)) (link : ClientRecord) (frame : Parts) (new : ClientRecord) : Type 0 where
+  asks : (apdu : List ℕ) → Asks plan apdus apdu → Gives link apdu frame new → Goes plan apdus link frame new
+  leaves : (rows : List Row) → HasReleased apdus rows → frame ≡ disc_of link → new ≡ client_disconnect link → Goes plan apdus link frame new
+
+-- ---- where a poll stands
+
+-- where the link stands
+abbrev pub StandsAt : Stage → Phase → Type 0
+StandsAt Associating phase = (phase ≡ Connecting) ⊎ (phase ≡ Open)
+StandsAt (Getting taken) phase = phase ≡ Open
+StandsAt Releasing phase = phase ≡ Open
+StandsAt Leaving phase = phase ≡ Closing
+
+-- a poll that took these APDUs since its link came up
+abbrev pub FitsIn : Course → PollerValue → List (List ℕ) → Type 0
+FitsIn Ready p apdus = (p.link ≡ fresh_client p.plan.client) × (p.talk ≡ fresh_talk) × (apdus ≡ [])
+FitsIn Running p apdus = FitsTalk p.talk apdus × StandsAt p.talk.stage p.link.phase
+FitsIn Done p apdus = HasReleased apdus p.talk.rows
+FitsIn (Failed fault) p apdus = Unit {0}
+
+abbrev pub Fits : PollerValue → List (List ℕ) → Type 0
+Fits p apdus = FitsIn p.course p apdus
+
+-- ---- frames
+
+-- it fails for good
+pub record HasFailed {X : Type 0} (fault : PollFault) (result : Result X PollFault) (new : PollerValue) : Type 0 where
+  pub answer : result ≡ Err fault
+  pub course : new.course ≡ Failed fault
+
+-- what goes out after these APDUs, on a link that awaits nothing
+pub record SendsOn (plan : PlanValue) (apdus : List (List ℕ)) (link : ClientRecord) (frame : Parts) (new : PollerValue) : Type 0 where
+  pub goes : Goes plan apdus link frame new.link
+  pub keeps : new.plan ≡ plan
+  pub fits : Fits new apdus
+
+-- memory may be wanting for a GET
+abbrev pub WantsRequest : List (List ℕ) → Type 0
+WantsRequest apdus = (taken : ℕ) × (joined : List ℕ) × HasBlocks apdus taken joined
+
+-- a poll goes on once it took these APDUs
+abbrev pub Continues : PlanValue → List (List ℕ) → ClientRecord → Result PollStep PollFault → PollerValue → Type 0
+Continues plan apdus link (Ok step.Nothing) new = ⊥
+Continues plan apdus link (Ok (step.Send frame)) new = SendsOn plan apdus link frame new
+Continues plan apdus link (Ok step.Done) new = ⊥
+Continues plan apdus link (Err fault) new = (fault ≡ Memory) × WantsRequest apdus × (new.course ≡ Failed fault)
+
+-- the link hands up the next APDU
+abbrev pub Answers : PlanValue → List (List ℕ) → ClientRecord → Result PollStep PollFault → PollerValue → Type 0
+Answers plan apdus link (Ok step.Nothing) new = ⊥
+Answers plan apdus link (Ok (step.Send frame)) new = SendsOn plan (apdus ++ link.apdu ∷ []) link frame new
+Answers plan apdus link (Ok step.Done) new = ⊥
+Answers plan apdus link (Err fault) new = (Ends apdus link.apdu fault ⊎ ((fault ≡ Memory) × WantsRequest (apdus ++ link.apdu ∷ []))) × (new.course ≡ Failed fault)
+
+-- the link goes down: as the poll asked for, or against it
+pub record IsDone (old : PollerValue) (result : Result PollStep PollFault) (new : PollerValue) : Type 0 where
+  pub answer : result ≡ Ok step.Done
+  pub course : new.course ≡ Done
+  pub talk : new.talk ≡ old.talk
+
+abbrev pub GoesDown : Stage → PollerValue → Result PollStep PollFault → PollerValue → Type 0
+GoesDown Associating old result new = HasFailed Protocol result new
+GoesDown (Getting taken) old result new = HasFailed Protocol result new
+GoesDown Releasing old result new = HasFailed Protocol result new
+GoesDown Leaving old result new = IsDone old result new
+
+-- a frame, while these APDUs were taken, by what the link makes of it
+abbrev pub PollsBy : ClientOut → ClientRecord → List (List ℕ) → PollerValue → Result PollStep PollFault → PollerValue → Type 0
+PollsBy out.Nothing link apdus old result new = (result ≡ Ok step.Nothing) × (new ≡ old)
+PollsBy out.Up link apdus old result new = Continues old.plan apdus link result new
+PollsBy (out.Send frame) link apdus old result new = (result ≡ Ok (step.Send frame)) × (new ≡ record old { link = link }) × Fits new apdus
+PollsBy out.Apdu link apdus old result new = Answers old.plan apdus link result new
+PollsBy out.Down link apdus old result new = GoesDown old.talk.stage old result new
+
+-- a frame before the first one went out
+abbrev pub PollsEarly : ClientOut → PollerValue → Result PollStep PollFault → PollerValue → Type 0
+PollsEarly out.Nothing old result new = (result ≡ Ok step.Nothing) × (new ≡ old)
+PollsEarly out.Up old result new = HasFailed Protocol result new
+PollsEarly (out.Send frame) old result new = HasFailed Protocol result new
+PollsEarly out.Apdu old result new = HasFailed Protocol result new
+PollsEarly out.Down old result new = HasFailed Protocol result new
+
+abbrev pub PollsIn : Course → List (List ℕ) → Parts → PollerValue → Result PollStep PollFault → PollerValue → Type 0
+PollsIn Ready apdus frame old result new = PollsEarly (client_step old.link frame).1 old result new
+PollsIn Running apdus frame old result new = PollsBy (client_step old.link frame).1 (client_step old.link frame).0 apdus old result new
+PollsIn Done apdus frame old result new = (result ≡ Ok step.Nothing) × (new ≡ old)
+PollsIn (Failed fault) apdus frame old result new = (result ≡ Err fault) × (new ≡ old)
+
+abbrev pub Polls : List (List ℕ) → Parts → PollerValue → Result PollStep PollFault → PollerValue → Type 0
+Polls apdus frame old result new = PollsIn old.course apdus frame old result new
+
+-- the first frame
+abbrev pub BeginsIn : Course → PollerValue → Option Parts → PollerValue → Type 0
+BeginsIn Ready old result new = (result ≡ Some (snrm_of old.link)) × (new ≡ record old { link = client_connect old.link; course = Running })
+BeginsIn Running old result new = (result ≡ None) × (new ≡ old)
+BeginsIn Done old result new = (result ≡ None) × (new ≡ old)
+BeginsIn (Failed fault) old result new = (result ≡ None) × (new ≡ old)
+
+abbrev pub Begins : PollerValue → Option Parts → PollerValue → Type 0
+Begins old result new = BeginsIn old.course old result new
+
+-- a time-out of the frame that is out
+abbrev pub TimesOutBy : ClientRecord × Option Parts → PollerValue → Result Parts PollFault → PollerValue → Type 0
+TimesOutBy (link, Some frame) old result new = (result ≡ Ok frame) × (new ≡ record old { link = link })
+TimesOutBy (link, None) old result new = HasFailed Line result new
+
+abbrev pub TimesOutIn : Course → PollerValue → Result Parts PollFault → PollerValue → Type 0
+TimesOutIn (Failed fault) old result new = (result ≡ Err fault) × (new ≡ old)
+TimesOutIn Ready old result new = TimesOutBy (client_timeout old.link) old result new
+TimesOutIn Running old result new = TimesOutBy (client_timeout old.link) old result new
+TimesOutIn Done old result new = TimesOutBy (client_timeout old.link) old result new
+
+abbrev pub TimesOut : PollerValue → Result Parts PollFault → PollerValue → Type 0
+TimesOut old result new = TimesOutIn old.course old result new
+
+-- a frame is out, or the poll has failed
+abbrev pub CanTimeOutIn : Course → PollerValue → Type 0
+CanTimeOutIn (Failed fault) p = Unit {0}
+CanTimeOutIn Ready p = IsSome p.link.waits
+CanTimeOutIn Running p = IsSome p.link.waits
+CanTimeOutIn Done p = IsSome p.link.waits
+
+abbrev pub CanTimeOut : PollerValue → Type 0
+CanTimeOut p = CanTimeOutIn p.course p

@@ -1,0 +1,124 @@
+//! What a poll asks.
+
+ghost use Rattle.std.specs.Prelude.{◌≡◌, ◌≤◌, ◌<◌, ◌^◌, length, IfOk, IfSome};
+ghost use Rattle.dlms_data.specs.DateTime.{NamesSecond, IsPlainlyWritten};
+ghost use Rattle.dlms_data.specs.Value.{octet_string, cons, none};
+ghost use Rattle.dlms_data.specs.View.{value_of};
+ghost use Rattle.dlms_headend.specs.Asking.{clock_column, first_second, range, next_bytes, buffer_bytes, IsTime, IsRange, IsBufferRequest};
+
+use dlms_apdu::{Request, write_request};
+use dlms_data::{Bytes, Data, Descriptor, Items, LAST_SECOND, Selector, octets};
+use std::alloc::{AllocError, Allocator};
+
+/// The invoke-id-and-priority byte of each request: number 1, confirmed, high priority.
+pub const INVOKE: u8 = 0xc1;
+
+/// The load profile's buffer.
+const BUFFER: Descriptor = Descriptor {
+    class: 7,
+    name: [1, 0, 99, 1, 0, 255],
+    id: 2,
+};
+
+/// The clock's logical name.
+const CLOCK: [u8; 6] = [0, 0, 1, 0, 0, 255];
+
+/// Four values.
+fn four<A: Allocator + Copy>(
+    alloc: A,
+    first: Data<A>,
+    second: Data<A>,
+    third: Data<A>,
+    fourth: Data<A>,
+) -> Result<Items<A>, AllocError>
+    ensures { IfOk result (λ items. items ≡ cons (value_of first) (cons (value_of second) (cons (value_of third) (cons (value_of fourth) none)))) }
+{
+    let mut items = Items::from_vec(Vec::with_capacity(alloc, 4)?);
+    items.push(first)?;
+    items.push(second)?;
+    items.push(third)?;
+    items.push(fourth)?;
+    Ok(items)
+}
+
+fn octet_string<A: Allocator>(alloc: A, bytes: &[u8]) -> Result<Data<A>, AllocError>
+    ensures { IfOk result (λ v. value_of v ≡ octet_string bytes.now) }
+{
+    Ok(Data::OctetString(Bytes::from_slice(alloc, bytes)?))
+}
+
+/// The octet-string of a second's date-time.
+fn time<A: Allocator>(alloc: A, second: u32) -> Result<Data<A>, AllocError>
+    requires { second ≤ LAST_SECOND }
+    ensures { IfOk result (λ v. IsTime second (value_of v)) }
+{
+    octet_string(alloc, octets(second).as_slice())
+}
+
+/// The column of the clock's time: class, logical name, attribute and data index.
+fn column<A: Allocator + Copy>(alloc: A) -> Result<Data<A>, AllocError>
+    ensures { IfOk result (λ v. value_of v ≡ clock_column) }
+{
+    Ok(Data::Structure(four(
+        alloc,
+        Data::LongUnsigned(8),
+        octet_string(alloc, CLOCK.as_slice())?,
+        Data::Integer(2),
+        Data::LongUnsigned(0),
+    )?))
+}
+
+/// The range of rows from a second on to the clock's last one.
+fn range_from<A: Allocator + Copy>(alloc: A, first: u32) -> Result<Data<A>, AllocError>
+    requires { first ≤ LAST_SECOND }
+    ensures { IfOk result (λ v. IsRange first (value_of v)) }
+{
+    let column = column(alloc)?;
+    let first = time(alloc, first)?;
+    let last = time(alloc, LAST_SECOND)?;
+    let columns = Data::Array(Items::new(alloc));
+    Ok(Data::Structure(four(alloc, column, first, last, columns)?))
+}
+
+/// The GET of the rows of a range.
+fn range_request<A: Allocator + Copy>(
+    alloc: A,
+    after: Option<u32>,
+) -> Result<Vec<u8, A>, AllocError>
+    requires { IfSome after (λ second. second ≤ LAST_SECOND) }
+    ensures { IfOk result (λ apdu. IsBufferRequest after apdu.items) }
+{
+    let value = range_from(alloc, after.unwrap_or(0))?;
+    let request = Request::GetNormal {
+        invoke: INVOKE,
+        descriptor: BUFFER,
+        selector: Some(Selector { number: 1, value }),
+    };
+    write_request(alloc, &request)
+}
+
+/// The GET of the rows from that second on; from 0 where there is none.
+#[tactic(auto, using(crate::proofs::Requests::request_is_short))]
+pub fn buffer_request<A: Allocator + Copy>(
+    alloc: A,
+    after: Option<u32>,
+) -> Result<Vec<u8, A>, AllocError>
+    requires { IfSome after (λ second. second ≤ LAST_SECOND) }
+    ensures asks { IfOk result (λ apdu. IsBufferRequest after apdu.items) }
+    ensures short { IfOk result (λ apdu. length apdu.items ≤ 1024) }
+{
+    let request = range_request(alloc, after)?;
+    Ok(request)
+}
+
+/// The GET of the block behind the one with this number.
+pub fn next_request<A: Allocator + Copy>(alloc: A, number: u32) -> Result<Vec<u8, A>, AllocError>
+    ensures asks { IfOk result (λ apdu. apdu.items ≡ next_bytes number) }
+    ensures short { IfOk result (λ apdu. length apdu.items ≤ 1024) }
+{
+    let request: Request<'_, A> = Request::GetNext {
+        invoke: INVOKE,
+        number,
+    };
+    write_request(alloc, &request)
+}

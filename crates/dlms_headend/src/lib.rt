@@ -1,0 +1,30 @@
+//! The head end: a poll of the load profile over the client's link, and the file of readings.
+#![tactic(auto)]
+
+mod answer;
+mod asking;
+mod buffer;
+mod heard;
+mod hearing;
+pub mod laws;
+mod lines;
+mod plan;
+mod poll_fault;
+mod poller;
+mod readings;
+mod readings_fault;
+mod row;
+mod stage;
+mod step;
+mod talk;
+
+pub use plan::Plan;
+pub use poll_fault::PollFault;
+pub use poller::Poller;
+pub use readings::Readings;
+pub use readings_fault::ReadingsFault;
+pub use row::Row;
+pub use step::PollStep;
+
+#[cfg(test)]
+mod tests;

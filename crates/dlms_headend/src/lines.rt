@@ -1,0 +1,137 @@
+//! Lines of a readings file, read.
+
+ghost use Rattle.std.specs.Prelude.{◌≡◌, ◌+◌, ◌<◌, ◌^◌, ◌∷◌, ◌++◌, ℕ, List, length, IfSome, IfNone, IfOk, IfErr, OnOk, [], string_bytes};
+ghost use Rattle.std.specs.Fmt.{decimal};
+ghost use Rattle.dlms_headend.specs.Lines.{is_plain, Lacks, field, line, text_of, IsFile, BeginsWith, Refuses};
+
+use crate::readings_fault::ReadingsFault;
+use crate::row::{Row, keep};
+use dlms_data::LAST_SECOND;
+use std::alloc::{AllocError, Allocator};
+use std::str;
+
+/// Whether no sign stands in front, and no leading zero.
+fn is_plain(digits: &[u8]) -> bool
+    ensures { result ≡ is_plain digits.now }
+{
+    match digits {
+        [] => false,
+        [first] => *first != b'+',
+        [first, ..] => *first != b'+' && *first != b'0',
+    }
+}
+
+/// The number whose plain decimal digits these are: no sign, no leading zeros.
+fn number(digits: &[u8]) -> Option<u32>
+    ensures some { IfSome result (λ n. digits.now ≡ decimal n) }
+    ensures fits { IfSome result (λ n. n < 2 ^ 32) }
+    ensures none { IfNone result ((n : ℕ) → n < 2 ^ 32 → digits.now ≡ decimal n → ⊥) }
+{
+    if !is_plain(digits) {
+        return None;
+    }
+    let Ok(text) = str::from_utf8(digits) else {
+        return None;
+    };
+    text.parse::<u32>().ok()
+}
+
+/// What stands before the first separator, and what stands behind it.
+fn parted(bytes: &[u8], separator: u8) -> Option<(&[u8], &[u8])>
+    ensures found { IfSome result (λ parts. (bytes.now ≡ parts.0.now ++ separator ∷ parts.1.now) × Lacks separator parts.0.now) }
+    ensures none { IfNone result (Lacks separator bytes.now) }
+{
+    for (at, byte) in bytes.iter().enumerate() {
+        if *byte == separator {
+            return Some((&bytes[..at], &bytes[at + 1..]));
+        }
+    }
+    None
+}
+
+/// The number in front of the first separator, and what stands behind that.
+fn number_before(bytes: &[u8], separator: u8) -> Option<(u32, &[u8])>
+    requires { separator < 48 }
+    ensures some { IfSome result (λ x. (bytes.now ≡ field x.0 separator x.1.now) × (x.0 < 2 ^ 32)) }
+    ensures none { IfNone result ((n : ℕ) (rest : List ℕ) → n < 2 ^ 32 → bytes.now ≡ field n separator rest → ⊥) }
+{
+    let (before, behind) = parted(bytes, separator)?;
+    let value = number(before)?;
+    Some((value, behind))
+}
+
+/// The row whose line is the first, and what follows the line.
+fn row(bytes: &[u8]) -> Option<(Row, &[u8])>
+    ensures some { IfSome result (λ x. BeginsWith bytes.now x.0 x.1.now) }
+    ensures none { IfNone result ((row : Row) (rest : List ℕ) → BeginsWith bytes.now row rest → ⊥) }
+    ensures shorter { IfSome result (λ x. length x.1.now < length bytes.now) }
+{
+    let (clock, rest) = number_before(bytes, b',')?;
+    let (first, rest) = number_before(rest, b',')?;
+    let (second, rest) = number_before(rest, b',')?;
+    let (third, rest) = number_before(rest, b'\n')?;
+    if clock > LAST_SECOND {
+        return None;
+    }
+    let row = Row {
+        clock,
+        registers: [first, second, third],
+    };
+    Some((row, rest))
+}
+
+/// How many lines the text has, each the line of a row; where one is not, its fault.
+pub fn count(text: &[u8]) -> Result<usize, ReadingsFault>
+    ensures ok { IfOk result (λ count. (rows : List Row) × IsFile text.now rows × (count ≡ length rows)) }
+    ensures err { IfErr result (λ fault. Refuses text.now fault) }
+{
+    let mut rest = text;
+    let mut count = 0usize;
+    while !rest.is_empty() {
+        let Some((_, behind)) = row(rest) else {
+            return Err(ReadingsFault::Line(count + 1));
+        };
+        rest = behind;
+        count += 1;
+    }
+    Ok(count)
+}
+
+/// The rows of a text with so many lines.
+pub fn rows<A: Allocator>(alloc: A, text: &[u8], count: usize) -> Result<Vec<Row, A>, ReadingsFault>
+    requires { (rows : List Row) × IsFile text.now rows }
+    ensures ok { IfOk result (λ rows. IsFile text.now rows.items) }
+    ensures err { IfErr result (λ fault. Refuses text.now fault) }
+{
+    let mut rows = Vec::with_capacity(alloc, count)?;
+    let mut rest = text;
+    while !rest.is_empty() {
+        let Some((row, behind)) = row(rest) else {
+            return Err(ReadingsFault::Line(rows.len() + 1));
+        };
+        keep(&mut rows, row)?;
+        rest = behind;
+    }
+    Ok(rows)
+}
+
+/// Appends a row's line to the text.
+fn write<A: Allocator>(text: &mut String<A>, row: &Row) -> Result<(), AllocError>
+    ensures { OnOk result (string_bytes text.new ≡ string_bytes text.old ++ line row.now []) }
+{
+    let clock = row.clock;
+    let [first, second, third] = row.registers;
+    write!(text, "{clock},{first},{second},{third}\n")
+}
+
+/// The text of the rows.
+#[tactic(auto, using(crate::proofs::Files::text_of_more))]
+pub fn text<A: Allocator>(alloc: A, rows: &[Row]) -> Result<String<A>, AllocError>
+    ensures { IfOk result (λ text. string_bytes text ≡ text_of rows.now) }
+{
+    let mut text = String::new(alloc);
+    for row in rows {
+        write(&mut text, row)?;
+    }
+    Ok(text)
+}

@@ -1,0 +1,51 @@
+//! Why a poll failed.
+
+ghost use Rattle.std.specs.Prelude.{◌≡◌};
+ghost use Rattle.dlms_headend.specs.PollFault.{number_of};
+ghost use Rattle.dlms_headend.specs.declared.poll_fault.PollFault.TheVariants.{Memory};
+
+use std::alloc::AllocError;
+use thiserror::Error;
+
+/// Why a poll failed.
+#[derive(Clone, Copy, Debug, PartialEq, Eq, Error)]
+pub enum PollFault {
+    /// The association was refused, with this diagnostic of the service user.
+    #[error("the association was refused with diagnostic {0}")]
+    Refused(u8),
+    /// A request got this result in place of an answer; 250 stands for an exception too.
+    #[error("a request got result {0}")]
+    Result(u8),
+    /// Nobody answers: the fourth time-out in a row.
+    #[error("nobody answers")]
+    Line,
+    /// The link went down before the poll asked for that, or an answer had another form than the awaited one.
+    #[error("an answer of another form than the awaited one")]
+    Protocol,
+    /// A growth was refused.
+    #[error("out of memory")]
+    Memory,
+}
+
+impl PollFault {
+    /// The fault's number, from 1 for `Refused` to 5 for `Memory`.
+    pub fn number(self) -> u8
+        ensures { result ≡ number_of self }
+    {
+        match self {
+            PollFault::Refused(_) => 1,
+            PollFault::Result(_) => 2,
+            PollFault::Line => 3,
+            PollFault::Protocol => 4,
+            PollFault::Memory => 5,
+        }
+    }
+}
+
+impl From<AllocError> for PollFault {
+    ghost from_gives = { λ _ fault. fault ≡ Memory };
+
+    fn from(_e: AllocError) -> PollFault {
+        PollFault::Memory
+    }
+}

@@ -1,0 +1,267 @@
+//! A poll of the load profile over the client's link.
+
+ghost use Rattle.std.specs.Prelude.{[], Ok, ◌≡◌, ◌≤◌, ◌↔◌, List, ℕ, IsTrue, IfSome, IfOk, MatchResult, length};
+ghost use Rattle.dlms_link.specs.Client.{IsIdle, client_step};
+ghost use Rattle.dlms_headend.specs.declared.poll_fault.PollFault.TheVariants.{Memory};
+ghost use Rattle.dlms_headend.specs.declared.stage.Course.TheVariants.{Ready, Running};
+ghost use Rattle.dlms_link.specs.declared.out.ClientOut.TheVariants.{Down};
+ghost use Rattle.dlms_headend.specs.declared.row.Row.{Row as RowOf};
+ghost use Rattle.dlms_headend.specs.declared.step.PollStep.TheVariants.{Done};
+ghost use Rattle.dlms_headend.specs.Poll.{HasReleased};
+ghost use Rattle.dlms_headend.specs.Asking.{association_bytes};
+ghost use Rattle.dlms_headend.specs.PollerValue.{plan_of};
+ghost use Rattle.dlms_headend.specs.Talk.{FitsTalk, CanTake};
+ghost use Rattle.dlms_headend.specs.Polling.{IsDone, fresh_poll, IsGet, IsDue, IsGetting, Fits, FitsIn, Begins, TimesOut, CanTimeOut, HasFailed, Continues, Answers, GoesDown, PollsEarly, PollsBy, Polls};
+
+use crate::asking::{buffer_request, next_request};
+use crate::plan::Plan;
+use crate::poll_fault::PollFault;
+use crate::row::Row;
+use crate::stage::{Course, Stage};
+use crate::step::PollStep;
+use crate::talk::Talk;
+use arrayvec::ArrayVec;
+use dlms_acse::{Conformance, write_aarq, write_rlrq};
+use dlms_data::LAST_SECOND;
+use dlms_frame::Frame;
+use dlms_link::{ClientLink, ClientOut};
+use std::alloc::{AllocError, Allocator, Global};
+use std::marker::Model;
+
+/// The services that are proposed.
+const PROPOSED: Conformance = Conformance(0x007e1f);
+
+/// The size in bytes of the largest APDU that the poller receives.
+const SIZE: u16 = 1200;
+
+/// A poll of the load profile: it connects, associates, reads the buffer, releases and disconnects.
+#[derive(Drop)]
+pub struct Poller<A: Allocator = Global> {
+    alloc: A,
+    plan: Plan,
+    link: ClientLink,
+    course: Course,
+    talk: Talk<A>,
+}
+
+impl<A: Allocator> Model for Poller<A> {
+    ghost use Rattle.dlms_headend.specs.PollerValue.{PollerValue, IsStanding, plan_of};
+
+    ghost Value = { PollerValue };
+
+    ghost view = { λ p. record { plan = plan_of p.plan; link = p.link; course = p.course; talk = p.talk } };
+
+    ghost invariant = { λ p. IsStanding p.plan p.link p.course };
+}
+
+/// The association request.
+fn association(plan: &Plan) -> ArrayVec<u8, 128>
+    ensures { result.items ≡ association_bytes (plan_of plan.now) }
+{
+    write_aarq(plan.client, plan.secret.as_slice(), PROPOSED, SIZE)
+}
+
+/// The GET after so many blocks.
+fn get_request<A: Allocator + Copy>(
+    alloc: A,
+    plan: &Plan,
+    taken: u32,
+) -> Result<Vec<u8, A>, AllocError>
+    requires { IfSome plan.now.after (λ second. second ≤ LAST_SECOND) }
+    ensures asks { IfOk result (λ apdu. IsGet (plan_of plan.now) taken apdu.items) }
+    ensures short { IfOk result (λ apdu. length apdu.items ≤ 1024) }
+{
+    if taken == 0 {
+        buffer_request(alloc, plan.after)
+    } else {
+        next_request(alloc, taken)
+    }
+}
+
+/// The frame that goes out at this stage.
+fn due<A: Allocator + Copy>(
+    alloc: A,
+    plan: &Plan,
+    link: &mut ClientLink,
+    stage: Stage,
+) -> Result<Frame, PollFault>
+    requires idle { IsIdle link.old }
+    requires after { IfSome plan.now.after (λ second. second ≤ LAST_SECOND) }
+    ensures { MatchResult result (λ frame. IsDue (plan_of plan.now) stage link.old frame link.new) (λ fault. (fault ≡ Memory) × IsGetting stage) }
+{
+    match stage {
+        Stage::Associating => Ok(link.send(association(plan).as_slice())),
+        Stage::Getting(taken) => {
+            let request = get_request(alloc, plan, taken)?;
+            Ok(link.send(&request))
+        }
+        Stage::Releasing => Ok(link.send(write_rlrq().as_slice())),
+        Stage::Leaving => Ok(link.disconnect()),
+    }
+}
+
+impl<A: Allocator + Copy> Poller<A> {
+    /// A poll by this plan. No memory is taken here.
+    pub fn new(alloc: A, plan: Plan) -> Self
+        requires { IfSome plan.after (λ second. second ≤ LAST_SECOND) }
+        ensures value { result ≡ fresh_poll (plan_of plan) }
+        ensures fits { Fits result [] }
+    {
+        let link = ClientLink::new(plan.client);
+        Poller {
+            alloc,
+            plan,
+            link,
+            course: Course::Ready,
+            talk: Talk::new(alloc),
+        }
+    }
+
+    /// The first frame, once; none from then on.
+    pub fn next(&mut self) -> Option<Frame>
+        ensures begins { Begins self.old result self.new }
+        ensures keeps { (apdus : List (List ℕ)) → Fits self.old apdus → Fits self.new apdus }
+    {
+        match self.course {
+            Course::Ready => {
+                self.course = Course::Running;
+                Some(self.link.connect())
+            }
+            _ => None,
+        }
+    }
+
+    /// What the poll makes of a frame. After a fault it is the same fault again; after the poll is done it is nothing.
+    pub fn on(&mut self, frame: &Frame) -> Result<PollStep, PollFault>
+        // Frame by frame, whatever APDUs were taken so far.
+        ensures polls { (apdus : List (List ℕ)) → Fits self.old apdus → Polls apdus frame.now self.old result self.new }
+        // It is done only where these were an acceptance, answers that spell the rows, and the answer to the release.
+        ensures done { (apdus : List (List ℕ)) → Fits self.old apdus → result ≡ Ok Done → HasReleased apdus self.new.talk.rows }
+        // And it is done where they are, once the link goes down.
+        ensures is_done { (apdus : List (List ℕ)) (rows : List RowOf) → Fits self.old apdus → self.old.course ≡ Running → HasReleased apdus rows
+            → (client_step self.old.link frame.now).1 ≡ Down → IsDone self.old result self.new × (self.new.talk.rows ≡ rows) }
+    {
+        self.turn(frame)
+    }
+
+    /// A frame, wherever the poll stands.
+    fn turn(&mut self, frame: &Frame) -> Result<PollStep, PollFault>
+        ensures polls { (apdus : List (List ℕ)) → Fits self.old apdus → Polls apdus frame.now self.old result self.new }
+        ensures done { (apdus : List (List ℕ)) → Fits self.old apdus → result ≡ Ok Done → HasReleased apdus self.new.talk.rows }
+    {
+        match self.course {
+            Course::Failed(fault) => Err(fault),
+            Course::Done => Ok(PollStep::Nothing),
+            Course::Ready => self.early(frame),
+            Course::Running => self.running(frame),
+        }
+    }
+
+    /// The poll fails.
+    fn fail(&mut self, fault: PollFault) -> Result<PollStep, PollFault>
+        ensures { HasFailed fault result self.new }
+    {
+        self.course = Course::Failed(fault);
+        Err(fault)
+    }
+
+    /// A frame before the first one went out.
+    fn early(&mut self, frame: &Frame) -> Result<PollStep, PollFault>
+        requires { self.old.course ≡ Ready }
+        ensures { PollsEarly (client_step self.old.link frame.now).1 self.old result self.new }
+    {
+        match self.link.on(frame) {
+            ClientOut::Nothing => Ok(PollStep::Nothing),
+            _ => self.fail(PollFault::Protocol),
+        }
+    }
+
+    /// A frame.
+    fn running(&mut self, frame: &Frame) -> Result<PollStep, PollFault>
+        requires { self.old.course ≡ Running }
+        ensures { (apdus : List (List ℕ)) → FitsIn Running self.old apdus
+            → PollsBy (client_step self.old.link frame.now).1 (client_step self.old.link frame.now).0 apdus self.old result self.new }
+    {
+        match self.link.on(frame) {
+            ClientOut::Nothing => Ok(PollStep::Nothing),
+            ClientOut::Send(frame) => Ok(PollStep::Send(frame)),
+            ClientOut::Up => self.go_on(),
+            ClientOut::Apdu => self.take(),
+            ClientOut::Down => self.down(),
+        }
+    }
+
+    /// Sends what is due.
+    fn go_on(&mut self) -> Result<PollStep, PollFault>
+        requires running { self.old.course ≡ Running }
+        requires idle { IsIdle self.old.link }
+        ensures { (apdus : List (List ℕ)) → FitsTalk self.old.talk apdus → Continues self.old.plan apdus self.old.link result self.new }
+    {
+        match due(self.alloc, &self.plan, &mut self.link, self.talk.stage()) {
+            Ok(frame) => Ok(PollStep::Send(frame)),
+            Err(fault) => self.fail(fault),
+        }
+    }
+
+    /// An APDU was handed up.
+    fn take(&mut self) -> Result<PollStep, PollFault>
+        requires running { self.old.course ≡ Running }
+        requires idle { IsIdle self.old.link }
+        ensures { (apdus : List (List ℕ)) → FitsTalk self.old.talk apdus → CanTake self.old.talk.stage
+            → Answers self.old.plan apdus self.old.link result self.new }
+    {
+        match self.talk.take(self.link.apdu()) {
+            Ok(()) => self.go_on(),
+            Err(fault) => self.fail(fault),
+        }
+    }
+
+    /// The link went down.
+    fn down(&mut self) -> Result<PollStep, PollFault>
+        ensures { GoesDown self.old.talk.stage self.old result self.new }
+    {
+        match self.talk.stage() {
+            Stage::Leaving => {
+                self.course = Course::Done;
+                Ok(PollStep::Done)
+            }
+            _ => self.fail(PollFault::Protocol),
+        }
+    }
+
+    /// A time-out of the frame that is out: it goes again, and the fourth in a row is a fault. After a fault it is the same
+    /// fault again.
+    pub fn timeout(&mut self) -> Result<Frame, PollFault>
+        requires { CanTimeOut self.old }
+        ensures again { TimesOut self.old result self.new }
+        ensures keeps { (apdus : List (List ℕ)) → Fits self.old apdus → Fits self.new apdus }
+    {
+        if let Course::Failed(fault) = self.course {
+            return Err(fault);
+        }
+        match self.link.timeout() {
+            Ok(frame) => Ok(frame),
+            Err(_) => {
+                self.course = Course::Failed(PollFault::Line);
+                Err(PollFault::Line)
+            }
+        }
+    }
+
+    /// Whether a frame is out, or the poll has failed: `timeout` may be called.
+    pub fn is_waiting(&self) -> bool
+        ensures { IsTrue result ↔ CanTimeOut self.now }
+    {
+        match self.course {
+            Course::Failed(_) => true,
+            _ => self.link.is_waiting(),
+        }
+    }
+
+    /// The rows that were polled; none before they are there.
+    pub fn rows(&self) -> &[Row]
+        ensures { result.now ≡ self.now.talk.rows }
+    {
+        self.talk.rows()
+    }
+}

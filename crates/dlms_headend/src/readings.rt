@@ -1,0 +1,110 @@
+//! The readings file: the rows of all polls, in the order in which they came.
+
+ghost use Rattle.std.specs.Prelude.{◌≡◌, ◌+◌, ◌++◌, List, length, take, filter, IfOk, IfErr, OnOk, OnErr, MatchResult, string_bytes};
+ghost use Rattle.dlms_headend.specs.Lines.{line, text_of, IsFile, Refuses};
+ghost use Rattle.dlms_headend.specs.Merged.{last_clock, is_later, added, merged};
+ghost use Rattle.dlms_headend.specs.declared.readings_fault.ReadingsFault.TheVariants.{Memory};
+ghost use Rattle.dlms_headend.specs.declared.row.Row.{Row as RowOf};
+
+use crate::lines;
+use crate::readings_fault::ReadingsFault;
+use crate::row::{Row, keep};
+use std::alloc::{AllocError, Allocator, Global};
+use std::marker::Model;
+
+/// The rows of a readings file, the first line first.
+#[derive(Drop)]
+pub struct Readings<A: Allocator = Global> {
+    rows: Vec<Row, A>,
+}
+
+impl<A: Allocator> Model for Readings<A> {
+    ghost use Rattle.std.specs.Prelude.{List};
+    ghost use Rattle.dlms_headend.specs.declared.row.Row.{Row};
+
+    ghost Value = { List Row };
+
+    ghost view = { λ r. r.rows.items };
+}
+
+/// Whether the row comes after that clock.
+fn is_later(last: Option<u32>, row: &Row) -> bool
+    ensures { result ≡ is_later last row.now }
+{
+    match last {
+        None => true,
+        Some(clock) => clock < row.clock,
+    }
+}
+
+/// Appends the rows that come after that clock. Where a growth is refused some of them may have been appended.
+fn append<A: Allocator>(
+    rows: &mut Vec<Row, A>,
+    last: Option<u32>,
+    given: &[Row],
+) -> Result<(), AllocError>
+    ensures ok { OnOk result (rows.new.items ≡ rows.old.items ++ filter (is_later last) given.now) }
+    ensures err { (more : List RowOf) × (rows.new.items ≡ rows.old.items ++ more) }
+{
+    for row in given {
+        if is_later(last, row) {
+            keep(rows, *row)?;
+        }
+    }
+    Ok(())
+}
+
+/// The rows of a text.
+fn read<A: Allocator>(alloc: A, text: &[u8]) -> Result<Readings<A>, ReadingsFault>
+    ensures { MatchResult result (IsFile text.now) (Refuses text.now) }
+{
+    let count = lines::count(text)?;
+    let rows = lines::rows(alloc, text, count)?;
+    Ok(Readings { rows })
+}
+
+impl<A: Allocator + Copy> Readings<A> {
+    /// Reads a file's text: a line `clock,r0,r1,r2` for each row, in plain decimal, each line ended by a line feed. A line of
+    /// another form is told before memory is asked for.
+    pub fn open(alloc: A, text: &str) -> Result<Self, ReadingsFault>
+        // The text is that of the rows, and each row is one that a file may hold.
+        ensures found { IfOk result (IsFile text.now) }
+        // The rows of a file are read, unless memory runs out.
+        ensures only { (rows : List RowOf) → IsFile text.now rows → MatchResult result (λ file. file ≡ rows) (λ fault. fault ≡ Memory) }
+        // Which fault it is.
+        ensures fault { IfErr result (Refuses text.now) }
+    {
+        read(alloc, text.as_bytes())
+    }
+
+    /// Appends the rows, in their order, that come after the last row, and says how many they are; all of them to an empty file.
+    pub fn merge(&mut self, rows: &[Row]) -> Result<usize, AllocError>
+        ensures ok { OnOk result (self.new ≡ merged self.old rows.now) }
+        ensures count { IfOk result (λ count. count ≡ length (added self.old rows.now)) }
+        ensures err { OnErr result (self.new ≡ self.old) }
+    {
+        let before = self.rows.len();
+        let last = self.last();
+        match append(&mut self.rows, last, rows) {
+            Ok(()) => Ok(self.rows.len() - before),
+            Err(e) => {
+                self.rows.truncate(before);
+                Err(e)
+            }
+        }
+    }
+
+    /// The file's text, which `open` reads again where each clock is one of the meter's.
+    pub fn text(&self) -> Result<String<A>, AllocError>
+        ensures { IfOk result (λ text. string_bytes text ≡ text_of self.now) }
+    {
+        lines::text(*self.rows.allocator(), &self.rows)
+    }
+
+    /// The clock of the last row.
+    pub fn last(&self) -> Option<u32>
+        ensures { result ≡ last_clock self.now }
+    {
+        self.rows.last().map(|row| row.clock)
+    }
+}

@@ -1,0 +1,26 @@
+//! How far a poll is.
+
+use crate::poll_fault::PollFault;
+
+/// What a poll waits for, once its link is up.
+#[derive(Clone, Copy, Debug, PartialEq, Eq)]
+pub enum Stage {
+    /// The answer to the association request.
+    Associating,
+    /// The answer to a GET, after so many blocks.
+    Getting(u32),
+    /// The answer to the release.
+    Releasing,
+    /// The link's end.
+    Leaving,
+}
+
+/// Where a poll stands.
+#[derive(Clone, Copy, Debug, PartialEq, Eq)]
+pub enum Course {
+    /// Nothing was sent yet.
+    Ready,
+    Running,
+    Done,
+    Failed(PollFault),
+}

@@ -1,0 +1,14 @@
+//! What comes of a frame.
+
+use dlms_frame::Frame;
+
+/// What a poll makes of a frame.
+#[derive(Drop)]
+pub enum PollStep {
+    /// Nothing is to be done.
+    Nothing,
+    /// This frame goes out.
+    Send(Frame),
+    /// The poll is done: the rows are there, and the link is down.
+    Done,
+}

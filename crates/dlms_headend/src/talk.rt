@@ -1,0 +1,98 @@
+//! What the answers have brought.
+
+ghost use Rattle.std.specs.Prelude.{◌≡◌, ◌++◌, ◌∷◌, [], List, ℕ};
+ghost use Rattle.dlms_headend.specs.declared.stage.Stage.TheVariants.{Getting};
+ghost use Rattle.dlms_headend.specs.Talk.{fresh_talk, FitsTalk, CanTake, Takes};
+
+use crate::answer::{associated, released};
+use crate::heard::Heard;
+use crate::hearing::heard;
+use crate::poll_fault::PollFault;
+use crate::row::Row;
+use crate::stage::Stage;
+use dlms_blocks::GetIn;
+use std::alloc::{Allocator, Global};
+use std::marker::Model;
+
+/// What the answers have brought.
+#[derive(Drop)]
+pub struct Talk<A: Allocator = Global> {
+    alloc: A,
+    stage: Stage,
+    blocks: GetIn<A>,
+    rows: Vec<Row, A>,
+}
+
+impl<A: Allocator> Model for Talk<A> {
+    ghost use Rattle.dlms_headend.specs.TalkValue.{TalkValue};
+
+    ghost Value = { TalkValue };
+
+    ghost view = { λ t. record { stage = t.stage; blocks = t.blocks; rows = t.rows.items } };
+}
+
+impl<A: Allocator + Copy> Talk<A> {
+    pub fn new(alloc: A) -> Self
+        ensures { result ≡ fresh_talk }
+    {
+        Talk {
+            alloc,
+            stage: Stage::Associating,
+            blocks: GetIn::new(alloc),
+            rows: Vec::new(alloc),
+        }
+    }
+
+    pub fn stage(&self) -> Stage
+        ensures { result ≡ self.now.stage }
+    {
+        self.stage
+    }
+
+    pub fn rows(&self) -> &[Row]
+        ensures { result.now ≡ self.now.rows }
+    {
+        &self.rows
+    }
+
+    /// An answer to a GET, after so many blocks.
+    #[tactic(auto, using(crate::proofs::TalkLemmas::block_taken, crate::proofs::TalkLemmas::rows_taken, crate::proofs::TalkLemmas::get_ends))]
+    fn hear(&mut self, taken: u32, apdu: &[u8]) -> Result<(), PollFault>
+        ensures { (apdus : List (List ℕ)) → FitsTalk self.old apdus → self.old.stage ≡ Getting taken → Takes apdus apdu.now result self.new }
+    {
+        match heard(self.alloc, taken, &mut self.blocks, apdu) {
+            Ok(Heard::More(number)) => {
+                self.stage = Stage::Getting(number);
+                Ok(())
+            }
+            Ok(Heard::Rows(rows)) => {
+                self.stage = Stage::Releasing;
+                self.rows = rows;
+                Ok(())
+            }
+            Err(fault) => Err(fault),
+        }
+    }
+
+    /// The next APDU.
+    pub fn take(&mut self, apdu: &[u8]) -> Result<(), PollFault>
+        ensures { (apdus : List (List ℕ)) → FitsTalk self.old apdus → CanTake self.old.stage → Takes apdus apdu.now result self.new }
+    {
+        match self.stage {
+            Stage::Associating => {
+                associated(apdu)?;
+                self.stage = Stage::Getting(0);
+                Ok(())
+            }
+            Stage::Getting(taken) => self.hear(taken, apdu),
+            Stage::Releasing => match released(apdu) {
+                Ok(()) => {
+                    self.stage = Stage::Leaving;
+                    Ok(())
+                }
+                Err(fault) => Err(fault),
+            },
+            Stage::Leaving => Err(PollFault::Protocol),
+        }
+    }
+}

@@ -1,0 +1,5 @@
+pub mod Run
+pub mod Steps
+pub mod MeterValue
+pub mod Independence
+pub mod Transfers

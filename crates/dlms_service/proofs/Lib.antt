@@ -1,0 +1,5 @@
+pub mod Lengths
+pub mod Plans
+pub mod Serving
+pub mod Showing
+pub mod Values

@@ -1,0 +1,137 @@
+-- What each part of a service shows of its outcome.
+use Rattle.std.proofs.Common.{◌≡◌, ◌⊎◌, inl, inr, refl, sym, ◌∙◌, ap, ℕ, Bool, true, false, List, [], Option, Some, None, is_some, option_map, option_copied, Bor, Result, Ok, Err, MatchResult, IsTrue, if◌then◌else◌, nat_le, length, ◌+◌, arith}
+use Rattle.std.proofs.lemmas.List.{append-nil}
+use Rattle.dlms_data.specs.Value.{Value}
+use Rattle.dlms_data.specs.declared.descriptor.Descriptor.{Descriptor}
+use Rattle.dlms_apdu.specs.Forms.{RequestForm, ResponseForm, BlockForm, get_normal, get_result, set_normal, set_first, set_result, action_normal, action_result}
+use Rattle.dlms_apdu.specs.Forms as apdu
+use Rattle.dlms_apdu.specs.View.{selection_of}
+use Rattle.dlms_apdu.specs.Writing.{response_bytes}
+use Rattle.dlms_data.specs.declared.descriptor.Selector.{Selector}
+use Rattle.dlms_blocks.specs.Coming.{Coming, step_of, follows, more_answer, more_after}
+use Rattle.dlms_blocks.specs.declared.block.PutStep.{PutStep}
+use Rattle.dlms_blocks.specs.declared.block.PutStep.TheVariants.{Whole}
+use Rattle.dlms_state.specs.declared.event.Event.{Event}
+use Rattle.dlms_state.specs.StateValue.{StateValue, IsStateOf, state_of}
+use Rattle.dlms_classes.specs.declared.access.AccessResult.{AccessResult}
+use Rattle.dlms_classes.specs.declared.access.AccessResult.TheVariants.{TemporaryFailure}
+use Rattle.dlms_classes.specs.Access.{number_of}
+use Rattle.dlms_classes.specs.Answer.{Wanted}
+use Rattle.dlms_classes.specs.Plan.{event_asked}
+use Rattle.dlms_service.specs.declared.association.Association.{Association}
+use Rattle.dlms_service.specs.declared.target.Target.{Target}
+use Rattle.dlms_service.specs.declared.target.Service.{Service}
+use Rattle.dlms_service.specs.declared.target.Service.TheVariants.{Set}
+use Rattle.dlms_service.specs.Session.{SessionValue, Outcome, without_get, without_put, not_possible}
+use Rattle.dlms_service.specs.Planned.{IsValue, IsPlanFor, IsDone, accepted}
+use Rattle.dlms_service.specs.Shown.{Sends, IsShown, asked, WouldShow}
+use Rattle.dlms_service.specs.Blocks.{Completes, Steps, Begins, Continues, open_for, ended_form}
+use Rattle.dlms_service.specs.Serves.{Choice, FindsMemory, LacksMemory, Leads, Asks, Lacks, Requested, permits}
+
+-- nothing was accepted, and nothing changed
+pub nothing_done : (P : Outcome → Type 0) (E : List Event) (s : SessionValue) (answer : List ℕ) (state : StateValue) → IsStateOf E state → answer ≡ (not_possible s).answer
+    → Leads (λ o. P o ⊎ (o ≡ not_possible s)) E s answer state
+nothing_done P E s answer state is e = ([], inr (ap (λ a. record { own = s; answer = a; accepted = [] }) e), rw (append-nil E) is)
+
+pub completed : (E : List Event) (s : SessionValue) (invoke number : ℕ) (t : Target) (joined : List ℕ) (value : Option Value) (own : SessionValue) (answer : List ℕ) (state : StateValue)
+    → IsValue joined value → IsDone E (without_put s) (ended_form t.service invoke number) (IsPlanFor t.service s.client t value) own answer state
+    → Leads (λ o. Completes E s invoke number t joined o ⊎ (o ≡ not_possible s)) E own answer state
+completed E s invoke number t joined value own answer state is d =
+    (accepted E d.0, inl (value, d.0, is, d.1, d.2, rw (d.3, d.4) refl), d.5)
+
+-- a value that was sent, or for which there was no memory
+pub given : (E : List Event) (s : SessionValue) (a : Association) (invoke : ℕ) (d : Descriptor) (selector : Option apdu.Selection) (v : Value) (own : SessionValue) (answer : List ℕ)
+    → IsShown (state_of E) s.client d (asked s.client a d selector) (Ok v)
+    → (Sends (without_get s) a invoke v (record { own = own; answer = answer; accepted = [] }) ⊎ ((own ≡ without_get s) × (answer ≡ response_bytes (get_result invoke (number_of TemporaryFailure)))))
+    → Asks E s a (get_normal invoke d selector) (record { own = own; answer = answer; accepted = [] }) ⊎ Lacks E s a (get_normal invoke d selector) (record { own = own; answer = answer; accepted = [] })
+given E s a invoke d selector v own answer shown (inl sends) = inl (Ok v, shown, sends)
+given E s a invoke d selector v own answer shown (inr lacks) = inr (inl (would (asked s.client a d selector) shown, rw (lacks.0, lacks.1) refl))
+  where
+    would : (w : Result Wanted AccessResult) → IsShown (state_of E) s.client d w (Ok v) → WouldShow (state_of E) s.client d w
+    would (Ok w) h = inr (v, h)
+    would (Err r) h = absurd (grind arith)
+
+-- ---- blocks that come
+
+-- a whole value is that of a last block
+whole_is_last : (a b last : Bool) (x y : ℕ) → (if a then (if b then Ok (step_of last) else Err x) else Err y) ≡ Ok Whole → IsTrue last
+whole_is_last true true true x y e = refl
+whole_is_last true true false x y e = absurd (grind arith)
+whole_is_last true false last x y e = absurd (grind arith)
+whole_is_last false b last x y e = absurd (grind arith)
+
+further_is_last : (taken : Option ℕ) (joined : List ℕ) (last : Bool) (number : ℕ) (raw : List ℕ) → more_answer taken joined last number raw ≡ Ok Whole → IsTrue last
+further_is_last None joined last number raw e = absurd (grind arith)
+further_is_last (Some before) joined last number raw e = whole_is_last (follows before number) (nat_le (length joined + length raw) 1024) last 17 19 e
+
+-- what a call answered is this
+abbrev pub Answered : Result PutStep ℕ → Result PutStep ℕ → Type 0
+Answered given wanted = MatchResult given (λ x. wanted ≡ Ok x) (λ code. wanted ≡ Err code)
+
+answered : (given wanted : Result PutStep ℕ) → Answered given wanted → wanted ≡ given
+answered (Ok x) wanted h = h
+answered (Err code) wanted h = h
+
+pub continued : (E : List Event) (s : SessionValue) (service : Service) (invoke : ℕ) (b : BlockForm) (t : Target) (coming : Coming) (step : Result PutStep ℕ) (own : SessionValue) (answer : List ℕ) (state : StateValue)
+    → open_for service s.target ≡ Some t
+    → Answered step (more_answer s.coming.taken s.coming.joined b.last b.number b.raw) → coming ≡ more_after s.coming.taken s.coming b.last b.number b.raw
+    → Leads (λ o. Steps E s invoke b.number t coming step o ⊎ ((step ≡ Ok Whole) × (o ≡ not_possible s))) E own answer state
+    → Leads (λ o. Continues E s service invoke b o ⊎ (IsTrue b.last × (o ≡ not_possible s))) E own answer state
+continued E s service invoke b t coming step own answer state is_open a after leads = (leads.0, by leads.1, leads.2)
+  where
+    by : (Steps E s invoke b.number t coming step (record { own = own; answer = answer; accepted = leads.0 }) ⊎ ((step ≡ Ok Whole) × (record { own = own; answer = answer; accepted = leads.0 } ≡ not_possible s)))
+        → (Continues E s service invoke b (record { own = own; answer = answer; accepted = leads.0 }) ⊎ (IsTrue b.last × (record { own = own; answer = answer; accepted = leads.0 } ≡ not_possible s)))
+    by (inl steps) = inl (rw (is_open, answered step (more_answer s.coming.taken s.coming.joined b.last b.number b.raw) a, sym after) steps)
+    by (inr h) = inr (further_is_last s.coming.taken s.coming.joined b.last b.number b.raw (answered step (more_answer s.coming.taken s.coming.joined b.last b.number b.raw) a ∙ h.0), h.1)
+
+-- ---- a request within an association
+
+pub led : (E : List Event) (s : SessionValue) (a : Association) (form : RequestForm) (own : SessionValue) (answer : List ℕ) (state : StateValue)
+    → permits a form ≡ true → Leads (λ o. Asks E s a form o ⊎ Lacks E s a form o) E own answer state
+    → (choice : Choice) × Leads (λ o. Requested choice E s a form o) E own answer state
+led E s a form own answer state p leads = by leads.1
+  where
+    by : (Asks E s a form (record { own = own; answer = answer; accepted = leads.0 }) ⊎ Lacks E s a form (record { own = own; answer = answer; accepted = leads.0 }))
+        → (choice : Choice) × Leads (λ o. Requested choice E s a form o) E own answer state
+    by (inl asks) = (FindsMemory, (leads.0, rw p asks, leads.2))
+    by (inr lacks) = (LacksMemory, (leads.0, lacks, leads.2))
+
+-- what accepts nothing
+pub alone : (E : List Event) (s : SessionValue) (a : Association) (form : RequestForm) (own : SessionValue) (answer : List ℕ) (state : StateValue) → IsStateOf E state
+    → Asks E s a form (record { own = own; answer = answer; accepted = [] }) ⊎ Lacks E s a form (record { own = own; answer = answer; accepted = [] })
+    → Leads (λ o. Asks E s a form o ⊎ Lacks E s a form o) E own answer state
+alone E s a form own answer state is h = ([], h, rw (append-nil E) is)
+
+-- what is planned and done
+pub set_done : (E : List Event) (s : SessionValue) (a : Association) (invoke : ℕ) (d : Descriptor) (selector : Option apdu.Selection) (selected : Bool) (v : Value) (own : SessionValue) (answer : List ℕ) (state : StateValue)
+    → selected ≡ is_some selector
+    → IsDone E (without_put s) (set_result invoke) (IsPlanFor Set s.client (record { service = Set; descriptor = d; selected = selected }) (Some v)) own answer state
+    → Leads (λ o. Asks E s a (set_normal invoke d selector v) o ⊎ Lacks E s a (set_normal invoke d selector v) o) E own answer state
+set_done E s a invoke d selector selected v own answer state e h = (accepted E h.0, inl (h.0, rw (sym e) h.1, h.2, rw (h.3, h.4) refl), h.5)
+
+pub action_done : (E : List Event) (s : SessionValue) (a : Association) (invoke : ℕ) (d : Descriptor) (parameter : Option Value) (own : SessionValue) (answer : List ℕ) (state : StateValue)
+    → IsDone E (without_put s) (action_result invoke) (λ plan. plan ≡ event_asked s.client d parameter) own answer state
+    → Leads (λ o. Asks E s a (action_normal invoke d parameter) o ⊎ Lacks E s a (action_normal invoke d parameter) o) E own answer state
+action_done E s a invoke d parameter own answer state h = (accepted E h.0, inl (h.0, h.1, h.2, rw (h.3, h.4) refl), h.5)
+
+pub begun : (E : List Event) (s : SessionValue) (a : Association) (invoke : ℕ) (d : Descriptor) (selector : Option apdu.Selection) (selected last : Bool) (number : ℕ) (raw : List ℕ) (own : SessionValue) (answer : List ℕ) (state : StateValue)
+    → selected ≡ is_some selector
+    → Leads (λ o. Begins E s invoke (record { service = Set; descriptor = d; selected = selected }) (record { last = last; number = number; raw = raw }) o ⊎ (IsTrue last × (o ≡ not_possible s))) E own answer state
+    → Leads (λ o. Asks E s a (set_first invoke d selector last number raw) o ⊎ Lacks E s a (set_first invoke d selector last number raw) o) E own answer state
+begun E s a invoke d selector selected last number raw own answer state e leads = (leads.0, by leads.1, leads.2)
+  where
+    by : (Begins E s invoke (record { service = Set; descriptor = d; selected = selected }) (record { last = last; number = number; raw = raw }) (record { own = own; answer = answer; accepted = leads.0 })
+        ⊎ (IsTrue last × (record { own = own; answer = answer; accepted = leads.0 } ≡ not_possible s)))
+        → Asks E s a (set_first invoke d selector last number raw) (record { own = own; answer = answer; accepted = leads.0 }) ⊎ Lacks E s a (set_first invoke d selector last number raw) (record { own = own; answer = answer; accepted = leads.0 })
+    by (inl h) = inl (rw (sym e) h)
+    by (inr h) = inr (inr h.0, h.1)
+
+-- a selector is there, whatever is seen of it
+pub there : {A B : Type 0} (f : A → B) (o : Option A) → is_some o ≡ is_some (option_map f o)
+there f None = refl
+there f (Some x) = refl
+
+-- a selector behind a reference is the selector
+pub seen_through : {A : Type 0} (r : Option (Bor (Selector A))) (o : Option (Selector A)) → option_copied r ≡ o → option_map (λ s. selection_of s.now) r ≡ option_map selection_of o
+seen_through None o e = ap (option_map selection_of) e
+seen_through (Some v) o e = ap (option_map selection_of) e

@@ -1,0 +1,18 @@
+use Rattle.std.proofs.Common.{◌≡◌, ◌⊎◌, ◌∙◌, [], sym, ap, subst, option_map}
+use Rattle.dlms_apdu.specs.Forms.{get_result}
+use Rattle.dlms_apdu.specs.View.{selection_of}
+use Rattle.dlms_apdu.specs.Writing.{response_bytes}
+use Rattle.dlms_data.specs.View.{value_of}
+use Rattle.dlms_service.specs.Session.{SessionValue}
+use Rattle.dlms_service.specs.Shown.{Sends}
+use Rattle.dlms_service.proofs.Serving.{given}
+use Rattle.dlms_service.proofs.session.Session.get_normal.Goals as goal
+
+-- the value that is given is the one that is shown
+pub returns-in-Ok : goal.returns-in-Ok
+returns-in-Ok g c E is =
+    let client : c.self.inside.client ≡ c.args.self.now.client = ap (λ (s : SessionValue). s.client) (c.self.view_is ∙ c.end_get.ensures) in
+    let sends = subst (λ (s : SessionValue). Sends s c.args.association c.args.invoke (value_of c.in-Ok.value) (record { own = c.give.new.self; answer = c.give.result.items; accepted = [] })
+    ⊎ ((c.give.new.self ≡ s) × (c.give.result.items ≡ response_bytes (get_result c.args.invoke 2)))) c.end_get.ensures c.give.ensures in
+    given E c.args.self.now c.args.association c.args.invoke c.args.descriptor (option_map (λ s. selection_of s.now) c.args.selector) (value_of c.in-Ok.value) c.give.new.self c.give.result.items
+    (rw (sym client) (c.in-Ok.ensures E is)) sends

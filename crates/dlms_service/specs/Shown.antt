@@ -1,0 +1,97 @@
+-- What GET shows, whole or in blocks.
+use Rattle.std.specs.Prelude.{◌≡◌, ◌⊎◌, ℕ, ◌+◌, ◌-◌, ◌&&◌, nat_le, if◌then◌else◌, List, length, Option, Some, None, option_map, Result, Ok, Err, MatchResult}
+use Rattle.dlms_blocks.specs.Block.{BlockValue}
+use Rattle.dlms_blocks.specs.Going.{Going, beginning, answer, after}
+use Rattle.dlms_data.specs.Value.{Value, null}
+use Rattle.dlms_data.specs.View.{value_of}
+use Rattle.dlms_data.specs.declared.data.Data.{Data}
+use Rattle.dlms_data.specs.Writing.{canonical, Fits}
+use Rattle.dlms_data.specs.declared.descriptor.Descriptor.{Descriptor}
+use Rattle.dlms_apdu.specs.Forms.{ResponseForm, get_data, get_result, get_block, get_block_result}
+use Rattle.dlms_apdu.specs.Forms as apdu
+use Rattle.dlms_state.specs.declared.event.Event.{Event}
+use Rattle.dlms_state.specs.StateValue.{StateValue, state_of}
+use Rattle.dlms_frame.specs.declared.client.Client.{Client}
+use Rattle.dlms_classes.specs.declared.access.AccessResult.{AccessResult}
+use Rattle.dlms_classes.specs.declared.access.AccessResult.TheVariants.{TemporaryFailure, OtherReason}
+use Rattle.dlms_classes.specs.Access.{number_of}
+use Rattle.dlms_classes.specs.Answer.{Wanted, wanted}
+use Rattle.dlms_classes.specs.Choice.{Selection, HasSeconds}
+use Rattle.dlms_classes.specs.Shown.{Shows, shown}
+use Rattle.dlms_service.specs.declared.association.Association.{Association}
+use Rattle.dlms_service.specs.Session.{SessionValue, Outcome, says, without_get, has, blocks_with_get, selective_access}
+
+-- a selector, as the objects see it
+abbrev pub selection : apdu.Selection → Selection
+selection s = record { number = s.number; value = s.value }
+
+-- without selective access each selector is one that no attribute takes
+abbrev pub no_selection : Selection
+no_selection = record { number = 0; value = null }
+
+abbrev pub seen : Association → Option apdu.Selection → Option Selection
+seen a selector = if has a selective_access then option_map selection selector else option_map (λ s. no_selection) selector
+
+-- what a GET asks for, or the first refusal that fits
+abbrev pub asked : Client → Association → Descriptor → Option apdu.Selection → Result Wanted AccessResult
+asked client a d selector = wanted client d (seen a selector)
+
+-- what is wanted of a state has this value, or none: the octets that bound a range name no second
+abbrev pub IsShown : StateValue → Client → Descriptor → Result Wanted AccessResult → Result Value AccessResult → Type 0
+IsShown s client d (Err r) result = result ≡ Err r
+IsShown s client d (Ok w) result = MatchResult result (λ v. Shows (shown s client d w.part w.content) v) (λ r. (r ≡ OtherReason) × ¬ (HasSeconds w.part))
+
+-- something would have been shown: the octets that bound a range name seconds, or there is the value
+abbrev pub WouldShow : StateValue → Client → Descriptor → Result Wanted AccessResult → Type 0
+WouldShow s client d (Err r) = ⊥
+WouldShow s client d (Ok w) = HasSeconds w.part ⊎ ((v : Value) × Shows (shown s client d w.part w.content) v)
+
+-- what a call answered is what is shown; want of memory stands only where a value would have been
+abbrev pub Tells : {A : Type 0} → StateValue → Client → Descriptor → Result Wanted AccessResult → Result (Data A) AccessResult → Type 0
+Tells s client d w result =
+    MatchResult result (λ v. IsShown s client d w (Ok (value_of v))) (λ r. IsShown s client d w (Err r) ⊎ (WouldShow s client d w × (r ≡ TemporaryFailure)))
+
+-- a block in an answer, or the result that ends the transfer
+abbrev pub block_form : ℕ → ℕ → Result BlockValue ℕ → ResponseForm
+block_form invoke number (Ok b) = get_block invoke b.last b.number b.bytes
+block_form invoke number (Err code) = get_block_result invoke number code
+
+-- the first block of an encoding
+abbrev pub in_blocks : SessionValue → Association → ℕ → List ℕ → Outcome
+in_blocks s a invoke encoding =
+    let transfer = beginning encoding (a.size - 12) in
+    says (record s { getting = Some (after transfer 0) }) (block_form invoke 0 (answer transfer 0))
+
+-- An answer that fits the client's size goes whole; a longer one in blocks, where both ends have them. (65,536 bytes are
+-- more than any attribute has.)
+abbrev pub sent : SessionValue → Association → ℕ → Value → Outcome
+sent s a invoke v =
+    if nat_le (4 + length (canonical v)) a.size then says s (get_data invoke v)
+    else if has a blocks_with_get && nat_le (length (canonical v)) 65536 then in_blocks s a invoke (canonical v)
+    else says s (get_result invoke (number_of OtherReason))
+
+-- a value that has a spelling is sent
+abbrev pub Sends : SessionValue → Association → ℕ → Value → Outcome → Type 0
+Sends s a invoke v o = (Fits v × (o ≡ sent s a invoke v)) ⊎ (¬ (Fits v) × (o ≡ says s (get_result invoke (number_of OtherReason))))
+
+abbrev pub Gives : SessionValue → Association → ℕ → Result Value AccessResult → Outcome → Type 0
+Gives s a invoke (Err r) o = o ≡ says s (get_result invoke (number_of r))
+Gives s a invoke (Ok v) o = Sends s a invoke v o
+
+-- GET of an attribute after these events. It drops the value that goes out, whatever it is answered.
+abbrev pub Gets : List Event → SessionValue → Association → ℕ → Descriptor → Option apdu.Selection → Outcome → Type 0
+Gets E s a invoke d selector o =
+    (result : Result Value AccessResult) × IsShown (state_of E) s.client d (asked s.client a d selector) result
+    × Gives (without_get s) a invoke result o
+
+-- GET of the next block: 16 where no value goes out
+abbrev pub next_answer : Option Going → ℕ → Result BlockValue ℕ
+next_answer None number = Err 16
+next_answer (Some g) number = answer g number
+
+abbrev pub next_after : Option Going → ℕ → Option Going
+next_after None number = None
+next_after (Some g) number = Some (after g number)
+
+abbrev pub goes_on : SessionValue → ℕ → ℕ → Outcome
+goes_on s invoke number = says (record s { getting = next_after s.getting number }) (block_form invoke number (next_answer s.getting number))

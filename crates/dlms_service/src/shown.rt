@@ -1,0 +1,83 @@
+//! What GET shows, whole or in blocks.
+
+ghost use Rattle.std.specs.Prelude.{◌≡◌, ◌⊎◌, ◌≤◌, ◌<◌, Ok, Err, List, Some, None, Option, option_map, Result, MatchResult, length};
+ghost use Rattle.dlms_apdu.specs.View.{selection_of, response_of};
+ghost use Rattle.dlms_apdu.specs.Forms.{get_result};
+ghost use Rattle.dlms_apdu.specs.Writing.{response_bytes};
+ghost use Rattle.dlms_data.specs.View.{value_of};
+ghost use Rattle.dlms_state.specs.StateValue.{state_of, IsStateOf};
+ghost use Rattle.dlms_state.specs.declared.event.Event.{Event};
+ghost use Rattle.dlms_classes.specs.Access.{number_of};
+ghost use Rattle.dlms_classes.specs.Answer.{wanted};
+ghost use Rattle.dlms_classes.specs.Choice as classes;
+ghost use Rattle.dlms_classes.specs.declared.access.AccessResult.TheVariants.{TemporaryFailure};
+ghost use Rattle.dlms_service.specs.Shown.{asked, Tells, no_selection};
+
+use crate::association::Association;
+use crate::writing::{Answer, short};
+use dlms_acse::Conformance;
+use dlms_apdu::Response;
+use dlms_classes::{AccessResult, get};
+use dlms_data::{Data, Descriptor, Selector};
+use dlms_frame::Client;
+use dlms_state::State;
+use std::alloc::Allocator;
+
+/// The answer that a GET is refused.
+pub fn refused(invoke: u8, refusal: AccessResult) -> Answer
+    ensures { result.items ≡ response_bytes (get_result invoke (number_of refusal)) }
+{
+    short(&Response::GetResult {
+        invoke,
+        result: refusal.number(),
+    })
+}
+
+/// The value that a client asks for. Without selective access a selector is seen as one that no attribute takes.
+pub fn shown<A: Allocator + Copy>(
+    alloc: A,
+    state: &State<A>,
+    client: Client,
+    association: Association,
+    descriptor: Descriptor,
+    selector: Option<&Selector<A>>,
+) -> Result<Data<A>, AccessResult>
+    ensures { (E : List Event) → IsStateOf E state.now → Tells (state_of E) client descriptor (asked client association descriptor (option_map (λ s. selection_of s.now) selector.entry)) result }
+{
+    if association.has(Conformance::SELECTIVE_ACCESS) || selector.is_none() {
+        seen(alloc, state, client, descriptor, selector)
+    } else {
+        barred(alloc, state, client, descriptor)
+    }
+}
+
+/// The value, with a selector that is seen.
+#[tactic(auto, using(crate::proofs::Showing::is_shown))]
+fn seen<A: Allocator + Copy>(
+    alloc: A,
+    state: &State<A>,
+    client: Client,
+    descriptor: Descriptor,
+    selector: Option<&Selector<A>>,
+) -> Result<Data<A>, AccessResult>
+    ensures { (E : List Event) → IsStateOf E state.now → Tells (state_of E) client descriptor (wanted client descriptor (option_map (λ s. classes.selection_of s.now) selector.entry)) result }
+{
+    get(alloc, state, client, descriptor, selector)
+}
+
+/// The refusal of a selector that no attribute takes, or what comes before it.
+#[tactic(auto, using(crate::proofs::Showing::is_shown))]
+fn barred<A: Allocator + Copy>(
+    alloc: A,
+    state: &State<A>,
+    client: Client,
+    descriptor: Descriptor,
+) -> Result<Data<A>, AccessResult>
+    ensures { (E : List Event) → IsStateOf E state.now → Tells (state_of E) client descriptor (wanted client descriptor (Some no_selection)) result }
+{
+    let unknown = Selector {
+        number: 0,
+        value: Data::Null,
+    };
+    get(alloc, state, client, descriptor, Some(&unknown))
+}

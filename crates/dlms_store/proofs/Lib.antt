@@ -1,0 +1,9 @@
+pub mod Adding
+pub mod Checkpoint
+pub mod Commit
+pub mod Images
+pub mod Keeping
+pub mod Replays
+pub mod Runs
+pub mod Scribbles
+pub mod Starting

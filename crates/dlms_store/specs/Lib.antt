@@ -1,0 +1,12 @@
+pub mod Clear
+pub mod Fault
+pub mod Fitting
+pub mod Image
+pub mod Layout
+pub mod Page
+pub mod Puts
+pub mod PutsAll
+pub mod Settled
+pub mod SlotWritten
+pub mod Store
+pub mod World

@@ -1,0 +1,84 @@
+-- What a store knows of events, whatever its device does.
+use Rattle.std.specs.Prelude.{◌≡◌, ◌≤◌, ◌<◌, ◌+◌, ℕ, true, false, List, [], ◌∷◌, ◌++◌, length, Option}
+use Rattle.dlms_pages.specs.Device.{View, Rose}
+use Rattle.dlms_pages.specs.declared.device.Pages.{Ghosts}
+use Rattle.dlms_state.specs.declared.event.Event.{Event}
+use Rattle.dlms_state.specs.declared.event.Refused.{Refused}
+use Rattle.dlms_state.specs.Refusal.{refusal}
+use Rattle.dlms_state.specs.StateValue.{StateValue, IsStateOf}
+use Rattle.dlms_journal.specs.Record.{Holds, record_of}
+use Rattle.dlms_store.specs.declared.store.Store.{Store}
+
+-- what is known of its device
+abbrev pub view_of : {P A : Type 0} → {ghosts : Ghosts P} → Store P A ghosts → View
+view_of {ghosts = ghosts} store = ghosts.view store.device
+
+-- it holds the state after all accepted events
+abbrev pub state_in : {P A : Type 0} → {ghosts : Ghosts P} → Store P A ghosts → StateValue
+state_in store = store.state
+
+-- the records of the events that are not committed
+abbrev pub records_in : {P A : Type 0} → {ghosts : Ghosts P} → Store P A ghosts → List ℕ
+records_in store = store.pending.items
+
+-- its device failed in an earlier call
+abbrev pub IsStopped : {P A : Type 0} → {ghosts : Ghosts P} → Store P A ghosts → Type 0
+IsStopped store = store.stopped ≡ true
+
+abbrev pub IsRunning : {P A : Type 0} → {ghosts : Ghosts P} → Store P A ghosts → Type 0
+IsRunning store = store.stopped ≡ false
+
+-- a device on which no store has room
+abbrev pub IsTooSmall : View → Type 0
+IsTooSmall device = length device.seen < 82
+
+-- a commit of what is pending makes a checkpoint
+abbrev pub IsFull : {P A : Type 0} → {ghosts : Ghosts P} → Store P A ghosts → Type 0
+IsFull store = store.next ≡ 16
+
+-- no further checkpoint can be made
+abbrev pub IsLast : {P A : Type 0} → {ghosts : Ghosts P} → Store P A ghosts → Type 0
+IsLast store = store.generation ≡ 18446744073709551615
+
+-- why the event may not come next, or None
+abbrev pub refusal_in : {P A : Type 0} → {ghosts : Ghosts P} → Store P A ghosts → Event → Option Refused
+refusal_in store event = refusal store.state.last store.state.offset event
+
+-- the event's record fits behind those that are pending
+abbrev pub HasRoom : {P A : Type 0} → {ghosts : Ghosts P} → Store P A ghosts → Event → Type 0
+HasRoom store event = length store.pending.items + length (record_of event) ≤ 496
+
+-- These events are settled, and those are pending: the store has the state of them all, and the records of the pending ones.
+pub record Remembers {P A : Type 0} {ghosts : Ghosts P} (settled pending : List Event) (store : Store P A ghosts) : Type 0 where
+  pub state : IsStateOf (settled ++ pending) (state_in store)
+  pub records : Holds (records_in store) pending
+
+-- what was settled and pending is so still
+abbrev pub Keeps : {P A : Type 0} → {ghosts : Ghosts P} → Store P A ghosts → Store P A ghosts → Type 0
+Keeps old new = (settled pending : List Event) → Remembers settled pending old → Remembers settled pending new
+
+-- what was pending is settled
+abbrev pub Settles : {P A : Type 0} → {ghosts : Ghosts P} → Store P A ghosts → Store P A ghosts → Type 0
+Settles old new = (settled pending : List Event) → Remembers settled pending old → Remembers (settled ++ pending) [] new
+
+-- the event joined those that are pending
+abbrev pub Joins : {P A : Type 0} → {ghosts : Ghosts P} → Event → Store P A ghosts → Store P A ghosts → Type 0
+Joins event old new = (settled pending : List Event) → Remembers settled pending old → Remembers settled (pending ++ event ∷ []) new
+
+-- what was pending is settled, and the event alone is pending
+abbrev pub JoinsAlone : {P A : Type 0} → {ghosts : Ghosts P} → Event → Store P A ghosts → Store P A ghosts → Type 0
+JoinsAlone event old new = (settled pending : List Event) → Remembers settled pending old → Remembers (settled ++ pending) (event ∷ []) new
+
+-- The device failed in this call: the store is stopped, and it knows of the events what it knew.
+pub record Fails {P A : Type 0} {ghosts : Ghosts P} (old new : Store P A ghosts) : Type 0 where
+  pub cause : Rose (view_of old).faults (view_of new).faults
+  pub stopped : IsStopped new
+  pub keeps : Keeps old new
+
+-- The call changed nothing but what is held of events in memory.
+pub record IsElsewhereSame {P A : Type 0} {ghosts : Ghosts P} (old new : Store P A ghosts) : Type 0 where
+  pub device : new.device ≡ old.device
+  pub slot : new.slot ≡ old.slot
+  pub generation : new.generation ≡ old.generation
+  pub next : new.next ≡ old.next
+  pub stopped : new.stopped ≡ old.stopped

@@ -1,0 +1,41 @@
+//! A device made empty.
+ghost use Rattle.std.specs.Prelude.{◌≡◌, ◌≤◌, [], length, true, OnOk};
+ghost use Rattle.dlms_pages.specs.Device.{Goes, Image};
+ghost use Rattle.dlms_state.specs.StateValue.{state_of};
+ghost use Rattle.dlms_checkpoint.specs.Checkpoint.{checkpoint_bytes};
+ghost use Rattle.dlms_store.specs.declared.layout.Slot.TheVariants as SlotOf;
+ghost use Rattle.dlms_store.specs.Clear.{IsClear};
+ghost use Rattle.dlms_store.specs.Image.{Stands};
+ghost use Rattle.dlms_checkpoint.specs.Bodies.{body_count};
+
+use crate::layout::Slot;
+use crate::put::put;
+use crate::slot::put_bodies;
+use dlms_checkpoint::Checkpoint;
+use dlms_journal::{PageKind, page_of};
+use dlms_pages::{DeviceFault, Pages};
+
+/// Writes zeros to every page, and syncs.
+pub(crate) fn clear<P: Pages>(device: &mut P) -> Result<(), DeviceFault>
+    ensures goes { Goes (P.view device.old) (P.view device.new) result }
+    ensures clear { (P.view device.old).honest ≡ true → OnOk result ((image : Image) → (P.view device.new).may_leave image → IsClear image) }
+{
+    for index in 0..device.count() {
+        device.write(index, &[0; 512])?;
+    }
+    device.sync()
+}
+
+/// Writes the first checkpoint of a device that was cleared: the bodies of the first slot, and its gate.
+pub(crate) fn begin<P: Pages>(device: &mut P, bytes: &Checkpoint) -> Result<(), DeviceFault>
+    requires room { 82 ≤ length (P.view device.old).seen }
+    requires few { body_count bytes.now ≤ 32 }
+    ensures goes { Goes (P.view device.old) (P.view device.new) result }
+    ensures starts { (P.view device.old).honest ≡ true → bytes.now ≡ checkpoint_bytes (state_of []) → ((image : Image) → (P.view device.old).may_leave image → IsClear image)
+        → OnOk result ((image : Image) → (P.view device.new).may_leave image → Stands SlotOf.First 1 [] [] image) }
+{
+    let gate = Slot::First.gate();
+    put_bodies(device, gate, 1, bytes)?;
+    let open = page_of(PageKind::OpenGate, Slot::First.index(), 1, &[]);
+    put(device, gate, &open)
+}

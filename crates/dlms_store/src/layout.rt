@@ -1,0 +1,54 @@
+//! Where everything stands: two slots of a gate and 32 bodies, and 16 journal pages.
+ghost use Rattle.std.specs.Prelude.{◌≡◌, ◌≤◌};
+ghost use Rattle.dlms_store.specs.Layout.{gate_of, index_of, other_of};
+
+/// How many pages a store needs.
+pub const PAGES: u16 = 82;
+
+/// How many journal pages there are.
+pub(crate) const JOURNAL_PAGES: u16 = 16;
+
+/// Where the journal begins.
+pub(crate) const JOURNAL: u16 = 66;
+
+/// How many bodies a slot has.
+pub(crate) const BODIES: u16 = 32;
+
+/// One of the two places for a checkpoint.
+#[derive(Clone, Copy, Debug, PartialEq, Eq)]
+pub(crate) enum Slot {
+    First,
+    Second,
+}
+
+impl Slot {
+    /// The slot's number, which its gate has as index.
+    pub(crate) fn index(self) -> u16
+        ensures { result ≡ index_of self }
+    {
+        match self {
+            Slot::First => 0,
+            Slot::Second => 1,
+        }
+    }
+
+    /// The page of its gate. The bodies follow.
+    pub(crate) fn gate(self) -> u16
+        ensures value { result ≡ gate_of self }
+        ensures within { result ≤ 33 }
+    {
+        match self {
+            Slot::First => 0,
+            Slot::Second => 33,
+        }
+    }
+
+    pub(crate) fn other(self) -> Slot
+        ensures { result ≡ other_of self }
+    {
+        match self {
+            Slot::First => Slot::Second,
+            Slot::Second => Slot::First,
+        }
+    }
+}

@@ -1,0 +1,20 @@
+//! Events on a device of pages, each kept through a stop of the power once it is committed.
+#![tactic(auto)]
+
+mod fault;
+mod format;
+pub mod laws;
+mod layout;
+mod look;
+mod open;
+mod page;
+mod put;
+mod replay;
+mod slot;
+mod store;
+#[cfg(test)]
+mod tests;
+
+pub use fault::{AddFault, OpenFault, StoreFault};
+pub use layout::PAGES;
+pub use store::Store;

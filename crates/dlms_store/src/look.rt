@@ -1,0 +1,132 @@
+//! What stands on a device.
+ghost use Rattle.std.specs.Prelude.{◌≡◌, ◌≢◌, ◌<◌, ◌≤◌, length, IfOk, Err};
+ghost use Rattle.dlms_pages.specs.Device.{Goes, Rose};
+ghost use Rattle.dlms_state.specs.StateValue.{HasEvents};
+
+use crate::fault::OpenFault;
+use crate::layout::{BODIES, JOURNAL, JOURNAL_PAGES, Slot};
+use crate::page::{open_generation, payload_in};
+use crate::replay::replay;
+use dlms_checkpoint::{RestoreFault, Restoring};
+use dlms_journal::PageKind;
+use dlms_pages::{DeviceFault, PageRead, Pages};
+use dlms_state::State;
+use std::alloc::Allocator;
+
+/// The generation of a slot's gate, if it is open.
+pub(crate) fn look_at_gate<P: Pages>(device: &mut P, slot: Slot) -> Result<Option<u64>, DeviceFault>
+    requires { 82 ≤ length (P.view device.old).seen }
+    ensures goes { Goes (P.view device.old) (P.view device.new) result }
+{
+    let page = device.read(slot.gate())?;
+    Ok(open_generation(&page))
+}
+
+/// The slot of the greatest generation, and that generation.
+pub(crate) fn active(first: Option<u64>, second: Option<u64>) -> Result<(Slot, u64), OpenFault>
+    ensures { (result ≢ Err OpenFault.Device) × (result ≢ Err OpenFault.Size) }
+{
+    match (first, second) {
+        (Some(a), Some(b)) if a > b => Ok((Slot::First, a)),
+        (Some(a), Some(b)) if b > a => Ok((Slot::Second, b)),
+        (Some(_), Some(_)) => Err(OpenFault::Corrupt(Slot::Second.gate())),
+        (Some(a), None) => Ok((Slot::First, a)),
+        (None, Some(b)) => Ok((Slot::Second, b)),
+        (None, None) => Err(OpenFault::NoCheckpoint),
+    }
+}
+
+/// Takes the bodies that follow the first one.
+fn look_at_further_bodies<P: Pages>(
+    device: &mut P,
+    first: u16,
+    generation: u64,
+    restoring: &mut Restoring,
+) -> Result<(), OpenFault>
+    requires room { 82 ≤ length (P.view device.old).seen }
+    requires place { first ≤ 34 }
+    ensures count { length (P.view device.new).seen ≡ length (P.view device.old).seen }
+    ensures later { (P.view device.old).faults ≤ (P.view device.new).faults }
+    ensures device { result ≡ Err OpenFault.Device → Rose (P.view device.old).faults (P.view device.new).faults }
+    ensures faults { result ≢ Err OpenFault.Size }
+{
+    for index in 1..BODIES {
+        if restoring.awaited() == 0 {
+            break;
+        }
+        let page = device.read(first + index)?;
+        let Some(body) = payload_in(&page, PageKind::Body, index, generation) else {
+            return Err(OpenFault::Corrupt(first + index));
+        };
+        if restoring.more(body).is_err() {
+            return Err(OpenFault::Corrupt(first + index));
+        }
+    }
+    Ok(())
+}
+
+/// The state that a slot's bodies spell.
+pub(crate) fn look_at_bodies<P: Pages, A: Allocator + Copy>(
+    alloc: A,
+    device: &mut P,
+    slot: Slot,
+    generation: u64,
+) -> Result<State<A>, OpenFault>
+    requires { 82 ≤ length (P.view device.old).seen }
+    ensures count { length (P.view device.new).seen ≡ length (P.view device.old).seen }
+    ensures later { (P.view device.old).faults ≤ (P.view device.new).faults }
+    ensures device { result ≡ Err OpenFault.Device → Rose (P.view device.old).faults (P.view device.new).faults }
+    ensures faults { result ≢ Err OpenFault.Size }
+    ensures events { IfOk result HasEvents }
+{
+    let first = slot.gate() + 1;
+    let page = device.read(first)?;
+    let Some(body) = payload_in(&page, PageKind::Body, 0, generation) else {
+        return Err(OpenFault::Corrupt(first));
+    };
+    let Ok(mut restoring) = Restoring::begin(body) else {
+        return Err(OpenFault::Corrupt(first));
+    };
+    look_at_further_bodies(device, first, generation, &mut restoring)?;
+    if restoring.awaited() != 0 {
+        return Err(OpenFault::Corrupt(first));
+    }
+    match restoring.finish(alloc) {
+        Ok(state) => Ok(state),
+        Err(RestoreFault::Spelling) => Err(OpenFault::Corrupt(first)),
+        Err(RestoreFault::Memory) => Err(OpenFault::Memory),
+    }
+}
+
+/// How many journal pages fit, and whether the first that does not is damaged.
+#[derive(Clone, Copy, Debug, PartialEq, Eq)]
+pub(crate) struct Journal {
+    pub(crate) pages: u16,
+    pub(crate) torn: bool,
+}
+
+/// Takes the journal's records into the state.
+pub(crate) fn look_at_journal<P: Pages, A: Allocator + Copy>(
+    device: &mut P,
+    generation: u64,
+    state: &mut State<A>,
+) -> Result<Journal, DeviceFault>
+    requires { 82 ≤ length (P.view device.old).seen }
+    ensures goes { Goes (P.view device.old) (P.view device.new) result }
+    ensures few { IfOk result (λ journal. journal.pages ≤ 16) }
+    ensures events { HasEvents state.old → HasEvents state.new }
+{
+    for index in 0..JOURNAL_PAGES {
+        let page = device.read(JOURNAL + index)?;
+        if !replay(state, &page, index, generation) {
+            return Ok(Journal {
+                pages: index,
+                torn: page == PageRead::Damaged,
+            });
+        }
+    }
+    Ok(Journal {
+        pages: JOURNAL_PAGES,
+        torn: false,
+    })
+}

@@ -1,0 +1,276 @@
+//! The store of events.
+ghost use Rattle.std.specs.Prelude.{◌≡◌, ◌≢◌, ◌≤◌, ◌<◌, ◌+◌, ◌^◌, ◌++◌, ◌∷◌, [], ◌↔◌, ◌⊎◌, List, ℕ, length, true, false, Ok, Err, Some, None, IfOk, IfErr, OnOk, OnErr};
+ghost use Rattle.dlms_pages.specs.Device.{Rose, Image};
+ghost use Rattle.dlms_state.specs.declared.event.Event.{Event as EventOf};
+ghost use Rattle.dlms_journal.specs.Record.{record_of};
+ghost use Rattle.dlms_state.specs.StateValue.{IsStateOf, HasEvents};
+ghost use Rattle.dlms_state.specs.declared.event.Refused.{Refused};
+
+use crate::fault::{AddFault, OpenFault, StoreFault};
+use crate::format::{begin, clear};
+use crate::layout::{JOURNAL, JOURNAL_PAGES, PAGES, Slot};
+use crate::open::{Found, find};
+use crate::put::put;
+use crate::slot::write_slot;
+use arrayvec::ArrayVec;
+use dlms_checkpoint::checkpoint_of;
+use dlms_journal::{MOST_PAYLOAD, PageKind, page_of, record_of};
+use dlms_pages::{DeviceFault, Pages};
+use dlms_state::{Event, State};
+use std::alloc::{Allocator, Global};
+
+/// Events on a device of pages. Those that are committed outlast a stop; the others stand in memory until a page is full.
+/// Only `format` and `open` take memory.
+#[derive(Drop)]
+pub struct Store<P: Pages, A: Allocator = Global> {
+    device: P,
+    state: State<A>,
+    /// The records of the events that are not committed yet.
+    pending: ArrayVec<u8, MOST_PAYLOAD>,
+    /// The slot whose checkpoint counts.
+    slot: Slot,
+    generation: u64,
+    /// How many journal pages of this generation are written.
+    next: u16,
+    stopped: bool,
+    ghost enough: { 82 ≤ length (P.view device).seen },
+    ghost few: { next ≤ 16 },
+}
+
+impl<P: Pages, A: Allocator + Copy> Store<P, A> {
+    ghost use Rattle.dlms_store.specs.Store.{view_of, state_in, records_in, IsStopped, IsRunning, IsTooSmall, IsFull, IsLast, refusal_in, HasRoom, Remembers, Settles, Joins, JoinsAlone, Fails, IsElsewhereSame};
+    ghost use Rattle.dlms_store.specs.World.{World};
+    ghost use Rattle.dlms_store.specs.World.World.{Runs};
+    ghost use Rattle.dlms_store.specs.Fitting.{StoreFits, LeftBy, Moves, AddMoves, GivesUp, commit_step};
+    ghost use Rattle.dlms_store.specs.World.Step.{Adds, Closes, ClosesInDoubt};
+
+    /// Makes a device empty: every page zeros, and the checkpoint of no events in the first slot.
+    pub fn format(alloc: A, device: P) -> Result<Self, (P, OpenFault)>
+        ensures fits { (P.view device).honest ≡ true → IfOk result (λ store. StoreFits store (Runs [] [])) }
+        ensures empty { IfOk result (Remembers [] []) }
+        ensures runs { IfOk result (λ store. IsStopped store → ⊥) }
+        ensures size { IfErr result (λ e. (e.1 ≡ OpenFault.Size) ↔ IsTooSmall (P.view device)) }
+        ensures device { IfErr result (λ e. e.1 ≡ OpenFault.Device → Rose (P.view device).faults (P.view e.0).faults) }
+        ensures faults { IfErr result (λ e. (e.1 ≢ OpenFault.NoCheckpoint) × ((page : ℕ) → e.1 ≢ OpenFault.Corrupt page) × (e.1 ≢ OpenFault.Exhausted)) }
+    {
+        let mut device = device;
+        if device.count() < PAGES {
+            return Err((device, OpenFault::Size));
+        }
+        if let Err(fault) = clear(&mut device) {
+            return Err((device, fault.into()));
+        }
+        let Ok(state) = State::new(alloc) else {
+            return Err((device, OpenFault::Memory));
+        };
+        if let Err(fault) = begin(&mut device, &checkpoint_of(&state)) {
+            return Err((device, fault.into()));
+        }
+        Ok(Store {
+            device,
+            state,
+            pending: ArrayVec::new(),
+            slot: Slot::First,
+            generation: 1,
+            next: 0,
+            stopped: false,
+        })
+    }
+
+    /// Opens a device: syncs it, finds the newest checkpoint, and takes the journal's records up to the first page that
+    /// does not fit. Where there were records, or that page is damaged, a checkpoint is made.
+    pub fn open(alloc: A, device: P) -> Result<Self, (P, OpenFault)>
+        ensures opened { IfOk result (λ store. (events : List EventOf) × Remembers events [] store) }
+        ensures runs { IfOk result (λ store. IsStopped store → ⊥) }
+        ensures size { IfErr result (λ e. (e.1 ≡ OpenFault.Size) ↔ IsTooSmall (P.view device)) }
+        ensures device { IfErr result (λ e. e.1 ≡ OpenFault.Device → Rose (P.view device).faults (P.view e.0).faults) }
+    {
+        let mut device = device;
+        if device.count() < PAGES {
+            return Err((device, OpenFault::Size));
+        }
+        if let Err(fault) = device.sync() {
+            return Err((device, fault.into()));
+        }
+        match find(alloc, &mut device) {
+            Ok(found) => Store::recovered(device, found),
+            Err(fault) => Err((device, fault)),
+        }
+    }
+
+    // The store of what was found, with a checkpoint where one is due.
+    fn recovered(device: P, found: Found<A>) -> Result<Self, (P, OpenFault)>
+        requires room { 82 ≤ length (P.view device).seen }
+        requires few { found.journal.pages ≤ 16 }
+        requires events { HasEvents found.state }
+        ensures opened { IfOk result (λ store. (events : List EventOf) × Remembers events [] store) }
+        ensures runs { IfOk result (λ store. IsStopped store → ⊥) }
+        ensures device { IfErr result (λ e. e.1 ≡ OpenFault.Device → Rose (P.view device).faults (P.view e.0).faults) }
+        ensures faults { IfErr result (λ e. e.1 ≢ OpenFault.Size) }
+    {
+        let is_due = found.journal.pages > 0 || found.journal.torn;
+        let mut store = Store {
+            device,
+            state: found.state,
+            pending: ArrayVec::new(),
+            slot: found.slot,
+            generation: found.generation,
+            next: found.journal.pages,
+            stopped: false,
+        };
+        if !is_due {
+            return Ok(store);
+        }
+        match store.checkpoint() {
+            Ok(()) => Ok(store),
+            Err(StoreFault::Exhausted) => Err((store.device, OpenFault::Exhausted)),
+            Err(_) => Err((store.device, OpenFault::Device)),
+        }
+    }
+
+    /// Takes an event. Where its record does not fit behind those that are pending, these are committed first.
+    pub fn add(&mut self, event: Event) -> Result<(), AddFault>
+        ensures run { (before : World) → StoreFits self.old before → AddMoves result event before self.old self.new }
+        ensures joins { OnOk result (HasRoom self.old event → Joins event self.old self.new) }
+        ensures joins_alone { OnOk result ((HasRoom self.old event → ⊥) → JoinsAlone event self.old self.new) }
+        ensures runs { OnOk result (IsStopped self.new → ⊥) }
+        ensures stopped { (result ≡ Err AddFault.Stopped) ↔ IsStopped self.old }
+        ensures refused { (cause : Refused) → (result ≡ Err (AddFault.Refused cause)) ↔ (IsRunning self.old × (refusal_in self.old event ≡ Some cause)) }
+        ensures device { result ≡ Err AddFault.Device → Fails self.old self.new }
+        ensures exhausted { result ≡ Err AddFault.Exhausted → (HasRoom self.old event → ⊥) × IsFull self.old × IsLast self.old }
+        ensures unchanged { OnErr result (result ≢ Err AddFault.Device → self.new ≡ self.old) }
+    {
+        if self.stopped {
+            return Err(AddFault::Stopped);
+        }
+        if let Err(cause) = self.state.check(&event) {
+            return Err(AddFault::Refused(cause));
+        }
+        let record = record_of(&event);
+        if self.pending.len() + record.len() > MOST_PAYLOAD {
+            self.commit()?;
+        }
+        self.push(event, record.as_slice());
+        Ok(())
+    }
+
+    // Takes an event whose record fits, and tells what that is for the events and the device.
+    fn push(&mut self, event: Event, record: &[u8])
+        requires passes { refusal_in self.old event ≡ None }
+        requires record { record.now ≡ record_of event }
+        requires room { HasRoom self.old event }
+        ensures run { (before : World) → IsRunning self.old → StoreFits self.old before → Moves (Adds event) before self.old self.new }
+        ensures joins { Joins event self.old self.new }
+        ensures stopped { self.new.stopped ≡ self.old.stopped }
+    {
+        self.join(event, record);
+    }
+
+    // Takes an event whose record fits.
+    fn join(&mut self, event: Event, record: &[u8])
+        requires passes { refusal_in self.old event ≡ None }
+        requires record { record.now ≡ record_of event }
+        requires room { HasRoom self.old event }
+        ensures joins { Joins event self.old self.new }
+        ensures same { IsElsewhereSame self.old self.new }
+    {
+        event.fits();
+        let _fits = self.pending.try_extend_from_slice(record);
+        self.state.apply(event);
+    }
+
+    /// Settles what is pending: in the next journal page or, where all are used, in a checkpoint.
+    pub fn commit(&mut self) -> Result<(), StoreFault>
+        ensures run { (before : World) → StoreFits self.old before → Moves (commit_step result) before self.old self.new }
+        ensures settles { OnOk result (Settles self.old self.new) }
+        ensures runs { OnOk result (IsStopped self.new → ⊥) }
+        ensures empty { OnOk result (records_in self.new ≡ []) }
+        ensures state { state_in self.new ≡ state_in self.old }
+        ensures stopped { (result ≡ Err StoreFault.Stopped) ↔ IsStopped self.old }
+        ensures device { result ≡ Err StoreFault.Device → Fails self.old self.new }
+        ensures exhausted { result ≡ Err StoreFault.Exhausted → IsFull self.old × IsLast self.old }
+        ensures unchanged { OnErr result (result ≢ Err StoreFault.Device → self.new ≡ self.old) }
+    {
+        if self.stopped {
+            return Err(StoreFault::Stopped);
+        }
+        if self.pending.is_empty() {
+            return Ok(());
+        }
+        if self.next == JOURNAL_PAGES {
+            return self.checkpoint();
+        }
+        let page = page_of(
+            PageKind::Journal,
+            self.next,
+            self.generation,
+            self.pending.as_slice(),
+        );
+        if let Err(DeviceFault) = put(&mut self.device, JOURNAL + self.next, &page) {
+            self.stopped = true;
+            return Err(StoreFault::Device);
+        }
+        self.next += 1;
+        self.pending.clear();
+        Ok(())
+    }
+
+    /// Settles what is pending in a checkpoint: the other slot gets the state, and the journal begins again.
+    pub fn checkpoint(&mut self) -> Result<(), StoreFault>
+        ensures run { (before : World) → StoreFits self.old before → Moves (commit_step result) before self.old self.new }
+        ensures settles { OnOk result (Settles self.old self.new) }
+        ensures runs { OnOk result (IsStopped self.new → ⊥) }
+        ensures empty { OnOk result (records_in self.new ≡ []) }
+        ensures state { state_in self.new ≡ state_in self.old }
+        ensures stopped { (result ≡ Err StoreFault.Stopped) ↔ IsStopped self.old }
+        ensures device { result ≡ Err StoreFault.Device → Fails self.old self.new }
+        ensures exhausted { (result ≡ Err StoreFault.Exhausted) ↔ (IsRunning self.old × IsLast self.old) }
+        ensures unchanged { OnErr result (result ≢ Err StoreFault.Device → self.new ≡ self.old) }
+    {
+        if self.stopped {
+            return Err(StoreFault::Stopped);
+        }
+        if self.generation == u64::MAX {
+            return Err(StoreFault::Exhausted);
+        }
+        let slot = self.slot.other();
+        let bytes = checkpoint_of(&self.state);
+        if let Err(DeviceFault) = write_slot(&mut self.device, slot, self.generation + 1, &bytes) {
+            self.stopped = true;
+            return Err(StoreFault::Device);
+        }
+        self.slot = slot;
+        self.generation += 1;
+        self.next = 0;
+        self.pending.clear();
+        Ok(())
+    }
+
+    /// The state after every event that was accepted. Its clause `between_calls` says what a stop leaves while no call is made.
+    pub fn state(&self) -> &State<A>
+        ensures between_calls { (world : World) → StoreFits self.now world → (image : Image) → (view_of self.now).may_leave image → LeftBy world image }
+        ensures value { result.now ≡ state_in self.now }
+        ensures after { (settled pending : List EventOf) → Remembers settled pending self.now → IsStateOf (settled ++ pending) result.now }
+    {
+        &self.state
+    }
+
+    /// How many bytes of records are not committed yet, at most 496.
+    pub fn pending(&self) -> usize
+        ensures bytes { result ≡ length (records_in self.now) }
+        ensures page { result ≤ 496 }
+    {
+        self.pending.len()
+    }
+
+    /// Commits, and gives the device back. Where the commit fails, what was pending is in doubt.
+    pub fn close(self) -> P
+        ensures run { (before : World) → StoreFits self before → GivesUp Closes before (view_of self) (P.view result) ⊎ GivesUp ClosesInDoubt before (view_of self) (P.view result) }
+        ensures settles { (IsStopped self → ⊥) → (Rose (view_of self).faults (P.view result).faults → ⊥) → (IsFull self × IsLast self → ⊥)
+            → (before : World) → StoreFits self before → GivesUp Closes before (view_of self) (P.view result) }
+    {
+        let mut store = self;
+        let _in_doubt = store.commit();
+        store.device
+    }
+}
