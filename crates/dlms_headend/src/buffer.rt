@@ -103,7 +103,7 @@ pub fn rows<A: Allocator>(alloc: A, value: &Data<A>) -> Result<Vec<Row, A>, Poll
     ensures err { IfErr result (NoProfile (value_of value.now)) }
 {
     match value {
-        Data::Array(_) => collected(alloc, &[]),
+        Data::Array(items) => collected(alloc, items.as_slice()),
         _ => Err(PollFault::Protocol),
     }
 }
