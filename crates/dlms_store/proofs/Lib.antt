@@ -2,8 +2,13 @@ pub mod Adding
 pub mod Checkpoint
 pub mod Commit
 pub mod Images
+pub mod Journal
 pub mod Keeping
+pub mod Looking
+pub mod Opening
+pub mod Reopening
 pub mod Replays
 pub mod Runs
 pub mod Scribbles
+pub mod Slots
 pub mod Starting

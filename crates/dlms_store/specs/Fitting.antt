@@ -9,7 +9,9 @@ use Rattle.dlms_store.specs.Settled.{IsSettled}
 use Rattle.dlms_store.specs.Store.{Remembers, IsStopped, HasRoom, view_of}
 use Rattle.dlms_store.specs.World.{World, Step, Next}
 use Rattle.dlms_store.specs.World.World.{Runs, InDoubt, Rests}
-use Rattle.dlms_store.specs.World.Step.{Stops, Settles, Fails, Refuses, Adds, AddsBehind}
+use Rattle.dlms_store.specs.World.Step.{Stops, Settles, Fails, Refuses, Adds, AddsBehind, Opens, OpenFails}
+use Rattle.dlms_store.specs.declared.fault.OpenFault.{OpenFault}
+use Rattle.dlms_store.specs.declared.fault.OpenFault.TheVariants as opening
 use Rattle.dlms_store.specs.declared.store.Store.{Store}
 use Rattle.dlms_store.specs.declared.fault.AddFault.{AddFault}
 use Rattle.dlms_store.specs.declared.fault.AddFault.TheVariants as add
@@ -70,3 +72,28 @@ pub record GivesUp (step : Step) (before : World) (old new : View) : Type 0 wher
   pub next : Next before step now
   pub fits : DeviceFits new now
   pub any_moment : LeavesOnly old new (LeftBy before)
+
+-- why a device that fits a world may not be opened
+abbrev pub IsRefusal : OpenFault → Type 0
+IsRefusal opening.Device = Unit {0}
+IsRefusal opening.Memory = Unit {0}
+IsRefusal opening.Exhausted = Unit {0}
+IsRefusal opening.NoCheckpoint = ⊥
+IsRefusal (opening.Corrupt page) = ⊥
+IsRefusal opening.Size = ⊥
+
+-- A store opened: it has the state of what was found, with nothing pending.
+pub record OpensAs {P A : Type 0} {ghosts : Ghosts P} (before : World) (old : View) (store : Store P A ghosts) : Type 0 where
+  pub found : List Event
+  pub now : World
+  pub next : Next before (Opens found) now
+  pub fits : StoreFits store now
+  pub any_moment : LeavesOnly old (view_of store) (LeftBy before)
+
+-- A device that was not opened.
+pub record GivesBack (before : World) (old new : View) (fault : OpenFault) : Type 0 where
+  pub now : World
+  pub next : Next before OpenFails now
+  pub fits : DeviceFits new now
+  pub any_moment : LeavesOnly old new (LeftBy before)
+  pub cause : IsRefusal fault

@@ -1,3 +1,4 @@
+pub mod Active
 pub mod Clear
 pub mod Fault
 pub mod Fitting

@@ -1,7 +1,15 @@
 //! What stands on a device.
-ghost use Rattle.std.specs.Prelude.{◌≡◌, ◌≢◌, ◌<◌, ◌≤◌, length, IfOk, Err};
-ghost use Rattle.dlms_pages.specs.Device.{Goes, Rose};
-ghost use Rattle.dlms_state.specs.StateValue.{HasEvents};
+ghost use Rattle.std.specs.Prelude.{◌≡◌, ◌≢◌, ◌<◌, ◌≤◌, ◌+◌, ◌++◌, ◌⊎◌, ℕ, List, length, take, IfOk, Ok, Err, Some, MatchOption, MatchResult};
+ghost use Rattle.dlms_pages.specs.Device.{Goes, Rose, Image, page_at};
+ghost use Rattle.dlms_pages.specs.Stops.{IsFixed, Looks};
+ghost use Rattle.dlms_state.specs.StateValue.{HasEvents, StateValue, IsStateOf, state_of};
+ghost use Rattle.dlms_state.specs.declared.event.Event.{Event as EventOf};
+ghost use Rattle.dlms_state.specs.Refusal.{IsLegal};
+ghost use Rattle.dlms_checkpoint.specs.Checkpoint.{IsCheckpointOf, checkpoint_bytes};
+ghost use Rattle.dlms_store.specs.Active.{IsBelow};
+ghost use Rattle.dlms_store.specs.Image.{Spells, Stands, all_of};
+ghost use Rattle.dlms_store.specs.Layout.{gate_of};
+ghost use Rattle.dlms_store.specs.Page.{IsNot, IsOpen};
 
 use crate::fault::OpenFault;
 use crate::layout::{BODIES, JOURNAL, JOURNAL_PAGES, Slot};
@@ -17,6 +25,8 @@ use std::alloc::Allocator;
 pub(crate) fn look_at_gate<P: Pages>(device: &mut P, slot: Slot) -> Result<Option<u64>, DeviceFault>
     requires { 82 ≤ length (P.view device.old).seen }
     ensures goes { Goes (P.view device.old) (P.view device.new) result }
+    ensures looks { (image : Image) → IsFixed (P.view device.old) image → Looks (P.view device.old) (P.view device.new) image }
+    ensures gate { (image : Image) → IsFixed (P.view device.old) image → IfOk result (λ found. MatchOption found ((g : ℕ) → IsNot (IsOpen g (page_at image (gate_of slot)))) (λ g. IsOpen g (page_at image (gate_of slot)))) }
 {
     let page = device.read(slot.gate())?;
     Ok(open_generation(&page))
@@ -24,7 +34,9 @@ pub(crate) fn look_at_gate<P: Pages>(device: &mut P, slot: Slot) -> Result<Optio
 
 /// The slot of the greatest generation, and that generation.
 pub(crate) fn active(first: Option<u64>, second: Option<u64>) -> Result<(Slot, u64), OpenFault>
-    ensures { (result ≢ Err OpenFault.Device) × (result ≢ Err OpenFault.Size) }
+    ensures first { (a : ℕ) → first ≡ Some a → IsBelow second a → result ≡ Ok (Slot.First, a) }
+    ensures second { (b : ℕ) → second ≡ Some b → IsBelow first b → result ≡ Ok (Slot.Second, b) }
+    ensures faults { (result ≢ Err OpenFault.Device) × (result ≢ Err OpenFault.Size) }
 {
     match (first, second) {
         (Some(a), Some(b)) if a > b => Ok((Slot::First, a)),
@@ -49,10 +61,13 @@ fn look_at_further_bodies<P: Pages>(
     ensures later { (P.view device.old).faults ≤ (P.view device.new).faults }
     ensures device { result ≡ Err OpenFault.Device → Rose (P.view device.old).faults (P.view device.new).faults }
     ensures faults { result ≢ Err OpenFault.Size }
+    ensures looks { (image : Image) → IsFixed (P.view device.old) image → Looks (P.view device.old) (P.view device.new) image }
+    ensures spelled { (image : Image) (gate : ℕ) (bytes : List ℕ) (s : StateValue) → first ≡ gate + 1 → IsFixed (P.view device.old) image → IsCheckpointOf s bytes → Spells gate generation bytes image → restoring.old ≡ take 496 bytes
+        → MatchResult result (λ _. restoring.new ≡ bytes) (λ fault. fault ≡ OpenFault.Device) }
 {
     for index in 1..BODIES {
         if restoring.awaited() == 0 {
-            break;
+            return Ok(());
         }
         let page = device.read(first + index)?;
         let Some(body) = payload_in(&page, PageKind::Body, index, generation) else {
@@ -78,6 +93,9 @@ pub(crate) fn look_at_bodies<P: Pages, A: Allocator + Copy>(
     ensures device { result ≡ Err OpenFault.Device → Rose (P.view device.old).faults (P.view device.new).faults }
     ensures faults { result ≢ Err OpenFault.Size }
     ensures events { IfOk result HasEvents }
+    ensures looks { (image : Image) → IsFixed (P.view device.old) image → Looks (P.view device.old) (P.view device.new) image }
+    ensures state { (image : Image) (base : List EventOf) → IsFixed (P.view device.old) image → IsLegal base → Spells (gate_of slot) generation (checkpoint_bytes (state_of base)) image
+        → MatchResult result (λ state. IsStateOf base state) (λ fault. (fault ≡ OpenFault.Device) ⊎ (fault ≡ OpenFault.Memory)) }
 {
     let first = slot.gate() + 1;
     let page = device.read(first)?;
@@ -115,6 +133,9 @@ pub(crate) fn look_at_journal<P: Pages, A: Allocator + Copy>(
     ensures goes { Goes (P.view device.old) (P.view device.new) result }
     ensures few { IfOk result (λ journal. journal.pages ≤ 16) }
     ensures events { HasEvents state.old → HasEvents state.new }
+    ensures looks { (image : Image) → IsFixed (P.view device.old) image → Looks (P.view device.old) (P.view device.new) image }
+    ensures journal { (image : Image) (slot : Slot) (base : List EventOf) (pages : List (List EventOf)) → IsFixed (P.view device.old) image → Stands slot generation base pages image → IsStateOf base state.old
+        → IfOk result (λ journal. (journal.pages ≡ length pages) × IsStateOf (base ++ all_of pages) state.new) }
 {
     for index in 0..JOURNAL_PAGES {
         let page = device.read(JOURNAL + index)?;

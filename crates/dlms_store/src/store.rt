@@ -1,6 +1,7 @@
 //! The store of events.
-ghost use Rattle.std.specs.Prelude.{◌≡◌, ◌≢◌, ◌≤◌, ◌<◌, ◌+◌, ◌^◌, ◌++◌, ◌∷◌, [], ◌↔◌, ◌⊎◌, List, ℕ, length, true, false, Ok, Err, Some, None, IfOk, IfErr, OnOk, OnErr};
+ghost use Rattle.std.specs.Prelude.{◌≡◌, ◌≢◌, ◌≤◌, ◌<◌, ◌+◌, ◌^◌, ◌++◌, ◌∷◌, [], ◌↔◌, ◌⊎◌, List, ℕ, length, true, false, Ok, Err, Some, None, IfOk, IfErr, OnOk, OnErr, MatchResult};
 ghost use Rattle.dlms_pages.specs.Device.{Rose, Image};
+ghost use Rattle.dlms_pages.specs.Stops.{IsFixed};
 ghost use Rattle.dlms_state.specs.declared.event.Event.{Event as EventOf};
 ghost use Rattle.dlms_journal.specs.Record.{record_of};
 ghost use Rattle.dlms_state.specs.StateValue.{IsStateOf, HasEvents};
@@ -9,7 +10,7 @@ ghost use Rattle.dlms_state.specs.declared.event.Refused.{Refused};
 use crate::fault::{AddFault, OpenFault, StoreFault};
 use crate::format::{begin, clear};
 use crate::layout::{JOURNAL, JOURNAL_PAGES, PAGES, Slot};
-use crate::open::{Found, find};
+use crate::open::{Found, find, settle};
 use crate::put::put;
 use crate::slot::write_slot;
 use arrayvec::ArrayVec;
@@ -40,8 +41,9 @@ pub struct Store<P: Pages, A: Allocator = Global> {
 impl<P: Pages, A: Allocator + Copy> Store<P, A> {
     ghost use Rattle.dlms_store.specs.Store.{view_of, state_in, records_in, IsStopped, IsRunning, IsTooSmall, IsFull, IsLast, refusal_in, HasRoom, Remembers, Settles, Joins, JoinsAlone, Fails, IsElsewhereSame};
     ghost use Rattle.dlms_store.specs.World.{World};
-    ghost use Rattle.dlms_store.specs.World.World.{Runs};
-    ghost use Rattle.dlms_store.specs.Fitting.{StoreFits, LeftBy, Moves, AddMoves, GivesUp, commit_step};
+    ghost use Rattle.dlms_store.specs.World.World.{Runs, Rests};
+    ghost use Rattle.dlms_store.specs.Active.{IsFound};
+    ghost use Rattle.dlms_store.specs.Fitting.{StoreFits, DeviceFits, OpensAs, GivesBack, LeftBy, Moves, AddMoves, GivesUp, commit_step};
     ghost use Rattle.dlms_store.specs.World.Step.{Adds, Closes, ClosesInDoubt};
 
     /// Makes a device empty: every page zeros, and the checkpoint of no events in the first slot.
@@ -80,6 +82,8 @@ impl<P: Pages, A: Allocator + Copy> Store<P, A> {
     /// Opens a device: syncs it, finds the newest checkpoint, and takes the journal's records up to the first page that
     /// does not fit. Where there were records, or that page is damaged, a checkpoint is made.
     pub fn open(alloc: A, device: P) -> Result<Self, (P, OpenFault)>
+        ensures opens { (before : World) → DeviceFits (P.view device) before
+            → MatchResult result (OpensAs before (P.view device)) (λ e. GivesBack before (P.view device) (P.view e.0) e.1) }
         ensures opened { IfOk result (λ store. (events : List EventOf) × Remembers events [] store) }
         ensures runs { IfOk result (λ store. IsStopped store → ⊥) }
         ensures size { IfErr result (λ e. (e.1 ≡ OpenFault.Size) ↔ IsTooSmall (P.view device)) }
@@ -89,7 +93,7 @@ impl<P: Pages, A: Allocator + Copy> Store<P, A> {
         if device.count() < PAGES {
             return Err((device, OpenFault::Size));
         }
-        if let Err(fault) = device.sync() {
+        if let Err(fault) = settle(&mut device) {
             return Err((device, fault.into()));
         }
         match find(alloc, &mut device) {
@@ -103,6 +107,8 @@ impl<P: Pages, A: Allocator + Copy> Store<P, A> {
         requires room { 82 ≤ length (P.view device).seen }
         requires few { found.journal.pages ≤ 16 }
         requires events { HasEvents found.state }
+        ensures opens { (image : Image) (events : List EventOf) → IsFixed (P.view device) image → IsFound image events found
+            → MatchResult result (OpensAs (Rests events) (P.view device)) (λ e. GivesBack (Rests events) (P.view device) (P.view e.0) e.1) }
         ensures opened { IfOk result (λ store. (events : List EventOf) × Remembers events [] store) }
         ensures runs { IfOk result (λ store. IsStopped store → ⊥) }
         ensures device { IfErr result (λ e. e.1 ≡ OpenFault.Device → Rose (P.view device).faults (P.view e.0).faults) }

@@ -1,0 +1,58 @@
+use Rattle.std.proofs.Common.{◌≡◌, ◌∙◌, ◌+◌, ◌++◌, length, take, refl, sym, subst, arith}
+use Rattle.dlms_state.specs.StateValue.{IsStateOf}
+use Rattle.dlms_store.specs.Image.{all_of}
+use Rattle.dlms_store.proofs.Looking.{page_is, read_on}
+use Rattle.dlms_store.proofs.Journal.{at_end, ends, one_more}
+use Rattle.dlms_store.proofs.look.look_at_journal.Goals as goal
+
+pub returns-in_err-page-clause-looks : goal.returns-in_err-page-clause-looks
+returns-in_err-page-clause-looks g c image fixed =
+    let view = g.P.Pages.view in
+    let so_far = c.loop-index.invariant.looks image fixed in
+    read_on (66 + c.loop-index.index) _ (view c.loop-index.device) (view c.read.new.self) image c.read.result so_far (g.met.P.Pages.rules c.loop-index.device so_far.fixed.honest) c.read.ensures.goes (c.read.ensures.page so_far.fixed.honest)
+
+pub returns-then-not-replay-clause-looks : goal.returns-then-not-replay-clause-looks
+returns-then-not-replay-clause-looks g c image fixed =
+    let view = g.P.Pages.view in
+    let so_far = c.loop-index.invariant.looks image fixed in
+    read_on (66 + c.loop-index.index) _ (view c.loop-index.device) (view c.read.new.self) image c.read.result so_far (g.met.P.Pages.rules c.loop-index.device so_far.fixed.honest) c.read.ensures.goes (c.read.ensures.page so_far.fixed.honest)
+
+pub returns-then-not-replay-clause-journal : goal.returns-then-not-replay-clause-journal
+returns-then-not-replay-clause-journal g c image slot base pages fixed stands at_first =
+    let i = c.loop-index.index in
+    let so_far = c.loop-index.invariant.looks image fixed in
+    let is = c.loop-index.invariant.journal image slot base pages fixed stands at_first in
+    let page = page_is (66 + i) (g.P.Pages.view c.loop-index.device) image c.in_ok-page.page so_far.fixed (g.met.P.Pages.rules c.loop-index.device so_far.fixed.honest) (c.in_ok-page.ensures.page so_far.fixed.honest).page in
+    let gen = c.args.generation in
+    let E = base ++ all_of (take i pages) in
+    let all = ends slot gen base pages image stands i is.0 c.in_ok-page.page page (λ F records legal. c.if-not-replay.ensures.none refl E F is.1 records legal) in
+    at_end slot gen base pages image stands i is.0 c.replay.new.state all (subst (IsStateOf E) (sym (c.if-not-replay.ensures.kept refl)) is.1)
+
+pub loop-index-preserved : goal.loop-index-preserved
+loop-index-preserved g c =
+    let view = g.P.Pages.view in
+    let i = c.loop-index.index in
+    let inv = c.loop-index.invariant in
+    let goes = c.read.ensures.goes in
+    record {
+      count = goes.count ∙ inv.count;
+      honest = goes.honest ∙ inv.honest;
+      events = λ had. c.replay.ensures.events (inv.events had);
+      later = omega (arith, goes.later, inv.later);
+      looks = λ image fixed.
+          let so_far = inv.looks image fixed in
+          read_on (66 + i) _ (view c.loop-index.device) (view c.read.new.self) image c.read.result so_far (g.met.P.Pages.rules c.loop-index.device so_far.fixed.honest) goes (c.read.ensures.page so_far.fixed.honest);
+      journal = λ image slot base pages fixed stands at_first.
+          let so_far = inv.looks image fixed in
+          let is = inv.journal image slot base pages fixed stands at_first in
+          let page = page_is (66 + i) (view c.loop-index.device) image c.in_ok-page.page so_far.fixed (g.met.P.Pages.rules c.loop-index.device so_far.fixed.honest) (c.in_ok-page.ensures.page so_far.fixed.honest).page in
+          let took = c.if-not-replay.ensures.taken refl (base ++ all_of (take i pages)) is.1 in
+          one_more slot c.args.generation base pages image stands i is.0 c.in_ok-page.page took.0 c.replay.new.state c.loop-index-test.true page took.1 took.2 took.3;
+    }
+
+pub returns-clause-journal : goal.returns-clause-journal
+returns-clause-journal g c image slot base pages fixed stands at_first =
+    let is = c.loop-index.invariant.journal image slot base pages fixed stands at_first in
+    let all : c.loop-index.index ≡ length pages = omega (arith, stands.few, is.0, c.loop-index-test.false) in
+    let end = at_end slot c.args.generation base pages image stands c.loop-index.index is.0 c.loop-index.state all is.1 in
+    (omega (arith, stands.few, is.0, c.loop-index-test.false, all), end.1)
