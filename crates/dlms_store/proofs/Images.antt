@@ -87,8 +87,7 @@ pub stands_on : (slot : Slot) (g : ℕ) (base : List Event) (pages : List (List 
     → Stands slot g base pages new
 stands_on slot g base pages image new stands room heads journal behind = record {
   room = room;
-  open_gate = subst (IsOpen g) (sym (ap (page_at new) (zero_more (gate_of slot)) ∙ heads 0 (omega arith) ∙ ap (page_at image) (sym (zero_more (gate_of slot))))) stands.open_gate;
-  behind = behind;
+  active = record { open_gate = subst (IsOpen g) (sym (ap (page_at new) (zero_more (gate_of slot)) ∙ heads 0 (omega arith) ∙ ap (page_at image) (sym (zero_more (gate_of slot))))) stands.active.open_gate; behind = behind };
   bodies = record {
     few = stands.bodies.few;
     each = λ k small.
@@ -146,8 +145,7 @@ module _ (slot : Slot) (g : ℕ) (base : List Event) (pages : List (List Event))
   pub torn : Stands slot g base pages (set image (66 + length pages) Damaged)
   torn = record {
     room = omega (arith, length-set image (66 + length pages) Damaged, stands.room);
-    open_gate = subst (IsOpen g) (sym (same_gate Damaged)) stands.open_gate;
-    behind = subst (IsBehind g) (sym (shut Damaged)) stands.behind;
+    active = record { open_gate = subst (IsOpen g) (sym (same_gate Damaged)) stands.active.open_gate; behind = subst (IsBehind g) (sym (shut Damaged)) stands.active.behind };
     bodies = same_bodies Damaged;
     few = stands.few;
     fit = λ k small. subst (Records g k (get_or pages k [])) (sym (miss Damaged k (λ e. omega arith))) (stands.fit k small);
@@ -168,8 +166,7 @@ module _ (slot : Slot) (g : ℕ) (base : List Event) (pages : List (List Event))
       let many : length (pages ++ events ∷ []) ≡ length pages + 1 = length-append pages (events ∷ []) in
       record {
         room = omega (arith, length-set image (66 + length pages) page, stands.room);
-        open_gate = subst (IsOpen g) (sym (same_gate page)) stands.open_gate;
-        behind = subst (IsBehind g) (sym (shut page)) stands.behind;
+        active = record { open_gate = subst (IsOpen g) (sym (same_gate page)) stands.active.open_gate; behind = subst (IsBehind g) (sym (shut page)) stands.active.behind };
         bodies = same_bodies page;
         few = omega arith;
         fit = λ k small. ⊎_elim
@@ -213,8 +210,10 @@ gate_opened slot g base pages image page events stands is_open legal spells =
     let off : gate_of slot ≢ place = λ e. apart slot 0 0 (omega arith) (omega arith) (omega (arith, e)) in
     record {
       room = omega (arith, length-set image place page, stands.room);
-      open_gate = subst (IsOpen (g + 1)) (sym (get_or-set_same image place page Damaged (omega (arith, below (other_of slot), stands.room)))) is_open;
-      behind = subst (λ (s : Slot). IsBehind (g + 1) (page_at new (gate_of s))) (sym (twice slot)) (subst (IsBehind (g + 1)) (sym (elsewhere image place (gate_of slot) page off)) (open_behind g (page_at image (gate_of slot)) stands.open_gate));
+      active = record {
+        open_gate = subst (IsOpen (g + 1)) (sym (get_or-set_same image place page Damaged (omega (arith, below (other_of slot), stands.room)))) is_open;
+        behind = subst (λ (s : Slot). IsBehind (g + 1) (page_at new (gate_of s))) (sym (twice slot)) (subst (IsBehind (g + 1)) (sym (elsewhere image place (gate_of slot) page off)) (open_behind g (page_at image (gate_of slot)) stands.active.open_gate));
+      };
       bodies = record { few = spells.few; each = λ k small. subst (HasPage Body k (g + 1) (body_at k (checkpoint_bytes (state_of events)))) (sym (elsewhere image place (place + 1 + k) page (λ e. omega arith))) (spells.each k small) };
       few = omega arith;
       fit = λ k small. absurd (omega arith);

@@ -1,4 +1,5 @@
 pub mod Adding
+pub mod Causes
 pub mod Checkpoint
 pub mod Commit
 pub mod Images

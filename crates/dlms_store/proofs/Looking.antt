@@ -56,6 +56,10 @@ pub was_ok : {T E P : Type 0} (r : Result T E) → false ≡ is_err r → OnOk r
 was_ok (Ok x) none p = p
 was_ok (Err e) none p = absurd cc
 
+pub when_ok : {T E P : Type 0} (r : Result T E) → false ≡ is_err r → (IsOk r → P) → P
+when_ok (Ok x) none p = p refl
+when_ok (Err e) none p = absurd cc
+
 pub not_ok : {T E : Type 0} (r : Result T E) → true ≡ is_err r → IsOk r → ⊥
 not_ok (Ok x) some ok = absurd cc
 not_ok (Err e) some ok = absurd cc

@@ -35,4 +35,4 @@ other_bodies slot g base pages old stands c is =
     stands_on slot g base pages is.before c before (omega (arith, is.length_is, before.room))
     (λ j low. is.elsewhere (gate_of slot + j) (outside slot j low))
     (λ k small. is.elsewhere (66 + k) (inr (omega (arith, below (other_of slot)))))
-    (subst (IsBehind g) (sym (is.elsewhere (gate_of (other_of slot)) (inl (omega arith)))) before.behind)
+    (subst (IsBehind g) (sym (is.elsewhere (gate_of (other_of slot)) (inl (omega arith)))) before.active.behind)

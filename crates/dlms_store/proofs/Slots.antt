@@ -11,7 +11,7 @@ use Rattle.dlms_store.specs.Page.{IsNot, IsOpen}
 use Rattle.dlms_store.specs.Image.{IsBehind, Stands}
 use Rattle.dlms_store.specs.Active.{IsBelow}
 
-same_open : (a b : ℕ) (page : PageRead) → IsOpen a page → IsOpen b page → a ≡ b
+pub same_open : (a b : ℕ) (page : PageRead) → IsOpen a page → IsOpen b page → a ≡ b
 same_open a b Damaged x y = absurd x
 same_open a b (Content bytes) x y = sym x.generation_is ∙ y.generation_is
 
@@ -35,9 +35,9 @@ pub slot_is : (image : Image) (slot : Slot) (g : ℕ) (base : List Event) (pages
     → ((a : ℕ) → first ≡ Some a → IsBelow second a → result ≡ Ok (First, a)) → ((b : ℕ) → second ≡ Some b → IsBelow first b → result ≡ Ok (Second, b))
     → result ≡ Ok (slot, g)
 slot_is image First g base pages stands first second is_first is_second result wins_first wins_second =
-    wins_first g (found_open g first (page_at image 0) is_first stands.open_gate) (found_below g second (page_at image 33) is_second stands.behind)
+    wins_first g (found_open g first (page_at image 0) is_first stands.active.open_gate) (found_below g second (page_at image 33) is_second stands.active.behind)
 slot_is image Second g base pages stands first second is_first is_second result wins_first wins_second =
-    wins_second g (found_open g second (page_at image 33) is_second stands.open_gate) (found_below g first (page_at image 0) is_first stands.behind)
+    wins_second g (found_open g second (page_at image 33) is_second stands.active.open_gate) (found_below g first (page_at image 0) is_first stands.active.behind)
 
 pub not_refused : (result : Result (Slot × ℕ) OpenFault) (slot : Slot) (g : ℕ) (fault : OpenFault) → result ≡ Ok (slot, g) → result ≡ Err fault → ⊥
 not_refused result slot g fault is also = absurd cc

@@ -45,8 +45,10 @@ started old seen page clear room is open_page spells =
     elsewhere seen 0 k page (λ e. omega arith) ∙ is.elsewhere k (inr (omega (arith, high))) ∙ clear is.before is.was k (omega (arith, low, room, is.length_is)) in
     record {
       room = omega (arith, length-set seen 0 page, room);
-      open_gate = subst (IsOpen 1) (sym (get_or-set_same seen 0 page Damaged (omega (arith, room)))) open_page;
-      behind = bare_gate 1 (page_at new 33) (blank 33 (omega arith) (omega arith));
+      active = record {
+        open_gate = subst (IsOpen 1) (sym (get_or-set_same seen 0 page Damaged (omega (arith, room)))) open_page;
+        behind = bare_gate 1 (page_at new 33) (blank 33 (omega arith) (omega arith));
+      };
       bodies = record { few = spells.few; each = λ k small. subst (HasPage Body k 1 (body_at k (checkpoint_bytes (state_of [])))) (sym (elsewhere seen 0 (0 + 1 + k) page (λ e. omega arith))) (spells.each k small) };
       few = omega arith;
       fit = λ k small. absurd (omega (arith, small));

@@ -24,6 +24,11 @@ abbrev pub IsBehind : ℕ → PageRead → Type 0
 IsBehind generation Damaged = Unit {0}
 IsBehind generation (Content bytes) = (other : ℕ) → IsGate other bytes → other < generation
 
+-- this slot has the open gate of the greatest generation
+pub record IsActive (slot : Slot) (generation : ℕ) (image : Image) : Type 0 where
+  pub open_gate : IsOpen generation (page_at image (gate_of slot))
+  pub behind : IsBehind generation (page_at image (gate_of (other_of slot)))
+
 -- the bodies behind this gate are those of these bytes
 pub record Spells (gate generation : ℕ) (bytes : List ℕ) (image : Image) : Type 0 where
   pub few : body_count bytes ≤ 32
@@ -36,13 +41,12 @@ pub record Records (generation index : ℕ) (events : List Event) (page : PageRe
   pub holds : Holds payload events
   pub some : 0 < length events
 
--- This slot has the greatest whole, open gate, its bodies spell the state after the events of base, and the journal's pages
+-- This slot is active, its bodies spell the state after the events of base, and the journal's pages
 -- from the first on hold the records of these, page for page, each legal after those before it, while the next page does not
 -- fit. From that page on none is of a later generation, and behind it none is of this one.
 pub record Stands (slot : Slot) (generation : ℕ) (base : List Event) (pages : List (List Event)) (image : Image) : Type 0 where
   pub room : 82 ≤ length image
-  pub open_gate : IsOpen generation (page_at image (gate_of slot))
-  pub behind : IsBehind generation (page_at image (gate_of (other_of slot)))
+  pub active : IsActive slot generation image
   pub bodies : Spells (gate_of slot) generation (checkpoint_bytes (state_of base)) image
   pub few : length pages ≤ 16
   pub fit : (k : ℕ) → k < length pages → Records generation k (slice_index_or pages k []) (page_at image (66 + k))

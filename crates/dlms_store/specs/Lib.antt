@@ -1,4 +1,5 @@
 pub mod Active
+pub mod Cause
 pub mod Clear
 pub mod Fault
 pub mod Fitting

@@ -6,18 +6,19 @@ ghost use Rattle.dlms_state.specs.StateValue.{HasEvents, StateValue, IsStateOf, 
 ghost use Rattle.dlms_state.specs.declared.event.Event.{Event as EventOf};
 ghost use Rattle.dlms_state.specs.Refusal.{IsLegal};
 ghost use Rattle.dlms_checkpoint.specs.Checkpoint.{IsCheckpointOf, checkpoint_bytes};
-ghost use Rattle.dlms_store.specs.Active.{IsBelow};
+ghost use Rattle.dlms_store.specs.Active.{HasMore, IsBelow, IsChosen};
+ghost use Rattle.dlms_store.specs.Cause.{AllFit, AreOf, Fit, IsDue, IsUnfit, IsBodyFault};
 ghost use Rattle.dlms_store.specs.Image.{Spells, Stands, all_of};
 ghost use Rattle.dlms_store.specs.Layout.{gate_of};
 ghost use Rattle.dlms_store.specs.Page.{IsNot, IsOpen};
 
 use crate::fault::OpenFault;
 use crate::layout::{BODIES, JOURNAL, JOURNAL_PAGES, Slot};
-use crate::page::{open_generation, payload_in};
+use crate::page::{is_damaged, open_generation, payload_in};
 use crate::replay::replay;
 use dlms_checkpoint::{RestoreFault, Restoring};
 use dlms_journal::PageKind;
-use dlms_pages::{DeviceFault, PageRead, Pages};
+use dlms_pages::{DeviceFault, Pages};
 use dlms_state::State;
 use std::alloc::Allocator;
 
@@ -36,6 +37,7 @@ pub(crate) fn look_at_gate<P: Pages>(device: &mut P, slot: Slot) -> Result<Optio
 pub(crate) fn active(first: Option<u64>, second: Option<u64>) -> Result<(Slot, u64), OpenFault>
     ensures first { (a : ℕ) → first ≡ Some a → IsBelow second a → result ≡ Ok (Slot.First, a) }
     ensures second { (b : ℕ) → second ≡ Some b → IsBelow first b → result ≡ Ok (Slot.Second, b) }
+    ensures chosen { IsChosen first second result }
     ensures faults { (result ≢ Err OpenFault.Device) × (result ≢ Err OpenFault.Size) }
 {
     match (first, second) {
@@ -64,6 +66,8 @@ fn look_at_further_bodies<P: Pages>(
     ensures looks { (image : Image) → IsFixed (P.view device.old) image → Looks (P.view device.old) (P.view device.new) image }
     ensures spelled { (image : Image) (gate : ℕ) (bytes : List ℕ) (s : StateValue) → first ≡ gate + 1 → IsFixed (P.view device.old) image → IsCheckpointOf s bytes → Spells gate generation bytes image → restoring.old ≡ take 496 bytes
         → MatchResult result (λ _. restoring.new ≡ bytes) (λ fault. fault ≡ OpenFault.Device) }
+    ensures cause { (image : Image) (gate : ℕ) → first ≡ gate + 1 → IsFixed (P.view device.old) image → Fit gate generation image 1 restoring.old
+        → MatchResult result (λ _. AllFit gate generation restoring.new image) (λ fault. (fault ≡ OpenFault.Device) ⊎ ((page : ℕ) × (fault ≡ OpenFault.Corrupt page) × IsUnfit gate generation image page)) }
 {
     for index in 1..BODIES {
         if restoring.awaited() == 0 {
@@ -96,6 +100,7 @@ pub(crate) fn look_at_bodies<P: Pages, A: Allocator + Copy>(
     ensures looks { (image : Image) → IsFixed (P.view device.old) image → Looks (P.view device.old) (P.view device.new) image }
     ensures state { (image : Image) (base : List EventOf) → IsFixed (P.view device.old) image → IsLegal base → Spells (gate_of slot) generation (checkpoint_bytes (state_of base)) image
         → MatchResult result (λ state. IsStateOf base state) (λ fault. (fault ≡ OpenFault.Device) ⊎ (fault ≡ OpenFault.Memory)) }
+    ensures cause { (image : Image) → IsFixed (P.view device.old) image → MatchResult result (λ state. AreOf (gate_of slot) generation state image) (λ fault. IsBodyFault (gate_of slot) generation image fault) }
 {
     let first = slot.gate() + 1;
     let page = device.read(first)?;
@@ -136,13 +141,15 @@ pub(crate) fn look_at_journal<P: Pages, A: Allocator + Copy>(
     ensures looks { (image : Image) → IsFixed (P.view device.old) image → Looks (P.view device.old) (P.view device.new) image }
     ensures journal { (image : Image) (slot : Slot) (base : List EventOf) (pages : List (List EventOf)) → IsFixed (P.view device.old) image → Stands slot generation base pages image → IsStateOf base state.old
         → IfOk result (λ journal. (journal.pages ≡ length pages) × IsStateOf (base ++ all_of pages) state.new) }
+    ensures due { (image : Image) (base : List EventOf) → IsFixed (P.view device.old) image → IsStateOf base state.old
+        → IfOk result (λ journal. HasMore journal → IsDue base generation image) }
 {
     for index in 0..JOURNAL_PAGES {
         let page = device.read(JOURNAL + index)?;
         if !replay(state, &page, index, generation) {
             return Ok(Journal {
                 pages: index,
-                torn: page == PageRead::Damaged,
+                torn: is_damaged(&page),
             });
         }
     }

@@ -4,7 +4,8 @@ ghost use Rattle.dlms_pages.specs.Device.{Goes, Rose, Syncs, Image};
 ghost use Rattle.dlms_pages.specs.Stops.{IsFixed, Looks};
 ghost use Rattle.dlms_state.specs.declared.event.Event.{Event as EventOf};
 ghost use Rattle.dlms_state.specs.StateValue.{HasEvents};
-ghost use Rattle.dlms_store.specs.Active.{IsFound};
+ghost use Rattle.dlms_store.specs.Active.{IsFound, IsThere};
+ghost use Rattle.dlms_store.specs.Cause.{IsCause};
 ghost use Rattle.dlms_store.specs.Image.{StandsFor};
 
 use crate::fault::OpenFault;
@@ -47,6 +48,7 @@ pub(crate) fn find<P: Pages, A: Allocator + Copy>(
     ensures looks { (image : Image) → IsFixed (P.view device.old) image → Looks (P.view device.old) (P.view device.new) image }
     ensures found { (image : Image) (events : List EventOf) → IsFixed (P.view device.old) image → StandsFor events image
         → MatchResult result (IsFound image events) (λ fault. (fault ≡ OpenFault.Device) ⊎ (fault ≡ OpenFault.Memory)) }
+    ensures cause { (image : Image) → IsFixed (P.view device.old) image → MatchResult result (IsThere image) (λ fault. IsCause fault image) }
 {
     let first = look_at_gate(device, Slot::First)?;
     let second = look_at_gate(device, Slot::Second)?;

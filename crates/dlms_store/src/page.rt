@@ -1,9 +1,17 @@
 //! What stands in a page.
 ghost use Rattle.std.specs.Prelude.{◌≡◌, ◌≤◌, List, ℕ, length, MatchOption, IsTrue, ◌↔◌};
+ghost use Rattle.dlms_pages.specs.declared.device.PageRead.TheVariants.{Damaged};
 ghost use Rattle.dlms_store.specs.Page.{HasPage, IsOpen, IsNot};
 
 use dlms_journal::{PageKind, VERSION, generation_of, index_of, kind_of, payload_of, version_of};
 use dlms_pages::PageRead;
+
+/// Whether a page reads as damaged.
+pub(crate) fn is_damaged(page: &PageRead) -> bool
+    ensures { IsTrue result ↔ (page.now ≡ Damaged) }
+{
+    matches!(page, PageRead::Damaged)
+}
 
 /// The generation of a whole, open gate of a known version.
 pub(crate) fn open_generation(page: &PageRead) -> Option<u64>

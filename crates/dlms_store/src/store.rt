@@ -42,7 +42,8 @@ impl<P: Pages, A: Allocator + Copy> Store<P, A> {
     ghost use Rattle.dlms_store.specs.Store.{view_of, state_in, records_in, IsStopped, IsRunning, IsTooSmall, IsFull, IsLast, refusal_in, HasRoom, Remembers, Settles, Joins, JoinsAlone, Fails, IsElsewhereSame};
     ghost use Rattle.dlms_store.specs.World.{World};
     ghost use Rattle.dlms_store.specs.World.World.{Runs, Rests};
-    ghost use Rattle.dlms_store.specs.Active.{IsFound};
+    ghost use Rattle.dlms_store.specs.Active.{HasMore, IsFound};
+    ghost use Rattle.dlms_store.specs.Cause.{IsCause};
     ghost use Rattle.dlms_store.specs.Fitting.{StoreFits, DeviceFits, OpensAs, GivesBack, LeftBy, Moves, AddMoves, GivesUp, commit_step};
     ghost use Rattle.dlms_store.specs.World.Step.{Adds, Closes, ClosesInDoubt};
 
@@ -88,6 +89,7 @@ impl<P: Pages, A: Allocator + Copy> Store<P, A> {
         ensures runs { IfOk result (λ store. IsStopped store → ⊥) }
         ensures size { IfErr result (λ e. (e.1 ≡ OpenFault.Size) ↔ IsTooSmall (P.view device)) }
         ensures device { IfErr result (λ e. e.1 ≡ OpenFault.Device → Rose (P.view device).faults (P.view e.0).faults) }
+        ensures cause { (P.view device).honest ≡ true → IfErr result (λ e. IsCause e.1 (P.view device).seen) }
     {
         let mut device = device;
         if device.count() < PAGES {
@@ -112,7 +114,8 @@ impl<P: Pages, A: Allocator + Copy> Store<P, A> {
         ensures opened { IfOk result (λ store. (events : List EventOf) × Remembers events [] store) }
         ensures runs { IfOk result (λ store. IsStopped store → ⊥) }
         ensures device { IfErr result (λ e. e.1 ≡ OpenFault.Device → Rose (P.view device).faults (P.view e.0).faults) }
-        ensures faults { IfErr result (λ e. e.1 ≢ OpenFault.Size) }
+        ensures exhausted { IfErr result (λ e. e.1 ≡ OpenFault.Exhausted → (found.generation ≡ 18446744073709551615) × HasMore found.journal) }
+        ensures faults { IfErr result (λ e. (e.1 ≡ OpenFault.Device) ⊎ (e.1 ≡ OpenFault.Exhausted)) }
     {
         let is_due = found.journal.pages > 0 || found.journal.torn;
         let mut store = Store {
@@ -143,7 +146,7 @@ impl<P: Pages, A: Allocator + Copy> Store<P, A> {
         ensures stopped { (result ≡ Err AddFault.Stopped) ↔ IsStopped self.old }
         ensures refused { (cause : Refused) → (result ≡ Err (AddFault.Refused cause)) ↔ (IsRunning self.old × (refusal_in self.old event ≡ Some cause)) }
         ensures device { result ≡ Err AddFault.Device → Fails self.old self.new }
-        ensures exhausted { result ≡ Err AddFault.Exhausted → (HasRoom self.old event → ⊥) × IsFull self.old × IsLast self.old }
+        ensures exhausted { (result ≡ Err AddFault.Exhausted) ↔ (IsRunning self.old × (refusal_in self.old event ≡ None) × (HasRoom self.old event → ⊥) × IsFull self.old × IsLast self.old) }
         ensures unchanged { OnErr result (result ≢ Err AddFault.Device → self.new ≡ self.old) }
     {
         if self.stopped {
@@ -161,27 +164,27 @@ impl<P: Pages, A: Allocator + Copy> Store<P, A> {
     }
 
     // Takes an event whose record fits, and tells what that is for the events and the device.
-    fn push(&mut self, event: Event, record: &[u8])
+    fn push(&mut self, event: Event, spelled: &[u8])
         requires passes { refusal_in self.old event ≡ None }
-        requires record { record.now ≡ record_of event }
+        requires spelled { spelled.now ≡ record_of event }
         requires room { HasRoom self.old event }
         ensures run { (before : World) → IsRunning self.old → StoreFits self.old before → Moves (Adds event) before self.old self.new }
         ensures joins { Joins event self.old self.new }
         ensures stopped { self.new.stopped ≡ self.old.stopped }
     {
-        self.join(event, record);
+        self.join(event, spelled);
     }
 
     // Takes an event whose record fits.
-    fn join(&mut self, event: Event, record: &[u8])
+    fn join(&mut self, event: Event, spelled: &[u8])
         requires passes { refusal_in self.old event ≡ None }
-        requires record { record.now ≡ record_of event }
+        requires spelled { spelled.now ≡ record_of event }
         requires room { HasRoom self.old event }
         ensures joins { Joins event self.old self.new }
         ensures same { IsElsewhereSame self.old self.new }
     {
         event.fits();
-        let _fits = self.pending.try_extend_from_slice(record);
+        let _fits = self.pending.try_extend_from_slice(spelled);
         self.state.apply(event);
     }
 
@@ -194,7 +197,7 @@ impl<P: Pages, A: Allocator + Copy> Store<P, A> {
         ensures state { state_in self.new ≡ state_in self.old }
         ensures stopped { (result ≡ Err StoreFault.Stopped) ↔ IsStopped self.old }
         ensures device { result ≡ Err StoreFault.Device → Fails self.old self.new }
-        ensures exhausted { result ≡ Err StoreFault.Exhausted → IsFull self.old × IsLast self.old }
+        ensures exhausted { (result ≡ Err StoreFault.Exhausted) ↔ (IsRunning self.old × (records_in self.old ≢ []) × IsFull self.old × IsLast self.old) }
         ensures unchanged { OnErr result (result ≢ Err StoreFault.Device → self.new ≡ self.old) }
     {
         if self.stopped {

@@ -1,10 +1,11 @@
-use Rattle.std.proofs.Common.{◌∙◌, ◌+◌, ℕ, ap, subst, sym, arith}
+use Rattle.std.proofs.Common.{◌∙◌, ◌+◌, ℕ, ap, subst, sym, arith, inl, inr, refl}
 use Rattle.dlms_checkpoint.proofs.Bodies.{all_bodies}
 use Rattle.dlms_pages.specs.Device.{page_at}
 use Rattle.dlms_journal.specs.declared.kind.PageKind.TheVariants.{Body}
 use Rattle.dlms_checkpoint.specs.Bodies.{body_at}
 use Rattle.dlms_store.specs.Page.{HasPage}
-use Rattle.dlms_store.proofs.Looking.{page_is, one_payload, all_taken, one_awaited, next_fits, next_taken, read_on, was_ok, not_ok}
+use Rattle.dlms_store.proofs.Looking.{page_is, one_payload, all_taken, one_awaited, next_fits, next_taken, read_on, was_ok, when_ok, not_ok}
+use Rattle.dlms_store.proofs.Causes.{further_fits, none_fits, too_long}
 use Rattle.dlms_store.proofs.look.look_at_further_bodies.Goals as goal
 
 pub returns-then-awaited-eq0-clause-spelled : goal.returns-then-awaited-eq0-clause-spelled
@@ -73,6 +74,12 @@ loop-index-preserved g c =
           let so_far = inv.looks image fixed in
           read_on (c.args.first + k) _ (view c.loop-index.device) (view c.read.new.self) image c.read.result so_far (g.met.P.Pages.rules c.loop-index.device so_far.fixed.honest) c.read.ensures.goes (c.read.ensures.page so_far.fixed.honest);
       some = omega arith;
+      fits = λ image gate place fixed first.
+          let so_far = inv.looks image fixed in
+          let page = page_is (c.args.first + k) (view c.loop-index.device) image c.in_ok-page.page so_far.fixed (g.met.P.Pages.rules c.loop-index.device so_far.fixed.honest) (c.in_ok-page.ensures.page so_far.fixed.honest).page in
+          let same = page ∙ ap (λ (f : ℕ). page_at image (f + k)) place in
+          further_fits gate c.args.generation image k inv.some (omega (arith, c.loop-index-test.true)) c.loop-index.restoring (inv.fits image gate place fixed first) c.in_ok-page.page same c.in-Some.body.now c.more.new.self c.in-Some.ensures
+          (when_ok c.more.result c.if-is_err.ensures.value c.more.ensures.when.0) (was_ok c.more.result c.if-is_err.ensures.value c.more.ensures.ok);
       spelled = λ image gate bytes s place fixed is spells first.
           let so_far = inv.looks image fixed in
           let taken = inv.spelled image gate bytes s place fixed is spells first in
@@ -82,3 +89,40 @@ loop-index-preserved g c =
           let body = one_payload Body k c.args.generation c.in-Some.body.now (body_at k bytes) c.in_ok-page.page c.in-Some.ensures (subst (HasPage Body k c.args.generation (body_at k bytes)) (sym same) (spells.each k before)) in
           next_taken bytes s is k inv.some c.loop-index.restoring taken c.in-Some.body.now c.more.new.self body (was_ok c.more.result c.if-is_err.ensures.value c.more.ensures.ok);
     }
+
+pub returns-then-awaited-eq0-clause-cause : goal.returns-then-awaited-eq0-clause-cause
+returns-then-awaited-eq0-clause-cause g c image gate place fixed first =
+    record { count = c.loop-index.index; fit = c.loop-index.invariant.fits image gate place fixed first; all = inl (sym c.awaited.ensures ∙ c.if-awaited-eq0.true) }
+
+pub returns-clause-cause : goal.returns-clause-cause
+returns-clause-cause g c image gate place fixed first =
+    record { count = c.loop-index.index; fit = c.loop-index.invariant.fits image gate place fixed first; all = inr (omega (arith, c.loop-index-test.false)) }
+
+pub returns-in_default-clause-cause : goal.returns-in_default-clause-cause
+returns-in_default-clause-cause g c image gate place fixed first =
+    let inv = c.loop-index.invariant in
+    let k = c.loop-index.index in
+    let so_far = inv.looks image fixed in
+    let page = page_is (c.args.first + k) (g.P.Pages.view c.loop-index.device) image c.in_ok-page.page so_far.fixed (g.met.P.Pages.rules c.loop-index.device so_far.fixed.honest) (c.in_ok-page.ensures.page so_far.fixed.honest).page in
+    let same = page ∙ ap (λ (f : ℕ). page_at image (f + k)) place in
+    inr (
+      c.args.first + k,
+      refl,
+      none_fits gate c.args.generation image k inv.some (omega (arith, c.loop-index-test.true)) c.loop-index.restoring (inv.fits image gate place fixed first) c.in_ok-page.page same
+      (λ none. c.if-awaited-eq0.false (c.awaited.ensures ∙ none)) (c.args.first + k) (ap (λ (f : ℕ). f + k) place) c.in_default.ensures,
+    )
+
+pub returns-then-is_err-clause-cause : goal.returns-then-is_err-clause-cause
+returns-then-is_err-clause-cause g c image gate place fixed first =
+    let inv = c.loop-index.invariant in
+    let k = c.loop-index.index in
+    let so_far = inv.looks image fixed in
+    let page = page_is (c.args.first + k) (g.P.Pages.view c.loop-index.device) image c.in_ok-page.page so_far.fixed (g.met.P.Pages.rules c.loop-index.device so_far.fixed.honest) (c.in_ok-page.ensures.page so_far.fixed.honest).page in
+    let same = page ∙ ap (λ (f : ℕ). page_at image (f + k)) place in
+    inr (
+      c.args.first + k,
+      refl,
+      too_long gate c.args.generation image k inv.some (omega (arith, c.loop-index-test.true)) c.loop-index.restoring (inv.fits image gate place fixed first) c.in_ok-page.page same
+      (λ none. c.if-awaited-eq0.false (c.awaited.ensures ∙ none)) (c.args.first + k) (ap (λ (f : ℕ). f + k) place) c.in-Some.body.now c.in-Some.ensures
+      (λ long. not_ok c.more.result c.if-is_err.ensures.value (c.more.ensures.when.1 long)),
+    )

@@ -1,7 +1,8 @@
-use Rattle.std.proofs.Common.{◌≡◌, ◌∙◌, ◌+◌, ◌++◌, length, take, refl, sym, subst, arith}
+use Rattle.std.proofs.Common.{◌<◌, ⊎_elim, true, ◌≡◌, ◌∙◌, ◌+◌, ◌++◌, length, take, refl, sym, subst, arith}
 use Rattle.dlms_state.specs.StateValue.{IsStateOf}
 use Rattle.dlms_store.specs.Image.{all_of}
 use Rattle.dlms_store.proofs.Looking.{page_is, read_on}
+use Rattle.dlms_store.proofs.Causes.{due_taken, due_torn}
 use Rattle.dlms_store.proofs.Journal.{at_end, ends, one_more}
 use Rattle.dlms_store.proofs.look.look_at_journal.Goals as goal
 
@@ -42,6 +43,12 @@ loop-index-preserved g c =
       looks = λ image fixed.
           let so_far = inv.looks image fixed in
           read_on (66 + i) _ (view c.loop-index.device) (view c.read.new.self) image c.read.result so_far (g.met.P.Pages.rules c.loop-index.device so_far.fixed.honest) goes (c.read.ensures.page so_far.fixed.honest);
+      start = λ none. absurd (omega (arith, none));
+      due = λ image base fixed at_first _.
+          let so_far = inv.looks image fixed in
+          let page = page_is (66 + i) (view c.loop-index.device) image c.in_ok-page.page so_far.fixed (g.met.P.Pages.rules c.loop-index.device so_far.fixed.honest) (c.in_ok-page.ensures.page so_far.fixed.honest).page in
+          due_taken c.args.generation i image base c.in_ok-page.page page (inv.due image base fixed at_first)
+          (λ first. let took = c.if-not-replay.ensures.taken refl base (subst (IsStateOf base) (sym (inv.start first)) at_first) in (took.0, took.1, took.2));
       journal = λ image slot base pages fixed stands at_first.
           let so_far = inv.looks image fixed in
           let is = inv.journal image slot base pages fixed stands at_first in
@@ -56,3 +63,17 @@ returns-clause-journal g c image slot base pages fixed stands at_first =
     let all : c.loop-index.index ≡ length pages = omega (arith, stands.few, is.0, c.loop-index-test.false) in
     let end = at_end slot c.args.generation base pages image stands c.loop-index.index is.0 c.loop-index.state all is.1 in
     (omega (arith, stands.few, is.0, c.loop-index-test.false, all), end.1)
+
+pub returns-then-not-replay-clause-due : goal.returns-then-not-replay-clause-due
+returns-then-not-replay-clause-due g c image base fixed at_first more =
+    let i = c.loop-index.index in
+    let inv = c.loop-index.invariant in
+    let so_far = inv.looks image fixed in
+    let page = page_is (66 + i) (g.P.Pages.view c.loop-index.device) image c.in_ok-page.page so_far.fixed (g.met.P.Pages.rules c.loop-index.device so_far.fixed.honest) (c.in_ok-page.ensures.page so_far.fixed.honest).page in
+    ⊎_elim
+    (λ (some : 0 < i). inv.due image base fixed at_first some)
+    (λ (torn : c.is_damaged.result ≡ true). due_torn c.args.generation i image base c.in_ok-page.page page (inv.due image base fixed at_first) (c.is_damaged.ensures.0 torn))
+    more
+
+pub returns-clause-due : goal.returns-clause-due
+returns-clause-due g c image base fixed at_first more = c.loop-index.invariant.due image base fixed at_first (omega (arith, c.loop-index-test.false))

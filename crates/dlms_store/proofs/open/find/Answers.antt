@@ -3,9 +3,11 @@ use Rattle.dlms_pages.proofs.Moments.{looks_on}
 use Rattle.dlms_state.specs.declared.event.Event.{Event}
 use Rattle.dlms_state.specs.StateValue.{IsStateOf}
 use Rattle.dlms_state.proofs.Legal.{IsLegal-beginning}
-use Rattle.dlms_store.specs.Active.{IsFound}
+use Rattle.dlms_store.specs.Active.{IsChosen, IsFound, IsThere}
+use Rattle.dlms_store.specs.Cause.{IsCause}
 use Rattle.dlms_store.specs.Image.{all_of}
 use Rattle.dlms_store.specs.declared.fault.OpenFault.TheVariants.{Device, Memory}
+use Rattle.dlms_store.proofs.Causes.{chosen_is_active, found_there, of_bodies, of_gates}
 use Rattle.dlms_store.proofs.Looking.{carried}
 use Rattle.dlms_store.proofs.Slots.{slot_is, not_refused, same_slot, stands_there}
 use Rattle.dlms_store.proofs.open.find.Goals as goal
@@ -75,3 +77,29 @@ returns-clause-found g c image events fixed is =
       stands = stands;
       state = subst (λ (E : List Event). IsStateOf E c.look_at_journal.new.state) is.spelled journal.1;
     }
+
+pub returns-in_err-slot-clause-cause : goal.returns-in_err-slot-clause-cause
+returns-in_err-slot-clause-cause g c image fixed =
+    let one = c.look_at_gate.ensures.looks image fixed in
+    let fault = c.in_err-slot.field-0.0 in
+    let told = subst (IsChosen c.in_ok-first.first c.in_ok-second.second) c.in_err-slot.was c.active.ensures.chosen in
+    carried c.from_residual-in_err-slot.result fault (IsThere image) (λ f. IsCause f image) c.from_residual-in_err-slot.ensures
+    (of_gates image c.in_ok-first.first c.in_ok-second.second (c.in_ok-first.ensures.gate image fixed) (c.in_ok-second.ensures.gate image one.fixed) fault told)
+
+pub returns-in_err-state-clause-cause : goal.returns-in_err-state-clause-cause
+returns-in_err-state-clause-cause g c image fixed =
+    let one = c.look_at_gate.ensures.looks image fixed in
+    let two = looks_on _ _ _ image one (c.look_at_gate-2.ensures.looks image one.fixed) in
+    let told = subst (IsChosen c.in_ok-first.first c.in_ok-second.second) c.in_ok-slot.was c.active.ensures.chosen in
+    let active = chosen_is_active image c.in_ok-first.first c.in_ok-second.second (c.in_ok-first.ensures.gate image fixed) (c.in_ok-second.ensures.gate image one.fixed) c.in_ok-slot.slot c.in_ok-slot.generation told in
+    carried c.from_residual-in_err-state.result c.in_err-state.field-0.0 (IsThere image) (λ f. IsCause f image) c.from_residual-in_err-state.ensures
+    (of_bodies image c.in_ok-slot.slot c.in_ok-slot.generation active c.in_err-state.field-0.0 (c.in_err-state.ensures.cause image two.fixed))
+
+pub returns-clause-cause : goal.returns-clause-cause
+returns-clause-cause g c image fixed =
+    let one = c.look_at_gate.ensures.looks image fixed in
+    let two = looks_on _ _ _ image one (c.look_at_gate-2.ensures.looks image one.fixed) in
+    let three = looks_on _ _ _ image two (c.look_at_bodies.ensures.looks image two.fixed) in
+    let told = subst (IsChosen c.in_ok-first.first c.in_ok-second.second) c.in_ok-slot.was c.active.ensures.chosen in
+    let active = chosen_is_active image c.in_ok-first.first c.in_ok-second.second (c.in_ok-first.ensures.gate image fixed) (c.in_ok-second.ensures.gate image one.fixed) c.in_ok-slot.slot c.in_ok-slot.generation told in
+    found_there image _ c.in_ok-state.state active c.in_ok-state.ensures.events (c.in_ok-state.ensures.cause image two.fixed) (λ base is. c.in_ok-journal.ensures.due image base three.fixed is)

@@ -2,6 +2,7 @@ use Rattle.std.proofs.Common.{◌∙◌, sym, subst, arith}
 use Rattle.dlms_pages.specs.Stops.{IsFixed}
 use Rattle.dlms_pages.proofs.Moments.{one_call}
 use Rattle.dlms_store.specs.Fitting.{IsRefusal}
+use Rattle.dlms_store.proofs.Causes.{of_recovery}
 use Rattle.dlms_store.proofs.Opening.{fixing, left_by, fails_as_is, honest_of, still_fits, sync_leaves, sync_and_look, has_room, opened, looked, refusal_of}
 use Rattle.dlms_store.proofs.store.Store.open.Goals as goal
 
@@ -54,3 +55,11 @@ returns-in-Err-find-clause-opens g c before fits =
     let looks = c.in-Err-find.ensures.looks old.seen fixed in
     let first = sync_leaves old synced before fits rules s.time s.crash in
     looked before old synced (view c.find.new.device) old.seen c.in-Err-find.fault fix first looks (refusal_of c.in-Err-find.fault (c.in-Err-find.ensures.found old.seen fix.events fixed fix.stands))
+
+pub returns-in-Ok-clause-cause : goal.returns-in-Ok-clause-cause
+returns-in-Ok-clause-cause g c honest =
+    let view = g.P.Pages.view in
+    let old = view c.args.device in
+    let s = c.in_default.ensures.synced honest in
+    let fixed : IsFixed (view c.settle.new.device) old.seen = record { honest = c.in_default.ensures.goes.honest ∙ honest; only = s.durable } in
+    of_recovery c.recovered.result old.seen c.in-Ok.found (c.in-Ok.ensures.cause old.seen fixed) c.recovered.ensures.exhausted c.recovered.ensures.faults
