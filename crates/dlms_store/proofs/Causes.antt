@@ -1,5 +1,5 @@
 -- Why a device is not opened, as a reader finds it.
-use Rattle.std.proofs.Common.{Result, IfErr, ◌≡◌, ◌≢◌, ◌<◌, ◌+◌, ◌⊎◌, inl, inr, ℕ, zero, suc, List, [], ◌∷◌, ◌++◌, length, Option, Some, None, Ok, Err, refl, sym, ◌∙◌, ap, subst, arith, true}
+use Rattle.std.proofs.Common.{Result, IfOk, IfErr, ◌≡◌, ◌≢◌, ◌<◌, ◌+◌, ◌⊎◌, inl, inr, ℕ, zero, suc, List, [], ◌∷◌, ◌++◌, length, Option, Some, None, Ok, Err, refl, sym, ◌∙◌, ap, subst, arith, true}
 use Rattle.dlms_pages.specs.Device.{Image, page_at}
 use Rattle.dlms_pages.specs.declared.device.PageRead.{PageRead}
 use Rattle.dlms_pages.specs.declared.device.PageRead.TheVariants.{Content, Damaged}
@@ -11,7 +11,7 @@ use Rattle.dlms_checkpoint.specs.Bodies.{awaited, first_fault}
 use Rattle.dlms_checkpoint.specs.Checkpoint.{IsCheckpointOf}
 use Rattle.dlms_checkpoint.specs.declared.reading.BodyFault.{BodyFault}
 use Rattle.dlms_store.specs.Active.{HasMore, IsBelow, IsChosen, IsThere}
-use Rattle.dlms_store.specs.Cause.{AllFit, AreOf, Fit, IsBodyFault, IsCause, IsDue, IsNoState, IsUnfit, MayFollow}
+use Rattle.dlms_store.specs.Cause.{AllFit, AreOf, Fit, ComesFrom, IsBodyFault, IsCause, IsDue, IsNoState, IsUnfit, MayFollow, OfActive}
 use Rattle.dlms_store.specs.Image.{IsActive, IsBehind, Records}
 use Rattle.dlms_store.specs.Layout.{gate_of}
 use Rattle.dlms_store.specs.Page.{HasPage, IsNot, IsOpen}
@@ -152,13 +152,15 @@ due_torn g zero image base page same before torn = inr (sym same ∙ torn)
 due_torn g (suc i) image base page same before torn = before (omega arith)
 
 pub found_there : {A : Type 0} (image : Image) (found : Found A) (s : StateValue) → IsActive found.slot found.generation image → HasEvents s → AreOf (gate_of found.slot) found.generation s image
-    → ((base : List Event) → IsStateOf base s → HasMore found.journal → IsDue base found.generation image) → IsThere image found
-found_there image found s active has bodies due = record {
+    → ((base : List Event) → IsStateOf base s → HasMore found.journal → IsDue base found.generation image) → ((base : List Event) → IsStateOf base s → (more : List Event) × IsStateOf (base ++ more) found.state) → IsThere image found
+found_there image found s active has bodies due after = record {
   active = active;
   base = has.events;
   legal = has.state.legal;
   bodies = subst (λ (t : StateValue). AreOf (gate_of found.slot) found.generation t image) has.state.value bodies;
   due = due has.events has.state;
+  more = (after has.events has.state).0;
+  state = (after has.events has.state).1;
 }
 
 -- the one refusal of a recovery that looked is that of the last generation
@@ -170,3 +172,15 @@ of_recovery (Err e) image found is last (inr same) =
     let at_last = last same in
     subst (λ (f : OpenFault). IsCause f image) (sym same)
     (record { slot = found.slot; generation = found.generation; active = is.active; is = record { last = at_last.0; base = is.base; legal = is.legal; bodies = is.bodies; due = is.due at_last.1 } })
+
+-- what is opened is what was found
+pub comes_from : {S E A : Type 0} (result : Result S E) (state_of_store : S → StateValue) (image : Image) (found : Found A) → IsThere image found → IfOk result (λ store. state_of_store store ≡ found.state)
+    → IfOk result (λ store. OfActive image (λ gate generation. ComesFrom gate generation image (state_of_store store)))
+comes_from (Ok store) state_of_store image found is same =
+    record {
+      slot = found.slot;
+      generation = found.generation;
+      active = is.active;
+      is = record { base = is.base; more = is.more; bodies = is.bodies; state = subst (IsStateOf (is.base ++ is.more)) (sym same) is.state };
+    }
+comes_from (Err e) state_of_store image found is same = tt

@@ -42,6 +42,8 @@ pub record IsThere {A : Type 0} (image : Image) (found : Found A) : Type 0 where
   pub legal : IsLegal base
   pub bodies : AreOf (gate_of found.slot) found.generation (state_of base) image
   pub due : HasMore found.journal → IsDue base found.generation image
+  pub more : List Event
+  pub state : IsStateOf (base ++ more) found.state
 
 -- the active slot, the next journal page and the state of an image that stands for these events
 pub record IsFound {A : Type 0} (image : Image) (events : List Event) (found : Found A) : Type 0 where

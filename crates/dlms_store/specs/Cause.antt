@@ -6,7 +6,7 @@ use Rattle.dlms_pages.specs.declared.device.PageRead.TheVariants.{Damaged}
 use Rattle.dlms_journal.specs.declared.kind.PageKind.TheVariants.{Body}
 use Rattle.dlms_state.specs.declared.event.Event.{Event}
 use Rattle.dlms_state.specs.Refusal.{IsLegal}
-use Rattle.dlms_state.specs.StateValue.{StateValue, state_of}
+use Rattle.dlms_state.specs.StateValue.{StateValue, IsStateOf, state_of}
 use Rattle.dlms_checkpoint.specs.Bodies.{awaited, first_fault}
 use Rattle.dlms_checkpoint.specs.Checkpoint.{IsCheckpointOf}
 use Rattle.dlms_store.specs.Image.{IsActive, Records}
@@ -97,6 +97,15 @@ pub record OfActive (image : Image) (P : ℕ → ℕ → Type 0) : Type 0 where
   pub generation : ℕ
   pub active : IsActive slot generation image
   pub is : P (gate_of slot) generation
+
+-- ---- what is opened
+
+-- A state that comes from these bodies: it is that of the events whose state they are, and perhaps more.
+pub record ComesFrom (gate generation : ℕ) (image : Image) (s : StateValue) : Type 0 where
+  pub base : List Event
+  pub more : List Event
+  pub bodies : AreOf gate generation (state_of base) image
+  pub state : IsStateOf (base ++ more) s
 
 -- ---- what is due
 

@@ -143,6 +143,7 @@ pub(crate) fn look_at_journal<P: Pages, A: Allocator + Copy>(
         → IfOk result (λ journal. (journal.pages ≡ length pages) × IsStateOf (base ++ all_of pages) state.new) }
     ensures due { (image : Image) (base : List EventOf) → IsFixed (P.view device.old) image → IsStateOf base state.old
         → IfOk result (λ journal. HasMore journal → IsDue base generation image) }
+    ensures more { (base : List EventOf) → IsStateOf base state.old → (more : List EventOf) × IsStateOf (base ++ more) state.new }
 {
     for index in 0..JOURNAL_PAGES {
         let page = device.read(JOURNAL + index)?;

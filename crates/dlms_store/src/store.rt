@@ -43,7 +43,7 @@ impl<P: Pages, A: Allocator + Copy> Store<P, A> {
     ghost use Rattle.dlms_store.specs.World.{World};
     ghost use Rattle.dlms_store.specs.World.World.{Runs, Rests};
     ghost use Rattle.dlms_store.specs.Active.{HasMore, IsFound};
-    ghost use Rattle.dlms_store.specs.Cause.{IsCause};
+    ghost use Rattle.dlms_store.specs.Cause.{ComesFrom, IsCause, OfActive};
     ghost use Rattle.dlms_store.specs.Fitting.{StoreFits, DeviceFits, OpensAs, GivesBack, LeftBy, Moves, AddMoves, GivesUp, commit_step};
     ghost use Rattle.dlms_store.specs.World.Step.{Adds, Closes, ClosesInDoubt};
 
@@ -89,6 +89,7 @@ impl<P: Pages, A: Allocator + Copy> Store<P, A> {
         ensures runs { IfOk result (λ store. IsStopped store → ⊥) }
         ensures size { IfErr result (λ e. (e.1 ≡ OpenFault.Size) ↔ IsTooSmall (P.view device)) }
         ensures device { IfErr result (λ e. e.1 ≡ OpenFault.Device → Rose (P.view device).faults (P.view e.0).faults) }
+        ensures sound { (P.view device).honest ≡ true → IfOk result (λ store. OfActive (P.view device).seen (λ gate generation. ComesFrom gate generation (P.view device).seen (state_in store))) }
         ensures cause { (P.view device).honest ≡ true → IfErr result (λ e. IsCause e.1 (P.view device).seen) }
     {
         let mut device = device;
@@ -112,6 +113,7 @@ impl<P: Pages, A: Allocator + Copy> Store<P, A> {
         ensures opens { (image : Image) (events : List EventOf) → IsFixed (P.view device) image → IsFound image events found
             → MatchResult result (OpensAs (Rests events) (P.view device)) (λ e. GivesBack (Rests events) (P.view device) (P.view e.0) e.1) }
         ensures opened { IfOk result (λ store. (events : List EventOf) × Remembers events [] store) }
+        ensures state { IfOk result (λ store. state_in store ≡ found.state) }
         ensures runs { IfOk result (λ store. IsStopped store → ⊥) }
         ensures device { IfErr result (λ e. e.1 ≡ OpenFault.Device → Rose (P.view device).faults (P.view e.0).faults) }
         ensures exhausted { IfErr result (λ e. e.1 ≡ OpenFault.Exhausted → (found.generation ≡ 18446744073709551615) × HasMore found.journal) }

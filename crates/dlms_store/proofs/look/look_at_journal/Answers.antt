@@ -1,4 +1,5 @@
-use Rattle.std.proofs.Common.{◌<◌, ⊎_elim, true, ◌≡◌, ◌∙◌, ◌+◌, ◌++◌, length, take, refl, sym, subst, arith}
+use Rattle.std.proofs.Common.{◌<◌, ⊎_elim, true, ◌≡◌, ◌∙◌, ◌+◌, ◌++◌, List, length, take, refl, sym, subst, arith, append_assoc}
+use Rattle.dlms_state.specs.declared.event.Event.{Event}
 use Rattle.dlms_state.specs.StateValue.{IsStateOf}
 use Rattle.dlms_store.specs.Image.{all_of}
 use Rattle.dlms_store.proofs.Looking.{page_is, read_on}
@@ -43,6 +44,10 @@ loop-index-preserved g c =
       looks = λ image fixed.
           let so_far = inv.looks image fixed in
           read_on (66 + i) _ (view c.loop-index.device) (view c.read.new.self) image c.read.result so_far (g.met.P.Pages.rules c.loop-index.device so_far.fixed.honest) goes (c.read.ensures.page so_far.fixed.honest);
+      more = λ base at_first.
+          let so_far = inv.more base at_first in
+          let took = c.if-not-replay.ensures.taken refl (base ++ so_far.0) so_far.1 in
+          (so_far.0 ++ took.0, subst (λ (E : List Event). IsStateOf E c.replay.new.state) (append_assoc base so_far.0 took.0) took.3);
       start = λ none. absurd (omega (arith, none));
       due = λ image base fixed at_first _.
           let so_far = inv.looks image fixed in
@@ -74,6 +79,11 @@ returns-then-not-replay-clause-due g c image base fixed at_first more =
     (λ (some : 0 < i). inv.due image base fixed at_first some)
     (λ (torn : c.is_damaged.result ≡ true). due_torn c.args.generation i image base c.in_ok-page.page page (inv.due image base fixed at_first) (c.is_damaged.ensures.0 torn))
     more
+
+pub returns-then-not-replay-clause-more : goal.returns-then-not-replay-clause-more
+returns-then-not-replay-clause-more g c base at_first =
+    let so_far = c.loop-index.invariant.more base at_first in
+    (so_far.0, subst (IsStateOf (base ++ so_far.0)) (sym (c.if-not-replay.ensures.kept refl)) so_far.1)
 
 pub returns-clause-due : goal.returns-clause-due
 returns-clause-due g c image base fixed at_first more = c.loop-index.invariant.due image base fixed at_first (omega (arith, c.loop-index-test.false))

@@ -17,6 +17,7 @@ invariant-loop-index g l =
       events : HasEvents l.fn.state → HasEvents l.state;
       later : (view l.fn.device).faults ≤ (view l.device).faults;
       looks : (image : Image) → IsFixed (view l.fn.device) image → Looks (view l.fn.device) (view l.device) image;
+      more : (base : List Event) → IsStateOf base l.fn.state → (more : List Event) × IsStateOf (base ++ more) l.state;
       start : l.index ≡ 0 → l.state ≡ l.fn.state;
       due : (image : Image) (base : List Event) → IsFixed (view l.fn.device) image → IsStateOf base l.fn.state → 0 < l.index → IsDue base l.fn.generation image;
       journal : (image : Image) (slot : Slot) (base : List Event) (pages : List (List Event)) → IsFixed (view l.fn.device) image → Stands slot l.fn.generation base pages image → IsStateOf base l.fn.state

@@ -102,4 +102,4 @@ returns-clause-cause g c image fixed =
     let three = looks_on _ _ _ image two (c.look_at_bodies.ensures.looks image two.fixed) in
     let told = subst (IsChosen c.in_ok-first.first c.in_ok-second.second) c.in_ok-slot.was c.active.ensures.chosen in
     let active = chosen_is_active image c.in_ok-first.first c.in_ok-second.second (c.in_ok-first.ensures.gate image fixed) (c.in_ok-second.ensures.gate image one.fixed) c.in_ok-slot.slot c.in_ok-slot.generation told in
-    found_there image _ c.in_ok-state.state active c.in_ok-state.ensures.events (c.in_ok-state.ensures.cause image two.fixed) (λ base is. c.in_ok-journal.ensures.due image base three.fixed is)
+    found_there image _ c.in_ok-state.state active c.in_ok-state.ensures.events (c.in_ok-state.ensures.cause image two.fixed) (λ base is. c.in_ok-journal.ensures.due image base three.fixed is) c.look_at_journal.ensures.more

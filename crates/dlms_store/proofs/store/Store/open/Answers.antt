@@ -2,7 +2,8 @@ use Rattle.std.proofs.Common.{◌∙◌, sym, subst, arith}
 use Rattle.dlms_pages.specs.Stops.{IsFixed}
 use Rattle.dlms_pages.proofs.Moments.{one_call}
 use Rattle.dlms_store.specs.Fitting.{IsRefusal}
-use Rattle.dlms_store.proofs.Causes.{of_recovery}
+use Rattle.dlms_store.specs.Store.{state_in}
+use Rattle.dlms_store.proofs.Causes.{comes_from, of_recovery}
 use Rattle.dlms_store.proofs.Opening.{fixing, left_by, fails_as_is, honest_of, still_fits, sync_leaves, sync_and_look, has_room, opened, looked, refusal_of}
 use Rattle.dlms_store.proofs.store.Store.open.Goals as goal
 
@@ -63,3 +64,11 @@ returns-in-Ok-clause-cause g c honest =
     let s = c.in_default.ensures.synced honest in
     let fixed : IsFixed (view c.settle.new.device) old.seen = record { honest = c.in_default.ensures.goes.honest ∙ honest; only = s.durable } in
     of_recovery c.recovered.result old.seen c.in-Ok.found (c.in-Ok.ensures.cause old.seen fixed) c.recovered.ensures.exhausted c.recovered.ensures.faults
+
+pub returns-in-Ok-clause-sound : goal.returns-in-Ok-clause-sound
+returns-in-Ok-clause-sound g c honest =
+    let view = g.P.Pages.view in
+    let old = view c.args.device in
+    let s = c.in_default.ensures.synced honest in
+    let fixed : IsFixed (view c.settle.new.device) old.seen = record { honest = c.in_default.ensures.goes.honest ∙ honest; only = s.durable } in
+    comes_from c.recovered.result state_in old.seen c.in-Ok.found (c.in-Ok.ensures.cause old.seen fixed) c.recovered.ensures.state
