@@ -82,8 +82,15 @@ module _ (gate g : ℕ) (image : Image) (k : ℕ) (some : 0 < k) (few : k < 32) 
 
   pub too_long : awaited bytes ≢ 0 → (named : ℕ) → named ≡ gate + 1 + k → (body : List ℕ) → HasPage Body k g body page → (length body ≡ awaited bytes → ⊥) → IsUnfit gate g image named
   too_long more named is body has long =
-      record { count = k; bytes = bytes; few = few; fit = fit; more = more; named = is;
-      none = λ other also next. long (ap (λ (b : List ℕ). length b) (one_payload Body k g body other page has (subst (HasPage Body k g other) (sym same) also)) ∙ followed bytes other are_some next) }
+      record {
+        count = k;
+        bytes = bytes;
+        few = few;
+        fit = fit;
+        more = more;
+        named = is;
+        none = λ other also next. long (ap (λ (b : List ℕ). length b) (one_payload Body k g body other page has (subst (HasPage Body k g other) (sym same) also)) ∙ followed bytes other are_some next);
+      }
 
 -- ---- gates
 

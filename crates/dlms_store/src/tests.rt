@@ -1,5 +1,5 @@
 use super::*;
-use dlms_pages::{DeviceFault, MemoryPages, PageRead, Pages, Pick};
+use dlms_pages::{Choice, DeviceFault, MemoryPages, PageRead, Pages, Pick};
 use dlms_state::{Event, Refused};
 use linked_list_allocator::LocalHeap;
 use std::alloc::{Allocator, Global};
@@ -43,11 +43,13 @@ fn formatted(alloc: Global) -> Result<Store<Memory>, Fail> {
     }
 }
 
-/// A formatted store whose device fails every call from now on.
-fn failing(alloc: Global) -> Result<Store<Memory>, Fail> {
+/// The calls of a format: the 82 pages and a sync; a body and a sync; a gate and a sync.
+const FORMATS: u64 = 87;
+
+/// A formatted store whose device fails every call behind so many.
+fn failing(alloc: Global, calls: u64) -> Result<Store<Memory>, Fail> {
     let mut device = MemoryPages::new(alloc, PAGES)?;
-    // The 82 pages and a sync; a body and a sync; a gate and a sync.
-    device.fuse(87);
+    device.fuse(FORMATS.saturating_add(calls));
     match Store::format(alloc, device) {
         Ok(store) => Ok(store),
         Err(_) => Err("a store is formatted".into()),
@@ -96,11 +98,32 @@ fn a_journal_page(rt: HostRuntime) -> Result<(), Fail> {
 
 #[test]
 fn eighty_two_records_wait(rt: HostRuntime) -> Result<(), Fail> {
-    let mut store = failing(rt.alloc())?;
+    let mut store = failing(rt.alloc(), 0)?;
     pulse(&mut store, 82)?;
     assert_eq!(rt; store.pending(), 492);
     let mut device = store.close().cut(Pick::AllNew);
     assert_eq!(rt; page(&mut device, 66)?, PageRead::Content([0; 512]));
+    Ok(())
+}
+
+/// The first page with the record behind it, the last page likewise, and then the checkpoint: a write and a sync each, and
+/// three times as much.
+#[test]
+fn each_full_page_is_written_before_the_next_record_is_taken(rt: HostRuntime) -> Result<(), Fail> {
+    let first = [4, 0, 0, 0, 0, 0, 0, 0, 0, 0, 0, 1, 0x01, 0xec];
+    let last = [4, 0, 0, 15, 0, 0, 0, 0, 0, 0, 0, 1, 0x01, 0xec];
+    let gate = [1, 0, 0, 1, 0, 0, 0, 0, 0, 0, 0, 2, 0, 0];
+    for (pulses, calls, index, front) in [
+        (83, 2, 66, first),
+        (1313, 32, 81, last),
+        (1395, 38, 33, gate),
+    ] {
+        let mut store = failing(rt.alloc(), calls)?;
+        pulse(&mut store, pulses)?;
+        assert_eq!(rt; store.pending(), 6);
+        let mut device = store.close().cut(Pick::AllOld);
+        assert!(rt; begins(page(&mut device, index)?, &front), "after {pulses}");
+    }
     Ok(())
 }
 
@@ -188,7 +211,7 @@ fn devices_that_are_no_store(rt: HostRuntime) -> Result<(), Fail> {
 
 #[test]
 fn refused_stopped_and_failed(rt: HostRuntime) -> Result<(), Fail> {
-    let mut store = failing(rt.alloc())?;
+    let mut store = failing(rt.alloc(), 0)?;
     let refused = AddFault::Refused(Refused::Channel);
     assert_eq!(rt; store.add(Event::Pulses(3, 1)), Err(refused));
     assert_eq!(rt; store.commit(), Ok(()));
@@ -205,21 +228,118 @@ fn refused_stopped_and_failed(rt: HostRuntime) -> Result<(), Fail> {
     Ok(())
 }
 
-/// Whatever call of a checkpoint the power stops in, and whatever is left of the page: the same state is found.
+/// A step of a scenario: so many pulses, each an event of its own, or a call that settles them.
+#[derive(Clone, Copy)]
+enum Act {
+    Pulses(u32),
+    Commit,
+    Checkpoint,
+}
+
+/// Its device is called 14 times, twice of them where the 83 records fill a page.
+const SCENARIO: [Act; 9] = [
+    Act::Pulses(3),
+    Act::Commit,
+    Act::Pulses(83),
+    Act::Commit,
+    Act::Pulses(2),
+    Act::Checkpoint,
+    Act::Pulses(5),
+    Act::Commit,
+    Act::Pulses(1),
+];
+
+/// How many pulses the store has, each an event that it accepted.
+fn accepted(store: &Store<Memory>) -> u32 {
+    let [pulses, _, _] = store.state().registers();
+    pulses
+}
+
+/// Adds so many pulses, and gives how many of all were settled on the way; None where the device failed.
+fn add_pulses(store: &mut Store<Memory>, count: u32, settled: u32) -> (u32, bool) {
+    let mut settled = settled;
+    for _ in 0..count {
+        let (before, waiting) = (accepted(store), store.pending());
+        if store.add(Event::Pulses(0, 1)).is_err() {
+            return (settled, false);
+        }
+        if store.pending() <= waiting {
+            settled = before;
+        }
+    }
+    (settled, true)
+}
+
+/// Plays the scenario up to the first fault, and gives how many pulses were settled.
+fn play(store: &mut Store<Memory>) -> u32 {
+    let mut settled = 0;
+    for act in SCENARIO {
+        let went = match act {
+            Act::Pulses(count) => {
+                let (now, went) = add_pulses(store, count, settled);
+                settled = now;
+                went
+            }
+            Act::Commit => store.commit().is_ok(),
+            Act::Checkpoint => store.checkpoint().is_ok(),
+        };
+        if !went {
+            return settled;
+        }
+        if !matches!(act, Act::Pulses(_)) {
+            settled = accepted(store);
+        }
+    }
+    settled
+}
+
+/// What a stop leaves of the pages in flight: all old, all new, all torn, and each of its own.
+const PICKS: [Pick<'static>; 4] = [
+    Pick::AllOld,
+    Pick::AllNew,
+    Pick::AllDamaged,
+    Pick::Each(&[Choice::New, Choice::Torn, Choice::Old]),
+];
+
+/// The device of a scenario whose power stopped behind so many calls, with the least and the most that it may stand for.
+fn stopped(alloc: Global, calls: u64, pick: Pick) -> Result<(Memory, u32, u32), Fail> {
+    let mut store = failing(alloc, calls)?;
+    let settled = play(&mut store);
+    let most = accepted(&store);
+    Ok((store.close().cut(pick), settled, most))
+}
+
+/// How many pulses are found where the power stops again behind so many calls of the recovery.
+fn found_after(alloc: Global, device: Memory, calls: u64, pick: Pick) -> Result<u32, Fail> {
+    let mut device = device;
+    device.fuse(calls);
+    let device = match Store::open(alloc, device) {
+        Ok(store) => store.close(),
+        Err((device, _)) => device,
+    };
+    let store = opened(alloc, device.cut(pick))?;
+    Ok(accepted(&store))
+}
+
+/// Wherever the power stops, and again wherever it stops in the recovery: what is found has every pulse that was settled,
+/// none that was not accepted, and is the same each time.
 #[test]
 fn the_power_stops_in_each_call(rt: HostRuntime) -> Result<(), Fail> {
-    for pick in [Pick::AllOld, Pick::AllNew, Pick::AllDamaged] {
-        for calls in 0..8u64 {
-            let mut store = formatted(rt.alloc())?;
-            pulse(&mut store, 3)?;
-            let mut device = store.close();
-            device.fuse(calls);
-            let device = match Store::open(rt.alloc(), device) {
-                Ok(store) => store.close(),
-                Err((device, _)) => device,
-            };
-            let store = opened(rt.alloc(), device.cut(pick))?;
-            assert_eq!(rt; store.state().registers(), [3, 0, 0]);
+    for first in PICKS {
+        for calls in 0..18u64 {
+            let (device, settled, most) = stopped(rt.alloc(), calls, first)?;
+            let found = accepted(&opened(rt.alloc(), device)?);
+            assert!(rt;
+                settled <= found && found <= most,
+                "{settled} {found} {most}"
+            );
+            for second in PICKS {
+                for again in 0..16u64 {
+                    let (device, _, _) = stopped(rt.alloc(), calls, first)?;
+                    let also = found_after(rt.alloc(), device, again, second)?;
+                    assert_eq!(rt; also, found, "at {calls} and {again}");
+                }
+            }
         }
     }
     Ok(())

@@ -109,7 +109,7 @@ returns-in_default-clause-cause g c image gate place fixed first =
       c.args.first + k,
       refl,
       none_fits gate c.args.generation image k inv.some (omega (arith, c.loop-index-test.true)) c.loop-index.restoring (inv.fits image gate place fixed first) c.in_ok-page.page same
-      (λ none. c.if-awaited-eq0.false (c.awaited.ensures ∙ none)) (c.args.first + k) (ap (λ (f : ℕ). f + k) place) c.in_default.ensures,
+          (λ none. c.if-awaited-eq0.false (c.awaited.ensures ∙ none)) (c.args.first + k) (ap (λ (f : ℕ). f + k) place) c.in_default.ensures,
     )
 
 pub returns-then-is_err-clause-cause : goal.returns-then-is_err-clause-cause
@@ -123,6 +123,6 @@ returns-then-is_err-clause-cause g c image gate place fixed first =
       c.args.first + k,
       refl,
       too_long gate c.args.generation image k inv.some (omega (arith, c.loop-index-test.true)) c.loop-index.restoring (inv.fits image gate place fixed first) c.in_ok-page.page same
-      (λ none. c.if-awaited-eq0.false (c.awaited.ensures ∙ none)) (c.args.first + k) (ap (λ (f : ℕ). f + k) place) c.in-Some.body.now c.in-Some.ensures
-      (λ long. not_ok c.more.result c.if-is_err.ensures.value (c.more.ensures.when.1 long)),
+          (λ none. c.if-awaited-eq0.false (c.awaited.ensures ∙ none)) (c.args.first + k) (ap (λ (f : ℕ). f + k) place) c.in-Some.body.now c.in-Some.ensures
+          (λ long. not_ok c.more.result c.if-is_err.ensures.value (c.more.ensures.when.1 long)),
     )
