@@ -1,5 +1,5 @@
 //! The store of events.
-ghost use Rattle.std.specs.Prelude.{◌≡◌, ◌≢◌, ◌≤◌, ◌<◌, ◌+◌, ◌^◌, ◌++◌, ◌∷◌, [], ◌↔◌, ◌⊎◌, List, ℕ, length, true, false, Ok, Err, Some, None, IfOk, IfErr, OnOk, OnErr, MatchResult};
+ghost use Rattle.std.specs.Prelude.{◌≡◌, ◌≢◌, ◌≤◌, ◌<◌, ◌+◌, ◌^◌, ◌++◌, ◌∷◌, [], ◌↔◌, ◌⊎◌, List, ℕ, length, true, false, Ok, Err, Some, None, IfOk, IfErr, OnOk, OnErr, MatchResult, IsOk};
 ghost use Rattle.dlms_pages.specs.Device.{Rose, Image};
 ghost use Rattle.dlms_pages.specs.Stops.{IsFixed};
 ghost use Rattle.dlms_state.specs.declared.event.Event.{Event as EventOf};
@@ -148,6 +148,7 @@ impl<P: Pages, A: Allocator + Copy> Store<P, A> {
         ensures stopped { (result ≡ Err AddFault.Stopped) ↔ IsStopped self.old }
         ensures refused { (cause : Refused) → (result ≡ Err (AddFault.Refused cause)) ↔ (IsRunning self.old × (refusal_in self.old event ≡ Some cause)) }
         ensures device { result ≡ Err AddFault.Device → Fails self.old self.new }
+        ensures answers { IsRunning self.old → refusal_in self.old event ≡ None → (Rose (view_of self.old).faults (view_of self.new).faults → ⊥) → (IsFull self.old × IsLast self.old → ⊥) → IsOk result }
         ensures exhausted { (result ≡ Err AddFault.Exhausted) ↔ (IsRunning self.old × (refusal_in self.old event ≡ None) × (HasRoom self.old event → ⊥) × IsFull self.old × IsLast self.old) }
         ensures unchanged { OnErr result (result ≢ Err AddFault.Device → self.new ≡ self.old) }
     {
@@ -199,6 +200,7 @@ impl<P: Pages, A: Allocator + Copy> Store<P, A> {
         ensures state { state_in self.new ≡ state_in self.old }
         ensures stopped { (result ≡ Err StoreFault.Stopped) ↔ IsStopped self.old }
         ensures device { result ≡ Err StoreFault.Device → Fails self.old self.new }
+        ensures answers { IsRunning self.old → (Rose (view_of self.old).faults (view_of self.new).faults → ⊥) → (IsFull self.old × IsLast self.old → ⊥) → IsOk result }
         ensures exhausted { (result ≡ Err StoreFault.Exhausted) ↔ (IsRunning self.old × (records_in self.old ≢ []) × IsFull self.old × IsLast self.old) }
         ensures unchanged { OnErr result (result ≢ Err StoreFault.Device → self.new ≡ self.old) }
     {
@@ -235,6 +237,7 @@ impl<P: Pages, A: Allocator + Copy> Store<P, A> {
         ensures state { state_in self.new ≡ state_in self.old }
         ensures stopped { (result ≡ Err StoreFault.Stopped) ↔ IsStopped self.old }
         ensures device { result ≡ Err StoreFault.Device → Fails self.old self.new }
+        ensures answers { IsRunning self.old → (Rose (view_of self.old).faults (view_of self.new).faults → ⊥) → (IsLast self.old → ⊥) → IsOk result }
         ensures exhausted { (result ≡ Err StoreFault.Exhausted) ↔ (IsRunning self.old × IsLast self.old) }
         ensures unchanged { OnErr result (result ≢ Err StoreFault.Device → self.new ≡ self.old) }
     {
