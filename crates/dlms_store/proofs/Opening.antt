@@ -65,7 +65,7 @@ pub has_room : (v : View) (before : World) → DeviceFits v before → Rules v �
 has_room v before fits rules = (fixing v before fits v.seen rules.seen).stands.stands.room
 
 -- what a stop of the fixed image leaves, it left before
-module _ (before : World) (old mid : View) (image : Image) (fix : Fixing before image) (first : LeavesOnly old mid (LeftBy before)) where
+module _ (before : World) (old mid : View) (image : Image) (fix : Fixing before image) (first : LeavesOnly old mid (LeftBy before)) (same : old.seen ≡ image) where
   resting : (c : Image) → LeftBy (Rests fix.events) c → LeftBy before c
   resting c (events, next, stands) = (fix.events, fix.stop, subst (λ l. StandsFor l c) (rests_inj events fix.events next) stands)
     where
@@ -75,6 +75,7 @@ module _ (before : World) (old mid : View) (image : Image) (fix : Fixing before 
   store_opened : {P A : Type 0} {ghosts : Ghosts P} (store : Store P A ghosts) → OpensAs (Rests fix.events) mid store → OpensAs before old store
   store_opened {P} {A} {ghosts} store opened = record {
     found = fix.events;
+    read = subst (StandsFor fix.events) (sym same) fix.stands;
     now = Runs fix.events [];
     next = fix.opens;
     fits = subst (StoreFits store) (opened.next.1 ∙ ap (λ (l : List Event). Runs l []) opened.next.0) opened.fits;

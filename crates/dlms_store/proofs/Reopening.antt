@@ -8,7 +8,7 @@ use Rattle.dlms_state.specs.Refusal.{IsLegal}
 use Rattle.dlms_state.specs.StateValue.{state_of}
 use Rattle.dlms_journal.specs.Record.{Holds}
 use Rattle.dlms_pages.specs.declared.device.Pages.{Ghosts}
-use Rattle.dlms_pages.proofs.Moments.{no_call, then_also, weaker}
+use Rattle.dlms_pages.proofs.Moments.{no_call, seen_is, then_also, weaker}
 use Rattle.dlms_store.specs.Image.{StandsFor, StandsBetween}
 use Rattle.dlms_store.specs.World.{World, Step, Next, IsBetween}
 use Rattle.dlms_store.specs.World.World.{Runs, InDoubt, Rests}
@@ -75,7 +75,7 @@ module _ {P A : Type 0} {ghosts : Ghosts P} (before : World) (old : View) (store
   pub with_checkpoint : Moves Settles (Runs opened.found []) store new → OpensAs before old new
   with_checkpoint kept =
       let same : kept.now ≡ Runs opened.found [] = kept.next ∙ ap (λ (l : List Event). Runs l []) (append-nil opened.found) in
-      record { found = opened.found; now = Runs opened.found []; next = opens_as before opened.now opened.found opened.next; fits = subst (StoreFits new) same kept.fits; any_moment = moments kept }
+      record { found = opened.found; read = opened.read; now = Runs opened.found []; next = opens_as before opened.now opened.found opened.next; fits = subst (StoreFits new) same kept.fits; any_moment = moments kept }
 
   pub without : (fault : OpenFault) → IsRefusal fault → Moves Fails (Runs opened.found []) store new → GivesBack before old (ghosts.view new.device) fault
   without fault cause kept =
@@ -110,6 +110,7 @@ pub of_found : {P A : Type 0} {ghosts : Ghosts P} (device : View) (image : Image
     → OpensAs (Rests events) device store
 of_found {P} {A} {ghosts} device image events found store fixed rules is same runs slot generation next state none = record {
   found = events;
+  read = subst (StandsFor events) (sym (seen_is device image fixed rules)) there;
   now = Runs events [];
   next = (refl, refl);
   fits = (

@@ -82,9 +82,11 @@ IsRefusal opening.NoCheckpoint = ⊥
 IsRefusal (opening.Corrupt page) = ⊥
 IsRefusal opening.Size = ⊥
 
--- A store opened: it has the state of what was found, with nothing pending.
+-- A store opened: it has the state of what was found, with nothing pending. Where images differ at entry, what is found is
+-- what the one stands for that reads give.
 pub record OpensAs {P A : Type 0} {ghosts : Ghosts P} (before : World) (old : View) (store : Store P A ghosts) : Type 0 where
   pub found : List Event
+  pub read : StandsFor found old.seen
   pub now : World
   pub next : Next before (Opens found) now
   pub fits : StoreFits store now

@@ -1,4 +1,4 @@
-use Rattle.std.proofs.Common.{◌∙◌, sym, subst, arith}
+use Rattle.std.proofs.Common.{◌∙◌, refl, sym, subst, arith}
 use Rattle.dlms_pages.specs.Stops.{IsFixed}
 use Rattle.dlms_pages.proofs.Moments.{one_call}
 use Rattle.dlms_store.specs.Fitting.{IsRefusal}
@@ -41,7 +41,7 @@ returns-in-Ok-clause-opens g c before fits =
     let found = c.in-Ok.ensures.found old.seen fix.events fixed fix.stands in
     let first = sync_leaves old synced before fits rules s.time s.crash in
     let both = sync_and_look old synced (view c.find.new.device) before old.seen fix first looks.any_moment in
-    opened before old (view c.find.new.device) old.seen fix both c.recovered.result (c.recovered.ensures.opens old.seen fix.events looks.fixed found)
+    opened before old (view c.find.new.device) old.seen fix both refl c.recovered.result (c.recovered.ensures.opens old.seen fix.events looks.fixed found)
 
 pub returns-in-Err-find-clause-opens : goal.returns-in-Err-find-clause-opens
 returns-in-Err-find-clause-opens g c before fits =
