@@ -74,11 +74,12 @@ fn look_at_further_bodies<P: Pages>(
             return Ok(());
         }
         let page = device.read(first + index)?;
+        let unfit = OpenFault::Corrupt(first + index);
         let Some(body) = payload_in(&page, PageKind::Body, index, generation) else {
-            return Err(OpenFault::Corrupt(first + index));
+            return Err(unfit);
         };
         if restoring.more(body).is_err() {
-            return Err(OpenFault::Corrupt(first + index));
+            return Err(unfit);
         }
     }
     Ok(())
