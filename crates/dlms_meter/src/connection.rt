@@ -13,7 +13,7 @@ ghost use Rattle.dlms_meter.specs.Run.{Handles};
 use arrayvec::ArrayVec;
 use dlms_frame::{Client, Frame};
 use dlms_link::{LinkOut, ServerLink};
-use dlms_service::Session;
+use dlms_service::{Served, Session};
 use dlms_state::State;
 use std::alloc::{Allocator, Global};
 use std::marker::Model;
@@ -70,7 +70,10 @@ impl<A: Allocator + Copy> Connection<A> {
                 Some(reply.put())
             }
             LinkOut::Apdu => {
-                let answer = self.session.serve(alloc, state, self.link.apdu());
+                let Served { answer, event } = self.session.serve(alloc, state, self.link.apdu());
+                if let Some(event) = event {
+                    state.apply(event);
+                }
                 Some(send(&mut self.link, answer.as_slice()))
             }
             LinkOut::Oversize => Some(send(&mut self.link, &TOO_LONG)),

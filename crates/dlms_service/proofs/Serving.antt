@@ -1,6 +1,5 @@
 -- What each part of a service shows of its outcome.
 use Rattle.std.proofs.Common.{◌≡◌, ◌⊎◌, inl, inr, refl, sym, ◌∙◌, ap, ℕ, Bool, true, false, List, [], Option, Some, None, is_some, option_map, option_copied, Bor, Result, Ok, Err, MatchResult, IsTrue, if◌then◌else◌, nat_le, length, ◌+◌, arith}
-use Rattle.std.proofs.lemmas.List.{append-nil}
 use Rattle.dlms_data.specs.Value.{Value}
 use Rattle.dlms_data.specs.declared.descriptor.Descriptor.{Descriptor}
 use Rattle.dlms_apdu.specs.Forms.{RequestForm, ResponseForm, BlockForm, get_normal, get_result, set_normal, set_first, set_result, action_normal, action_result}
@@ -12,32 +11,27 @@ use Rattle.dlms_blocks.specs.Coming.{Coming, step_of, follows, more_answer, more
 use Rattle.dlms_blocks.specs.declared.block.PutStep.{PutStep}
 use Rattle.dlms_blocks.specs.declared.block.PutStep.TheVariants.{Whole}
 use Rattle.dlms_state.specs.declared.event.Event.{Event}
-use Rattle.dlms_state.specs.StateValue.{StateValue, IsStateOf, state_of}
+use Rattle.dlms_state.specs.StateValue.{state_of}
 use Rattle.dlms_classes.specs.declared.access.AccessResult.{AccessResult}
 use Rattle.dlms_classes.specs.declared.access.AccessResult.TheVariants.{TemporaryFailure}
 use Rattle.dlms_classes.specs.Access.{number_of}
 use Rattle.dlms_classes.specs.Answer.{Wanted}
 use Rattle.dlms_classes.specs.Plan.{event_asked}
 use Rattle.dlms_service.specs.declared.association.Association.{Association}
+use Rattle.dlms_service.specs.declared.served.Served.{Served}
 use Rattle.dlms_service.specs.declared.target.Target.{Target}
 use Rattle.dlms_service.specs.declared.target.Service.{Service}
 use Rattle.dlms_service.specs.declared.target.Service.TheVariants.{Set}
-use Rattle.dlms_service.specs.Session.{SessionValue, Outcome, without_get, without_put, not_possible}
-use Rattle.dlms_service.specs.Planned.{IsValue, IsPlanFor, IsDone, accepted}
+use Rattle.dlms_service.specs.Session.{SessionValue, Outcome, outcome_of, listed, without_get, without_put, not_possible}
+use Rattle.dlms_service.specs.Planned.{IsValue, IsPlanFor, IsDone}
 use Rattle.dlms_service.specs.Shown.{Sends, IsShown, asked, WouldShow}
 use Rattle.dlms_service.specs.Blocks.{Completes, Steps, Begins, Continues, open_for, ended_form}
-use Rattle.dlms_service.specs.Serves.{Choice, FindsMemory, LacksMemory, Leads, Asks, Lacks, Requested, permits}
+use Rattle.dlms_service.specs.Serves.{Choice, FindsMemory, LacksMemory, Asks, Lacks, Requested, permits}
 
--- nothing was accepted, and nothing changed
-pub nothing_done : (P : Outcome → Type 0) (E : List Event) (s : SessionValue) (answer : List ℕ) (state : StateValue) → IsStateOf E state → answer ≡ (not_possible s).answer
-    → Leads (λ o. P o ⊎ (o ≡ not_possible s)) E s answer state
-nothing_done P E s answer state is e = ([], inr (ap (λ a. record { own = s; answer = a; accepted = [] }) e), rw (append-nil E) is)
-
-pub completed : (E : List Event) (s : SessionValue) (invoke number : ℕ) (t : Target) (joined : List ℕ) (value : Option Value) (own : SessionValue) (answer : List ℕ) (state : StateValue)
-    → IsValue joined value → IsDone E (without_put s) (ended_form t.service invoke number) (IsPlanFor t.service s.client t value) own answer state
-    → Leads (λ o. Completes E s invoke number t joined o ⊎ (o ≡ not_possible s)) E own answer state
-completed E s invoke number t joined value own answer state is d =
-    (accepted E d.0, inl (value, d.0, is, d.1, d.2, rw (d.3, d.4) refl), d.5)
+pub completed : (E : List Event) (s : SessionValue) (invoke number : ℕ) (t : Target) (joined : List ℕ) (value : Option Value) (o : Outcome)
+    → IsValue joined value → IsDone E (without_put s) (ended_form t.service invoke number) (IsPlanFor t.service s.client t value) o
+    → Completes E s invoke number t joined o ⊎ (o ≡ not_possible s)
+completed E s invoke number t joined value o is d = inl (value, d.0, is, d.1, d.2, d.3)
 
 -- a value that was sent, or for which there was no memory
 pub given : (E : List Event) (s : SessionValue) (a : Association) (invoke : ℕ) (d : Descriptor) (selector : Option apdu.Selection) (v : Value) (own : SessionValue) (answer : List ℕ)
@@ -72,59 +66,44 @@ answered : (given wanted : Result PutStep ℕ) → Answered given wanted → wan
 answered (Ok x) wanted h = h
 answered (Err code) wanted h = h
 
-pub continued : (E : List Event) (s : SessionValue) (service : Service) (invoke : ℕ) (b : BlockForm) (t : Target) (coming : Coming) (step : Result PutStep ℕ) (own : SessionValue) (answer : List ℕ) (state : StateValue)
+pub continued : (E : List Event) (s : SessionValue) (service : Service) (invoke : ℕ) (b : BlockForm) (t : Target) (coming : Coming) (step : Result PutStep ℕ) (o : Outcome)
     → open_for service s.target ≡ Some t
     → Answered step (more_answer s.coming.taken s.coming.joined b.last b.number b.raw) → coming ≡ more_after s.coming.taken s.coming b.last b.number b.raw
-    → Leads (λ o. Steps E s invoke b.number t coming step o ⊎ ((step ≡ Ok Whole) × (o ≡ not_possible s))) E own answer state
-    → Leads (λ o. Continues E s service invoke b o ⊎ (IsTrue b.last × (o ≡ not_possible s))) E own answer state
-continued E s service invoke b t coming step own answer state is_open a after leads = (leads.0, by leads.1, leads.2)
-  where
-    by : (Steps E s invoke b.number t coming step (record { own = own; answer = answer; accepted = leads.0 }) ⊎ ((step ≡ Ok Whole) × (record { own = own; answer = answer; accepted = leads.0 } ≡ not_possible s)))
-        → (Continues E s service invoke b (record { own = own; answer = answer; accepted = leads.0 }) ⊎ (IsTrue b.last × (record { own = own; answer = answer; accepted = leads.0 } ≡ not_possible s)))
-    by (inl steps) = inl (rw (is_open, answered step (more_answer s.coming.taken s.coming.joined b.last b.number b.raw) a, sym after) steps)
-    by (inr h) = inr (further_is_last s.coming.taken s.coming.joined b.last b.number b.raw (answered step (more_answer s.coming.taken s.coming.joined b.last b.number b.raw) a ∙ h.0), h.1)
+    → Steps E s invoke b.number t coming step o ⊎ ((step ≡ Ok Whole) × (o ≡ not_possible s))
+    → Continues E s service invoke b o ⊎ (IsTrue b.last × (o ≡ not_possible s))
+continued E s service invoke b t coming step o is_open a after (inl steps) = inl (rw (is_open, answered step (more_answer s.coming.taken s.coming.joined b.last b.number b.raw) a, sym after) steps)
+continued E s service invoke b t coming step o is_open a after (inr h) =
+    inr (further_is_last s.coming.taken s.coming.joined b.last b.number b.raw (answered step (more_answer s.coming.taken s.coming.joined b.last b.number b.raw) a ∙ h.0), h.1)
 
 -- ---- a request within an association
 
-pub led : (E : List Event) (s : SessionValue) (a : Association) (form : RequestForm) (own : SessionValue) (answer : List ℕ) (state : StateValue)
-    → permits a form ≡ true → Leads (λ o. Asks E s a form o ⊎ Lacks E s a form o) E own answer state
-    → (choice : Choice) × Leads (λ o. Requested choice E s a form o) E own answer state
-led E s a form own answer state p leads = by leads.1
-  where
-    by : (Asks E s a form (record { own = own; answer = answer; accepted = leads.0 }) ⊎ Lacks E s a form (record { own = own; answer = answer; accepted = leads.0 }))
-        → (choice : Choice) × Leads (λ o. Requested choice E s a form o) E own answer state
-    by (inl asks) = (FindsMemory, (leads.0, rw p asks, leads.2))
-    by (inr lacks) = (LacksMemory, (leads.0, lacks, leads.2))
+pub led : (E : List Event) (s : SessionValue) (a : Association) (form : RequestForm) (o : Outcome) → permits a form ≡ true → Asks E s a form o ⊎ Lacks E s a form o → (choice : Choice) × Requested choice E s a form o
+led E s a form o p (inl asks) = (FindsMemory, rw p asks)
+led E s a form o p (inr lacks) = (LacksMemory, lacks)
 
 -- what accepts nothing
-pub alone : (E : List Event) (s : SessionValue) (a : Association) (form : RequestForm) (own : SessionValue) (answer : List ℕ) (state : StateValue) → IsStateOf E state
-    → Asks E s a form (record { own = own; answer = answer; accepted = [] }) ⊎ Lacks E s a form (record { own = own; answer = answer; accepted = [] })
-    → Leads (λ o. Asks E s a form o ⊎ Lacks E s a form o) E own answer state
-alone E s a form own answer state is h = ([], h, rw (append-nil E) is)
+pub accepts_nothing : (own : SessionValue) (answer : List ℕ) (served : Served) → served.answer.items ≡ answer → served.event ≡ None → record { own = own; answer = answer; accepted = [] } ≡ outcome_of own served
+accepts_nothing own answer served is none =
+    ap (λ (a : List ℕ). record { own = own; answer = a; accepted = [] }) (sym is) ∙ ap (λ (e : Option Event). record { own = own; answer = served.answer.items; accepted = listed e }) (sym none)
 
 -- what is planned and done
-pub set_done : (E : List Event) (s : SessionValue) (a : Association) (invoke : ℕ) (d : Descriptor) (selector : Option apdu.Selection) (selected : Bool) (v : Value) (own : SessionValue) (answer : List ℕ) (state : StateValue)
+pub set_done : (E : List Event) (s : SessionValue) (a : Association) (invoke : ℕ) (d : Descriptor) (selector : Option apdu.Selection) (selected : Bool) (v : Value) (o : Outcome)
     → selected ≡ is_some selector
-    → IsDone E (without_put s) (set_result invoke) (IsPlanFor Set s.client (record { service = Set; descriptor = d; selected = selected }) (Some v)) own answer state
-    → Leads (λ o. Asks E s a (set_normal invoke d selector v) o ⊎ Lacks E s a (set_normal invoke d selector v) o) E own answer state
-set_done E s a invoke d selector selected v own answer state e h = (accepted E h.0, inl (h.0, rw (sym e) h.1, h.2, rw (h.3, h.4) refl), h.5)
+    → IsDone E (without_put s) (set_result invoke) (IsPlanFor Set s.client (record { service = Set; descriptor = d; selected = selected }) (Some v)) o
+    → Asks E s a (set_normal invoke d selector v) o ⊎ Lacks E s a (set_normal invoke d selector v) o
+set_done E s a invoke d selector selected v o e h = inl (h.0, rw (sym e) h.1, h.2, h.3)
 
-pub action_done : (E : List Event) (s : SessionValue) (a : Association) (invoke : ℕ) (d : Descriptor) (parameter : Option Value) (own : SessionValue) (answer : List ℕ) (state : StateValue)
-    → IsDone E (without_put s) (action_result invoke) (λ plan. plan ≡ event_asked s.client d parameter) own answer state
-    → Leads (λ o. Asks E s a (action_normal invoke d parameter) o ⊎ Lacks E s a (action_normal invoke d parameter) o) E own answer state
-action_done E s a invoke d parameter own answer state h = (accepted E h.0, inl (h.0, h.1, h.2, rw (h.3, h.4) refl), h.5)
+pub action_done : (E : List Event) (s : SessionValue) (a : Association) (invoke : ℕ) (d : Descriptor) (parameter : Option Value) (o : Outcome)
+    → IsDone E (without_put s) (action_result invoke) (λ plan. plan ≡ event_asked s.client d parameter) o
+    → Asks E s a (action_normal invoke d parameter) o ⊎ Lacks E s a (action_normal invoke d parameter) o
+action_done E s a invoke d parameter o h = inl h
 
-pub begun : (E : List Event) (s : SessionValue) (a : Association) (invoke : ℕ) (d : Descriptor) (selector : Option apdu.Selection) (selected last : Bool) (number : ℕ) (raw : List ℕ) (own : SessionValue) (answer : List ℕ) (state : StateValue)
+pub begun : (E : List Event) (s : SessionValue) (a : Association) (invoke : ℕ) (d : Descriptor) (selector : Option apdu.Selection) (selected last : Bool) (number : ℕ) (raw : List ℕ) (o : Outcome)
     → selected ≡ is_some selector
-    → Leads (λ o. Begins E s invoke (record { service = Set; descriptor = d; selected = selected }) (record { last = last; number = number; raw = raw }) o ⊎ (IsTrue last × (o ≡ not_possible s))) E own answer state
-    → Leads (λ o. Asks E s a (set_first invoke d selector last number raw) o ⊎ Lacks E s a (set_first invoke d selector last number raw) o) E own answer state
-begun E s a invoke d selector selected last number raw own answer state e leads = (leads.0, by leads.1, leads.2)
-  where
-    by : (Begins E s invoke (record { service = Set; descriptor = d; selected = selected }) (record { last = last; number = number; raw = raw }) (record { own = own; answer = answer; accepted = leads.0 })
-        ⊎ (IsTrue last × (record { own = own; answer = answer; accepted = leads.0 } ≡ not_possible s)))
-        → Asks E s a (set_first invoke d selector last number raw) (record { own = own; answer = answer; accepted = leads.0 }) ⊎ Lacks E s a (set_first invoke d selector last number raw) (record { own = own; answer = answer; accepted = leads.0 })
-    by (inl h) = inl (rw (sym e) h)
-    by (inr h) = inr (inr h.0, h.1)
+    → Begins E s invoke (record { service = Set; descriptor = d; selected = selected }) (record { last = last; number = number; raw = raw }) o ⊎ (IsTrue last × (o ≡ not_possible s))
+    → Asks E s a (set_first invoke d selector last number raw) o ⊎ Lacks E s a (set_first invoke d selector last number raw) o
+begun E s a invoke d selector selected last number raw o e (inl h) = inl (rw (sym e) h)
+begun E s a invoke d selector selected last number raw o e (inr h) = inr (inr h.0, h.1)
 
 -- a selector is there, whatever is seen of it
 pub there : {A B : Type 0} (f : A → B) (o : Option A) → is_some o ≡ is_some (option_map f o)

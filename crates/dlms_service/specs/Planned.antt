@@ -1,5 +1,5 @@
 -- Which event a SET or an ACTION leads to, with a value that came in one piece or in blocks, and how it is answered.
-use Rattle.std.specs.Prelude.{◌≡◌, ℕ, Bool, if◌then◌else◌, List, [], ◌∷◌, ◌++◌, Option, Some, None, Result, Ok, Err, MatchResult, ⊤}
+use Rattle.std.specs.Prelude.{◌≡◌, ℕ, Bool, if◌then◌else◌, List, [], ◌∷◌, Option, Some, None, IfSome, Result, Ok, Err, MatchResult, ⊤}
 use Rattle.dlms_data.specs.Value.{Value}
 use Rattle.dlms_data.specs.Spelling.{IsSpelling}
 use Rattle.dlms_data.specs.declared.descriptor.Descriptor.{Descriptor}
@@ -8,8 +8,8 @@ use Rattle.dlms_apdu.specs.Forms.{ResponseForm}
 use Rattle.dlms_apdu.specs.Writing.{response_bytes}
 use Rattle.dlms_state.specs.declared.event.Event.{Event}
 use Rattle.dlms_state.specs.declared.event.Refused.{Refused}
-use Rattle.dlms_state.specs.Refusal.{refusal_after}
-use Rattle.dlms_state.specs.StateValue.{StateValue, IsStateOf}
+use Rattle.dlms_state.specs.Refusal.{refusal, refusal_after}
+use Rattle.dlms_state.specs.StateValue.{StateValue}
 use Rattle.dlms_state.specs.Types.{FitsType}
 use Rattle.dlms_classes.specs.declared.access.AccessResult.{AccessResult}
 use Rattle.dlms_classes.specs.declared.access.AccessResult.TheVariants.{TypeUnmatched, ScopeOfAccessViolated, OtherReason}
@@ -71,8 +71,10 @@ result_of E (Err r) = number_of r
 abbrev pub done : List Event → SessionValue → (ℕ → ResponseForm) → Result Event AccessResult → Outcome
 done E s form plan = record { own = s; answer = response_bytes (form (result_of E plan)); accepted = accepted E plan }
 
--- a plan of this kind is done: what is kept, the answer, and the state with what was accepted
-abbrev pub IsDone : List Event → SessionValue → (ℕ → ResponseForm) → (Result Event AccessResult → Type 0) → SessionValue → List ℕ → StateValue → Type 0
-IsDone E s form IsPlanned own answer state =
-    (plan : Result Event AccessResult) × IsPlanned plan × IsTyped plan × (own ≡ s) × (answer ≡ response_bytes (form (result_of E plan)))
-    × IsStateOf (E ++ accepted E plan) state
+-- a plan of this kind is done
+abbrev pub IsDone : List Event → SessionValue → (ℕ → ResponseForm) → (Result Event AccessResult → Type 0) → Outcome → Type 0
+IsDone E s form IsPlanned o = (plan : Result Event AccessResult) × IsPlanned plan × IsTyped plan × (o ≡ done E s form plan)
+
+-- the event, if there is one, may come next in this state
+abbrev pub Passes : StateValue → Option Event → Type 0
+Passes s event = IfSome event (λ e. refusal s.last s.offset e ≡ None)

@@ -1,6 +1,6 @@
 -- What an APDU of a client leads to, after the accepted events (IEC 62056-5-3: COSEM-OPEN, COSEM-RELEASE, GET, SET, ACTION,
 -- Exception-Response; which result and which exception answer which case is the meter's own).
-use Rattle.std.specs.Prelude.{◌≡◌, ◌⊎◌, ℕ, ◌==◌, ◌&&◌, Bool, true, false, List, [], ◌∷◌, ◌++◌, Option, Some, None, IsTrue, IsOk, is_some, Result, Ok, Err}
+use Rattle.std.specs.Prelude.{◌≡◌, ◌⊎◌, ℕ, ◌==◌, ◌&&◌, Bool, true, false, List, [], ◌∷◌, Option, Some, None, IsTrue, IsOk, is_some, Result, Ok, Err}
 use Rattle.dlms_acse.specs.Reading.{aarq_at}
 use Rattle.dlms_acse.specs.Verdict.{Request, verdict}
 use Rattle.dlms_acse.specs.Writing.{aare_bytes, release_response}
@@ -12,7 +12,7 @@ use Rattle.dlms_apdu.specs.Reading.{request_at, IsThere}
 use Rattle.dlms_apdu.specs.declared.fault.Refusal.{Refusal}
 use Rattle.dlms_state.specs.declared.event.Event.{Event}
 use Rattle.dlms_state.specs.Events.{secret_after}
-use Rattle.dlms_state.specs.StateValue.{StateValue, IsStateOf, state_of}
+use Rattle.dlms_state.specs.StateValue.{state_of}
 use Rattle.dlms_classes.specs.declared.access.AccessResult.{AccessResult}
 use Rattle.dlms_classes.specs.declared.access.AccessResult.TheVariants.{TemporaryFailure}
 use Rattle.dlms_classes.specs.Access.{number_of}
@@ -121,14 +121,3 @@ Associated choice E s apdu false o = Released choice E s apdu (begins_with 0x62 
 
 abbrev pub Serves : Choice → List Event → SessionValue → List ℕ → Outcome → Type 0
 Serves choice E s apdu o = Associated choice E s apdu (begins_with 0x60 apdu) o
-
--- ---- what a call shows
-
--- an outcome of this kind: what is kept, the answer, and the state with what was accepted
-abbrev pub Leads : (Outcome → Type 0) → List Event → SessionValue → List ℕ → StateValue → Type 0
-Leads IsOutcome E own answer state =
-    (accepted : List Event) × IsOutcome (record { own = own; answer = answer; accepted = accepted }) × IsStateOf (E ++ accepted) state
-
--- a request is met, or memory for it is wanting
-abbrev pub Meets : List Event → SessionValue → Association → RequestForm → SessionValue → List ℕ → StateValue → Type 0
-Meets E s a form own answer state = Leads (λ o. Asks E s a form o ⊎ Lacks E s a form o) E own answer state

@@ -1,7 +1,7 @@
 -- What the meter keeps of one client above the link: its association, and its transfers of long values (IEC 62056-5-3:
 -- the association is that of COSEM-OPEN and COSEM-RELEASE, the transfers are those of GET, SET and ACTION with
 -- datablocks).
-use Rattle.std.specs.Prelude.{ℕ, ◌≤◌, ◌==◌, not, Bool, bit_and, List, [], Option, Some, None}
+use Rattle.std.specs.Prelude.{ℕ, ◌≤◌, ◌==◌, not, Bool, bit_and, List, [], ◌∷◌, Option, Some, None}
 use Rattle.dlms_blocks.specs.Coming.{Coming, nothing}
 use Rattle.dlms_blocks.specs.Going.{Going}
 use Rattle.dlms_frame.specs.declared.client.Client.{Client}
@@ -9,6 +9,7 @@ use Rattle.dlms_apdu.specs.Forms.{ResponseForm, exception}
 use Rattle.dlms_apdu.specs.Writing.{response_bytes}
 use Rattle.dlms_state.specs.declared.event.Event.{Event}
 use Rattle.dlms_service.specs.declared.association.Association.{Association}
+use Rattle.dlms_service.specs.declared.served.Served.{Served}
 use Rattle.dlms_service.specs.declared.target.Target.{Target}
 
 pub record SessionValue : Type 0 where
@@ -69,6 +70,14 @@ pub record Outcome : Type 0 where
   pub own : SessionValue
   pub answer : List ℕ
   pub accepted : List Event
+
+abbrev pub listed : Option Event → List Event
+listed None = []
+listed (Some event) = event ∷ []
+
+-- what a call shows of it
+abbrev pub outcome_of : SessionValue → Served → Outcome
+outcome_of own served = record { own = own; answer = served.answer.items; accepted = listed served.event }
 
 -- an answer alone
 abbrev pub says : SessionValue → ResponseForm → Outcome

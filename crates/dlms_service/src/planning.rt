@@ -7,7 +7,8 @@ ghost use Rattle.dlms_data.specs.Spelling.{IsSpelling};
 ghost use Rattle.dlms_state.specs.declared.event.Event.{Event};
 ghost use Rattle.dlms_state.specs.StateValue.{IsStateOf};
 ghost use Rattle.dlms_classes.specs.Plan.{IsPlan};
-ghost use Rattle.dlms_service.specs.Planned.{IsValue, set_asked, call_asked, IsPlanFor, IsTyped, accepted, result_of};
+ghost use Rattle.dlms_service.specs.Planned.{IsValue, set_asked, call_asked, IsPlanFor, IsTyped, Passes, accepted, result_of};
+ghost use Rattle.dlms_service.specs.Session.{listed};
 
 use crate::target::{Service, Target};
 use dlms_classes::{AccessResult, plan_action, plan_set};
@@ -103,20 +104,21 @@ pub fn plan<A: Allocator + Copy>(
     }
 }
 
-/// Accepts what is planned, and answers the result: 0, or why it is refused.
-pub fn accept<A: Allocator + Copy>(state: &mut State<A>, plan: Result<Event, AccessResult>) -> u8
+/// What comes of a plan: the result, 0 or why it is refused, and the event that is to be accepted.
+pub fn decide<A: Allocator + Copy>(
+    state: &State<A>,
+    plan: Result<Event, AccessResult>,
+) -> (u8, Option<Event>)
     ensures typed { IsTyped plan }
-    ensures state { (E : List Event) → IsStateOf E state.old → IsStateOf (E ++ accepted E plan) state.new }
-    ensures result { (E : List Event) → IsStateOf E state.old → result ≡ result_of E plan }
+    ensures passes { Passes state.now result.1 }
+    ensures event { (E : List Event) → IsStateOf E state.now → listed result.1 ≡ accepted E plan }
+    ensures result { (E : List Event) → IsStateOf E state.now → result.0 ≡ result_of E plan }
 {
     match plan {
         Ok(event) => match state.check(&event) {
-            Ok(()) => {
-                state.apply(event);
-                SUCCESS
-            }
-            Err(_) => AccessResult::OtherReason.number(),
+            Ok(()) => (SUCCESS, Some(event)),
+            Err(_) => (AccessResult::OtherReason.number(), None),
         },
-        Err(refusal) => refusal.number(),
+        Err(refusal) => (refusal.number(), None),
     }
 }

@@ -15,15 +15,16 @@ ghost use Rattle.dlms_state.specs.StateValue.{IsStateOf};
 ghost use Rattle.dlms_state.specs.declared.event.Event.{Event};
 ghost use Rattle.dlms_service.specs.declared.target.Service.TheVariants.{Set};
 ghost use Rattle.dlms_service.specs.Blocks.{Begins, Continues, Steps, Completes, ended_form};
-ghost use Rattle.dlms_service.specs.Planned.{IsPlanFor, IsDone};
-ghost use Rattle.dlms_service.specs.Session.{SessionValue, Outcome, HasSize, fresh, without_get, without_put, not_possible};
+ghost use Rattle.dlms_service.specs.Planned.{IsPlanFor, IsDone, Passes};
+ghost use Rattle.dlms_service.specs.Session.{SessionValue, Outcome, HasSize, outcome_of, fresh, without_get, without_put, not_possible};
 ghost use Rattle.dlms_service.specs.Shown.{Sends, in_blocks, next_answer, goes_on};
-ghost use Rattle.dlms_service.specs.Serves.{Choice, Serves, Within, Requested, Asks, Lacks, Leads, associated, judged, released, opened_by};
+ghost use Rattle.dlms_service.specs.Serves.{Choice, Serves, Within, Requested, Asks, Lacks, associated, judged, released, opened_by};
 
 use crate::association::Association;
 use crate::blocks::{NO_LONG_GET, NO_LONG_SET, code_for, ended, no_block, open_for, taken};
 use crate::permitting::permits;
-use crate::planning::{accept, plan, set_event, value_in};
+use crate::planning::{decide, plan, set_event, value_in};
+use crate::served::{Served, alone};
 use crate::shown::{refused, shown};
 use crate::target::{Service, Target};
 use crate::writing::{
@@ -86,13 +87,14 @@ impl<A: Allocator + Copy> Session<A> {
         self.end_put();
     }
 
-    /// Serves an APDU of the client: its answer, and in the state the event that it led to.
-    pub fn serve(&mut self, alloc: A, state: &mut State<A>, apdu: &[u8]) -> Answer
-        ensures { (E : List Event) → IsStateOf E state.old → (choice : Choice) × Leads (λ o. Serves choice E self.old apdu.now o) E self.new result.items state.new }
+    /// Serves an APDU of the client: its answer, and the event that it leads to, which the state does not refuse.
+    pub fn serve(&mut self, alloc: A, state: &State<A>, apdu: &[u8]) -> Served
+        ensures serves { (E : List Event) → IsStateOf E state.now → (choice : Choice) × Serves choice E self.old apdu.now (outcome_of self.new result) }
+        ensures passes { Passes state.now result.event }
     {
         match apdu.first() {
-            Some(0x60) => self.associate(state, apdu),
-            Some(0x62) => self.release(),
+            Some(0x60) => alone(self.associate(state, apdu)),
+            Some(0x62) => alone(self.release()),
             _ => self.within(alloc, state, apdu),
         }
     }
@@ -129,16 +131,17 @@ impl<A: Allocator + Copy> Session<A> {
     }
 
     /// Any other APDU.
-    fn within(&mut self, alloc: A, state: &mut State<A>, apdu: &[u8]) -> Answer
-        ensures { (E : List Event) → IsStateOf E state.old → (choice : Choice) × Leads (λ o. Within choice E self.old apdu.now self.old.opened o) E self.new result.items state.new }
+    fn within(&mut self, alloc: A, state: &State<A>, apdu: &[u8]) -> Served
+        ensures serves { (E : List Event) → IsStateOf E state.now → (choice : Choice) × Within choice E self.old apdu.now self.old.opened (outcome_of self.new result) }
+        ensures passes { Passes state.now result.event }
     {
         let Some(association) = self.association else {
-            return not_associated();
+            return alone(not_associated());
         };
         match read_request(alloc, apdu) {
             Ok(request) => self.request(alloc, state, association, request),
-            Err(ApduFault::Memory) => not_possible(),
-            Err(_) => unknown_service(),
+            Err(ApduFault::Memory) => alone(not_possible()),
+            Err(_) => alone(unknown_service()),
         }
     }
 
@@ -146,30 +149,27 @@ impl<A: Allocator + Copy> Session<A> {
     fn request(
         &mut self,
         alloc: A,
-        state: &mut State<A>,
+        state: &State<A>,
         association: Association,
         request: Request<'_, A>,
-    ) -> Answer
+    ) -> Served
         requires size { HasSize (Some association) }
-        ensures { (E : List Event) → IsStateOf E state.old → (choice : Choice) × Leads (λ o. Requested choice E self.old association (request_of request.entry) o) E self.new result.items state.new }
+        ensures serves { (E : List Event) → IsStateOf E state.now → (choice : Choice) × Requested choice E self.old association (request_of request.entry) (outcome_of self.new result) }
+        ensures passes { Passes state.now result.event }
     {
         if !permits(association, &request) {
-            return not_supported();
+            return alone(not_supported());
         }
         match request {
             Request::GetNormal {
                 invoke,
                 descriptor,
                 selector,
-            } => self.get_normal(
-                alloc,
-                state,
-                association,
-                invoke,
-                descriptor,
-                selector.as_ref(),
-            ),
-            Request::GetNext { invoke, number } => self.get_next(alloc, invoke, number),
+            } => {
+                let selector = selector.as_ref();
+                alone(self.get_normal(alloc, state, association, invoke, descriptor, selector))
+            }
+            Request::GetNext { invoke, number } => alone(self.get_next(alloc, invoke, number)),
             Request::SetNormal {
                 invoke,
                 descriptor,
@@ -322,51 +322,56 @@ impl<A: Allocator + Copy> Session<A> {
     /// SET of an attribute.
     fn set_normal(
         &mut self,
-        state: &mut State<A>,
+        state: &State<A>,
         invoke: u8,
         descriptor: Descriptor,
         selected: bool,
         value: &Data<A>,
-    ) -> Answer
-        ensures { (E : List Event) → IsStateOf E state.old
-            → IsDone E (without_put self.old) (set_result invoke) (IsPlanFor Set self.old.client (record { service = Set; descriptor = descriptor; selected = selected }) (Some (value_of value.now))) self.new result.items state.new }
+    ) -> Served
+        ensures done { (E : List Event) → IsStateOf E state.now
+            → IsDone E (without_put self.old) (set_result invoke) (IsPlanFor Set self.old.client (record { service = Set; descriptor = descriptor; selected = selected }) (Some (value_of value.now))) (outcome_of self.new result) }
+        ensures passes { Passes state.now result.event }
     {
         self.end_put();
         let plan = set_event(self.client, descriptor, selected, Some(value));
-        let result = accept(state, plan);
-        short(&Response::SetResult { invoke, result })
+        let (result, event) = decide(state, plan);
+        let answer = short(&Response::SetResult { invoke, result });
+        Served { answer, event }
     }
 
     /// ACTION of a method.
     fn action_normal(
         &mut self,
-        state: &mut State<A>,
+        state: &State<A>,
         invoke: u8,
         descriptor: Descriptor,
         parameter: Option<&Data<A>>,
-    ) -> Answer
-        ensures { (E : List Event) → IsStateOf E state.old
-            → IsDone E (without_put self.old) (action_result invoke) (λ plan. plan ≡ event_asked self.old.client descriptor (option_map (λ v. value_of v.now) parameter.entry)) self.new result.items state.new }
+    ) -> Served
+        ensures done { (E : List Event) → IsStateOf E state.now
+            → IsDone E (without_put self.old) (action_result invoke) (λ plan. plan ≡ event_asked self.old.client descriptor (option_map (λ v. value_of v.now) parameter.entry)) (outcome_of self.new result) }
+        ensures passes { Passes state.now result.event }
     {
         self.end_put();
         let plan = plan_action(self.client, descriptor, parameter);
-        let result = accept(state, plan);
-        short(&Response::ActionResult { invoke, result })
+        let (result, event) = decide(state, plan);
+        let answer = short(&Response::ActionResult { invoke, result });
+        Served { answer, event }
     }
 
     /// The first block of a value that comes.
     fn first_block(
         &mut self,
         alloc: A,
-        state: &mut State<A>,
+        state: &State<A>,
         invoke: u8,
         target: Target,
         last: bool,
         number: u32,
         raw: &[u8],
-    ) -> Answer
-        ensures { (E : List Event) → IsStateOf E state.old
-            → Leads (λ o. Begins E self.old invoke target (record { last = last; number = number; raw = raw.now }) o ⊎ (IsTrue last × (o ≡ not_possible self.old))) E self.new result.items state.new }
+    ) -> Served
+        ensures begins { (E : List Event) → IsStateOf E state.now
+            → Begins E self.old invoke target (record { last = last; number = number; raw = raw.now }) (outcome_of self.new result) ⊎ (IsTrue last × (outcome_of self.new result ≡ not_possible self.old)) }
+        ensures passes { Passes state.now result.event }
     {
         let mut coming = PutIn::new();
         let step = coming.first(last, number, raw);
@@ -377,19 +382,21 @@ impl<A: Allocator + Copy> Session<A> {
     fn further_block(
         &mut self,
         alloc: A,
-        state: &mut State<A>,
+        state: &State<A>,
         service: Service,
         invoke: u8,
         last: bool,
         number: u32,
         raw: &[u8],
-    ) -> Answer
-        ensures { (E : List Event) → IsStateOf E state.old
-            → Leads (λ o. Continues E self.old service invoke (record { last = last; number = number; raw = raw.now }) o ⊎ (IsTrue last × (o ≡ not_possible self.old))) E self.new result.items state.new }
+    ) -> Served
+        ensures continues { (E : List Event) → IsStateOf E state.now
+            → Continues E self.old service invoke (record { last = last; number = number; raw = raw.now }) (outcome_of self.new result) ⊎ (IsTrue last × (outcome_of self.new result ≡ not_possible self.old)) }
+        ensures passes { Passes state.now result.event }
     {
         let Some(target) = open_for(service, self.target) else {
             self.end_put();
-            return ended(service, invoke, number, code_for(service, NO_LONG_SET));
+            let code = code_for(service, NO_LONG_SET);
+            return alone(ended(service, invoke, number, code));
         };
         let mut coming = self.coming.copy();
         let step = coming.more(last, number, raw);
@@ -400,30 +407,27 @@ impl<A: Allocator + Copy> Session<A> {
     fn step(
         &mut self,
         alloc: A,
-        state: &mut State<A>,
+        state: &State<A>,
         invoke: u8,
         number: u32,
         target: Target,
         coming: PutIn,
         step: Result<PutStep, u8>,
-    ) -> Answer
-        ensures { (E : List Event) → IsStateOf E state.old
-            → Leads (λ o. Steps E self.old invoke number target coming step o ⊎ ((step ≡ Ok Whole) × (o ≡ not_possible self.old))) E self.new result.items state.new }
+    ) -> Served
+        ensures steps { (E : List Event) → IsStateOf E state.now
+            → Steps E self.old invoke number target coming step (outcome_of self.new result) ⊎ ((step ≡ Ok Whole) × (outcome_of self.new result ≡ not_possible self.old)) }
+        ensures passes { Passes state.now result.event }
     {
         match step {
             Err(code) => {
                 self.end_put();
-                ended(
-                    target.service,
-                    invoke,
-                    number,
-                    code_for(target.service, code),
-                )
+                let code = code_for(target.service, code);
+                alone(ended(target.service, invoke, number, code))
             }
             Ok(PutStep::More) => {
                 self.target = Some(target);
                 self.coming = coming;
-                taken(target.service, invoke, number)
+                alone(taken(target.service, invoke, number))
             }
             Ok(PutStep::Whole) => self.complete(
                 alloc,
@@ -437,41 +441,43 @@ impl<A: Allocator + Copy> Session<A> {
     }
 
     /// The whole value came.
-    #[tactic(auto, using(crate::proofs::Serving::nothing_done))]
     fn complete(
         &mut self,
         alloc: A,
-        state: &mut State<A>,
+        state: &State<A>,
         invoke: u8,
         number: u32,
         target: Target,
         joined: &[u8],
-    ) -> Answer
-        ensures { (E : List Event) → IsStateOf E state.old
-            → Leads (λ o. Completes E self.old invoke number target joined.now o ⊎ (o ≡ not_possible self.old)) E self.new result.items state.new }
+    ) -> Served
+        ensures completes { (E : List Event) → IsStateOf E state.now
+            → Completes E self.old invoke number target joined.now (outcome_of self.new result) ⊎ (outcome_of self.new result ≡ not_possible self.old) }
+        ensures passes { Passes state.now result.event }
     {
         match value_in(alloc, joined) {
             Ok(value) => self.conclude(state, invoke, number, target, value.as_ref()),
-            Err(_) => not_possible(),
+            Err(_) => alone(not_possible()),
         }
     }
 
     /// What the whole value asks for is done.
     fn conclude(
         &mut self,
-        state: &mut State<A>,
+        state: &State<A>,
         invoke: u8,
         number: u32,
         target: Target,
         value: Option<&Data<A>>,
-    ) -> Answer
-        ensures { (E : List Event) → IsStateOf E state.old
-            → IsDone E (without_put self.old) (ended_form target.service invoke number) (IsPlanFor target.service self.old.client target (option_map (λ v. value_of v.now) value.entry)) self.new result.items state.new }
+    ) -> Served
+        ensures done { (E : List Event) → IsStateOf E state.now
+            → IsDone E (without_put self.old) (ended_form target.service invoke number) (IsPlanFor target.service self.old.client target (option_map (λ v. value_of v.now) value.entry)) (outcome_of self.new result) }
+        ensures passes { Passes state.now result.event }
     {
         self.end_put();
         let plan = plan(self.client, target, value);
-        let result = accept(state, plan);
-        ended(target.service, invoke, number, result)
+        let (result, event) = decide(state, plan);
+        let answer = ended(target.service, invoke, number, result);
+        Served { answer, event }
     }
 
     /// Ends the transfer of a value that goes out.

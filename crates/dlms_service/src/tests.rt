@@ -1,4 +1,4 @@
-use crate::Session;
+use crate::{Served, Session};
 use dlms_frame::Client;
 use dlms_state::State;
 use std::alloc::Global;
@@ -26,7 +26,11 @@ fn holds_a_talk(
     for (request, answer) in rows.iter() {
         let apdu = hex::decode(alloc, *request).ok().ok_or("digits")?;
         let wanted = hex::decode(alloc, *answer).ok().ok_or("digits")?;
-        if session.serve(alloc, state, apdu.as_slice()).as_slice() != wanted.as_slice() {
+        let Served { answer, event } = session.serve(alloc, state, apdu.as_slice());
+        if let Some(event) = event {
+            state.apply(event);
+        }
+        if answer.as_slice() != wanted.as_slice() {
             return Ok(false);
         }
     }

@@ -5,7 +5,7 @@ use Rattle.dlms_service.proofs.Values.{behind_reference}
 use Rattle.dlms_service.proofs.session.Session.complete.Goals as goal
 
 -- the whole value is the one that is concluded
-pub returns-in-Ok : goal.returns-in-Ok
-returns-in-Ok g c E is =
-    completed E c.args.self.now c.args.invoke c.args.number c.args.target c.args.joined.now (option_map value_of c.in-Ok.value) c.conclude.new.self c.conclude.result.items c.conclude.new.state
-    c.in-Ok.ensures (rw (sym (behind_reference c.as_ref.result c.in-Ok.value c.as_ref.ensures.value)) (c.conclude.ensures E is))
+pub returns-in-Ok-clause-completes : goal.returns-in-Ok-clause-completes
+returns-in-Ok-clause-completes g c E is =
+    completed E c.args.self.now c.args.invoke c.args.number c.args.target c.args.joined.now (option_map value_of c.in-Ok.value) _
+    c.in-Ok.ensures (rw (sym (behind_reference c.as_ref.result c.in-Ok.value c.as_ref.ensures.value)) (c.conclude.ensures.done E is))
