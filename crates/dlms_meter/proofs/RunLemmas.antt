@@ -11,7 +11,7 @@ use Rattle.dlms_frame.specs.Stream.{FrameAt, Fits, Takes as TakesBytes}
 use Rattle.dlms_frame.proofs.StreamLemmas.{frame_room}
 use Rattle.dlms_frame.proofs.LawLemmas.{next_stays}
 use Rattle.dlms_service.specs.Session.{SessionValue, Outcome}
-use Rattle.dlms_service.specs.Serves.{Choice, Serves, Leads}
+use Rattle.dlms_service.specs.Serves.{Choice, Serves}
 use Rattle.dlms_state.specs.declared.event.Event.{Event}
 use Rattle.dlms_state.specs.StateValue.{StateValue, IsStateOf}
 use Rattle.dlms_meter.specs.MeterValue.{ClientRecord, MeterValue}
@@ -26,26 +26,26 @@ none_ended kept stretch place fits = λ i j f behind at.
     absurd (omega arith)
 
 -- an APDU that was served, in the frame in which its answer went out
-pub apdu_handled : (own : ClientRecord) (f : Parts) (link after : ServerRecord) (apdu answer : List ℕ) (session : SessionValue) (reply : List ℕ) (state state' : StateValue)
+pub apdu_handled : (own : ClientRecord) (f : Parts) (link after : ServerRecord) (apdu : List ℕ) (o : Outcome) (reply : List ℕ) (state state' : StateValue)
     → Apdu ≡ (server_on own.link f).1 → link ≡ (server_on own.link f).0 → apdu ≡ link.apdu
-    → ((E : List Event) → IsStateOf E state → (choice : Choice) × Leads (λ o. Serves choice E own.session apdu o) E session answer state')
-    → after ≡ (server_send link answer).0 → reply ≡ spelling (server_send link answer).1
+    → ((E : List Event) → IsStateOf E state → (choice : Choice) × Serves choice E own.session apdu o)
+    → ((E : List Event) → IsStateOf E state → IsStateOf (E ++ o.accepted) state')
+    → after ≡ (server_send link o.answer).0 → reply ≡ spelling (server_send link o.answer).1
     → (E : List Event) → IsStateOf E state → (choice : Choice) × (accepted : List Event)
-    × Handles choice E own f (record { own = record { link = after; session = session }; reply = Some reply; accepted = accepted }) × IsStateOf (E ++ accepted) state'
-apdu_handled own f link after apdu answer session reply state state' out is handed serves sent frame = λ E of.
+    × Handles choice E own f (record { own = record { link = after; session = o.own }; reply = Some reply; accepted = accepted }) × IsStateOf (E ++ accepted) state'
+apdu_handled own f link after apdu o reply state state' out is handed serves applied sent frame = λ E of.
     let told = serves E of in
-    let o : Outcome = record { own = session; answer = answer; accepted = told.1.0 } in
-    let h : Handled = record { own = record { link = after; session = session }; reply = Some reply; accepted = told.1.0 } in
+    let h : Handled = record { own = record { link = after; session = o.own }; reply = Some reply; accepted = o.accepted } in
     let same : h ≡ sends link o =
-    ap (λ (r : ServerRecord). record h { own = record { link = r; session = session } }) sent
-    ∙ ap (λ (bytes : List ℕ). record { own = record { link = (server_send link answer).0; session = session }; reply = Some bytes; accepted = told.1.0 }) frame in
+    ap (λ (r : ServerRecord). record h { own = record { link = r; session = o.own } }) sent
+    ∙ ap (λ (bytes : List ℕ). record { own = record { link = (server_send link o.answer).0; session = o.own }; reply = Some bytes; accepted = o.accepted }) frame in
     let answered : Answered told.0 E link own.session Apdu h =
-    (o, subst (λ (bytes : List ℕ). Serves told.0 E own.session bytes o) handed told.1.1, same) in (
+    (o, subst (λ (bytes : List ℕ). Serves told.0 E own.session bytes o) handed told.1, same) in (
       told.0,
-      told.1.0,
+      o.accepted,
       subst (λ (r : ServerRecord). Answered told.0 E r own.session (server_on own.link f).1 h) is
           (subst (λ (given : LinkOut). Answered told.0 E link own.session given h) out answered),
-      told.1.2,
+      applied E of,
     )
 
 -- a call that ended no frame

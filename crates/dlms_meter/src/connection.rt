@@ -3,10 +3,11 @@
 ghost use Rattle.std.specs.Prelude.{◌≡◌, ◌≤◌, ◌++◌, [], List, None, length, IsSome, option_map};
 ghost use Rattle.dlms_frame.specs.Frame.{spelling};
 ghost use Rattle.dlms_link.specs.Server.{server_send};
-ghost use Rattle.dlms_service.specs.Session.{not_possible, unknown_service};
+ghost use Rattle.dlms_service.specs.Planned.{Passes};
+ghost use Rattle.dlms_service.specs.Session.{listed, not_possible, unknown_service};
 ghost use Rattle.dlms_service.specs.Serves.{Choice};
 ghost use Rattle.dlms_state.specs.StateValue.{IsStateOf};
-ghost use Rattle.dlms_state.specs.declared.event.Event.{Event};
+ghost use Rattle.dlms_state.specs.declared.event.Event.{Event as EventOf};
 ghost use Rattle.dlms_meter.specs.MeterValue.{fresh_record};
 ghost use Rattle.dlms_meter.specs.Run.{Handles};
 
@@ -14,7 +15,7 @@ use arrayvec::ArrayVec;
 use dlms_frame::{Client, Frame};
 use dlms_link::{LinkOut, ServerLink};
 use dlms_service::{Served, Session};
-use dlms_state::State;
+use dlms_state::{Event, State};
 use std::alloc::{Allocator, Global};
 use std::marker::Model;
 
@@ -58,7 +59,7 @@ impl<A: Allocator + Copy> Connection<A> {
 
     /// The reply to a frame, and in the state the event that it led to.
     pub fn answer(&mut self, alloc: A, state: &mut State<A>, frame: &Frame) -> Option<Reply>
-        ensures { (E : List Event) → IsStateOf E state.old → (choice : Choice) × (accepted : List Event)
+        ensures { (E : List EventOf) → IsStateOf E state.old → (choice : Choice) × (accepted : List EventOf)
             × Handles choice E self.old frame.now (record { own = self.new; reply = option_map (λ reply. reply.items) result; accepted = accepted })
             × IsStateOf (E ++ accepted) state.new }
     {
@@ -71,14 +72,22 @@ impl<A: Allocator + Copy> Connection<A> {
             }
             LinkOut::Apdu => {
                 let Served { answer, event } = self.session.serve(alloc, state, self.link.apdu());
-                if let Some(event) = event {
-                    state.apply(event);
-                }
+                accept(state, event);
                 Some(send(&mut self.link, answer.as_slice()))
             }
             LinkOut::Oversize => Some(send(&mut self.link, &TOO_LONG)),
             LinkOut::BadLlc => Some(send(&mut self.link, &UNKNOWN)),
         }
+    }
+}
+
+/// Accepts the event that an APDU led to, if there is one.
+fn accept<A: Allocator + Copy>(state: &mut State<A>, event: Option<Event>)
+    requires { Passes state.old event }
+    ensures { (E : List EventOf) → IsStateOf E state.old → IsStateOf (E ++ listed event) state.new }
+{
+    if let Some(event) = event {
+        state.apply(event);
     }
 }
 
