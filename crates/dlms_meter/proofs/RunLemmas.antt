@@ -10,7 +10,7 @@ use Rattle.dlms_frame.specs.declared.client.Client.TheVariants.{Public, Manageme
 use Rattle.dlms_frame.specs.Stream.{FrameAt, Fits, Takes as TakesBytes}
 use Rattle.dlms_frame.proofs.StreamLemmas.{frame_room}
 use Rattle.dlms_frame.proofs.LawLemmas.{next_stays}
-use Rattle.dlms_service.specs.Session.{SessionValue, Outcome}
+use Rattle.dlms_service.specs.Session.{Outcome}
 use Rattle.dlms_service.specs.Serves.{Choice, Serves}
 use Rattle.dlms_state.specs.declared.event.Event.{Event}
 use Rattle.dlms_state.specs.StateValue.{StateValue, IsStateOf}

@@ -1,5 +1,5 @@
 -- Why a device is not opened, as a reader finds it.
-use Rattle.std.proofs.Common.{Result, IfOk, IfErr, ◌≡◌, ◌≢◌, ◌<◌, ◌+◌, ◌⊎◌, inl, inr, ℕ, zero, suc, List, [], ◌∷◌, ◌++◌, length, Option, Some, None, Ok, Err, refl, sym, ◌∙◌, ap, subst, arith, true}
+use Rattle.std.proofs.Common.{Result, IfOk, IfErr, ◌≡◌, ◌≢◌, ◌<◌, ◌+◌, ◌⊎◌, inl, inr, ℕ, zero, suc, List, [], ◌∷◌, ◌++◌, length, Option, Some, None, Ok, Err, refl, sym, ◌∙◌, ap, subst, arith}
 use Rattle.dlms_pages.specs.Device.{Image, page_at}
 use Rattle.dlms_pages.specs.declared.device.PageRead.{PageRead}
 use Rattle.dlms_pages.specs.declared.device.PageRead.TheVariants.{Content, Damaged}
@@ -9,7 +9,6 @@ use Rattle.dlms_state.specs.Refusal.{IsLegal}
 use Rattle.dlms_state.specs.StateValue.{StateValue, HasEvents, IsStateOf}
 use Rattle.dlms_checkpoint.specs.Bodies.{awaited, first_fault}
 use Rattle.dlms_checkpoint.specs.Checkpoint.{IsCheckpointOf}
-use Rattle.dlms_checkpoint.specs.declared.reading.BodyFault.{BodyFault}
 use Rattle.dlms_store.specs.Active.{HasMore, IsBelow, IsChosen, IsThere}
 use Rattle.dlms_store.specs.Cause.{AllFit, AreOf, Fit, ComesFrom, IsBodyFault, IsCause, IsDue, IsNoState, IsUnfit, MayFollow, OfActive}
 use Rattle.dlms_store.specs.Image.{IsActive, IsBehind, Records}
