@@ -9,3 +9,4 @@ pub mod Whole
 pub mod ParameterLaws
 pub mod Sending
 pub mod OneRow
+pub mod LineLaws

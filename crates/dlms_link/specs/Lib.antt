@@ -8,3 +8,4 @@ pub mod Client
 pub mod ClientView
 pub mod World
 pub mod Segments
+pub mod Line

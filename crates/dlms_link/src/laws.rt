@@ -9,6 +9,7 @@ ghost use Rattle.dlms_link.specs.Segments.{joined, kept_after_all, read_whole, I
 ghost use Rattle.dlms_frame.specs.Frame.{Parts};
 ghost use Rattle.dlms_link.specs.Server.{ServerRecord, answered, link_step, row_of, server_send};
 ghost use Rattle.dlms_link.specs.Client.{ClientRecord, client_send};
+ghost use Rattle.dlms_link.specs.Line.{ApdusComeUp, LineIsSilent, OneFrameAtMost};
 ghost use Rattle.dlms_link.specs.World.{Event, run, start, IsBeginningOf};
 
 /// Over a line that loses any frames, and in which a time-out comes only where nothing is on the
@@ -18,6 +19,14 @@ pub fn in_order()
     ensures to_meter { (who : Client) (events : List Event) → IsBeginningOf (run events (start who)).served (run events (start who)).asked }
     ensures to_client { (who : Client) (events : List Event) → IsBeginningOf (run events (start who)).taken (run events (start who)).answers }
     ensures in_step { (who : Client) (events : List Event) → length (run events (start who)).served ≡ length (run events (start who)).answers }
+{}
+
+/// In every such run an APDU is handed up only where the meter's end is up and the client's link is open; where the client
+/// awaits nothing, nothing is on the line; and at most one frame is on the line at any time.
+pub fn the_line()
+    ensures comes_up { ApdusComeUp }
+    ensures silent { LineIsSilent }
+    ensures one_frame { OneFrameAtMost }
 {}
 
 /// An APDU that is handed up and the answer that is sent for it are one row of the meter's table.
