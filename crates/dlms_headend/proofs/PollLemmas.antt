@@ -42,9 +42,9 @@ due_goes plan apdus talk link new frame h d = due_goes-at plan apdus talk.stage 
 
 -- where the link stands then
 pub due_stands : (plan : PlanValue) (stage : Stage) (link new : ClientRecord) (frame : Parts) → IsIdle link → IsDue plan stage link frame new → StandsAt stage new.phase
-due_stands plan Associating link new frame idle d = inr (ap (λ (c : ClientRecord). c.phase) d.1 ∙ idle.0)
-due_stands plan (Getting taken) link new frame idle d = ap (λ (c : ClientRecord). c.phase) d.2.1 ∙ idle.0
-due_stands plan Releasing link new frame idle d = ap (λ (c : ClientRecord). c.phase) d.1 ∙ idle.0
+due_stands plan Associating link new frame idle d = inr (ap (λ (c : ClientRecord). c.phase) d.2 ∙ idle.0)
+due_stands plan (Getting taken) link new frame idle d = ap (λ (c : ClientRecord). c.phase) d.2.2 ∙ idle.0
+due_stands plan Releasing link new frame idle d = ap (λ (c : ClientRecord). c.phase) d.2 ∙ idle.0
 due_stands plan Leaving link new frame idle d = ap (λ (c : ClientRecord). c.phase) d.1
 
 -- memory was wanting for a GET
@@ -124,6 +124,7 @@ pub sends_on : (p new : PollerValue) (apdus : List (List ℕ)) (frame : Parts) �
     → new.talk ≡ p.talk → SendsOn p.plan apdus p.link frame new
 sends_on p new apdus frame running idle h d plan course talk = record {
   goes = due_goes p.plan apdus p.talk p.link new.link frame h d;
+  runs = course ∙ running;
   keeps = plan;
   fits = fits_running new apdus (course ∙ running) (rw talk h, rw talk (due_stands p.plan p.talk.stage p.link new.link frame idle d));
 }

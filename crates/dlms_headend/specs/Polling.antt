@@ -1,5 +1,5 @@
 -- A poll over the client's link, frame by frame.
-use Rattle.std.specs.Prelude.{◌≡◌, ◌⊎◌, ◌<◌, ℕ, List, [], ◌∷◌, ◌++◌, Option, Some, None, Result, Ok, Err, IsSome}
+use Rattle.std.specs.Prelude.{◌≡◌, ◌⊎◌, ◌<◌, ◌≤◌, ℕ, List, [], ◌∷◌, ◌++◌, length, Option, Some, None, Result, Ok, Err, IsSome}
 use Rattle.dlms_acse.specs.Writing.{release_request}
 use Rattle.dlms_frame.specs.Frame.{Parts}
 use Rattle.dlms_link.specs.Client.{ClientRecord, fresh_client, snrm_of, disc_of, client_connect, client_disconnect, client_send, client_step, client_timeout}
@@ -27,9 +27,9 @@ fresh_poll plan = record { plan = plan; link = fresh_client plan.client; course 
 
 -- ---- what is sent
 
--- the link is given this APDU
+-- the link is given this APDU, which has at most the bytes that a link takes
 abbrev pub Gives : ClientRecord → List ℕ → Parts → ClientRecord → Type 0
-Gives link apdu frame new = (frame ≡ (client_send link apdu).1) × (new ≡ (client_send link apdu).0)
+Gives link apdu frame new = (length apdu ≤ 1024) × (frame ≡ (client_send link apdu).1) × (new ≡ (client_send link apdu).0)
 
 -- the request for the next block; for the buffer, where none has come
 abbrev pub IsGet : PlanValue → ℕ → List ℕ → Type 0
@@ -74,14 +74,18 @@ Fits p apdus = FitsIn p.course p apdus
 
 -- ---- frames
 
--- it fails for good
-pub record HasFailed {X : Type 0} (fault : PollFault) (result : Result X PollFault) (new : PollerValue) : Type 0 where
-  pub answer : result ≡ Err fault
-  pub course : new.course ≡ Failed fault
+-- it fails for good, and keeps its plan
+abbrev pub IsFailed : PlanValue → PollFault → PollerValue → Type 0
+IsFailed plan fault new = (new.course ≡ Failed fault) × (new.plan ≡ plan)
 
--- what goes out after these APDUs, on a link that awaits nothing
+pub record HasFailed {X : Type 0} (plan : PlanValue) (fault : PollFault) (result : Result X PollFault) (new : PollerValue) : Type 0 where
+  pub answer : result ≡ Err fault
+  pub failed : IsFailed plan fault new
+
+-- what goes out after these APDUs, on a link that awaits nothing; the poll goes on
 pub record SendsOn (plan : PlanValue) (apdus : List (List ℕ)) (link : ClientRecord) (frame : Parts) (new : PollerValue) : Type 0 where
   pub goes : Goes plan apdus link frame new.link
+  pub runs : new.course ≡ Running
   pub keeps : new.plan ≡ plan
   pub fits : Fits new apdus
 
@@ -94,25 +98,26 @@ abbrev pub Continues : PlanValue → List (List ℕ) → ClientRecord → Result
 Continues plan apdus link (Ok step.Nothing) new = ⊥
 Continues plan apdus link (Ok (step.Send frame)) new = SendsOn plan apdus link frame new
 Continues plan apdus link (Ok step.Done) new = ⊥
-Continues plan apdus link (Err fault) new = (fault ≡ Memory) × WantsRequest apdus × (new.course ≡ Failed fault)
+Continues plan apdus link (Err fault) new = (fault ≡ Memory) × WantsRequest apdus × IsFailed plan fault new
 
 -- the link hands up the next APDU
 abbrev pub Answers : PlanValue → List (List ℕ) → ClientRecord → Result PollStep PollFault → PollerValue → Type 0
 Answers plan apdus link (Ok step.Nothing) new = ⊥
 Answers plan apdus link (Ok (step.Send frame)) new = SendsOn plan (apdus ++ link.apdu ∷ []) link frame new
 Answers plan apdus link (Ok step.Done) new = ⊥
-Answers plan apdus link (Err fault) new = (Ends apdus link.apdu fault ⊎ ((fault ≡ Memory) × WantsRequest (apdus ++ link.apdu ∷ []))) × (new.course ≡ Failed fault)
+Answers plan apdus link (Err fault) new = (Ends apdus link.apdu fault ⊎ ((fault ≡ Memory) × WantsRequest (apdus ++ link.apdu ∷ []))) × IsFailed plan fault new
 
 -- the link goes down: as the poll asked for, or against it
 pub record IsDone (old : PollerValue) (result : Result PollStep PollFault) (new : PollerValue) : Type 0 where
   pub answer : result ≡ Ok step.Done
   pub course : new.course ≡ Done
+  pub keeps : new.plan ≡ old.plan
   pub talk : new.talk ≡ old.talk
 
 abbrev pub GoesDown : Stage → PollerValue → Result PollStep PollFault → PollerValue → Type 0
-GoesDown Associating old result new = HasFailed Protocol result new
-GoesDown (Getting taken) old result new = HasFailed Protocol result new
-GoesDown Releasing old result new = HasFailed Protocol result new
+GoesDown Associating old result new = HasFailed old.plan Protocol result new
+GoesDown (Getting taken) old result new = HasFailed old.plan Protocol result new
+GoesDown Releasing old result new = HasFailed old.plan Protocol result new
 GoesDown Leaving old result new = IsDone old result new
 
 -- a frame, while these APDUs were taken, by what the link makes of it
@@ -126,10 +131,10 @@ PollsBy out.Down link apdus old result new = GoesDown old.talk.stage old result 
 -- a frame before the first one went out
 abbrev pub PollsEarly : ClientOut → PollerValue → Result PollStep PollFault → PollerValue → Type 0
 PollsEarly out.Nothing old result new = (result ≡ Ok step.Nothing) × (new ≡ old)
-PollsEarly out.Up old result new = HasFailed Protocol result new
-PollsEarly (out.Send frame) old result new = HasFailed Protocol result new
-PollsEarly out.Apdu old result new = HasFailed Protocol result new
-PollsEarly out.Down old result new = HasFailed Protocol result new
+PollsEarly out.Up old result new = HasFailed old.plan Protocol result new
+PollsEarly (out.Send frame) old result new = HasFailed old.plan Protocol result new
+PollsEarly out.Apdu old result new = HasFailed old.plan Protocol result new
+PollsEarly out.Down old result new = HasFailed old.plan Protocol result new
 
 abbrev pub PollsIn : Course → List (List ℕ) → Parts → PollerValue → Result PollStep PollFault → PollerValue → Type 0
 PollsIn Ready apdus frame old result new = PollsEarly (client_step old.link frame).1 old result new
@@ -153,7 +158,7 @@ Begins old result new = BeginsIn old.course old result new
 -- a time-out of the frame that is out
 abbrev pub TimesOutBy : ClientRecord × Option Parts → PollerValue → Result Parts PollFault → PollerValue → Type 0
 TimesOutBy (link, Some frame) old result new = (result ≡ Ok frame) × (new ≡ record old { link = link })
-TimesOutBy (link, None) old result new = HasFailed Line result new
+TimesOutBy (link, None) old result new = HasFailed old.plan Line result new
 
 abbrev pub TimesOutIn : Course → PollerValue → Result Parts PollFault → PollerValue → Type 0
 TimesOutIn (Failed fault) old result new = (result ≡ Err fault) × (new ≡ old)

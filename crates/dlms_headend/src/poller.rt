@@ -159,7 +159,7 @@ impl<A: Allocator + Copy> Poller<A> {
 
     /// The poll fails.
     fn fail(&mut self, fault: PollFault) -> Result<PollStep, PollFault>
-        ensures { HasFailed fault result self.new }
+        ensures { HasFailed self.old.plan fault result self.new }
     {
         self.course = Course::Failed(fault);
         Err(fault)
