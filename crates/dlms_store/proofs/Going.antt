@@ -1,8 +1,8 @@
 -- Calls of a store, one after another.
-use Rattle.std.proofs.Common.{◌≡◌, inl, inr, ◌≤◌, ◌↔◌, ℕ, ◌+◌, Bool, true, false, List, [], ◌∷◌, ◌++◌, length, refl, sym, ◌∙◌, ap, subst, arith, Some, None, Result, Ok, Err}
+use Rattle.std.proofs.Common.{◌≡◌, inl, inr, ◌≤◌, ◌↔◌, ℕ, ◌+◌, Bool, true, false, List, [], ◌∷◌, ◌++◌, length, refl, sym, ◌∙◌, ap, subst, arith, Some, None, Result, Ok, Err, suc, take}
 use Rattle.std.specs.Prelude.{OnOk, OnErr, ◌≢◌}
 use Rattle.std.proofs.lemmas.Bool.{cases_lt}
-use Rattle.dlms_pages.specs.Device.{Image, Rules, Rose}
+use Rattle.dlms_pages.specs.Device.{Image, Rules, Rose, View}
 use Rattle.dlms_pages.specs.declared.device.Pages.{Ghosts}
 use Rattle.dlms_pages.proofs.Moments.{then_also, weaker}
 use Rattle.dlms_state.specs.declared.event.Event.{Event}
@@ -11,15 +11,17 @@ use Rattle.dlms_journal.specs.Record.{record_of}
 use Rattle.dlms_store.specs.Store.{IsStopped, IsRunning, JoinsPending, IsExhausted, AddIsExhausted, CommitIsExhausted, Joins, JoinsAlone, Settles as SettlesAll, Fails as FailsIn, view_of, records_in, refusal_in}
 use Rattle.dlms_store.specs.World.{World, Step, Next, Run}
 use Rattle.dlms_store.specs.World.World.{Runs, InDoubt, Rests}
-use Rattle.dlms_store.specs.World.Step.{Adds, AddsBehind, Settles, Fails, Refuses}
-use Rattle.dlms_store.specs.Fitting.{StoreFits, LeftBy, Moves, AddMoves, commit_step}
-use Rattle.dlms_store.specs.Going.{Knows, LeftDuring, Goes, AddGoes, CommitGoes, HasCause}
+use Rattle.dlms_store.specs.World.Step.{Adds, AddsBehind, Settles, Fails, Refuses, Stops}
+use Rattle.dlms_store.specs.Fitting.{StoreFits, LeftBy, Moves, AddMoves, commit_step, DeviceFits}
+use Rattle.dlms_store.specs.Going.{Knows, LeftDuring, Goes, AddGoes, CommitGoes, HasCause, StopsDuring}
 use Rattle.dlms_store.specs.declared.store.Store.{Store}
 use Rattle.dlms_store.specs.declared.fault.AddFault.{AddFault}
 use Rattle.dlms_store.specs.declared.fault.AddFault.TheVariants as add
 use Rattle.dlms_store.specs.declared.fault.StoreFault.{StoreFault}
 use Rattle.dlms_store.specs.declared.fault.StoreFault.TheVariants as commit
-use Rattle.dlms_store.proofs.Keeping.{refuses}
+use Rattle.dlms_store.proofs.Keeping.{refuses, left_in_doubt}
+use Rattle.dlms_pages.specs.Stops.{IsFixed}
+use Rattle.dlms_store.specs.Image.{IsLeftFor}
 
 -- ---- what a stop leaves during one step more
 
@@ -37,6 +39,27 @@ later (one ∷ two ∷ steps) before mid step image (first, next, run) left = in
 run_on : (steps : List Step) (before mid now : World) (step : Step) → Run before steps mid → Next mid step now → Run before (steps ++ step ∷ []) now
 run_on [] before mid now step run next = (now, subst (λ (w : World). Next w step now) run next, refl)
 run_on (one ∷ steps) before mid now step (first, is, run) next = (first, is, run_on steps first mid now step run next)
+
+-- ---- what a stop left fits the world after it
+
+-- a device with this one image
+rests : (v : View) (image : Image) (before : World) → IsFixed v image → LeftBy before image → (events : List Event) × Next before Stops (Rests events) × DeviceFits v (Rests events)
+rests v image before fixed (events, next, left) = (events, next, record { honest = fixed.honest; each = λ c may. subst (IsLeftFor events) (sym (fixed.only c may)) left })
+
+at_once : (v : View) (image : Image) (before : World) (steps : List Step) → IsFixed v image → LeftBy before image → (now : World) × StopsDuring before steps now × DeviceFits v now
+at_once v image before steps fixed left = (let (events, next, fits) = rests v image before fixed left in (Rests events, (0, (Rests events, next, refl)), fits))
+
+pub stopped_during : (v : View) (image : Image) → IsFixed v image → (steps : List Step) (before : World) → LeftDuring before steps image → (now : World) × StopsDuring before steps now × DeviceFits v now
+stopped_during v image fixed [] before left = at_once v image before [] fixed left
+stopped_during v image fixed (step ∷ []) before left = at_once v image before (step ∷ []) fixed left
+stopped_during v image fixed (step ∷ other ∷ steps) before (inl left) = at_once v image before (step ∷ other ∷ steps) fixed left
+stopped_during v image fixed (step ∷ other ∷ steps) before (inr (mid, next, left)) = (let (now, (count, run), fits) = stopped_during v image fixed (other ∷ steps) mid left in (now, (suc count, (mid, next, run)), fits))
+
+-- what a stop leaves of a device that was given back
+pub left_alone : (v : View) (world : World) → DeviceFits v world → (image : Image) → v.may_leave image → LeftBy world image
+left_alone v (Runs s p) fits image left = absurd fits
+left_alone v (InDoubt s p) fits image left = left_in_doubt s p image (fits.each image left)
+left_alone v (Rests events) fits image left = (events, refl, fits.each image left)
 
 -- ---- calls
 

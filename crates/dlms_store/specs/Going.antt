@@ -1,5 +1,5 @@
 -- Calls of a store, one after another.
-use Rattle.std.specs.Prelude.{◌≡◌, ◌⊎◌, List, [], ◌∷◌, Result, Ok, Err}
+use Rattle.std.specs.Prelude.{◌≡◌, ◌⊎◌, ℕ, List, [], ◌∷◌, ◌++◌, take, Result, Ok, Err}
 use Rattle.dlms_pages.specs.Device.{Image, Rose}
 use Rattle.dlms_pages.specs.Stops.{LeavesOnly}
 use Rattle.dlms_pages.specs.declared.device.Pages.{Ghosts}
@@ -8,7 +8,7 @@ use Rattle.dlms_store.specs.Fitting.{StoreFits, LeftBy, commit_step}
 use Rattle.dlms_store.specs.Store.{Remembers, IsStopped, IsRunning, IsExhausted, view_of}
 use Rattle.dlms_store.specs.World.{World, Step, Next, Run}
 use Rattle.dlms_store.specs.World.World.{Runs, InDoubt, Rests}
-use Rattle.dlms_store.specs.World.Step.{Adds, AddsBehind, Fails, Refuses}
+use Rattle.dlms_store.specs.World.Step.{Adds, AddsBehind, Fails, Refuses, Stops}
 use Rattle.dlms_store.specs.declared.store.Store.{Store}
 use Rattle.dlms_store.specs.declared.fault.AddFault.{AddFault}
 use Rattle.dlms_store.specs.declared.fault.AddFault.TheVariants as add
@@ -25,6 +25,10 @@ abbrev pub LeftDuring : World → List Step → Image → Type 0
 LeftDuring before [] image = LeftBy before image
 LeftDuring before (step ∷ []) image = LeftBy before image
 LeftDuring before (step ∷ other ∷ steps) image = LeftBy before image ⊎ ((mid : World) × Next before step mid × LeftDuring mid (other ∷ steps) image)
+
+-- The power stopped in these steps: some of them were taken, and then the stop.
+abbrev pub StopsDuring : World → List Step → World → Type 0
+StopsDuring before steps now = (count : ℕ) × Run before (take count steps ++ Stops ∷ []) now
 
 -- Calls, one after another, that were these steps. Where the device keeps the rules, a stop at any moment of them leaves what a
 -- stop may leave in a world before one of them.

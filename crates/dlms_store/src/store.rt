@@ -205,7 +205,8 @@ impl<P: Pages, A: Allocator + Copy> Store<P, A> {
         self.state.apply(event);
     }
 
-    /// Settles what is pending: in the next journal page or, where all are used, in a checkpoint.
+    /// Settles what is pending: in the next journal page or, where all are used, in a checkpoint. With nothing pending it
+    /// does nothing.
     pub fn commit(&mut self) -> Result<(), StoreFault>
         ensures run { (before : World) → StoreFits self.old before → Moves (commit_step result) before self.old self.new }
         ensures settles { OnOk result (Settles self.old self.new) }
@@ -217,6 +218,7 @@ impl<P: Pages, A: Allocator + Copy> Store<P, A> {
         ensures answers { IsRunning self.old → (Rose (view_of self.old).faults (view_of self.new).faults → ⊥) → (CommitIsExhausted self.old → ⊥) → IsOk result }
         ensures exhausted { (result ≡ Err StoreFault.Exhausted) ↔ (IsRunning self.old × CommitIsExhausted self.old) }
         ensures unchanged { OnErr result (result ≢ Err StoreFault.Device → self.new ≡ self.old) }
+        ensures nothing { IsRunning self.old → records_in self.old ≡ [] → (result ≡ Ok tt) × (self.new ≡ self.old) }
         ensures later { (view_of self.old).faults ≤ (view_of self.new).faults }
     {
         if self.stopped {
@@ -278,9 +280,8 @@ impl<P: Pages, A: Allocator + Copy> Store<P, A> {
         Ok(())
     }
 
-    /// The state after every event that was accepted. Its clause `between_calls` says what a stop leaves while no call is made.
+    /// The state after every event that was accepted.
     pub fn state(&self) -> &State<A>
-        ensures between_calls { (world : World) → StoreFits self.now world → (image : Image) → (view_of self.now).may_leave image → LeftBy world image }
         ensures value { result.now ≡ state_in self.now }
         ensures after { (settled pending : List EventOf) → Remembers settled pending self.now → IsStateOf (settled ++ pending) result.now }
     {
