@@ -43,7 +43,7 @@ first_none bytes long secret text rows same =
     rw (a, b, d, e, f) refl
 
 -- the front of the bytes says what the whole says
-rows_of_front : (n : ℕ) (bytes : List ℕ) → 288 ≤ n → row_count (take n bytes) ≡ row_count bytes
+pub rows_of_front : (n : ℕ) (bytes : List ℕ) → 288 ≤ n → row_count (take n bytes) ≡ row_count bytes
 rows_of_front n bytes long = big_from-take 286 2 n bytes (omega arith)
 
 pub first_is_taken : (bytes : List ℕ) (s : StateValue) → IsCheckpointOf s bytes → first_fault (body_at 0 bytes) ≡ None

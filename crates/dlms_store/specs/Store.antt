@@ -1,5 +1,5 @@
 -- What a store knows of events, whatever its device does.
-use Rattle.std.specs.Prelude.{◌≡◌, ◌≤◌, ◌<◌, ◌+◌, ℕ, true, false, List, [], ◌∷◌, ◌++◌, length, Option}
+use Rattle.std.specs.Prelude.{◌≡◌, ◌≢◌, ◌≤◌, ◌<◌, ◌+◌, ℕ, true, false, List, [], ◌∷◌, ◌++◌, length, Option}
 use Rattle.dlms_pages.specs.Device.{View, Rose}
 use Rattle.dlms_pages.specs.declared.device.Pages.{Ghosts}
 use Rattle.dlms_state.specs.declared.event.Event.{Event}
@@ -7,7 +7,9 @@ use Rattle.dlms_state.specs.declared.event.Refused.{Refused}
 use Rattle.dlms_state.specs.Refusal.{refusal}
 use Rattle.dlms_state.specs.StateValue.{StateValue, IsStateOf}
 use Rattle.dlms_journal.specs.Record.{Holds, record_of}
+use Rattle.dlms_store.specs.Layout.{other_of}
 use Rattle.dlms_store.specs.declared.store.Store.{Store}
+use Rattle.dlms_store.specs.declared.layout.TheConstants.{JOURNAL_PAGES, PAGES}
 
 -- what is known of its device
 abbrev pub view_of : {P A : Type 0} → {ghosts : Ghosts P} → Store P A ghosts → View
@@ -30,11 +32,11 @@ IsRunning store = store.stopped ≡ false
 
 -- a device on which no store has room
 abbrev pub IsTooSmall : View → Type 0
-IsTooSmall device = length device.seen < 82
+IsTooSmall device = length device.seen < PAGES
 
 -- a commit of what is pending makes a checkpoint
 abbrev pub IsFull : {P A : Type 0} → {ghosts : Ghosts P} → Store P A ghosts → Type 0
-IsFull store = store.next ≡ 16
+IsFull store = store.next ≡ JOURNAL_PAGES
 
 -- no further checkpoint can be made
 abbrev pub IsLast : {P A : Type 0} → {ghosts : Ghosts P} → Store P A ghosts → Type 0
@@ -47,6 +49,22 @@ refusal_in store event = refusal store.state.last store.state.offset event
 -- the event's record fits behind those that are pending
 abbrev pub HasRoom : {P A : Type 0} → {ghosts : Ghosts P} → Store P A ghosts → Event → Type 0
 HasRoom store event = length store.pending.items + length (record_of event) ≤ 496
+
+-- `add` puts the event behind those that are pending; else these are settled first, and it stands alone
+abbrev pub JoinsPending : {P A : Type 0} → {ghosts : Ghosts P} → Store P A ghosts → Event → Type 0
+JoinsPending store event = HasRoom store event
+
+-- no page of the journal is left, and no checkpoint can be made: what is pending stays so
+abbrev pub IsExhausted : {P A : Type 0} → {ghosts : Ghosts P} → Store P A ghosts → Type 0
+IsExhausted store = IsFull store × IsLast store
+
+-- a commit needs a checkpoint that can no longer be made
+abbrev pub CommitIsExhausted : {P A : Type 0} → {ghosts : Ghosts P} → Store P A ghosts → Type 0
+CommitIsExhausted store = (records_in store ≢ []) × IsExhausted store
+
+-- so does the commit that this event's `add` needs
+abbrev pub AddIsExhausted : {P A : Type 0} → {ghosts : Ghosts P} → Store P A ghosts → Event → Type 0
+AddIsExhausted store event = (JoinsPending store event → ⊥) × IsExhausted store
 
 -- These events are settled, and those are pending: the store has the state of them all, and the records of the pending ones.
 pub record Remembers {P A : Type 0} {ghosts : Ghosts P} (settled pending : List Event) (store : Store P A ghosts) : Type 0 where
@@ -82,3 +100,9 @@ pub record IsElsewhereSame {P A : Type 0} {ghosts : Ghosts P} (old new : Store P
   pub generation : new.generation ≡ old.generation
   pub next : new.next ≡ old.next
   pub stopped : new.stopped ≡ old.stopped
+
+-- A checkpoint was made: the other slot is active, of the next generation, and the journal begins again.
+pub record IsRenewed {P A : Type 0} {ghosts : Ghosts P} (old new : Store P A ghosts) : Type 0 where
+  pub slot : new.slot ≡ other_of old.slot
+  pub generation : new.generation ≡ old.generation + 1
+  pub next : new.next ≡ 0

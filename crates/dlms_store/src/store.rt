@@ -6,6 +6,7 @@ ghost use Rattle.dlms_state.specs.declared.event.Event.{Event as EventOf};
 ghost use Rattle.dlms_journal.specs.Record.{record_of};
 ghost use Rattle.dlms_state.specs.StateValue.{IsStateOf, HasEvents};
 ghost use Rattle.dlms_state.specs.declared.event.Refused.{Refused};
+ghost use Rattle.dlms_store.specs.declared.layout.TheConstants.{PAGES, JOURNAL_PAGES};
 
 use crate::fault::{AddFault, OpenFault, StoreFault};
 use crate::format::{begin, clear};
@@ -34,17 +35,19 @@ pub struct Store<P: Pages, A: Allocator = Global> {
     /// How many journal pages of this generation are written.
     next: u16,
     stopped: bool,
-    ghost enough: { 82 ≤ length (P.view device).seen },
-    ghost few: { next ≤ 16 },
+    ghost enough: { PAGES ≤ length (P.view device).seen },
+    ghost few: { next ≤ JOURNAL_PAGES },
 }
 
 impl<P: Pages, A: Allocator + Copy> Store<P, A> {
-    ghost use Rattle.dlms_store.specs.Store.{view_of, state_in, records_in, IsStopped, IsRunning, IsTooSmall, IsFull, IsLast, refusal_in, HasRoom, Remembers, Settles, Joins, JoinsAlone, Fails, IsElsewhereSame};
+    ghost use Rattle.dlms_store.specs.Store.{view_of, state_in, records_in, IsStopped, IsRunning, IsTooSmall, IsLast, refusal_in, HasRoom, JoinsPending, AddIsExhausted, CommitIsExhausted, Remembers, Settles, Joins, JoinsAlone, Fails, IsElsewhereSame, IsRenewed};
     ghost use Rattle.dlms_store.specs.World.{World};
     ghost use Rattle.dlms_store.specs.World.World.{Runs, Rests};
-    ghost use Rattle.dlms_store.specs.Active.{HasMore, IsFound};
-    ghost use Rattle.dlms_store.specs.Cause.{ComesFrom, IsCause, OfActive};
-    ghost use Rattle.dlms_store.specs.Fitting.{StoreFits, DeviceFits, OpensAs, GivesBack, LeftBy, Moves, AddMoves, GivesUp, commit_step};
+    ghost use Rattle.dlms_store.specs.Active.{HasMore, IsFound, IsFresh};
+    ghost use Rattle.dlms_store.specs.Cause.{IsCause};
+    ghost use Rattle.dlms_store.specs.Image.{Quiet, StandsFor, all_of};
+    ghost use Rattle.dlms_store.specs.Steady.{Fixes, FixesNothing, IsRenewable, StandsBetween, Steady};
+    ghost use Rattle.dlms_store.specs.Fitting.{StoreFits, DeviceFits, IsOpened, IsRefusal, OpensAs, GivesBack, LeftBy, Moves, AddMoves, GivesUp, commit_step};
     ghost use Rattle.dlms_store.specs.World.Step.{Adds, Closes, ClosesInDoubt};
 
     /// Makes a device empty: every page zeros, and the checkpoint of no events in the first slot.
@@ -89,8 +92,13 @@ impl<P: Pages, A: Allocator + Copy> Store<P, A> {
         ensures runs { IfOk result (λ store. IsStopped store → ⊥) }
         ensures size { IfErr result (λ e. (e.1 ≡ OpenFault.Size) ↔ IsTooSmall (P.view device)) }
         ensures device { IfErr result (λ e. e.1 ≡ OpenFault.Device → Rose (P.view device).faults (P.view e.0).faults) }
-        ensures sound { (P.view device).honest ≡ true → IfOk result (λ store. OfActive (P.view device).seen (λ gate generation. ComesFrom gate generation (P.view device).seen (state_in store))) }
-        ensures cause { (P.view device).honest ≡ true → IfErr result (λ e. IsCause e.1 (P.view device).seen) }
+        ensures exact { (P.view device).honest ≡ true → MatchResult result (IsOpened (P.view device).seen) (λ e. IsCause e.1 (P.view device).seen) }
+        ensures steady { (events : List EventOf) → (P.view device).honest ≡ true → ((image : Image) → (P.view device).may_leave image → StandsFor events image)
+            → MatchResult result (λ store. Steady events (P.view device) (view_of store)) (λ e. Steady events (P.view device) (P.view e.0)) }
+        ensures fixes { (settled pending : List EventOf) → (P.view device).honest ≡ true → ((image : Image) → (P.view device).may_leave image → StandsBetween settled pending image)
+            → MatchResult result (λ store. Fixes settled pending (P.view device) (view_of store))
+            (λ e. Fixes settled pending (P.view device) (P.view e.0) ⊎ ((e.1 ≡ OpenFault.Device) × FixesNothing settled pending (P.view device) (P.view e.0))) }
+        ensures stands { (events : List EventOf) → (P.view device).honest ≡ true → StandsFor events (P.view device).seen → MatchResult result (Remembers events []) (λ e. IsRefusal e.1) }
     {
         let mut device = device;
         if device.count() < PAGES {
@@ -107,13 +115,15 @@ impl<P: Pages, A: Allocator + Copy> Store<P, A> {
 
     // The store of what was found, with a checkpoint where one is due.
     fn recovered(device: P, found: Found<A>) -> Result<Self, (P, OpenFault)>
-        requires room { 82 ≤ length (P.view device).seen }
-        requires few { found.journal.pages ≤ 16 }
+        requires room { PAGES ≤ length (P.view device).seen }
+        requires few { found.journal.pages ≤ JOURNAL_PAGES }
         requires events { HasEvents found.state }
-        ensures opens { (image : Image) (events : List EventOf) → IsFixed (P.view device) image → IsFound image events found
+        ensures opens { (image : Image) (base : List EventOf) (pages : List (List EventOf)) (events : List EventOf) → IsFixed (P.view device) image → IsFound image base pages found → base ++ all_of pages ≡ events → Quiet found.generation (length pages) image
             → MatchResult result (OpensAs (Rests events) (P.view device)) (λ e. GivesBack (Rests events) (P.view device) (P.view e.0) e.1) }
-        ensures opened { IfOk result (λ store. (events : List EventOf) × Remembers events [] store) }
-        ensures state { IfOk result (λ store. state_in store ≡ found.state) }
+        ensures remembers { (events : List EventOf) → IsStateOf events found.state → IfOk result (Remembers events []) }
+        ensures fresh { IfOk result (IsFresh found) }
+        ensures steady { (image : Image) (base : List EventOf) (pages : List (List EventOf)) → IsFixed (P.view device) image → IsFound image base pages found
+            → MatchResult result (λ store. Steady (base ++ all_of pages) (P.view device) (view_of store)) (λ e. Steady (base ++ all_of pages) (P.view device) (P.view e.0)) }
         ensures runs { IfOk result (λ store. IsStopped store → ⊥) }
         ensures device { IfErr result (λ e. e.1 ≡ OpenFault.Device → Rose (P.view device).faults (P.view e.0).faults) }
         ensures exhausted { IfErr result (λ e. e.1 ≡ OpenFault.Exhausted → (found.generation ≡ 18446744073709551615) × HasMore found.journal) }
@@ -142,15 +152,17 @@ impl<P: Pages, A: Allocator + Copy> Store<P, A> {
     /// Takes an event. Where its record does not fit behind those that are pending, these are committed first.
     pub fn add(&mut self, event: Event) -> Result<(), AddFault>
         ensures run { (before : World) → StoreFits self.old before → AddMoves result event before self.old self.new }
-        ensures joins { OnOk result (HasRoom self.old event → Joins event self.old self.new) }
-        ensures joins_alone { OnOk result ((HasRoom self.old event → ⊥) → JoinsAlone event self.old self.new) }
+        ensures joins { OnOk result (JoinsPending self.old event → Joins event self.old self.new) }
+        ensures joins_alone { OnOk result ((JoinsPending self.old event → ⊥) → JoinsAlone event self.old self.new) }
         ensures runs { OnOk result (IsStopped self.new → ⊥) }
         ensures stopped { (result ≡ Err AddFault.Stopped) ↔ IsStopped self.old }
         ensures refused { (cause : Refused) → (result ≡ Err (AddFault.Refused cause)) ↔ (IsRunning self.old × (refusal_in self.old event ≡ Some cause)) }
         ensures device { result ≡ Err AddFault.Device → Fails self.old self.new }
-        ensures answers { IsRunning self.old → refusal_in self.old event ≡ None → (Rose (view_of self.old).faults (view_of self.new).faults → ⊥) → (IsFull self.old × IsLast self.old → ⊥) → IsOk result }
-        ensures exhausted { (result ≡ Err AddFault.Exhausted) ↔ (IsRunning self.old × (refusal_in self.old event ≡ None) × (HasRoom self.old event → ⊥) × IsFull self.old × IsLast self.old) }
+        ensures answers { IsRunning self.old → refusal_in self.old event ≡ None → (Rose (view_of self.old).faults (view_of self.new).faults → ⊥) → (AddIsExhausted self.old event → ⊥) → IsOk result }
+        ensures exhausted { (result ≡ Err AddFault.Exhausted) ↔ (IsRunning self.old × (refusal_in self.old event ≡ None) × AddIsExhausted self.old event) }
         ensures unchanged { OnErr result (result ≢ Err AddFault.Device → self.new ≡ self.old) }
+        ensures page { OnOk result (length (records_in self.new) ≤ 496) }
+        ensures later { (view_of self.old).faults ≤ (view_of self.new).faults }
     {
         if self.stopped {
             return Err(AddFault::Stopped);
@@ -174,6 +186,8 @@ impl<P: Pages, A: Allocator + Copy> Store<P, A> {
         ensures run { (before : World) → IsRunning self.old → StoreFits self.old before → Moves (Adds event) before self.old self.new }
         ensures joins { Joins event self.old self.new }
         ensures stopped { self.new.stopped ≡ self.old.stopped }
+        ensures device { self.new.device ≡ self.old.device }
+        ensures page { length (records_in self.new) ≤ 496 }
     {
         self.join(event, spelled);
     }
@@ -185,13 +199,15 @@ impl<P: Pages, A: Allocator + Copy> Store<P, A> {
         requires room { HasRoom self.old event }
         ensures joins { Joins event self.old self.new }
         ensures same { IsElsewhereSame self.old self.new }
+        ensures page { length (records_in self.new) ≤ 496 }
     {
         event.fits();
         let _fits = self.pending.try_extend_from_slice(spelled);
         self.state.apply(event);
     }
 
-    /// Settles what is pending: in the next journal page or, where all are used, in a checkpoint.
+    /// Settles what is pending: in the next journal page or, where all are used, in a checkpoint. With nothing pending it
+    /// does nothing.
     pub fn commit(&mut self) -> Result<(), StoreFault>
         ensures run { (before : World) → StoreFits self.old before → Moves (commit_step result) before self.old self.new }
         ensures settles { OnOk result (Settles self.old self.new) }
@@ -200,9 +216,11 @@ impl<P: Pages, A: Allocator + Copy> Store<P, A> {
         ensures state { state_in self.new ≡ state_in self.old }
         ensures stopped { (result ≡ Err StoreFault.Stopped) ↔ IsStopped self.old }
         ensures device { result ≡ Err StoreFault.Device → Fails self.old self.new }
-        ensures answers { IsRunning self.old → (Rose (view_of self.old).faults (view_of self.new).faults → ⊥) → (IsFull self.old × IsLast self.old → ⊥) → IsOk result }
-        ensures exhausted { (result ≡ Err StoreFault.Exhausted) ↔ (IsRunning self.old × (records_in self.old ≢ []) × IsFull self.old × IsLast self.old) }
+        ensures answers { IsRunning self.old → (Rose (view_of self.old).faults (view_of self.new).faults → ⊥) → (CommitIsExhausted self.old → ⊥) → IsOk result }
+        ensures exhausted { (result ≡ Err StoreFault.Exhausted) ↔ (IsRunning self.old × CommitIsExhausted self.old) }
         ensures unchanged { OnErr result (result ≢ Err StoreFault.Device → self.new ≡ self.old) }
+        ensures nothing { IsRunning self.old → records_in self.old ≡ [] → (result ≡ Ok tt) × (self.new ≡ self.old) }
+        ensures later { (view_of self.old).faults ≤ (view_of self.new).faults }
     {
         if self.stopped {
             return Err(StoreFault::Stopped);
@@ -237,9 +255,12 @@ impl<P: Pages, A: Allocator + Copy> Store<P, A> {
         ensures state { state_in self.new ≡ state_in self.old }
         ensures stopped { (result ≡ Err StoreFault.Stopped) ↔ IsStopped self.old }
         ensures device { result ≡ Err StoreFault.Device → Fails self.old self.new }
+        ensures renewed { OnOk result (IsRenewed self.old self.new) }
+        ensures steady { (base : List EventOf) (pages : List (List EventOf)) → IsRenewable base pages self.old → Steady (base ++ all_of pages) (view_of self.old) (view_of self.new) }
         ensures answers { IsRunning self.old → (Rose (view_of self.old).faults (view_of self.new).faults → ⊥) → (IsLast self.old → ⊥) → IsOk result }
         ensures exhausted { (result ≡ Err StoreFault.Exhausted) ↔ (IsRunning self.old × IsLast self.old) }
         ensures unchanged { OnErr result (result ≢ Err StoreFault.Device → self.new ≡ self.old) }
+        ensures later { (view_of self.old).faults ≤ (view_of self.new).faults }
     {
         if self.stopped {
             return Err(StoreFault::Stopped);
@@ -260,9 +281,8 @@ impl<P: Pages, A: Allocator + Copy> Store<P, A> {
         Ok(())
     }
 
-    /// The state after every event that was accepted. Its clause `between_calls` says what a stop leaves while no call is made.
+    /// The state after every event that was accepted.
     pub fn state(&self) -> &State<A>
-        ensures between_calls { (world : World) → StoreFits self.now world → (image : Image) → (view_of self.now).may_leave image → LeftBy world image }
         ensures value { result.now ≡ state_in self.now }
         ensures after { (settled pending : List EventOf) → Remembers settled pending self.now → IsStateOf (settled ++ pending) result.now }
     {
@@ -280,7 +300,7 @@ impl<P: Pages, A: Allocator + Copy> Store<P, A> {
     /// Commits, and gives the device back. Where the commit fails, what was pending is in doubt.
     pub fn close(self) -> P
         ensures run { (before : World) → StoreFits self before → GivesUp Closes before (view_of self) (P.view result) ⊎ GivesUp ClosesInDoubt before (view_of self) (P.view result) }
-        ensures settles { (IsStopped self → ⊥) → (Rose (view_of self).faults (P.view result).faults → ⊥) → (IsFull self × IsLast self → ⊥)
+        ensures settles { (IsStopped self → ⊥) → (Rose (view_of self).faults (P.view result).faults → ⊥) → (CommitIsExhausted self → ⊥)
             → (before : World) → StoreFits self before → GivesUp Closes before (view_of self) (P.view result) }
     {
         let mut store = self;
