@@ -1,6 +1,5 @@
 pub mod Active
 pub mod Cause
-pub mod Clear
 pub mod Fault
 pub mod Fitting
 pub mod Form
@@ -8,13 +7,11 @@ pub mod Going
 pub mod Image
 pub mod Layout
 pub mod Page
-pub mod Puts
-pub mod PutsAll
 pub mod Ring
 pub mod RingCause
 pub mod Settled
-pub mod SlotWritten
 pub mod Steady
 pub mod Store
 pub mod Versions
 pub mod World
+pub mod Writing

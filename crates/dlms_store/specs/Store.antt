@@ -9,6 +9,7 @@ use Rattle.dlms_state.specs.StateValue.{StateValue, IsStateOf}
 use Rattle.dlms_journal.specs.Record.{Holds, record_of}
 use Rattle.dlms_store.specs.Layout.{other_of}
 use Rattle.dlms_store.specs.declared.store.Store.{Store}
+use Rattle.dlms_store.specs.declared.layout.TheConstants.{JOURNAL_PAGES, PAGES}
 
 -- what is known of its device
 abbrev pub view_of : {P A : Type 0} → {ghosts : Ghosts P} → Store P A ghosts → View
@@ -31,11 +32,11 @@ IsRunning store = store.stopped ≡ false
 
 -- a device on which no store has room
 abbrev pub IsTooSmall : View → Type 0
-IsTooSmall device = length device.seen < 82
+IsTooSmall device = length device.seen < PAGES
 
 -- a commit of what is pending makes a checkpoint
 abbrev pub IsFull : {P A : Type 0} → {ghosts : Ghosts P} → Store P A ghosts → Type 0
-IsFull store = store.next ≡ 16
+IsFull store = store.next ≡ JOURNAL_PAGES
 
 -- no further checkpoint can be made
 abbrev pub IsLast : {P A : Type 0} → {ghosts : Ghosts P} → Store P A ghosts → Type 0

@@ -4,9 +4,10 @@ ghost use Rattle.dlms_pages.specs.Device.{Goes, Image};
 ghost use Rattle.dlms_state.specs.StateValue.{state_of};
 ghost use Rattle.dlms_checkpoint.specs.Checkpoint.{checkpoint_bytes};
 ghost use Rattle.dlms_store.specs.declared.layout.Slot.TheVariants as SlotOf;
-ghost use Rattle.dlms_store.specs.Clear.{IsClear};
+ghost use Rattle.dlms_store.specs.Writing.{IsClear};
 ghost use Rattle.dlms_store.specs.Image.{Stands};
 ghost use Rattle.dlms_checkpoint.specs.Bodies.{body_count};
+ghost use Rattle.dlms_store.specs.declared.layout.TheConstants.{BODIES, PAGES};
 
 use crate::layout::Slot;
 use crate::put::put;
@@ -28,8 +29,8 @@ pub(crate) fn clear<P: Pages>(device: &mut P) -> Result<(), DeviceFault>
 
 /// Writes the first checkpoint of a device that was cleared: the bodies of the first slot, and its gate.
 pub(crate) fn begin<P: Pages>(device: &mut P, bytes: &Checkpoint) -> Result<(), DeviceFault>
-    requires room { 82 ≤ length (P.view device.old).seen }
-    requires few { body_count bytes.now ≤ 32 }
+    requires room { PAGES ≤ length (P.view device.old).seen }
+    requires few { body_count bytes.now ≤ BODIES }
     ensures goes { Goes (P.view device.old) (P.view device.new) result }
     ensures starts { (P.view device.old).honest ≡ true → bytes.now ≡ checkpoint_bytes (state_of []) → ((image : Image) → (P.view device.old).may_leave image → IsClear image)
         → OnOk result ((image : Image) → (P.view device.new).may_leave image → Stands SlotOf.First 1 [] [] image) }

@@ -1,15 +1,16 @@
 //! Where everything stands: two slots of a gate and 32 bodies, and 16 journal pages.
-ghost use Rattle.std.specs.Prelude.{◌≡◌, ◌≤◌};
+ghost use Rattle.std.specs.Prelude.{◌≡◌, ◌≤◌, ◌+◌};
 ghost use Rattle.dlms_store.specs.Layout.{gate_of, index_of, other_of};
+ghost use Rattle.dlms_store.specs.declared.layout.TheConstants.{BODIES};
 
-/// How many pages a store needs.
-pub const PAGES: u16 = 82;
+/// How many pages a store needs: 82.
+pub const PAGES: u16 = JOURNAL + JOURNAL_PAGES;
 
 /// How many journal pages there are.
 pub(crate) const JOURNAL_PAGES: u16 = 16;
 
-/// Where the journal begins.
-pub(crate) const JOURNAL: u16 = 66;
+/// Where the journal begins: 66.
+pub(crate) const JOURNAL: u16 = 2 * (1 + BODIES);
 
 /// How many bodies a slot has.
 pub(crate) const BODIES: u16 = 32;
@@ -35,11 +36,11 @@ impl Slot {
     /// The page of its gate. The bodies follow.
     pub(crate) fn gate(self) -> u16
         ensures value { result ≡ gate_of self }
-        ensures within { result ≤ 33 }
+        ensures within { result ≤ 1 + BODIES }
     {
         match self {
             Slot::First => 0,
-            Slot::Second => 33,
+            Slot::Second => 1 + BODIES,
         }
     }
 

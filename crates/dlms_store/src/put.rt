@@ -1,7 +1,7 @@
 //! A page written, and kept through a stop.
 ghost use Rattle.std.specs.Prelude.{◌≡◌, ◌<◌, length, true};
 ghost use Rattle.dlms_pages.specs.Device.{Goes};
-ghost use Rattle.dlms_store.specs.Puts.{Puts};
+ghost use Rattle.dlms_store.specs.Writing.{Puts};
 
 use dlms_pages::{DeviceFault, Pages};
 

@@ -6,6 +6,7 @@ ghost use Rattle.dlms_state.specs.declared.event.Event.{Event as EventOf};
 ghost use Rattle.dlms_journal.specs.Record.{record_of};
 ghost use Rattle.dlms_state.specs.StateValue.{IsStateOf, HasEvents};
 ghost use Rattle.dlms_state.specs.declared.event.Refused.{Refused};
+ghost use Rattle.dlms_store.specs.declared.layout.TheConstants.{PAGES, JOURNAL_PAGES};
 
 use crate::fault::{AddFault, OpenFault, StoreFault};
 use crate::format::{begin, clear};
@@ -34,8 +35,8 @@ pub struct Store<P: Pages, A: Allocator = Global> {
     /// How many journal pages of this generation are written.
     next: u16,
     stopped: bool,
-    ghost enough: { 82 ≤ length (P.view device).seen },
-    ghost few: { next ≤ 16 },
+    ghost enough: { PAGES ≤ length (P.view device).seen },
+    ghost few: { next ≤ JOURNAL_PAGES },
 }
 
 impl<P: Pages, A: Allocator + Copy> Store<P, A> {
@@ -114,8 +115,8 @@ impl<P: Pages, A: Allocator + Copy> Store<P, A> {
 
     // The store of what was found, with a checkpoint where one is due.
     fn recovered(device: P, found: Found<A>) -> Result<Self, (P, OpenFault)>
-        requires room { 82 ≤ length (P.view device).seen }
-        requires few { found.journal.pages ≤ 16 }
+        requires room { PAGES ≤ length (P.view device).seen }
+        requires few { found.journal.pages ≤ JOURNAL_PAGES }
         requires events { HasEvents found.state }
         ensures opens { (image : Image) (base : List EventOf) (pages : List (List EventOf)) (events : List EventOf) → IsFixed (P.view device) image → IsFound image base pages found → base ++ all_of pages ≡ events → Quiet found.generation (length pages) image
             → MatchResult result (OpensAs (Rests events) (P.view device)) (λ e. GivesBack (Rests events) (P.view device) (P.view e.0) e.1) }

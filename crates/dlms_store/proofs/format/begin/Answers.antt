@@ -5,7 +5,7 @@ use Rattle.dlms_store.specs.declared.layout.Slot.TheVariants.{First}
 use Rattle.dlms_store.specs.Image.{Spells, Stands}
 use Rattle.dlms_state.specs.StateValue.{state_of}
 use Rattle.dlms_checkpoint.specs.Checkpoint.{checkpoint_bytes}
-use Rattle.dlms_store.specs.PutsAll.{Scribbled}
+use Rattle.dlms_store.specs.Writing.{Scribbled}
 use Rattle.dlms_store.proofs.Images.{made_gate}
 use Rattle.dlms_store.proofs.Starting.{started}
 use Rattle.dlms_store.proofs.format.begin.Goals as goal

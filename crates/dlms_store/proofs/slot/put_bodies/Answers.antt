@@ -9,7 +9,7 @@ use Rattle.dlms_checkpoint.specs.Bodies.{body_at}
 use Rattle.dlms_journal.specs.declared.kind.PageKind.TheVariants.{Body}
 use Rattle.dlms_store.specs.Page.{HasPage}
 use Rattle.dlms_store.specs.Image.{Spells}
-use Rattle.dlms_store.specs.PutsAll.{Scribbled}
+use Rattle.dlms_store.specs.Writing.{Scribbled}
 use Rattle.dlms_store.proofs.Images.{made_page}
 use Rattle.dlms_store.proofs.Scribbles.{unscribbled, scribbled_more}
 use Rattle.dlms_store.proofs.slot.put_bodies.Goals as goal

@@ -4,7 +4,7 @@ use Rattle.dlms_pages.specs.Stops.{LeavesOnly}
 use Rattle.dlms_checkpoint.specs.Bodies.{body_at}
 use Rattle.dlms_journal.specs.declared.kind.PageKind.TheVariants.{Body}
 use Rattle.dlms_store.specs.Page.{HasPage}
-use Rattle.dlms_store.specs.PutsAll.{Scribbled}
+use Rattle.dlms_store.specs.Writing.{Scribbled}
 use Rattle.dlms_store.proofs.slot.put_bodies.Given as goal
 
 abbrev pub invariant-loop-index : goal.invariant-loop-index
