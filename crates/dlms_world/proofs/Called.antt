@@ -1,0 +1,305 @@
+-- The calls of a poller are steps of the world.
+use Rattle.std.proofs.Common.{◌≡◌, ◌≢◌, inl, inr, ℕ, ◌+◌, Bool, true, false, List, [], ◌∷◌, ◌++◌, Option, None, Some, Result, Ok, Err, refl, sym, subst, ap, ◌∙◌, nat_lt}
+use Rattle.std.specs.Prelude.{IsSome}
+use Rattle.dlms_blocks.specs.Joining.{Joining}
+use Rattle.dlms_frame.specs.Frame.{Parts}
+use Rattle.dlms_headend.specs.Asking.{PlanValue}
+use Rattle.dlms_headend.specs.Poll.{Asks, HasReleased}
+use Rattle.dlms_headend.specs.PollerValue.{PollerValue}
+use Rattle.dlms_headend.specs.Polling.{FitsIn, StandsAt, Goes, asks, leaves, SendsOn, HasFailed, IsFailed, GoesDown, Continues, Answers, PollsBy, PollsIn, WantsRequest, BeginsIn, TimesOutIn, TimesOutBy, CanTimeOutIn}
+use Rattle.dlms_headend.specs.Talk.{FitsAt, Ends as EndsBy, fresh_talk}
+use Rattle.dlms_headend.specs.TalkValue.{TalkValue}
+use Rattle.dlms_headend.specs.declared.poll_fault.PollFault.{PollFault}
+use Rattle.dlms_headend.specs.declared.poll_fault.PollFault.TheVariants.{Line, Protocol}
+use Rattle.dlms_headend.specs.declared.row.Row.{Row}
+use Rattle.dlms_headend.specs.declared.stage.Course.{Course}
+use Rattle.dlms_headend.specs.declared.stage.Course.TheVariants.{Ready, Running, Done, Failed}
+use Rattle.dlms_headend.specs.declared.stage.Stage.{Stage}
+use Rattle.dlms_headend.specs.declared.stage.Stage.TheVariants.{Associating, Getting, Releasing, Leaving}
+use Rattle.dlms_headend.specs.declared.step.PollStep.{PollStep}
+use Rattle.dlms_headend.specs.declared.step.PollStep.TheVariants as step
+use Rattle.dlms_headend.proofs.Told.{stage_told}
+use Rattle.dlms_link.specs.Client.{ClientRecord, IsIdle, client_step, client_send, client_connect, client_disconnect, client_timeout, by_count}
+use Rattle.dlms_link.specs.World.{World as Link, happens, Connect, Give, Disconnect, ReachesClient, TimesOut as LineTimesOut, connects, gives as link_gives, disconnects, client_does, reaches_client, times_out, timed_out}
+use Rattle.dlms_link.specs.declared.out.ClientOut.{ClientOut}
+use Rattle.dlms_link.specs.declared.out.ClientOut.TheVariants as out
+use Rattle.dlms_link.specs.declared.out.Phase.{Phase}
+use Rattle.dlms_link.specs.declared.out.Phase.TheVariants.{Closed, Connecting, Open}
+use Rattle.dlms_world.specs.World.{World}
+use Rattle.dlms_world.specs.Turn.{Begins as BeginsTurn, GoesOn, AsksNext, Leaves, Ends, FailsAt, TimedOut, GivesUp, reached, gives, IsFree, IsOnItsOwn, Fails}
+use Rattle.dlms_world.specs.Calls.{IsPollerOf, IsUnderWay, taken_by, TurnsInto, NewIsFirst, NextIsTurn, OnIsTurn, TimeoutIsTurn}
+use Rattle.dlms_world.proofs.Standing.{Stands, client_stands}
+
+-- ---- a poller and its world
+
+-- the poll is under way
+record Polls_in (w : World) (p : PollerValue) : Type 0 where
+  plan : p.plan ≡ w.plan
+  course : p.course ≡ Running
+  link : p.link ≡ w.link.client
+  fits : FitsIn Running p w.link.taken
+
+under_way : (w : World) (p : PollerValue) → IsPollerOf p w → w.course ≡ Running → Polls_in w p
+under_way w p is runs = record {
+  plan = is.plan;
+  course = is.course ∙ runs;
+  link = is.link (subst IsUnderWay (sym runs) tt);
+  fits = subst (λ (c : Course). FitsIn c p w.link.taken) (is.course ∙ runs) (subst (λ (c : Course). FitsIn p.course p (taken_by c w.link.taken)) runs is.fits);
+}
+
+running_poller : (now : World) (p : PollerValue) → p.plan ≡ now.plan → p.course ≡ Running → now.course ≡ Running → p.link ≡ now.link.client → FitsIn Running p now.link.taken → IsPollerOf p now
+running_poller now p plan course runs link fits = record {
+  plan = plan;
+  course = course ∙ sym runs;
+  link = λ u. link;
+  rows = λ d. absurd (cc);
+  fits = subst (λ (c : Course). FitsIn p.course p (taken_by c now.link.taken)) (sym runs) (subst (λ (c : Course). FitsIn c p now.link.taken) (sym course) fits);
+}
+
+failed_poller : (now : World) (p : PollerValue) (fault : PollFault) → p.plan ≡ now.plan → p.course ≡ Failed fault → now.course ≡ Failed fault → IsPollerOf p now
+failed_poller now p fault plan course failed = record {
+  plan = plan;
+  course = course ∙ sym failed;
+  link = λ u. absurd (subst IsUnderWay failed u);
+  rows = λ d. absurd (cc);
+  fits = subst (λ (c : Course). FitsIn c p (taken_by now.course now.link.taken)) (sym course) tt;
+}
+
+done_poller : (now : World) (p : PollerValue) → p.plan ≡ now.plan → p.course ≡ Done → now.course ≡ Done → p.talk.rows ≡ now.rows → HasReleased now.link.taken p.talk.rows → IsPollerOf p now
+done_poller now p plan course done rows released = record {
+  plan = plan;
+  course = course ∙ sym done;
+  link = λ u. absurd (subst IsUnderWay done u);
+  rows = λ d. rows;
+  fits = subst (λ (c : Course). FitsIn p.course p (taken_by c now.link.taken)) (sym done) (subst (λ (c : Course). FitsIn c p now.link.taken) (sym course) released);
+}
+
+-- ---- a frame comes
+
+-- the link after a frame, and what came of it
+abbrev after : Link → ClientRecord → List Parts → ClientOut → Link
+after link c rest o = client_does (record link { client = c; down_line = rest }) o
+
+reaches : (link : Link) (frame : Parts) (rest : List Parts) → link.down_line ≡ frame ∷ rest → happens link ReachesClient ≡ after link (client_step link.client frame).0 rest (client_step link.client frame).1
+reaches link frame rest line = ap (λ l. reaches_client link l) line
+
+-- a request goes out on a link that awaits nothing
+given : (link : Link) (apdu : List ℕ) → IsIdle link.client → link_gives link apdu link.client.phase link.client.waits ≡ link_gives link apdu Open None
+given link apdu idle = ap (λ v. link_gives link apdu link.client.phase v) idle.1 ∙ ap (λ ph. link_gives link apdu ph None) idle.0
+
+left : (link : Link) → IsIdle link.client → disconnects link link.client.phase link.client.waits ≡ disconnects link Open None
+left link idle = ap (λ v. disconnects link link.client.phase v) idle.1 ∙ ap (λ ph. disconnects link ph None) idle.0
+
+-- a step at the oldest frame
+record Frame_at (w : World) (frame : Parts) (rest : List Parts) (old : PollerValue) : Type 0 where
+  polls : Polls_in w old
+  runs : w.course ≡ Running
+  line : w.link.down_line ≡ frame ∷ rest
+
+sends_by : (w : World) (frame : Parts) (rest : List Parts) (old new : PollerValue) (c : ClientRecord) (taken : List (List ℕ)) (f : Parts) → Frame_at w frame rest old → IsFree (gives w frame)
+    → (reached w).client ≡ c → (reached w).taken ≡ taken → IsIdle c → new.plan ≡ old.plan → new.course ≡ Running → FitsIn Running new taken → Goes old.plan taken c f new.link → TurnsInto w new
+sends_by w frame rest old new c taken f at free ec et idle keeps runs fits (asks apdu a g) =
+    let there : IsIdle (reached w).client = subst IsIdle (sym ec) idle in
+    let asked : Asks w.plan (reached w).taken apdu = subst (λ l. Asks w.plan l apdu) (sym et) (subst (λ (pl : PlanValue). Asks pl taken apdu) at.polls.plan a) in
+    let is : happens (reached w) (Give apdu g.0) ≡ link_gives (reached w) apdu Open None = given (reached w) apdu there in (
+      record w { link = happens (reached w) (Give apdu g.0) },
+      AsksNext w frame rest apdu g.0 at.runs at.line free asked,
+      running_poller (record w { link = happens (reached w) (Give apdu g.0) }) new (keeps ∙ at.polls.plan) runs at.runs
+          (g.2 ∙ ap (λ (x : ClientRecord). (client_send x apdu).0) (sym ec) ∙ sym (ap (λ (l : Link). l.client) is))
+          (subst (λ l. FitsIn Running new l) (sym et ∙ sym (ap (λ (l : Link). l.taken) is)) fits),
+    )
+sends_by w frame rest old new c taken f at free ec et idle keeps runs fits (leaves rows h fe le) =
+    let there : IsIdle (reached w).client = subst IsIdle (sym ec) idle in
+    let is : happens (reached w) Disconnect ≡ disconnects (reached w) Open None = left (reached w) there in (
+      record w { link = happens (reached w) Disconnect },
+      Leaves w frame rest rows at.runs at.line free (subst (λ l. HasReleased l rows) (sym et) h),
+      running_poller (record w { link = happens (reached w) Disconnect }) new (keeps ∙ at.polls.plan) runs at.runs
+          (le ∙ ap client_disconnect (sym ec) ∙ sym (ap (λ (l : Link). l.client) is))
+          (subst (λ l. FitsIn Running new l) (sym et ∙ sym (ap (λ (l : Link). l.taken) is)) fits),
+    )
+
+sends : (w : World) (frame : Parts) (rest : List Parts) (old new : PollerValue) (c : ClientRecord) (taken : List (List ℕ)) (f : Parts) → Frame_at w frame rest old → IsFree (gives w frame)
+    → (reached w).client ≡ c → (reached w).taken ≡ taken → IsIdle c → SendsOn old.plan taken c f new → TurnsInto w new
+sends w frame rest old new c taken f at free ec et idle s =
+    sends_by w frame rest old new c taken f at free ec et idle s.keeps s.runs (subst (λ (x : Course). FitsIn x new taken) s.runs s.fits) s.goes
+
+-- the poll fails
+fails : (w : World) (frame : Parts) (rest : List Parts) (old new : PollerValue) (fault : PollFault) → Frame_at w frame rest old → Fails w.link.taken (reached w) fault (gives w frame) → IsFailed old.plan fault new → TurnsInto w new
+fails w frame rest old new fault at why failed = (
+  record w { link = reached w; course = Failed fault },
+  FailsAt w frame rest fault at.runs at.line why,
+  failed_poller (record w { link = reached w; course = Failed fault }) new fault (failed.1 ∙ at.polls.plan) failed.0 refl,
+)
+
+-- where the link comes up nothing was taken
+none_taken : (stage : Stage) (blocks : Joining) (rows : List Row) (apdus : List (List ℕ)) (phase : Phase) → FitsAt stage blocks rows apdus → StandsAt stage phase → phase ≡ Connecting → apdus ≡ []
+none_taken Associating blocks rows apdus phase h s e = h.0
+none_taken (Getting taken) blocks rows apdus phase h s e = absurd (cc)
+none_taken Releasing blocks rows apdus phase h s e = absurd (cc)
+none_taken Leaving blocks rows apdus phase h s e = absurd (cc)
+
+wants_none : WantsRequest [] → ⊥
+wants_none (taken, joined, has) = cc
+
+up : (w : World) (frame : Parts) (rest : List Parts) (result : Result PollStep PollFault) (old new : PollerValue) (c : ClientRecord) → Frame_at w frame rest old → IsFree (gives w frame)
+    → (reached w).client ≡ c → (reached w).taken ≡ w.link.taken → w.link.taken ≡ [] → IsIdle c → Continues old.plan w.link.taken c result new → TurnsInto w new
+up w frame rest (Ok step.Nothing) old new c at free ec et none idle k = absurd k
+up w frame rest (Ok (step.Send f)) old new c at free ec et none idle k = sends w frame rest old new c w.link.taken f at free ec et idle k
+up w frame rest (Ok step.Done) old new c at free ec et none idle k = absurd k
+up w frame rest (Err fault) old new c at free ec et none idle k = absurd (wants_none (subst WantsRequest none k.1))
+
+apdu_comes : (w : World) (frame : Parts) (rest : List Parts) (result : Result PollStep PollFault) (old new : PollerValue) (c : ClientRecord) → Frame_at w frame rest old → out.Apdu ≡ gives w frame
+    → (reached w).client ≡ c → (reached w).taken ≡ w.link.taken ++ c.apdu ∷ [] → IsIdle c → Answers old.plan w.link.taken c result new → TurnsInto w new
+apdu_comes w frame rest (Ok step.Nothing) old new c at is ec et idle k = absurd k
+apdu_comes w frame rest (Ok (step.Send f)) old new c at is ec et idle k = sends w frame rest old new c (w.link.taken ++ c.apdu ∷ []) f at (subst IsFree is tt) ec et idle k
+apdu_comes w frame rest (Ok step.Done) old new c at is ec et idle k = absurd k
+apdu_comes w frame rest (Err fault) old new c at is ec et idle (inl ends, failed) =
+    fails w frame rest old new fault at (subst (Fails w.link.taken (reached w) fault) is (inl (subst (λ (x : ClientRecord). EndsBy w.link.taken x.apdu fault) (sym ec) ends))) failed
+apdu_comes w frame rest (Err fault) old new c at is ec et idle (inr wants, failed) =
+    fails w frame rest old new fault at (subst (Fails w.link.taken (reached w) fault) is (inr (wants.0, subst WantsRequest (sym et) wants.1))) failed
+
+-- the link goes down
+not_leaving-a : Associating ≡ Leaving → ⊥
+not_leaving-a e = cc
+
+not_leaving-g : (taken : ℕ) → Getting taken ≡ Leaving → ⊥
+not_leaving-g taken e = cc
+
+not_leaving-r : Releasing ≡ Leaving → ⊥
+not_leaving-r e = cc
+
+down_early : (w : World) (frame : Parts) (rest : List Parts) (result : Result PollStep PollFault) (old new : PollerValue) → Frame_at w frame rest old → out.Down ≡ gives w frame
+    → ((rows : List Row) → HasReleased w.link.taken rows → ⊥) → HasFailed old.plan Protocol result new → TurnsInto w new
+down_early w frame rest result old new at is none h = fails w frame rest old new Protocol at (subst (Fails w.link.taken (reached w) Protocol) is (refl, none)) h.failed
+
+down : (w : World) (frame : Parts) (rest : List Parts) (result : Result PollStep PollFault) (old new : PollerValue) (stage : Stage) (blocks : Joining) → Frame_at w frame rest old → out.Down ≡ gives w frame
+    → (reached w).taken ≡ w.link.taken → FitsAt stage blocks old.talk.rows w.link.taken → GoesDown stage old result new → TurnsInto w new
+down w frame rest result old new Associating blocks at is et fits h =
+    down_early w frame rest result old new at is (λ rows k. absurd (not_leaving-a (stage_told Associating blocks old.talk.rows rows w.link.taken fits k).0)) h
+down w frame rest result old new (Getting taken) blocks at is et fits h =
+    down_early w frame rest result old new at is (λ rows k. absurd (not_leaving-g taken (stage_told (Getting taken) blocks old.talk.rows rows w.link.taken fits k).0)) h
+down w frame rest result old new Releasing blocks at is et fits h =
+    down_early w frame rest result old new at is (λ rows k. absurd (not_leaving-r (stage_told Releasing blocks old.talk.rows rows w.link.taken fits k).0)) h
+down w frame rest result old new Leaving blocks at is et fits h =
+    let rows : new.talk.rows ≡ old.talk.rows = ap (λ (t : TalkValue). t.rows) h.talk in (
+      record w { link = reached w; course = Done; rows = old.talk.rows },
+      Ends w frame rest old.talk.rows at.runs at.line (sym is) fits,
+      done_poller (record w { link = reached w; course = Done; rows = old.talk.rows }) new (h.keeps ∙ at.polls.plan) h.course refl rows
+          (subst (λ l. HasReleased l new.talk.rows) (sym et) (subst (HasReleased w.link.taken) (sym rows) fits)),
+    )
+
+-- whatever comes of the frame
+by_out : (w : World) (frame : Parts) (rest : List Parts) (result : Result PollStep PollFault) (old new : PollerValue) (c : ClientRecord) (o : ClientOut) → Frame_at w frame rest old
+    → o ≡ gives w frame → reached w ≡ after w.link c rest o → Stands w.link.client o c → PollsBy o c w.link.taken old result new → TurnsInto w new
+by_out w frame rest result old new c out.Nothing at is e stands k = (
+  record w { link = reached w },
+  GoesOn w frame rest at.runs at.line (subst IsOnItsOwn is tt),
+  running_poller (record w { link = reached w }) new (ap (λ (p : PollerValue). p.plan) k.1 ∙ at.polls.plan) (ap (λ (p : PollerValue). p.course) k.1 ∙ at.polls.course) at.runs
+      (ap (λ (p : PollerValue). p.link) k.1 ∙ at.polls.link ∙ sym stands ∙ sym (ap (λ (l : Link). l.client) e))
+      (subst (λ l. FitsIn Running new l) (sym (ap (λ (l : Link). l.taken) e)) (subst (λ (p : PollerValue). FitsIn Running p w.link.taken) (sym k.1) at.polls.fits)),
+)
+by_out w frame rest result old new c (out.Send f) at is e stands k =
+    let course : new.course ≡ Running = ap (λ (p : PollerValue). p.course) k.1 ∙ at.polls.course in (
+      record w { link = reached w },
+      GoesOn w frame rest at.runs at.line (subst IsOnItsOwn is tt),
+      running_poller (record w { link = reached w }) new (ap (λ (p : PollerValue). p.plan) k.1 ∙ at.polls.plan) course at.runs
+          (ap (λ (p : PollerValue). p.link) k.1 ∙ sym (ap (λ (l : Link). l.client) e))
+          (subst (λ l. FitsIn Running new l) (sym (ap (λ (l : Link). l.taken) e)) (subst (λ (x : Course). FitsIn x new w.link.taken) course k.2)),
+    )
+by_out w frame rest result old new c out.Up at is e stands k =
+    let none : w.link.taken ≡ [] = none_taken old.talk.stage old.talk.blocks old.talk.rows w.link.taken old.link.phase at.polls.fits.0 at.polls.fits.1 (ap (λ (x : ClientRecord). x.phase) at.polls.link ∙ stands.0) in
+    up w frame rest result old new c at (subst IsFree is tt) (ap (λ (l : Link). l.client) e) (ap (λ (l : Link). l.taken) e) none stands.1 k
+by_out w frame rest result old new c out.Apdu at is e stands k =
+    apdu_comes w frame rest result old new c at is (ap (λ (l : Link). l.client) e) (ap (λ (l : Link). l.taken) e) stands.1 k
+by_out w frame rest result old new c out.Down at is e stands k =
+    down w frame rest result old new old.talk.stage old.talk.blocks at is (ap (λ (l : Link). l.taken) e) at.polls.fits.0 k
+
+pub on_is_turn : OnIsTurn
+on_is_turn w frame rest result old new is runs line polls =
+    let p : Polls_in w old = under_way w old is runs in
+    let here : PollsIn Running w.link.taken frame old result new = subst (λ (x : Course). PollsIn x w.link.taken frame old result new) p.course polls in
+    let there : PollsBy (client_step w.link.client frame).1 (client_step w.link.client frame).0 w.link.taken old result new =
+    subst (λ (x : ClientRecord). PollsBy (client_step x frame).1 (client_step x frame).0 w.link.taken old result new) p.link here in
+    by_out w frame rest result old new (client_step w.link.client frame).0 (client_step w.link.client frame).1 (record { polls = p; runs = runs; line = line }) refl (reaches w.link frame rest line)
+    (client_stands w.link.client frame) there
+
+-- ---- the first frame
+
+fresh_closed : (w : World) (p : PollerValue) → FitsIn Ready p [] → p.link ≡ w.link.client → w.link.client.phase ≡ Closed
+fresh_closed w p fits link = ap (λ (c : ClientRecord). c.phase) (sym link) ∙ ap (λ (c : ClientRecord). c.phase) fits.0
+
+-- the talk has not begun
+begun : (p : PollerValue) → p.talk ≡ fresh_talk → p.link.phase ≡ Connecting → FitsIn Running p []
+begun p talk phase = (subst (λ (t : TalkValue). FitsAt t.stage t.blocks t.rows []) (sym talk) (refl, refl), subst (λ (t : TalkValue). StandsAt t.stage p.link.phase) (sym talk) (inl phase))
+
+pub next_is_turn : NextIsTurn
+next_is_turn w result old new is ready begins =
+    let course : old.course ≡ Ready = is.course ∙ ready in
+    let link : old.link ≡ w.link.client = is.link (subst IsUnderWay (sym ready) tt) in
+    let fits : FitsIn Ready old [] = subst (λ (c : Course). FitsIn c old []) course (subst (λ (c : Course). FitsIn old.course old (taken_by c w.link.taken)) ready is.fits) in
+    let here : BeginsIn Ready old result new = subst (λ (c : Course). BeginsIn c old result new) course begins in
+    let joins : happens w.link Connect ≡ connects w.link Closed = ap (λ ph. connects w.link ph) (fresh_closed w old fits link) in
+    let talk : new.talk ≡ fresh_talk = ap (λ (p : PollerValue). p.talk) here.1 ∙ fits.1 in
+    let phase : new.link.phase ≡ Connecting = ap (λ (p : PollerValue). p.link.phase) here.1 in (
+      record w { link = happens w.link Connect; ours = false; served = []; course = Running },
+      BeginsTurn w ready,
+      running_poller (record w { link = happens w.link Connect; ours = false; served = []; course = Running }) new (ap (λ (p : PollerValue). p.plan) here.1 ∙ is.plan) (ap (λ (p : PollerValue). p.course) here.1) refl
+          (ap (λ (p : PollerValue). p.link) here.1 ∙ ap client_connect link ∙ sym (ap (λ (l : Link). l.client) joins))
+          (subst (λ l. FitsIn Running new l) (sym (ap (λ (l : Link). l.taken) joins)) (begun new talk phase)),
+    )
+
+-- ---- a time-out
+
+-- a poll that is under way has a link that is not closed
+open_phase : (stage : Stage) (phase : Phase) → StandsAt stage phase → phase ≢ Closed
+open_phase Associating phase (inl s) e = absurd (cc)
+open_phase Associating phase (inr s) e = absurd (cc)
+open_phase (Getting taken) phase s e = absurd (cc)
+open_phase Releasing phase s e = absurd (cc)
+open_phase Leaving phase s e = absurd (cc)
+
+still_fits : (old new : PollerValue) (taken : List (List ℕ)) → new.talk ≡ old.talk → new.link.phase ≡ old.link.phase → FitsIn Running old taken → FitsIn Running new taken
+still_fits old new taken talk phase fits = (
+  subst (λ (t : TalkValue). FitsAt t.stage t.blocks t.rows taken) (sym talk) fits.0,
+  subst (λ (t : TalkValue). StandsAt t.stage new.link.phase) (sym talk) (subst (StandsAt old.talk.stage) (sym phase) fits.1),
+)
+
+late : (w : World) (result : Result Parts PollFault) (old new : PollerValue) (b : Bool) (v : Option Parts) → Polls_in w old → w.course ≡ Running → IsSome v → w.link.client.waits ≡ v
+    → happens w.link LineTimesOut ≡ timed_out w.link (by_count w.link.client b) → TimesOutBy (by_count w.link.client b) old result new → TurnsInto w new
+late w result old new true None p runs some waits e k = absurd (cc)
+late w result old new true (Some f) p runs some waits e k =
+    let c = w.link.client in
+    let sent : TimesOutBy (record c { repeats = c.repeats + 1 }, Some f) old result new = subst (λ v. TimesOutBy (record c { repeats = c.repeats + 1 }, v) old result new) waits k in
+    let link : new.link ≡ (happens w.link LineTimesOut).client = ap (λ (x : PollerValue). x.link) sent.1 ∙ sym (ap (λ (l : Link). l.client) e) in (
+      record w { link = happens w.link LineTimesOut },
+      TimedOut w runs (λ shut. open_phase old.talk.stage old.link.phase p.fits.1 (ap (λ (x : ClientRecord). x.phase) p.link ∙ sym (ap (λ (l : Link). l.client.phase) e) ∙ shut)),
+      running_poller (record w { link = happens w.link LineTimesOut }) new (ap (λ (x : PollerValue). x.plan) sent.1 ∙ p.plan) (ap (λ (x : PollerValue). x.course) sent.1 ∙ p.course) runs link
+          (subst (λ l. FitsIn Running new l) (sym (ap (λ (l : Link). l.taken) e)) (still_fits old new w.link.taken (ap (λ (x : PollerValue). x.talk) sent.1)
+          (ap (λ (x : PollerValue). x.link.phase) sent.1 ∙ sym (ap (λ (x : ClientRecord). x.phase) p.link)) p.fits)),
+    )
+late w result old new false v p runs some waits e k = (
+  record w { link = happens w.link LineTimesOut; course = Failed Line },
+  GivesUp w Line runs (ap (λ (l : Link). l.client.phase) e),
+  failed_poller (record w { link = happens w.link LineTimesOut; course = Failed Line }) new Line (k.failed.1 ∙ p.plan) k.failed.0 refl,
+)
+
+times_out_so : (link : Link) (f : Parts) → link.client.waits ≡ Some f → link.up_line ≡ [] → link.down_line ≡ [] → happens link LineTimesOut ≡ timed_out link (client_timeout link.client)
+times_out_so link f waits up down =
+    ap (λ v. times_out link v link.up_line link.down_line) waits ∙ ap (λ l. times_out link (Some f) l link.down_line) up ∙ ap (λ l. times_out link (Some f) [] l) down
+
+awaited : (v : Option Parts) → IsSome v → (f : Parts) × (v ≡ Some f)
+awaited (Some f) some = (f, refl)
+awaited None some = absurd (cc)
+
+pub timeout_is_turn : TimeoutIsTurn
+timeout_is_turn w result old new is runs can up down k =
+    let p : Polls_in w old = under_way w old is runs in
+    let some : IsSome old.link.waits = subst (λ (c : Course). CanTimeOutIn c old) p.course can in
+    let f = awaited old.link.waits some in
+    let waits : w.link.client.waits ≡ Some f.0 = sym (ap (λ (x : ClientRecord). x.waits) p.link) ∙ f.1 in
+    let here : TimesOutBy (client_timeout old.link) old result new = subst (λ (c : Course). TimesOutIn c old result new) p.course k in
+    let there : TimesOutBy (client_timeout w.link.client) old result new = subst (λ (x : ClientRecord). TimesOutBy (client_timeout x) old result new) p.link here in
+    late w result old new (nat_lt w.link.client.repeats 3) (Some f.0) p runs (subst IsSome f.1 some) waits (times_out_so w.link f.0 waits up down) there
+
+pub new_is_first : NewIsFirst
+new_is_first plan = record { plan = refl; course = refl; link = λ u. refl; rows = λ d. absurd (cc); fits = (refl, refl, refl) }

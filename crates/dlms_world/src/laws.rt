@@ -1,0 +1,58 @@
+//! Laws over whole runs of the world. They make no call.
+
+ghost use Rattle.std.specs.Prelude.{◌≡◌, List, ℕ};
+ghost use Rattle.dlms_link.specs.Server.{ServerRecord};
+ghost use Rattle.dlms_link.specs.declared.out.LinkOut.{LinkOut};
+ghost use Rattle.dlms_meter.specs.Run.{Answered, Choice};
+ghost use Rattle.dlms_service.specs.Session.{SessionValue, Outcome};
+ghost use Rattle.dlms_state.specs.declared.event.Event.{Event};
+ghost use Rattle.dlms_state.specs.Refusal.{IsLegal};
+ghost use Rattle.dlms_world.specs.World.{rows_from, all_rows_from};
+ghost use Rattle.dlms_world.specs.Turn.{Answers, handled};
+ghost use Rattle.dlms_world.specs.Told.{AnswersTell};
+ghost use Rattle.dlms_world.specs.Calls.{NewIsFirst, NextIsTurn, OnIsTurn, TimeoutIsTurn};
+ghost use Rattle.dlms_world.specs.Agree.{PollsAreTold, ReadingsAreCaptures, ReadingsRise, LineIsSilent, CanBegin};
+
+/// However frames, losses, time-outs, pulses, moments, other clients, stops and recoveries interleave: a poll that is done has
+/// exactly the rows that the meter's buffer had when it took the poll's GET; each row of the readings is a capture of the events
+/// that the meter holds; and where the captures' clocks rise strictly, no row stands twice and the rows stand in order.
+pub fn the_file_and_the_meter_agree()
+    ensures told { PollsAreTold }
+    ensures captures { ReadingsAreCaptures }
+    ensures rise { ReadingsRise }
+{}
+
+/// The answers to a whole poll, served in turn from a link that has just come up, tell the buffer's rows at its GET.
+pub fn answers_tell_rows()
+    ensures { AnswersTell }
+{}
+
+/// No row of a legal list lies behind the clock's last second: the rows of the poll's range are all from its first second on.
+pub fn a_range_to_the_last_second_has_all_rows()
+    ensures { (second : ℕ) (E : List Event) → IsLegal E → rows_from second E ≡ all_rows_from second E }
+{}
+
+/// What the meter of this world makes of a frame is what the meter's own definition makes of it.
+pub fn frames_are_handled()
+    ensures { (choice : Choice) (E : List Event) (r : ServerRecord) (s : SessionValue) (out : LinkOut) (o : Outcome) → Answers choice E r s out o
+        → Answered choice E r s out (handled r out o) }
+{}
+
+/// Once a poll is done or has failed nothing is on the line.
+pub fn the_line_is_silent_behind_a_poll()
+    ensures { LineIsSilent }
+{}
+
+/// The first two steps of a poll can be taken.
+pub fn a_poll_can_begin()
+    ensures { CanBegin }
+{}
+
+/// The calls of a poller are steps of the world: a new one is that of the first world; the call that gives its first frame, one
+/// that is given the oldest frame on the way, and one that tells of a time-out while nothing is on the line.
+pub fn calls_are_turns()
+    ensures new { NewIsFirst }
+    ensures next { NextIsTurn }
+    ensures on { OnIsTurn }
+    ensures timeout { TimeoutIsTurn }
+{}
