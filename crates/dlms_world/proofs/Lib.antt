@@ -17,3 +17,4 @@ pub mod Ties
 pub mod Lawful
 pub mod Beginning
 pub mod Called
+pub mod Tied

@@ -11,7 +11,12 @@ ghost use Rattle.dlms_world.specs.World.{rows_from, all_rows_from};
 ghost use Rattle.dlms_world.specs.Turn.{Answers, handled};
 ghost use Rattle.dlms_world.specs.Told.{AnswersTell};
 ghost use Rattle.dlms_world.specs.Calls.{NewIsFirst, NextIsTurn, OnIsTurn, TimeoutIsTurn};
+ghost use Rattle.dlms_world.specs.Ties.{FeedsAreTurns, EventsAreTurns};
 ghost use Rattle.dlms_world.specs.Agree.{PollsAreTold, ReadingsAreCaptures, ReadingsRise, LineIsSilent, CanBegin};
+
+use dlms_meter::Meter;
+use dlms_pages::Pages;
+use std::alloc::Allocator;
 
 /// However frames, losses, time-outs, pulses, moments, other clients, stops and recoveries interleave: a poll that is done has
 /// exactly the rows that the meter's buffer had when it took the poll's GET; each row of the readings is a capture of the events
@@ -55,4 +60,15 @@ pub fn calls_are_turns()
     ensures next { NextIsTurn }
     ensures on { OnIsTurn }
     ensures timeout { TimeoutIsTurn }
+{}
+
+/// The calls of a meter are steps of the world, whatever its device does: a call of `feed` is none, where it ended no frame or one
+/// of nobody; or it is the step that a frame of the poller's client or of the other client is. A call of `pulses` or `moment` is one
+/// where it accepted the event or the device failed, and else none.
+pub fn calls_of_a_meter_are_turns<P: Pages, A: Allocator + Copy>(
+    old: &Meter<P, A>,
+    new: &Meter<P, A>,
+)
+    ensures feed { FeedsAreTurns old.now new.now }
+    ensures events { EventsAreTurns old.now new.now }
 {}
