@@ -7,54 +7,25 @@ use Rattle.dlms_blocks.specs.Going.{Going, beginning, answer}
 use Rattle.dlms_blocks.specs.declared.block.PutStep.{PutStep}
 use Rattle.dlms_blocks.specs.declared.block.PutStep.TheVariants.{More, Whole}
 use Rattle.dlms_blocks.proofs.BlockLemmas.{beginning_of, whole_of}
-use Rattle.dlms_apdu.specs.Forms.{RequestForm, ResponseForm, get_normal, get_next, set_normal, set_first, set_block, action_normal, action_first, action_block, exception, get_block, get_block_result, set_result, action_result}
+use Rattle.dlms_apdu.specs.Forms.{RequestForm, ResponseForm, get_normal, get_next, set_normal, set_first, set_block, action_normal, action_first, action_block, exception, get_block, get_block_result, set_result, set_last, action_result}
 use Rattle.dlms_apdu.specs.Forms as apdu
 use Rattle.dlms_apdu.specs.Reading.{request_at}
 use Rattle.dlms_apdu.specs.Writing.{response_bytes}
 use Rattle.dlms_apdu.specs.declared.fault.Refusal.{Refusal}
-use Rattle.dlms_link.specs.Server.{ServerRecord, server_on}
-use Rattle.dlms_link.specs.declared.out.LinkOut.{LinkOut}
-use Rattle.dlms_link.specs.declared.out.LinkOut.TheVariants.{Nothing, Reply, Apdu, Oversize, BadLlc, Up, Down}
 use Rattle.dlms_state.specs.declared.event.Event.{Event}
 use Rattle.dlms_classes.specs.declared.access.AccessResult.{AccessResult}
 use Rattle.dlms_service.specs.declared.association.Association.{Association}
 use Rattle.dlms_service.specs.declared.target.Target.{Target}
 use Rattle.dlms_service.specs.declared.target.Service.{Service}
 use Rattle.dlms_service.specs.declared.target.Service.TheVariants.{Set, Action}
-use Rattle.dlms_service.specs.Session.{SessionValue, Outcome, fresh, says, without_put}
+use Rattle.dlms_service.specs.Session.{SessionValue, Outcome, says, without_put}
 use Rattle.dlms_service.specs.Planned.{done, result_of}
+use Rattle.dlms_service.specs.Stake.{failing, stake_of}
 use Rattle.dlms_service.specs.Shown.{block_form, in_blocks, goes_on}
 use Rattle.dlms_service.specs.Blocks.{Steps, ContinuesFor, open_for, taken_form, ended_form, code_for}
 use Rattle.dlms_service.specs.Serves.{Choice, FindsMemory, LacksMemory, Asks, Lacks, Permitted, Requested, Read, Within, Released, Associated, Serves, permits, begins_with}
-use Rattle.dlms_meter.specs.MeterValue.{ClientRecord}
-use Rattle.dlms_meter.specs.Run.{Handled, Answered}
-use Rattle.dlms_meter.specs.Transfers.{Own, Cleared, Asked, InTurn, own_by, own_of, AreInTurn, is_get_normal, leaves_get, LeaveGet, AreAnswered, raw_of, is_final, joined, has_final, BlocksJoin}
-
--- ---- a client's APDUs
-
-then_own : (s m s' : SessionValue) (xs ys : List Own) → InTurn s xs m → InTurn m ys s' → InTurn s (xs ++ ys) s'
-then_own s m s' [] ys h k = subst (λ (x : SessionValue). InTurn x ys s') h k
-then_own s m s' (Cleared ∷ xs) ys h k = then_own (fresh s.client) m s' xs ys h k
-then_own s m s' (Asked x ∷ xs) ys h k = (h.0, then_own x.outcome.own m s' xs ys h.1 k)
-
-by_own : (choice : Choice) (E : List Event) (r : ServerRecord) (s : SessionValue) (out : LinkOut) (h : Handled) (answered : Answered choice E r s out h)
-    → InTurn s (own_by choice E r s out h answered) h.own.session
-by_own choice E r s Nothing h is = ap (λ (x : Handled). x.own.session) is
-by_own choice E r s (Reply frame) h is = ap (λ (x : Handled). x.own.session) is
-by_own choice E r s (Up frame) h is = ap (λ (x : Handled). x.own.session) is
-by_own choice E r s (Down frame) h is = ap (λ (x : Handled). x.own.session) is
-by_own choice E r s Apdu h (o, serves, is) = (serves, ap (λ (x : Handled). x.own.session) is)
-by_own choice E r s Oversize h is = ap (λ (x : Handled). x.own.session) is
-by_own choice E r s BadLlc h is = ap (λ (x : Handled). x.own.session) is
-
-pub in_turn : AreInTurn
-in_turn own own' [] alone = ap (λ (r : ClientRecord). r.session) alone
-in_turn own own' (turn ∷ turns) (mid, handles, rest) =
-    let h : Handled = record { own = mid; reply = turn.reply; accepted = turn.accepted } in
-    let r : ServerRecord = (server_on own.link turn.question.frame).0 in
-    let out : LinkOut = (server_on own.link turn.question.frame).1 in
-    then_own own.session mid.session own'.session (own_by turn.choice turn.question.before r own.session out h handles) (own_of mid turns own' rest)
-    (by_own turn.choice turn.question.before r own.session out h handles) (in_turn mid own' turns rest)
+use Rattle.dlms_meter.specs.Run.{Choice as Chosen, Served as ByChoice, DeviceFails, Does}
+use Rattle.dlms_meter.specs.Transfers.{Own, Cleared, Asked, InTurn, is_get_normal, is_get_next, leaves_get, IsServed, LeaveGet, AreAnswered, raw_of, is_final, joined, has_final, BlocksJoin}
 
 -- ---- one APDU
 
@@ -227,6 +198,29 @@ served choice g E s bytes o leaves is h =
     within choice g E s bytes s.opened o tests.2 is
     (subst (λ (b : Bool). Released choice E s bytes b o) tests.1 (subst (λ (b : Bool). Associated choice E s bytes b o) tests.0 h))
 
+-- a device that failed at another request drops what comes in, and nothing that goes out
+failed_put : (g : Going) (s : SessionValue) (form : ResponseForm) (events : List Event) (o : Outcome) → s.getting ≡ Some g → raw_of form ≡ [] → is_final form ≡ false
+    → o ≡ record (says (without_put s) form) { accepted = events } → Moved g o
+failed_put g s form events o is none not_final e = still g s (without_put s) o form is refl none not_final (ap (λ (x : Outcome). x.answer) e) (ap (λ (x : Outcome). x.own) e)
+
+failed : (kept : Bool) (g : Going) (s : SessionValue) (form : RequestForm) (events : List Event) (o : Outcome) → is_get_normal (Ok form) ≡ false → (is_get_next (Ok form) ≡ true → ⊥)
+    → s.getting ≡ Some g → o ≡ failing kept s (stake_of form) events → Moved g o
+failed kept g s (get_normal invoke d selector) events o other later is e = absurd cc
+failed kept g s (get_next invoke number) events o other later is e = absurd (later refl)
+failed kept g s (set_normal invoke d selector v) events o other later is e = failed_put g s (set_result invoke 1) (if kept then events else []) o is refl refl e
+failed kept g s (set_first invoke d selector last number raw) events o other later is e = failed_put g s (set_last invoke 1 number) (if kept then events else []) o is refl refl e
+failed kept g s (set_block invoke last number raw) events o other later is e = failed_put g s (set_last invoke 1 number) (if kept then events else []) o is refl refl e
+failed kept g s (action_normal invoke d parameter) events o other later is e = failed_put g s (action_result invoke 1) (if kept then events else []) o is refl refl e
+failed kept g s (action_first invoke d last number raw) events o other later is e = failed_put g s (action_result invoke 1) (if kept then events else []) o is refl refl e
+failed kept g s (action_block invoke last number raw) events o other later is e = failed_put g s (action_result invoke 1) (if kept then events else []) o is refl refl e
+
+served_by : (choice : Chosen) (g : Going) (E : List Event) (s : SessionValue) (bytes : List ℕ) (o : Outcome) → (is_get_next (request_at bytes) ≡ true → IsServed choice) → leaves_get bytes ≡ true
+    → s.getting ≡ Some g → Does choice E s bytes o → Moved g o
+served_by (ByChoice memory) g E s bytes o given leaves is does = served memory g E s bytes o leaves is does
+served_by (DeviceFails kept) g E s bytes o given leaves is (form, at, would, leads, success, e) =
+    let tests = none_of (begins_with 0x60 bytes) (begins_with 0x62 bytes) (is_get_normal (request_at bytes)) leaves in
+    failed kept g s form would.accepted o (sym (ap is_get_normal at) ∙ tests.2) (λ h. given (ap is_get_next at ∙ h)) is e
+
 -- ---- all of them
 
 -- what was given so far, and whether the last block was among it
@@ -313,9 +307,9 @@ all_given [] text size s s' g front ended so_far is run leaves = record {
 }
 all_given (Cleared ∷ xs) text size s s' g front ended so_far is run leaves = absurd leaves
 all_given (Asked x ∷ xs) text size s s' g front ended so_far is run leaves =
-    let moved = served x.choice g x.before s x.apdu x.outcome leaves.0 is run.0 in
+    let moved = served_by x.choice g x.before s x.apdu x.outcome leaves.1 leaves.0 is run.0 in
     let more = once_more text size g moved.going front ended moved.form so_far moved.step in
-    let rest = all_given xs text size x.outcome.own s' moved.going (front ++ raw_of moved.form) (ended || is_final moved.form) more moved.getting run.1 leaves.1 in
+    let rest = all_given xs text size x.outcome.own s' moved.going (front ++ raw_of moved.form) (ended || is_final moved.form) more moved.getting run.1 leaves.2 in
     record {
       forms = moved.form ∷ rest.forms;
       answered = (moved.says, rest.answered);

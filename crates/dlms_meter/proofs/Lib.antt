@@ -1,6 +1,14 @@
 pub mod RunLemmas
+pub mod Settling
+pub mod Judging
+pub mod Feeding
+pub mod Joining
 pub mod StepLemmas
+pub mod StoreLaw
+pub mod LifeLaw
+pub mod Events
 pub mod Once
 pub mod Apart
+pub mod InTurn
 pub mod OneOutcome
 pub mod Given

@@ -1,5 +1,9 @@
 pub mod Run
 pub mod Steps
-pub mod MeterValue
+pub mod ClientRecord
 pub mod Independence
 pub mod Transfers
+pub mod Settled
+pub mod Storing
+pub mod Alike
+pub mod Lives

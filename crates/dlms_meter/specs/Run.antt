@@ -1,6 +1,6 @@
 -- A run of the meter: what comes in over the line and by its own pulses and moments, what it replies, and the events that
 -- it accepts. The line is that of IEC 62056-46, what is served above it that of IEC 62056-5-3.
-use Rattle.std.specs.Prelude.{◌≡◌, ◌⊎◌, ℕ, ◌+◌, ◌≤◌, List, [], ◌∷◌, ◌++◌, length, Bool, true, false, Option, Some, None, Result, Ok, Err, if◌then◌else◌}
+use Rattle.std.specs.Prelude.{◌≡◌, ◌⊎◌, ℕ, ◌+◌, ◌≤◌, List, [], ◌∷◌, ◌++◌, length, Bool, true, false, Option, Some, None, IfSome, Result, Ok, Err, if◌then◌else◌}
 use Rattle.dlms_frame.specs.declared.client.Client.{Client}
 use Rattle.dlms_frame.specs.declared.client.Client.TheVariants.{Public, Management}
 use Rattle.dlms_frame.specs.declared.frame.Address.{Address}
@@ -10,51 +10,94 @@ use Rattle.dlms_link.specs.Server.{ServerRecord, is_client, server_on, server_se
 use Rattle.dlms_link.specs.declared.out.LinkOut.{LinkOut}
 use Rattle.dlms_link.specs.declared.out.LinkOut.TheVariants.{Nothing, Reply, Apdu, Oversize, BadLlc, Up, Down}
 use Rattle.dlms_service.specs.Session.{SessionValue, Outcome, fresh, not_possible, unknown_service}
-use Rattle.dlms_service.specs.Serves.{Choice, FindsMemory, Serves}
+use Rattle.dlms_service.specs.Serves.{Choice as Memory, FindsMemory, Serves}
+use Rattle.dlms_service.specs.Stake.{Fails, is_success}
 use Rattle.dlms_state.specs.declared.event.Event.{Event}
-use Rattle.dlms_state.specs.declared.event.Refused.{Refused}
 use Rattle.dlms_state.specs.Refusal.{refusal_after}
-use Rattle.dlms_state.specs.StateValue.{IsStateOf}
-use Rattle.dlms_meter.specs.MeterValue.{ClientRecord, MeterValue, fresh_record}
+use Rattle.dlms_store.specs.World.{World as StoreWorld, Step as StoreStep, Next, Run as StoreRun}
+use Rattle.dlms_store.specs.World.World.{Runs, InDoubt, Rests}
+use Rattle.dlms_store.specs.World.Step.{Settles, Fails as Fault, Refuses}
+use Rattle.dlms_store.specs.Going.{Knows, Goes, IsAdd, HasCause}
+use Rattle.dlms_store.specs.declared.fault.AddFault.{AddFault}
+use Rattle.dlms_store.specs.declared.fault.AddFault.TheVariants as add
+use Rattle.dlms_store.specs.declared.store.Store.{Store}
+use Rattle.dlms_pages.specs.Device.{Rose}
+use Rattle.dlms_pages.specs.declared.device.Pages.{Ghosts}
+use Rattle.dlms_store.specs.Store.{AddIsExhausted, view_of}
+use Rattle.dlms_meter.specs.ClientRecord.{ClientRecord, fresh_record}
+use Rattle.dlms_meter.specs.declared.meter.Meter.{Meter}
 
 -- each client's own record
 abbrev pub Records : Type 0
 Records = Client → ClientRecord
 
+-- the accepted events: those that are settled, and behind them those that are not yet
+abbrev pub events_in : StoreWorld → List Event
+events_in (Runs settled pending) = settled ++ pending
+events_in (InDoubt settled pending) = settled ++ pending
+events_in (Rests events) = events
+
+-- those that are not settled yet
+abbrev pub pending_in : StoreWorld → List Event
+pending_in (Runs settled pending) = pending
+pending_in (InDoubt settled pending) = pending
+pending_in (Rests events) = []
+
 -- What a run has led to: the bytes since the last silence, the place in them from which the next frame is sought, each
--- client's record, and the accepted events, the oldest first.
+-- client's record, and the store's world: the accepted events, which of them are settled, and whether the store runs.
 pub record World : Type 0 where
   pub stretch : List ℕ
   pub place : ℕ
   pub records : Records
-  pub events : List Event
+  pub store : StoreWorld
+
+abbrev pub events_of : World → List Event
+events_of w = events_in w.store
 
 -- ---- one frame of a client
 
--- what a frame leads to: its client's record, the bytes of the frame that answers it, and the event that is accepted, if any
+-- What no list of events determines: whether memory is found; and whether, where the answer would say success or carry data,
+-- the device fails instead, the event of that answer then being accepted or not.
+pub data Choice : Type 0 where
+  Served : (memory : Memory) → Choice
+  DeviceFails : (kept : Bool) → Choice
+
+-- what an APDU leads to
+abbrev pub Does : Choice → List Event → SessionValue → List ℕ → Outcome → Type 0
+Does (Served memory) E s apdu o = Serves memory E s apdu o
+Does (DeviceFails kept) E s apdu o = Fails kept E s apdu o
+
+-- What a frame leads to: its client's record, the bytes of the frame that answers it, the APDU of which that frame is the
+-- first, if it is (a further segment and a repeated frame are not), and the event that is accepted, if any.
 pub record Handled : Type 0 where
   pub own : ClientRecord
   pub reply : Option (List ℕ)
+  pub answer : Option (List ℕ)
   pub accepted : List Event
 
 -- an answer from the link alone
 abbrev pub replies : ServerRecord → SessionValue → Option (List ℕ) → Handled
-replies r s reply = record { own = record { link = r; session = s }; reply = reply; accepted = [] }
+replies r s reply = record { own = record { link = r; session = s }; reply = reply; answer = None; accepted = [] }
 
 -- the answer to an APDU, in the frame that the link makes of its beginning
 abbrev pub sends : ServerRecord → Outcome → Handled
-sends r o = record { own = record { link = (server_send r o.answer).0; session = o.own }; reply = Some (spelling (server_send r o.answer).1); accepted = o.accepted }
+sends r o = record { own = record { link = (server_send r o.answer).0; session = o.own }; reply = Some (spelling (server_send r o.answer).1); answer = Some o.answer; accepted = o.accepted }
+
+-- what the link alone does calls no device
+abbrev pub ByLink : Choice → Type 0 → Type 0
+ByLink (Served memory) made = made
+ByLink (DeviceFails kept) made = ⊥
 
 -- What is made of what the link gives. A link that comes up or goes down drops the association and the transfers; an APDU
 -- is served; one that is too long, or does not begin with the LLC, is not.
 abbrev pub Answered : Choice → List Event → ServerRecord → SessionValue → LinkOut → Handled → Type 0
-Answered choice E r s Nothing h = h ≡ replies r s None
-Answered choice E r s (Reply frame) h = h ≡ replies r s (Some (spelling frame))
-Answered choice E r s (Up frame) h = h ≡ replies r (fresh s.client) (Some (spelling frame))
-Answered choice E r s (Down frame) h = h ≡ replies r (fresh s.client) (Some (spelling frame))
-Answered choice E r s Apdu h = (o : Outcome) × Serves choice E s r.apdu o × (h ≡ sends r o)
-Answered choice E r s Oversize h = h ≡ sends r (not_possible s)
-Answered choice E r s BadLlc h = h ≡ sends r (unknown_service s)
+Answered choice E r s Nothing h = ByLink choice (h ≡ replies r s None)
+Answered choice E r s (Reply frame) h = ByLink choice (h ≡ replies r s (Some (spelling frame)))
+Answered choice E r s (Up frame) h = ByLink choice (h ≡ replies r (fresh s.client) (Some (spelling frame)))
+Answered choice E r s (Down frame) h = ByLink choice (h ≡ replies r (fresh s.client) (Some (spelling frame)))
+Answered choice E r s Apdu h = (o : Outcome) × Does choice E s r.apdu o × (h ≡ sends r o)
+Answered choice E r s Oversize h = ByLink choice (h ≡ sends r (not_possible s))
+Answered choice E r s BadLlc h = ByLink choice (h ≡ sends r (unknown_service s))
 
 -- a frame is handled from its client's own record and the accepted events
 abbrev pub Handles : Choice → List Event → ClientRecord → Parts → Handled → Type 0
@@ -76,7 +119,7 @@ with_record records who own other = if is_same who other then own else records o
 abbrev pub client_at : Address → Option Client
 client_at address = if is_client Public address then Some Public else if is_client Management address then Some Management else None
 
--- A frame in its turn: where it stands in the stretch, the choice that was taken at it, and what it led to.
+-- A frame in its turn: where it stands in the stretch, the choice that was taken at it, what it led to, and what the store did.
 pub record Turn : Type 0 where
   pub from : ℕ
   pub to : ℕ
@@ -84,22 +127,61 @@ pub record Turn : Type 0 where
   pub choice : Choice
   pub records : Records
   pub reply : Option (List ℕ)
+  pub answer : Option (List ℕ)
   pub accepted : List Event
+  pub steps : List StoreStep
+  pub store : StoreWorld
 
 -- a frame of nobody leads to nothing, that of a client changes its own record alone
 abbrev pub Takes : List Event → Records → Turn → Option Client → Type 0
-Takes E records turn None = (turn.records ≡ records) × (turn.reply ≡ None) × (turn.accepted ≡ [])
+Takes E records turn None = (turn.records ≡ records) × (turn.reply ≡ None) × (turn.answer ≡ None) × (turn.accepted ≡ [])
 Takes E records turn (Some who) =
-    (own : ClientRecord) × Handles turn.choice E (records who) turn.frame (record { own = own; reply = turn.reply; accepted = turn.accepted })
+    (own : ClientRecord) × Handles turn.choice E (records who) turn.frame (record { own = own; reply = turn.reply; answer = turn.answer; accepted = turn.accepted })
     × (turn.records ≡ with_record records who own)
+
+-- the steps by which a store takes what is accepted
+abbrev pub IsTaking : List Event → List StoreStep → Type 0
+IsTaking [] steps = steps ≡ []
+IsTaking (event ∷ []) steps = (step : StoreStep) × IsAdd event step × (steps ≡ step ∷ [])
+IsTaking (event ∷ other ∷ more) steps = ⊥
+
+-- the store is not called, and nothing is accepted
+abbrev pub IsUncalled : List Event → List StoreStep → Type 0
+IsUncalled accepted steps = (accepted ≡ []) × (steps ≡ [])
+
+-- the store takes what is accepted, and settles all
+abbrev pub IsSettling : List Event → List StoreStep → Type 0
+IsSettling accepted steps = (taking : List StoreStep) × IsTaking accepted taking × (steps ≡ taking ++ Settles ∷ [])
+
+-- the store takes what is accepted, and then a call of it fails or is refused
+abbrev pub IsUnsettling : List Event → List StoreStep → Type 0
+IsUnsettling accepted steps = (taking : List StoreStep) × (last : StoreStep) × IsTaking accepted taking × ((last ≡ Fault) ⊎ (last ≡ Refuses)) × (steps ≡ taking ++ last ∷ [])
+
+-- for an answer that says success or carries data, or for another one
+abbrev pub StoredFor : Bool → List Event → List StoreStep → Type 0
+StoredFor true accepted steps = IsSettling accepted steps
+StoredFor false accepted steps = IsUncalled accepted steps
+
+-- What the store did for an answer: where it says success or carries data, all is settled before it goes out; another answer
+-- does not call the store.
+abbrev pub Stored : Choice → Option (List ℕ) → List Event → List StoreStep → Type 0
+Stored choice None accepted steps = IsUncalled accepted steps
+Stored (Served memory) (Some answer) accepted steps = StoredFor (is_success answer) accepted steps
+Stored (DeviceFails kept) (Some answer) accepted steps = IsUnsettling accepted steps
 
 -- the next frame of the stretch is this turn's
 pub record IsTurn (w : World) (turn : Turn) : Type 0 where
   pub next : IsNext w.stretch w.place turn.from turn.to turn.frame
-  pub takes : Takes w.events w.records turn (client_at turn.frame.src)
+  pub takes : Takes (events_of w) w.records turn (client_at turn.frame.src)
+  pub stored : Stored turn.choice turn.answer turn.accepted turn.steps
+  pub run : StoreRun w.store turn.steps turn.store
+
+-- an answer of success, or with data, leaves nothing pending
+abbrev pub Promised : Turn → Type 0
+Promised turn = IfSome turn.answer (λ answer. is_success answer ≡ true → pending_in turn.store ≡ [])
 
 abbrev pub after_turn : World → Turn → World
-after_turn w turn = record { stretch = w.stretch; place = turn.to; records = turn.records; events = w.events ++ turn.accepted }
+after_turn w turn = record { stretch = w.stretch; place = turn.to; records = turn.records; store = turn.store }
 
 -- ---- a piece of bytes
 
@@ -120,7 +202,7 @@ Answers w (turn ∷ turns) replies w' =
 -- at each of these frames memory was found
 abbrev pub FoundMemory : List Turn → Type 0
 FoundMemory [] = Unit {0}
-FoundMemory (turn ∷ turns) = (turn.choice ≡ FindsMemory) × FoundMemory turns
+FoundMemory (turn ∷ turns) = (turn.choice ≡ Served FindsMemory) × FoundMemory turns
 
 -- the stretch goes on
 abbrev pub grown : World → List ℕ → World
@@ -131,19 +213,38 @@ pub record Comes (w : World) (bytes : List ℕ) (replies : List (List ℕ)) (w' 
   pub turns : List Turn
   pub answers : Answers (grown w bytes) turns replies w'
 
--- One call of feed took these bytes: they ended no frame, or they end with the closing flag of the next one.
-abbrev pub Fed : World → List ℕ → Option (List ℕ) → World → Type 0
-Fed w taken reply w' =
-    (HasNoFrame (w.stretch ++ taken) w.place × (reply ≡ None) × (w' ≡ grown w taken))
-    ⊎ ((turn : Turn) × IsTurn (grown w taken) turn × (turn.to + 1 ≡ length (w.stretch ++ taken)) × (reply ≡ turn.reply)
-    × (w' ≡ after_turn (grown w taken) turn))
+-- One call of feed took these bytes: they ended no frame, or they end with the closing flag of the next one. The choice that was
+-- taken at it may be taken, and these were the steps of the store.
+abbrev pub Fed : (Choice → Type 0) → World → List ℕ → Option (List ℕ) → List StoreStep → World → Type 0
+Fed May w taken reply steps w' =
+    (HasNoFrame (w.stretch ++ taken) w.place × (reply ≡ None) × (steps ≡ []) × (w' ≡ grown w taken))
+    ⊎ ((turn : Turn) × IsTurn (grown w taken) turn × May turn.choice × Promised turn × (turn.to + 1 ≡ length (w.stretch ++ taken))
+    × (reply ≡ turn.reply) × (steps ≡ turn.steps) × (w' ≡ after_turn (grown w taken) turn))
 
 -- ---- pulses, moments, silence
 
--- an event is accepted, or refused by the table
-abbrev pub Judged : World → Event → Result (Unit {0}) Refused → World → Type 0
-Judged w event (Ok done) w' = (refusal_after w.events event ≡ None) × (w' ≡ record w { events = w.events ++ event ∷ [] })
-Judged w event (Err cause) w' = (refusal_after w.events event ≡ Some cause) × (w' ≡ w)
+-- with the store's world changed
+abbrev pub with_store : World → StoreWorld → World
+with_store w store = record { stretch = w.stretch; place = w.place; records = w.records; store = store }
+
+-- the store runs
+abbrev pub IsRunningIn : StoreWorld → Type 0
+IsRunningIn (Runs settled pending) = Unit {0}
+IsRunningIn _ = ⊥
+
+-- the store is stopped
+abbrev pub IsStoppedIn : StoreWorld → Type 0
+IsStoppedIn (InDoubt settled pending) = Unit {0}
+IsStoppedIn _ = ⊥
+
+-- An event is accepted, or refused by the table; a stopped store looks at no event, and a fault or an exhausted generation stands
+-- only where the table does not refuse.
+abbrev pub Judged : World → Event → Result (Unit {0}) AddFault → StoreStep → World → Type 0
+Judged w event (Ok done) step w' = (refusal_after (events_of w) event ≡ None) × IsAdd event step × (now : StoreWorld) × Next w.store step now × (w' ≡ with_store w now)
+Judged w event (Err (add.Refused cause)) step w' = IsRunningIn w.store × (refusal_after (events_of w) event ≡ Some cause) × (step ≡ Refuses) × (w' ≡ w)
+Judged w event (Err add.Device) step w' = (refusal_after (events_of w) event ≡ None) × (step ≡ Fault) × (now : StoreWorld) × Next w.store Fault now × (w' ≡ with_store w now)
+Judged w event (Err add.Stopped) step w' = IsStoppedIn w.store × (step ≡ Refuses) × (w' ≡ w)
+Judged w event (Err add.Exhausted) step w' = IsRunningIn w.store × (refusal_after (events_of w) event ≡ None) × (step ≡ Refuses) × (w' ≡ w)
 
 -- silence begins a new stretch
 abbrev pub silent : World → World
@@ -151,38 +252,61 @@ silent w = record w { stretch = []; place = 0 }
 
 -- nothing has happened yet
 abbrev pub first_world : World
-first_world = record { stretch = []; place = 0; records = fresh_record; events = [] }
+first_world = record { stretch = []; place = 0; records = fresh_record; store = Runs [] [] }
+
+-- after a recovery: these events, all links down and no association
+abbrev pub recovered : List Event → World
+recovered events = record { stretch = []; place = 0; records = fresh_record; store = Runs events [] }
 
 -- ---- a meter stands for what a run has led to
 
-abbrev pub record_for : MeterValue → Client → ClientRecord
+abbrev pub record_for : {P A : Type 0} → {ghosts : Ghosts P} → Meter P A ghosts → Client → ClientRecord
 record_for m Public = m.anyone
 record_for m Management = m.manager
 
-pub record Stands (m : MeterValue) (w : World) : Type 0 where
-  pub line : Fits m.kept w.stretch w.place
+pub record Stands {P A : Type 0} {ghosts : Ghosts P} (m : Meter P A ghosts) (w : World) : Type 0 where
+  pub line : Fits m.deframer w.stretch w.place
   pub own : (who : Client) → w.records who ≡ record_for m who
-  pub state : IsStateOf w.events m.state
+  pub store : Knows m.store w.store
 
--- a client's frame changes its own record alone, a frame of nobody changes nothing
-abbrev pub OfClient : Choice → List Event → MeterValue → Parts → Option (List ℕ) → List Event → MeterValue → Option Client → Type 0
-OfClient choice E old frame reply accepted new None = (new ≡ old) × (reply ≡ None) × (accepted ≡ [])
-OfClient choice E old frame reply accepted new (Some Public) =
-    Handles choice E old.anyone frame (record { own = new.anyone; reply = reply; accepted = accepted })
-    × (new ≡ record old { anyone = new.anyone; state = new.state })
-OfClient choice E old frame reply accepted new (Some Management) =
-    Handles choice E old.manager frame (record { own = new.manager; reply = reply; accepted = accepted })
-    × (new ≡ record old { manager = new.manager; state = new.state })
+-- Want of memory may always be told; a failure of the device only for its cause.
+abbrev pub MayChoose : {P A : Type 0} → {ghosts : Ghosts P} → Store P A ghosts → Store P A ghosts → Choice → Type 0
+MayChoose old new (Served memory) = Unit {0}
+MayChoose old new (DeviceFails kept) = HasCause old new
 
--- what a frame makes of a meter and what it is replied, whatever events the state is that of
-abbrev pub Replies : MeterValue → Parts → Option (List ℕ) → MeterValue → Type 0
-Replies old frame reply new = (E : List Event) → IsStateOf E old.state → (choice : Choice) × (accepted : List Event)
-    × OfClient choice E old frame reply accepted new (client_at frame.src) × IsStateOf (E ++ accepted) new.state
+-- what a frame of a client led to, in its record and in the store
+pub record Handling {P A : Type 0} {ghosts : Ghosts P} (own : ClientRecord) (frame : Parts) (reply : Option (List ℕ)) (own' : ClientRecord) (before : StoreWorld) (old new : Store P A ghosts) : Type 0 where
+  pub choice : Choice
+  pub answer : Option (List ℕ)
+  pub accepted : List Event
+  pub steps : List StoreStep
+  pub now : StoreWorld
+  pub handles : Handles choice (events_in before) own frame (record { own = own'; reply = reply; answer = answer; accepted = accepted })
+  pub stored : Stored choice answer accepted steps
+  pub may : MayChoose old new choice
+  pub goes : Goes before steps now old new
 
--- one call of feed, for every run that the meter stands for
-abbrev pub Feeds : MeterValue → List ℕ → Option (List ℕ) → MeterValue → Type 0
-Feeds old taken reply new = (w : World) → Stands old w → (w' : World) × Fed w taken reply w' × Stands new w'
+-- what a frame of a client, or of nobody, makes of a meter and what it is replied
+abbrev pub Replies : {P A : Type 0} → {ghosts : Ghosts P} → Meter P A ghosts → Parts → Option (List ℕ) → Meter P A ghosts → Option Client → Type 0
+Replies old frame reply new None = (new ≡ old) × (reply ≡ None)
+Replies old frame reply new (Some Public) =
+    ((before : StoreWorld) → Knows old.store before → Handling old.anyone frame reply new.anyone before old.store new.store) × (new.deframer ≡ old.deframer) × (new.manager ≡ old.manager)
+Replies old frame reply new (Some Management) =
+    ((before : StoreWorld) → Knows old.store before → Handling old.manager frame reply new.manager before old.store new.store) × (new.deframer ≡ old.deframer) × (new.anyone ≡ old.anyone)
+
+-- One call of feed, for every run that the meter stands for. Where the device keeps the rules too, a stop at any moment of the
+-- call leaves what it may leave in a world of the store before one of these steps.
+abbrev pub Feeds : {P A : Type 0} → {ghosts : Ghosts P} → Meter P A ghosts → List ℕ → Option (List ℕ) → Meter P A ghosts → Type 0
+Feeds old taken reply new = (w : World) → Stands old w → (w' : World) × (steps : List StoreStep)
+    × Fed (MayChoose old.store new.store) w taken reply steps w' × Stands new w' × Goes w.store steps w'.store old.store new.store
+
+-- The device is told to have failed where it did, and the generation to be exhausted where the store was, before the call.
+abbrev pub JudgedFor : {P A : Type 0} → {ghosts : Ghosts P} → Event → Result (Unit {0}) AddFault → Store P A ghosts → Store P A ghosts → Type 0
+JudgedFor event (Err add.Device) old new = Rose (view_of old).faults (view_of new).faults
+JudgedFor event (Err add.Exhausted) old new = AddIsExhausted old event
+JudgedFor event _ old new = Unit {0}
 
 -- one call that judges an event
-abbrev pub Judges : MeterValue → Event → Result (Unit {0}) Refused → MeterValue → Type 0
-Judges old event outcome new = (w : World) → Stands old w → (w' : World) × Judged w event outcome w' × Stands new w'
+abbrev pub Judges : {P A : Type 0} → {ghosts : Ghosts P} → Meter P A ghosts → Event → Result (Unit {0}) AddFault → Meter P A ghosts → Type 0
+Judges old event outcome new = (w : World) → Stands old w → (w' : World) × (step : StoreStep)
+    × Judged w event outcome step w' × JudgedFor event outcome old.store new.store × Stands new w' × Goes w.store (step ∷ []) w'.store old.store new.store

@@ -1,6 +1,6 @@
 -- A client's APDUs in a run, and the value that goes out to it in blocks (IEC 62056-5-3: GET with datablock transfer).
 use Rattle.std.specs.Prelude.{◌≡◌, ℕ, ◌*◌, ◌-◌, Bool, true, false, ◌&&◌, ◌||◌, not, List, [], ◌∷◌, ◌++◌, take, Result, Ok}
-use Rattle.dlms_apdu.specs.Forms.{RequestForm, ResponseForm, get_normal, get_block}
+use Rattle.dlms_apdu.specs.Forms.{RequestForm, ResponseForm, get_normal, get_next, get_block}
 use Rattle.dlms_apdu.specs.Reading.{request_at}
 use Rattle.dlms_apdu.specs.Writing.{response_bytes}
 use Rattle.dlms_apdu.specs.declared.fault.Refusal.{Refusal}
@@ -8,12 +8,12 @@ use Rattle.dlms_link.specs.Server.{ServerRecord, server_on}
 use Rattle.dlms_link.specs.declared.out.LinkOut.{LinkOut}
 use Rattle.dlms_link.specs.declared.out.LinkOut.TheVariants.{Nothing, Reply, Apdu, Oversize, BadLlc, Up, Down}
 use Rattle.dlms_service.specs.Session.{SessionValue, Outcome, fresh}
-use Rattle.dlms_service.specs.Serves.{Choice, Serves, begins_with}
+use Rattle.dlms_service.specs.Serves.{begins_with}
 use Rattle.dlms_service.specs.Shown.{in_blocks}
 use Rattle.dlms_service.specs.declared.association.Association.{Association}
 use Rattle.dlms_state.specs.declared.event.Event.{Event}
-use Rattle.dlms_meter.specs.MeterValue.{ClientRecord}
-use Rattle.dlms_meter.specs.Run.{Handled, Answered}
+use Rattle.dlms_meter.specs.ClientRecord.{ClientRecord}
+use Rattle.dlms_meter.specs.Run.{Choice, Served as ByChoice, DeviceFails, Does, Handled, Answered}
 use Rattle.dlms_meter.specs.Independence.{OwnTurn, Alone}
 
 -- an APDU that was served, after these events, and what it led to
@@ -32,7 +32,7 @@ pub data Own : Type 0 where
 abbrev pub InTurn : SessionValue → List Own → SessionValue → Type 0
 InTurn s [] s' = s' ≡ s
 InTurn s (Cleared ∷ xs) s' = InTurn (fresh s.client) xs s'
-InTurn s (Asked x ∷ xs) s' = Serves x.choice x.before s x.apdu x.outcome × InTurn x.outcome.own xs s'
+InTurn s (Asked x ∷ xs) s' = Does x.choice x.before s x.apdu x.outcome × InTurn x.outcome.own xs s'
 
 -- those of a client's turns, in their order
 abbrev pub own_by : (choice : Choice) (E : List Event) (r : ServerRecord) (s : SessionValue) (out : LinkOut) (h : Handled) → Answered choice E r s out h → List Own
@@ -48,7 +48,7 @@ abbrev pub own_of : (own : ClientRecord) (turns : List OwnTurn) (own' : ClientRe
 own_of own [] own' alone = []
 own_of own (turn ∷ turns) own' (mid, handles, rest) =
     own_by turn.choice turn.question.before (server_on own.link turn.question.frame).0 own.session (server_on own.link turn.question.frame).1
-    (record { own = mid; reply = turn.reply; accepted = turn.accepted }) handles
+    (record { own = mid; reply = turn.reply; answer = turn.answer; accepted = turn.accepted }) handles
     ++ own_of mid turns own' rest
 
 abbrev pub AreInTurn : Type 0
@@ -64,11 +64,20 @@ is_get_normal _ = false
 abbrev pub leaves_get : List ℕ → Bool
 leaves_get apdu = not (begins_with 0x60 apdu) && not (begins_with 0x62 apdu) && not (is_get_normal (request_at apdu))
 
--- nothing that drops the value that goes out
+abbrev pub is_get_next : Result RequestForm Refusal → Bool
+is_get_next (Ok (get_next invoke number)) = true
+is_get_next _ = false
+
+-- the device did not fail it
+abbrev pub IsServed : Choice → Type 0
+IsServed (ByChoice memory) = Unit {0}
+IsServed (DeviceFails kept) = ⊥
+
+-- Nothing that drops the value that goes out: the device failed at none of its further blocks. At another request it may.
 abbrev pub LeaveGet : List Own → Type 0
 LeaveGet [] = Unit {0}
 LeaveGet (Cleared ∷ xs) = ⊥
-LeaveGet (Asked x ∷ xs) = (leaves_get x.apdu ≡ true) × LeaveGet xs
+LeaveGet (Asked x ∷ xs) = (leaves_get x.apdu ≡ true) × (is_get_next (request_at x.apdu) ≡ true → IsServed x.choice) × LeaveGet xs
 
 -- the APDUs are answered by these responses
 abbrev pub AreAnswered : List Own → List ResponseForm → Type 0

@@ -1,17 +1,24 @@
 //! Laws over whole runs. They make no call: the calls' own contracts cite the same definitions.
 
 ghost use Rattle.std.specs.Prelude.{◌≡◌, ℕ, List, ◌++◌, map};
-ghost use Rattle.dlms_meter.specs.MeterValue.{MeterValue};
+ghost use Rattle.dlms_store.specs.World.{Run as StoreRun};
 ghost use Rattle.dlms_meter.specs.Run.{World, Stands, Comes, FoundMemory};
+ghost use Rattle.dlms_meter.specs.Alike.{IsAlike};
+ghost use Rattle.dlms_meter.specs.Steps.{Step, Call, Calls, Run, step_of};
 ghost use Rattle.dlms_meter.specs.Independence.{IsAlone, IsIndependent};
+ghost use Rattle.dlms_meter.specs.Lives.{RecoversInLives, NoFurtherStopInLives};
+ghost use Rattle.dlms_meter.specs.Storing.{store_steps, RecoversInRuns};
 ghost use Rattle.dlms_meter.specs.Transfers.{AreInTurn, BlocksJoin};
-ghost use Rattle.dlms_meter.specs.Steps.{Call, Calls, Run, step_of};
+
+use crate::Meter;
+use dlms_pages::Pages;
+use std::alloc::Allocator;
 
 /// The calls of a meter, one after another, are a run from each world that it stood for, and it then stands for the
 /// world that the run leads to.
-pub fn calls_are_a_run()
-    ensures { (calls : List Call) (old new : MeterValue) (w : World) → Calls old calls new → Stands old w
-        → (w' : World) × Run w (map step_of calls) w' × Stands new w' }
+pub fn calls_are_a_run<P: Pages, A: Allocator + Copy>(_old: &Meter<P, A>, _new: &Meter<P, A>)
+    ensures { (calls : List Call) (w : World) → Calls _old.now calls _new.now → Stands _old.now w
+        → (w' : World) × Run w (map step_of calls) w' × Stands _new.now w' }
 {}
 
 /// However a piece of bytes is cut in two, its frames, its replies and its events are the same.
@@ -20,10 +27,18 @@ pub fn pieces_join()
         → Comes w (front ++ back) (first ++ second) w' }
 {}
 
-/// A piece of bytes has one outcome, where memory is found at each of its frames: its replies, and the world that it leads to.
+/// A piece of bytes has one outcome, where memory is found and the device fails at none of its frames: its replies, and the
+/// world that it leads to. Where more was settled in one of two worlds, the replies are the same too.
 pub fn one_outcome()
-    ensures { (w u v : World) (bytes : List ℕ) (first second : List (List ℕ)) (a : Comes w bytes first u) (b : Comes w bytes second v)
+    ensures equal { (w u v : World) (bytes : List ℕ) (first second : List (List ℕ)) (a : Comes w bytes first u) (b : Comes w bytes second v)
         → FoundMemory a.turns → FoundMemory b.turns → (first ≡ second) × (u ≡ v) }
+    ensures alike { (w w' u v : World) (bytes : List ℕ) (first second : List (List ℕ)) → IsAlike w w' → (a : Comes w bytes first u) (b : Comes w' bytes second v)
+        → FoundMemory a.turns → FoundMemory b.turns → (first ≡ second) × IsAlike u v }
+{}
+
+/// What the store did in a run of the meter is a run of the store: the laws of the store's runs hold of it.
+pub fn stores_in_turn()
+    ensures { (w w' : World) (steps : List Step) (run : Run w steps w') → StoreRun w.store (store_steps w steps w' run) w'.store }
 {}
 
 /// The clients are independent: a client's replies come of its own frames, its own record and the events accepted before each
@@ -34,7 +49,23 @@ pub fn independence()
     ensures equal { IsIndependent }
 {}
 
-/// A client's APDUs in a run are served one after another, each from what the one before left of its association and its
+/// Whatever came to a formatted meter, a recovery after a stop finds a beginning of the accepted events. It has every event that
+/// was settled before an answer, and lacks at most one page of records.
+pub fn recovers_in_runs()
+    ensures { RecoversInRuns }
+{}
+
+/// So it is over stops and recoveries, wherever the power stopped: in a call, in a recovery or between them.
+pub fn recovers_in_lives()
+    ensures { RecoversInLives }
+{}
+
+/// The first stop fixes what every later recovery finds.
+pub fn no_further_stop_matters()
+    ensures { NoFurtherStopInLives }
+{}
+
+/// A client's APDUs in a run are answered one after another, each from what the one before left of its association and its
 /// transfers.
 pub fn apdus_are_in_turn()
     ensures { AreInTurn }

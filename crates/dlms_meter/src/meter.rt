@@ -1,33 +1,35 @@
-//! The meter: the clients' links and services over the state.
+//! The meter: the clients' links and services over the store.
 
-ghost use Rattle.std.specs.Prelude.{◌≡◌, ◌≤◌, ◌<◌, [], ◌++◌, List, None, Some, length, take, IfOk, option_map};
-ghost use Rattle.dlms_service.specs.Serves.{Choice};
+ghost use Rattle.std.specs.Prelude.{◌≡◌, ◌≤◌, ◌<◌, ◌≢◌, ◌⊎◌, ◌++◌, [], List, None, Some, length, take, IfOk, IfErr, option_map, true};
+ghost use Rattle.dlms_frame.specs.Stream.{Fits};
+ghost use Rattle.dlms_frame.specs.declared.client.Client.{Client};
+ghost use Rattle.dlms_meter.specs.ClientRecord.{fresh_record};
+ghost use Rattle.dlms_pages.specs.Device.{Rose};
 ghost use Rattle.dlms_state.specs.declared.event.Event.{Event};
 ghost use Rattle.dlms_state.specs.StateValue.{IsStateOf};
-ghost use Rattle.dlms_meter.specs.Run.{Stands, Feeds, Judges, World, first_world, silent, client_at, Replies};
+ghost use Rattle.dlms_store.specs.Fitting.{StoreFits, DeviceFits, OpensAs, GivesBack, GivesUp};
+ghost use Rattle.dlms_store.specs.Store.{state_in, view_of, IsStopped, CommitIsExhausted, Remembers};
+ghost use Rattle.dlms_store.specs.World.{World as StoreWorld};
+ghost use Rattle.dlms_store.specs.World.World.{Runs};
+ghost use Rattle.dlms_store.specs.World.Step.{Closes, ClosesInDoubt};
+ghost use Rattle.dlms_meter.specs.Run.{Stands, Feeds, Judges, World, first_world, recovered, silent, client_at, Replies, events_of, record_for};
 
 use crate::connection::{Connection, Reply};
 use dlms_frame::{Address, Client, Deframer, Frame};
-use dlms_state::{Event, Refused, State};
-use std::alloc::{AllocError, Allocator, Global};
-use std::marker::Model;
+use dlms_pages::Pages;
+use dlms_state::{Event, State};
+use dlms_store::{AddFault, OpenFault, Store};
+use std::alloc::{Allocator, Global};
 
-/// A meter with its registers, its clock and its load profile, which two clients read and set over one line.
+/// A meter with its registers, its clock and its load profile, which two clients read and set over one line. What an answer of
+/// success, or with data, speaks of outlasts a stop of the power.
 #[derive(Drop)]
-pub struct Meter<A: Allocator + Copy = Global> {
+pub struct Meter<P: Pages, A: Allocator + Copy = Global> {
     alloc: A,
     deframer: Deframer,
     anyone: Connection<A>,
     manager: Connection<A>,
-    state: State<A>,
-}
-
-impl<A: Allocator + Copy> Model for Meter<A> {
-    ghost use Rattle.dlms_meter.specs.MeterValue.{MeterValue};
-
-    ghost Value = { MeterValue };
-
-    ghost view = { λ m. record { kept = m.deframer; anyone = m.anyone; manager = m.manager; state = m.state } };
+    store: Store<P, A>,
 }
 
 /// The client whose frames come from an address.
@@ -41,29 +43,53 @@ fn client_at(address: Address) -> Option<Client>
     }
 }
 
-impl<A: Allocator + Copy> Meter<A> {
-    /// A meter in which nothing has happened; its memory is taken here.
-    pub fn new(alloc: A) -> Result<Self, AllocError>
-        ensures { IfOk result (λ meter. Stands meter first_world) }
+impl<P: Pages, A: Allocator + Copy> Meter<P, A> {
+    /// A meter in which nothing has happened, on a device that is made empty.
+    pub fn format(alloc: A, device: P) -> Result<Self, (P, OpenFault)>
+        ensures stands { IfOk result (λ meter. Stands meter first_world) }
+        ensures fits { (P.view device).honest ≡ true → IfOk result (λ meter. StoreFits meter.store first_world.store) }
+        ensures device { IfErr result (λ e. e.1 ≡ OpenFault.Device → Rose (P.view device).faults (P.view e.0).faults) }
     {
-        Ok(Meter {
+        let store = Store::format(alloc, device)?;
+        Ok(Meter::over(alloc, store))
+    }
+
+    /// A meter with every event that its device held, its links down.
+    pub fn recover(alloc: A, device: P) -> Result<Self, (P, OpenFault)>
+        ensures opens { (before : StoreWorld) → DeviceFits (P.view device) before → IfOk result (λ meter. OpensAs before (P.view device) meter.store) }
+        ensures opened { IfOk result (λ meter. (events : List Event) × Remembers events [] meter.store) }
+        ensures stands { IfOk result (λ meter. (events : List Event) → Remembers events [] meter.store → Stands meter (recovered events)) }
+        ensures gives_back { (before : StoreWorld) → DeviceFits (P.view device) before → IfErr result (λ e. GivesBack before (P.view device) (P.view e.0) e.1) }
+        ensures device { IfErr result (λ e. e.1 ≡ OpenFault.Device → Rose (P.view device).faults (P.view e.0).faults) }
+    {
+        let store = Store::open(alloc, device)?;
+        Ok(Meter::over(alloc, store))
+    }
+
+    /// New links over a store.
+    fn over(alloc: A, store: Store<P, A>) -> Self
+        ensures store { result.store ≡ store }
+        ensures line { Fits result.deframer [] 0 }
+        ensures own { (who : Client) → fresh_record who ≡ record_for result who }
+    {
+        Meter {
             alloc,
             deframer: Deframer::new(),
             anyone: Connection::new(Client::Public),
             manager: Connection::new(Client::Management),
-            state: State::new(alloc)?,
-        })
+            store,
+        }
     }
 
     /// Pulses on a channel.
-    pub fn pulses(&mut self, channel: u8, count: u32) -> Result<(), Refused>
+    pub fn pulses(&mut self, channel: u8, count: u32) -> Result<(), AddFault>
         ensures { Judges self.old (Event.Pulses channel count) result self.new }
     {
         self.accept(Event::Pulses(channel, count))
     }
 
     /// The meter's own running second.
-    pub fn moment(&mut self, second: u32) -> Result<(), Refused>
+    pub fn moment(&mut self, second: u32) -> Result<(), AddFault>
         ensures { Judges self.old (Event.Moment second) result self.new }
     {
         self.accept(Event::Moment(second))
@@ -71,20 +97,30 @@ impl<A: Allocator + Copy> Meter<A> {
 
     /// Silence on the line: half a frame is forgotten.
     pub fn idle(&mut self)
-        ensures { (w : World) → Stands self.old w → Stands self.new (silent w) }
+        ensures run { (w : World) → Stands self.old w → Stands self.new (silent w) }
+        ensures store { self.new.store ≡ self.old.store }
     {
         self.deframer.idle();
     }
 
     /// What the accepted events have left.
     pub fn state(&self) -> &State<A>
-        ensures { result.now ≡ self.now.state }
+        ensures { (w : World) → Stands self.now w → IsStateOf (events_of w) result.now }
     {
-        &self.state
+        self.store.state()
+    }
+
+    /// Settles what is pending, and gives the device back. Where that fails, what was pending is in doubt.
+    pub fn close(self) -> P
+        ensures run { (before : StoreWorld) → StoreFits self.store before → GivesUp Closes before (view_of self.store) (P.view result) ⊎ GivesUp ClosesInDoubt before (view_of self.store) (P.view result) }
+        ensures settles { (IsStopped self.store → ⊥) → (Rose (view_of self.store).faults (P.view result).faults → ⊥) → (CommitIsExhausted self.store → ⊥)
+            → (before : StoreWorld) → StoreFits self.store before → GivesUp Closes before (view_of self.store) (P.view result) }
+    {
+        self.store.close()
     }
 
     /// Takes bytes through at most one frame, and answers it. A client's frames change what the meter keeps of that client
-    /// alone, and the state by one event at most; frames of anyone else are ignored.
+    /// alone, and the store by one event at most; frames of anyone else are ignored.
     pub fn feed(&mut self, bytes: &[u8]) -> (usize, Option<Reply>)
         ensures len { result.0 ≤ length bytes.now }
         ensures some { 0 < length bytes.now → 0 < result.0 }
@@ -97,22 +133,20 @@ impl<A: Allocator + Copy> Meter<A> {
         }
     }
 
-    /// Accepts an event, or says why it is refused.
-    fn accept(&mut self, event: Event) -> Result<(), Refused>
+    /// Accepts an event, or says why it is not accepted.
+    fn accept(&mut self, event: Event) -> Result<(), AddFault>
         ensures { Judges self.old event result self.new }
     {
-        self.state.check(&event)?;
-        self.state.apply(event);
-        Ok(())
+        self.store.add(event)
     }
 
     /// The reply to a frame.
     fn answer(&mut self, frame: &Frame) -> Option<Reply>
-        ensures { Replies self.old frame.now (option_map (λ reply. reply.items) result) self.new }
+        ensures { Replies self.old frame.now (option_map (λ reply. reply.items) result) self.new (client_at frame.now.src) }
     {
         match client_at(frame.src) {
-            Some(Client::Public) => self.anyone.answer(self.alloc, &mut self.state, frame),
-            Some(Client::Management) => self.manager.answer(self.alloc, &mut self.state, frame),
+            Some(Client::Public) => self.anyone.answer(self.alloc, &mut self.store, frame),
+            Some(Client::Management) => self.manager.answer(self.alloc, &mut self.store, frame),
             None => None,
         }
     }

@@ -3,7 +3,9 @@ use arrayvec::ArrayVec;
 use dlms_acse::{Conformance, write_aarq};
 use dlms_frame::{Client, Deframer, Frame};
 use dlms_link::{ClientLink, ClientOut};
-use std::alloc::Allocator;
+use dlms_pages::MemoryPages;
+use dlms_store::PAGES;
+use std::alloc::{Allocator, Global};
 use std::test::Fail;
 
 mod memory;
@@ -14,8 +16,11 @@ type Apdu = ArrayVec<u8, 1024>;
 /// What a client proposes.
 const PROPOSED: Conformance = Conformance(0x7e_1f);
 
+/// A meter over pages in memory.
+type MemoryMeter<A = Global> = Meter<MemoryPages, A>;
+
 /// The meter's reply to a frame.
-fn reply_to<A: Allocator + Copy>(meter: &mut Meter<A>, frame: &Frame) -> Option<Frame> {
+fn reply_to<A: Allocator + Copy>(meter: &mut MemoryMeter<A>, frame: &Frame) -> Option<Frame> {
     let bytes = frame.put();
     let (_, reply) = meter.feed(bytes.as_slice());
     let reply = reply?;
@@ -24,7 +29,7 @@ fn reply_to<A: Allocator + Copy>(meter: &mut Meter<A>, frame: &Frame) -> Option<
 
 /// Sends an APDU on a client's link, and takes its answer, in as many frames as it wants.
 fn exchange<A: Allocator + Copy>(
-    meter: &mut Meter<A>,
+    meter: &mut MemoryMeter<A>,
     link: &mut ClientLink,
     apdu: &[u8],
 ) -> Result<Apdu, Fail> {
@@ -48,7 +53,10 @@ fn exchange<A: Allocator + Copy>(
 }
 
 /// A client's link that is up.
-fn linked<A: Allocator + Copy>(meter: &mut Meter<A>, client: Client) -> Result<ClientLink, Fail> {
+fn linked<A: Allocator + Copy>(
+    meter: &mut MemoryMeter<A>,
+    client: Client,
+) -> Result<ClientLink, Fail> {
     let mut link = ClientLink::new(client);
     let frame = link.connect();
     let reply = reply_to(meter, &frame).ok_or("a UA")?;
@@ -60,7 +68,7 @@ fn linked<A: Allocator + Copy>(meter: &mut Meter<A>, client: Client) -> Result<C
 
 /// A client's link with an association, in which APDUs of so many bytes are taken.
 fn associated<A: Allocator + Copy>(
-    meter: &mut Meter<A>,
+    meter: &mut MemoryMeter<A>,
     client: Client,
     size: u16,
 ) -> Result<ClientLink, Fail> {
@@ -75,7 +83,10 @@ fn associated<A: Allocator + Copy>(
 
 #[test]
 fn an_empty_piece_gives_nothing(rt: HostRuntime) -> Result<(), Fail> {
-    let mut meter = Meter::new(rt.alloc())?;
+    let pages = MemoryPages::new(rt.alloc(), PAGES)?;
+    let Ok(mut meter) = Meter::format(rt.alloc(), pages) else {
+        return Err("a meter is formatted".into());
+    };
     let (taken, reply) = meter.feed(&[]);
     assert_eq!(rt; taken, 0);
     assert!(rt; reply.is_none());

@@ -1,6 +1,8 @@
-use super::{associated, exchange};
+use super::{MemoryMeter, associated, exchange};
 use crate::Meter;
 use dlms_frame::Client;
+use dlms_pages::MemoryPages;
+use dlms_store::PAGES;
 use linked_list_allocator::LocalHeap;
 use std::alloc::{Allocator, Global};
 use std::test::Fail;
@@ -19,7 +21,7 @@ enum Ended {
 }
 
 /// GET of an attribute, on a link of its own: data or a first block, or a temporary failure.
-fn reads<A: Allocator + Copy>(meter: &mut Meter<A>, request: &[u8]) -> Result<Ended, Fail> {
+fn reads<A: Allocator + Copy>(meter: &mut MemoryMeter<A>, request: &[u8]) -> Result<Ended, Fail> {
     let mut link = associated(meter, Client::Public, 64)?;
     let answer = exchange(meter, &mut link, request)?;
     let bytes = answer.as_slice();
@@ -39,7 +41,7 @@ fn refused_in_turn(alloc: Global, request: &[u8], step: usize) -> Result<(u32, u
     let mut refused = 0u32;
     for more in 0..128usize {
         let heap = LocalHeap::new(alloc, step.saturating_mul(more).saturating_add(15_360))?;
-        if let Ok(mut meter) = Meter::new(&heap) {
+        if let Ok(mut meter) = Meter::format(&heap, MemoryPages::new(alloc, PAGES)?) {
             match reads(&mut meter, request)? {
                 Ended::Given => given = given.saturating_add(1),
                 Ended::Refused => refused = refused.saturating_add(1),
@@ -78,7 +80,9 @@ fn filled<A: Allocator + Copy>(alloc: Global, heap: A) -> Result<Vec<Vec<u8, A>>
 #[test]
 fn refused_memory_leaves_a_transfer(rt: HostRuntime) -> Result<(), Fail> {
     let heap = LocalHeap::new(rt.alloc(), 131_072)?;
-    let mut meter = Meter::new(&heap)?;
+    let Ok(mut meter) = Meter::format(&heap, MemoryPages::new(rt.alloc(), PAGES)?) else {
+        return Err("a meter is formatted".into());
+    };
     let mut link = associated(&mut meter, Client::Public, 64)?;
     let first = exchange(&mut meter, &mut link, &GET_LIST)?;
     assert_eq!(rt; first.as_slice().get(7), Some(&1));
