@@ -1,5 +1,5 @@
 -- A call of feed.
-use Rattle.std.proofs.Common.{◌≡◌, inl, inr, refl, sym, ◌∙◌, ap, subst, ℕ, Bool, true, false, List, [], ◌∷◌, ◌++◌, Option, Some, None}
+use Rattle.std.proofs.Common.{length, ◌≤◌, ◌≡◌, inl, inr, refl, sym, ◌∙◌, ap, subst, ℕ, Bool, true, false, List, [], ◌∷◌, ◌++◌, Option, Some, None}
 use Rattle.std.specs.Prelude.{IfSome}
 use Rattle.dlms_frame.specs.Frame.{Parts}
 use Rattle.dlms_frame.specs.Stream.{Fits, Takes as TakesBytes}
@@ -82,6 +82,7 @@ record Led {P A : Type 0} {ghosts : Ghosts P} (w : World) (f : Parts) (reply : O
   own : (c : Client) → records c ≡ record_for new c
   kept : new.deframer ≡ old.deframer
   goes : Goes w.store steps now old.store new.store
+  short : IfSome answer (λ bytes. length bytes ≤ 1024)
 
 promised_by : {P A : Type 0} {ghosts : Ghosts P} (own : ClientRecord) (f : Parts) (reply : Option (List ℕ)) (w : World) (old new : Meter P A ghosts) (own' : ClientRecord) (h : Handling own f reply own' w.store old.store new.store)
     → IfSome h.answer (λ bytes. is_success bytes ≡ true → pending_in h.now ≡ [])
@@ -107,6 +108,7 @@ led None w f reply old new rules stands (same, silent) = record {
   own = λ c. stands.own c ∙ ap (λ m. record_for m c) (sym same);
   kept = ap (λ m. m.deframer) same;
   goes = subst (λ m. Goes w.store [] w.store old.store m.store) (sym same) (none w.store old.store rules stands.store);
+  short = tt;
 }
 led (Some Public) w f reply old new rules stands (handling, kept, other) =
     let h = handling w.store stands.store in
@@ -124,6 +126,7 @@ led (Some Public) w f reply old new rules stands (handling, kept, other) =
       own = by_client;
       kept = kept;
       goes = h.goes;
+      short = h.short;
     }
   where
     by_client : (c : Client) → with_record w.records Public new.anyone c ≡ record_for new c
@@ -145,6 +148,7 @@ led (Some Management) w f reply old new rules stands (handling, kept, other) =
       own = by_client;
       kept = kept;
       goes = h.goes;
+      short = h.short;
     }
   where
     by_client : (c : Client) → with_record w.records Management new.manager c ≡ record_for new c
@@ -184,7 +188,7 @@ fed_one old taken kept f reply new rules takes replies = λ w stands.
     let turn : Turn = record { from = found.0; to = found.1; frame = f; choice = leads.choice; records = leads.records; reply = reply; answer = leads.answer; accepted = leads.accepted; steps = leads.steps; store = leads.now } in (
       after_turn (grown w taken) turn,
       leads.steps,
-      inr (turn, record { next = found.3; takes = leads.takes found.0 found.1; stored = leads.stored; run = leads.goes.run }, leads.may, leads.promise, found.2, refl, refl, refl),
+      inr (turn, record { next = found.3; takes = leads.takes found.0 found.1; stored = leads.stored; run = leads.goes.run; short = leads.short }, leads.may, leads.promise, found.2, refl, refl, refl),
       record { line = subst (λ (k : List ℕ). Fits k (w.stretch ++ taken) found.1) (sym leads.kept) found.4; own = leads.own; store = leads.goes.knows },
       leads.goes,
     )

@@ -23,7 +23,7 @@ parted w taken rest = ap (λ (s : List ℕ). record w { stretch = s }) (append_a
 
 -- the turn of a call is that of the whole
 turn_stays : (w : World) (rest : List ℕ) (turn : Turn) → turn.to + 1 ≡ length w.stretch → IsTurn w turn → IsTurn (grown w rest) turn
-turn_stays w rest turn ends is = record { next = next_stays w.stretch rest w.place turn.from turn.to turn.frame ends is.next; takes = is.takes; stored = is.stored; run = is.run }
+turn_stays w rest turn ends is = record { next = next_stays w.stretch rest w.place turn.from turn.to turn.frame ends is.next; takes = is.takes; stored = is.stored; run = is.run; short = is.short }
 
 -- one call more
 pub goes_call : (May : Choice → Type 0) (steps : List StoreStep) (w : World) (bytes : List ℕ) (m : World) (taken rest : List ℕ) (replies : List (List ℕ)) (reply : Option (List ℕ)) (m' : World)

@@ -1,4 +1,5 @@
 -- How the calls of a meter make a run.
+use Rattle.std.specs.Prelude.{IfSome}
 use Rattle.std.proofs.Common.{arith, refl, sym, ap, subst, append-nil, ◌∙◌, ◌≡◌, ◌≤◌, ◌<◌, ℕ, Bool, true, false, List, [], ◌++◌, length}
 use Rattle.std.specs.Prelude.{Some}
 use Rattle.dlms_frame.specs.Frame.{Parts, spelling}
@@ -42,9 +43,9 @@ state_known (Rests events) store s knows after = absurd knows
 -- the link alone replies
 pub on_link : {P A : Type 0} {ghosts : Ghosts P} (own : ClientRecord) (f : Parts) (link : ServerRecord) (given : LinkOut) (h : Handled) (before : StoreWorld) (store : Store P A ghosts)
     → ((ghosts.view store.device).honest ≡ true → Rules (ghosts.view store.device)) → Knows store before → given ≡ (server_on own.link f).1 → link ≡ (server_on own.link f).0
-    → ((E : List Event) → Answered (Served FindsMemory) E link own.session given h) → Stored (Served FindsMemory) h.answer h.accepted []
+    → ((E : List Event) → Answered (Served FindsMemory) E link own.session given h) → Stored (Served FindsMemory) h.answer h.accepted [] → IfSome h.answer (λ bytes. length bytes ≤ 1024)
     → Handling own f h.reply h.own before store store
-on_link own f link given h before store rules knows out is answered stored = record {
+on_link own f link given h before store rules knows out is answered stored short = record {
   choice = Served FindsMemory;
   answer = h.answer;
   accepted = h.accepted;
@@ -55,6 +56,7 @@ on_link own f link given h before store rules knows out is answered stored = rec
   stored = stored;
   may = tt;
   goes = none before store rules knows;
+  short = short;
 }
 
 -- an answer in its frame
@@ -68,9 +70,9 @@ one_answer link after reply o sent frame =
 pub apdu_handled : {P A : Type 0} {ghosts : Ghosts P} (own : ClientRecord) (f : Parts) (link after : ServerRecord) (apdu : List ℕ) (o : Outcome) (reply : List ℕ) (choice : Choice) (before now : StoreWorld) (steps : List StoreStep) (old new : Store P A ghosts)
     → Apdu ≡ (server_on own.link f).1 → link ≡ (server_on own.link f).0 → apdu ≡ link.apdu → Does choice (events_in before) own.session apdu o
     → after ≡ (server_send link o.answer).0 → reply ≡ spelling (server_send link o.answer).1
-    → Stored choice (Some o.answer) o.accepted steps → MayChoose old new choice → Goes before steps now old new
+    → Stored choice (Some o.answer) o.accepted steps → MayChoose old new choice → Goes before steps now old new → length o.answer ≤ 1024
     → Handling own f (Some reply) (record { link = after; session = o.own }) before old new
-apdu_handled own f link after apdu o reply choice before now steps old new out is handed does sent frame stored may goes =
+apdu_handled own f link after apdu o reply choice before now steps old new out is handed does sent frame stored may goes short =
     let h : Handled = record { own = record { link = after; session = o.own }; reply = Some reply; answer = Some o.answer; accepted = o.accepted } in
     let same : h ≡ sends link o = one_answer link after reply o sent frame in
     let answered : Answered choice (events_in before) link own.session Apdu h = (o, subst (λ (bytes : List ℕ). Does choice (events_in before) own.session bytes o) handed does, same) in
@@ -85,6 +87,7 @@ apdu_handled own f link after apdu o reply choice before now steps old new out i
       stored = stored;
       may = may;
       goes = goes;
+      short = short;
     }
 
 -- an answer that calls no store, and one that settles all

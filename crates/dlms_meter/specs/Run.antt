@@ -169,12 +169,13 @@ Stored choice None accepted steps = IsUncalled accepted steps
 Stored (Served memory) (Some answer) accepted steps = StoredFor (is_success answer) accepted steps
 Stored (DeviceFails kept) (Some answer) accepted steps = IsUnsettling accepted steps
 
--- the next frame of the stretch is this turn's
+-- the next frame of the stretch is this turn's; an answer has at most the bytes that a link takes
 pub record IsTurn (w : World) (turn : Turn) : Type 0 where
   pub next : IsNext w.stretch w.place turn.from turn.to turn.frame
   pub takes : Takes (events_of w) w.records turn (client_at turn.frame.src)
   pub stored : Stored turn.choice turn.answer turn.accepted turn.steps
   pub run : StoreRun w.store turn.steps turn.store
+  pub short : IfSome turn.answer (λ answer. length answer ≤ 1024)
 
 -- an answer of success, or with data, leaves nothing pending
 abbrev pub Promised : Turn → Type 0
@@ -285,6 +286,7 @@ pub record Handling {P A : Type 0} {ghosts : Ghosts P} (own : ClientRecord) (fra
   pub stored : Stored choice answer accepted steps
   pub may : MayChoose old new choice
   pub goes : Goes before steps now old new
+  pub short : IfSome answer (λ bytes. length bytes ≤ 1024)
 
 -- what a frame of a client, or of nobody, makes of a meter and what it is replied
 abbrev pub Replies : {P A : Type 0} → {ghosts : Ghosts P} → Meter P A ghosts → Parts → Option (List ℕ) → Meter P A ghosts → Option Client → Type 0

@@ -1,4 +1,4 @@
-use Rattle.std.proofs.Common.{◌≡◌, ◌∙◌, inl, inr, sym, ap, subst, refl, ℕ, true, false, List, [], Some, None, is_some, if◌then◌else◌}
+use Rattle.std.proofs.Common.{◌≡◌, ◌∙◌, inl, inr, sym, ap, subst, refl, ℕ, true, false, List, [], Some, None, is_some, if◌then◌else◌, arith, length, ◌≤◌}
 use Rattle.dlms_frame.specs.Frame.{spelling}
 use Rattle.dlms_link.specs.Server.{server_send}
 use Rattle.dlms_link.specs.declared.out.LinkOut.TheVariants.{Nothing, Reply, Oversize, BadLlc, Up, Down}
@@ -25,7 +25,7 @@ returns-in_default g c before knows =
     subst (λ (r : ClientRecord). Handling r c.args.frame.now (Some c.send.result.items) (record { link = c.send.new.link; session = c.serve-answer.new.self }) before store store) c.self.view_is
     (apdu_handled own c.args.frame.now link c.send.new.link c.apdu.result.now o c.send.result.items (Served told.0) before before [] store store
     (sym c.in-Apdu.is ∙ c.on.ensures.out) c.on.ensures.after c.apdu.ensures.value told.1 sent frame
-    (uncalled (is_success o.answer) o.accepted quiet (c.serve-answer.ensures.alone (events_in before) of c.in_default.is)) tt (none before store (λ h. g.met.P.Pages.rules store.device h) knows))
+    (uncalled (is_success o.answer) o.accepted quiet (c.serve-answer.ensures.alone (events_in before) of c.in_default.is)) tt (none before store (λ h. g.met.P.Pages.rules store.device h) knows) (subst (λ (bytes : List ℕ). length bytes ≤ 1024) c.as_slice.ensures.value c.as_slice.ensures.fits))
 
 pub returns-then-is_ok : goal.returns-then-is_ok
 returns-then-is_ok g c before knows =
@@ -43,7 +43,7 @@ returns-then-is_ok g c before knows =
     subst (λ (r : ClientRecord). Handling r c.args.frame.now (Some c.send-then-is_ok.result.items) (record { link = c.send-then-is_ok.new.link; session = c.serve-answer.new.self }) before store new) c.self.view_is
     (apdu_handled own c.args.frame.now link c.send-then-is_ok.new.link c.apdu.result.now o c.send-then-is_ok.result.items (Served told.0) before settled.1 settled.0 store new
     (sym c.in-Apdu.is ∙ c.on.ensures.out) c.on.ensures.after c.apdu.ensures.value told.1 sent frame
-    (settling (is_success o.answer) o.accepted settled.0 says settled.2) tt settled.3)
+    (settling (is_success o.answer) o.accepted settled.0 says settled.2) tt settled.3 (subst (λ (bytes : List ℕ). length bytes ≤ 1024) c.as_slice-then-is_ok.ensures.value c.as_slice-then-is_ok.ensures.fits))
 
 pub returns-else-is_ok : goal.returns-else-is_ok
 returns-else-is_ok g c before knows =
@@ -64,14 +64,14 @@ returns-else-is_ok g c before knows =
     (apdu_handled own c.args.frame.now link c.send-in-Apdu.new.link c.apdu.result.now o c.send-in-Apdu.result.items (DeviceFails kept) before settled.2 settled.1 store new
     (sym c.in-Apdu.is ∙ c.on.ensures.out) c.on.ensures.after c.apdu.ensures.value
     (subst (λ (x : Outcome). Fails kept (events_in before) c.self.inside.session c.apdu.result.now x) (sym same) told)
-    sent frame settled.3 settled.5 settled.4)
+    sent frame settled.3 settled.5 settled.4 (subst (λ (bytes : List ℕ). length bytes ≤ 1024) c.as_slice-in-Apdu.ensures.value c.as_slice-in-Apdu.ensures.fits))
 
 pub returns-in-Nothing : goal.returns-in-Nothing
 returns-in-Nothing g c before knows =
     let store = c.args.store.now in
     subst (λ (r : ClientRecord). Handling r c.args.frame.now None (record { link = c.on.new.self; session = c.self.inside.session }) before store store) c.self.view_is
     (on_link (record { link = c.self.inside.link; session = c.self.inside.session }) c.args.frame.now c.on.new.self Nothing (replies c.on.new.self c.self.inside.session None) before store
-    (λ h. g.met.P.Pages.rules store.device h) knows (sym c.in-Nothing.is ∙ c.on.ensures.out) c.on.ensures.after (λ E. refl) (refl, refl))
+    (λ h. g.met.P.Pages.rules store.device h) knows (sym c.in-Nothing.is ∙ c.on.ensures.out) c.on.ensures.after (λ E. refl) (refl, refl) tt)
 
 pub returns-in-Reply : goal.returns-in-Reply
 returns-in-Reply g c before knows =
@@ -80,7 +80,7 @@ returns-in-Reply g c before knows =
     subst (λ (r : ClientRecord). Handling r c.args.frame.now (Some c.put.result.items) (record { link = c.on.new.self; session = c.self.inside.session }) before store store) c.self.view_is
     (on_link (record { link = c.self.inside.link; session = c.self.inside.session }) c.args.frame.now c.on.new.self (Reply frame) (replies c.on.new.self c.self.inside.session (Some c.put.result.items)) before store
     (λ h. g.met.P.Pages.rules store.device h) knows (sym c.in-Reply.is ∙ c.on.ensures.out) c.on.ensures.after
-    (λ E. ap (λ (bytes : List ℕ). replies c.on.new.self c.self.inside.session (Some bytes)) c.put.ensures.text) (refl, refl))
+    (λ E. ap (λ (bytes : List ℕ). replies c.on.new.self c.self.inside.session (Some bytes)) c.put.ensures.text) (refl, refl) tt)
 
 pub returns-in-Oversize : goal.returns-in-Oversize
 returns-in-Oversize g c before knows =
@@ -91,7 +91,7 @@ returns-in-Oversize g c before knows =
     subst (λ (r : ClientRecord). Handling r c.args.frame.now (Some c.send-in-Oversize.result.items) (record { link = c.send-in-Oversize.new.link; session = s }) before store store) c.self.view_is
     (on_link (record { link = c.self.inside.link; session = s }) c.args.frame.now link Oversize h before store
     (λ x. g.met.P.Pages.rules store.device x) knows (sym c.in-Oversize.is ∙ c.on.ensures.out) c.on.ensures.after
-    (λ E. one_answer link c.send-in-Oversize.new.link c.send-in-Oversize.result.items (not_possible s) c.send-in-Oversize.ensures.after c.send-in-Oversize.ensures.frame) (refl, refl))
+    (λ E. one_answer link c.send-in-Oversize.new.link c.send-in-Oversize.result.items (not_possible s) c.send-in-Oversize.ensures.after c.send-in-Oversize.ensures.frame) (refl, refl) (omega arith))
 
 pub returns-in-BadLlc : goal.returns-in-BadLlc
 returns-in-BadLlc g c before knows =
@@ -102,7 +102,7 @@ returns-in-BadLlc g c before knows =
     subst (λ (r : ClientRecord). Handling r c.args.frame.now (Some c.send-in-BadLlc.result.items) (record { link = c.send-in-BadLlc.new.link; session = s }) before store store) c.self.view_is
     (on_link (record { link = c.self.inside.link; session = s }) c.args.frame.now link BadLlc h before store
     (λ x. g.met.P.Pages.rules store.device x) knows (sym c.in-BadLlc.is ∙ c.on.ensures.out) c.on.ensures.after
-    (λ E. one_answer link c.send-in-BadLlc.new.link c.send-in-BadLlc.result.items (unknown_service s) c.send-in-BadLlc.ensures.after c.send-in-BadLlc.ensures.frame) (refl, refl))
+    (λ E. one_answer link c.send-in-BadLlc.new.link c.send-in-BadLlc.result.items (unknown_service s) c.send-in-BadLlc.ensures.after c.send-in-BadLlc.ensures.frame) (refl, refl) (omega arith))
 
 pub returns-in-Up : goal.returns-in-Up
 returns-in-Up g c before knows =
@@ -117,10 +117,10 @@ returns-in-Up g c before knows =
     (elim c.in-Up.is [
       | inl e ↦ (
           on_link (record { link = c.self.inside.link; session = s }) c.args.frame.now link (Up frame) h before store
-          (λ x. g.met.P.Pages.rules store.device x) knows (sym e ∙ c.on.ensures.out) c.on.ensures.after (λ E. same) (refl, refl)
+          (λ x. g.met.P.Pages.rules store.device x) knows (sym e ∙ c.on.ensures.out) c.on.ensures.after (λ E. same) (refl, refl) tt
           )
       | inr e ↦ (
           on_link (record { link = c.self.inside.link; session = s }) c.args.frame.now link (Down frame) h before store
-          (λ x. g.met.P.Pages.rules store.device x) knows (sym e ∙ c.on.ensures.out) c.on.ensures.after (λ E. same) (refl, refl)
+          (λ x. g.met.P.Pages.rules store.device x) knows (sym e ∙ c.on.ensures.out) c.on.ensures.after (λ E. same) (refl, refl) tt
           )
     ])
