@@ -3,6 +3,10 @@ use Rattle.std.proofs.Common.{◌≡◌, ℕ, ◌+◌, ◌≤◌, List, [], ◌�
 use Rattle.dlms_state.specs.declared.event.Event.{Event}
 use Rattle.dlms_state.specs.declared.event.Event.TheVariants.{Pulses as PulseEvent, Moment as MomentEvent}
 use Rattle.dlms_state.specs.declared.event.Refused.{Refused}
+use Rattle.dlms_store.specs.World.{Step as StoreStep}
+use Rattle.dlms_store.specs.declared.fault.AddFault.{AddFault}
+use Rattle.dlms_store.specs.declared.fault.AddFault.TheVariants as add
+use Rattle.dlms_state.specs.Refusal.{refusal_after}
 use Rattle.dlms_state.specs.StateValue.{state_of}
 use Rattle.hex.specs.Hex.{decode_of}
 use Rattle.std.specs.Str.Parse.{digits_value}
@@ -11,20 +15,21 @@ use Rattle.dlms_program.specs.declared.orders.Order.TheVariants.{Skip, Feed, Pul
 use Rattle.dlms_program.specs.Numbers.{IsNumberOf}
 use Rattle.dlms_program.specs.Orders.{SpellsBytes, SpellsMoment, SpellsPulses, Spells}
 use Rattle.dlms_program.specs.Printed.{reply_lines, state_line}
-use Rattle.dlms_meter.specs.Run.{World, Answers, Comes, FoundMemory, Judged, grown, silent}
-use Rattle.dlms_meter.proofs.OneOutcome.{same_comes}
+use Rattle.dlms_meter.specs.Alike.{IsAlike}
+use Rattle.dlms_meter.specs.Run.{World, Answers, Comes, FoundMemory, Judged, events_of, grown, silent}
+use Rattle.dlms_meter.proofs.OneOutcome.{alike_comes}
+use Rattle.dlms_meter.proofs.Events.{added_one}
 use Rattle.dlms_program.specs.Replay.{Does, IsBad, Replays, Tells, outcome_line}
-use Rattle.dlms_program.specs.Outcome.{LineFound, AllFound}
+use Rattle.dlms_program.specs.Outcome.{LineFound, AllFound, IsByTable}
 use Rattle.dlms_program.proofs.NumberLemmas.{pulses_parts, digits_no_space}
 
 -- ---- one piece of bytes
 
-same_piece : (w w' : World) (bytes bytes' : List ℕ) (xs ys : List (List ℕ)) (a b : World) → w ≡ w' → bytes ≡ bytes'
-    → (c : Comes w bytes xs a) (d : Comes w' bytes' ys b) → FoundMemory c.turns → FoundMemory d.turns → (xs ≡ ys) × (a ≡ b)
-same_piece w w' bytes bytes' xs ys a b same piece c d found found' =
-    let moved : Answers (grown w bytes) d.turns ys b =
-    subst (λ (v : World). Answers (grown v bytes) d.turns ys b) (sym same) (subst (λ (z : List ℕ). Answers (grown w' z) d.turns ys b) (sym piece) d.answers) in
-    same_comes w a b bytes xs ys c (record { turns = d.turns; answers = moved }) found found'
+same_piece : (w w' : World) (bytes bytes' : List ℕ) (xs ys : List (List ℕ)) (a b : World) → IsAlike w w' → bytes ≡ bytes'
+    → (c : Comes w bytes xs a) (d : Comes w' bytes' ys b) → FoundMemory c.turns → FoundMemory d.turns → (xs ≡ ys) × IsAlike a b
+same_piece w w' bytes bytes' xs ys a b alike piece c d found found' =
+    let moved : Answers (grown w' bytes) d.turns ys b = subst (λ (z : List ℕ). Answers (grown w' z) d.turns ys b) (sym piece) d.answers in
+    alike_comes w w' a b bytes xs ys alike c (record { turns = d.turns; answers = moved }) found found'
 
 -- ---- an event
 
@@ -34,17 +39,41 @@ none_is e = cc
 some_is : {A : Type 0} {x y : A} → Some x ≡ Some y → x ≡ y
 some_is e = cc
 
-same_judged : (w : World) (event : Event) (x y : Result (Unit {0}) Refused) (a b : World) → Judged w event x a → Judged w event y b → (outcome_line x ≡ outcome_line y) × (a ≡ b)
-same_judged w event (Ok d) (Ok d') a b g h = (refl, g.1 ∙ sym h.1)
-same_judged w event (Ok d) (Err c) a b g h = absurd (none_is (sym g.0 ∙ h.0))
-same_judged w event (Err c) (Ok d) a b g h = absurd (none_is (sym h.0 ∙ g.0))
-same_judged w event (Err c) (Err c') a b g h = (ap (λ (x : Refused). outcome_line (Err x)) (some_is (sym g.0 ∙ h.0)), g.1 ∙ sym h.1)
+alike_to : (w w' a b : World) → IsAlike w w' → a ≡ w → b ≡ w' → IsAlike a b
+alike_to w w' a b alike e e' = subst (λ (x : World). IsAlike x b) (sym e) (subst (λ (x : World). IsAlike w x) (sym e') alike)
 
-same_told : (w w' : World) (event event' : Event) (a b : World) (s t : List ℕ) → w ≡ w' → event ≡ event' → Tells w event a s → Tells w' event' b t → (a ≡ b) × (s ≡ t)
-same_told w w' event event' a b s t same is (x, judged, written) (y, judged', written') =
-    let moved : Judged w event y b =
-    subst (λ (v : World). Judged v event y b) (sym same) (subst (λ (v : Event). Judged w' v y b) (sym is) judged') in
-    let one = same_judged w event x y a b judged moved in
+same_judged : (w w' : World) (event : Event) (x y : Result (Unit {0}) AddFault) (i j : StoreStep) (a b : World) → IsAlike w w' → IsByTable x → IsByTable y
+    → Judged w event x i a → Judged w' event y j b → (outcome_line x ≡ outcome_line y) × IsAlike a b
+same_judged w w' event (Ok d) (Ok d') i j a b alike t t' (free, is, now, next, same) (free', is', now', next', same') = (
+  refl,
+  record {
+    stretch = ap (λ (v : World). v.stretch) same ∙ alike.stretch ∙ sym (ap (λ (v : World). v.stretch) same');
+    place = ap (λ (v : World). v.place) same ∙ alike.place ∙ sym (ap (λ (v : World). v.place) same');
+    records = ap (λ (v : World). v.records) same ∙ alike.records ∙ sym (ap (λ (v : World). v.records) same');
+    events = ap events_of same ∙ added_one i event w.store now is next ∙ ap (λ (es : List Event). es ++ event ∷ []) alike.events
+        ∙ sym (ap events_of same' ∙ added_one j event w'.store now' is' next');
+  },
+)
+same_judged w w' event (Ok d) (Err (add.Refused c)) i j a b alike t t' g h =
+    absurd (none_is (sym g.0 ∙ ap (λ (es : List Event). refusal_after es event) alike.events ∙ h.1))
+same_judged w w' event (Err (add.Refused c)) (Ok d) i j a b alike t t' g h =
+    absurd (none_is (sym h.0 ∙ sym (ap (λ (es : List Event). refusal_after es event) alike.events) ∙ g.1))
+same_judged w w' event (Err (add.Refused c)) (Err (add.Refused c')) i j a b alike t t' g h = (
+  ap (λ (x : Refused). outcome_line (Err (add.Refused x))) (some_is (sym g.1 ∙ ap (λ (es : List Event). refusal_after es event) alike.events ∙ h.1)),
+  alike_to w w' a b alike g.3 h.3,
+)
+same_judged w w' event (Err add.Device) y i j a b alike t t' g h = absurd t
+same_judged w w' event (Err add.Stopped) y i j a b alike t t' g h = absurd t
+same_judged w w' event (Err add.Exhausted) y i j a b alike t t' g h = absurd t
+same_judged w w' event x (Err add.Device) i j a b alike t t' g h = absurd t'
+same_judged w w' event x (Err add.Stopped) i j a b alike t t' g h = absurd t'
+same_judged w w' event x (Err add.Exhausted) i j a b alike t t' g h = absurd t'
+
+same_told : (w w' : World) (event event' : Event) (a b : World) (s t : List ℕ) → IsAlike w w' → event ≡ event' → (c : Tells w event a s) (d : Tells w' event' b t)
+    → IsByTable c.0 → IsByTable d.0 → IsAlike a b × (s ≡ t)
+same_told w w' event event' a b s t alike is (x, i, judged, written) (y, j, judged', written') found found' =
+    let moved : Judged w' event y j b = subst (λ (v : Event). Judged w' v y j b) (sym is) judged' in
+    let one = same_judged w w' event x y i j a b alike found found' judged moved in
     (one.1, written ∙ one.0 ∙ sym written')
 
 -- ---- what a line says
@@ -98,20 +127,22 @@ one_pulses line c n d m h g =
 
 -- ---- one line
 
-same_line : (line bytes bytes' : List ℕ) (order order' : Order) (w w' a b : World) (s t : List ℕ) → w ≡ w' → Spells line bytes order → Spells line bytes' order'
-    → (c : Does w bytes order a s) (d : Does w' bytes' order' b t) → LineFound w bytes order a s c → LineFound w' bytes' order' b t d → (a ≡ b) × (s ≡ t)
-same_line line bytes bytes' Skip Skip w w' a b s t same h g c d e e' = (c.0 ∙ same ∙ sym d.0, c.1 ∙ sym d.1)
+same_line : (line bytes bytes' : List ℕ) (order order' : Order) (w w' a b : World) (s t : List ℕ) → IsAlike w w' → Spells line bytes order → Spells line bytes' order'
+    → (c : Does w bytes order a s) (d : Does w' bytes' order' b t) → LineFound w bytes order a s c → LineFound w' bytes' order' b t d → IsAlike a b × (s ≡ t)
+same_line line bytes bytes' Skip Skip w w' a b s t same h g c d e e' = (alike_to w w' a b same c.0 d.0, c.1 ∙ sym d.1)
 same_line line bytes bytes' Feed Feed w w' a b s t same h g (xs, comes, is) (ys, comes', is') e e' =
     let one = same_piece w w' bytes bytes' xs ys a b same (one_piece line bytes bytes' h g) comes comes' e e' in
     (one.1, is ∙ ap reply_lines one.0 ∙ sym is')
 same_line line bytes bytes' (Pulses p q) (Pulses p' q') w w' a b s t same h g c d e e' =
     let one = one_pulses line p q p' q' h g in
-    same_told w w' (PulseEvent p q) (PulseEvent p' q') a b s t same (ap (λ (x : ℕ). PulseEvent x q) one.0 ∙ ap (PulseEvent p') one.1) c d
+    same_told w w' (PulseEvent p q) (PulseEvent p' q') a b s t same (ap (λ (x : ℕ). PulseEvent x q) one.0 ∙ ap (PulseEvent p') one.1) c d e e'
 same_line line bytes bytes' (Moment m) (Moment m') w w' a b s t same h g c d e e' =
-    same_told w w' (MomentEvent m) (MomentEvent m') a b s t same (ap MomentEvent (one_moment line m m' h g)) c d
-same_line line bytes bytes' Silence Silence w w' a b s t same h g c d e e' = (c.0 ∙ ap silent same ∙ sym d.0, c.1 ∙ sym d.1)
+    same_told w w' (MomentEvent m) (MomentEvent m') a b s t same (ap MomentEvent (one_moment line m m' h g)) c d e e'
+same_line line bytes bytes' Silence Silence w w' a b s t same h g c d e e' =
+    let quiet : IsAlike (silent w) (silent w') = record { stretch = refl; place = refl; records = same.records; events = same.events } in
+    (alike_to (silent w) (silent w') a b quiet c.0 d.0, c.1 ∙ sym d.1)
 same_line line bytes bytes' Show Show w w' a b s t same h g c d e e' =
-    (c.0 ∙ same ∙ sym d.0, c.1 ∙ ap (λ (v : World). state_line (state_of v.events)) same ∙ sym d.1)
+    (alike_to w w' a b same c.0 d.0, c.1 ∙ ap (λ (es : List Event). state_line (state_of es)) same.events ∙ sym d.1)
 same_line line bytes bytes' Skip Feed w w' a b s t same h g c d e e' = absurd (omega (arith, begins line bytes Skip h, begins line bytes' Feed g))
 same_line line bytes bytes' Skip (Pulses p' q') w w' a b s t same h g c d e e' = absurd (omega (arith, begins line bytes Skip h, begins line bytes' (Pulses p' q') g))
 same_line line bytes bytes' Skip (Moment m') w w' a b s t same h g c d e e' = absurd (omega (arith, begins line bytes Skip h, begins line bytes' (Moment m') g))
@@ -149,11 +180,11 @@ not_bad : (line bytes : List ℕ) (order : Order) → length line ≤ 8192 → S
 not_bad line bytes order short spells (inl long) = omega (arith, short, long)
 not_bad line bytes order short spells (inr none) = none bytes order spells
 
-same_run : (lines : List (List ℕ)) (number : ℕ) (w w' : World) (s t : List ℕ) (bad bad' : Option ℕ) (last last' : World) → w ≡ w'
+same_run : (lines : List (List ℕ)) (number : ℕ) (w w' : World) (s t : List ℕ) (bad bad' : Option ℕ) (last last' : World) → IsAlike w w'
     → (a : Replays w number lines s bad last) (b : Replays w' number lines t bad' last')
-    → AllFound w number lines s bad last a → AllFound w' number lines t bad' last' b → (s ≡ t) × (bad ≡ bad') × (last ≡ last')
-same_run [] number w w' s t bad bad' last last' same a b e e' = (a.0 ∙ sym b.0, a.1 ∙ sym b.1, a.2 ∙ same ∙ sym b.2)
-same_run (line ∷ lines) number w w' s t bad bad' last last' same (inl a) (inl b) e e' = (a.1 ∙ sym b.1, a.2 ∙ sym b.2, a.3 ∙ same ∙ sym b.3)
+    → AllFound w number lines s bad last a → AllFound w' number lines t bad' last' b → (s ≡ t) × (bad ≡ bad') × IsAlike last last'
+same_run [] number w w' s t bad bad' last last' same a b e e' = (a.0 ∙ sym b.0, a.1 ∙ sym b.1, alike_to w w' last last' same a.2 b.2)
+same_run (line ∷ lines) number w w' s t bad bad' last last' same (inl a) (inl b) e e' = (a.1 ∙ sym b.1, a.2 ∙ sym b.2, alike_to w w' last last' same a.3 b.3)
 same_run (line ∷ lines) number w w' s t bad bad' last last' same (inl a) (inr b) e e' = absurd (not_bad line b.1 b.2 b.0 b.6 a.0)
 same_run (line ∷ lines) number w w' s t bad bad' last last' same (inr a) (inl b) e e' = absurd (not_bad line a.1 a.2 a.0 a.6 b.0)
 same_run (line ∷ lines) number w w' s t bad bad' last last' same (inr (short, bytes, order, v, first, rest, spells, does, replays, joins)) (inr (short', bytes', order', v', first', rest', spells', does', replays', joins')) e e' =
@@ -163,5 +194,6 @@ same_run (line ∷ lines) number w w' s t bad bad' last last' same (inr (short, 
 
 pub one_outcome_of : (lines : List (List ℕ)) (number : ℕ) (w : World) (s t : List ℕ) (bad bad' : Option ℕ) (last last' : World)
     → (a : Replays w number lines s bad last) (b : Replays w number lines t bad' last')
-    → AllFound w number lines s bad last a → AllFound w number lines t bad' last' b → (s ≡ t) × (bad ≡ bad') × (last ≡ last')
-one_outcome_of lines number w s t bad bad' last last' a b e e' = same_run lines number w w s t bad bad' last last' refl a b e e'
+    → AllFound w number lines s bad last a → AllFound w number lines t bad' last' b → (s ≡ t) × (bad ≡ bad') × IsAlike last last'
+one_outcome_of lines number w s t bad bad' last last' a b e e' =
+    same_run lines number w w s t bad bad' last last' (record { stretch = refl; place = refl; records = refl; events = refl }) a b e e'

@@ -23,6 +23,10 @@ refusal_line Channel = codes "refused 3\n"
 refusal_line Period = codes "refused 4\n"
 refusal_line Length = codes "refused 5\n"
 
+-- by which number of the faults an event was not taken
+abbrev pub fault_line : ℕ → List ℕ
+fault_line number = codes "fault " ++ decimal number ++ codes "\n"
+
 -- the three registers
 abbrev pub registers_text : List ℕ → List ℕ
 registers_text registers =

@@ -3,26 +3,32 @@ use Rattle.std.specs.Prelude.{◌≡◌, ◌⊎◌, ◌<◌, ◌≤◌, ◌+◌,
 use Rattle.std.specs.Io.KnownBytes.{Appends}
 use Rattle.dlms_state.specs.declared.event.Event.{Event}
 use Rattle.dlms_state.specs.declared.event.Event.TheVariants.{Pulses as PulseEvent, Moment as MomentEvent}
-use Rattle.dlms_state.specs.declared.event.Refused.{Refused}
 use Rattle.dlms_state.specs.StateValue.{state_of}
+use Rattle.dlms_pages.specs.declared.device.Pages.{Ghosts}
+use Rattle.dlms_store.specs.World.{Step as StoreStep}
+use Rattle.dlms_store.specs.declared.fault.AddFault.{AddFault}
+use Rattle.dlms_store.specs.declared.fault.AddFault.TheVariants as add
 use Rattle.dlms_program.specs.declared.fault.ReplayFault.{ReplayFault}
 use Rattle.dlms_program.specs.declared.fault.ReplayFault.TheVariants.{Line, Io, Memory}
 use Rattle.dlms_program.specs.declared.orders.Order.{Order}
 use Rattle.dlms_program.specs.declared.orders.Order.TheVariants.{Skip, Feed, Pulses, Moment, Silence, Show}
 use Rattle.dlms_program.specs.Lines.{lines_of}
-use Rattle.dlms_meter.specs.MeterValue.{MeterValue}
+use Rattle.dlms_meter.specs.declared.meter.Meter.{Meter}
 use Rattle.dlms_program.specs.Orders.{Spells}
-use Rattle.dlms_program.specs.Printed.{reply_lines, refusal_line, state_line}
-use Rattle.dlms_meter.specs.Run.{World, Comes, Judged, silent, Stands}
+use Rattle.dlms_program.specs.Printed.{reply_lines, refusal_line, fault_line, state_line}
+use Rattle.dlms_meter.specs.Run.{World, Comes, Judged, events_of, silent, Stands}
 
--- what is written of an event: nothing, or why it was refused
-abbrev pub outcome_line : Result (Unit {0}) Refused → List ℕ
+-- what is written of an event: nothing, why it was refused, or the number of the fault for which it was not taken
+abbrev pub outcome_line : Result (Unit {0}) AddFault → List ℕ
 outcome_line (Ok done) = []
-outcome_line (Err cause) = refusal_line cause
+outcome_line (Err (add.Refused cause)) = refusal_line cause
+outcome_line (Err add.Device) = fault_line 2
+outcome_line (Err add.Stopped) = fault_line 3
+outcome_line (Err add.Exhausted) = fault_line 4
 
--- an event is judged, and its refusal written
+-- an event is judged, and its refusal or fault written
 abbrev pub Tells : World → Event → World → List ℕ → Type 0
-Tells w event w' written = (outcome : Result (Unit {0}) Refused) × Judged w event outcome w' × (written ≡ outcome_line outcome)
+Tells w event w' written = (outcome : Result (Unit {0}) AddFault) × (step : StoreStep) × Judged w event outcome step w' × (written ≡ outcome_line outcome)
 
 -- from one world an order, with the bytes that it brings, leads to another, and writes that
 abbrev pub Does : World → List ℕ → Order → World → List ℕ → Type 0
@@ -31,10 +37,10 @@ Does w bytes Feed w' written = (replies : List (List ℕ)) × Comes w bytes repl
 Does w bytes (Pulses channel count) w' written = Tells w (PulseEvent channel count) w' written
 Does w bytes (Moment second) w' written = Tells w (MomentEvent second) w' written
 Does w bytes Silence w' written = (w' ≡ silent w) × (written ≡ [])
-Does w bytes Show w' written = (w' ≡ w) × (written ≡ state_line (state_of w.events))
+Does w bytes Show w' written = (w' ≡ w) × (written ≡ state_line (state_of (events_of w)))
 
 -- an order was done on a meter: the world that it then stands for, and what was written
-pub record Did (old new : Option (List ℕ)) (w : World) (bytes : List ℕ) (order : Order) (meter : MeterValue) : Type 0 where
+pub record Did {P A : Type 0} {ghosts : Ghosts P} (old new : Option (List ℕ)) (w : World) (bytes : List ℕ) (order : Order) (meter : Meter P A ghosts) : Type 0 where
   pub world : World
   pub written : List ℕ
   pub does : Does w bytes order world written
@@ -61,7 +67,7 @@ bad_line (Err Io) = None
 bad_line (Err Memory) = None
 
 -- a replay of a known text wrote what the text says, and nothing else, and the meter stands for where it led
-abbrev pub WroteReplay : Option (List ℕ) → Option (List ℕ) → World → Option (List ℕ) → Option (Option ℕ) → MeterValue → Type 0
+abbrev pub WroteReplay : {P A : Type 0} → {ghosts : Ghosts P} → Option (List ℕ) → Option (List ℕ) → World → Option (List ℕ) → Option (Option ℕ) → Meter P A ghosts → Type 0
 WroteReplay old new w (Some text) (Some bad) meter =
     (written : List ℕ) × (last : World) × Appends old new written × Replays w 1 (lines_of text) written bad last × Stands meter last
 WroteReplay old new w _ _ meter = ⊤

@@ -1,7 +1,7 @@
 //! What a replay writes.
 ghost use Rattle.std.specs.Prelude.{◌≤◌, ◌*◌, OnOk, length, option_map};
 ghost use Rattle.std.specs.Io.KnownBytes.{Appends};
-ghost use Rattle.dlms_program.specs.Printed.{reply_line, reply_lines, refusal_line, registers_text, clock_text, state_line};
+ghost use Rattle.dlms_program.specs.Printed.{reply_line, reply_lines, refusal_line, fault_line, registers_text, clock_text, state_line};
 ghost use Rattle.dlms_meter.specs.Run.{listed};
 
 use dlms_meter::Reply;
@@ -63,6 +63,13 @@ pub fn write_refusal<W: Write>(refused: Refused, writer: &mut W) -> io::Result<(
         Refused::Period => writeln!(writer, "refused 4"),
         Refused::Length => writeln!(writer, "refused 5"),
     }
+}
+
+/// Writes by which number of the faults an event was not taken.
+pub fn write_fault<W: Write>(number: u32, writer: &mut W) -> io::Result<()>
+    ensures { OnOk result (Appends (W.contents writer.old) (W.contents writer.new) (fault_line number)) }
+{
+    writeln!(writer, "fault {number}")
 }
 
 /// Writes the three registers.

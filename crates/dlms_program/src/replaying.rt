@@ -9,17 +9,18 @@ use crate::fault::ReplayFault;
 use crate::lines::{Taken, take_line};
 use crate::orders::{Order, order_of};
 use crate::pairs::Pairs;
-use crate::printing::{write_answer, write_refusal, write_state};
+use crate::printing::{write_answer, write_fault, write_refusal, write_state};
 use arrayvec::ArrayVec;
 use dlms_meter::Meter;
-use dlms_state::Refused;
+use dlms_pages::Pages;
+use dlms_store::AddFault;
 use std::alloc::Allocator;
 use std::io;
 use std::io::{Read, Write};
 
 /// Feeds bytes, and writes each reply.
-fn feed<W: Write, A: Allocator + Copy>(
-    meter: &mut Meter<A>,
+fn feed<W: Write, P: Pages, A: Allocator + Copy>(
+    meter: &mut Meter<P, A>,
     bytes: &[u8],
     writer: &mut W,
 ) -> io::Result<()>
@@ -34,21 +35,24 @@ fn feed<W: Write, A: Allocator + Copy>(
     Ok(())
 }
 
-/// Writes the refusal, if there is one.
-fn answer<W: Write>(outcome: Result<(), Refused>, writer: &mut W) -> io::Result<()>
+/// Writes the refusal or the number of the fault, if there is one.
+fn answer<W: Write>(outcome: Result<(), AddFault>, writer: &mut W) -> io::Result<()>
     ensures { OnOk result (Appends (W.contents writer.old) (W.contents writer.new) (outcome_line outcome)) }
 {
     match outcome {
         Ok(()) => Ok(()),
-        Err(refused) => write_refusal(refused, writer),
+        Err(AddFault::Refused(refused)) => write_refusal(refused, writer),
+        Err(AddFault::Device) => write_fault(2, writer),
+        Err(AddFault::Stopped) => write_fault(3, writer),
+        Err(AddFault::Exhausted) => write_fault(4, writer),
     }
 }
 
 /// Does what a line asks for.
-fn obey<W: Write, A: Allocator + Copy>(
+fn obey<W: Write, P: Pages, A: Allocator + Copy>(
     order: Order,
     bytes: &Pairs,
-    meter: &mut Meter<A>,
+    meter: &mut Meter<P, A>,
     writer: &mut W,
 ) -> io::Result<()>
     ensures { OnOk result ((w : World) → Stands meter.old w → Did (W.contents writer.old) (W.contents writer.new) w bytes.now order meter.new) }
@@ -69,10 +73,10 @@ fn obey<W: Write, A: Allocator + Copy>(
 /// Does what the lines of `reader` ask of the meter, and writes what comes of them, up to the first line that is of no
 /// known form or too long. After 2^32 - 1 reads it ends with `ReplayFault::Io`, as where the reader or the writer
 /// fails.
-pub fn replay<R: Read, W: Write, A: Allocator + Copy>(
+pub fn replay<R: Read, W: Write, P: Pages, A: Allocator + Copy>(
     reader: &mut R,
     writer: &mut W,
-    meter: &mut Meter<A>,
+    meter: &mut Meter<P, A>,
 ) -> Result<(), ReplayFault>
     ensures { (w : World) → Stands meter.old w → WroteReplay (W.contents writer.old) (W.contents writer.new) w (R.remaining reader.old) (bad_line result) meter.new }
 {

@@ -1,8 +1,19 @@
 use crate::{ReplayFault, replay};
 use dlms_meter::Meter;
+use dlms_pages::MemoryPages;
+use dlms_store::PAGES;
+use std::alloc::Global;
 use std::io;
 use std::io::{Error, ErrorKind, Read, Write};
 use std::test::Fail;
+
+/// A new meter in memory.
+fn formatted(alloc: Global) -> Result<Meter<MemoryPages>, Fail> {
+    match Meter::format(alloc, MemoryPages::new(alloc, PAGES)?) {
+        Ok(meter) => Ok(meter),
+        Err(_) => Err("a meter is formatted".into()),
+    }
+}
 
 /// Gives some bytes, and then fails.
 #[derive(Drop)]
@@ -42,7 +53,7 @@ impl Write for FailingWriter {
 
 #[test]
 fn a_failing_reader_keeps_what_was_printed(rt: HostRuntime) -> Result<(), Fail> {
-    let mut meter = Meter::new(rt.alloc())?;
+    let mut meter = formatted(rt.alloc())?;
     let mut reader = FailingReader(b"P 0 42\nS\nS");
     let mut output = Vec::new(rt.alloc());
     let ended = replay(&mut reader, &mut output, &mut meter);
@@ -54,7 +65,7 @@ fn a_failing_reader_keeps_what_was_printed(rt: HostRuntime) -> Result<(), Fail> 
 #[test]
 fn a_failing_writer_ends_the_replay(rt: HostRuntime) -> Result<(), Fail> {
     for room in 0..17usize {
-        let mut meter = Meter::new(rt.alloc())?;
+        let mut meter = formatted(rt.alloc())?;
         let mut reader = b"P 0 42\nS\nP 0 1\n".as_slice();
         let mut writer = FailingWriter(room);
         let ended = replay(&mut reader, &mut writer, &mut meter);
