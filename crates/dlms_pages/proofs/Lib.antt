@@ -1,5 +1,5 @@
+pub mod Asking
 pub mod Calls
-pub mod Files
 pub mod Kept
 pub mod Moments
 pub mod Outcomes

@@ -1,3 +1,4 @@
+pub mod Asked
 pub mod Device
 pub mod Disk
 pub mod File

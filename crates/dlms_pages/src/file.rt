@@ -1,12 +1,14 @@
 //! Pages in a file, each under a seal.
 ghost use Rattle.std.specs.Prelude.{◌≡◌, ◌<◌, ◌≤◌, ◌^◌, true, false, length, replicate, slice_index_or, slice_set, IfOk, IfSome, OnErr, OnOk};
+ghost use Rattle.dlms_pages.specs.Asked.{AsksAll, sync_calls, written_again};
 
 use crate::seal::{SLOT, opened, sealed};
+use crate::slot_file::SlotFile;
 use crate::{DeviceFault, PageRead, Pages};
 use std::alloc::{AllocError, Allocator, Global};
 use std::fs::{File, Files, OpenFile, OpenOptions};
 use std::io;
-use std::io::{ErrorKind, Read, Seek, SeekFrom, Write};
+use std::io::{Read, Seek, Write};
 use std::marker::Model;
 use std::path::Path;
 
@@ -17,7 +19,8 @@ use std::path::Path;
 /// write or a sync has failed since, the next sync writes all of it again before it may succeed. The room for it is
 /// made by `create` and `open`, and no other call asks for memory.
 ///
-/// Whether a file keeps the disk rules is not known. Everything that the rules say of it has that premise.
+/// Whether a file keeps the disk rules is not known, so what the rules promise is not promised of it. What is asked of the
+/// file is said, call for call: what was written is written and synced, and where a call fails the answer is a fault.
 #[derive(Drop)]
 pub struct FilePages<F = File, A: Allocator = Global> {
     file: F,
@@ -79,7 +82,7 @@ impl<F: Read + Write + Seek + OpenFile + Drop, A: Allocator> FilePages<F, A> {
     }
 }
 
-impl<F: Read + Write + Seek + OpenFile + Drop, A: Allocator> FilePages<F, A> {
+impl<F: SlotFile + Drop, A: Allocator> FilePages<F, A> {
     ghost use Rattle.dlms_pages.specs.File.{faults_after, GivesPage, KeepsPage, Settles};
 
     // Nothing is written yet, and nothing has failed.
@@ -122,13 +125,13 @@ impl<F: Read + Write + Seek + OpenFile + Drop, A: Allocator> FilePages<F, A> {
     // What a page reads as.
     fn read_page(&mut self, index: u16) -> Result<PageRead, DeviceFault>
         requires { index < length self.old.unsynced }
-        ensures { GivesPage index self.old self.new result }
+        ensures { GivesPage F.asked index self.old self.new result }
     {
         if let Some(content) = self.unsynced[index as usize] {
             return Ok(PageRead::Content(content));
         }
         let mut slot = [0u8; 544];
-        match read_slot(&mut self.file, index, &mut slot) {
+        match self.file.read_slot(index, &mut slot) {
             Ok(true) => Ok(opened(index, &slot)),
             Ok(false) => Ok(PageRead::Damaged),
             Err(_) => Err(self.fail()),
@@ -138,10 +141,10 @@ impl<F: Read + Write + Seek + OpenFile + Drop, A: Allocator> FilePages<F, A> {
     // Writes a page, and keeps what was written.
     fn write_page(&mut self, index: u16, bytes: &[u8; 512]) -> Result<(), DeviceFault>
         requires { index < length self.old.unsynced }
-        ensures { KeepsPage index bytes.now self.old self.new result }
+        ensures { KeepsPage F.asked index bytes.now self.old self.new result }
     {
         self.unsynced[index as usize] = Some(*bytes);
-        match write_slot(&mut self.file, index, &sealed(index, bytes)) {
+        match self.file.write_slot(index, &sealed(index, bytes)) {
             Ok(()) => Ok(()),
             Err(_) => Err(self.fall_behind()),
         }
@@ -149,7 +152,7 @@ impl<F: Read + Write + Seek + OpenFile + Drop, A: Allocator> FilePages<F, A> {
 
     // Makes all that was written outlast a stop.
     fn sync_pages(&mut self) -> Result<(), DeviceFault>
-        ensures { Settles self.old self.new result }
+        ensures { Settles F.asked self.old self.new result }
     {
         match settle(&mut self.file, &self.unsynced, self.behind) {
             Ok(()) => {
@@ -162,13 +165,13 @@ impl<F: Read + Write + Seek + OpenFile + Drop, A: Allocator> FilePages<F, A> {
     }
 }
 
-impl<F: Read + Write + Seek + OpenFile + Drop, A: Allocator> Pages for FilePages<F, A> {
+impl<F: SlotFile + Drop, A: Allocator> Pages for FilePages<F, A> {
     ghost use Rattle.dlms_pages.specs.Device.{Goes, Reads, Writes, Syncs};
     ghost use Rattle.dlms_pages.specs.File.{file_view, file_rules, GivesPage, KeepsPage, Settles};
 
     ghost view = { λ f. file_view f };
 
-    ghost rules = { λ f honest. file_rules f };
+    ghost rules = { λ f honest. file_rules f honest };
 
     fn count(&self) -> u16 {
         self.unsynced.len() as u16
@@ -183,7 +186,7 @@ impl<F: Read + Write + Seek + OpenFile + Drop, A: Allocator> Pages for FilePages
         ensures goes { Goes (file_view self.old) (file_view self.new) result }
         ensures page { (file_view self.old).honest ≡ true
             → Reads index (file_view self.old) (file_view self.new) result }
-        ensures file { GivesPage index self.old self.new result }
+        ensures file { GivesPage F.asked index self.old self.new result }
     {
         self.read_page(index)
     }
@@ -193,7 +196,7 @@ impl<F: Read + Write + Seek + OpenFile + Drop, A: Allocator> Pages for FilePages
         ensures goes { Goes (file_view self.old) (file_view self.new) result }
         ensures written { (file_view self.old).honest ≡ true
             → Writes index bytes.now (file_view self.old) (file_view self.new) result }
-        ensures file { KeepsPage index bytes.now self.old self.new result }
+        ensures file { KeepsPage F.asked index bytes.now self.old self.new result }
     {
         self.write_page(index, bytes)
     }
@@ -202,7 +205,7 @@ impl<F: Read + Write + Seek + OpenFile + Drop, A: Allocator> Pages for FilePages
         ensures goes { Goes (file_view self.old) (file_view self.new) result }
         ensures synced { (file_view self.old).honest ≡ true
             → Syncs (file_view self.old) (file_view self.new) result }
-        ensures file { Settles self.old self.new result }
+        ensures file { Settles F.asked self.old self.new result }
     {
         self.sync_pages()
     }
@@ -217,17 +220,14 @@ fn room<A: Allocator>(alloc: A, count: u16) -> Result<Vec<Option<[u8; 512]>, A>,
 
 /// Makes what the file holds outlast a stop. Where a write or a sync has failed, all is written again first, since a
 /// system may drop what a failed sync had before it, and call the next one a success.
-fn settle<F: Write + Seek + OpenFile>(
-    file: &mut F,
-    pages: &[Option<[u8; 512]>],
-    behind: bool,
-) -> io::Result<()>
+fn settle<F: SlotFile>(file: &mut F, pages: &[Option<[u8; 512]>], behind: bool) -> io::Result<()>
     requires { length pages.now < 2 ^ 16 }
+    ensures { AsksAll (F.asked file.old) (F.asked file.new) (sync_calls behind pages.now) result }
 {
     if behind {
         write_again(file, pages)?;
     }
-    file.sync_all()
+    file.sync()
 }
 
 /// Makes the name of a new file outlast a stop.
@@ -239,29 +239,15 @@ fn sync_folder<R: Files>(rt: &R, path: &str) -> io::Result<()> {
     OpenOptions::new().read(true).open(rt, folder)?.sync_all()
 }
 
-/// Reads the slot of a page, and says whether the file has all of it.
-fn read_slot<F: Read + Seek>(file: &mut F, index: u16, slot: &mut [u8; 544]) -> io::Result<bool> {
-    file.seek(SeekFrom::Start(u64::from(index) * SLOT as u64))?;
-    match file.read_exact(slot) {
-        Ok(()) => Ok(true),
-        Err(e) if e.kind() == ErrorKind::UnexpectedEof => Ok(false),
-        Err(e) => Err(e),
-    }
-}
-
-fn write_slot<F: Write + Seek>(file: &mut F, index: u16, slot: &[u8; 544]) -> io::Result<()> {
-    file.seek(SeekFrom::Start(u64::from(index) * SLOT as u64))?;
-    file.write_all(slot.as_slice())
-}
-
 /// Writes again what was written.
-fn write_again<F: Write + Seek>(file: &mut F, pages: &[Option<[u8; 512]>]) -> io::Result<()>
+fn write_again<F: SlotFile>(file: &mut F, pages: &[Option<[u8; 512]>]) -> io::Result<()>
     requires { length pages.now < 2 ^ 16 }
+    ensures { AsksAll (F.asked file.old) (F.asked file.new) (written_again 0 pages.now) result }
 {
     for index in 0..pages.len() {
         if let Some(content) = &pages[index] {
             let index = index as u16;
-            write_slot(file, index, &sealed(index, content))?;
+            file.write_slot(index, &sealed(index, content))?;
         }
     }
     Ok(())

@@ -9,11 +9,13 @@ mod memory;
 mod pick;
 mod plan;
 mod seal;
+mod slot_file;
 
 pub use device::{DeviceFault, PageRead, Pages};
 pub use file::FilePages;
 pub use memory::{Call, MemoryPages};
 pub use pick::{Choice, Pick};
+pub use slot_file::SlotFile;
 
 #[cfg(test)]
 mod tests;

@@ -1,5 +1,5 @@
 -- Calls of a store, one after another.
-use Rattle.std.proofs.Common.{◌≡◌, inl, inr, ◌≤◌, ◌↔◌, ℕ, ◌+◌, Bool, true, false, List, [], ◌∷◌, ◌++◌, length, refl, sym, ◌∙◌, ap, subst, arith, Some, None, Result, Ok, Err, suc, take}
+use Rattle.std.proofs.Common.{◌≡◌, inl, inr, ◌≤◌, ◌↔◌, ℕ, ◌+◌, Bool, true, false, List, [], ◌∷◌, ◌++◌, length, refl, sym, ◌∙◌, ap, subst, arith, Some, None, Result, Ok, Err, suc}
 use Rattle.std.specs.Prelude.{OnOk, OnErr, ◌≢◌}
 use Rattle.std.proofs.lemmas.Bool.{cases_lt}
 use Rattle.dlms_pages.specs.Device.{Image, Rules, Rose, View}

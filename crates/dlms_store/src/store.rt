@@ -46,7 +46,7 @@ impl<P: Pages, A: Allocator + Copy> Store<P, A> {
     ghost use Rattle.dlms_store.specs.Active.{HasMore, IsFound, IsFresh};
     ghost use Rattle.dlms_store.specs.Cause.{IsCause};
     ghost use Rattle.dlms_store.specs.Image.{Quiet, StandsFor, all_of};
-    ghost use Rattle.dlms_store.specs.Steady.{Fixes, FixesNothing, IsRenewable, StandsBetween, Steady};
+    ghost use Rattle.dlms_store.specs.Steady.{Fixes, FixesNothing, HasCheckpoint, IsRenewable, StandsBetween, Steady};
     ghost use Rattle.dlms_store.specs.Fitting.{StoreFits, DeviceFits, IsOpened, IsRefusal, OpensAs, GivesBack, LeftBy, Moves, AddMoves, GivesUp, commit_step};
     ghost use Rattle.dlms_store.specs.World.Step.{Adds, Closes, ClosesInDoubt};
 
@@ -122,6 +122,7 @@ impl<P: Pages, A: Allocator + Copy> Store<P, A> {
             → MatchResult result (OpensAs (Rests events) (P.view device)) (λ e. GivesBack (Rests events) (P.view device) (P.view e.0) e.1) }
         ensures remembers { (events : List EventOf) → IsStateOf events found.state → IfOk result (Remembers events []) }
         ensures fresh { IfOk result (IsFresh found) }
+        ensures stands { (image : Image) (base : List EventOf) (pages : List (List EventOf)) → IsFixed (P.view device) image → IsFound image base pages found → IfOk result (HasCheckpoint (base ++ all_of pages)) }
         ensures steady { (image : Image) (base : List EventOf) (pages : List (List EventOf)) → IsFixed (P.view device) image → IsFound image base pages found
             → MatchResult result (λ store. Steady (base ++ all_of pages) (P.view device) (view_of store)) (λ e. Steady (base ++ all_of pages) (P.view device) (P.view e.0)) }
         ensures runs { IfOk result (λ store. IsStopped store → ⊥) }
@@ -257,6 +258,7 @@ impl<P: Pages, A: Allocator + Copy> Store<P, A> {
         ensures device { result ≡ Err StoreFault.Device → Fails self.old self.new }
         ensures renewed { OnOk result (IsRenewed self.old self.new) }
         ensures steady { (base : List EventOf) (pages : List (List EventOf)) → IsRenewable base pages self.old → Steady (base ++ all_of pages) (view_of self.old) (view_of self.new) }
+        ensures stands { (base : List EventOf) (pages : List (List EventOf)) → IsRenewable base pages self.old → OnOk result (HasCheckpoint (base ++ all_of pages) self.new) }
         ensures answers { IsRunning self.old → (Rose (view_of self.old).faults (view_of self.new).faults → ⊥) → (IsLast self.old → ⊥) → IsOk result }
         ensures exhausted { (result ≡ Err StoreFault.Exhausted) ↔ (IsRunning self.old × IsLast self.old) }
         ensures unchanged { OnErr result (result ≢ Err StoreFault.Device → self.new ≡ self.old) }

@@ -1,0 +1,14 @@
+use Rattle.std.proofs.Common.{◌∷◌, [], true, Bool, subst, sym}
+use Rattle.dlms_pages.specs.Asked.{AsksUntilFault, sync_calls, written_again}
+use Rattle.dlms_pages.specs.Asked.Asked.{Syncs}
+use Rattle.dlms_pages.proofs.Asking.{longer, with_fault}
+use Rattle.dlms_pages.proofs.file.settle.Goals as goal
+
+pub returns-in_err-write_again : goal.returns-in_err-write_again
+returns-in_err-write_again g c =
+    let asked = g.F.SlotFile.asked in
+    let old = asked c.args.file.now in
+    let new = asked c.write_again.new.file in
+    with_fault old new _ c.from_residual.result c.from_residual.ensures.0
+    (subst (λ (behind : Bool). AsksUntilFault old new (sync_calls behind c.args.pages.now)) (sym c.if-behind.true)
+    (longer old new (written_again 0 c.args.pages.now) (Syncs true ∷ []) c.in_err-write_again.ensures))

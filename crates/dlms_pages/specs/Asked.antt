@@ -1,0 +1,71 @@
+-- What is asked of a file of slots.
+use Rattle.std.specs.Prelude.{◌≡◌, ◌+◌, ℕ, Bool, true, false, List, [], ◌∷◌, ◌++◌, Option, Some, None, Result, Ok, Err, if◌then◌else◌}
+use Rattle.dlms_pages.specs.Seal.{slot_of, ReadsSlot}
+use Rattle.dlms_pages.specs.declared.device.PageRead.{PageRead}
+use Rattle.dlms_pages.specs.declared.device.PageRead.TheVariants.{Damaged}
+use Rattle.dlms_pages.specs.declared.device.DeviceFault.{DeviceFault}
+
+-- what comes of a read: the slot, or the file ends before it, or a fault
+pub data Came : Type 0 where
+  Slot : (bytes : List ℕ) → Came
+  Short : Came
+  Failed : Came
+
+-- a call, and what came of it; of a write and a sync, whether it passed
+pub data Asked : Type 0 where
+  Reads : (index : ℕ) (came : Came) → Asked
+  Writes : (index : ℕ) (slot : List ℕ) (passed : Bool) → Asked
+  Syncs : (passed : Bool) → Asked
+
+abbrev pub came_of : {E : Type 0} → Result Bool E → List ℕ → Came
+came_of (Ok true) slot = Slot slot
+came_of (Ok false) slot = Short
+came_of (Err e) slot = Failed
+
+abbrev pub passed : {T E : Type 0} → Result T E → Bool
+passed (Ok x) = true
+passed (Err e) = false
+
+-- where it is known what was asked, these calls came behind it
+abbrev pub Asks : Option (List Asked) → Option (List Asked) → List Asked → Type 0
+Asks None new calls = Unit {0}
+Asks (Some before) None calls = ⊥
+Asks (Some before) (Some after) calls = after ≡ before ++ calls
+
+-- the same call, that did not pass
+abbrev pub failed : Asked → Asked
+failed (Reads index came) = Reads index Failed
+failed (Writes index slot is) = Writes index slot false
+failed (Syncs is) = Syncs false
+
+-- these calls, up to one that failed
+pub record AsksUntilFault (old new : Option (List Asked)) (calls : List Asked) : Type 0 where
+  pub front : List Asked
+  pub call : Asked
+  pub rest : List Asked
+  pub split : calls ≡ front ++ call ∷ rest
+  pub asked : Asks old new (front ++ failed call ∷ [])
+
+-- an Ok asked all of these calls, and each passed; a fault is that of the first that failed
+abbrev pub AsksAll : {T E : Type 0} → Option (List Asked) → Option (List Asked) → List Asked → Result T E → Type 0
+AsksAll old new calls (Ok x) = Asks old new calls
+AsksAll old new calls (Err e) = AsksUntilFault old new calls
+
+-- what a page reads as where the file was asked for its slot
+abbrev pub ReadsAs : ℕ → Came → Result PageRead DeviceFault → Type 0
+ReadsAs index (Slot bytes) (Ok page) = ReadsSlot index bytes page
+ReadsAs index (Slot bytes) (Err fault) = ⊥
+ReadsAs index Short result = result ≡ Ok Damaged
+ReadsAs index Failed (Ok page) = ⊥
+ReadsAs index Failed (Err fault) = Unit {0}
+
+-- each page that was written is written again, in their order
+abbrev pub written_again : ℕ → List (Option (List ℕ)) → List Asked
+written_again from [] = []
+written_again from (None ∷ pages) = written_again (from + 1) pages
+written_again from (Some bytes ∷ pages) = Writes from (slot_of from bytes) true ∷ written_again (from + 1) pages
+
+-- What a sync asks for: where a write or a sync has failed since the last one that passed, all that was written since is
+-- written again first.
+abbrev pub sync_calls : Bool → List (Option (List ℕ)) → List Asked
+sync_calls behind pages = (if behind then written_again 0 pages else []) ++ Syncs true ∷ []
