@@ -20,6 +20,3 @@ pub use outcome::Verdict;
 pub use reading::read_aarq;
 pub use response::read_aare;
 pub use writing::{write_aare, write_aarq, write_rlre, write_rlrq};
-
-#[cfg(test)]
-mod tests;

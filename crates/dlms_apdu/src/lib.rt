@@ -19,6 +19,3 @@ pub use asking::write_request;
 pub use fault::ApduFault;
 pub use request::Request;
 pub use response::Response;
-
-#[cfg(test)]
-mod tests;

@@ -12,6 +12,3 @@ pub use block::{Block, PutStep, UNKNOWN_BLOCK};
 pub use coming::PutIn;
 pub use going::{GetOut, PutOut};
 pub use joining::GetIn;
-
-#[cfg(test)]
-mod tests;

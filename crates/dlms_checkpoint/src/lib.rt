@@ -4,8 +4,6 @@
 mod fields;
 pub mod laws;
 mod reading;
-#[cfg(test)]
-mod tests;
 mod writing;
 
 pub use reading::{BodyFault, RestoreFault, Restoring};

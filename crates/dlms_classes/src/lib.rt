@@ -16,6 +16,3 @@ mod table;
 pub use access::AccessResult;
 pub use planning::{plan_action, plan_set};
 pub use reading::get;
-
-#[cfg(test)]
-mod tests;

@@ -29,6 +29,3 @@ pub use parts::counted;
 pub use reading::read;
 pub use scanning::{is_value, span};
 pub use writing::{append, append_counted, write};
-
-#[cfg(test)]
-mod tests;

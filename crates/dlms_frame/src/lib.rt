@@ -9,8 +9,6 @@ mod frame;
 pub mod laws;
 mod reading;
 mod tables;
-#[cfg(test)]
-mod tests;
 mod window;
 mod writing;
 

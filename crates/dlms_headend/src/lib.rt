@@ -25,6 +25,3 @@ pub use readings::Readings;
 pub use readings_fault::ReadingsFault;
 pub use row::Row;
 pub use step::PollStep;
-
-#[cfg(test)]
-mod tests;

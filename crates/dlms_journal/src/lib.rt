@@ -6,8 +6,6 @@ pub mod laws;
 mod page;
 mod reading;
 mod records;
-#[cfg(test)]
-mod tests;
 mod writing;
 
 pub use kind::PageKind;

@@ -10,8 +10,6 @@ mod parameters;
 mod row;
 mod segments;
 mod server;
-#[cfg(test)]
-mod tests;
 mod way;
 
 pub use client::{ClientLink, LineFault};

@@ -1,0 +1,200 @@
+//! Rows of `dlms_classes`.
+
+use crate::bench::{Bench, Room};
+use crate::fault::RowFault;
+use crate::hexadecimal::put_hex;
+use crate::state::StateBench;
+use crate::words::{Words, client_of};
+use dlms_classes::{AccessResult, get, plan_action, plan_set};
+use dlms_data::{Data, Descriptor, Selector, fits, read, write};
+use dlms_frame::Client;
+use dlms_state::State;
+use linked_list_allocator::LocalHeap;
+use std::fmt::Write;
+
+/// The services of a meter's objects on a state.
+#[derive(Drop)]
+pub struct ClassesBench<'h> {
+    room: Room<'h>,
+    state: StateBench<'h>,
+}
+
+/// Who asks, and of what.
+#[derive(Clone, Copy)]
+struct Asked {
+    client: Client,
+    descriptor: Descriptor,
+}
+
+fn put_result(answer: &mut String, refusal: AccessResult) -> Result<(), RowFault> {
+    Ok(write!(answer, "result {}", refusal.number())?)
+}
+
+/// Client, class, name in hexadecimal digits, number of the attribute or method.
+fn asked_of(words: &mut Words<'_>) -> Result<Asked, RowFault> {
+    let client = client_of(words.word()?)?;
+    let Ok(class) = u16::try_from(words.number()?) else {
+        return Err(RowFault::Form);
+    };
+    let mut name = [0u8; 6];
+    if hex::decode_to_slice(words.word()?.as_bytes(), &mut name).is_err() {
+        return Err(RowFault::Form);
+    }
+    let id = words.byte()?;
+    Ok(Asked {
+        client,
+        descriptor: Descriptor { class, name, id },
+    })
+}
+
+/// The value that bytes are.
+fn value_of<'h>(heap: &'h LocalHeap, bytes: &[u8]) -> Result<Data<&'h LocalHeap>, RowFault> {
+    match read(heap, bytes) {
+        Ok((value, _)) => Ok(value),
+        Err(_) => Err(RowFault::Form),
+    }
+}
+
+/// A value as bytes.
+fn put_value<'h>(
+    heap: &'h LocalHeap,
+    value: &Data<&'h LocalHeap>,
+    answer: &mut String,
+) -> Result<(), RowFault> {
+    if !fits(value) {
+        return Ok(answer.push_str("unfit")?);
+    }
+    put_hex(answer, write(heap, value)?.as_slice())
+}
+
+/// What GET gives, with memory from the heap.
+fn put_got<'h>(
+    room: Room<'h>,
+    state: &State<&'h LocalHeap>,
+    asked: Asked,
+    selector: Option<&Selector<&'h LocalHeap>>,
+    answer: &mut String,
+) -> Result<(), RowFault> {
+    match get(room.heap, state, asked.client, asked.descriptor, selector) {
+        Ok(value) => put_value(room.ample, &value, answer),
+        Err(result) => put_result(answer, result),
+    }
+}
+
+/// GET of what the words ask for: an attribute, and behind it a selector's number and value.
+fn put_get<'h>(
+    room: Room<'h>,
+    state: &State<&'h LocalHeap>,
+    words: &mut Words<'_>,
+    answer: &mut String,
+) -> Result<(), RowFault> {
+    let asked = asked_of(words)?;
+    if words.is_empty() {
+        return put_got(room, state, asked, None, answer);
+    }
+    let selector = Selector {
+        number: words.byte()?,
+        value: value_of(room.ample, &words.bytes()?)?,
+    };
+    put_got(room, state, asked, Some(&selector), answer)
+}
+
+/// Whether SET of a value plans an event: 0, or the result.
+fn put_plan(room: Room<'_>, words: &mut Words<'_>, answer: &mut String) -> Result<(), RowFault> {
+    let asked = asked_of(words)?;
+    let value = value_of(room.ample, &words.bytes()?)?;
+    match plan_set(asked.client, asked.descriptor, &value) {
+        Ok(_) => Ok(answer.push_str("result 0")?),
+        Err(result) => put_result(answer, result),
+    }
+}
+
+/// SET of a value, which the state takes.
+fn put_set<'h>(
+    room: Room<'h>,
+    state: &mut State<&'h LocalHeap>,
+    words: &mut Words<'_>,
+    answer: &mut String,
+) -> Result<(), RowFault> {
+    let asked = asked_of(words)?;
+    let value = value_of(room.ample, &words.bytes()?)?;
+    let event = match plan_set(asked.client, asked.descriptor, &value) {
+        Ok(event) => event,
+        Err(result) => return put_result(answer, result),
+    };
+    match state.check(&event) {
+        Ok(()) => {
+            state.apply(event);
+            Ok(answer.push_str("result 0")?)
+        }
+        Err(_) => put_result(answer, AccessResult::OtherReason),
+    }
+}
+
+/// The event that ACTION of a method plans with this parameter.
+fn put_planned(
+    asked: Asked,
+    parameter: Option<&Data<&LocalHeap>>,
+    answer: &mut String,
+) -> Result<(), RowFault> {
+    match plan_action(asked.client, asked.descriptor, parameter) {
+        Ok(event) => Ok(write!(answer, "{event:?}")?),
+        Err(result) => put_result(answer, result),
+    }
+}
+
+/// ACTION of what the words ask for: a method, and behind it a parameter.
+fn put_action(room: Room<'_>, words: &mut Words<'_>, answer: &mut String) -> Result<(), RowFault> {
+    let asked = asked_of(words)?;
+    if words.is_empty() {
+        return put_planned(asked, None, answer);
+    }
+    let parameter = value_of(room.ample, &words.bytes()?)?;
+    put_planned(asked, Some(&parameter), answer)
+}
+
+/// ACTION of a method with a parameter, which the state takes.
+fn put_acted<'h>(
+    room: Room<'h>,
+    state: &mut State<&'h LocalHeap>,
+    words: &mut Words<'_>,
+    answer: &mut String,
+) -> Result<(), RowFault> {
+    let asked = asked_of(words)?;
+    let parameter = value_of(room.ample, &words.bytes()?)?;
+    let event = match plan_action(asked.client, asked.descriptor, Some(&parameter)) {
+        Ok(event) => event,
+        Err(result) => return put_result(answer, result),
+    };
+    match state.check(&event) {
+        Ok(()) => {
+            state.apply(event);
+            Ok(answer.push_str("result 0")?)
+        }
+        Err(_) => put_result(answer, AccessResult::OtherReason),
+    }
+}
+
+impl<'h> ClassesBench<'h> {
+    pub fn new(room: Room<'h>) -> Self {
+        ClassesBench {
+            room,
+            state: StateBench::new(room.ample),
+        }
+    }
+}
+
+impl Bench for ClassesBench<'_> {
+    fn step(&mut self, words: &mut Words<'_>, answer: &mut String) -> Result<(), RowFault> {
+        let room = self.room;
+        let call = words.word()?;
+        match call {
+            "get" => put_get(room, self.state.state()?, words, answer),
+            "set" => put_set(room, self.state.state_mut()?, words, answer),
+            "plan-set" => put_plan(room, words, answer),
+            "action" => put_action(room, words, answer),
+            "act" => put_acted(room, self.state.state_mut()?, words, answer),
+            _ => self.state.call(call, words, answer),
+        }
+    }
+}

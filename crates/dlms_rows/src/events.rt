@@ -1,0 +1,61 @@
+//! Events, as the rows write them: a word and what the event holds.
+
+use crate::fault::RowFault;
+use crate::words::Words;
+use arrayvec::ArrayVec;
+use dlms_state::{Event, Refused};
+use std::fmt::Write;
+
+/// Bytes in place; not understood where there are more than fit.
+pub fn in_place<const MOST: usize>(bytes: &[u8]) -> Result<ArrayVec<u8, MOST>, RowFault> {
+    let mut held = ArrayVec::new();
+    match held.try_extend_from_slice(bytes) {
+        Ok(()) => Ok(held),
+        Err(_) => Err(RowFault::Form),
+    }
+}
+
+/// A shift, in seconds.
+fn shift_of(words: &mut Words<'_>) -> Result<Event, RowFault> {
+    match i16::try_from(words.signed()?) {
+        Ok(by) => Ok(Event::Shift(by)),
+        Err(_) => Err(RowFault::Form),
+    }
+}
+
+/// The events that hold bytes, or nothing.
+fn other_event(call: &str, words: &mut Words<'_>) -> Result<Event, RowFault> {
+    match call {
+        "set-text" => Ok(Event::SetText(in_place(&words.bytes()?)?)),
+        "set-secret" => Ok(Event::SetSecret(in_place(&words.bytes()?)?)),
+        "adjust" => Ok(Event::AdjustMinute),
+        "reset-profile" => Ok(Event::ResetProfile),
+        "capture" => Ok(Event::Capture),
+        _ => Err(RowFault::Form),
+    }
+}
+
+/// The event that a word and those behind it name.
+pub fn event_of(call: &str, words: &mut Words<'_>) -> Result<Event, RowFault> {
+    match call {
+        "pulses" => {
+            let channel = words.byte()?;
+            Ok(Event::Pulses(channel, words.number()?))
+        }
+        "moment" => Ok(Event::Moment(words.number()?)),
+        "set-time" => Ok(Event::SetTime(words.number()?)),
+        "shift" => shift_of(words),
+        "set-period" => Ok(Event::SetPeriod(words.number()?)),
+        "reset-register" => Ok(Event::ResetRegister(words.byte()?)),
+        _ => other_event(call, words),
+    }
+}
+
+/// Why an event is refused: the number, and the last moment where it goes back.
+pub fn put_refused(answer: &mut String, refused: Refused) -> Result<(), RowFault> {
+    write!(answer, "refused {}", refused.number())?;
+    if let Refused::MomentBack(last) = refused {
+        write!(answer, " {last}")?;
+    }
+    Ok(())
+}

@@ -1,0 +1,127 @@
+//! Rows of `dlms_frame`.
+
+ghost use Rattle.std.specs.Prelude.{IsTrue};
+ghost use Rattle.dlms_frame.specs.Frame.{IsAddress};
+
+use crate::bench::Bench;
+use crate::fault::RowFault;
+use crate::hexadecimal::put_hex;
+use crate::words::{Words, truth_of};
+use dlms_frame::{Address, Deframer, Frame, check};
+use std::fmt::Write;
+
+/// A deframer.
+#[derive(Drop)]
+pub struct FrameBench {
+    deframer: Deframer,
+}
+
+/// The frame of these bytes.
+pub fn frame_of(bytes: &[u8]) -> Result<Frame, RowFault> {
+    Deframer::new().feed(bytes).1.ok_or(RowFault::Form)
+}
+
+/// A frame's bytes.
+pub fn put_frame(answer: &mut String, frame: &Frame) -> Result<(), RowFault> {
+    put_hex(answer, frame.put().as_slice())
+}
+
+/// An address: `one`, `two` or `four`, and its parts.
+fn address_of(words: &mut Words<'_>) -> Result<Address, RowFault> {
+    match words.word()? {
+        "one" => Ok(Address::One(words.byte()?)),
+        "two" => Ok(Address::Two(words.byte()?, words.byte()?)),
+        "four" => {
+            let upper = u16::try_from(words.number()?).map_err(|_| RowFault::Form)?;
+            let lower = u16::try_from(words.number()?).map_err(|_| RowFault::Form)?;
+            Ok(Address::Four(upper, lower))
+        }
+        _ => Err(RowFault::Form),
+    }
+}
+
+/// Whether each part has its bits.
+fn fits(address: Address) -> bool
+    ensures { IsTrue result → IsAddress address }
+{
+    match address {
+        Address::One(part) => part < 128,
+        Address::Two(upper, lower) => upper < 128 && lower < 128,
+        Address::Four(upper, lower) => upper < 16384 && lower < 16384,
+    }
+}
+
+/// A frame of its parts: whether it is segmented, destination, source, control, information.
+fn put_made(words: &mut Words<'_>, answer: &mut String) -> Result<(), RowFault> {
+    let segmented = truth_of(words.word()?)?;
+    let dest = address_of(words)?;
+    let src = address_of(words)?;
+    let control = words.byte()?;
+    let info = words.bytes()?;
+    if !fits(dest) || !fits(src) || info.len() > 2032 {
+        return Err(RowFault::Form);
+    }
+    let frame = Frame::new(segmented, dest, src, control, &info);
+    write!(answer, "{} ", frame.len())?;
+    put_frame(answer, &frame.copy())
+}
+
+/// The parts of a frame, as `put_made` takes them.
+fn put_parts(bytes: &[u8], answer: &mut String) -> Result<(), RowFault> {
+    let frame = frame_of(bytes)?;
+    write!(
+        answer,
+        "{} {:?} {:?} {} ",
+        frame.segmented, frame.dest, frame.src, frame.control
+    )?;
+    put_hex(answer, frame.info.as_slice())
+}
+
+impl FrameBench {
+    pub fn new() -> Self {
+        FrameBench {
+            deframer: Deframer::new(),
+        }
+    }
+
+    /// How many bytes are taken, and the frame that they close.
+    fn feed(&mut self, bytes: &[u8], answer: &mut String) -> Result<(), RowFault> {
+        let (taken, frame) = self.deframer.feed(bytes);
+        write!(answer, "{taken} ")?;
+        match frame {
+            Some(frame) => put_frame(answer, &frame),
+            None => Ok(answer.push_str("no")?),
+        }
+    }
+
+    /// The same byte by byte: nothing for each byte that closes no frame.
+    fn feed_each(&mut self, bytes: &[u8], answer: &mut String) -> Result<(), RowFault> {
+        for byte in bytes {
+            if let Some(frame) = self.deframer.feed(&[*byte]).1 {
+                put_frame(answer, &frame)?;
+            }
+        }
+        Ok(())
+    }
+}
+
+impl Bench for FrameBench {
+    fn step(&mut self, words: &mut Words<'_>, answer: &mut String) -> Result<(), RowFault> {
+        match words.word()? {
+            "check" => Ok(write!(answer, "{:04x}", check(&words.bytes()?))?),
+            "deframer" => {
+                self.deframer = Deframer::new();
+                Ok(())
+            }
+            "idle" => {
+                self.deframer.idle();
+                Ok(())
+            }
+            "feed" => self.feed(&words.bytes()?, answer),
+            "feed-each" => self.feed_each(&words.bytes()?, answer),
+            "frame" => put_made(words, answer),
+            "parts" => put_parts(&words.bytes()?, answer),
+            _ => Err(RowFault::Form),
+        }
+    }
+}

@@ -1,0 +1,237 @@
+//! Rows of `dlms_headend`.
+
+ghost use Rattle.std.specs.Prelude.{◌≤◌, IfOk, IfSome};
+
+use crate::bench::{Bench, Room};
+use crate::events::in_place;
+use crate::fault::RowFault;
+use crate::frame::{frame_of, put_frame};
+use crate::words::{Words, client_of, put_truth};
+use dlms_frame::Frame;
+use dlms_headend::{Plan, PollFault, PollStep, Poller, Readings, ReadingsFault, Row};
+use linked_list_allocator::LocalHeap;
+use std::fmt::Write;
+
+/// The last second of a meter's clock.
+const LAST_SECOND: u32 = 3_155_759_999;
+
+/// A poll and a readings file.
+#[derive(Drop)]
+pub struct HeadendBench<'h> {
+    heap: &'h LocalHeap,
+    poller: Option<Poller<&'h LocalHeap>>,
+    readings: Option<Readings<&'h LocalHeap>>,
+}
+
+fn put_poll_fault(answer: &mut String, fault: PollFault) -> Result<(), RowFault> {
+    write!(answer, "fault {}", fault.number())?;
+    match fault {
+        PollFault::Refused(number) | PollFault::Result(number) => Ok(write!(answer, " {number}")?),
+        _ => Ok(()),
+    }
+}
+
+fn put_readings_fault(answer: &mut String, fault: ReadingsFault) -> Result<(), RowFault> {
+    match fault {
+        ReadingsFault::Line(number) => Ok(write!(answer, "line {number}")?),
+        ReadingsFault::Memory => Ok(answer.push_str("memory")?),
+    }
+}
+
+/// A row: `clock,register,register,register`.
+fn put_row(answer: &mut String, row: &Row) -> Result<(), RowFault> {
+    let [first, second, third] = row.registers;
+    Ok(write!(answer, " {},{first},{second},{third}", row.clock)?)
+}
+
+/// How many rows there are, and the rows.
+fn put_rows(answer: &mut String, rows: &[Row]) -> Result<(), RowFault> {
+    write!(answer, "{}", rows.len())?;
+    for row in rows {
+        put_row(answer, row)?;
+    }
+    Ok(())
+}
+
+/// A second behind which is polled, or `-`.
+fn after_of(word: &str) -> Result<Option<u32>, RowFault>
+    ensures { IfOk result (λ after. IfSome after (λ second. second ≤ 3155759999)) }
+{
+    if word == "-" {
+        return Ok(None);
+    }
+    match word.parse::<u32>() {
+        Ok(second) if second <= LAST_SECOND => Ok(Some(second)),
+        _ => Err(RowFault::Form),
+    }
+}
+
+/// A text of lines: `/` stands for the end of a line, `_` for a blank and `~` for a carriage return.
+fn text_of(heap: &mut String, word: &str) -> Result<(), RowFault> {
+    for sign in word.chars() {
+        heap.push(match sign {
+            '/' => '\n',
+            '_' => ' ',
+            '~' => '\r',
+            other => other,
+        })?;
+    }
+    Ok(())
+}
+
+/// What a poll makes of a frame.
+fn put_step(answer: &mut String, step: Result<PollStep, PollFault>) -> Result<(), RowFault> {
+    match step {
+        Ok(PollStep::Nothing) => Ok(answer.push_str("nothing")?),
+        Ok(PollStep::Send(frame)) => put_frame(answer, &frame),
+        Ok(PollStep::Done) => Ok(answer.push_str("done")?),
+        Err(fault) => put_poll_fault(answer, fault),
+    }
+}
+
+/// A frame that goes out.
+fn put_sent(answer: &mut String, sent: Result<Frame, PollFault>) -> Result<(), RowFault> {
+    match sent {
+        Ok(frame) => put_frame(answer, &frame),
+        Err(fault) => put_poll_fault(answer, fault),
+    }
+}
+
+/// The calls of a poll.
+fn poll_step(
+    poller: &mut Poller<&LocalHeap>,
+    call: &str,
+    words: &mut Words<'_>,
+    answer: &mut String,
+) -> Result<(), RowFault> {
+    match call {
+        "next" => match poller.next() {
+            Some(frame) => put_frame(answer, &frame),
+            None => Ok(answer.push_str("nothing")?),
+        },
+        "on" => {
+            let frame = frame_of(&words.bytes()?)?;
+            put_step(answer, poller.on(&frame))
+        }
+        "timeout" if poller.is_waiting() => put_sent(answer, poller.timeout()),
+        "is-waiting" => put_truth(answer, poller.is_waiting()),
+        "polled" => put_rows(answer, poller.rows()),
+        _ => Err(RowFault::Missing),
+    }
+}
+
+/// A row of the words: its clock and its registers.
+fn row_of(words: &mut Words<'_>) -> Result<Row, RowFault> {
+    Ok(Row {
+        clock: words.number()?,
+        registers: [words.number()?, words.number()?, words.number()?],
+    })
+}
+
+/// Appends the rows of the words that come later.
+fn put_merged(
+    readings: &mut Readings<&LocalHeap>,
+    words: &mut Words<'_>,
+    answer: &mut String,
+) -> Result<(), RowFault> {
+    let mut rows = Vec::new(*answer.allocator());
+    'rows: for _ in 0..u32::MAX {
+        if words.is_empty() {
+            break 'rows;
+        }
+        rows.push(row_of(words)?)?;
+    }
+    match readings.merge(&rows) {
+        Ok(count) => Ok(write!(answer, "{count}")?),
+        Err(_) => Ok(answer.push_str("memory")?),
+    }
+}
+
+/// The text of a readings file, as `text_of` reads it.
+fn put_text(readings: &Readings<&LocalHeap>, answer: &mut String) -> Result<(), RowFault> {
+    match readings.text() {
+        Ok(text) => {
+            for line in text.as_str().lines() {
+                write!(answer, "{line}/")?;
+            }
+            Ok(())
+        }
+        Err(_) => Ok(answer.push_str("memory")?),
+    }
+}
+
+/// The calls of a readings file.
+fn readings_step(
+    readings: &mut Readings<&LocalHeap>,
+    call: &str,
+    words: &mut Words<'_>,
+    answer: &mut String,
+) -> Result<(), RowFault> {
+    match call {
+        "merge" => put_merged(readings, words, answer),
+        "text" => put_text(readings, answer),
+        "last" => match readings.last() {
+            Some(clock) => Ok(write!(answer, "{clock}")?),
+            None => Ok(answer.push_str("no")?),
+        },
+        _ => Err(RowFault::Form),
+    }
+}
+
+impl<'h> HeadendBench<'h> {
+    pub fn new(room: Room<'h>) -> Self {
+        HeadendBench {
+            heap: room.heap,
+            poller: None,
+            readings: None,
+        }
+    }
+
+    /// A poll by a client, with its secret, behind a second.
+    fn poll(&mut self, words: &mut Words<'_>) -> Result<(), RowFault> {
+        let client = client_of(words.word()?)?;
+        let secret = in_place(&words.bytes()?)?;
+        let after = after_of(words.word()?)?;
+        let plan = Plan {
+            client,
+            secret,
+            after,
+        };
+        self.poller = Some(Poller::new(self.heap, plan));
+        Ok(())
+    }
+
+    /// Opens a readings file.
+    fn open(&mut self, words: &mut Words<'_>, answer: &mut String) -> Result<(), RowFault> {
+        self.readings = None;
+        let mut text = String::new(*answer.allocator());
+        if !words.is_empty() {
+            text_of(&mut text, words.word()?)?;
+        }
+        match Readings::open(self.heap, text.as_str()) {
+            Ok(readings) => {
+                self.readings = Some(readings);
+                Ok(())
+            }
+            Err(fault) => put_readings_fault(answer, fault),
+        }
+    }
+}
+
+impl Bench for HeadendBench<'_> {
+    fn step(&mut self, words: &mut Words<'_>, answer: &mut String) -> Result<(), RowFault> {
+        let call = words.word()?;
+        match call {
+            "poll" => self.poll(words),
+            "open" => self.open(words, answer),
+            "merge" | "text" | "last" => match &mut self.readings {
+                Some(readings) => readings_step(readings, call, words, answer),
+                None => Err(RowFault::Missing),
+            },
+            _ => match &mut self.poller {
+                Some(poller) => poll_step(poller, call, words, answer),
+                None => Err(RowFault::Missing),
+            },
+        }
+    }
+}

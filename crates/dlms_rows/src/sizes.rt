@@ -1,0 +1,37 @@
+//! The sizes of heap on which a scenario is played.
+
+use crate::fault::RowFault;
+use crate::words::Words;
+
+/// The sizes from `first` on, `count` of them, each `step` bytes above the one before. Where `least` is there, memory is
+/// refused at more than so many of them, and not at the last.
+#[derive(Clone, Copy, Debug, PartialEq, Eq)]
+pub struct Sizes {
+    pub first: u32,
+    pub step: u32,
+    pub count: u32,
+    pub least: Option<u32>,
+}
+
+/// What a scenario says of its heap; one ample heap where it says nothing.
+#[derive(Clone, Copy, Debug, PartialEq, Eq)]
+pub enum Heaps {
+    Ample,
+    Each(Sizes),
+}
+
+impl Sizes {
+    /// First, step, count, and least where it is there.
+    pub fn read(words: &mut Words<'_>) -> Result<Sizes, RowFault> {
+        Ok(Sizes {
+            first: words.number()?,
+            step: words.number()?,
+            count: words.number()?,
+            least: if words.is_empty() {
+                None
+            } else {
+                Some(words.number()?)
+            },
+        })
+    }
+}

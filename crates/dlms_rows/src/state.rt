@@ -1,0 +1,286 @@
+//! Rows of `dlms_state`; other crates prepare their states by them.
+
+use crate::bench::{Bench, Room};
+use crate::events::{event_of, in_place, put_refused};
+use crate::fault::RowFault;
+use crate::hexadecimal::put_hex;
+use crate::rows::put_rows;
+use crate::words::Words;
+use dlms_profile::Row;
+use dlms_state::{CLOCK_END, Event, Outlook, Parts, PartsFault, State};
+use linked_list_allocator::LocalHeap;
+use std::fmt::Write;
+
+/// A state that takes its memory from a heap, and what an outlook on it comes to.
+#[derive(Drop)]
+pub struct StateBench<'h> {
+    heap: &'h LocalHeap,
+    state: Option<State<&'h LocalHeap>>,
+    outlook: Option<Outlook>,
+}
+
+/// A row: its clock and its registers.
+pub fn row_of(words: &mut Words<'_>) -> Result<Row, RowFault> {
+    Ok(Row {
+        clock: words.number()?,
+        registers: [words.number()?, words.number()?, words.number()?],
+    })
+}
+
+/// Registers, last moment, offset, period, text, secret.
+fn parts_of(words: &mut Words<'_>) -> Result<Parts, RowFault> {
+    Ok(Parts {
+        registers: [words.number()?, words.number()?, words.number()?],
+        last: words.number()?,
+        offset: words.signed()?,
+        period: words.number()?,
+        text: in_place(&words.bytes()?)?,
+        secret: in_place(&words.bytes()?)?,
+    })
+}
+
+/// Has a state take an event.
+fn take(state: &mut State<&LocalHeap>, event: Event, answer: &mut String) -> Result<(), RowFault> {
+    match state.check(&event) {
+        Ok(()) => {
+            state.apply(event);
+            Ok(())
+        }
+        Err(refused) => put_refused(answer, refused),
+    }
+}
+
+/// Restores a row, where there is room.
+fn restore_row(state: &mut State<&LocalHeap>, row: Row) -> Result<(), RowFault> {
+    if state.rows().len() < 960 && row.clock <= CLOCK_END {
+        state.restore_row(row);
+        Ok(())
+    } else {
+        Err(RowFault::Form)
+    }
+}
+
+/// The numbers of a state.
+fn put_number(state: &State<&LocalHeap>, call: &str, answer: &mut String) -> Result<(), RowFault> {
+    match call {
+        "clock" => Ok(write!(answer, "{}", state.clock())?),
+        "last" => Ok(write!(answer, "{}", state.last())?),
+        "offset" => Ok(write!(answer, "{}", state.offset())?),
+        "period" => Ok(write!(answer, "{}", state.period())?),
+        "count" => Ok(write!(answer, "{}", state.rows().len())?),
+        "text" => put_hex(answer, state.text()),
+        "secret" => put_hex(answer, state.secret()),
+        "registers" => {
+            let [first, second, third] = state.registers();
+            Ok(write!(answer, "{first} {second} {third}")?)
+        }
+        _ => Err(RowFault::Form),
+    }
+}
+
+/// The rows of a state in a range of seconds.
+fn put_range(
+    state: &State<&LocalHeap>,
+    words: &mut Words<'_>,
+    answer: &mut String,
+) -> Result<(), RowFault> {
+    let first = words.number()?;
+    match state.rows().by_range(first, words.number()?) {
+        Ok(rows) => put_rows(answer, &rows),
+        Err(_) => Ok(answer.push_str("memory")?),
+    }
+}
+
+/// The rows of a state from one entry to another.
+fn put_entries(
+    state: &State<&LocalHeap>,
+    words: &mut Words<'_>,
+    answer: &mut String,
+) -> Result<(), RowFault> {
+    let first = words.number()?;
+    let last = words.number()?;
+    if first == 0 {
+        return Err(RowFault::Form);
+    }
+    match state.rows().by_entry(first, last) {
+        Ok(rows) => put_rows(answer, &rows),
+        Err(_) => Ok(answer.push_str("memory")?),
+    }
+}
+
+/// A row of a state.
+fn put_row(state: &State<&LocalHeap>, index: u32, answer: &mut String) -> Result<(), RowFault> {
+    match state.rows().get(index as usize) {
+        Some(row) => put_rows(answer, &[*row]),
+        None => Ok(answer.push_str("no")?),
+    }
+}
+
+impl<'h> StateBench<'h> {
+    pub fn new(heap: &'h LocalHeap) -> Self {
+        StateBench {
+            heap,
+            state: None,
+            outlook: None,
+        }
+    }
+
+    /// The state that was made.
+    pub fn state(&self) -> Result<&State<&'h LocalHeap>, RowFault> {
+        self.state.as_ref().ok_or(RowFault::Missing)
+    }
+
+    /// The same, to change it.
+    pub fn state_mut(&mut self) -> Result<&mut State<&'h LocalHeap>, RowFault> {
+        self.state.as_mut().ok_or(RowFault::Missing)
+    }
+
+    /// Another state in its place.
+    pub fn set(&mut self, state: State<&'h LocalHeap>) {
+        self.state = Some(state);
+    }
+
+    /// A new state.
+    fn begin(&mut self, answer: &mut String) -> Result<(), RowFault> {
+        self.state = None;
+        match State::new(self.heap) {
+            Ok(state) => {
+                self.state = Some(state);
+                Ok(())
+            }
+            Err(_) => Ok(answer.push_str("memory")?),
+        }
+    }
+
+    /// A state of its parts.
+    fn restore(&mut self, words: &mut Words<'_>, answer: &mut String) -> Result<(), RowFault> {
+        self.state = None;
+        match State::restore(self.heap, parts_of(words)?) {
+            Ok(state) => {
+                self.state = Some(state);
+                Ok(())
+            }
+            Err(PartsFault::Limits) => Ok(answer.push_str("limits")?),
+            Err(PartsFault::Memory) => Ok(answer.push_str("memory")?),
+        }
+    }
+
+    /// Takes an event.
+    fn event(
+        &mut self,
+        call: &str,
+        words: &mut Words<'_>,
+        answer: &mut String,
+    ) -> Result<(), RowFault> {
+        let event = event_of(call, words)?;
+        take(self.state_mut()?, event, answer)
+    }
+
+    /// Moments 900, 1800 .., so many.
+    fn periods(&mut self, count: u32, answer: &mut String) -> Result<(), RowFault> {
+        let state = self.state_mut()?;
+        for period in 1..=count {
+            take(state, Event::Moment(period.saturating_mul(900)), answer)?;
+        }
+        Ok(())
+    }
+
+    /// So many restored rows, with the clocks 0, 1, 2 .. and the registers 1, 2, 3.
+    fn restore_rows(&mut self, count: u32) -> Result<(), RowFault> {
+        let state = self.state_mut()?;
+        for clock in 0..count {
+            let row = Row {
+                clock,
+                registers: [1, 2, 3],
+            };
+            restore_row(state, row)?;
+        }
+        Ok(())
+    }
+
+    /// The refusal of an event, in words.
+    fn refusal(&mut self, words: &mut Words<'_>, answer: &mut String) -> Result<(), RowFault> {
+        let call = words.word()?;
+        let event = event_of(call, words)?;
+        match self.state()?.check(&event) {
+            Ok(()) => Ok(()),
+            Err(refused) => Ok(write!(answer, "{} {refused}", refused.number())?),
+        }
+    }
+
+    /// The outlook goes on by an event.
+    fn after(&mut self, words: &mut Words<'_>, answer: &mut String) -> Result<(), RowFault> {
+        let call = words.word()?;
+        let event = event_of(call, words)?;
+        let Some(outlook) = &self.outlook else {
+            return Err(RowFault::Missing);
+        };
+        match outlook.after(&event) {
+            Ok(next) => {
+                self.outlook = Some(next);
+                Ok(())
+            }
+            Err(refused) => put_refused(answer, refused),
+        }
+    }
+
+    /// How many rows the outlook has come to.
+    fn put_outlook(&self, answer: &mut String) -> Result<(), RowFault> {
+        match &self.outlook {
+            Some(outlook) => Ok(write!(answer, "{}", outlook.rows())?),
+            None => Err(RowFault::Missing),
+        }
+    }
+
+    /// The calls that show a state.
+    fn show(
+        &mut self,
+        call: &str,
+        words: &mut Words<'_>,
+        answer: &mut String,
+    ) -> Result<(), RowFault> {
+        match call {
+            "range" => put_range(self.state()?, words, answer),
+            "entries" => put_entries(self.state()?, words, answer),
+            "row" => put_row(self.state()?, words.number()?, answer),
+            "registers" | "clock" | "last" | "offset" | "period" | "count" | "text" | "secret" => {
+                put_number(self.state()?, call, answer)
+            }
+            _ => self.event(call, words, answer),
+        }
+    }
+
+    /// The calls of a state; what is none of them is an event.
+    pub fn call(
+        &mut self,
+        call: &str,
+        words: &mut Words<'_>,
+        answer: &mut String,
+    ) -> Result<(), RowFault> {
+        match call {
+            "state" => self.begin(answer),
+            "restore" => self.restore(words, answer),
+            "restore-row" => {
+                let row = row_of(words)?;
+                restore_row(self.state_mut()?, row)
+            }
+            "restore-rows" => self.restore_rows(words.number()?),
+            "periods" => self.periods(words.number()?, answer),
+            "refusal" => self.refusal(words, answer),
+            "outlook" => {
+                self.outlook = Some(self.state()?.outlook());
+                Ok(())
+            }
+            "after" => self.after(words, answer),
+            "outlook-rows" => self.put_outlook(answer),
+            _ => self.show(call, words, answer),
+        }
+    }
+}
+
+impl Bench for StateBench<'_> {
+    fn step(&mut self, words: &mut Words<'_>, answer: &mut String) -> Result<(), RowFault> {
+        let call = words.word()?;
+        self.call(call, words, answer)
+    }
+}

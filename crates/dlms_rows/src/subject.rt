@@ -1,0 +1,92 @@
+//! The crates whose rows lie here.
+
+use crate::acse::AcseBench;
+use crate::apdu::ApduBench;
+use crate::bench::{Room, play};
+use crate::blocks::BlocksBench;
+use crate::checkpoint::CheckpointBench;
+use crate::classes::ClassesBench;
+use crate::data::DataBench;
+use crate::fault::RowFault;
+use crate::frame::FrameBench;
+use crate::headend::HeadendBench;
+use crate::journal::JournalBench;
+use crate::link::LinkBench;
+use crate::profile::ProfileBench;
+use crate::scenario::Line;
+use crate::state::StateBench;
+
+/// A crate under test.
+#[derive(Clone, Copy, Debug, PartialEq, Eq)]
+pub enum Subject {
+    Acse,
+    Apdu,
+    Blocks,
+    Checkpoint,
+    Classes,
+    Data,
+    Frame,
+    Headend,
+    Journal,
+    Link,
+    Profile,
+    State,
+}
+
+pub const SUBJECTS: [Subject; 12] = [
+    Subject::Acse,
+    Subject::Apdu,
+    Subject::Blocks,
+    Subject::Checkpoint,
+    Subject::Classes,
+    Subject::Data,
+    Subject::Frame,
+    Subject::Headend,
+    Subject::Journal,
+    Subject::Link,
+    Subject::Profile,
+    Subject::State,
+];
+
+impl Subject {
+    /// The file of its rows.
+    pub fn file(self) -> &'static str {
+        match self {
+            Subject::Acse => "dlms_acse.txt",
+            Subject::Apdu => "dlms_apdu.txt",
+            Subject::Blocks => "dlms_blocks.txt",
+            Subject::Checkpoint => "dlms_checkpoint.txt",
+            Subject::Classes => "dlms_classes.txt",
+            Subject::Data => "dlms_data.txt",
+            Subject::Frame => "dlms_frame.txt",
+            Subject::Headend => "dlms_headend.txt",
+            Subject::Journal => "dlms_journal.txt",
+            Subject::Link => "dlms_link.txt",
+            Subject::Profile => "dlms_profile.txt",
+            Subject::State => "dlms_state.txt",
+        }
+    }
+
+    /// Plays a scenario, and writes the answers.
+    pub fn play(
+        self,
+        room: Room<'_>,
+        lines: &[Line<'_>],
+        answers: &mut String,
+    ) -> Result<(), RowFault> {
+        match self {
+            Subject::Acse => play(&mut AcseBench, lines, answers),
+            Subject::Apdu => play(&mut ApduBench::new(room), lines, answers),
+            Subject::Blocks => play(&mut BlocksBench::new(room), lines, answers),
+            Subject::Checkpoint => play(&mut CheckpointBench::new(room), lines, answers),
+            Subject::Classes => play(&mut ClassesBench::new(room), lines, answers),
+            Subject::Data => play(&mut DataBench::new(room), lines, answers),
+            Subject::Frame => play(&mut FrameBench::new(), lines, answers),
+            Subject::Headend => play(&mut HeadendBench::new(room), lines, answers),
+            Subject::Journal => play(&mut JournalBench, lines, answers),
+            Subject::Link => play(&mut LinkBench::new(), lines, answers),
+            Subject::Profile => play(&mut ProfileBench::new(room.heap), lines, answers),
+            Subject::State => play(&mut StateBench::new(room.heap), lines, answers),
+        }
+    }
+}
