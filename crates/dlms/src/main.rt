@@ -3,8 +3,10 @@
 
 use clap::error::ErrorKind;
 use dlms_meter::Meter;
+use dlms_pages::MemoryPages;
 use dlms_program::{Job, ReplayFault, job, replay};
-use std::alloc::AllocError;
+use dlms_store::PAGES;
+use std::alloc::{AllocError, Allocator};
 use std::io::{BufReader, BufWriter, Write};
 use std::process::ExitCode;
 use std::rt::Env;
@@ -12,6 +14,17 @@ use std::{env, io};
 
 /// How many bytes are read or written at a time.
 const BUFFER: usize = 65_536;
+
+/// A new meter in memory, which fails where no memory is found for it.
+fn new_meter<A: Allocator + Copy>(alloc: A) -> Result<Meter<MemoryPages<A>, A>, ReplayFault> {
+    let Ok(pages) = MemoryPages::new(alloc, PAGES) else {
+        return Err(ReplayFault::Memory);
+    };
+    match Meter::format(alloc, pages) {
+        Ok(meter) => Ok(meter),
+        Err(_) => Err(ReplayFault::Memory),
+    }
+}
 
 /// Replays standard input on a new meter, and hands on what was written before a fault too.
 fn run_replay<R: Input + Print + AllocGlobal>(rt: &R) -> Result<(), ReplayFault> {
@@ -21,9 +34,7 @@ fn run_replay<R: Input + Print + AllocGlobal>(rt: &R) -> Result<(), ReplayFault>
     let Ok(mut writer) = BufWriter::with_capacity(rt.alloc(), BUFFER, io::writer(rt)) else {
         return Err(ReplayFault::Memory);
     };
-    let Ok(mut meter) = Meter::new(rt.alloc()) else {
-        return Err(ReplayFault::Memory);
-    };
+    let mut meter = new_meter(rt.alloc())?;
     let replayed = replay(&mut reader, &mut writer, &mut meter);
     if writer.flush().is_err() {
         return Err(ReplayFault::Io);

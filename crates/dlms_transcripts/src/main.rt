@@ -4,9 +4,12 @@
 //! and, where something is said on standard error, `NNN.err`.
 #![tactic(auto)]
 
-use anyhow::Result;
+use anyhow::{Result, anyhow};
 use dlms_meter::Meter;
-use dlms_program::replay;
+use dlms_pages::MemoryPages;
+use dlms_program::{ReplayFault, replay};
+use dlms_store::PAGES;
+use std::alloc::Global;
 use std::fs;
 use std::io::ErrorKind;
 use std::process::ExitCode;
@@ -39,12 +42,29 @@ fn is_said(expected: &Option<Vec<u8>>, said: &str) -> bool {
     }
 }
 
+/// A new meter in memory.
+fn new_meter(alloc: Global) -> Result<Meter<MemoryPages>> {
+    match Meter::format(alloc, MemoryPages::new(alloc, PAGES)?) {
+        Ok(meter) => Ok(meter),
+        Err(_) => Err(anyhow!("no meter is made")),
+    }
+}
+
+/// Replays a text on a new meter.
+fn replayed(
+    alloc: Global,
+    input: &[u8],
+    output: &mut Vec<u8>,
+) -> Result<std::result::Result<(), ReplayFault>> {
+    let mut reader = input;
+    let mut meter = new_meter(alloc)?;
+    Ok(replay(&mut reader, output, &mut meter))
+}
+
 /// Replays a case on a new meter.
 fn verdict_of<R: Files + AllocGlobal>(rt: &R, name: &str, input: &[u8]) -> Result<Verdict> {
-    let mut reader = input;
     let mut output = Vec::new(rt.alloc());
-    let mut meter = Meter::new(rt.alloc())?;
-    let (status, said) = match replay(&mut reader, &mut output, &mut meter) {
+    let (status, said) = match replayed(rt.alloc(), input, &mut output)? {
         Ok(()) => ("0\n", format!(in rt.alloc(); "")?),
         Err(fault) => ("1\n", format!(in rt.alloc(); "dlms: {fault}\n")?),
     };

@@ -1,0 +1,58 @@
+//! A client's end of the line.
+
+use crate::MemoryMeter;
+use arrayvec::ArrayVec;
+use dlms_acse::{Conformance, write_aarq};
+use dlms_frame::{Client, Deframer, Frame};
+use dlms_link::{ClientLink, ClientOut};
+
+/// An APDU.
+pub type Apdu = ArrayVec<u8, 1024>;
+
+/// What the client proposes.
+const PROPOSED: Conformance = Conformance(0x7e_1f);
+
+/// The most bytes of an APDU that the client takes.
+const SIZE: u16 = 64;
+
+/// The meter's reply to a frame.
+fn reply_to(meter: &mut MemoryMeter, frame: &Frame) -> Option<Frame> {
+    let bytes = frame.put();
+    let (_, reply) = meter.feed(bytes.as_slice());
+    let reply = reply?;
+    Deframer::new().feed(reply.as_slice()).1
+}
+
+/// Sends an APDU, and takes its answer, in as many frames as it comes in.
+pub fn exchange(meter: &mut MemoryMeter, link: &mut ClientLink, apdu: &[u8]) -> Option<Apdu> {
+    if !link.is_idle() || apdu.len() > 1024 {
+        return None;
+    }
+    let mut frame = link.send(apdu);
+    'frames: for _ in 0..32u8 {
+        let reply = reply_to(meter, &frame)?;
+        match link.on(&reply) {
+            ClientOut::Send(next) => frame = next,
+            ClientOut::Apdu => {
+                let mut answer = ArrayVec::new();
+                let _fits = answer.try_extend_from_slice(link.apdu());
+                return Some(answer);
+            }
+            _ => return None,
+        }
+    }
+    None
+}
+
+/// The management client's link, with an association.
+pub fn associated(meter: &mut MemoryMeter) -> Option<ClientLink> {
+    let mut link = ClientLink::new(Client::Management);
+    let frame = link.connect();
+    let reply = reply_to(meter, &frame)?;
+    let ClientOut::Up = link.on(&reply) else {
+        return None;
+    };
+    let request = write_aarq(Client::Management, b"12345678", PROPOSED, SIZE);
+    let answer = exchange(meter, &mut link, request.as_slice())?;
+    (answer.len() == 43).then_some(link)
+}

@@ -1,0 +1,129 @@
+//! Stops a meter's power and fails its device at each of its device's calls, and says how often what it answers, or what a
+//! recovery finds, is other than it may be.
+#![tactic(auto)]
+
+mod acts;
+mod client;
+mod play;
+mod stops;
+
+use acts::SET_A;
+use anyhow::Result;
+use client::{associated, exchange};
+use dlms_meter::Meter;
+use dlms_pages::MemoryPages;
+use dlms_store::PAGES;
+use play::Seen;
+use std::alloc::{AllocError, Global};
+use std::process::ExitCode;
+use stops::{Fault, Left, after_stop, found_behind, found_on, stopped_everywhere};
+
+/// A meter over pages in memory.
+type MemoryMeter = Meter<MemoryPages>;
+
+/// The calls of a format: the 82 pages and a sync; a body and a sync; a gate and a sync.
+const FORMATS: u64 = 87;
+
+/// A new meter.
+fn formatted(alloc: Global, device: MemoryPages) -> Option<MemoryMeter> {
+    Meter::format(alloc, device).ok()
+}
+
+/// The meter that a device held, or the device where it is not found.
+fn recovered(alloc: Global, device: MemoryPages) -> Result<MemoryMeter, MemoryPages> {
+    match Meter::recover(alloc, device) {
+        Ok(meter) => Ok(meter),
+        Err((device, _)) => Err(device),
+    }
+}
+
+/// Sets the text, and then counts five pulses.
+fn set_and_count(meter: &mut MemoryMeter) {
+    if let Some(mut link) = associated(meter) {
+        let _answer = exchange(meter, &mut link, SET_A.apdu);
+        let _counted = meter.pulses(0, 5);
+    }
+}
+
+/// The device of a meter whose text was set, and which then counted five pulses, where so many of its calls pass.
+fn set_and_pulses(alloc: Global, calls: u64) -> Result<Option<MemoryPages>, AllocError> {
+    let mut device = MemoryPages::new(alloc, PAGES)?;
+    device.fuse(FORMATS.saturating_add(calls));
+    match formatted(alloc, device) {
+        Some(mut meter) => {
+            set_and_count(&mut meter);
+            Ok(Some(meter.close()))
+        }
+        None => Ok(None),
+    }
+}
+
+/// What is to be found behind an answered SET: its text, and no pulse.
+const TEXT_ALONE: Seen = Seen {
+    pulses: 0,
+    clock: 0,
+    rows: 0,
+    text: Some(b'A'),
+};
+
+/// Whether the text is found, and no pulse, where the power stops before the pulses' page is written.
+fn is_found_behind_a_set(alloc: Global) -> Result<bool, AllocError> {
+    match set_and_pulses(alloc, 2)? {
+        Some(device) => Ok(found_on(alloc, after_stop(device, Left::Old)) == Some(TEXT_ALONE)),
+        None => Ok(false),
+    }
+}
+
+/// Whether it is so where the pulses' page is torn, and the power stops again behind so many calls of the recovery.
+fn is_found_behind_a_torn_page(alloc: Global, calls: u64, pick: Left) -> Result<bool, AllocError> {
+    match set_and_pulses(alloc, 3)? {
+        Some(device) => {
+            let torn = after_stop(device, Left::Damaged);
+            Ok(found_behind(alloc, torn, calls, pick) == Some(TEXT_ALONE))
+        }
+        None => Ok(false),
+    }
+}
+
+/// More calls than a recovery makes.
+const RECOVERY: u32 = 16;
+
+/// How often something else is found.
+fn others_behind_a_torn_page(alloc: Global, pick: Left) -> Result<u32, AllocError> {
+    let mut differ = 0u32;
+    for calls in 0..RECOVERY {
+        if !is_found_behind_a_torn_page(alloc, u64::from(calls), pick)? {
+            differ = differ.saturating_add(1);
+        }
+    }
+    Ok(differ)
+}
+
+/// The stops and faults at each call of the scenario.
+const RUNS: [(Fault, Left); 5] = [
+    (Fault::Fuse, Left::Old),
+    (Fault::Fuse, Left::New),
+    (Fault::Fuse, Left::Damaged),
+    (Fault::Once, Left::AsItIs),
+    (Fault::Once, Left::Damaged),
+];
+
+fn run(rt: &HostRuntime) -> Result<()> {
+    let alloc = rt.alloc();
+    let found = is_found_behind_a_set(alloc)?;
+    println!(rt; "behind a set: {found}")?;
+    for pick in [Left::Old, Left::New, Left::Damaged] {
+        let differ = others_behind_a_torn_page(alloc, pick)?;
+        println!(rt; "behind a torn page, {pick:?}: {RECOVERY} recoveries, {differ} differ")?;
+    }
+    for (fault, pick) in RUNS {
+        let (runs, differ) = stopped_everywhere(alloc, fault, pick)?;
+        println!(rt; "{fault:?}, {pick:?}: {runs} runs, {differ} differ")?;
+    }
+    Ok(())
+}
+
+fn main(rt: HostRuntime) -> Result<ExitCode> {
+    run(&rt)?;
+    Ok(ExitCode::SUCCESS)
+}
