@@ -143,3 +143,7 @@ NoFurtherStopMatters = (steps quiet : List Step) (at_stop now : World) (found : 
 -- So does the first sync of a recovery, which succeeded in a recovery that answered Ok: what it found is found again.
 abbrev pub NoFurtherRecoveryMatters : Type 0
 NoFurtherRecoveryMatters = (before mid now : World) (quiet : List Step) (first found : List Event) → Next before (Opens first) mid → IsQuiet quiet → Run mid (quiet ++ Opens found ∷ []) now → first ≡ found
+
+-- It does so too where that recovery answered a fault behind it.
+abbrev pub NoFurtherRecoveryMattersAfterAFault : Type 0
+NoFurtherRecoveryMattersAfterAFault = (before now : World) (quiet : List Step) (events found : List Event) → Next before OpenFails (Rests events) → IsQuiet quiet → Run (Rests events) (quiet ++ Opens found ∷ []) now → events ≡ found
