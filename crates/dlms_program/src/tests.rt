@@ -7,12 +7,17 @@ use std::io;
 use std::io::{Error, ErrorKind, Read, Write};
 use std::test::Fail;
 
-/// A new meter in memory.
-fn formatted(alloc: Global) -> Result<Meter<MemoryPages>, Fail> {
-    match Meter::format(alloc, MemoryPages::new(alloc, PAGES)?) {
+/// A new meter over these pages.
+fn formatted(alloc: Global, pages: MemoryPages) -> Result<Meter<MemoryPages>, Fail> {
+    match Meter::format(alloc, pages) {
         Ok(meter) => Ok(meter),
         Err(_) => Err("a meter is formatted".into()),
     }
+}
+
+/// A new meter in memory.
+fn in_memory(alloc: Global) -> Result<Meter<MemoryPages>, Fail> {
+    formatted(alloc, MemoryPages::new(alloc, PAGES)?)
 }
 
 /// Gives some bytes, and then fails.
@@ -53,7 +58,7 @@ impl Write for FailingWriter {
 
 #[test]
 fn a_failing_reader_keeps_what_was_printed(rt: HostRuntime) -> Result<(), Fail> {
-    let mut meter = formatted(rt.alloc())?;
+    let mut meter = in_memory(rt.alloc())?;
     let mut reader = FailingReader(b"P 0 42\nS\nS");
     let mut output = Vec::new(rt.alloc());
     let ended = replay(&mut reader, &mut output, &mut meter);
@@ -65,12 +70,32 @@ fn a_failing_reader_keeps_what_was_printed(rt: HostRuntime) -> Result<(), Fail> 
 #[test]
 fn a_failing_writer_ends_the_replay(rt: HostRuntime) -> Result<(), Fail> {
     for room in 0..17usize {
-        let mut meter = formatted(rt.alloc())?;
+        let mut meter = in_memory(rt.alloc())?;
         let mut reader = b"P 0 42\nS\nP 0 1\n".as_slice();
         let mut writer = FailingWriter(room);
         let ended = replay(&mut reader, &mut writer, &mut meter);
         assert_eq!(rt; ended, Err(ReplayFault::Io), "at {room}");
         assert_eq!(rt; meter.state().registers(), [42, 0, 0]);
     }
+    Ok(())
+}
+
+/// A page takes 82 pulses: at the next one the device is called, and fails; then the meter is stopped.
+#[test]
+fn a_failing_device_is_told(rt: HostRuntime) -> Result<(), Fail> {
+    let mut pages = MemoryPages::new(rt.alloc(), PAGES)?;
+    // The calls of a format: the 82 pages and a sync; a body and a sync; a gate and a sync.
+    pages.fuse(87);
+    let mut meter = formatted(rt.alloc(), pages)?;
+    let mut text = Vec::new(rt.alloc());
+    for _ in 0..84u8 {
+        text.extend_from_slice(b"P 0 1\n")?;
+    }
+    text.extend_from_slice(b"P 3 1\nS\n")?;
+    let mut reader = text.as_slice();
+    let mut output = Vec::new(rt.alloc());
+    let ended = replay(&mut reader, &mut output, &mut meter);
+    let expected = b"fault 2\nfault 3\nfault 3\nstate 82 0 0 0 0\n".as_slice();
+    assert!(rt; ended == Ok(()) && output.as_slice() == expected);
     Ok(())
 }
