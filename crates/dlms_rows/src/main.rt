@@ -4,9 +4,10 @@
 //! and the answer that it is to give; a line without `->` is to answer nothing. What one line makes stays for the next, up to
 //! an empty line, where everything is let go. `#` begins a comment.
 //!
-//! A line `heaps FIRST STEP COUNT` has the lines up to the next empty one played on a heap of each of these sizes, `FIRST` bytes and
-//! `STEP` more each time. Answers behind `|` may then stand in place of the first, for want of memory; with a further number
-//! `LEAST` they do at more than so many sizes, and not at the last one. However a scenario ends, its heap is empty then.
+//! A line `heaps FIRST STEP COUNT` has the lines up to the next empty one played on a heap of each of these sizes, `FIRST`
+//! bytes and `STEP` more each time. Answers behind `|` may then stand in place of the first, for want of memory; with a
+//! further number `LEAST` they do at more than so many sizes, and not at the last one. However a scenario ends, its heap is
+//! empty then.
 #![tactic(auto)]
 
 mod acse;

@@ -1,6 +1,6 @@
 //! Rows of `dlms_state`; other crates prepare their states by them.
 
-use crate::bench::{Bench, Room};
+use crate::bench::Bench;
 use crate::events::{event_of, in_place, put_refused};
 use crate::fault::RowFault;
 use crate::hexadecimal::put_hex;

@@ -1,6 +1,6 @@
 //! A whole talk over a line: forty requests and their answers, and one frame that is lost.
 
-ghost use Rattle.std.specs.Prelude.{◌≡◌, ◌≤◌, None, length};
+ghost use Rattle.std.specs.Prelude.{◌≡◌, None};
 
 use crate::fault::RowFault;
 use arrayvec::ArrayVec;
