@@ -6,7 +6,9 @@ ghost use Rattle.dlms_meter.specs.Run.{World};
 ghost use Rattle.dlms_program.specs.Outcome.{AllFound};
 ghost use Rattle.dlms_program.specs.Replay.{Replays};
 
-pub use dlms_world::laws::{calls_are_turns, calls_of_a_meter_are_turns, the_file_and_the_meter_agree};
+pub use dlms_world::laws::{
+    calls_are_turns, calls_of_a_meter_are_turns, the_file_and_the_meter_agree,
+};
 
 /// Lines have one outcome, where memory is found and the device does not fail: what is written, the bad line, if any, and the
 /// world that they lead to, but for which of its events are settled.
