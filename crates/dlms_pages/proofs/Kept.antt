@@ -1,25 +1,36 @@
--- The pages that memory keeps are those that its calls left.
-use Rattle.std.proofs.Common.{◌≡◌, ◌<◌, ◌^◌, ℕ, List, [], ◌∷◌, ◌++◌, set, sym, ◌∙◌, ap, subst, Result, Ok, Err, cond, is_ok}
+-- What memory keeps of its calls leads to the same disk as all of them.
+use Rattle.std.proofs.Common.{◌≡◌, ◌<◌, ◌^◌, ℕ, List, [], ◌∷◌, ◌++◌, length, set, sym, ◌∙◌, ap, subst}
 use Rattle.std.proofs.lemmas.List.{length-set}
 use Rattle.dlms_pages.specs.declared.device.PageRead.TheVariants.{Content}
 use Rattle.dlms_pages.specs.declared.memory.Call.{Call}
 use Rattle.dlms_pages.specs.declared.memory.Call.TheVariants.{Write, Sync}
-use Rattle.dlms_pages.specs.Disk.{Disk, at_first, disk_after}
+use Rattle.dlms_pages.specs.Disk.{Disk, at_first, after, disk_after}
 use Rattle.dlms_pages.specs.Memory.{IsKept}
 use Rattle.dlms_pages.specs.Device.{Image}
 use Rattle.dlms_pages.proofs.Calls.{one_more}
 
-pub kept_write : (first : Image) (calls now : List Call) (pages : Image) (index : ℕ) (bytes : List ℕ) → IsKept first calls pages → now ≡ calls ++ Write index bytes ∷ [] → IsKept first now (set pages index (Content bytes))
-kept_write first calls now pages index bytes is more = record {
-  same = ap (λ (l : Image). set l index (Content bytes)) is.same ∙ sym (ap (λ (d : Disk). d.seen) (ap (disk_after (at_first first)) more ∙ one_more (at_first first) calls (Write index bytes)));
-  count = is.count ∙ sym (length-set pages index (Content bytes));
-  small = subst (λ n. n < 2 ^ 16) (sym (length-set pages index (Content bytes))) is.small;
-}
+module _ (first : Image) (calls : List Call) (synced : Image) (since : List Call) (pages : Image) (is : IsKept first calls synced since pages) where
+  pub kept_write : (calls_now since_now : List Call) (index : ℕ) (bytes : List ℕ) → calls_now ≡ calls ++ Write index bytes ∷ [] → since_now ≡ since ++ Write index bytes ∷ [] → IsKept first calls_now synced since_now (set pages index (Content bytes))
+  kept_write calls_now since_now index bytes more newer =
+      let call = Write index bytes in
+      let kept : disk_after (at_first synced) since_now ≡ after (disk_after (at_first synced) since) call = ap (disk_after (at_first synced)) newer ∙ one_more (at_first synced) since call in
+      record {
+        rest = ap (disk_after (at_first first)) more ∙ one_more (at_first first) calls call ∙ ap (λ (d : Disk). after d call) is.rest ∙ sym kept;
+        same = ap (λ (l : Image). set l index (Content bytes)) is.same ∙ sym (ap (λ (d : Disk). d.seen) kept);
+        count = is.count ∙ sym (length-set pages index (Content bytes));
+        as_many = is.as_many ∙ sym (length-set pages index (Content bytes));
+        small = subst (λ n. n < 2 ^ 16) (sym (length-set pages index (Content bytes))) is.small;
+      }
 
-seen_after_sync : (first : Image) (calls : List Call) → (disk_after (at_first first) (calls ++ Sync ∷ [])).seen ≡ (disk_after (at_first first) calls).seen
-seen_after_sync first calls = ap (λ (d : Disk). d.seen) (one_more (at_first first) calls Sync)
-
--- a sync that may have found no memory
-pub kept_sync : {T E : Type 0} (first : Image) (calls now : List Call) (pages : Image) (r : Result T E) → IsKept first calls pages → now ≡ cond (is_ok r) (calls ++ Sync ∷ []) calls → IsKept first now pages
-kept_sync first calls now pages (Ok x) is more = record { same = is.same ∙ sym (ap (λ (l : List Call). (disk_after (at_first first) l).seen) more ∙ seen_after_sync first calls); count = is.count; small = is.small }
-kept_sync first calls now pages (Err e) is more = record { same = is.same ∙ sym (ap (λ (l : List Call). (disk_after (at_first first) l).seen) more); count = is.count; small = is.small }
+  -- after a sync the pages are what it keeps
+  pub kept_sync : (calls_now : List Call) (synced_now : Image) (since_now : List Call) → calls_now ≡ calls ++ Sync ∷ [] → synced_now ≡ pages → since_now ≡ [] → IsKept first calls_now synced_now since_now pages
+  kept_sync calls_now synced_now since_now more copied none =
+      let all : disk_after (at_first first) calls_now ≡ after (disk_after (at_first first) calls) Sync = ap (disk_after (at_first first)) more ∙ one_more (at_first first) calls Sync in
+      let now : disk_after (at_first synced_now) since_now ≡ at_first pages = (λ i. disk_after (at_first (copied i)) (none i)) in
+      record {
+        rest = all ∙ ap (λ (d : Disk). at_first d.seen) is.rest ∙ ap at_first (sym is.same) ∙ sym now;
+        same = sym (ap (λ (d : Disk). d.seen) now);
+        count = ap (λ (l : Image). length l) copied;
+        as_many = is.as_many;
+        small = is.small;
+      }

@@ -1,6 +1,7 @@
 pub mod Asking
 pub mod Calls
 pub mod Kept
+pub mod Made
 pub mod Moments
 pub mod Outcomes
 pub mod Picks

@@ -14,7 +14,7 @@ pub record Memory : Type 0 where
   pub calls : List Call
   -- which of the calls to come are to fail
   pub plan : Plan
-  -- how many more calls the record has room for before it grows
+  -- how many more writes have room before the record of those since the last sync grows
   pub room : ℕ
   pub faults : ℕ
 
@@ -60,10 +60,13 @@ pub record Fails (old new : Memory) : Type 0 where
   pub faults : new.faults ≡ min (old.faults + 1) (2 ^ 64 - 1)
   pub later : old.faults ≤ new.faults
 
--- the pages are those that the calls left
-pub record IsKept (first : Image) (calls : List Call) (pages : Image) : Type 0 where
-  pub same : pages ≡ (disk_after (at_first first) calls).seen
-  pub count : length first ≡ length pages
+-- What is kept of all calls: what each page held at the last sync, and the calls since. They lead to the same disk, and the
+-- pages are those that they left.
+pub record IsKept (first : Image) (calls : List Call) (synced : Image) (since : List Call) (pages : Image) : Type 0 where
+  pub rest : disk_after (at_first first) calls ≡ disk_after (at_first synced) since
+  pub same : pages ≡ (disk_after (at_first synced) since).seen
+  pub count : length synced ≡ length pages
+  pub as_many : length first ≡ length pages
   pub small : length pages < 2 ^ 16
 
 -- so many pages of zeros, and no call yet

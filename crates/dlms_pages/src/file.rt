@@ -2,6 +2,7 @@
 ghost use Rattle.std.specs.Prelude.{◌≡◌, ◌<◌, ◌≤◌, ◌^◌, true, false, length, replicate, slice_index_or, slice_set, IfOk, IfSome, OnErr, OnOk};
 ghost use Rattle.dlms_pages.specs.Asked.{AsksAll, sync_calls, written_again};
 
+use crate::lock::LockFile;
 use crate::seal::{SLOT, opened, sealed};
 use crate::slot_file::SlotFile;
 use crate::{DeviceFault, PageRead, Pages};
@@ -18,6 +19,9 @@ use std::path::Path;
 /// What was written since the last sync that succeeded is kept in memory too: a read gives it from there, and where a
 /// write or a sync has failed since, the next sync writes all of it again before it may succeed. The room for it is
 /// made by `create` and `open`, and no other call asks for memory.
+///
+/// The file's exclusive advisory lock is held as long as these pages are there, so no second program that asks for it
+/// reads or writes them at the same time.
 ///
 /// Whether a file keeps the disk rules is not known, so what the rules promise is not promised of it. What is asked of the
 /// file is said, call for call: what was written is written and synced, and where a call fails the answer is a fault.
@@ -45,10 +49,11 @@ impl<F, A: Allocator> Model for FilePages<F, A> {
     ghost invariant = { λ f. length f.unsynced.items < 2 ^ 16 };
 }
 
-impl<F: Read + Write + Seek + OpenFile + Drop, A: Allocator> FilePages<F, A> {
+impl<F: Read + Write + Seek + OpenFile + LockFile + Drop, A: Allocator> FilePages<F, A> {
     ghost use Rattle.dlms_pages.specs.File.{IsFresh};
 
-    /// Makes the file, with so many pages that all read as damaged, in place of one that is there.
+    /// Makes the file, with so many pages that all read as damaged, in place of one that is there; its length and its
+    /// name outlast a stop. The fault is the system's. A file that is in use stays as it is.
     pub fn create<R: Files<File = F> + Alloc<A = A>>(
         rt: &R,
         path: &str,
@@ -61,14 +66,17 @@ impl<F: Read + Write + Seek + OpenFile + Drop, A: Allocator> FilePages<F, A> {
             .read(true)
             .write(true)
             .create(true)
-            .truncate(true)
             .open(rt, path)?;
+        // What stands there is thrown away behind the lock alone.
+        file.lock_alone()?;
+        file.set_len(0)?;
         file.set_len(u64::from(count) * SLOT as u64)?;
+        file.sync_all()?;
         sync_folder(rt, path)?;
         Ok(FilePages::fresh(file, unsynced))
     }
 
-    /// Opens a file that is there. What it has past its pages stays.
+    /// Opens a file that is there, and is not in use. What it has past its pages stays. The fault is the system's.
     pub fn open<R: Files<File = F> + Alloc<A = A>>(
         rt: &R,
         path: &str,
@@ -78,6 +86,7 @@ impl<F: Read + Write + Seek + OpenFile + Drop, A: Allocator> FilePages<F, A> {
     {
         let unsynced = room(rt.alloc(), count)?;
         let file = OpenOptions::new().read(true).write(true).open(rt, path)?;
+        file.lock_alone()?;
         Ok(FilePages::fresh(file, unsynced))
     }
 }

@@ -5,7 +5,9 @@ mod device;
 mod file;
 mod history;
 pub mod laws;
+mod lock;
 mod memory;
+mod past;
 mod pick;
 mod plan;
 mod seal;
@@ -13,6 +15,7 @@ mod slot_file;
 
 pub use device::{DeviceFault, PageRead, Pages};
 pub use file::FilePages;
+pub use lock::LockFile;
 pub use memory::{Call, MemoryPages};
 pub use pick::{Choice, Pick};
 pub use slot_file::SlotFile;

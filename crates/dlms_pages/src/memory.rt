@@ -1,4 +1,5 @@
-//! Pages in memory, which keep what they held at first and every write and sync since.
+//! Pages in memory. They keep what they held at the last sync that succeeded, and each write since; what came before is
+//! kept for proofs alone.
 ghost use Rattle.std.specs.Prelude.{◌≡◌, ◌<◌, ◌≤◌, ◌+◌, ◌-◌, ◌^◌, ◌⊎◌, ◌↔◌, ℕ, [], ◌∷◌, ◌++◌, min, true, false, length, nat_eq, nat_le, IfOk, IsErr, OnErr, OnOk};
 ghost use Rattle.dlms_pages.specs.Device.{page_at};
 ghost use Rattle.dlms_pages.specs.Disk.{Disk, at_first, disk_after};
@@ -7,10 +8,12 @@ ghost use Rattle.dlms_pages.specs.Memory.{fails_at, Passes, Fails};
 ghost use Rattle.dlms_pages.specs.Pick.{choice_at, page_left};
 
 use crate::history::{History, history_of};
+use crate::past::Past;
 use crate::plan::{Plan, next_of};
 use crate::{Choice, DeviceFault, PageRead, Pages, Pick};
 use std::alloc::{AllocError, Allocator, Global};
 use std::marker::Model;
+use std::snapshot::Snapshot;
 
 /// A call that a stop may undo.
 #[derive(Clone, Copy, Debug, PartialEq, Eq)]
@@ -20,14 +23,18 @@ pub enum Call {
 }
 
 /// A device in memory that keeps the disk rules, and that can be made to fail or to lose power. It keeps a record of
-/// each write and sync, which asks for memory as it grows; a call that finds none for it is a fault.
+/// each write until the next sync that succeeds, which asks for memory where it grows; a write that finds none for it is
+/// a fault. However many calls there were, it holds no more than the most that were ever written between two syncs.
 #[derive(Drop)]
 pub struct MemoryPages<A: Allocator = Global> {
-    first: Vec<PageRead, A>,
-    calls: Vec<Call, A>,
+    synced: Vec<PageRead, A>,
+    since: Vec<Call, A>,
     pages: Vec<PageRead, A>,
     plan: Plan,
     faults: u64,
+    // What each page held at first, and every write and sync that succeeded: no memory stands behind these two.
+    first: Snapshot<Vec<PageRead, A>>,
+    past: Past<Call>,
 }
 
 impl<A: Allocator> Model for MemoryPages<A> {
@@ -37,14 +44,14 @@ impl<A: Allocator> Model for MemoryPages<A> {
     ghost Value = { Memory };
 
     ghost view = { λ m. record {
-      first = m.first.items;
-      calls = m.calls.items;
+      first = m.first.value.items;
+      calls = m.past.calls;
       plan = m.plan;
-      room = vec_capacity m.calls - vec_len m.calls;
+      room = vec_capacity m.since - vec_len m.since;
       faults = m.faults;
     } };
 
-    ghost invariant = { λ m. IsKept m.first.items m.calls.items m.pages.items };
+    ghost invariant = { λ m. IsKept m.first.value.items m.past.calls m.synced.items m.since.items m.pages.items };
 }
 
 impl<A: Allocator + Copy> MemoryPages<A> {
@@ -56,14 +63,17 @@ impl<A: Allocator + Copy> MemoryPages<A> {
         ensures { IfOk result (IsNew count) }
     {
         let page = PageRead::Content([0; 512]);
-        let first = vec![in alloc; page; count as usize]?;
+        let synced = vec![in alloc; page; count as usize]?;
         let pages = vec![in alloc; page; count as usize]?;
+        let first = Snapshot::of(&synced);
         Ok(MemoryPages {
-            first,
-            calls: Vec::new(alloc),
+            synced,
+            since: Vec::new(alloc),
             pages,
             plan: Plan::Never,
             faults: 0,
+            first,
+            past: Past::new(),
         })
     }
 
@@ -97,24 +107,29 @@ impl<A: Allocator + Copy> MemoryPages<A> {
         ensures fixed { IsFixed (view_of result) result.first }
     {
         let MemoryPages {
-            first,
-            calls,
+            synced,
+            since,
             pages,
             plan: _,
             faults,
+            first: _,
+            past: _,
         } = self;
-        let mut first = first;
-        let mut calls = calls;
+        let mut synced = synced;
+        let mut writes = since;
         let mut pages = pages;
-        choose(&first, &calls, &mut pages, pick);
-        first.copy_from_slice(&pages);
-        calls.clear();
+        choose(&synced, &writes, &mut pages, pick);
+        synced.copy_from_slice(&pages);
+        writes.clear();
+        let first = Snapshot::of(&synced);
         MemoryPages {
-            first,
-            calls,
+            synced,
+            since: writes,
             pages,
             plan: Plan::Never,
             faults,
+            first,
+            past: Past::new(),
         }
     }
 
@@ -154,24 +169,25 @@ impl<A: Allocator + Copy> MemoryPages<A> {
             index,
             bytes: *bytes,
         };
-        if self.calls.push(call).is_err() {
+        if self.since.push(call).is_err() {
             return Err(self.fail());
         }
+        self.past = self.past.and(&call);
         self.pages[index as usize] = PageRead::Content(*bytes);
         Ok(())
     }
 
-    // A sync that is kept in the record.
+    // A sync, after which the record is empty.
     fn record_sync(&mut self) -> Result<(), DeviceFault>
-        ensures due { fails_at self.old.plan 0 ≡ true → IsErr result }
-        ensures cause { OnErr result ((fails_at self.old.plan 0 ≡ true) ⊎ (self.old.room ≡ 0)) }
+        ensures due { IsErr result ↔ (fails_at self.old.plan 0 ≡ true) }
         ensures passed { OnOk result (Passes self.old self.new (self.old.calls ++ Call.Sync ∷ [])) }
+        ensures room { OnOk result (self.old.room ≤ self.new.room) }
         ensures failed { OnErr result (Fails self.old self.new) }
     {
         self.pass()?;
-        if self.calls.push(Call::Sync).is_err() {
-            return Err(self.fail());
-        }
+        self.synced.copy_from_slice(&self.pages);
+        self.since.clear();
+        self.past = self.past.and(&Call::Sync);
         Ok(())
     }
 }
@@ -250,9 +266,9 @@ impl<A: Allocator + Copy> Pages for MemoryPages<A> {
         ensures goes { Goes (view_of self.old) (view_of self.new) result }
         ensures synced { (view_of self.old).honest ≡ true
             → Syncs (view_of self.old) (view_of self.new) result }
-        ensures due { fails_at self.old.plan 0 ≡ true → IsErr result }
-        ensures cause { OnErr result ((fails_at self.old.plan 0 ≡ true) ⊎ (self.old.room ≡ 0)) }
+        ensures due { IsErr result ↔ (fails_at self.old.plan 0 ≡ true) }
         ensures passed { OnOk result (Passes self.old self.new (self.old.calls ++ Call.Sync ∷ [])) }
+        ensures room { OnOk result (self.old.room ≤ self.new.room) }
         ensures failed { OnErr result (Fails self.old self.new) }
     {
         self.record_sync()

@@ -281,6 +281,34 @@ fn short_and_long(rt: HostRuntime) -> Result<(), Fail> {
     Ok(())
 }
 
+fn is_in_use(opened: io::Result<FilePages>) -> bool {
+    match opened {
+        Ok(_device) => false,
+        Err(e) => e.kind() == ErrorKind::WouldBlock,
+    }
+}
+
+/// While a file is open it can neither be opened nor made anew, and its bytes stay as they are.
+fn held(rt: &HostRuntime, path: &str) -> Result<[bool; 3], Fail> {
+    let whole = three(rt, path)?;
+    let _device: FilePages = FilePages::open(rt, path, 3)?;
+    let opened = is_in_use(FilePages::open(rt, path, 3));
+    let made = is_in_use(FilePages::create(rt, path, 3));
+    let bytes: [u8; 1632] = bytes_of(rt, path)?;
+    Ok([opened, made, bytes == whole])
+}
+
+#[test]
+fn in_use(rt: HostRuntime) -> Result<(), Fail> {
+    let path = path_of(&rt, "use")?;
+    let all = held(&rt, path.as_str())?;
+    // Closed, it can be opened again.
+    let pages = reads(&rt, path.as_str())?;
+    fs::remove_file(&rt, path.as_str())?;
+    assert_eq!(rt; (all, pages), ([true; 3], [1, 2, 3]));
+    Ok(())
+}
+
 /// A plain name stands in the folder where the program runs.
 #[test]
 fn plain_name(rt: HostRuntime) -> Result<(), Fail> {
@@ -390,10 +418,16 @@ fn with_faults(
     })
 }
 
-/// What the first two pages read as where the file is opened anew.
+/// The pages of a file as it is, also where it is in use.
+fn unlocked(rt: &HostRuntime, path: &str) -> io::Result<FilePages> {
+    let unsynced = room(rt.alloc(), 3)?;
+    let file = OpenOptions::new().read(true).write(true).open(rt, path)?;
+    Ok(FilePages::fresh(file, unsynced))
+}
+
+/// What the first two of them read as.
 fn anew(rt: &HostRuntime, path: &str) -> [u16; 2] {
-    let opened: io::Result<FilePages> = FilePages::open(rt, path, 3);
-    let Ok(mut device) = opened else {
+    let Ok(mut device) = unlocked(rt, path) else {
         return [NO_PAGE; 2];
     };
     [get(&mut device, 0), get(&mut device, 1)]

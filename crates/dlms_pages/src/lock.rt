@@ -1,0 +1,25 @@
+//! The lock of a file, which keeps a second program out.
+use std::fs::{File, TryLockError};
+use std::io;
+use std::io::ErrorKind;
+
+/// A file that one opening at a time can have for itself.
+pub trait LockFile {
+    /// Takes the file's exclusive advisory lock, and does not wait for it: where another opening holds it, of this
+    /// program or of another, the fault's kind is `WouldBlock`, and its text says that the file is in use. The lock is
+    /// held until the file is closed, also where the program is killed.
+    fn lock_alone(&self) -> io::Result<()>;
+}
+
+impl LockFile for File {
+    fn lock_alone(&self) -> io::Result<()> {
+        match self.try_lock() {
+            Ok(()) => Ok(()),
+            Err(TryLockError::WouldBlock) => Err(io::Error::new(
+                ErrorKind::WouldBlock,
+                "in use by another program",
+            )),
+            Err(TryLockError::Error(e)) => Err(e),
+        }
+    }
+}
