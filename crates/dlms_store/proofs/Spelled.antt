@@ -1,4 +1,4 @@
--- Bodies that fit one after another are those of the state that they spell.
+-- Bodies that fit one after another, and have a state's bytes, are those of this state.
 use Rattle.std.proofs.Common.{Bool, true, false, Some, None, ◌≡◌, ◌≢◌, ◌<◌, ◌≤◌, ◌+◌, ◌*◌, ⊎_elim, ℕ, zero, suc, min, List, [], ◌++◌, length, take, drop, refl, sym, ◌∙◌, ap, subst, arith, append_assoc, eqb, ltb, if◌then◌else◌}
 use Rattle.std.proofs.lemmas.List.{length-take, take_min, take-append-drop, append_cancel_left, append-nil}
 use Rattle.std.proofs.lemmas.Bool.{ltb-false, eqb-true, cases_eq}
@@ -7,10 +7,10 @@ use Rattle.dlms_pages.specs.Device.{Image, page_at}
 use Rattle.dlms_journal.specs.declared.kind.PageKind.TheVariants.{Body}
 use Rattle.dlms_state.specs.StateValue.{StateValue}
 use Rattle.dlms_checkpoint.specs.Bodies.{awaited, body_at, counts_fit, first_fault, row_count, whole_length}
-use Rattle.dlms_checkpoint.specs.Checkpoint.{IsCheckpointOf, checkpoint_bytes}
+use Rattle.dlms_checkpoint.specs.Checkpoint.{IsCheckpointOf}
 use Rattle.dlms_checkpoint.specs.declared.reading.BodyFault.TheVariants.{Length, Counts}
 use Rattle.dlms_checkpoint.proofs.Bodies.{further_is_taken, lengths, one_body_more, rows_of_front, some_bodies}
-use Rattle.dlms_store.specs.Cause.{AreOf, Fit, MayFollow}
+use Rattle.dlms_store.specs.Cause.{AllFit, AreOf, Fit, MayFollow}
 use Rattle.dlms_store.specs.Image.{Spells}
 use Rattle.dlms_store.specs.Page.{HasPage}
 use Rattle.dlms_store.proofs.Causes.{followed, some_bytes}
@@ -66,11 +66,11 @@ module _ (s : StateValue) (all : List ℕ) (is : IsCheckpointOf s all) where
               (cases_eq j k),
         )
 
-pub spelled_of : (gate g : ℕ) (s : StateValue) (image : Image) → AreOf gate g s image → Spells gate g (checkpoint_bytes s) image
-spelled_of gate g s image are =
-    let all = fitted s are.bytes are.state gate g image are.fit.count are.bytes [] are.fit.fit (append-nil are.bytes) in
-    let spells : Spells gate g are.bytes image = record {
-      few = (some_bodies are.bytes s are.state).1;
-      each = λ k small. all.1 k (omega (arith, small, ap (λ (b : List ℕ). length b) all.0, length-take (496 * are.fit.count) are.bytes));
+pub are_of : (gate g : ℕ) (s : StateValue) (bytes : List ℕ) (image : Image) → AllFit gate g bytes image → IsCheckpointOf s bytes → AreOf gate g s image
+are_of gate g s bytes image fit is =
+    let all = fitted s bytes is gate g image fit.count bytes [] fit.fit (append-nil bytes) in
+    let spells : Spells gate g bytes image = record {
+      few = (some_bodies bytes s is).1;
+      each = λ k small. all.1 k (omega (arith, small, ap (λ (b : List ℕ). length b) all.0, length-take (496 * fit.count) bytes));
     } in
-    subst (λ (b : List ℕ). Spells gate g b image) are.state.spelled spells
+    record { bodies = subst (λ (b : List ℕ). Spells gate g b image) is.spelled spells; within = is.within; fits = is.fits }

@@ -10,6 +10,7 @@ use Rattle.dlms_store.proofs.Looking.{page_is, one_payload, is_checkpoint, first
 use Rattle.dlms_store.specs.declared.fault.OpenFault.TheVariants.{Device, Memory}
 use Rattle.dlms_store.proofs.Causes.{first_fits, first_unfit, no_state, of_further, unended}
 use Rattle.dlms_store.specs.Cause.{AreOf, IsBodyFault}
+use Rattle.dlms_store.proofs.Spelled.{are_of}
 use Rattle.dlms_store.proofs.look.look_at_bodies.Goals as goal
 
 pub returns-in_default-begin-clause-looks : goal.returns-in_default-begin-clause-looks
@@ -169,7 +170,7 @@ returns-in-Ok-finish-clause-cause g c image fixed =
     let view = g.P.Pages.view in
     let one = looks_read (c.gate-first.result + 1) (view c.args.device.now) (view c.read.new.self) image c.read.result fixed (g.met.P.Pages.rules c.args.device.now fixed.honest) c.read.ensures.goes (c.read.ensures.page fixed.honest) in
     let first = first_fits gate c.args.generation image c.in_ok-page.page c.in-Some.body.now c.in-Ok.restoring same c.in-Some.ensures c.in-Ok.ensures.0 c.in-Ok.ensures.1 in
-    record { bytes = _; fit = c.in_ok-look_at_further_bodies.ensures.cause image gate place one.fixed first; state = c.in-Ok-finish.ensures.state }
+    are_of gate c.args.generation _ _ image (c.in_ok-look_at_further_bodies.ensures.cause image gate place one.fixed first) c.in-Ok-finish.ensures.state
 
 pub returns-in-Err-Spelling-clause-cause : goal.returns-in-Err-Spelling-clause-cause
 returns-in-Err-Spelling-clause-cause g c image fixed =
@@ -194,4 +195,4 @@ returns-in-Err-Memory-clause-cause g c image fixed =
     let first = first_fits gate c.args.generation image c.in_ok-page.page c.in-Some.body.now c.in-Ok.restoring same c.in-Some.ensures c.in-Ok.ensures.0 c.in-Ok.ensures.1 in
     let all = c.in_ok-look_at_further_bodies.ensures.cause image gate place one.fixed first in
     let state = c.in-Err-Memory.ensures.memory (ap Err c.in-Err-Memory.field-0-is) in
-    (state.0, record { bytes = _; fit = all; state = state.1 })
+    (state.0, are_of gate c.args.generation state.0 _ image all state.1)
