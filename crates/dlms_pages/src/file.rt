@@ -2,6 +2,7 @@
 ghost use Rattle.std.specs.Prelude.{◌≡◌, ◌<◌, ◌≤◌, ◌^◌, true, false, length, replicate, slice_index_or, slice_set, IfOk, IfSome, OnErr, OnOk};
 ghost use Rattle.dlms_pages.specs.Asked.{AsksAll, sync_calls, written_again};
 
+use crate::folder::sync_folder;
 use crate::lock::LockFile;
 use crate::seal::{SLOT, opened, sealed};
 use crate::slot_file::SlotFile;
@@ -11,7 +12,6 @@ use std::fs::{File, Files, OpenFile, OpenOptions};
 use std::io;
 use std::io::{Read, Seek, Write};
 use std::marker::Model;
-use std::path::Path;
 
 /// Pages in a file. Page `i` stands at byte `544 * i`: its 512 bytes, and the SHA-256 of `i` (two bytes, the high one
 /// first) and of those 512. A part that the file lacks, or that does not match, reads as damaged.
@@ -237,15 +237,6 @@ fn settle<F: SlotFile>(file: &mut F, pages: &[Option<[u8; 512]>], behind: bool) 
         write_again(file, pages)?;
     }
     file.sync()
-}
-
-/// Makes the name of a new file outlast a stop.
-fn sync_folder<R: Files>(rt: &R, path: &str) -> io::Result<()> {
-    let folder = match Path::new(path).parent() {
-        Some(folder) if !folder.as_str().is_empty() => folder,
-        _ => Path::new("."),
-    };
-    OpenOptions::new().read(true).open(rt, folder)?.sync_all()
 }
 
 /// Writes again what was written.

@@ -3,6 +3,7 @@
 
 mod device;
 mod file;
+mod folder;
 mod history;
 pub mod laws;
 mod lock;
@@ -15,6 +16,7 @@ mod slot_file;
 
 pub use device::{DeviceFault, PageRead, Pages};
 pub use file::FilePages;
+pub use folder::sync_folder;
 pub use lock::LockFile;
 pub use memory::{Call, MemoryPages};
 pub use pick::{Choice, Pick};

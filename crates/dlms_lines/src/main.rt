@@ -1,0 +1,105 @@
+//! Polls meters over lines in memory that lose frames, cut them, send them twice and give their bytes in other pieces; and over
+//! a socket of this machine, into a file.
+#![tactic(auto)]
+
+mod site;
+mod wire;
+
+use anyhow::Result;
+use dlms_loopback::loopback;
+use site::{Ended, ended_by};
+use std::alloc::Global;
+use std::io;
+use std::process::ExitCode;
+use wire::{Fate, Pieces};
+
+/// The rows of the meter whose line loses frames.
+const ROWS: u32 = 40;
+
+/// More than the frames of its poll.
+const FRAMES: u32 = 40;
+
+/// How many polls were as expected, and how many were not.
+#[derive(Clone, Copy, Debug, PartialEq, Eq)]
+struct Tally {
+    right: u32,
+    wrong: u32,
+}
+
+impl Tally {
+    fn count(&mut self, is_right: bool) {
+        if is_right {
+            self.right = self.right.saturating_add(1);
+        } else {
+            self.wrong = self.wrong.saturating_add(1);
+        }
+    }
+}
+
+/// Polls on which each frame of the run in turn is lost, with so many behind it.
+fn losses(alloc: Global, count: u32, expected: Ended) -> Result<Tally> {
+    let mut tally = Tally { right: 0, wrong: 0 };
+    for first in 0..FRAMES {
+        let ended = ended_by(alloc, ROWS, Fate::Lost(first, count), Pieces::Joined)?;
+        if let Some(ended) = ended {
+            tally.count(ended == expected);
+        }
+    }
+    Ok(tally)
+}
+
+/// Polls on which the last byte of each frame in turn is missing.
+fn cuts(alloc: Global) -> Result<Tally> {
+    let mut tally = Tally { right: 0, wrong: 0 };
+    for number in 0..FRAMES {
+        for pieces in [Pieces::Joined, Pieces::Single] {
+            if let Some(ended) = ended_by(alloc, ROWS, Fate::Cut(number), pieces)? {
+                tally.count(ended == Ended::Done);
+            }
+        }
+    }
+    Ok(tally)
+}
+
+/// Polls of no rows, of one, of forty, and of a full buffer, on lines that lose nothing.
+fn wholes(alloc: Global) -> Result<Tally> {
+    let mut tally = Tally { right: 0, wrong: 0 };
+    for rows in [0, 1, ROWS, 960, 1000] {
+        for fate in [Fate::Whole, Fate::Twice] {
+            for pieces in [Pieces::Joined, Pieces::Single] {
+                let ended = ended_by(alloc, rows, fate, pieces)?;
+                tally.count(ended.unwrap_or(Ended::Done) == Ended::Done);
+            }
+        }
+    }
+    Ok(tally)
+}
+
+fn report<R: Print>(rt: &R, what: &str, tally: Tally) -> io::Result<u32> {
+    println!(rt; "{what}: {} as expected, {} not", tally.right, tally.wrong)?;
+    Ok(tally.wrong)
+}
+
+fn run<R: Print + AllocGlobal>(rt: &R) -> Result<u32> {
+    let alloc = rt.alloc();
+    let mut wrong = report(rt, "whole lines", wholes(alloc)?)?;
+    for count in 1..=3u32 {
+        let tally = losses(alloc, count, Ended::Done)?;
+        wrong = wrong.saturating_add(report(rt, "frames lost, and repeated", tally)?);
+    }
+    let tally = losses(alloc, 4, Ended::Line)?;
+    wrong = wrong.saturating_add(report(rt, "four frames lost in a row", tally)?);
+    let tally = cuts(alloc)?;
+    Ok(wrong.saturating_add(report(rt, "frames cut short", tally)?))
+}
+
+fn main(rt: HostRuntime) -> Result<ExitCode> {
+    let differing = run(&rt)?;
+    let mut told = None;
+    let looped = loopback(&rt, None, 2, &mut io::writer(&rt), &mut told);
+    if differing == 0 && looped.is_ok() {
+        Ok(ExitCode::SUCCESS)
+    } else {
+        Ok(ExitCode::from(1))
+    }
+}

@@ -1,0 +1,172 @@
+//! The loopback: a meter in memory, polled over a socket, and its readings filed.
+use crate::fault::LoopFault;
+use crate::filing::{file_text, filed_text};
+use crate::polling::poll;
+use crate::socket::{Line, ends};
+use arrayvec::ArrayVec;
+use dlms_data::LAST_SECOND;
+use dlms_frame::Client;
+use dlms_headend::{Plan, PollFault, Poller, Readings};
+use dlms_meter::Meter;
+use dlms_pages::{MemoryPages, Pick};
+use dlms_store::PAGES;
+use std::alloc::Global;
+use std::fs::Files;
+use std::io;
+use std::io::{Read, Write};
+use std::net::Net;
+
+/// Management's first secret.
+const SECRET: &[u8] = b"12345678";
+
+/// The seconds of a new meter's capture period.
+const PERIOD: u32 = 900;
+
+/// A meter over pages in memory.
+type MemoryMeter = Meter<MemoryPages<Global>, Global>;
+
+/// What was read so far, the file that it stands in, and what the system said where that file failed.
+#[derive(Drop)]
+struct Filed<'a> {
+    readings: Readings,
+    path: Option<&'a str>,
+    told: &'a mut Option<io::Error>,
+}
+
+/// Keeps what the system says of the file.
+fn tell<T: Drop>(told: &mut Option<io::Error>, outcome: io::Result<T>) -> Result<T, LoopFault> {
+    match outcome {
+        Ok(value) => Ok(value),
+        Err(e) => {
+            *told = Some(e);
+            Err(LoopFault::from(e))
+        }
+    }
+}
+
+/// The readings that the file holds; none where no file is named.
+fn opened<R: Files + AllocGlobal>(
+    rt: &R,
+    path: Option<&str>,
+    told: &mut Option<io::Error>,
+) -> Result<Readings, LoopFault> {
+    let Some(path) = path else {
+        return Ok(Readings::open(rt.alloc(), "")?);
+    };
+    let text = tell(told, filed_text(rt, path))?;
+    Ok(Readings::open(rt.alloc(), text.as_str())?)
+}
+
+impl Filed<'_> {
+    /// Puts the readings in the place of the file's.
+    fn keep<R: Files + AllocGlobal>(&mut self, rt: &R) -> Result<(), LoopFault> {
+        let Some(path) = self.path else {
+            return Ok(());
+        };
+        let text = self.readings.text()?;
+        tell(self.told, file_text(rt, path, text.as_str()))
+    }
+
+    /// Polls once, merges what came, and keeps it.
+    fn read<R: Files + AllocGlobal, S: Read + Write>(
+        &mut self,
+        rt: &R,
+        line: &mut Line<S>,
+        meter: &mut MemoryMeter,
+    ) -> Result<(), LoopFault> {
+        let poller = poller(rt.alloc(), self.readings.last())?;
+        let done = poll(&mut line.head, &mut line.tail, meter, poller)?;
+        let _added = self.readings.merge(done.rows())?;
+        self.keep(rt)
+    }
+
+    /// Writes the readings.
+    fn print<W: Write>(&self, writer: &mut W) -> Result<(), LoopFault> {
+        let text = self.readings.text()?;
+        writer.write_all(text.as_bytes())?;
+        writer.flush()?;
+        Ok(())
+    }
+}
+
+/// A new meter with 42 pulses on channel 0 and two captures.
+fn new_meter(alloc: Global) -> Result<MemoryMeter, LoopFault> {
+    let pages = MemoryPages::new(alloc, PAGES)?;
+    let mut meter = match Meter::format(alloc, pages) {
+        Ok(meter) => meter,
+        Err((_, fault)) => return Err(LoopFault::Open(fault)),
+    };
+    meter.pulses(0, 42)?;
+    meter.moment(PERIOD)?;
+    meter.moment(2 * PERIOD)?;
+    Ok(meter)
+}
+
+/// The meter as it comes back from a stop of the power, with one more pulse and one more capture.
+fn stopped(alloc: Global, meter: MemoryMeter, round: u8) -> Result<MemoryMeter, LoopFault> {
+    let mut meter = match Meter::recover(alloc, meter.close().cut(Pick::AllOld)) {
+        Ok(meter) => meter,
+        Err((_, fault)) => return Err(LoopFault::Open(fault)),
+    };
+    meter.pulses(0, 1)?;
+    meter.moment((2 + u32::from(round)) * PERIOD)?;
+    Ok(meter)
+}
+
+/// A poll by management, from the last row's second on.
+fn poller(alloc: Global, after: Option<u32>) -> Result<Poller, LoopFault> {
+    if let Some(second) = after {
+        if LAST_SECOND < second {
+            return Err(LoopFault::Poll(PollFault::Protocol));
+        }
+    }
+    let mut secret = ArrayVec::new();
+    let _fits = secret.try_extend_from_slice(SECRET);
+    let plan = Plan {
+        client: Client::Management,
+        secret,
+        after,
+    };
+    Ok(Poller::new(alloc, plan))
+}
+
+/// Polls, and so many times more, each time behind a stop of the meter.
+fn rounds<R: Files + AllocGlobal, S: Read + Write>(
+    rt: &R,
+    filed: &mut Filed<'_>,
+    line: &mut Line<S>,
+    meter: MemoryMeter,
+    stops: u8,
+) -> Result<(), LoopFault> {
+    let mut meter = meter;
+    filed.read(rt, line, &mut meter)?;
+    for round in 1..=stops {
+        meter = stopped(rt.alloc(), meter, round)?;
+        filed.read(rt, line, &mut meter)?;
+    }
+    Ok(())
+}
+
+/// Polls a new meter in memory over TCP, and prints the readings. The meter has 42 pulses on channel 0 and captures at 900 and
+/// 1800 seconds. Where a file is named its readings come first, and they and what is new stand in it after each poll that is
+/// done. So many times then the meter is stopped, what it has not synced is lost, it comes back, gets one more pulse and one
+/// more capture, and is polled again. The file is read before anything else is done. Where the file is what failed, `told` gets
+/// what the system says of it.
+pub fn loopback<R: Net + Files + AllocGlobal, W: Write>(
+    rt: &R,
+    file: Option<&str>,
+    stops: u8,
+    writer: &mut W,
+    told: &mut Option<io::Error>,
+) -> Result<(), LoopFault> {
+    let readings = opened(rt, file, told)?;
+    let meter = new_meter(rt.alloc())?;
+    let mut line = ends(rt)?;
+    let mut filed = Filed {
+        readings,
+        path: file,
+        told,
+    };
+    rounds(rt, &mut filed, &mut line, meter, stops)?;
+    filed.print(writer)
+}
