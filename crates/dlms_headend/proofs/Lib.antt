@@ -6,3 +6,4 @@ pub mod HeardLemmas
 pub mod TalkLemmas
 pub mod Told
 pub mod PollLemmas
+pub mod Running

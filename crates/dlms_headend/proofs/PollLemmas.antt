@@ -1,5 +1,5 @@
 -- A poll over the client's link.
-use Rattle.std.proofs.Common.{Result, refl, sym, ap, subst, ◌∙◌, ◌≡◌, ℕ, List, Bool, true, false, inl, inr, if◌then◌else◌}
+use Rattle.std.proofs.Common.{Result, Ok, Err, IfErr, refl, sym, ap, subst, ◌∙◌, ◌≡◌, ℕ, List, [], ◌∷◌, ◌++◌, Bool, true, false, inl, inr, if◌then◌else◌}
 use Rattle.dlms_frame.specs.Frame.{Parts}
 use Rattle.dlms_blocks.specs.Joining.{Joining}
 use Rattle.dlms_link.specs.Client.{ClientRecord, IsIdle, client_step, on_control, on_counted, on_ua, is_answer}
@@ -16,10 +16,11 @@ use Rattle.dlms_headend.specs.declared.stage.Stage.TheVariants.{Associating, Get
 use Rattle.dlms_headend.specs.Asking.{PlanValue}
 use Rattle.dlms_headend.specs.Poll.{Asks, associates, gets, goes_on, releases, HasReleased}
 use Rattle.dlms_headend.specs.TalkValue.{TalkValue}
-use Rattle.dlms_headend.specs.Talk.{FitsAt, FitsTalk, CanTake}
-use Rattle.dlms_headend.specs.Polling.{IsGet, IsDue, IsGetting, Goes, asks, leaves, StandsAt, WantsRequest, FitsIn, Fits, SendsOn, IsDone, GoesDown, PollsBy, PollsIn, Polls}
+use Rattle.dlms_headend.specs.Talk.{FitsAt, FitsTalk, CanTake, IsGetting}
+use Rattle.dlms_headend.specs.Polling.{IsGet, IsDue, Goes, asks, leaves, StandsAt, WantsRequest, FitsIn, Fits, SendsOn, Continues, Answers, IsDone, GoesDown, PollsBy, PollsIn, Polls, with_link}
 use Rattle.dlms_headend.specs.PollerValue.{PollerValue}
 use Rattle.dlms_headend.specs.declared.step.PollStep.{PollStep}
+use Rattle.dlms_headend.specs.declared.step.PollStep.TheVariants as step
 use Rattle.dlms_headend.specs.declared.poll_fault.PollFault.{PollFault}
 use Rattle.dlms_headend.proofs.Told.{stage_told}
 use Rattle.dlms_headend.specs.declared.stage.Course.{Course}
@@ -136,14 +137,32 @@ opened_sends_on p u new apdus stage frame same running idle h at_stage d plan co
     let here : IsDue p.plan p.talk.stage p.link frame new.link = subst (λ (x : PollerValue). IsDue x.plan x.talk.stage x.link frame new.link) same there in
     sends_on p new apdus frame running idle h here (plan ∙ ap (λ (x : PollerValue). x.plan) same) (course ∙ ap (λ (x : PollerValue). x.course) same) (talk ∙ ap (λ (x : PollerValue). x.talk) same)
 
+-- an APDU was taken, and the poll goes on or fails for want of memory
+pub took : (at mid new : PollerValue) (apdus : List (List ℕ)) (result : Result PollStep PollFault) → mid.plan ≡ at.plan → mid.link ≡ at.link
+    → Continues mid (apdus ++ at.link.apdu ∷ []) result new → IfErr result (λ _. IsGetting mid.talk.stage) → (IsGetting mid.talk.stage → mid.talk.rows ≡ at.talk.rows) → Answers at apdus result new
+took at mid new apdus (Ok step.Nothing) plan link k getting rows = k
+took at mid new apdus (Ok step.Done) plan link k getting rows = k
+took at mid new apdus (Ok (step.Send frame)) plan link k getting rows =
+    subst (λ (c : ClientRecord). SendsOn at.plan (apdus ++ at.link.apdu ∷ []) c frame new) link
+    (subst (λ (x : PlanValue). SendsOn x (apdus ++ at.link.apdu ∷ []) mid.link frame new) plan k)
+took at mid new apdus (Err fault) plan link k getting rows = (
+  inr (k.0, k.1),
+  record {
+    course = ap (λ (p : PollerValue). p.course) k.2;
+    plan = ap (λ (p : PollerValue). p.plan) k.2 ∙ plan;
+    link = ap (λ (p : PollerValue). p.link) k.2 ∙ link;
+    rows = ap (λ (p : PollerValue). p.talk.rows) k.2 ∙ rows getting;
+  },
+)
+
 -- ---- the poll is done where its list says so
 
 pub done_where : (old new : PollerValue) (result : Result PollStep PollFault) (f : Parts) (apdus : List (List ℕ)) (rows : List Row) → Polls apdus f old result new → Fits old apdus → old.course ≡ Running → HasReleased apdus rows
-    → (client_step old.link f).1 ≡ out.Down → IsDone old result new × (new.talk.rows ≡ rows)
+    → (client_step old.link f).1 ≡ out.Down → IsDone (with_link old (client_step old.link f).0) result new × (new.talk.rows ≡ rows)
 done_where old new result f apdus rows polls h running k e =
     let fits : FitsIn Running old apdus = subst (λ (course : Course). FitsIn course old apdus) running h in
     let here : PollsIn Running apdus f old result new = subst (λ (course : Course). PollsIn course apdus f old result new) running polls in
     let down : PollsBy out.Down (client_step old.link f).0 apdus old result new = subst (λ (o : ClientOut). PollsBy o (client_step old.link f).0 apdus old result new) e here in
     let told = stage_told old.talk.stage old.talk.blocks old.talk.rows rows apdus fits.0 k in
-    let is_done : GoesDown Leaving old result new = subst (λ (stage : Stage). GoesDown stage old result new) told.0 down in
-    (is_done, ap (λ (t : TalkValue). t.rows) is_done.talk ∙ told.1)
+    let is_done : GoesDown Leaving (with_link old (client_step old.link f).0) result new = subst (λ (stage : Stage). GoesDown stage (with_link old (client_step old.link f).0) result new) told.0 down in
+    (is_done, ap (λ (p : PollerValue). p.talk.rows) is_done.after ∙ told.1)

@@ -8,12 +8,12 @@ use Rattle.dlms_apdu.specs.Reading.{response_at}
 use Rattle.dlms_blocks.specs.Joining.{Joining, empty}
 use Rattle.dlms_headend.specs.declared.row.Row.{Row}
 use Rattle.dlms_headend.specs.declared.stage.Stage.{Stage}
-use Rattle.dlms_headend.specs.declared.stage.Stage.TheVariants.{Getting, Releasing, Leaving}
+use Rattle.dlms_headend.specs.declared.stage.Stage.TheVariants.{Associating, Getting, Releasing, Leaving}
 use Rattle.dlms_headend.specs.declared.poll_fault.PollFault.{PollFault}
 use Rattle.dlms_headend.specs.declared.poll_fault.PollFault.TheVariants.{Refused, Result as BadResult, Line, Protocol, Memory}
 use Rattle.dlms_headend.specs.Heard.{joined_on, FailsOrWants}
 use Rattle.dlms_headend.specs.TalkValue.{TalkValue}
-use Rattle.dlms_headend.specs.Talk.{FitsAt, FitsTalk, Ends}
+use Rattle.dlms_headend.specs.Talk.{FitsAt, FitsTalk, Ends, Takes}
 use Rattle.dlms_headend.specs.Poll.{is_exception, DeniesBy, other_fault, is_release, Accepts, Denies, IsMore, Spells, AreBlocks, HasBlocks, denied, unanswered, unreleased}
 
 -- one more block
@@ -36,20 +36,22 @@ blocks_append apdus taken joined bytes apdu h m = record {
 }
 
 -- the association is accepted
-pub accepted : (apdus : List (List ℕ)) (apdu : List ℕ) (blocks : Joining) (rows : List Row) → apdus ≡ [] → blocks ≡ empty → Accepts apdu → FitsAt (Getting 0) blocks rows (apdus ++ apdu ∷ [])
-accepted apdus apdu blocks rows none fresh h =
+pub accepted : (apdus : List (List ℕ)) (apdu : List ℕ) (blocks : Joining) (rows : List Row) → apdus ≡ [] → blocks ≡ empty → rows ≡ [] → Accepts apdu → FitsAt (Getting 0) blocks rows (apdus ++ apdu ∷ [])
+accepted apdus apdu blocks rows none fresh no_rows h =
     let none_joined : blocks.joined ≡ [] = ap (λ (j : Joining). j.joined) fresh in (
       record { response = apdu; blocks = []; are = ap (λ (l : List (List ℕ)). l ++ apdu ∷ []) none; accepts = h; come = (refl, none_joined) },
       record { count = ap (λ (j : Joining). j.taken) fresh; open_end = ap (λ (j : Joining). j.over) fresh },
+      no_rows,
     )
 
 -- a block
-pub block_taken : (apdus : List (List ℕ)) (apdu bytes : List ℕ) (taken number : ℕ) (old new : Joining) (old_rows rows : List Row) → FitsAt (Getting taken) old old_rows apdus → number ≡ taken + 1 → IsMore taken apdu bytes
+pub block_taken : (apdus : List (List ℕ)) (apdu bytes : List ℕ) (taken number : ℕ) (old new : Joining) (rows : List Row) → FitsAt (Getting taken) old rows apdus → number ≡ taken + 1 → IsMore taken apdu bytes
     → new ≡ joined_on old taken bytes → FitsAt (Getting number) new rows (apdus ++ apdu ∷ [])
-block_taken apdus apdu bytes taken number old new old_rows rows h count more joined =
+block_taken apdus apdu bytes taken number old new rows h count more joined =
     let joins : new.joined ≡ old.joined ++ bytes = ap (λ (j : Joining). j.joined) joined in (
       rw (count, joins) (blocks_append apdus taken old.joined bytes apdu h.0 more),
       record { count = ap (λ (j : Joining). j.taken) joined ∙ sym count; open_end = ap (λ (j : Joining). j.over) joined },
+      h.2,
     )
 
 -- the rows
@@ -80,7 +82,7 @@ ends_denied apdus apdu Line none h = denied none h
 ends_denied apdus apdu Protocol none h = denied none h
 
 pub get_ends : (apdus : List (List ℕ)) (apdu : List ℕ) (taken : ℕ) (old : Joining) (rows : List Row) (fault : PollFault) → FitsAt (Getting taken) old rows apdus → FailsOrWants taken old.joined (response_at apdu) fault → Ends apdus apdu fault
-get_ends apdus apdu taken old rows Memory h k = k
+get_ends apdus apdu taken old rows Memory h k = record { taken = taken; joined = old.joined; blocks = h.0; needs = k }
 get_ends apdus apdu taken old rows (Refused diagnostic) h k = unanswered taken old.joined h.0 k
 get_ends apdus apdu taken old rows (BadResult code) h k = unanswered taken old.joined h.0 k
 get_ends apdus apdu taken old rows Line h k = unanswered taken old.joined h.0 k
@@ -105,3 +107,10 @@ getting_opened t u apdus taken same h e = rw same (fits_getting t apdus taken h 
 
 pub releasing_opened : (t u : TalkValue) (apdus : List (List ℕ)) → u ≡ t → FitsTalk t apdus → u.stage ≡ Releasing → FitsAt Releasing u.blocks u.rows apdus
 releasing_opened t u apdus same h e = fits_releasing u apdus (subst (λ (x : TalkValue). FitsTalk x apdus) (sym same) h) e
+
+-- the association is denied
+pub denied_taken : (t : TalkValue) (apdus : List (List ℕ)) (apdu : List ℕ) (result : Result (Unit {0}) PollFault) (fault : PollFault) → result ≡ Err fault → t.stage ≡ Associating → FitsTalk t apdus → Denies apdu fault
+    → Takes t apdus apdu result t
+denied_taken t apdus apdu result fault is at fits denies =
+    let here : FitsAt Associating t.blocks t.rows apdus = subst (λ (stage : Stage). FitsAt stage t.blocks t.rows apdus) at fits in
+    subst (λ (r : Result (Unit {0}) PollFault). Takes t apdus apdu r t) (sym is) (ends_denied apdus apdu fault here.0 denies, refl)

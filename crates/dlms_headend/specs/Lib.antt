@@ -10,3 +10,4 @@ pub mod TalkValue
 pub mod Talk
 pub mod PollerValue
 pub mod Polling
+pub mod PollRun

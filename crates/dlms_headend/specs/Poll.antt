@@ -78,11 +78,11 @@ FailsBy taken joined read fault = (fault ≡ Protocol) × IsNeither taken joined
 abbrev pub Fails : ℕ → List ℕ → List ℕ → PollFault → Type 0
 Fails taken joined apdu fault = FailsBy taken joined (response_at apdu) fault
 
--- memory may be wanting for data and for a block
-abbrev pub NeedsBy : Result ResponseForm Refusal → Type 0
-NeedsBy (Ok (get_data invoke v)) = Unit {0}
-NeedsBy (Ok (get_block invoke last number raw)) = Unit {0}
-NeedsBy _ = ⊥
+-- Memory may be wanting for data, where no block came before, and for a block with the next number.
+abbrev pub NeedsBy : ℕ → Result ResponseForm Refusal → Type 0
+NeedsBy taken (Ok (get_data invoke v)) = taken ≡ 0
+NeedsBy taken (Ok (get_block invoke last number raw)) = number ≡ taken + 1
+NeedsBy taken _ = ⊥
 
 -- the answer to the release, which is any APDU that begins so
 abbrev pub is_release : List ℕ → Bool
@@ -128,6 +128,13 @@ pub data Asks (plan : PlanValue) (apdus : List (List ℕ)) (apdu : List ℕ) : T
   gets : (joined : List ℕ) → HasBlocks apdus 0 joined → IsBufferRequest plan.after apdu → Asks plan apdus apdu
   goes_on : (taken : ℕ) (joined : List ℕ) → 0 < taken → HasBlocks apdus taken joined → apdu ≡ next_bytes taken → Asks plan apdus apdu
   releases : (rows : List Row) → HasRows apdus rows → apdu ≡ release_request → Asks plan apdus apdu
+
+-- memory may be wanting for the last of these
+pub record Needs (before : List (List ℕ)) (apdu : List ℕ) : Type 0 where
+  pub taken : ℕ
+  pub joined : List ℕ
+  pub blocks : HasBlocks before taken joined
+  pub needs : NeedsBy taken (response_at apdu)
 
 -- why the last of these ends a poll that had taken the others
 pub data Refuses (before : List (List ℕ)) (apdu : List ℕ) (fault : PollFault) : Type 0 where

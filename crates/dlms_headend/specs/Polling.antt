@@ -42,12 +42,6 @@ IsDue plan (Getting taken) link frame new = (apdu : List ℕ) × IsGet plan take
 IsDue plan Releasing link frame new = Gives link release_request frame new
 IsDue plan Leaving link frame new = (frame ≡ disc_of link) × (new ≡ client_disconnect link)
 
-abbrev pub IsGetting : Stage → Type 0
-IsGetting Associating = ⊥
-IsGetting (Getting taken) = Unit {0}
-IsGetting Releasing = ⊥
-IsGetting Leaving = ⊥
-
 -- what a poll sends once it took these APDUs: the APDU that it asks, or the link's end
 pub data Goes (plan : PlanValue) (apdus : List (List ℕ)) (link : ClientRecord) (frame : Parts) (new : ClientRecord) : Type 0 where
   asks : (apdu : List ℕ) → Asks plan apdus apdu → Gives link apdu frame new → Goes plan apdus link frame new
@@ -74,13 +68,17 @@ Fits p apdus = FitsIn p.course p apdus
 
 -- ---- frames
 
--- it fails for good, and keeps its plan
-abbrev pub IsFailed : PlanValue → PollFault → PollerValue → Type 0
-IsFailed plan fault new = (new.course ≡ Failed fault) × (new.plan ≡ plan)
-
-pub record HasFailed {X : Type 0} (plan : PlanValue) (fault : PollFault) (result : Result X PollFault) (new : PollerValue) : Type 0 where
+-- it fails for good: nothing else of it changes
+pub record HasFailed {X : Type 0} (at : PollerValue) (fault : PollFault) (result : Result X PollFault) (new : PollerValue) : Type 0 where
   pub answer : result ≡ Err fault
-  pub failed : IsFailed plan fault new
+  pub after : new ≡ record at { course = Failed fault }
+
+-- it fails for good at an answer: its plan, its link and its rows stay
+pub record IsFailed (at : PollerValue) (fault : PollFault) (new : PollerValue) : Type 0 where
+  pub course : new.course ≡ Failed fault
+  pub plan : new.plan ≡ at.plan
+  pub link : new.link ≡ at.link
+  pub rows : new.talk.rows ≡ at.talk.rows
 
 -- what goes out after these APDUs, on a link that awaits nothing; the poll goes on
 pub record SendsOn (plan : PlanValue) (apdus : List (List ℕ)) (link : ClientRecord) (frame : Parts) (new : PollerValue) : Type 0 where
@@ -94,50 +92,53 @@ abbrev pub WantsRequest : List (List ℕ) → Type 0
 WantsRequest apdus = (taken : ℕ) × (joined : List ℕ) × HasBlocks apdus taken joined
 
 -- a poll goes on once it took these APDUs
-abbrev pub Continues : PlanValue → List (List ℕ) → ClientRecord → Result PollStep PollFault → PollerValue → Type 0
-Continues plan apdus link (Ok step.Nothing) new = ⊥
-Continues plan apdus link (Ok (step.Send frame)) new = SendsOn plan apdus link frame new
-Continues plan apdus link (Ok step.Done) new = ⊥
-Continues plan apdus link (Err fault) new = (fault ≡ Memory) × WantsRequest apdus × IsFailed plan fault new
+abbrev pub Continues : PollerValue → List (List ℕ) → Result PollStep PollFault → PollerValue → Type 0
+Continues at apdus (Ok step.Nothing) new = ⊥
+Continues at apdus (Ok (step.Send frame)) new = SendsOn at.plan apdus at.link frame new
+Continues at apdus (Ok step.Done) new = ⊥
+Continues at apdus (Err fault) new = (fault ≡ Memory) × WantsRequest apdus × (new ≡ record at { course = Failed fault })
 
 -- the link hands up the next APDU
-abbrev pub Answers : PlanValue → List (List ℕ) → ClientRecord → Result PollStep PollFault → PollerValue → Type 0
-Answers plan apdus link (Ok step.Nothing) new = ⊥
-Answers plan apdus link (Ok (step.Send frame)) new = SendsOn plan (apdus ++ link.apdu ∷ []) link frame new
-Answers plan apdus link (Ok step.Done) new = ⊥
-Answers plan apdus link (Err fault) new = (Ends apdus link.apdu fault ⊎ ((fault ≡ Memory) × WantsRequest (apdus ++ link.apdu ∷ []))) × IsFailed plan fault new
+abbrev pub Answers : PollerValue → List (List ℕ) → Result PollStep PollFault → PollerValue → Type 0
+Answers at apdus (Ok step.Nothing) new = ⊥
+Answers at apdus (Ok (step.Send frame)) new = SendsOn at.plan (apdus ++ at.link.apdu ∷ []) at.link frame new
+Answers at apdus (Ok step.Done) new = ⊥
+Answers at apdus (Err fault) new =
+    (Ends apdus at.link.apdu fault ⊎ ((fault ≡ Memory) × WantsRequest (apdus ++ at.link.apdu ∷ []))) × IsFailed at fault new
 
 -- the link goes down: as the poll asked for, or against it
-pub record IsDone (old : PollerValue) (result : Result PollStep PollFault) (new : PollerValue) : Type 0 where
+pub record IsDone (at : PollerValue) (result : Result PollStep PollFault) (new : PollerValue) : Type 0 where
   pub answer : result ≡ Ok step.Done
-  pub course : new.course ≡ Done
-  pub keeps : new.plan ≡ old.plan
-  pub talk : new.talk ≡ old.talk
+  pub after : new ≡ record at { course = Done }
 
 abbrev pub GoesDown : Stage → PollerValue → Result PollStep PollFault → PollerValue → Type 0
-GoesDown Associating old result new = HasFailed old.plan Protocol result new
-GoesDown (Getting taken) old result new = HasFailed old.plan Protocol result new
-GoesDown Releasing old result new = HasFailed old.plan Protocol result new
-GoesDown Leaving old result new = IsDone old result new
+GoesDown Associating at result new = HasFailed at Protocol result new
+GoesDown (Getting taken) at result new = HasFailed at Protocol result new
+GoesDown Releasing at result new = HasFailed at Protocol result new
+GoesDown Leaving at result new = IsDone at result new
+
+-- with the link as a frame leaves it
+abbrev pub with_link : PollerValue → ClientRecord → PollerValue
+with_link p link = record p { link = link }
 
 -- a frame, while these APDUs were taken, by what the link makes of it
 abbrev pub PollsBy : ClientOut → ClientRecord → List (List ℕ) → PollerValue → Result PollStep PollFault → PollerValue → Type 0
 PollsBy out.Nothing link apdus old result new = (result ≡ Ok step.Nothing) × (new ≡ old)
-PollsBy out.Up link apdus old result new = Continues old.plan apdus link result new
-PollsBy (out.Send frame) link apdus old result new = (result ≡ Ok (step.Send frame)) × (new ≡ record old { link = link }) × Fits new apdus
-PollsBy out.Apdu link apdus old result new = Answers old.plan apdus link result new
-PollsBy out.Down link apdus old result new = GoesDown old.talk.stage old result new
+PollsBy out.Up link apdus old result new = Continues (with_link old link) apdus result new
+PollsBy (out.Send frame) link apdus old result new = (result ≡ Ok (step.Send frame)) × (new ≡ with_link old link) × Fits new apdus
+PollsBy out.Apdu link apdus old result new = Answers (with_link old link) apdus result new
+PollsBy out.Down link apdus old result new = GoesDown old.talk.stage (with_link old link) result new
 
 -- a frame before the first one went out
-abbrev pub PollsEarly : ClientOut → PollerValue → Result PollStep PollFault → PollerValue → Type 0
-PollsEarly out.Nothing old result new = (result ≡ Ok step.Nothing) × (new ≡ old)
-PollsEarly out.Up old result new = HasFailed old.plan Protocol result new
-PollsEarly (out.Send frame) old result new = HasFailed old.plan Protocol result new
-PollsEarly out.Apdu old result new = HasFailed old.plan Protocol result new
-PollsEarly out.Down old result new = HasFailed old.plan Protocol result new
+abbrev pub PollsEarly : ClientOut → ClientRecord → PollerValue → Result PollStep PollFault → PollerValue → Type 0
+PollsEarly out.Nothing link old result new = (result ≡ Ok step.Nothing) × (new ≡ old)
+PollsEarly out.Up link old result new = HasFailed (with_link old link) Protocol result new
+PollsEarly (out.Send frame) link old result new = HasFailed (with_link old link) Protocol result new
+PollsEarly out.Apdu link old result new = HasFailed (with_link old link) Protocol result new
+PollsEarly out.Down link old result new = HasFailed (with_link old link) Protocol result new
 
 abbrev pub PollsIn : Course → List (List ℕ) → Parts → PollerValue → Result PollStep PollFault → PollerValue → Type 0
-PollsIn Ready apdus frame old result new = PollsEarly (client_step old.link frame).1 old result new
+PollsIn Ready apdus frame old result new = PollsEarly (client_step old.link frame).1 (client_step old.link frame).0 old result new
 PollsIn Running apdus frame old result new = PollsBy (client_step old.link frame).1 (client_step old.link frame).0 apdus old result new
 PollsIn Done apdus frame old result new = (result ≡ Ok step.Nothing) × (new ≡ old)
 PollsIn (Failed fault) apdus frame old result new = (result ≡ Err fault) × (new ≡ old)
@@ -157,8 +158,8 @@ Begins old result new = BeginsIn old.course old result new
 
 -- a time-out of the frame that is out
 abbrev pub TimesOutBy : ClientRecord × Option Parts → PollerValue → Result Parts PollFault → PollerValue → Type 0
-TimesOutBy (link, Some frame) old result new = (result ≡ Ok frame) × (new ≡ record old { link = link })
-TimesOutBy (link, None) old result new = HasFailed old.plan Line result new
+TimesOutBy (link, Some frame) old result new = (result ≡ Ok frame) × (new ≡ with_link old link)
+TimesOutBy (link, None) old result new = HasFailed (with_link old link) Line result new
 
 abbrev pub TimesOutIn : Course → PollerValue → Result Parts PollFault → PollerValue → Type 0
 TimesOutIn (Failed fault) old result new = (result ≡ Err fault) × (new ≡ old)

@@ -1,7 +1,6 @@
 -- Which APDUs have brought a poll where it is.
 use Rattle.std.specs.Prelude.{◌≡◌, ℕ, List, [], ◌∷◌, ◌++◌, Result, Ok, Err}
 use Rattle.dlms_blocks.specs.Joining.{Joining, empty}
-use Rattle.dlms_apdu.specs.Reading.{response_at}
 use Rattle.dlms_headend.specs.declared.row.Row.{Row}
 use Rattle.dlms_headend.specs.declared.stage.Stage.{Stage}
 use Rattle.dlms_headend.specs.declared.stage.Stage.TheVariants.{Associating, Getting, Releasing, Leaving}
@@ -9,15 +8,15 @@ use Rattle.dlms_headend.specs.declared.poll_fault.PollFault.{PollFault}
 use Rattle.dlms_headend.specs.declared.poll_fault.PollFault.TheVariants.{Refused, Result as BadResult, Line, Protocol, Memory}
 use Rattle.dlms_headend.specs.TalkValue.{TalkValue}
 use Rattle.dlms_headend.specs.Heard.{HasTaken}
-use Rattle.dlms_headend.specs.Poll.{HasBlocks, HasRows, HasReleased, Refuses, NeedsBy}
+use Rattle.dlms_headend.specs.Poll.{HasBlocks, HasRows, HasReleased, Refuses, Needs}
 
 abbrev pub fresh_talk : TalkValue
 fresh_talk = record { stage = Associating; blocks = empty; rows = [] }
 
 -- the poll waits for this after these APDUs
 abbrev pub FitsAt : Stage → Joining → List Row → List (List ℕ) → Type 0
-FitsAt Associating blocks rows apdus = (apdus ≡ []) × (blocks ≡ empty)
-FitsAt (Getting taken) blocks rows apdus = HasBlocks apdus taken blocks.joined × HasTaken blocks taken
+FitsAt Associating blocks rows apdus = (apdus ≡ []) × (blocks ≡ empty) × (rows ≡ [])
+FitsAt (Getting taken) blocks rows apdus = HasBlocks apdus taken blocks.joined × HasTaken blocks taken × (rows ≡ [])
 FitsAt Releasing blocks rows apdus = HasRows apdus rows
 FitsAt Leaving blocks rows apdus = HasReleased apdus rows
 
@@ -33,13 +32,20 @@ CanTake Leaving = ⊥
 
 -- memory was wanting, where it may be, or the APDU ends the poll
 abbrev pub Ends : List (List ℕ) → List ℕ → PollFault → Type 0
-Ends apdus apdu Memory = NeedsBy (response_at apdu)
+Ends apdus apdu Memory = Needs apdus apdu
 Ends apdus apdu (Refused diagnostic) = Refuses apdus apdu (Refused diagnostic)
 Ends apdus apdu (BadResult code) = Refuses apdus apdu (BadResult code)
 Ends apdus apdu Line = Refuses apdus apdu Line
 Ends apdus apdu Protocol = Refuses apdus apdu Protocol
 
--- what becomes of a poll with the next APDU
-abbrev pub Takes : List (List ℕ) → List ℕ → Result (Unit {0}) PollFault → TalkValue → Type 0
-Takes apdus apdu (Ok u) new = FitsTalk new (apdus ++ apdu ∷ [])
-Takes apdus apdu (Err fault) new = Ends apdus apdu fault
+-- a GET is due
+abbrev pub IsGetting : Stage → Type 0
+IsGetting Associating = ⊥
+IsGetting (Getting taken) = Unit {0}
+IsGetting Releasing = ⊥
+IsGetting Leaving = ⊥
+
+-- what becomes of a poll with the next APDU; where it ends the poll, and where a GET is due, the rows stay
+abbrev pub Takes : TalkValue → List (List ℕ) → List ℕ → Result (Unit {0}) PollFault → TalkValue → Type 0
+Takes old apdus apdu (Ok u) new = FitsTalk new (apdus ++ apdu ∷ []) × (IsGetting new.stage → new.rows ≡ old.rows)
+Takes old apdus apdu (Err fault) new = Ends apdus apdu fault × (new.rows ≡ old.rows)

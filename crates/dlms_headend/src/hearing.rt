@@ -4,7 +4,7 @@ ghost use Rattle.std.specs.Prelude.{◌≡◌, ◌==◌, if◌then◌else◌, �
 ghost use Rattle.dlms_apdu.specs.Forms.{get_data, get_block};
 ghost use Rattle.dlms_blocks.specs.Joining.{Joining};
 ghost use Rattle.dlms_data.specs.View.{value_of};
-ghost use Rattle.dlms_headend.specs.declared.poll_fault.PollFault.TheVariants.{Result as BadResult, Protocol};
+ghost use Rattle.dlms_headend.specs.declared.poll_fault.PollFault.TheVariants.{Result as BadResult, Protocol, Memory};
 ghost use Rattle.dlms_headend.specs.Heard.{HasTaken, HearsBy, Hears, LastHeard};
 
 use crate::answer::EXCEPTION;
@@ -68,6 +68,17 @@ fn result_of(taken: u32, code: u8) -> PollFault
     }
 }
 
+/// There was no memory for a value: where blocks have come, none is awaited.
+fn wanting(taken: u32) -> PollFault
+    ensures { result ≡ (if taken == 0 then Memory else Protocol) }
+{
+    if taken == 0 {
+        PollFault::Memory
+    } else {
+        PollFault::Protocol
+    }
+}
+
 /// The answer to a GET, after so many blocks.
 pub fn heard<A: Allocator + Copy>(
     alloc: A,
@@ -91,7 +102,7 @@ pub fn heard<A: Allocator + Copy>(
         Ok(Response::GetBlockResult { result, .. }) => Err(PollFault::Result(result)),
         Ok(Response::Exception { .. }) => Err(PollFault::Result(EXCEPTION)),
         Ok(_) => Err(PollFault::Protocol),
-        Err(ApduFault::Memory) => Err(PollFault::Memory),
+        Err(ApduFault::Memory) => Err(wanting(taken)),
         Err(_) => Err(PollFault::Protocol),
     }
 }

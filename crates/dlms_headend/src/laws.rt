@@ -3,8 +3,16 @@
 ghost use Rattle.std.specs.Prelude.{◌≡◌, List, ℕ};
 ghost use Rattle.dlms_headend.specs.declared.row.Row.{Row};
 ghost use Rattle.dlms_headend.specs.Poll.{HasReleased};
+ghost use Rattle.dlms_headend.specs.PollRun.{CallsAreAPoll, DoneIsTold};
 
 /// The APDUs that a poll took tell its rows.
 pub fn rows_are_told()
     ensures { (apdus : List (List ℕ)) (rows more : List Row) → HasReleased apdus rows → HasReleased apdus more → rows ≡ more }
+{}
+
+/// The calls of a poller, from a new one on, in any order and with any frames, are a poll. One is done exactly where its link goes
+/// down behind an acceptance, answers that spell the rows, and the answer to the release; and it has those rows.
+pub fn calls_are_a_poll()
+    ensures run { CallsAreAPoll }
+    ensures done { DoneIsTold }
 {}

@@ -11,19 +11,19 @@ use thiserror::Error;
 #[derive(Clone, Copy, Debug, PartialEq, Eq, Error)]
 pub enum PollFault {
     /// The association was refused, with this diagnostic of the service user.
-    #[error("the association was refused with diagnostic {0}")]
+    #[error("refused {0}")]
     Refused(u8),
     /// A request got this result in place of an answer; 250 stands for an exception too.
-    #[error("a request got result {0}")]
+    #[error("result {0}")]
     Result(u8),
     /// Nobody answers: the fourth time-out in a row.
-    #[error("nobody answers")]
+    #[error("line")]
     Line,
     /// The link went down before the poll asked for that, or an answer had another form than the awaited one.
-    #[error("an answer of another form than the awaited one")]
+    #[error("protocol")]
     Protocol,
     /// A growth was refused.
-    #[error("out of memory")]
+    #[error("memory")]
     Memory,
 }
 

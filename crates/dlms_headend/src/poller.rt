@@ -1,6 +1,6 @@
 //! A poll of the load profile over the client's link.
 
-ghost use Rattle.std.specs.Prelude.{[], Ok, ◌≡◌, ◌≤◌, ◌↔◌, List, ℕ, IsTrue, IfSome, IfOk, MatchResult, length};
+ghost use Rattle.std.specs.Prelude.{[], Ok, ◌≡◌, ◌≤◌, ◌↔◌, List, ℕ, IsTrue, IfSome, IfOk, IfErr, MatchResult, length};
 ghost use Rattle.dlms_link.specs.Client.{IsIdle, client_step};
 ghost use Rattle.dlms_headend.specs.declared.poll_fault.PollFault.TheVariants.{Memory};
 ghost use Rattle.dlms_headend.specs.declared.stage.Course.TheVariants.{Ready, Running};
@@ -10,8 +10,8 @@ ghost use Rattle.dlms_headend.specs.declared.step.PollStep.TheVariants.{Done};
 ghost use Rattle.dlms_headend.specs.Poll.{HasReleased};
 ghost use Rattle.dlms_headend.specs.Asking.{association_bytes};
 ghost use Rattle.dlms_headend.specs.PollerValue.{plan_of};
-ghost use Rattle.dlms_headend.specs.Talk.{FitsTalk, CanTake};
-ghost use Rattle.dlms_headend.specs.Polling.{IsDone, fresh_poll, IsGet, IsDue, IsGetting, Fits, FitsIn, Begins, TimesOut, CanTimeOut, HasFailed, Continues, Answers, GoesDown, PollsEarly, PollsBy, Polls};
+ghost use Rattle.dlms_headend.specs.Talk.{FitsTalk, CanTake, IsGetting};
+ghost use Rattle.dlms_headend.specs.Polling.{IsDone, fresh_poll, IsGet, IsDue, Fits, FitsIn, Begins, TimesOut, CanTimeOut, HasFailed, Continues, Answers, GoesDown, PollsEarly, PollsBy, Polls, with_link};
 
 use crate::asking::{buffer_request, next_request};
 use crate::plan::Plan;
@@ -87,7 +87,7 @@ fn due<A: Allocator + Copy>(
 ) -> Result<Frame, PollFault>
     requires idle { IsIdle link.old }
     requires after { IfSome plan.now.after (λ second. second ≤ LAST_SECOND) }
-    ensures { MatchResult result (λ frame. IsDue (plan_of plan.now) stage link.old frame link.new) (λ fault. (fault ≡ Memory) × IsGetting stage) }
+    ensures { MatchResult result (λ frame. IsDue (plan_of plan.now) stage link.old frame link.new) (λ fault. (fault ≡ Memory) × IsGetting stage × (link.new ≡ link.old)) }
 {
     match stage {
         Stage::Associating => Ok(link.send(association(plan).as_slice())),
@@ -139,7 +139,7 @@ impl<A: Allocator + Copy> Poller<A> {
         ensures done { (apdus : List (List ℕ)) → Fits self.old apdus → result ≡ Ok Done → HasReleased apdus self.new.talk.rows }
         // And it is done where they are, once the link goes down.
         ensures is_done { (apdus : List (List ℕ)) (rows : List RowOf) → Fits self.old apdus → self.old.course ≡ Running → HasReleased apdus rows
-            → (client_step self.old.link frame.now).1 ≡ Down → IsDone self.old result self.new × (self.new.talk.rows ≡ rows) }
+            → (client_step self.old.link frame.now).1 ≡ Down → IsDone (with_link self.old (client_step self.old.link frame.now).0) result self.new × (self.new.talk.rows ≡ rows) }
     {
         self.turn(frame)
     }
@@ -159,7 +159,7 @@ impl<A: Allocator + Copy> Poller<A> {
 
     /// The poll fails.
     fn fail(&mut self, fault: PollFault) -> Result<PollStep, PollFault>
-        ensures { HasFailed self.old.plan fault result self.new }
+        ensures { HasFailed self.old fault result self.new }
     {
         self.course = Course::Failed(fault);
         Err(fault)
@@ -168,7 +168,7 @@ impl<A: Allocator + Copy> Poller<A> {
     /// A frame before the first one went out.
     fn early(&mut self, frame: &Frame) -> Result<PollStep, PollFault>
         requires { self.old.course ≡ Ready }
-        ensures { PollsEarly (client_step self.old.link frame.now).1 self.old result self.new }
+        ensures { PollsEarly (client_step self.old.link frame.now).1 (client_step self.old.link frame.now).0 self.old result self.new }
     {
         match self.link.on(frame) {
             ClientOut::Nothing => Ok(PollStep::Nothing),
@@ -195,7 +195,8 @@ impl<A: Allocator + Copy> Poller<A> {
     fn go_on(&mut self) -> Result<PollStep, PollFault>
         requires running { self.old.course ≡ Running }
         requires idle { IsIdle self.old.link }
-        ensures { (apdus : List (List ℕ)) → FitsTalk self.old.talk apdus → Continues self.old.plan apdus self.old.link result self.new }
+        ensures continues { (apdus : List (List ℕ)) → FitsTalk self.old.talk apdus → Continues self.old apdus result self.new }
+        ensures getting { IfErr result (λ _. IsGetting self.old.talk.stage) }
     {
         match due(self.alloc, &self.plan, &mut self.link, self.talk.stage()) {
             Ok(frame) => Ok(PollStep::Send(frame)),
@@ -208,7 +209,7 @@ impl<A: Allocator + Copy> Poller<A> {
         requires running { self.old.course ≡ Running }
         requires idle { IsIdle self.old.link }
         ensures { (apdus : List (List ℕ)) → FitsTalk self.old.talk apdus → CanTake self.old.talk.stage
-            → Answers self.old.plan apdus self.old.link result self.new }
+            → Answers self.old apdus result self.new }
     {
         match self.talk.take(self.link.apdu()) {
             Ok(()) => self.go_on(),

@@ -11,10 +11,10 @@ use thiserror::Error;
 #[derive(Clone, Copy, Debug, PartialEq, Eq, Error)]
 pub enum ReadingsFault {
     /// The line of this number, counted from 1, is the first that has not the form of a line.
-    #[error("line {0} is no row")]
+    #[error("line {0}")]
     Line(usize),
     /// A growth was refused.
-    #[error("out of memory")]
+    #[error("memory")]
     Memory,
 }
 

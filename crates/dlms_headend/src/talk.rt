@@ -58,7 +58,7 @@ impl<A: Allocator + Copy> Talk<A> {
     /// An answer to a GET, after so many blocks.
     #[tactic(auto, using(crate::proofs::TalkLemmas::block_taken, crate::proofs::TalkLemmas::rows_taken, crate::proofs::TalkLemmas::get_ends))]
     fn hear(&mut self, taken: u32, apdu: &[u8]) -> Result<(), PollFault>
-        ensures { (apdus : List (List ℕ)) → FitsTalk self.old apdus → self.old.stage ≡ Getting taken → Takes apdus apdu.now result self.new }
+        ensures { (apdus : List (List ℕ)) → FitsTalk self.old apdus → self.old.stage ≡ Getting taken → Takes self.old apdus apdu.now result self.new }
     {
         match heard(self.alloc, taken, &mut self.blocks, apdu) {
             Ok(Heard::More(number)) => {
@@ -76,14 +76,16 @@ impl<A: Allocator + Copy> Talk<A> {
 
     /// The next APDU.
     pub fn take(&mut self, apdu: &[u8]) -> Result<(), PollFault>
-        ensures { (apdus : List (List ℕ)) → FitsTalk self.old apdus → CanTake self.old.stage → Takes apdus apdu.now result self.new }
+        ensures { (apdus : List (List ℕ)) → FitsTalk self.old apdus → CanTake self.old.stage → Takes self.old apdus apdu.now result self.new }
     {
         match self.stage {
-            Stage::Associating => {
-                associated(apdu)?;
-                self.stage = Stage::Getting(0);
-                Ok(())
-            }
+            Stage::Associating => match associated(apdu) {
+                Ok(()) => {
+                    self.stage = Stage::Getting(0);
+                    Ok(())
+                }
+                Err(fault) => Err(fault),
+            },
             Stage::Getting(taken) => self.hear(taken, apdu),
             Stage::Releasing => match released(apdu) {
                 Ok(()) => {

@@ -1,21 +1,69 @@
 -- What is made of an answer before it goes out.
-use Rattle.std.proofs.Common.{◌≡◌, ◌⊎◌, inl, inr, Bool, true, false, List, [], ◌∷◌, refl, if◌then◌else◌, is_ok, Result, Ok, Err}
+use Rattle.std.proofs.Common.{arith, ◌≡◌, ◌≤◌, ◌∙◌, ◌⊎◌, sym, ap, subst, inl, inr, ℕ, length, None, Bool, true, false, List, [], ◌∷◌, refl, if◌then◌else◌, is_ok, Result, Ok, Err}
 use Rattle.dlms_pages.specs.declared.device.Pages.{Ghosts}
+use Rattle.dlms_pages.specs.Device.{Rose}
+use Rattle.dlms_state.specs.Types.{FitsType}
 use Rattle.dlms_state.specs.declared.event.Event.{Event}
+use Rattle.dlms_state.specs.declared.event.Event.TheVariants.{Pulses, Moment, SetTime, Shift, AdjustMinute, SetPeriod, SetText, SetSecret, ResetRegister, ResetProfile, Capture}
+use Rattle.dlms_store.specs.Store.{AddIsExhausted, CommitIsExhausted, IsStopped, JoinsPending, records_in, refusal_in, view_of}
 use Rattle.dlms_store.specs.World.{World as StoreWorld, Step as StoreStep}
 use Rattle.dlms_store.specs.World.Step.{Settles, Fails as Fault, Refuses}
-use Rattle.dlms_store.specs.Going.{Knows, Goes, AddGoes, HasCause}
+use Rattle.dlms_store.specs.Going.{Knows, Goes, AddGoes}
 use Rattle.dlms_store.specs.Fitting.{commit_step}
 use Rattle.dlms_store.specs.declared.fault.AddFault.{AddFault}
 use Rattle.dlms_store.specs.declared.fault.AddFault.TheVariants as add
 use Rattle.dlms_store.specs.declared.fault.StoreFault.{StoreFault}
 use Rattle.dlms_store.specs.declared.fault.StoreFault.TheVariants as commit
 use Rattle.dlms_store.specs.declared.store.Store.{Store}
-use Rattle.dlms_store.proofs.Going.{Committed, commit_goes, one_more}
-use Rattle.dlms_meter.specs.Run.{IsSettling, IsUnsettling}
+use Rattle.dlms_store.proofs.Going.{Added, Committed, commit_goes, one_more}
+use Rattle.dlms_meter.specs.Run.{IsSettling, IsUnsettling, MayFail}
 use Rattle.dlms_meter.specs.Settled.{Settled}
 
--- the step of a fault
+-- ---- why the device may fail an answer
+
+-- each event's record fits where nothing is pending
+joins_empty : {P A : Type 0} {ghosts : Ghosts P} (store : Store P A ghosts) (event : Event) → FitsType event → length (records_in store) ≡ 0 → JoinsPending store event
+joins_empty store (Pulses channel count) fits empty = omega (arith, empty)
+joins_empty store (Moment second) fits empty = omega (arith, empty)
+joins_empty store (SetTime second) fits empty = omega (arith, empty)
+joins_empty store (Shift by) fits empty = omega (arith, empty)
+joins_empty store AdjustMinute fits empty = omega (arith, empty)
+joins_empty store (SetPeriod seconds) fits empty = omega (arith, empty)
+joins_empty store (SetText text) fits empty = omega (arith, empty, fits)
+joins_empty store (SetSecret secret) fits empty = omega (arith, empty, fits)
+joins_empty store (ResetRegister channel) fits empty = omega (arith, empty)
+joins_empty store ResetProfile fits empty = omega (arith, empty)
+joins_empty store Capture fits empty = omega (arith, empty)
+
+-- an event whose record does not fit finds others pending
+others_pending : {P A : Type 0} {ghosts : Ghosts P} (store : Store P A ghosts) (event : Event) → FitsType event → AddIsExhausted store event → CommitIsExhausted store
+others_pending store event fits (no_room, exhausted) = (
+  λ none. no_room (joins_empty store event fits (ap (λ (xs : List ℕ). length xs) none)),
+  exhausted,
+)
+
+pub add_may_fail : {P A : Type 0} {ghosts : Ghosts P} (fault : AddFault) (event : Event) (old new : Store P A ghosts) → FitsType event → refusal_in old event ≡ None → Added (Err fault) event old new → MayFail old new
+add_may_fail add.Device event old new fits passes is = inl (is.device refl).cause
+add_may_fail add.Stopped event old new fits passes is = inr (inl (is.stopped.0 refl))
+add_may_fail add.Exhausted event old new fits passes is =
+    let why = is.exhausted.0 refl in
+    inr (inr (subst (λ x. CommitIsExhausted x) (sym (is.unchanged (λ e. absurd (cc e)))) (others_pending old event fits why.2)))
+add_may_fail (add.Refused cause) event old new fits passes is = absurd (cc (sym passes ∙ ((is.refused cause).0 refl).1))
+
+rose_later : (a b c : ℕ) → a ≤ b → Rose b c → Rose a c
+rose_later a b c le rose = omega (arith, le, rose)
+
+-- where the calls before it met no fault
+pub commit_may_fail : {P A : Type 0} {ghosts : Ghosts P} (fault : StoreFault) (old mid new : Store P A ghosts) → (view_of old).faults ≤ (view_of mid).faults → (IsStopped mid → IsStopped old) → Committed (Err fault) mid new
+    → MayFail old new
+commit_may_fail commit.Device old mid new before stopped is = inl (rose_later _ _ _ before (is.device refl).cause)
+commit_may_fail commit.Stopped old mid new before stopped is = inr (inl (stopped (is.stopped.0 refl)))
+commit_may_fail commit.Exhausted old mid new before stopped is =
+    let why = is.exhausted.0 refl in
+    inr (inr (subst (λ x. CommitIsExhausted x) (sym (is.unchanged (λ e. absurd (cc e)))) why.1))
+
+-- ---- the step of a fault
+
 not_taken : {P A : Type 0} {ghosts : Ghosts P} (fault : AddFault) (event : Event) (before : StoreWorld) (old new : Store P A ghosts) → AddGoes (Err fault) event before old new
     → (last : StoreStep) × (now : StoreWorld) × ((last ≡ Fault) ⊎ (last ≡ Refuses)) × Goes before (last ∷ []) now old new
 not_taken add.Device event before old new (now, goes) = (Fault, now, inl refl, goes)
@@ -23,7 +71,7 @@ not_taken add.Stopped event before old new goes = (Refuses, before, inr refl, go
 not_taken add.Exhausted event before old new goes = (Refuses, before, inr refl, goes)
 not_taken (add.Refused cause) event before old new goes = (Refuses, before, inr refl, goes)
 
-pub add_failed : {P A : Type 0} {ghosts : Ghosts P} (fault given : AddFault) (event : Event) (before : StoreWorld) (old new : Store P A ghosts) → AddGoes (Err fault) event before old new → HasCause old new
+pub add_failed : {P A : Type 0} {ghosts : Ghosts P} (fault given : AddFault) (event : Event) (before : StoreWorld) (old new : Store P A ghosts) → AddGoes (Err fault) event before old new → MayFail old new
     → Settled (Err given) before (event ∷ []) old new
 add_failed fault given event before old new goes cause =
     let last = not_taken fault event before old new goes in
@@ -42,7 +90,7 @@ commit_alone before old new knows is =
     let goes = commit_goes (Ok tt) before old new knows is in
     (Settles ∷ [], goes.0, ([], refl, refl), goes.1)
 
-pub commit_alone_failed : {P A : Type 0} {ghosts : Ghosts P} (fault : StoreFault) (given : AddFault) (before : StoreWorld) (old new : Store P A ghosts) → Knows old before → Committed (Err fault) old new → HasCause old new
+pub commit_alone_failed : {P A : Type 0} {ghosts : Ghosts P} (fault : StoreFault) (given : AddFault) (before : StoreWorld) (old new : Store P A ghosts) → Knows old before → Committed (Err fault) old new → MayFail old new
     → Settled (Err given) before [] old new
 commit_alone_failed fault given before old new knows is cause =
     let goes = commit_goes (Err fault) before old new knows is in
@@ -56,7 +104,7 @@ commit_behind event before old mid new (step, between, is_add, first) is =
     (step ∷ Settles ∷ [], goes.0, (step ∷ [], (step, is_add, refl), refl), one_more before between goes.0 (step ∷ []) Settles old mid new first goes.1)
 
 pub commit_behind_failed : {P A : Type 0} {ghosts : Ghosts P} (fault : StoreFault) (given : AddFault) (event : Event) (before : StoreWorld) (old mid new : Store P A ghosts) → AddGoes (Ok tt) event before old mid
-    → Committed (Err fault) mid new → HasCause old new → Settled (Err given) before (event ∷ []) old new
+    → Committed (Err fault) mid new → MayFail old new → Settled (Err given) before (event ∷ []) old new
 commit_behind_failed fault given event before old mid new (step, between, is_add, first) is cause =
     let last = commit_step (Err fault) in
     let goes = commit_goes (Err fault) between mid new first.knows is in
@@ -70,6 +118,6 @@ settled_ok (Ok done) before events old new ok is = is
 settled_ok (Err fault) before events old new ok is = absurd cc
 
 pub settled_err : {P A : Type 0} {ghosts : Ghosts P} (result : Result (Unit {0}) AddFault) (before : StoreWorld) (events : List Event) (old new : Store P A ghosts) → is_ok result ≡ false → Settled result before events old new
-    → (kept : Bool) × (steps : List StoreStep) × (now : StoreWorld) × IsUnsettling (if kept then events else []) steps × Goes before steps now old new × HasCause old new
+    → (kept : Bool) × (steps : List StoreStep) × (now : StoreWorld) × IsUnsettling (if kept then events else []) steps × Goes before steps now old new × MayFail old new
 settled_err (Ok done) before events old new ok is = absurd cc
 settled_err (Err fault) before events old new ok is = is

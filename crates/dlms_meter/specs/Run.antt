@@ -17,13 +17,13 @@ use Rattle.dlms_state.specs.Refusal.{refusal_after}
 use Rattle.dlms_store.specs.World.{World as StoreWorld, Step as StoreStep, Next, Run as StoreRun}
 use Rattle.dlms_store.specs.World.World.{Runs, InDoubt, Rests}
 use Rattle.dlms_store.specs.World.Step.{Settles, Fails as Fault, Refuses}
-use Rattle.dlms_store.specs.Going.{Knows, Goes, IsAdd, HasCause}
+use Rattle.dlms_store.specs.Going.{Knows, Goes, IsAdd}
 use Rattle.dlms_store.specs.declared.fault.AddFault.{AddFault}
 use Rattle.dlms_store.specs.declared.fault.AddFault.TheVariants as add
 use Rattle.dlms_store.specs.declared.store.Store.{Store}
 use Rattle.dlms_pages.specs.Device.{Rose}
 use Rattle.dlms_pages.specs.declared.device.Pages.{Ghosts}
-use Rattle.dlms_store.specs.Store.{AddIsExhausted, view_of}
+use Rattle.dlms_store.specs.Store.{AddIsExhausted, CommitIsExhausted, IsStopped, view_of}
 use Rattle.dlms_meter.specs.ClientRecord.{ClientRecord, fresh_record}
 use Rattle.dlms_meter.specs.declared.meter.Meter.{Meter}
 
@@ -270,10 +270,15 @@ pub record Stands {P A : Type 0} {ghosts : Ghosts P} (m : Meter P A ghosts) (w :
   pub own : (who : Client) → w.records who ≡ record_for m who
   pub store : Knows m.store w.store
 
+-- Why the device may fail an answer: its faults rose in these calls, or the store was stopped before them, or something is still
+-- pending that only a checkpoint could settle, and none can be made any more.
+abbrev pub MayFail : {P A : Type 0} → {ghosts : Ghosts P} → Store P A ghosts → Store P A ghosts → Type 0
+MayFail old new = Rose (view_of old).faults (view_of new).faults ⊎ IsStopped old ⊎ CommitIsExhausted new
+
 -- Want of memory may always be told; a failure of the device only for its cause.
 abbrev pub MayChoose : {P A : Type 0} → {ghosts : Ghosts P} → Store P A ghosts → Store P A ghosts → Choice → Type 0
 MayChoose old new (Served memory) = Unit {0}
-MayChoose old new (DeviceFails kept) = HasCause old new
+MayChoose old new (DeviceFails kept) = MayFail old new
 
 -- what a frame of a client led to, in its record and in the store
 pub record Handling {P A : Type 0} {ghosts : Ghosts P} (own : ClientRecord) (frame : Parts) (reply : Option (List ℕ)) (own' : ClientRecord) (before : StoreWorld) (old new : Store P A ghosts) : Type 0 where

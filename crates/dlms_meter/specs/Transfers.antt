@@ -1,20 +1,26 @@
 -- A client's APDUs in a run, and the value that goes out to it in blocks (IEC 62056-5-3: GET with datablock transfer).
-use Rattle.std.specs.Prelude.{◌≡◌, ℕ, ◌*◌, ◌-◌, Bool, true, false, ◌&&◌, ◌||◌, not, List, [], ◌∷◌, ◌++◌, take, Result, Ok}
-use Rattle.dlms_apdu.specs.Forms.{RequestForm, ResponseForm, get_normal, get_next, get_block}
+use Rattle.std.specs.Prelude.{◌≡◌, ℕ, ◌*◌, ◌-◌, Bool, true, false, ◌&&◌, ◌||◌, List, [], ◌∷◌, ◌++◌, if◌then◌else◌, length, map, take, Option, Some, None, Result, Ok}
+use Rattle.dlms_apdu.specs.Forms.{RequestForm, get_normal, get_block}
+use Rattle.dlms_apdu.specs.Forms as apdu
 use Rattle.dlms_apdu.specs.Reading.{request_at}
 use Rattle.dlms_apdu.specs.Writing.{response_bytes}
 use Rattle.dlms_apdu.specs.declared.fault.Refusal.{Refusal}
+use Rattle.dlms_data.specs.Value.{Value}
+use Rattle.dlms_data.specs.Writing.{canonical}
+use Rattle.dlms_data.specs.declared.descriptor.Descriptor.{Descriptor}
+use Rattle.dlms_frame.specs.declared.client.Client.{Client}
 use Rattle.dlms_link.specs.Server.{ServerRecord, server_on}
 use Rattle.dlms_link.specs.declared.out.LinkOut.{LinkOut}
 use Rattle.dlms_link.specs.declared.out.LinkOut.TheVariants.{Nothing, Reply, Apdu, Oversize, BadLlc, Up, Down}
-use Rattle.dlms_service.specs.Session.{SessionValue, Outcome, fresh}
-use Rattle.dlms_service.specs.Serves.{begins_with}
-use Rattle.dlms_service.specs.Shown.{in_blocks}
+use Rattle.dlms_service.specs.Session.{SessionValue, Outcome, fresh, without_get}
+use Rattle.dlms_service.specs.Shown.{IsShown, asked, in_blocks}
+use Rattle.dlms_service.specs.Stake.{tells}
 use Rattle.dlms_service.specs.declared.association.Association.{Association}
+use Rattle.dlms_state.specs.StateValue.{state_of}
 use Rattle.dlms_state.specs.declared.event.Event.{Event}
 use Rattle.dlms_meter.specs.ClientRecord.{ClientRecord}
-use Rattle.dlms_meter.specs.Run.{Choice, Served as ByChoice, DeviceFails, Does, Handled, Answered}
-use Rattle.dlms_meter.specs.Independence.{OwnTurn, Alone}
+use Rattle.dlms_meter.specs.Run.{World, Records, Turn, Choice, Does, Handled, Handles, Answered, Takes, Answers, client_at, is_same, events_of, after_turn, grown}
+use Rattle.dlms_meter.specs.Steps.{Step, Piece, Silence, Happens, Leads, Run}
 
 -- an APDU that was served, after these events, and what it led to
 pub record Served : Type 0 where
@@ -34,7 +40,7 @@ InTurn s [] s' = s' ≡ s
 InTurn s (Cleared ∷ xs) s' = InTurn (fresh s.client) xs s'
 InTurn s (Asked x ∷ xs) s' = Does x.choice x.before s x.apdu x.outcome × InTurn x.outcome.own xs s'
 
--- those of a client's turns, in their order
+-- what a frame of the client led to
 abbrev pub own_by : (choice : Choice) (E : List Event) (r : ServerRecord) (s : SessionValue) (out : LinkOut) (h : Handled) → Answered choice E r s out h → List Own
 own_by choice E r s (Up frame) h answered = Cleared ∷ []
 own_by choice E r s (Down frame) h answered = Cleared ∷ []
@@ -44,15 +50,39 @@ own_by choice E r s (Reply frame) h answered = []
 own_by choice E r s Oversize h answered = []
 own_by choice E r s BadLlc h answered = []
 
-abbrev pub own_of : (own : ClientRecord) (turns : List OwnTurn) (own' : ClientRecord) → Alone own turns own' → List Own
-own_of own [] own' alone = []
-own_of own (turn ∷ turns) own' (mid, handles, rest) =
-    own_by turn.choice turn.question.before (server_on own.link turn.question.frame).0 own.session (server_on own.link turn.question.frame).1
-    (record { own = mid; reply = turn.reply; answer = turn.answer; accepted = turn.accepted }) handles
-    ++ own_of mid turns own' rest
+-- what a turn led to, where this is its client's record behind it
+abbrev pub handled : ClientRecord → Turn → Handled
+handled own turn = record { own = own; reply = turn.reply; answer = turn.answer; accepted = turn.accepted }
 
+-- what a frame led to, if it is of the client
+abbrev pub own_here : (mine : Bool) (E : List Event) (before own : ClientRecord) (turn : Turn) → Handles turn.choice E before turn.frame (handled own turn) → List Own
+own_here true E before own turn handles =
+    own_by turn.choice E (server_on before.link turn.frame).0 before.session (server_on before.link turn.frame).1 (handled own turn) handles
+own_here false E before own turn handles = []
+
+abbrev pub own_at : (who : Client) (E : List Event) (records : Records) (turn : Turn) (from : Option Client) → Takes E records turn from → List Own
+own_at who E records turn None takes = []
+own_at who E records turn (Some other) (own, handles, same) = own_here (is_same other who) E (records other) own turn handles
+
+-- in the turns of a piece
+abbrev pub own_among : (who : Client) (w : World) (turns : List Turn) (replies : List (List ℕ)) (w' : World) → Answers w turns replies w' → List Own
+own_among who w [] replies w' answers = []
+own_among who w (turn ∷ turns) replies w' (is, rest, told, answers) =
+    own_at who (events_of w) w.records turn (client_at turn.frame.src) is.takes ++ own_among who (after_turn w turn) turns rest w' answers
+
+abbrev pub own_in : (who : Client) (w : World) (step : Step) (w' : World) → Leads w step w' → List Own
+own_in who w (Piece bytes replies) w' leads = own_among who (grown w bytes) leads.turns replies w' leads.answers
+own_in who w Silence w' leads = []
+own_in who w (Happens event outcome) w' leads = []
+
+-- in a run, in their order
+abbrev pub own_of : (who : Client) (w : World) (steps : List Step) (w' : World) → Run w steps w' → List Own
+own_of who w [] w' run = []
+own_of who w (step ∷ steps) w' (mid, leads, rest) = own_in who w step mid leads ++ own_of who mid steps w' rest
+
+-- In every run a client's APDUs are answered one after another, each from what the one before left.
 abbrev pub AreInTurn : Type 0
-AreInTurn = (own own' : ClientRecord) (turns : List OwnTurn) (alone : Alone own turns own') → InTurn own.session (own_of own turns own' alone) own'.session
+AreInTurn = (who : Client) (w w' : World) (steps : List Step) (run : Run w steps w') → InTurn (w.records who).session (own_of who w steps w' run) (w'.records who).session
 
 -- ---- one GET in blocks
 
@@ -60,52 +90,73 @@ abbrev pub is_get_normal : Result RequestForm Refusal → Bool
 is_get_normal (Ok (get_normal invoke d selector)) = true
 is_get_normal _ = false
 
--- no association request, no release and no new GET
-abbrev pub leaves_get : List ℕ → Bool
-leaves_get apdu = not (begins_with 0x60 apdu) && not (begins_with 0x62 apdu) && not (is_get_normal (request_at apdu))
+-- a block of GET with raw bytes: C4 02 invoke last number 00 ..
+abbrev pub is_block : List ℕ → Bool
+is_block answer = tells 0xC4 2 8 answer
 
-abbrev pub is_get_next : Result RequestForm Refusal → Bool
-is_get_next (Ok (get_next invoke number)) = true
-is_get_next _ = false
+-- a new GET, answered by the first block of its value
+abbrev pub begins : Served → Bool
+begins x = is_get_normal (request_at x.apdu) && is_block x.outcome.answer
 
--- the device did not fail it
-abbrev pub IsServed : Choice → Type 0
-IsServed (ByChoice memory) = Unit {0}
-IsServed (DeviceFails kept) = ⊥
+-- no other GET begins
+abbrev pub NoneBegins : List Own → Type 0
+NoneBegins [] = Unit {0}
+NoneBegins (Cleared ∷ xs) = NoneBegins xs
+NoneBegins (Asked x ∷ xs) = (begins x ≡ false) × NoneBegins xs
 
--- Nothing that drops the value that goes out: the device failed at none of its further blocks. At another request it may.
-abbrev pub LeaveGet : List Own → Type 0
-LeaveGet [] = Unit {0}
-LeaveGet (Cleared ∷ xs) = ⊥
-LeaveGet (Asked x ∷ xs) = (leaves_get x.apdu ≡ true) × (is_get_next (request_at x.apdu) ≡ true → IsServed x.choice) × LeaveGet xs
+-- the answers that are blocks
+abbrev pub blocks_in : List Own → List (List ℕ)
+blocks_in [] = []
+blocks_in (Cleared ∷ xs) = blocks_in xs
+blocks_in (Asked x ∷ xs) = if is_block x.outcome.answer then x.outcome.answer ∷ blocks_in xs else blocks_in xs
 
--- the APDUs are answered by these responses
-abbrev pub AreAnswered : List Own → List ResponseForm → Type 0
-AreAnswered [] [] = Unit {0}
-AreAnswered (Asked x ∷ xs) (form ∷ forms) = (x.outcome.answer ≡ response_bytes form) × AreAnswered xs forms
-AreAnswered _ _ = ⊥
+-- what a block tells: the request's identifier, whether it is the last, its number, and its raw bytes
+pub record Block : Type 0 where
+  pub invoke : ℕ
+  pub last : Bool
+  pub number : ℕ
+  pub raw : List ℕ
 
--- the raw bytes of a block, and whether it is the last
-abbrev pub raw_of : ResponseForm → List ℕ
-raw_of (get_block invoke last number raw) = raw
-raw_of _ = []
+abbrev pub spelled : Block → List ℕ
+spelled b = response_bytes (get_block b.invoke b.last b.number b.raw)
 
-abbrev pub is_final : ResponseForm → Bool
-is_final (get_block invoke last number raw) = last
-is_final _ = false
-
-abbrev pub joined : List ResponseForm → List ℕ
+-- the raw bytes of all, and whether the last block is among them
+abbrev pub joined : List Block → List ℕ
 joined [] = []
-joined (form ∷ forms) = raw_of form ++ joined forms
+joined (b ∷ blocks) = b.raw ++ joined blocks
 
-abbrev pub has_final : List ResponseForm → Bool
-has_final [] = false
-has_final (form ∷ forms) = is_final form || has_final forms
+abbrev pub has_last : List Block → Bool
+has_last [] = false
+has_last (b ∷ blocks) = b.last || has_last blocks
 
--- A GET is answered by the first block of an encoding, and other APDUs of that client come, none of which drops it. The raw
--- bytes of all blocks given, joined, are a beginning of that encoding, and all of it once the last block is given.
+-- A GET of the client, after these of its APDUs, which asked for an attribute: what it showed, after the events accepted
+-- before it, goes out in blocks.
+pub record GoesOut (who : Client) (s : SessionValue) (before : List Own) (x : Served) : Type 0 where
+  pub invoke : ℕ
+  pub descriptor : Descriptor
+  pub selector : Option apdu.Selection
+  pub asks : request_at x.apdu ≡ Ok (get_normal invoke descriptor selector)
+  pub session : SessionValue
+  pub in_turn : InTurn s before session
+  pub association : Association
+  pub opened : session.opened ≡ Some association
+  pub value : Value
+  pub is_shown : IsShown (state_of x.before) who descriptor (asked who association descriptor selector) (Ok value)
+  pub leads : x.outcome ≡ in_blocks (without_get session) association invoke (canonical value)
+
+-- In every run, where a GET of a client was answered by a block, and no other GET of it that was answered so came behind it:
+-- the raw bytes of the blocks that it was given, joined, are so many blocks of the encoding, at its request, of what the
+-- attribute showed then, and all of it once the last is given. Whatever else came between: other APDUs, want of memory, a
+-- device that fails, a link that goes down and comes up, frames of the other client, pulses and moments.
 abbrev pub BlocksJoin : Type 0
 BlocksJoin =
-    (s s' : SessionValue) (a : Association) (invoke : ℕ) (encoding : List ℕ) (xs : List Own) → InTurn (in_blocks s a invoke encoding).own xs s' → LeaveGet xs
-    → (first : ResponseForm) × (forms : List ResponseForm) × ((in_blocks s a invoke encoding).answer ≡ response_bytes first) × AreAnswered xs forms
-    × (n : ℕ) × (joined (first ∷ forms) ≡ take (n * (a.size - 12)) encoding) × (has_final (first ∷ forms) ≡ true → joined (first ∷ forms) ≡ encoding)
+    (who : Client) (w w' : World) (steps : List Step) (run : Run w steps w') (before behind : List Own) (x : Served) → (w.records who).session.client ≡ who
+    → own_of who w steps w' run ≡ before ++ Asked x ∷ behind → begins x ≡ true → NoneBegins behind
+    → (out : GoesOut who (w.records who).session before x) × (blocks : List Block) × (map spelled blocks ≡ blocks_in (Asked x ∷ behind))
+    × (joined blocks ≡ take (length blocks * (out.association.size - 12)) (canonical out.value)) × (has_last blocks ≡ true → joined blocks ≡ canonical out.value)
+
+-- In every run that begins without a transfer, as each does from a formatted meter and behind a recovery: no block is given where
+-- no GET began.
+abbrev pub NoBlockUnasked : Type 0
+NoBlockUnasked =
+    (who : Client) (w w' : World) (steps : List Step) (run : Run w steps w') → (w.records who).session.getting ≡ None → NoneBegins (own_of who w steps w' run) → blocks_in (own_of who w steps w' run) ≡ []

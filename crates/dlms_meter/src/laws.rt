@@ -8,7 +8,7 @@ ghost use Rattle.dlms_meter.specs.Steps.{Step, Call, Calls, Run, step_of};
 ghost use Rattle.dlms_meter.specs.Independence.{IsAlone, IsIndependent};
 ghost use Rattle.dlms_meter.specs.Lives.{RecoversInLives, NoFurtherStopInLives};
 ghost use Rattle.dlms_meter.specs.Storing.{store_steps, RecoversInRuns};
-ghost use Rattle.dlms_meter.specs.Transfers.{AreInTurn, BlocksJoin};
+ghost use Rattle.dlms_meter.specs.Transfers.{AreInTurn, BlocksJoin, NoBlockUnasked};
 
 use crate::Meter;
 use dlms_pages::Pages;
@@ -66,13 +66,11 @@ pub fn no_further_stop_matters()
 {}
 
 /// A client's APDUs in a run are answered one after another, each from what the one before left of its association and its
-/// transfers.
-pub fn apdus_are_in_turn()
-    ensures { AreInTurn }
-{}
-
-/// The blocks of one GET are blocks of the value's encoding at its request, whatever comes between them: joined, a beginning
-/// of it, and all of it once the last is given.
+/// transfers. The blocks of one GET are blocks of the encoding, at its request, of what the attribute showed then, whatever
+/// comes between them: joined, a beginning of it, and all of it once the last is given. A client without a transfer is given no
+/// block before a GET of its own.
 pub fn blocks_join()
-    ensures { BlocksJoin }
+    ensures turns { AreInTurn }
+    ensures joined { BlocksJoin }
+    ensures unasked { NoBlockUnasked }
 {}

@@ -6,7 +6,7 @@ use Rattle.dlms_frame.specs.Frame.{Parts}
 use Rattle.dlms_headend.specs.Asking.{PlanValue}
 use Rattle.dlms_headend.specs.Poll.{Asks, HasReleased}
 use Rattle.dlms_headend.specs.PollerValue.{PollerValue}
-use Rattle.dlms_headend.specs.Polling.{FitsIn, StandsAt, Goes, asks, leaves, SendsOn, HasFailed, IsFailed, GoesDown, Continues, Answers, PollsBy, PollsIn, WantsRequest, BeginsIn, TimesOutIn, TimesOutBy, CanTimeOutIn}
+use Rattle.dlms_headend.specs.Polling.{FitsIn, StandsAt, Goes, asks, leaves, SendsOn, HasFailed, GoesDown, Continues, Answers, PollsBy, PollsIn, WantsRequest, BeginsIn, TimesOutIn, TimesOutBy, CanTimeOutIn, with_link}
 use Rattle.dlms_headend.specs.Talk.{FitsAt, Ends as EndsBy, fresh_talk}
 use Rattle.dlms_headend.specs.TalkValue.{TalkValue}
 use Rattle.dlms_headend.specs.declared.poll_fault.PollFault.{PollFault}
@@ -124,11 +124,11 @@ sends w frame rest old new c taken f at free ec et idle s =
     sends_by w frame rest old new c taken f at free ec et idle s.keeps s.runs (subst (λ (x : Course). FitsIn x new taken) s.runs s.fits) s.goes
 
 -- the poll fails
-fails : (w : World) (frame : Parts) (rest : List Parts) (old new : PollerValue) (fault : PollFault) → Frame_at w frame rest old → Fails w.link.taken (reached w) fault (gives w frame) → IsFailed old.plan fault new → TurnsInto w new
-fails w frame rest old new fault at why failed = (
+fails : (w : World) (frame : Parts) (rest : List Parts) (old new : PollerValue) (fault : PollFault) → Frame_at w frame rest old → Fails w.link.taken (reached w) fault (gives w frame) → new.plan ≡ old.plan → new.course ≡ Failed fault → TurnsInto w new
+fails w frame rest old new fault at why plan course = (
   record w { link = reached w; course = Failed fault },
   FailsAt w frame rest fault at.runs at.line why,
-  failed_poller (record w { link = reached w; course = Failed fault }) new fault (failed.1 ∙ at.polls.plan) failed.0 refl,
+  failed_poller (record w { link = reached w; course = Failed fault }) new fault (plan ∙ at.polls.plan) course refl,
 )
 
 -- where the link comes up nothing was taken
@@ -142,21 +142,21 @@ wants_none : WantsRequest [] → ⊥
 wants_none (taken, joined, has) = cc
 
 up : (w : World) (frame : Parts) (rest : List Parts) (result : Result PollStep PollFault) (old new : PollerValue) (c : ClientRecord) → Frame_at w frame rest old → IsFree (gives w frame)
-    → (reached w).client ≡ c → (reached w).taken ≡ w.link.taken → w.link.taken ≡ [] → IsIdle c → Continues old.plan w.link.taken c result new → TurnsInto w new
+    → (reached w).client ≡ c → (reached w).taken ≡ w.link.taken → w.link.taken ≡ [] → IsIdle c → Continues (with_link old c) w.link.taken result new → TurnsInto w new
 up w frame rest (Ok step.Nothing) old new c at free ec et none idle k = absurd k
 up w frame rest (Ok (step.Send f)) old new c at free ec et none idle k = sends w frame rest old new c w.link.taken f at free ec et idle k
 up w frame rest (Ok step.Done) old new c at free ec et none idle k = absurd k
 up w frame rest (Err fault) old new c at free ec et none idle k = absurd (wants_none (subst WantsRequest none k.1))
 
 apdu_comes : (w : World) (frame : Parts) (rest : List Parts) (result : Result PollStep PollFault) (old new : PollerValue) (c : ClientRecord) → Frame_at w frame rest old → out.Apdu ≡ gives w frame
-    → (reached w).client ≡ c → (reached w).taken ≡ w.link.taken ++ c.apdu ∷ [] → IsIdle c → Answers old.plan w.link.taken c result new → TurnsInto w new
+    → (reached w).client ≡ c → (reached w).taken ≡ w.link.taken ++ c.apdu ∷ [] → IsIdle c → Answers (with_link old c) w.link.taken result new → TurnsInto w new
 apdu_comes w frame rest (Ok step.Nothing) old new c at is ec et idle k = absurd k
 apdu_comes w frame rest (Ok (step.Send f)) old new c at is ec et idle k = sends w frame rest old new c (w.link.taken ++ c.apdu ∷ []) f at (subst IsFree is tt) ec et idle k
 apdu_comes w frame rest (Ok step.Done) old new c at is ec et idle k = absurd k
 apdu_comes w frame rest (Err fault) old new c at is ec et idle (inl ends, failed) =
-    fails w frame rest old new fault at (subst (Fails w.link.taken (reached w) fault) is (inl (subst (λ (x : ClientRecord). EndsBy w.link.taken x.apdu fault) (sym ec) ends))) failed
+    fails w frame rest old new fault at (subst (Fails w.link.taken (reached w) fault) is (inl (subst (λ (x : ClientRecord). EndsBy w.link.taken x.apdu fault) (sym ec) ends))) failed.plan failed.course
 apdu_comes w frame rest (Err fault) old new c at is ec et idle (inr wants, failed) =
-    fails w frame rest old new fault at (subst (Fails w.link.taken (reached w) fault) is (inr (wants.0, subst WantsRequest (sym et) wants.1))) failed
+    fails w frame rest old new fault at (subst (Fails w.link.taken (reached w) fault) is (inr (wants.0, subst WantsRequest (sym et) wants.1))) failed.plan failed.course
 
 -- the link goes down
 not_leaving-a : Associating ≡ Leaving → ⊥
@@ -168,23 +168,23 @@ not_leaving-g taken e = cc
 not_leaving-r : Releasing ≡ Leaving → ⊥
 not_leaving-r e = cc
 
-down_early : (w : World) (frame : Parts) (rest : List Parts) (result : Result PollStep PollFault) (old new : PollerValue) → Frame_at w frame rest old → out.Down ≡ gives w frame
-    → ((rows : List Row) → HasReleased w.link.taken rows → ⊥) → HasFailed old.plan Protocol result new → TurnsInto w new
-down_early w frame rest result old new at is none h = fails w frame rest old new Protocol at (subst (Fails w.link.taken (reached w) Protocol) is (refl, none)) h.failed
+down_early : (w : World) (frame : Parts) (rest : List Parts) (result : Result PollStep PollFault) (old new : PollerValue) (c : ClientRecord) → Frame_at w frame rest old → out.Down ≡ gives w frame
+    → ((rows : List Row) → HasReleased w.link.taken rows → ⊥) → HasFailed (with_link old c) Protocol result new → TurnsInto w new
+down_early w frame rest result old new c at is none h = fails w frame rest old new Protocol at (subst (Fails w.link.taken (reached w) Protocol) is (refl, none)) (ap (λ (p : PollerValue). p.plan) h.after) (ap (λ (p : PollerValue). p.course) h.after)
 
-down : (w : World) (frame : Parts) (rest : List Parts) (result : Result PollStep PollFault) (old new : PollerValue) (stage : Stage) (blocks : Joining) → Frame_at w frame rest old → out.Down ≡ gives w frame
-    → (reached w).taken ≡ w.link.taken → FitsAt stage blocks old.talk.rows w.link.taken → GoesDown stage old result new → TurnsInto w new
-down w frame rest result old new Associating blocks at is et fits h =
-    down_early w frame rest result old new at is (λ rows k. absurd (not_leaving-a (stage_told Associating blocks old.talk.rows rows w.link.taken fits k).0)) h
-down w frame rest result old new (Getting taken) blocks at is et fits h =
-    down_early w frame rest result old new at is (λ rows k. absurd (not_leaving-g taken (stage_told (Getting taken) blocks old.talk.rows rows w.link.taken fits k).0)) h
-down w frame rest result old new Releasing blocks at is et fits h =
-    down_early w frame rest result old new at is (λ rows k. absurd (not_leaving-r (stage_told Releasing blocks old.talk.rows rows w.link.taken fits k).0)) h
-down w frame rest result old new Leaving blocks at is et fits h =
-    let rows : new.talk.rows ≡ old.talk.rows = ap (λ (t : TalkValue). t.rows) h.talk in (
+down : (w : World) (frame : Parts) (rest : List Parts) (result : Result PollStep PollFault) (old new : PollerValue) (c : ClientRecord) (stage : Stage) (blocks : Joining) → Frame_at w frame rest old → out.Down ≡ gives w frame
+    → (reached w).taken ≡ w.link.taken → FitsAt stage blocks old.talk.rows w.link.taken → GoesDown stage (with_link old c) result new → TurnsInto w new
+down w frame rest result old new c Associating blocks at is et fits h =
+    down_early w frame rest result old new c at is (λ rows k. absurd (not_leaving-a (stage_told Associating blocks old.talk.rows rows w.link.taken fits k).0)) h
+down w frame rest result old new c (Getting taken) blocks at is et fits h =
+    down_early w frame rest result old new c at is (λ rows k. absurd (not_leaving-g taken (stage_told (Getting taken) blocks old.talk.rows rows w.link.taken fits k).0)) h
+down w frame rest result old new c Releasing blocks at is et fits h =
+    down_early w frame rest result old new c at is (λ rows k. absurd (not_leaving-r (stage_told Releasing blocks old.talk.rows rows w.link.taken fits k).0)) h
+down w frame rest result old new c Leaving blocks at is et fits h =
+    let rows : new.talk.rows ≡ old.talk.rows = ap (λ (p : PollerValue). p.talk.rows) h.after in (
       record w { link = reached w; course = Done; rows = old.talk.rows },
       Ends w frame rest old.talk.rows at.runs at.line (sym is) fits,
-      done_poller (record w { link = reached w; course = Done; rows = old.talk.rows }) new (h.keeps ∙ at.polls.plan) h.course refl rows
+      done_poller (record w { link = reached w; course = Done; rows = old.talk.rows }) new (ap (λ (p : PollerValue). p.plan) h.after ∙ at.polls.plan) (ap (λ (p : PollerValue). p.course) h.after) refl rows
           (subst (λ l. HasReleased l new.talk.rows) (sym et) (subst (HasReleased w.link.taken) (sym rows) fits)),
     )
 
@@ -212,7 +212,7 @@ by_out w frame rest result old new c out.Up at is e stands k =
 by_out w frame rest result old new c out.Apdu at is e stands k =
     apdu_comes w frame rest result old new c at is (ap (λ (l : Link). l.client) e) (ap (λ (l : Link). l.taken) e) stands.1 k
 by_out w frame rest result old new c out.Down at is e stands k =
-    down w frame rest result old new old.talk.stage old.talk.blocks at is (ap (λ (l : Link). l.taken) e) at.polls.fits.0 k
+    down w frame rest result old new c old.talk.stage old.talk.blocks at is (ap (λ (l : Link). l.taken) e) at.polls.fits.0 k
 
 pub on_is_turn : OnIsTurn
 on_is_turn w frame rest result old new is runs line polls =
@@ -230,7 +230,7 @@ fresh_closed w p fits link = ap (λ (c : ClientRecord). c.phase) (sym link) ∙ 
 
 -- the talk has not begun
 begun : (p : PollerValue) → p.talk ≡ fresh_talk → p.link.phase ≡ Connecting → FitsIn Running p []
-begun p talk phase = (subst (λ (t : TalkValue). FitsAt t.stage t.blocks t.rows []) (sym talk) (refl, refl), subst (λ (t : TalkValue). StandsAt t.stage p.link.phase) (sym talk) (inl phase))
+begun p talk phase = (subst (λ (t : TalkValue). FitsAt t.stage t.blocks t.rows []) (sym talk) (refl, refl, refl), subst (λ (t : TalkValue). StandsAt t.stage p.link.phase) (sym talk) (inl phase))
 
 pub next_is_turn : NextIsTurn
 next_is_turn w result old new is ready begins =
@@ -280,7 +280,7 @@ late w result old new true (Some f) p runs some waits e k =
 late w result old new false v p runs some waits e k = (
   record w { link = happens w.link LineTimesOut; course = Failed Line },
   GivesUp w Line runs (ap (λ (l : Link). l.client.phase) e),
-  failed_poller (record w { link = happens w.link LineTimesOut; course = Failed Line }) new Line (k.failed.1 ∙ p.plan) k.failed.0 refl,
+  failed_poller (record w { link = happens w.link LineTimesOut; course = Failed Line }) new Line (ap (λ (x : PollerValue). x.plan) k.after ∙ p.plan) (ap (λ (x : PollerValue). x.course) k.after) refl,
 )
 
 times_out_so : (link : Link) (f : Parts) → link.client.waits ≡ Some f → link.up_line ≡ [] → link.down_line ≡ [] → happens link LineTimesOut ≡ timed_out link (client_timeout link.client)

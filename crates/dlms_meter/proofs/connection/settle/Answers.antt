@@ -4,9 +4,9 @@ use Rattle.dlms_state.specs.declared.event.Event.{Event}
 use Rattle.dlms_service.specs.Session.{listed}
 use Rattle.dlms_service.specs.Planned.{Passes}
 use Rattle.dlms_store.specs.Store.{state_in, refusal_in}
-use Rattle.dlms_store.proofs.Going.{Added, Committed, add_goes, add_cause, commit_cause}
+use Rattle.dlms_store.proofs.Going.{Added, Committed, add_goes}
 use Rattle.dlms_meter.specs.Settled.{Settled}
-use Rattle.dlms_meter.proofs.Settling.{add_failed, commit_alone, commit_alone_failed, commit_behind, commit_behind_failed}
+use Rattle.dlms_meter.proofs.Settling.{add_may_fail, commit_may_fail, add_failed, commit_alone, commit_alone_failed, commit_behind, commit_behind_failed}
 use Rattle.dlms_meter.proofs.connection.settle.Goals as goal
 use Rattle.dlms_meter.proofs.connection.settle.Goals.{in-Some+in_ok-add, in_default}
 
@@ -33,7 +33,7 @@ returns-in_err-add g c before knows =
     } in
     subst (λ r. Settled r before (listed c.args.event) store new) (sym p.1)
     (subst (λ (o : Option Event). Settled (Err p.0) before (listed o) store new) (sym c.in-Some.is)
-    (add_failed fault p.0 e before store new (add_goes (Err fault) e before store new knows added) (add_cause fault e store new passes added)))
+    (add_failed fault p.0 e before store new (add_goes (Err fault) e before store new knows added) (add_may_fail fault e store new c.fits.ensures passes added)))
 
 pub returns : goal.returns
 returns g c before knows =
@@ -112,12 +112,12 @@ returns-in_err-commit g c before knows =
           let is : Committed (Err fault) between new = subst (λ z. Committed (Err fault) z new) w.store-is committed in
           subst (λ (o : Option Event). Settled (Err p.0) before (listed o) store new) (sym w.in-Some.is)
           (commit_behind_failed fault p.0 e before store between new (add_goes (Ok tt) e before store between knows added) is
-          (commit_cause fault store between new w.add.ensures.later (λ stopped. absurd (y.runs stopped)) is))
+          (commit_may_fail fault store between new w.add.ensures.later (λ stopped. absurd (y.runs stopped)) is))
           )
       | in_default w ↦ (
           let is : Committed (Err fault) store new = subst (λ z. Committed (Err fault) z new) w.store-is committed in
           subst (λ (o : Option Event). Settled (Err p.0) before (listed o) store new) (sym w.in_default.is)
-          (commit_alone_failed fault p.0 before store new knows is (commit_cause fault store store new same (λ stopped. stopped) is))
+          (commit_alone_failed fault p.0 before store new knows is (commit_may_fail fault store store new same (λ stopped. stopped) is))
           )
     ])
   where

@@ -3,8 +3,8 @@ use Rattle.dlms_headend.specs.PollerValue.{PollerValue, plan_of}
 use Rattle.dlms_headend.proofs.PollLemmas.{opened_sends_on}
 use Rattle.dlms_headend.proofs.poller.Poller.go_on.Goals as goal
 
-pub returns-in-Ok : goal.returns-in-Ok
-returns-in-Ok g c = λ apdus h.
+pub returns-in-Ok-clause-continues : goal.returns-in-Ok-clause-continues
+returns-in-Ok-clause-continues g c = λ apdus h.
     let i = c.self.inside in
     let before : PollerValue = record { plan = plan_of i.plan; link = i.link; course = i.course; talk = i.talk } in
     let after : PollerValue = record { plan = plan_of i.plan; link = c.due.new.link; course = i.course; talk = i.talk } in
