@@ -1,4 +1,6 @@
 //! A meter with so many captures, polled over a line.
+ghost use Rattle.std.specs.Prelude.{◌≡◌, None};
+
 use crate::wire::{Fate, Pieces, Wire};
 use anyhow::{Result, anyhow};
 use arrayvec::ArrayVec;
@@ -75,7 +77,9 @@ fn has_captures(meter: &MemoryMeter, rows: u32) -> bool {
 }
 
 /// What management polls of a meter for the first time.
-fn first_plan() -> Plan {
+fn first_plan() -> Plan
+    ensures { result.after ≡ None }
+{
     let mut secret = ArrayVec::new();
     let _fits = secret.try_extend_from_slice(SECRET);
     Plan {

@@ -1,4 +1,7 @@
 //! A line in memory: it loses what is sent, sends it twice, and gives it in pieces.
+ghost use Rattle.std.specs.Prelude.{◌≤◌, length};
+
+use std::alloc::Global;
 use std::cell::RefCell;
 use std::io;
 use std::io::{ErrorKind, Read, Write};
@@ -50,7 +53,7 @@ pub struct End<'a> {
 
 impl Wire {
     /// A line on which nothing is on its way.
-    pub fn new(alloc: std::alloc::Global, fate: Fate, pieces: Pieces) -> Wire {
+    pub fn new(alloc: Global, fate: Fate, pieces: Pieces) -> Wire {
         Wire {
             fate,
             pieces,
@@ -98,6 +101,14 @@ fn arriving(fate: Fate, number: u32, frame: &[u8]) -> (&[u8], u8) {
     }
 }
 
+/// Puts bytes on their way so many times.
+fn put(way: &mut Vec<u8>, bytes: &[u8], times: u8) -> io::Result<()> {
+    for _ in 0..times {
+        way.extend_from_slice(bytes)?;
+    }
+    Ok(())
+}
+
 impl Write for End<'_> {
     fn write(&mut self, buf: &[u8]) -> io::Result<usize> {
         let Ok(mut traffic) = self.wire.traffic.try_borrow_mut() else {
@@ -105,13 +116,10 @@ impl Write for End<'_> {
         };
         let (bytes, times) = arriving(self.wire.fate, traffic.sent, buf);
         traffic.sent = traffic.sent.saturating_add(1);
-        let way = if self.is_head {
-            &mut traffic.to_meter
+        if self.is_head {
+            put(&mut traffic.to_meter, bytes, times)?;
         } else {
-            &mut traffic.to_head
-        };
-        for _ in 0..times {
-            way.extend_from_slice(bytes)?;
+            put(&mut traffic.to_head, bytes, times)?;
         }
         Ok(buf.len())
     }
@@ -122,7 +130,9 @@ impl Write for End<'_> {
 }
 
 /// Takes bytes off the front.
-fn take(way: &mut Vec<u8>, most: usize, buf: &mut [u8]) -> usize {
+fn take(way: &mut Vec<u8>, most: usize, buf: &mut [u8]) -> usize
+    ensures { result ≤ length buf.new }
+{
     let count = most.min(way.len()).min(buf.len());
     let mut taken = 0usize;
     for (to, from) in buf.iter_mut().zip(way.iter()) {
@@ -145,12 +155,12 @@ impl Read for End<'_> {
             Pieces::Joined => buf.len(),
             Pieces::Single => 1,
         };
-        let way = if self.is_head {
-            &mut traffic.to_head
+        let count = if self.is_head {
+            take(&mut traffic.to_head, most, buf)
         } else {
-            &mut traffic.to_meter
+            take(&mut traffic.to_meter, most, buf)
         };
-        match take(way, most, buf) {
+        match count {
             0 => Err(io::Error::from(ErrorKind::WouldBlock)),
             count => Ok(count),
         }
