@@ -1,5 +1,5 @@
 -- A text has one outcome, where memory is found.
-use Rattle.std.proofs.Common.{◌≡◌, ℕ, ◌+◌, ◌≤◌, List, [], ◌∷◌, ◌++◌, length, Option, Some, None, Result, Ok, Err, refl, sym, ap, subst, ◌∙◌, arith, inl, inr}
+use Rattle.std.proofs.Common.{◌≡◌, ℕ, ◌+◌, ◌≤◌, Bool, List, [], ◌∷◌, ◌++◌, length, Option, Some, None, Result, Ok, Err, refl, sym, ap, subst, ◌∙◌, arith, inl, inr}
 use Rattle.dlms_state.specs.declared.event.Event.{Event}
 use Rattle.dlms_state.specs.declared.event.Event.TheVariants.{Pulses as PulseEvent, Moment as MomentEvent}
 use Rattle.dlms_state.specs.declared.event.Refused.{Refused}
@@ -11,16 +11,16 @@ use Rattle.dlms_state.specs.StateValue.{state_of}
 use Rattle.hex.specs.Hex.{decode_of}
 use Rattle.std.specs.Str.Parse.{digits_value}
 use Rattle.dlms_program.specs.declared.orders.Order.{Order}
-use Rattle.dlms_program.specs.declared.orders.Order.TheVariants.{Skip, Feed, Pulses, Moment, Silence, Show}
+use Rattle.dlms_program.specs.declared.orders.Order.TheVariants.{Skip, Feed, Pulses, Moment, Silence, Open, Show}
 use Rattle.dlms_program.specs.Numbers.{IsNumberOf}
 use Rattle.dlms_program.specs.Orders.{SpellsBytes, SpellsMoment, SpellsPulses, Spells}
 use Rattle.dlms_program.specs.Printed.{reply_lines, state_line}
 use Rattle.dlms_meter.specs.Alike.{IsAlike}
-use Rattle.dlms_meter.specs.Run.{World, Answers, Comes, FoundMemory, Judged, events_of, grown, silent}
+use Rattle.dlms_meter.specs.Run.{World, Answers, Comes, FoundMemory, Judged, events_of, grown, recovered, silent}
 use Rattle.dlms_meter.proofs.OneOutcome.{alike_comes}
 use Rattle.dlms_meter.proofs.Events.{added_one}
-use Rattle.dlms_program.specs.Replay.{Does, IsBad, Replays, Tells, outcome_line}
-use Rattle.dlms_program.specs.Outcome.{LineFound, AllFound, IsByTable}
+use Rattle.dlms_program.specs.Replay.{Does, End, IsBad, Replays, Tells, outcome_line}
+use Rattle.dlms_program.specs.Outcome.{AlikeEnds, LineFound, AllFound, IsByTable}
 use Rattle.dlms_program.proofs.NumberLemmas.{pulses_parts, digits_no_space}
 
 -- ---- one piece of bytes
@@ -89,6 +89,7 @@ mark Feed = 62
 mark (Pulses channel count) = 80
 mark (Moment second) = 77
 mark Silence = 73
+mark Open = 79
 mark Show = 83
 
 begins : (line bytes : List ℕ) (order : Order) → Spells line bytes order → mark_of line ≡ mark order
@@ -98,6 +99,7 @@ begins line bytes Feed h = ap mark_of h.text
 begins line bytes (Pulses channel count) h = ap mark_of h.text
 begins line bytes (Moment second) h = ap mark_of h.text
 begins line bytes Silence h = ap mark_of h
+begins line bytes Open h = ap mark_of h
 begins line bytes Show h = ap mark_of h
 
 behind_two : {a b c d : ℕ} {xs ys : List ℕ} → a ∷ b ∷ xs ≡ c ∷ d ∷ ys → xs ≡ ys
@@ -127,52 +129,68 @@ one_pulses line c n d m h g =
 
 -- ---- one line
 
-same_line : (line bytes bytes' : List ℕ) (order order' : Order) (w w' a b : World) (s t : List ℕ) → IsAlike w w' → Spells line bytes order → Spells line bytes' order'
-    → (c : Does w bytes order a s) (d : Does w' bytes' order' b t) → LineFound w bytes order a s c → LineFound w' bytes' order' b t d → IsAlike a b × (s ≡ t)
-same_line line bytes bytes' Skip Skip w w' a b s t same h g c d e e' = (alike_to w w' a b same c.0 d.0, c.1 ∙ sym d.1)
-same_line line bytes bytes' Feed Feed w w' a b s t same h g (xs, comes, is) (ys, comes', is') e e' =
+same_line : (honest : Bool) (line bytes bytes' : List ℕ) (order order' : Order) (w w' a b : World) (s t : List ℕ) → IsAlike w w' → Spells line bytes order → Spells line bytes' order'
+    → (c : Does honest w bytes order a s) (d : Does honest w' bytes' order' b t) → LineFound honest w bytes order a s c → LineFound honest w' bytes' order' b t d → IsAlike a b × (s ≡ t)
+same_line honest line bytes bytes' Skip Skip w w' a b s t same h g c d e e' = (alike_to w w' a b same c.0 d.0, c.1 ∙ sym d.1)
+same_line honest line bytes bytes' Feed Feed w w' a b s t same h g (xs, comes, is) (ys, comes', is') e e' =
     let one = same_piece w w' bytes bytes' xs ys a b same (one_piece line bytes bytes' h g) comes comes' e e' in
     (one.1, is ∙ ap reply_lines one.0 ∙ sym is')
-same_line line bytes bytes' (Pulses p q) (Pulses p' q') w w' a b s t same h g c d e e' =
+same_line honest line bytes bytes' (Pulses p q) (Pulses p' q') w w' a b s t same h g c d e e' =
     let one = one_pulses line p q p' q' h g in
     same_told w w' (PulseEvent p q) (PulseEvent p' q') a b s t same (ap (λ (x : ℕ). PulseEvent x q) one.0 ∙ ap (PulseEvent p') one.1) c d e e'
-same_line line bytes bytes' (Moment m) (Moment m') w w' a b s t same h g c d e e' =
+same_line honest line bytes bytes' (Moment m) (Moment m') w w' a b s t same h g c d e e' =
     same_told w w' (MomentEvent m) (MomentEvent m') a b s t same (ap MomentEvent (one_moment line m m' h g)) c d e e'
-same_line line bytes bytes' Silence Silence w w' a b s t same h g c d e e' =
+same_line honest line bytes bytes' Silence Silence w w' a b s t same h g c d e e' =
     let quiet : IsAlike (silent w) (silent w') = record { stretch = refl; place = refl; records = same.records; events = same.events } in
     (alike_to (silent w) (silent w') a b quiet c.0 d.0, c.1 ∙ sym d.1)
-same_line line bytes bytes' Show Show w w' a b s t same h g c d e e' =
+same_line honest line bytes bytes' Open Open w w' a b s t same h g (found, finds, leads, is) (found', finds', leads', is') e e' =
+    let one : found ≡ found' = e ∙ same.events ∙ sym e' in
+    let new : IsAlike (recovered found) (recovered found') = record { stretch = refl; place = refl; records = refl; events = ap (λ (es : List Event). es ++ []) one } in
+    (alike_to (recovered found) (recovered found') a b new leads leads', is ∙ sym is')
+same_line honest line bytes bytes' Show Show w w' a b s t same h g c d e e' =
     (alike_to w w' a b same c.0 d.0, c.1 ∙ ap (λ (es : List Event). state_line (state_of es)) same.events ∙ sym d.1)
-same_line line bytes bytes' Skip Feed w w' a b s t same h g c d e e' = absurd (omega (arith, begins line bytes Skip h, begins line bytes' Feed g))
-same_line line bytes bytes' Skip (Pulses p' q') w w' a b s t same h g c d e e' = absurd (omega (arith, begins line bytes Skip h, begins line bytes' (Pulses p' q') g))
-same_line line bytes bytes' Skip (Moment m') w w' a b s t same h g c d e e' = absurd (omega (arith, begins line bytes Skip h, begins line bytes' (Moment m') g))
-same_line line bytes bytes' Skip Silence w w' a b s t same h g c d e e' = absurd (omega (arith, begins line bytes Skip h, begins line bytes' Silence g))
-same_line line bytes bytes' Skip Show w w' a b s t same h g c d e e' = absurd (omega (arith, begins line bytes Skip h, begins line bytes' Show g))
-same_line line bytes bytes' Feed Skip w w' a b s t same h g c d e e' = absurd (omega (arith, begins line bytes Feed h, begins line bytes' Skip g))
-same_line line bytes bytes' Feed (Pulses p' q') w w' a b s t same h g c d e e' = absurd (omega (arith, begins line bytes Feed h, begins line bytes' (Pulses p' q') g))
-same_line line bytes bytes' Feed (Moment m') w w' a b s t same h g c d e e' = absurd (omega (arith, begins line bytes Feed h, begins line bytes' (Moment m') g))
-same_line line bytes bytes' Feed Silence w w' a b s t same h g c d e e' = absurd (omega (arith, begins line bytes Feed h, begins line bytes' Silence g))
-same_line line bytes bytes' Feed Show w w' a b s t same h g c d e e' = absurd (omega (arith, begins line bytes Feed h, begins line bytes' Show g))
-same_line line bytes bytes' (Pulses p q) Skip w w' a b s t same h g c d e e' = absurd (omega (arith, begins line bytes (Pulses p q) h, begins line bytes' Skip g))
-same_line line bytes bytes' (Pulses p q) Feed w w' a b s t same h g c d e e' = absurd (omega (arith, begins line bytes (Pulses p q) h, begins line bytes' Feed g))
-same_line line bytes bytes' (Pulses p q) (Moment m') w w' a b s t same h g c d e e' = absurd (omega (arith, begins line bytes (Pulses p q) h, begins line bytes' (Moment m') g))
-same_line line bytes bytes' (Pulses p q) Silence w w' a b s t same h g c d e e' = absurd (omega (arith, begins line bytes (Pulses p q) h, begins line bytes' Silence g))
-same_line line bytes bytes' (Pulses p q) Show w w' a b s t same h g c d e e' = absurd (omega (arith, begins line bytes (Pulses p q) h, begins line bytes' Show g))
-same_line line bytes bytes' (Moment m) Skip w w' a b s t same h g c d e e' = absurd (omega (arith, begins line bytes (Moment m) h, begins line bytes' Skip g))
-same_line line bytes bytes' (Moment m) Feed w w' a b s t same h g c d e e' = absurd (omega (arith, begins line bytes (Moment m) h, begins line bytes' Feed g))
-same_line line bytes bytes' (Moment m) (Pulses p' q') w w' a b s t same h g c d e e' = absurd (omega (arith, begins line bytes (Moment m) h, begins line bytes' (Pulses p' q') g))
-same_line line bytes bytes' (Moment m) Silence w w' a b s t same h g c d e e' = absurd (omega (arith, begins line bytes (Moment m) h, begins line bytes' Silence g))
-same_line line bytes bytes' (Moment m) Show w w' a b s t same h g c d e e' = absurd (omega (arith, begins line bytes (Moment m) h, begins line bytes' Show g))
-same_line line bytes bytes' Silence Skip w w' a b s t same h g c d e e' = absurd (omega (arith, begins line bytes Silence h, begins line bytes' Skip g))
-same_line line bytes bytes' Silence Feed w w' a b s t same h g c d e e' = absurd (omega (arith, begins line bytes Silence h, begins line bytes' Feed g))
-same_line line bytes bytes' Silence (Pulses p' q') w w' a b s t same h g c d e e' = absurd (omega (arith, begins line bytes Silence h, begins line bytes' (Pulses p' q') g))
-same_line line bytes bytes' Silence (Moment m') w w' a b s t same h g c d e e' = absurd (omega (arith, begins line bytes Silence h, begins line bytes' (Moment m') g))
-same_line line bytes bytes' Silence Show w w' a b s t same h g c d e e' = absurd (omega (arith, begins line bytes Silence h, begins line bytes' Show g))
-same_line line bytes bytes' Show Skip w w' a b s t same h g c d e e' = absurd (omega (arith, begins line bytes Show h, begins line bytes' Skip g))
-same_line line bytes bytes' Show Feed w w' a b s t same h g c d e e' = absurd (omega (arith, begins line bytes Show h, begins line bytes' Feed g))
-same_line line bytes bytes' Show (Pulses p' q') w w' a b s t same h g c d e e' = absurd (omega (arith, begins line bytes Show h, begins line bytes' (Pulses p' q') g))
-same_line line bytes bytes' Show (Moment m') w w' a b s t same h g c d e e' = absurd (omega (arith, begins line bytes Show h, begins line bytes' (Moment m') g))
-same_line line bytes bytes' Show Silence w w' a b s t same h g c d e e' = absurd (omega (arith, begins line bytes Show h, begins line bytes' Silence g))
+same_line honest line bytes bytes' Skip Feed w w' a b s t same h g c d e e' = absurd (omega (arith, begins line bytes Skip h, begins line bytes' Feed g))
+same_line honest line bytes bytes' Skip (Pulses p' q') w w' a b s t same h g c d e e' = absurd (omega (arith, begins line bytes Skip h, begins line bytes' (Pulses p' q') g))
+same_line honest line bytes bytes' Skip (Moment m') w w' a b s t same h g c d e e' = absurd (omega (arith, begins line bytes Skip h, begins line bytes' (Moment m') g))
+same_line honest line bytes bytes' Skip Silence w w' a b s t same h g c d e e' = absurd (omega (arith, begins line bytes Skip h, begins line bytes' Silence g))
+same_line honest line bytes bytes' Skip Open w w' a b s t same h g c d e e' = absurd (omega (arith, begins line bytes Skip h, begins line bytes' Open g))
+same_line honest line bytes bytes' Skip Show w w' a b s t same h g c d e e' = absurd (omega (arith, begins line bytes Skip h, begins line bytes' Show g))
+same_line honest line bytes bytes' Feed Skip w w' a b s t same h g c d e e' = absurd (omega (arith, begins line bytes Feed h, begins line bytes' Skip g))
+same_line honest line bytes bytes' Feed (Pulses p' q') w w' a b s t same h g c d e e' = absurd (omega (arith, begins line bytes Feed h, begins line bytes' (Pulses p' q') g))
+same_line honest line bytes bytes' Feed (Moment m') w w' a b s t same h g c d e e' = absurd (omega (arith, begins line bytes Feed h, begins line bytes' (Moment m') g))
+same_line honest line bytes bytes' Feed Silence w w' a b s t same h g c d e e' = absurd (omega (arith, begins line bytes Feed h, begins line bytes' Silence g))
+same_line honest line bytes bytes' Feed Open w w' a b s t same h g c d e e' = absurd (omega (arith, begins line bytes Feed h, begins line bytes' Open g))
+same_line honest line bytes bytes' Feed Show w w' a b s t same h g c d e e' = absurd (omega (arith, begins line bytes Feed h, begins line bytes' Show g))
+same_line honest line bytes bytes' (Pulses p q) Skip w w' a b s t same h g c d e e' = absurd (omega (arith, begins line bytes (Pulses p q) h, begins line bytes' Skip g))
+same_line honest line bytes bytes' (Pulses p q) Feed w w' a b s t same h g c d e e' = absurd (omega (arith, begins line bytes (Pulses p q) h, begins line bytes' Feed g))
+same_line honest line bytes bytes' (Pulses p q) (Moment m') w w' a b s t same h g c d e e' = absurd (omega (arith, begins line bytes (Pulses p q) h, begins line bytes' (Moment m') g))
+same_line honest line bytes bytes' (Pulses p q) Silence w w' a b s t same h g c d e e' = absurd (omega (arith, begins line bytes (Pulses p q) h, begins line bytes' Silence g))
+same_line honest line bytes bytes' (Pulses p q) Open w w' a b s t same h g c d e e' = absurd (omega (arith, begins line bytes (Pulses p q) h, begins line bytes' Open g))
+same_line honest line bytes bytes' (Pulses p q) Show w w' a b s t same h g c d e e' = absurd (omega (arith, begins line bytes (Pulses p q) h, begins line bytes' Show g))
+same_line honest line bytes bytes' (Moment m) Skip w w' a b s t same h g c d e e' = absurd (omega (arith, begins line bytes (Moment m) h, begins line bytes' Skip g))
+same_line honest line bytes bytes' (Moment m) Feed w w' a b s t same h g c d e e' = absurd (omega (arith, begins line bytes (Moment m) h, begins line bytes' Feed g))
+same_line honest line bytes bytes' (Moment m) (Pulses p' q') w w' a b s t same h g c d e e' = absurd (omega (arith, begins line bytes (Moment m) h, begins line bytes' (Pulses p' q') g))
+same_line honest line bytes bytes' (Moment m) Silence w w' a b s t same h g c d e e' = absurd (omega (arith, begins line bytes (Moment m) h, begins line bytes' Silence g))
+same_line honest line bytes bytes' (Moment m) Open w w' a b s t same h g c d e e' = absurd (omega (arith, begins line bytes (Moment m) h, begins line bytes' Open g))
+same_line honest line bytes bytes' (Moment m) Show w w' a b s t same h g c d e e' = absurd (omega (arith, begins line bytes (Moment m) h, begins line bytes' Show g))
+same_line honest line bytes bytes' Silence Skip w w' a b s t same h g c d e e' = absurd (omega (arith, begins line bytes Silence h, begins line bytes' Skip g))
+same_line honest line bytes bytes' Silence Feed w w' a b s t same h g c d e e' = absurd (omega (arith, begins line bytes Silence h, begins line bytes' Feed g))
+same_line honest line bytes bytes' Silence (Pulses p' q') w w' a b s t same h g c d e e' = absurd (omega (arith, begins line bytes Silence h, begins line bytes' (Pulses p' q') g))
+same_line honest line bytes bytes' Silence (Moment m') w w' a b s t same h g c d e e' = absurd (omega (arith, begins line bytes Silence h, begins line bytes' (Moment m') g))
+same_line honest line bytes bytes' Silence Open w w' a b s t same h g c d e e' = absurd (omega (arith, begins line bytes Silence h, begins line bytes' Open g))
+same_line honest line bytes bytes' Silence Show w w' a b s t same h g c d e e' = absurd (omega (arith, begins line bytes Silence h, begins line bytes' Show g))
+same_line honest line bytes bytes' Open Skip w w' a b s t same h g c d e e' = absurd (omega (arith, begins line bytes Open h, begins line bytes' Skip g))
+same_line honest line bytes bytes' Open Feed w w' a b s t same h g c d e e' = absurd (omega (arith, begins line bytes Open h, begins line bytes' Feed g))
+same_line honest line bytes bytes' Open (Pulses p' q') w w' a b s t same h g c d e e' = absurd (omega (arith, begins line bytes Open h, begins line bytes' (Pulses p' q') g))
+same_line honest line bytes bytes' Open (Moment m') w w' a b s t same h g c d e e' = absurd (omega (arith, begins line bytes Open h, begins line bytes' (Moment m') g))
+same_line honest line bytes bytes' Open Silence w w' a b s t same h g c d e e' = absurd (omega (arith, begins line bytes Open h, begins line bytes' Silence g))
+same_line honest line bytes bytes' Open Show w w' a b s t same h g c d e e' = absurd (omega (arith, begins line bytes Open h, begins line bytes' Show g))
+same_line honest line bytes bytes' Show Skip w w' a b s t same h g c d e e' = absurd (omega (arith, begins line bytes Show h, begins line bytes' Skip g))
+same_line honest line bytes bytes' Show Feed w w' a b s t same h g c d e e' = absurd (omega (arith, begins line bytes Show h, begins line bytes' Feed g))
+same_line honest line bytes bytes' Show (Pulses p' q') w w' a b s t same h g c d e e' = absurd (omega (arith, begins line bytes Show h, begins line bytes' (Pulses p' q') g))
+same_line honest line bytes bytes' Show (Moment m') w w' a b s t same h g c d e e' = absurd (omega (arith, begins line bytes Show h, begins line bytes' (Moment m') g))
+same_line honest line bytes bytes' Show Silence w w' a b s t same h g c d e e' = absurd (omega (arith, begins line bytes Show h, begins line bytes' Silence g))
+same_line honest line bytes bytes' Show Open w w' a b s t same h g c d e e' = absurd (omega (arith, begins line bytes Show h, begins line bytes' Open g))
 
 -- ---- the whole
 
@@ -180,20 +198,25 @@ not_bad : (line bytes : List ℕ) (order : Order) → length line ≤ 8192 → S
 not_bad line bytes order short spells (inl long) = omega (arith, short, long)
 not_bad line bytes order short spells (inr none) = none bytes order spells
 
-same_run : (lines : List (List ℕ)) (number : ℕ) (w w' : World) (s t : List ℕ) (bad bad' : Option ℕ) (last last' : World) → IsAlike w w'
-    → (a : Replays w number lines s bad last) (b : Replays w' number lines t bad' last')
-    → AllFound w number lines s bad last a → AllFound w' number lines t bad' last' b → (s ≡ t) × (bad ≡ bad') × IsAlike last last'
-same_run [] number w w' s t bad bad' last last' same a b e e' = (a.0 ∙ sym b.0, a.1 ∙ sym b.1, alike_to w w' last last' same a.2 b.2)
-same_run (line ∷ lines) number w w' s t bad bad' last last' same (inl a) (inl b) e e' = (a.1 ∙ sym b.1, a.2 ∙ sym b.2, alike_to w w' last last' same a.3 b.3)
-same_run (line ∷ lines) number w w' s t bad bad' last last' same (inl a) (inr b) e e' = absurd (not_bad line b.1 b.2 b.0 b.6 a.0)
-same_run (line ∷ lines) number w w' s t bad bad' last last' same (inr a) (inl b) e e' = absurd (not_bad line a.1 a.2 a.0 a.6 b.0)
-same_run (line ∷ lines) number w w' s t bad bad' last last' same (inr (short, bytes, order, v, first, rest, spells, does, replays, joins)) (inr (short', bytes', order', v', first', rest', spells', does', replays', joins')) e e' =
-    let one = same_line line bytes bytes' order order' w w' v v' first first' same spells spells' does does' e.0 e'.0 in
-    let more = same_run lines (number + 1) v v' rest rest' bad bad' last last' one.0 replays replays' e.1 e'.1 in
+alike_ends : (w w' : World) (a b : Option World) → IsAlike w w' → a ≡ Some w → b ≡ Some w' → AlikeEnds a b
+alike_ends w w' a b alike e e' = subst (λ (x : Option World). AlikeEnds x b) (sym e) (subst (λ (x : Option World). AlikeEnds (Some w) x) (sym e') alike)
+
+same_run : (honest : Bool) (lines : List (List ℕ)) (number : ℕ) (w w' : World) (s t : List ℕ) (end end' : End) (last last' : Option World) → IsAlike w w'
+    → (a : Replays honest w number lines s end last) (b : Replays honest w' number lines t end' last')
+    → AllFound honest w number lines s end last a → AllFound honest w' number lines t end' last' b → (s ≡ t) × (end ≡ end') × AlikeEnds last last'
+same_run honest [] number w w' s t end end' last last' same a b e e' = (a.0 ∙ sym b.0, a.1 ∙ sym b.1, alike_ends w w' last last' same a.2 b.2)
+same_run honest (line ∷ lines) number w w' s t end end' last last' same (inl a) (inl b) e e' = (a.1 ∙ sym b.1, a.2 ∙ sym b.2, alike_ends w w' last last' same a.3 b.3)
+same_run honest (line ∷ lines) number w w' s t end end' last last' same (inl a) (inr (inr b)) e e' = absurd (not_bad line b.1 b.2 b.0 b.6 a.0)
+same_run honest (line ∷ lines) number w w' s t end end' last last' same (inr (inr a)) (inl b) e e' = absurd (not_bad line a.1 a.2 a.0 a.6 b.0)
+same_run honest (line ∷ lines) number w w' s t end end' last last' same (inr (inl a)) b e e' = absurd e
+same_run honest (line ∷ lines) number w w' s t end end' last last' same a (inr (inl b)) e e' = absurd e'
+same_run honest (line ∷ lines) number w w' s t end end' last last' same (inr (inr (short, bytes, order, v, first, rest, spells, does, replays, joins))) (inr (inr (short', bytes', order', v', first', rest', spells', does', replays', joins'))) e e' =
+    let one = same_line honest line bytes bytes' order order' w w' v v' first first' same spells spells' does does' e.0 e'.0 in
+    let more = same_run honest lines (number + 1) v v' rest rest' end end' last last' one.0 replays replays' e.1 e'.1 in
     (joins ∙ ap (λ (x : List ℕ). x ++ rest) one.1 ∙ ap (λ (x : List ℕ). first' ++ x) more.0 ∙ sym joins', more.1, more.2)
 
-pub one_outcome_of : (lines : List (List ℕ)) (number : ℕ) (w : World) (s t : List ℕ) (bad bad' : Option ℕ) (last last' : World)
-    → (a : Replays w number lines s bad last) (b : Replays w number lines t bad' last')
-    → AllFound w number lines s bad last a → AllFound w number lines t bad' last' b → (s ≡ t) × (bad ≡ bad') × IsAlike last last'
-one_outcome_of lines number w s t bad bad' last last' a b e e' =
-    same_run lines number w w s t bad bad' last last' (record { stretch = refl; place = refl; records = refl; events = refl }) a b e e'
+pub one_outcome_of : (honest : Bool) (lines : List (List ℕ)) (number : ℕ) (w : World) (s t : List ℕ) (end end' : End) (last last' : Option World)
+    → (a : Replays honest w number lines s end last) (b : Replays honest w number lines t end' last')
+    → AllFound honest w number lines s end last a → AllFound honest w number lines t end' last' b → (s ≡ t) × (end ≡ end') × AlikeEnds last last'
+one_outcome_of honest lines number w s t end end' last last' a b e e' =
+    same_run honest lines number w w s t end end' last last' (record { stretch = refl; place = refl; records = refl; events = refl }) a b e e'

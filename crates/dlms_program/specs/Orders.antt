@@ -3,7 +3,7 @@ use Rattle.std.specs.Prelude.{◌≡◌, ◌⊎◌, ◌<◌, ◌^◌, ℕ, List,
 use Rattle.dlms_program.specs.Numbers.{IsNumberOf}
 use Rattle.dlms_program.specs.Pairs.{ArePairs}
 use Rattle.dlms_program.specs.declared.orders.Order.{Order}
-use Rattle.dlms_program.specs.declared.orders.Order.TheVariants.{Skip, Feed, Pulses, Moment, Silence, Show}
+use Rattle.dlms_program.specs.declared.orders.Order.TheVariants.{Skip, Feed, Pulses, Moment, Silence, Open, Show}
 
 -- `P`, a channel of 8 bits and a count of 32 bits, parted by one space
 pub record SpellsPulses (line : List ℕ) (channel count : ℕ) : Type 0 where
@@ -35,4 +35,5 @@ Spells line bytes Feed = SpellsBytes line bytes
 Spells line bytes (Pulses channel count) = SpellsPulses line channel count
 Spells line bytes (Moment second) = SpellsMoment line second
 Spells line bytes Silence = line ≡ codes "I"
+Spells line bytes Open = line ≡ codes "O"
 Spells line bytes Show = line ≡ codes "S"

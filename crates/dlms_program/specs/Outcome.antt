@@ -1,12 +1,13 @@
 -- What no text determines: whether memory was found at each frame of each line, and whether the device failed.
-use Rattle.std.specs.Prelude.{◌+◌, ℕ, List, [], ◌∷◌, Option, Result, Ok, Err}
+use Rattle.std.specs.Prelude.{◌≡◌, ◌+◌, ℕ, Bool, List, [], ◌∷◌, Option, Some, None, Result, Ok, Err}
 use Rattle.std.proofs.Common.{inl, inr}
 use Rattle.dlms_program.specs.declared.orders.Order.{Order}
-use Rattle.dlms_program.specs.declared.orders.Order.TheVariants.{Skip, Feed, Pulses, Moment, Silence, Show}
+use Rattle.dlms_program.specs.declared.orders.Order.TheVariants.{Skip, Feed, Pulses, Moment, Silence, Open, Show}
 use Rattle.dlms_store.specs.declared.fault.AddFault.{AddFault}
 use Rattle.dlms_store.specs.declared.fault.AddFault.TheVariants.{Refused}
-use Rattle.dlms_meter.specs.Run.{World, FoundMemory}
-use Rattle.dlms_program.specs.Replay.{Does, Replays}
+use Rattle.dlms_meter.specs.Alike.{IsAlike}
+use Rattle.dlms_meter.specs.Run.{World, FoundMemory, events_of}
+use Rattle.dlms_program.specs.Replay.{Does, End, Replays}
 
 -- an event was taken, or refused by the table of refusals
 abbrev pub IsByTable : Result (Unit {0}) AddFault → Type 0
@@ -14,18 +15,27 @@ IsByTable (Ok done) = Unit {0}
 IsByTable (Err (Refused cause)) = Unit {0}
 IsByTable _ = ⊥
 
--- at each frame of a line, of which only bytes have any, memory was found; and the device did not fail
-abbrev pub LineFound : (w : World) (bytes : List ℕ) (order : Order) (w' : World) (written : List ℕ) → Does w bytes order w' written → Type 0
-LineFound w bytes Feed w' written (replies, comes, is) = FoundMemory comes.turns
-LineFound w bytes Skip w' written does = Unit {0}
-LineFound w bytes (Pulses channel count) w' written (outcome, step, judged, is) = IsByTable outcome
-LineFound w bytes (Moment second) w' written (outcome, step, judged, is) = IsByTable outcome
-LineFound w bytes Silence w' written does = Unit {0}
-LineFound w bytes Show w' written does = Unit {0}
+-- At each frame of a line, of which only bytes have any, memory was found; the device did not fail, and where it was closed and opened
+-- again every accepted event was found.
+abbrev pub LineFound : (honest : Bool) (w : World) (bytes : List ℕ) (order : Order) (w' : World) (written : List ℕ) → Does honest w bytes order w' written → Type 0
+LineFound honest w bytes Feed w' written (replies, comes, is) = FoundMemory comes.turns
+LineFound honest w bytes Skip w' written does = Unit {0}
+LineFound honest w bytes (Pulses channel count) w' written (outcome, step, judged, is) = IsByTable outcome
+LineFound honest w bytes (Moment second) w' written (outcome, step, judged, is) = IsByTable outcome
+LineFound honest w bytes Silence w' written does = Unit {0}
+LineFound honest w bytes Open w' written (found, finds, leads, is) = found ≡ events_of w
+LineFound honest w bytes Show w' written does = Unit {0}
 
 -- so it was in each line that was done
-abbrev pub AllFound : (w : World) (number : ℕ) (lines : List (List ℕ)) (written : List ℕ) (bad : Option ℕ) (last : World) → Replays w number lines written bad last → Type 0
-AllFound w number [] written bad last replays = Unit {0}
-AllFound w number (line ∷ lines) written bad last (inl ends) = Unit {0}
-AllFound w number (line ∷ lines) written bad last (inr (short, bytes, order, w', first, rest, spells, does, replays, joins)) =
-    LineFound w bytes order w' first does × AllFound w' (number + 1) lines rest bad last replays
+abbrev pub AllFound : (honest : Bool) (w : World) (number : ℕ) (lines : List (List ℕ)) (written : List ℕ) (end : End) (last : Option World) → Replays honest w number lines written end last → Type 0
+AllFound honest w number [] written end last replays = Unit {0}
+AllFound honest w number (line ∷ lines) written end last (inl bad) = Unit {0}
+AllFound honest w number (line ∷ lines) written end last (inr (inl gone)) = ⊥
+AllFound honest w number (line ∷ lines) written end last (inr (inr (short, bytes, order, w', first, rest, spells, does, replays, joins))) =
+    LineFound honest w bytes order w' first does × AllFound honest w' (number + 1) lines rest end last replays
+
+-- two runs end at worlds that nobody tells apart, or both at none
+abbrev pub AlikeEnds : Option World → Option World → Type 0
+AlikeEnds (Some v) (Some w) = IsAlike v w
+AlikeEnds None None = Unit {0}
+AlikeEnds _ _ = ⊥

@@ -6,6 +6,8 @@ use Rattle.hex.specs.Hex.{encode_lower}
 use Rattle.dlms_state.specs.Events.{clock_at}
 use Rattle.dlms_state.specs.StateValue.{StateValue}
 use Rattle.dlms_state.specs.declared.event.Refused.{Refused}
+use Rattle.dlms_store.specs.declared.fault.OpenFault.{OpenFault}
+use Rattle.dlms_store.specs.declared.fault.OpenFault.TheVariants as opening
 use Rattle.dlms_state.specs.declared.event.Refused.TheVariants.{MomentBack, Range, Channel, Period, Length}
 
 -- a reply frame, in pairs of hexadecimal digits of lower case
@@ -26,6 +28,22 @@ refusal_line Length = codes "refused 5\n"
 -- by which number of the faults an event was not taken
 abbrev pub fault_line : ℕ → List ℕ
 fault_line number = codes "fault " ++ decimal number ++ codes "\n"
+
+-- the meter was closed and recovered
+abbrev pub open_line : List ℕ
+open_line = codes "open\n"
+
+-- by which number of the faults the meter was not recovered
+abbrev pub open_fault_number : OpenFault → ℕ
+open_fault_number opening.Device = 1
+open_fault_number opening.NoCheckpoint = 2
+open_fault_number (opening.Corrupt page) = 3
+open_fault_number opening.Memory = 4
+open_fault_number opening.Exhausted = 5
+open_fault_number opening.Size = 6
+
+abbrev pub open_fault_line : OpenFault → List ℕ
+open_fault_line fault = codes "fault open " ++ decimal (open_fault_number fault) ++ codes "\n"
 
 -- the three registers
 abbrev pub registers_text : List ℕ → List ℕ

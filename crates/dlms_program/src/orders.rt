@@ -20,6 +20,8 @@ pub enum Order {
     Moment(u32),
     /// Silence on the line.
     Silence,
+    /// The meter is closed and recovered.
+    Open,
     /// The state is asked for.
     Show,
 }
@@ -63,6 +65,7 @@ pub fn order_of(line: &[u8], bytes: &mut Pairs) -> Option<Order>
     match line {
         [] | [b'#', ..] => Some(Order::Skip),
         [b'I'] => Some(Order::Silence),
+        [b'O'] => Some(Order::Open),
         [b'S'] => Some(Order::Show),
         [b'>', b' ', ..] => {
             if bytes.take(&line[2..]) {

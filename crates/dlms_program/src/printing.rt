@@ -1,11 +1,12 @@
 //! What a replay writes.
-ghost use Rattle.std.specs.Prelude.{◌≤◌, ◌*◌, OnOk, length, option_map};
+ghost use Rattle.std.specs.Prelude.{◌≡◌, ◌≤◌, ◌*◌, OnOk, length, option_map};
 ghost use Rattle.std.specs.Io.KnownBytes.{Appends};
-ghost use Rattle.dlms_program.specs.Printed.{reply_line, reply_lines, refusal_line, fault_line, registers_text, clock_text, state_line};
+ghost use Rattle.dlms_program.specs.Printed.{reply_line, reply_lines, refusal_line, fault_line, open_line, open_fault_line, open_fault_number, registers_text, clock_text, state_line};
 ghost use Rattle.dlms_meter.specs.Run.{listed};
 
 use dlms_meter::Reply;
 use dlms_state::{Refused, State};
+use dlms_store::OpenFault;
 use std::alloc::Allocator;
 use std::io;
 use std::io::Write;
@@ -70,6 +71,35 @@ pub fn write_fault<W: Write>(number: u32, writer: &mut W) -> io::Result<()>
     ensures { OnOk result (Appends (W.contents writer.old) (W.contents writer.new) (fault_line number)) }
 {
     writeln!(writer, "fault {number}")
+}
+
+/// Writes that the meter was closed and recovered.
+pub fn write_open<W: Write>(writer: &mut W) -> io::Result<()>
+    ensures { OnOk result (Appends (W.contents writer.old) (W.contents writer.new) open_line) }
+{
+    writer.write_all(b"open\n")
+}
+
+/// The number of a fault of a recovery.
+fn open_fault_number(fault: OpenFault) -> u32
+    ensures { result ≡ open_fault_number fault }
+{
+    match fault {
+        OpenFault::Device => 1,
+        OpenFault::NoCheckpoint => 2,
+        OpenFault::Corrupt(_) => 3,
+        OpenFault::Memory => 4,
+        OpenFault::Exhausted => 5,
+        OpenFault::Size => 6,
+    }
+}
+
+/// Writes by its number why the meter was not recovered.
+pub fn write_open_fault<W: Write>(fault: OpenFault, writer: &mut W) -> io::Result<()>
+    ensures { OnOk result (Appends (W.contents writer.old) (W.contents writer.new) (open_fault_line fault)) }
+{
+    let number = open_fault_number(fault);
+    writeln!(writer, "fault open {number}")
 }
 
 /// Writes the three registers.

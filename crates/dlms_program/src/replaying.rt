@@ -1,15 +1,17 @@
 //! The replay of a transcript on a meter.
-ghost use Rattle.std.specs.Prelude.{◌≡◌, ◌≤◌, List, ℕ, OnOk, length};
+ghost use Rattle.std.specs.Prelude.{◌≡◌, ◌≢◌, ◌≤◌, Bool, List, ℕ, MatchResult, Some, true, OnOk, IfErr, is_some, length};
 ghost use Rattle.dlms_state.specs.declared.event.Event.{Event};
 ghost use Rattle.std.specs.Io.KnownBytes.{Appends};
-ghost use Rattle.dlms_program.specs.Replay.{Did, WroteReplay, bad_line, outcome_line};
+ghost use Rattle.dlms_program.specs.Replay.{Did, Followed, IsAt, IsLeft, WroteReplay, end_of, outcome_line};
 ghost use Rattle.dlms_meter.specs.Run.{World, Stands, Judges};
 
 use crate::fault::ReplayFault;
 use crate::lines::{Taken, take_line};
 use crate::orders::{Order, order_of};
 use crate::pairs::Pairs;
-use crate::printing::{write_answer, write_fault, write_refusal, write_state};
+use crate::printing::{
+    write_answer, write_fault, write_open, write_open_fault, write_refusal, write_state,
+};
 use arrayvec::ArrayVec;
 use dlms_meter::Meter;
 use dlms_pages::Pages;
@@ -24,7 +26,7 @@ fn feed<W: Write, P: Pages, A: Allocator + Copy>(
     bytes: &[u8],
     writer: &mut W,
 ) -> io::Result<()>
-    ensures { OnOk result ((w : World) → Stands meter.old w → Did (W.contents writer.old) (W.contents writer.new) w bytes.now Order.Feed meter.new) }
+    ensures { OnOk result ((honest : Bool) (w : World) → IsAt honest meter.old w → Did honest (W.contents writer.old) (W.contents writer.new) w bytes.now Order.Feed (Some meter.new)) }
 {
     let mut rest = bytes;
     'frames: while !rest.is_empty() {
@@ -48,14 +50,41 @@ fn answer<W: Write>(outcome: Result<(), AddFault>, writer: &mut W) -> io::Result
     }
 }
 
-/// Does what a line asks for.
+/// Closes the meter and recovers it from its device, and writes that, or why it could not be recovered: then it is gone.
+fn reopen<W: Write, P: Pages + Drop, A: Allocator + Copy>(
+    alloc: A,
+    meter: &mut Option<Meter<P, A>>,
+    writer: &mut W,
+) -> Result<(), ReplayFault>
+    requires { is_some meter.old ≡ true }
+    ensures there { OnOk result (is_some meter.new ≡ true) }
+    ensures lines { (honest : Bool) (w : World) (bytes : List ℕ) → IsLeft honest meter.old (Some w) → Followed honest (W.contents writer.old) (W.contents writer.new) w bytes Order.Open result meter.new }
+{
+    let Some(running) = meter.take() else {
+        return Err(ReplayFault::Recovery);
+    };
+    match Meter::recover(alloc, running.close()) {
+        Ok(recovered) => {
+            *meter = Some(recovered);
+            write_open(writer)?;
+            Ok(())
+        }
+        Err((_, fault)) => {
+            write_open_fault(fault, writer)?;
+            Err(ReplayFault::Recovery)
+        }
+    }
+}
+
+/// Does what a line asks for, but for closing and recovering.
 fn obey<W: Write, P: Pages, A: Allocator + Copy>(
     order: Order,
     bytes: &Pairs,
     meter: &mut Meter<P, A>,
     writer: &mut W,
 ) -> io::Result<()>
-    ensures { OnOk result ((w : World) → Stands meter.old w → Did (W.contents writer.old) (W.contents writer.new) w bytes.now order meter.new) }
+    requires { order ≢ Order.Open }
+    ensures { OnOk result ((honest : Bool) (w : World) → IsAt honest meter.old w → Did honest (W.contents writer.old) (W.contents writer.new) w bytes.now order (Some meter.new)) }
 {
     match order {
         Order::Skip => Ok(()),
@@ -66,19 +95,44 @@ fn obey<W: Write, P: Pages, A: Allocator + Copy>(
             meter.idle();
             Ok(())
         }
+        Order::Open => Ok(()),
         Order::Show => write_state(meter.state(), writer),
     }
 }
 
+/// Does what a line asks for.
+fn follow<W: Write, P: Pages + Drop, A: Allocator + Copy>(
+    alloc: A,
+    order: Order,
+    bytes: &Pairs,
+    meter: &mut Option<Meter<P, A>>,
+    writer: &mut W,
+) -> Result<(), ReplayFault>
+    requires { is_some meter.old ≡ true }
+    ensures there { OnOk result (is_some meter.new ≡ true) }
+    ensures lines { (honest : Bool) (w : World) → IsLeft honest meter.old (Some w) → Followed honest (W.contents writer.old) (W.contents writer.new) w bytes.now order result meter.new }
+{
+    if order == Order::Open {
+        return reopen(alloc, meter, writer);
+    }
+    match meter {
+        Some(running) => Ok(obey(order, bytes, running, writer)?),
+        None => Err(ReplayFault::Recovery),
+    }
+}
+
 /// Does what the lines of `reader` ask of the meter, and writes what comes of them, up to the first line that is of no
-/// known form or too long. After 2^32 - 1 reads it ends with `ReplayFault::Io`, as where the reader or the writer
-/// fails.
-pub fn replay<R: Read, W: Write, P: Pages, A: Allocator + Copy>(
+/// known form or too long. The meter is there when it is called, and afterwards but for one case: a line `O` closes it and
+/// cannot recover it. Then that is written, the answer is `ReplayFault::Recovery`, and the meter is gone. After 2^32 - 1
+/// reads it ends with `ReplayFault::Io`, as where the reader or the writer fails.
+pub fn replay<R: Read, W: Write, P: Pages + Drop, A: Allocator + Copy>(
+    alloc: A,
     reader: &mut R,
     writer: &mut W,
-    meter: &mut Meter<P, A>,
+    meter: &mut Option<Meter<P, A>>,
 ) -> Result<(), ReplayFault>
-    ensures { (w : World) → Stands meter.old w → WroteReplay (W.contents writer.old) (W.contents writer.new) w (R.remaining reader.old) (bad_line result) meter.new }
+    requires { is_some meter.old ≡ true }
+    ensures { (honest : Bool) (w : World) → IsLeft honest meter.old (Some w) → WroteReplay honest (W.contents writer.old) (W.contents writer.new) w (R.remaining reader.old) (end_of result) meter.new }
 {
     let mut reads = u32::MAX;
     let mut line = ArrayVec::new();
@@ -92,7 +146,7 @@ pub fn replay<R: Read, W: Write, P: Pages, A: Allocator + Copy>(
         let Some(order) = order_of(line.as_slice(), &mut bytes) else {
             return Err(ReplayFault::Line(number));
         };
-        obey(order, &bytes, meter, writer)?;
+        follow(alloc, order, &bytes, meter, writer)?;
     }
     Err(ReplayFault::Io)
 }

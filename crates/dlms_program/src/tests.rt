@@ -58,10 +58,10 @@ impl Write for FailingWriter {
 
 #[test]
 fn a_failing_reader_keeps_what_was_printed(rt: HostRuntime) -> Result<(), Fail> {
-    let mut meter = in_memory(rt.alloc())?;
+    let mut meter = Some(in_memory(rt.alloc())?);
     let mut reader = FailingReader(b"P 0 42\nS\nS");
     let mut output = Vec::new(rt.alloc());
-    let ended = replay(&mut reader, &mut output, &mut meter);
+    let ended = replay(rt.alloc(), &mut reader, &mut output, &mut meter);
     assert_eq!(rt; ended, Err(ReplayFault::Io));
     assert_eq!(rt; output.as_slice(), b"state 42 0 0 0 0\n".as_slice());
     Ok(())
@@ -70,32 +70,57 @@ fn a_failing_reader_keeps_what_was_printed(rt: HostRuntime) -> Result<(), Fail> 
 #[test]
 fn a_failing_writer_ends_the_replay(rt: HostRuntime) -> Result<(), Fail> {
     for room in 0..17usize {
-        let mut meter = in_memory(rt.alloc())?;
+        let mut meter = Some(in_memory(rt.alloc())?);
         let mut reader = b"P 0 42\nS\nP 0 1\n".as_slice();
         let mut writer = FailingWriter(room);
-        let ended = replay(&mut reader, &mut writer, &mut meter);
+        let ended = replay(rt.alloc(), &mut reader, &mut writer, &mut meter);
         assert_eq!(rt; ended, Err(ReplayFault::Io), "at {room}");
-        assert_eq!(rt; meter.state().registers(), [42, 0, 0]);
+        let registers = meter.map(|meter| meter.state().registers());
+        assert_eq!(rt; registers, Some([42, 0, 0]));
     }
     Ok(())
 }
 
-/// A page takes 82 pulses: at the next one the device is called, and fails; then the meter is stopped.
+/// The calls of a format: the 82 pages and a sync; a body and a sync; a gate and a sync.
+const FORMAT_CALLS: u64 = 87;
+
+/// A page takes 82 pulses: at the next one the device is called, and fails; then the meter is stopped, and a device that
+/// goes on failing is not opened again.
 #[test]
 fn a_failing_device_is_told(rt: HostRuntime) -> Result<(), Fail> {
-    let mut pages = MemoryPages::new(rt.alloc(), PAGES)?;
-    // The calls of a format: the 82 pages and a sync; a body and a sync; a gate and a sync.
-    pages.fuse(87);
-    let mut meter = formatted(rt.alloc(), pages)?;
     let mut text = Vec::new(rt.alloc());
     for _ in 0..84u8 {
         text.extend_from_slice(b"P 0 1\n")?;
     }
-    text.extend_from_slice(b"P 3 1\nS\n")?;
+    text.extend_from_slice(b"P 3 1\nS\nO\nS\n")?;
+    let mut pages = MemoryPages::new(rt.alloc(), PAGES)?;
+    pages.fuse(FORMAT_CALLS);
+    let mut meter = Some(formatted(rt.alloc(), pages)?);
     let mut reader = text.as_slice();
     let mut output = Vec::new(rt.alloc());
-    let ended = replay(&mut reader, &mut output, &mut meter);
-    let expected = b"fault 2\nfault 3\nfault 3\nstate 82 0 0 0 0\n".as_slice();
+    let ended = replay(rt.alloc(), &mut reader, &mut output, &mut meter);
+    let expected = b"fault 2\nfault 3\nfault 3\nstate 82 0 0 0 0\nfault open 1\n".as_slice();
+    assert!(rt; ended == Err(ReplayFault::Recovery) && output.as_slice() == expected);
+    assert!(rt; meter.is_none());
+    Ok(())
+}
+
+/// A device that fails once is opened again, with what was settled before it failed.
+#[test]
+fn a_device_that_failed_is_opened_again(rt: HostRuntime) -> Result<(), Fail> {
+    let mut text = Vec::new(rt.alloc());
+    for _ in 0..83u8 {
+        text.extend_from_slice(b"P 0 1\n")?;
+    }
+    text.extend_from_slice(b"P 0 1\nO\nS\nP 0 1\nS\n")?;
+    let mut pages = MemoryPages::new(rt.alloc(), PAGES)?;
+    pages.fail_once(FORMAT_CALLS);
+    let mut meter = Some(formatted(rt.alloc(), pages)?);
+    let mut reader = text.as_slice();
+    let mut output = Vec::new(rt.alloc());
+    let ended = replay(rt.alloc(), &mut reader, &mut output, &mut meter);
+    let expected = b"fault 2\nfault 3\nopen\nstate 0 0 0 0 0\nstate 1 0 0 0 0\n".as_slice();
     assert!(rt; ended == Ok(()) && output.as_slice() == expected);
+    assert!(rt; meter.is_some());
     Ok(())
 }

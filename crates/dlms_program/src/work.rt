@@ -2,7 +2,9 @@
 
 /// The work that the program is asked to do.
 #[derive(Clone, Copy, Debug, PartialEq, Eq)]
-pub enum Job {
-    /// Replays standard input on a new meter.
-    Replay,
+pub enum Job<'a> {
+    /// Makes a new meter in this file, over whatever it holds.
+    Format { file: &'a str },
+    /// Replays standard input on the meter in this file, or on a new one in memory.
+    Replay { file: Option<&'a str> },
 }

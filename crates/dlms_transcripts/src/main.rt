@@ -57,8 +57,8 @@ fn replayed(
     output: &mut Vec<u8>,
 ) -> Result<std::result::Result<(), ReplayFault>> {
     let mut reader = input;
-    let mut meter = new_meter(alloc)?;
-    Ok(replay(&mut reader, output, &mut meter))
+    let mut meter = Some(new_meter(alloc)?);
+    Ok(replay(alloc, &mut reader, output, &mut meter))
 }
 
 /// Replays a case on a new meter.

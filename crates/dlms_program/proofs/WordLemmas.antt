@@ -1,0 +1,80 @@
+-- What the program's words come to.
+use Rattle.std.proofs.Common.{◌≡◌, ◌∙◌, ◌&&◌, refl, ap, inl, inr, Bool, true, false, not, List, [], ◌∷◌, Option, Some, None, codes, slice_index_or}
+use Rattle.std.specs.Prelude.{◌⊎◌, cond, is_some, option_map}
+use Rattle.std.specs.List.{list_any}
+use Rattle.clap.specs.Words.{App, Row, Shape, Text, built, fault_of, subcommand_of}
+use Rattle.clap.specs.Simple.{argument_words, entered, label_of, names_of, rows_at}
+use Rattle.clap.specs.Facts.{explicit_source}
+use Rattle.clap.specs.Faults.{check_fault, defaults_fault, entered_fault, level_fault, settle_fault, walk_fault}
+use Rattle.clap.specs.Takes.{is_given}
+use Rattle.clap.specs.Walk.{Held, Names, answers_to, finished, nothing_held, settled, walk, walk_from}
+use Rattle.clap.specs.Kinds.{Kinds, check_kinds, or_else}
+use Rattle.dlms_program.specs.Words.{dlms}
+
+-- ---- where no fault is met, a command is
+
+last_none : (a b : Kinds) → or_else a b ≡ [] → b ≡ []
+last_none [] b h = h
+last_none (k ∷ ks) b h = cc
+
+wanted : (has help wants other : Bool) → wants ≡ true → check_kinds (not has && help) (not has && wants) other ≡ [] → has ≡ true
+wanted true help wants other is h = refl
+wanted false help false other is h = cc
+wanted false true true other is h = cc
+wanted false false true other is h = cc
+
+level_wants : (s : Shape) (names : Names) (h : Held) (words : List Text) (has : Bool) (below : Kinds) → s.subcommand_required ≡ true → level_fault s names h words has below ≡ [] → has ≡ true
+level_wants s names h words has below needs e =
+    let end : Held = (walk s.rules names h words).held in
+    let checks : Kinds = check_fault s (finished s.rules end) has in
+    let defaults : Kinds = defaults_fault (settled s.rules end).rows s.rules in
+    let none : checks ≡ [] = last_none defaults checks (last_none (settle_fault s.rules s.args_override_self end) (or_else defaults checks)
+    (last_none below (or_else (settle_fault s.rules s.args_override_self end) (or_else defaults checks)) (last_none (walk_fault s names (walk_from h) words) (or_else below (or_else (settle_fault s.rules s.args_override_self end) (or_else defaults checks))) e))) in
+    wanted has (s.arg_required_else_help && not (list_any (λ r. explicit_source r.source) (finished s.rules end))) s.subcommand_required
+    (not (s.subcommand_negates_reqs && has) && list_any (λ a. a.required && not (is_given a.id (finished s.rules end))) s.rules) needs none
+
+-- the command of these two that a word names, with its rows
+abbrev pub IsOneOf : Shape → Shape → Option (Text × List Row) → Type 0
+IsOneOf x y met = (rows : List Row) × ((met ≡ Some (x.name, rows)) ⊎ (met ≡ Some (y.name, rows)))
+
+first_or_second : (b c : Bool) (x y : Shape) (words : List Text) → is_some (option_map (λ s. rows_at s words) (cond b (Some x) (cond c (Some y) None))) ≡ true
+    → IsOneOf x y (option_map (λ s. rows_at s words) (cond b (Some x) (cond c (Some y) None)))
+first_or_second true c x y words h = ((rows_at x words).1, inl refl)
+first_or_second false true x y words h = ((rows_at y words).1, inr refl)
+first_or_second false false x y words h = absurd (cc h)
+
+one_entered : (top x y : Shape) (stop : Option (Text × List Text)) → is_some (entered (record { top = top; subs = x ∷ y ∷ [] }) stop) ≡ true
+    → IsOneOf x y (entered (record { top = top; subs = x ∷ y ∷ [] }) stop)
+one_entered top x y None h = absurd (cc h)
+one_entered top x y (Some p) h = first_or_second (answers_to p.0 (label_of x)) (answers_to p.0 (label_of y)) x y p.1 h
+
+abbrev made : App
+made = built dlms
+
+abbrev formats : Shape
+formats = slice_index_or made.subs 0 made.top
+
+abbrev replays : Shape
+replays = slice_index_or made.subs 1 made.top
+
+pub command_met : (words : List Text) → fault_of dlms words ≡ [] → (rows : List Row) × ((subcommand_of dlms words ≡ Some (codes "format", rows)) ⊎ (subcommand_of dlms words ≡ Some (codes "replay", rows)))
+command_met words h =
+    let args : List Text = argument_words made words in
+    let stop : Option (Text × List Text) = (walk made.top.rules (names_of made) nothing_held args).stopped in
+    one_entered made.top formats replays stop
+    (level_wants made.top (names_of made) nothing_held args (is_some (entered made stop)) (entered_fault made stop) refl h)
+
+-- ---- what was met for a command
+
+pub same_some : {A : Type 0} {a b : A} → Some a ≡ Some b → a ≡ b
+same_some e = cc
+
+-- the words of a job whose name is not the other one
+pub replays_else : (words : List Text) (met : Option (Text × List Row)) → fault_of dlms words ≡ [] → met ≡ subcommand_of dlms words → (option_map (λ p. p.0) met ≡ Some (codes "format") → ⊥)
+    → (rows : List Row) × (subcommand_of dlms words ≡ Some (codes "replay", rows))
+replays_else words met none is name =
+    let found = command_met words none in
+    elim found.1 [
+      | inl formats ↦ absurd (name (ap (option_map (λ p. p.0)) (is ∙ formats)))
+      | inr replays ↦ (found.0, replays)
+    ]
