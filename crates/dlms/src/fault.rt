@@ -1,4 +1,5 @@
 //! Why a run ended early, and what is said of it.
+use dlms_loopback::LoopFault;
 use dlms_program::ReplayFault;
 use dlms_store::OpenFault;
 use std::io::ErrorKind;
@@ -13,6 +14,8 @@ pub enum Fault<'a> {
     Open(OpenFault),
     /// The replay ended early.
     Replay(ReplayFault),
+    /// The loopback ended early.
+    Loop(LoopFault),
 }
 
 impl<'a> Fault<'a> {
@@ -35,6 +38,7 @@ impl fmt::Display for Fault<'_> {
             Fault::File(file, error) => write!(f, "io\n  {file}: {error}"),
             Fault::Open(fault) => write!(f, "{fault}"),
             Fault::Replay(fault) => write!(f, "{fault}"),
+            Fault::Loop(fault) => write!(f, "{fault}"),
         }
     }
 }

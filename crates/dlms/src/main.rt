@@ -2,12 +2,15 @@
 #![tactic(auto)]
 
 use clap::error::ErrorKind;
+use dlms_loopback::loopback;
 use dlms_meter::Meter;
 use dlms_pages::{FilePages, MemoryPages, Pages};
 use dlms_program::{Job, ReplayFault, job, replay};
 use dlms_store::{OpenFault, PAGES};
 use std::alloc::{AllocError, Allocator};
+use std::fs::File;
 use std::io::{BufReader, BufWriter, Write};
+use std::net::Net;
 use std::process::ExitCode;
 use std::rt::{Env, Files};
 use std::{env, io};
@@ -20,7 +23,10 @@ use fault::Fault;
 const BUFFER: usize = 65_536;
 
 /// Makes a new meter in a file, over whatever the file holds.
-fn run_format<'a, R: Files + Print + AllocGlobal>(rt: &R, file: &'a str) -> Result<(), Fault<'a>> {
+fn run_format<'a, R: Files<File = File> + Print + AllocGlobal>(
+    rt: &R,
+    file: &'a str,
+) -> Result<(), Fault<'a>> {
     let pages = match FilePages::create(rt, file, PAGES) {
         Ok(pages) => pages,
         Err(error) => return Err(Fault::of_file(file, error)),
@@ -66,7 +72,7 @@ fn run_on<R: Input + AllocGlobal, W: Write, P: Pages + Drop>(
 }
 
 /// Replays standard input on the meter in a file. Each answer goes out as soon as it is made.
-fn run_replay_file<'a, R: Input + Print + Files + AllocGlobal>(
+fn run_replay_file<'a, R: Input + Print + Files<File = File> + AllocGlobal>(
     rt: &R,
     file: &'a str,
 ) -> Result<(), Fault<'a>> {
@@ -91,6 +97,24 @@ fn run_replay_memory<R: Input + Print + AllocGlobal>(rt: &R) -> Result<(), Fault
     match Meter::format(rt.alloc(), pages) {
         Ok(meter) => run_on(rt, &mut writer, meter),
         Err((_, fault)) => Err(Fault::Open(fault)),
+    }
+}
+
+/// Polls a meter in memory over a socket, into the file where one is named.
+fn run_loopback<'a, R: Net + Files + Print + AllocGlobal>(
+    rt: &R,
+    file: Option<&'a str>,
+    stops: u8,
+) -> Result<(), Fault<'a>> {
+    let mut told = None;
+    match (
+        loopback(rt, file, stops, &mut io::writer(rt), &mut told),
+        file,
+        told,
+    ) {
+        (Ok(()), _, _) => Ok(()),
+        (Err(_), Some(file), Some(error)) => Err(Fault::of_file(file, error)),
+        (Err(fault), _, _) => Err(Fault::Loop(fault)),
     }
 }
 
@@ -131,6 +155,7 @@ fn run(rt: &HostRuntime, words: &[&str]) -> io::Result<ExitCode> {
         Ok(Job::Format { file }) => finish(rt, run_format(rt, file)),
         Ok(Job::Replay { file: Some(file) }) => finish(rt, run_replay_file(rt, file)),
         Ok(Job::Replay { file: None }) => finish(rt, run_replay_memory(rt)),
+        Ok(Job::Loopback { readings, stops }) => finish(rt, run_loopback(rt, readings, stops)),
         Err(error) if error.kind() == ErrorKind::OutOfMemory => finish(rt, Err(Fault::MEMORY)),
         Err(error) => {
             rt.eprint(&error)?;

@@ -33,20 +33,21 @@ level_wants s names h words has below needs e =
     wanted has (s.arg_required_else_help && not (list_any (λ r. explicit_source r.source) (finished s.rules end))) s.subcommand_required
     (not (s.subcommand_negates_reqs && has) && list_any (λ a. a.required && not (is_given a.id (finished s.rules end))) s.rules) needs none
 
--- the command of these two that a word names, with its rows
-abbrev pub IsOneOf : Shape → Shape → Option (Text × List Row) → Type 0
-IsOneOf x y met = (rows : List Row) × ((met ≡ Some (x.name, rows)) ⊎ (met ≡ Some (y.name, rows)))
+-- the command of these three that a word names, with its rows
+abbrev pub IsOneOf : Shape → Shape → Shape → Option (Text × List Row) → Type 0
+IsOneOf x y z met = (rows : List Row) × ((met ≡ Some (x.name, rows)) ⊎ ((met ≡ Some (y.name, rows)) ⊎ (met ≡ Some (z.name, rows))))
 
-first_or_second : (b c : Bool) (x y : Shape) (words : List Text) → is_some (option_map (λ s. rows_at s words) (cond b (Some x) (cond c (Some y) None))) ≡ true
-    → IsOneOf x y (option_map (λ s. rows_at s words) (cond b (Some x) (cond c (Some y) None)))
-first_or_second true c x y words h = ((rows_at x words).1, inl refl)
-first_or_second false true x y words h = ((rows_at y words).1, inr refl)
-first_or_second false false x y words h = absurd (cc h)
+one_of_three : (b c d : Bool) (x y z : Shape) (words : List Text) → is_some (option_map (λ s. rows_at s words) (cond b (Some x) (cond c (Some y) (cond d (Some z) None)))) ≡ true
+    → IsOneOf x y z (option_map (λ s. rows_at s words) (cond b (Some x) (cond c (Some y) (cond d (Some z) None))))
+one_of_three true c d x y z words h = ((rows_at x words).1, inl refl)
+one_of_three false true d x y z words h = ((rows_at y words).1, inr (inl refl))
+one_of_three false false true x y z words h = ((rows_at z words).1, inr (inr refl))
+one_of_three false false false x y z words h = absurd (cc h)
 
-one_entered : (top x y : Shape) (stop : Option (Text × List Text)) → is_some (entered (record { top = top; subs = x ∷ y ∷ [] }) stop) ≡ true
-    → IsOneOf x y (entered (record { top = top; subs = x ∷ y ∷ [] }) stop)
-one_entered top x y None h = absurd (cc h)
-one_entered top x y (Some p) h = first_or_second (answers_to p.0 (label_of x)) (answers_to p.0 (label_of y)) x y p.1 h
+one_entered : (top x y z : Shape) (stop : Option (Text × List Text)) → is_some (entered (record { top = top; subs = x ∷ y ∷ z ∷ [] }) stop) ≡ true
+    → IsOneOf x y z (entered (record { top = top; subs = x ∷ y ∷ z ∷ [] }) stop)
+one_entered top x y z None h = absurd (cc h)
+one_entered top x y z (Some p) h = one_of_three (answers_to p.0 (label_of x)) (answers_to p.0 (label_of y)) (answers_to p.0 (label_of z)) x y z p.1 h
 
 abbrev made : App
 made = built dlms
@@ -57,11 +58,18 @@ formats = slice_index_or made.subs 0 made.top
 abbrev replays : Shape
 replays = slice_index_or made.subs 1 made.top
 
-pub command_met : (words : List Text) → fault_of dlms words ≡ [] → (rows : List Row) × ((subcommand_of dlms words ≡ Some (codes "format", rows)) ⊎ (subcommand_of dlms words ≡ Some (codes "replay", rows)))
+abbrev loops : Shape
+loops = slice_index_or made.subs 2 made.top
+
+-- the command that was met, where no fault was
+abbrev pub IsMet : Option (Text × List Row) → List Row → Type 0
+IsMet met rows = (met ≡ Some (codes "format", rows)) ⊎ ((met ≡ Some (codes "replay", rows)) ⊎ (met ≡ Some (codes "loopback", rows)))
+
+pub command_met : (words : List Text) → fault_of dlms words ≡ [] → (rows : List Row) × IsMet (subcommand_of dlms words) rows
 command_met words h =
     let args : List Text = argument_words made words in
     let stop : Option (Text × List Text) = (walk made.top.rules (names_of made) nothing_held args).stopped in
-    one_entered made.top formats replays stop
+    one_entered made.top formats replays loops stop
     (level_wants made.top (names_of made) nothing_held args (is_some (entered made stop)) (entered_fault made stop) refl h)
 
 -- ---- what was met for a command
@@ -69,12 +77,15 @@ command_met words h =
 pub same_some : {A : Type 0} {a b : A} → Some a ≡ Some b → a ≡ b
 same_some e = cc
 
--- the words of a job whose name is not the other one
-pub replays_else : (words : List Text) (met : Option (Text × List Row)) → fault_of dlms words ≡ [] → met ≡ subcommand_of dlms words → (option_map (λ p. p.0) met ≡ Some (codes "format") → ⊥)
-    → (rows : List Row) × (subcommand_of dlms words ≡ Some (codes "replay", rows))
-replays_else words met none is name =
+-- the words of a job whose name is none of the others
+pub loops_else : (words : List Text) (met : Option (Text × List Row)) → fault_of dlms words ≡ [] → met ≡ subcommand_of dlms words → (option_map (λ p. p.0) met ≡ Some (codes "format") → ⊥)
+    → (option_map (λ p. p.0) met ≡ Some (codes "replay") → ⊥) → (rows : List Row) × (subcommand_of dlms words ≡ Some (codes "loopback", rows))
+loops_else words met none is first second =
     let found = command_met words none in
     elim found.1 [
-      | inl formats ↦ absurd (name (ap (option_map (λ p. p.0)) (is ∙ formats)))
-      | inr replays ↦ (found.0, replays)
+      | inl formats ↦ absurd (first (ap (option_map (λ p. p.0)) (is ∙ formats)))
+      | inr rest ↦ elim rest [
+          | inl replays ↦ absurd (second (ap (option_map (λ p. p.0)) (is ∙ replays)))
+          | inr loops ↦ (found.0, loops)
+        ]
     ]
