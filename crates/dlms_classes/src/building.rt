@@ -1,7 +1,7 @@
 //! Values made of parts.
 
 ghost use Rattle.std.specs.Prelude.{◌≡◌, ◌<◌, ◌≤◌, ◌^◌, All, IfOk};
-ghost use Rattle.dlms_data.specs.Value.{octet_string, cons, none};
+ghost use Rattle.dlms_data.specs.Value.{octet_string, cons, none, push_value};
 ghost use Rattle.dlms_data.specs.View.{value_of};
 ghost use Rattle.dlms_classes.specs.Shown.{IsTime};
 
@@ -15,6 +15,25 @@ pub fn room<A: Allocator + Copy>(alloc: A, count: usize) -> Result<Items<A>, All
     Ok(Items::from_vec(Vec::with_capacity(alloc, count)?))
 }
 
+/// The values, and one more.
+fn extended<A: Allocator>(mut items: Items<A>, value: Data<A>) -> Result<Items<A>, AllocError>
+    ensures { IfOk result (λ more. more ≡ push_value items (value_of value)) }
+{
+    items.push(value)?;
+    Ok(items)
+}
+
+/// The values, and two more.
+fn extended_by_two<A: Allocator>(
+    items: Items<A>,
+    first: Data<A>,
+    second: Data<A>,
+) -> Result<Items<A>, AllocError>
+    ensures { IfOk result (λ more. more ≡ push_value (push_value items (value_of first)) (value_of second)) }
+{
+    extended(extended(items, first)?, second)
+}
+
 /// Two values.
 pub fn two<A: Allocator + Copy>(
     alloc: A,
@@ -23,10 +42,7 @@ pub fn two<A: Allocator + Copy>(
 ) -> Result<Items<A>, AllocError>
     ensures { IfOk result (λ items. items ≡ cons (value_of first) (cons (value_of second) none)) }
 {
-    let mut items = room(alloc, 2)?;
-    items.push(first)?;
-    items.push(second)?;
-    Ok(items)
+    extended_by_two(room(alloc, 2)?, first, second)
 }
 
 /// Three values.
@@ -38,11 +54,8 @@ pub fn three<A: Allocator + Copy>(
 ) -> Result<Items<A>, AllocError>
     ensures { IfOk result (λ items. items ≡ cons (value_of first) (cons (value_of second) (cons (value_of third) none))) }
 {
-    let mut items = room(alloc, 3)?;
-    items.push(first)?;
-    items.push(second)?;
-    items.push(third)?;
-    Ok(items)
+    let items = extended_by_two(room(alloc, 3)?, first, second)?;
+    extended(items, third)
 }
 
 /// Four values.
@@ -56,12 +69,8 @@ pub fn four<A: Allocator + Copy>(
     ensures { IfOk result (λ items. items
         ≡ cons (value_of first) (cons (value_of second) (cons (value_of third) (cons (value_of fourth) none)))) }
 {
-    let mut items = room(alloc, 4)?;
-    items.push(first)?;
-    items.push(second)?;
-    items.push(third)?;
-    items.push(fourth)?;
-    Ok(items)
+    let items = extended_by_two(room(alloc, 4)?, first, second)?;
+    extended_by_two(items, third, fourth)
 }
 
 /// The octet-string of these bytes.

@@ -18,7 +18,7 @@ use std::process::ExitCode;
 const CALLS: u64 = 190;
 
 /// What comes of a run.
-#[derive(Clone, Copy, Debug, PartialEq, Eq)]
+#[derive(Clone, Copy)]
 enum Outcome {
     /// The power stopped before the first poll was done.
     Early,
@@ -59,33 +59,72 @@ fn reads(meter: &mut MemoryMeter, file: &mut Readings, alloc: Global) -> Result<
     }
 }
 
-/// A meter whose device fails after so many calls, polled once while it lives and once when it comes back from a stop.
-fn outcome_of(alloc: Global, calls: u64, pick: Pick<'_>) -> Result<Outcome> {
-    let Ok(mut file) = Readings::open(alloc, "") else {
-        return Err(anyhow!("an empty file is refused"));
-    };
+/// Whether the file has each row of the meter's buffer, once, and no other.
+fn agrees(meter: &MemoryMeter, file: &Readings, alloc: Global) -> Result<bool> {
+    let expected = text_of(meter, alloc)?;
+    let text = file.text()?;
+    Ok(text.as_str() == expected.as_str())
+}
+
+/// A new meter whose device fails after so many calls; none where it fails within `format`.
+fn new_meter(alloc: Global, calls: u64) -> Result<Option<MemoryMeter>> {
     let mut pages = MemoryPages::new(alloc, PAGES)?;
     pages.fuse(calls);
-    let Ok(mut meter) = Meter::format(alloc, pages) else {
-        return Ok(Outcome::Early);
-    };
-    lives(&mut meter, 1, 12);
-    if !reads(&mut meter, &mut file, alloc)? {
-        return Ok(Outcome::Early);
+    Ok(Meter::format(alloc, pages).ok())
+}
+
+/// The life up to the stop, with two polls. Whether the first one was done.
+fn first_life(meter: &mut MemoryMeter, file: &mut Readings, alloc: Global) -> Result<bool> {
+    lives(meter, 1, 12);
+    if !reads(meter, file, alloc)? {
+        return Ok(false);
     }
-    lives(&mut meter, 12, 40);
-    let _is_done = reads(&mut meter, &mut file, alloc)?;
-    lives(&mut meter, 40, 52);
-    let Ok(mut meter) = Meter::recover(alloc, meter.close().cut(pick)) else {
-        return Ok(Outcome::Differs);
-    };
-    let is_done = reads(&mut meter, &mut file, alloc)?;
-    let expected = text_of(&meter, alloc)?;
-    let text = file.text()?;
-    if is_done && text.as_str() == expected.as_str() {
+    lives(meter, 12, 40);
+    let _is_done = reads(meter, file, alloc)?;
+    lives(meter, 40, 52);
+    Ok(true)
+}
+
+/// One more poll behind the stop.
+fn second_life(meter: &mut MemoryMeter, file: &mut Readings, alloc: Global) -> Result<Outcome> {
+    if reads(meter, file, alloc)? && agrees(meter, file, alloc)? {
         Ok(Outcome::Agrees)
     } else {
         Ok(Outcome::Differs)
+    }
+}
+
+/// What comes of a stop of this meter, and of its recovery.
+fn outcome_of_stop(
+    meter: MemoryMeter,
+    file: &mut Readings,
+    alloc: Global,
+    pick: Pick<'_>,
+) -> Result<Outcome> {
+    match Meter::recover(alloc, meter.close().cut(pick)) {
+        Ok(mut meter) => second_life(&mut meter, file, alloc),
+        Err(_) => Ok(Outcome::Differs),
+    }
+}
+
+/// A meter whose device fails after so many calls, polled into this file while it lives and once when it comes back from a
+/// stop.
+fn outcome_in(file: &mut Readings, alloc: Global, calls: u64, pick: Pick<'_>) -> Result<Outcome> {
+    let Some(mut meter) = new_meter(alloc, calls)? else {
+        return Ok(Outcome::Early);
+    };
+    if first_life(&mut meter, file, alloc)? {
+        outcome_of_stop(meter, file, alloc, pick)
+    } else {
+        Ok(Outcome::Early)
+    }
+}
+
+/// The same with a new file.
+fn outcome_of(alloc: Global, calls: u64, pick: Pick<'_>) -> Result<Outcome> {
+    match Readings::open(alloc, "") {
+        Ok(mut file) => outcome_in(&mut file, alloc, calls, pick),
+        Err(_) => Err(anyhow!("an empty file is refused")),
     }
 }
 

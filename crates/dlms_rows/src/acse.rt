@@ -1,5 +1,6 @@
 //! Rows of `dlms_acse`.
 
+use crate::answers::{put_shown, put_with_number};
 use crate::bench::Bench;
 use crate::fault::RowFault;
 use crate::hexadecimal::put_hex;
@@ -8,43 +9,59 @@ use dlms_acse::{
     Aarq, AcseFault, Conformance, Verdict, read_aare, read_aarq, verdict, write_aare, write_aarq,
     write_rlre, write_rlrq,
 };
-use std::fmt::Write;
 
 /// The calls of association.
 #[derive(Clone, Copy)]
 pub struct AcseBench;
 
 fn put_fault(answer: &mut String, fault: AcseFault) -> Result<(), RowFault> {
-    Ok(write!(answer, "fault {}", fault.number())?)
+    put_with_number(answer, "fault ", u64::from(fault.number()))
+}
+
+/// The services, in six digits.
+fn put_services(answer: &mut String, services: u32) -> Result<(), RowFault> {
+    let [_, high, middle, low] = services.to_be_bytes();
+    put_hex(answer, &[high, middle, low])
 }
 
 /// What becomes of a request: `accepted`, the services and the size, or `refused`, the diagnostic and the initiate error.
 fn put_verdict(answer: &mut String, verdict: &Verdict) -> Result<(), RowFault> {
     match verdict {
         Verdict::Accepted { conformance, size } => {
-            Ok(write!(answer, "accepted {:06x} {size}", conformance.0)?)
+            answer.push_str("accepted ")?;
+            put_services(answer, conformance.0)?;
+            put_with_number(answer, " ", u64::from(*size))
         }
         Verdict::Refused {
             diagnostic,
             initiate: Some(error),
-        } => Ok(write!(answer, "refused {diagnostic} {error}")?),
-        Verdict::Refused { diagnostic, .. } => Ok(write!(answer, "refused {diagnostic}")?),
+        } => {
+            put_with_number(answer, "refused ", u64::from(*diagnostic))?;
+            put_with_number(answer, " ", u64::from(*error))
+        }
+        Verdict::Refused { diagnostic, .. } => {
+            put_with_number(answer, "refused ", u64::from(*diagnostic))
+        }
     }
 }
 
 /// What a request says: context, mechanism, secret, initiate request.
 fn put_aarq(answer: &mut String, aarq: &Aarq) -> Result<(), RowFault> {
-    write!(answer, "{} {:?} ", aarq.context, aarq.mechanism)?;
+    put_shown(answer, &aarq.context)?;
+    answer.push(' ')?;
+    put_shown(answer, &aarq.mechanism)?;
+    answer.push(' ')?;
     match &aarq.secret {
         Some(secret) => put_hex(answer, secret.as_slice())?,
         None => answer.push_str("no")?,
     }
     match &aarq.initiate {
-        Some(initiate) => Ok(write!(
-            answer,
-            " {} {:06x} {}",
-            initiate.version, initiate.conformance.0, initiate.size
-        )?),
+        Some(initiate) => {
+            put_with_number(answer, " ", u64::from(initiate.version))?;
+            answer.push(' ')?;
+            put_services(answer, initiate.conformance.0)?;
+            put_with_number(answer, " ", u64::from(initiate.size))
+        }
         None => Ok(answer.push_str(" no")?),
     }
 }

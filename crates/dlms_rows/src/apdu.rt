@@ -1,5 +1,6 @@
 //! Rows of `dlms_apdu`.
 
+use crate::answers::{put_shown, put_with_number};
 use crate::bench::{Bench, Room};
 use crate::fault::RowFault;
 use crate::hexadecimal::put_hex;
@@ -9,7 +10,6 @@ use dlms_apdu::{
     write_short,
 };
 use linked_list_allocator::LocalHeap;
-use std::fmt::Write;
 
 /// The calls of the codec of requests and responses.
 #[derive(Drop)]
@@ -18,77 +18,72 @@ pub struct ApduBench<'h> {
 }
 
 fn put_fault(answer: &mut String, fault: ApduFault) -> Result<(), RowFault> {
-    Ok(write!(answer, "fault {}", fault.number())?)
+    put_with_number(answer, "fault ", u64::from(fault.number()))
 }
 
-/// A request as it is written with memory from this heap.
+/// How what is read is shown.
+#[derive(Clone, Copy)]
+enum Way<'h> {
+    /// As it is written with memory from this heap.
+    Written(&'h LocalHeap),
+    /// Field by field.
+    Shown,
+}
+
+/// A request as it is shown.
 fn put_request<'h>(
-    heap: &'h LocalHeap,
+    way: Way<'h>,
     request: &Request<'_, &'h LocalHeap>,
     answer: &mut String,
 ) -> Result<(), RowFault> {
-    if !request.fits() {
-        return Ok(answer.push_str("unfit")?);
-    }
-    match write_request(heap, request) {
-        Ok(bytes) => put_hex(answer, &bytes),
-        Err(_) => Ok(answer.push_str("memory")?),
+    match way {
+        Way::Shown => put_shown(answer, request),
+        Way::Written(_) if !request.fits() => Ok(answer.push_str("unfit")?),
+        Way::Written(heap) => match write_request(heap, request) {
+            Ok(bytes) => put_hex(answer, &bytes),
+            Err(_) => Ok(answer.push_str("memory")?),
+        },
     }
 }
 
-/// A response as it is written with memory from this heap.
+/// A response as it is shown.
 fn put_response<'h>(
-    heap: &'h LocalHeap,
+    way: Way<'h>,
     response: &Response<'_, &'h LocalHeap>,
     answer: &mut String,
 ) -> Result<(), RowFault> {
-    if !response.fits() {
-        return Ok(answer.push_str("unfit")?);
-    }
-    match write_response(heap, response) {
-        Ok(bytes) => put_hex(answer, &bytes),
-        Err(_) => Ok(answer.push_str("memory")?),
+    match way {
+        Way::Shown => put_shown(answer, response),
+        Way::Written(_) if !response.fits() => Ok(answer.push_str("unfit")?),
+        Way::Written(heap) => match write_response(heap, response) {
+            Ok(bytes) => put_hex(answer, &bytes),
+            Err(_) => Ok(answer.push_str("memory")?),
+        },
     }
 }
 
-/// What is read with memory from one heap, as it is written with memory from another.
-fn put_request_again<'h>(
-    from: &'h LocalHeap,
-    to: &'h LocalHeap,
+/// What is read of a request with memory from a heap.
+fn put_read_request<'h>(
+    heap: &'h LocalHeap,
     bytes: &[u8],
+    way: Way<'h>,
     answer: &mut String,
 ) -> Result<(), RowFault> {
-    match read_request(from, bytes) {
-        Ok(request) => put_request(to, &request, answer),
-        Err(fault) => put_fault(answer, fault),
-    }
-}
-
-/// The same of a response.
-fn put_response_again<'h>(
-    from: &'h LocalHeap,
-    to: &'h LocalHeap,
-    bytes: &[u8],
-    answer: &mut String,
-) -> Result<(), RowFault> {
-    match read_response(from, bytes) {
-        Ok(response) => put_response(to, &response, answer),
-        Err(fault) => put_fault(answer, fault),
-    }
-}
-
-/// What is read, field by field.
-fn show_request(heap: &LocalHeap, bytes: &[u8], answer: &mut String) -> Result<(), RowFault> {
     match read_request(heap, bytes) {
-        Ok(request) => Ok(write!(answer, "{request:?}")?),
+        Ok(request) => put_request(way, &request, answer),
         Err(fault) => put_fault(answer, fault),
     }
 }
 
-/// The same of a response.
-fn show_response(heap: &LocalHeap, bytes: &[u8], answer: &mut String) -> Result<(), RowFault> {
+/// What is read of a response with memory from a heap.
+fn put_read_response<'h>(
+    heap: &'h LocalHeap,
+    bytes: &[u8],
+    way: Way<'h>,
+    answer: &mut String,
+) -> Result<(), RowFault> {
     match read_response(heap, bytes) {
-        Ok(response) => Ok(write!(answer, "{response:?}")?),
+        Ok(response) => put_response(way, &response, answer),
         Err(fault) => put_fault(answer, fault),
     }
 }
@@ -127,18 +122,25 @@ impl<'h> ApduBench<'h> {
     }
 }
 
+/// The calls on bytes.
+fn put_call(room: Room<'_>, call: &str, bytes: &[u8], answer: &mut String) -> Result<(), RowFault> {
+    let Room { ample, heap } = room;
+    match call {
+        "request" => put_read_request(heap, bytes, Way::Written(ample), answer),
+        "response" => put_read_response(heap, bytes, Way::Written(ample), answer),
+        "write-request" => put_read_request(ample, bytes, Way::Written(heap), answer),
+        "write-response" => put_read_response(ample, bytes, Way::Written(heap), answer),
+        "show-request" => put_read_request(heap, bytes, Way::Shown, answer),
+        "show-response" => put_read_response(heap, bytes, Way::Shown, answer),
+        _ => Err(RowFault::Form),
+    }
+}
+
 impl Bench for ApduBench<'_> {
     fn step(&mut self, words: &mut Words<'_>, answer: &mut String) -> Result<(), RowFault> {
-        let Room { ample, heap } = self.room;
         match words.word()? {
-            "request" => put_request_again(heap, ample, &words.bytes()?, answer),
-            "response" => put_response_again(heap, ample, &words.bytes()?, answer),
-            "write-request" => put_request_again(ample, heap, &words.bytes()?, answer),
-            "write-response" => put_response_again(ample, heap, &words.bytes()?, answer),
-            "show-request" => show_request(heap, &words.bytes()?, answer),
-            "show-response" => show_response(heap, &words.bytes()?, answer),
             "short" => put_short(&short_of(words)?, answer),
-            _ => Err(RowFault::Form),
+            call => put_call(self.room, call, &words.bytes()?, answer),
         }
     }
 }

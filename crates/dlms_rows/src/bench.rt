@@ -22,7 +22,7 @@ pub trait Bench: Drop {
 /// Plays the lines, and writes the answer to each, a line for a line. A line that is not understood is answered `?`, and
 /// one that works on what was not made `none`.
 pub fn play<B: Bench>(
-    bench: &mut B,
+    mut bench: B,
     lines: &[Line<'_>],
     answers: &mut String,
 ) -> Result<(), RowFault> {

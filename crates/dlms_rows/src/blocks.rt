@@ -1,12 +1,12 @@
 //! Rows of `dlms_blocks`.
 
+use crate::answers::{put_number_and, put_shown, put_with_number};
 use crate::bench::{Bench, Room};
 use crate::fault::RowFault;
 use crate::hexadecimal::put_hex;
 use crate::words::{Words, put_truth, truth_of};
 use dlms_blocks::{Block, GetIn, GetOut, PutIn, PutOut, PutStep};
 use linked_list_allocator::LocalHeap;
-use std::fmt::Write;
 
 /// The most bytes of a value that goes in blocks.
 const MOST: usize = 65_536;
@@ -25,20 +25,20 @@ pub struct BlocksBench<'h> {
 fn put_block(answer: &mut String, block: &Result<Block, u8>) -> Result<(), RowFault> {
     match block {
         Ok(block) => {
-            write!(answer, "{} ", block.number)?;
+            put_number_and(answer, u64::from(block.number), ' ')?;
             put_truth(answer, block.last)?;
             answer.push(' ')?;
             put_hex(answer, block.bytes.as_slice())
         }
-        Err(result) => Ok(write!(answer, "result {result}")?),
+        Err(result) => put_with_number(answer, "result ", u64::from(*result)),
     }
 }
 
 /// What a block makes of a value to set.
 fn put_step(answer: &mut String, step: Result<PutStep, u8>) -> Result<(), RowFault> {
     match step {
-        Ok(step) => Ok(write!(answer, "{step:?}")?),
-        Err(result) => Ok(write!(answer, "result {result}")?),
+        Ok(step) => put_shown(answer, &step),
+        Err(result) => put_with_number(answer, "result ", u64::from(result)),
     }
 }
 
@@ -47,7 +47,7 @@ fn put_joined(answer: &mut String, joined: Result<bool, u8>) -> Result<(), RowFa
     match joined {
         Ok(true) => Ok(answer.push_str("Whole")?),
         Ok(false) => Ok(answer.push_str("More")?),
-        Err(result) => Ok(write!(answer, "result {result}")?),
+        Err(result) => put_with_number(answer, "result ", u64::from(result)),
     }
 }
 
@@ -81,7 +81,7 @@ fn put_lengths(
         let Ok(block) = out.next(number) else {
             break 'blocks;
         };
-        write!(answer, "{},", block.bytes.len())?;
+        put_number_and(answer, block.bytes.len() as u64, ',')?;
         let joined = client.more(block.last, block.number, block.bytes.as_slice());
         if joined.is_err() {
             break 'blocks;

@@ -1,5 +1,6 @@
 //! Rows of `dlms_checkpoint`.
 
+use crate::answers::{put_number, put_shown, put_with_number};
 use crate::bench::{Bench, Room};
 use crate::fault::RowFault;
 use crate::hexadecimal::put_hex;
@@ -7,7 +8,6 @@ use crate::state::StateBench;
 use crate::words::Words;
 use dlms_checkpoint::{BodyFault, Checkpoint, RestoreFault, Restoring, checkpoint_of};
 use linked_list_allocator::LocalHeap;
-use std::fmt::Write;
 
 /// A state, its checkpoint, and bodies that are taken.
 #[derive(Drop)]
@@ -18,15 +18,15 @@ pub struct CheckpointBench<'h> {
 }
 
 fn put_body_fault(answer: &mut String, fault: BodyFault) -> Result<(), RowFault> {
-    Ok(write!(answer, "{fault:?}")?)
+    put_shown(answer, &fault)
 }
 
 /// How many bodies there are, and how long each is.
 fn put_bodies(checkpoint: &Checkpoint, answer: &mut String) -> Result<(), RowFault> {
     let count = checkpoint.body_count();
-    write!(answer, "{count}")?;
+    put_number(answer, u64::from(count))?;
     for index in 0..count {
-        write!(answer, " {}", checkpoint.body(index).len())?;
+        put_with_number(answer, " ", checkpoint.body(index).len() as u64)?;
     }
     Ok(())
 }
@@ -91,7 +91,7 @@ impl<'h> CheckpointBench<'h> {
         };
         let awaited = restoring.awaited();
         if awaited != 0 {
-            return Ok(write!(answer, "awaits {awaited}")?);
+            return put_with_number(answer, "awaits ", awaited as u64);
         }
         match restoring.finish(self.heap) {
             Ok(state) => {

@@ -1,5 +1,6 @@
 //! Rows of `dlms_classes`.
 
+use crate::answers::{put_shown, put_with_number};
 use crate::bench::{Bench, Room};
 use crate::fault::RowFault;
 use crate::hexadecimal::put_hex;
@@ -8,9 +9,8 @@ use crate::words::{Words, client_of};
 use dlms_classes::{AccessResult, get, plan_action, plan_set};
 use dlms_data::{Data, Descriptor, Selector, fits, read, write};
 use dlms_frame::Client;
-use dlms_state::State;
+use dlms_state::{Event, State};
 use linked_list_allocator::LocalHeap;
-use std::fmt::Write;
 
 /// The services of a meter's objects on a state.
 #[derive(Drop)]
@@ -27,7 +27,7 @@ struct Asked {
 }
 
 fn put_result(answer: &mut String, refusal: AccessResult) -> Result<(), RowFault> {
-    Ok(write!(answer, "result {}", refusal.number())?)
+    put_with_number(answer, "result ", u64::from(refusal.number()))
 }
 
 /// Client, class, name in hexadecimal digits, number of the attribute or method.
@@ -109,6 +109,21 @@ fn put_plan(room: Room<'_>, words: &mut Words<'_>, answer: &mut String) -> Resul
     }
 }
 
+/// Has the state take a planned event.
+fn put_taken<'h>(
+    state: &mut State<&'h LocalHeap>,
+    event: Event,
+    answer: &mut String,
+) -> Result<(), RowFault> {
+    match state.check(&event) {
+        Ok(()) => {
+            state.apply(event);
+            Ok(answer.push_str("result 0")?)
+        }
+        Err(_) => put_result(answer, AccessResult::OtherReason),
+    }
+}
+
 /// SET of a value, which the state takes.
 fn put_set<'h>(
     room: Room<'h>,
@@ -118,16 +133,9 @@ fn put_set<'h>(
 ) -> Result<(), RowFault> {
     let asked = asked_of(words)?;
     let value = value_of(room.ample, &words.bytes()?)?;
-    let event = match plan_set(asked.client, asked.descriptor, &value) {
-        Ok(event) => event,
-        Err(result) => return put_result(answer, result),
-    };
-    match state.check(&event) {
-        Ok(()) => {
-            state.apply(event);
-            Ok(answer.push_str("result 0")?)
-        }
-        Err(_) => put_result(answer, AccessResult::OtherReason),
+    match plan_set(asked.client, asked.descriptor, &value) {
+        Ok(event) => put_taken(state, event, answer),
+        Err(result) => put_result(answer, result),
     }
 }
 
@@ -138,7 +146,7 @@ fn put_planned(
     answer: &mut String,
 ) -> Result<(), RowFault> {
     match plan_action(asked.client, asked.descriptor, parameter) {
-        Ok(event) => Ok(write!(answer, "{event:?}")?),
+        Ok(event) => put_shown(answer, &event),
         Err(result) => put_result(answer, result),
     }
 }
@@ -162,16 +170,9 @@ fn put_acted<'h>(
 ) -> Result<(), RowFault> {
     let asked = asked_of(words)?;
     let parameter = value_of(room.ample, &words.bytes()?)?;
-    let event = match plan_action(asked.client, asked.descriptor, Some(&parameter)) {
-        Ok(event) => event,
-        Err(result) => return put_result(answer, result),
-    };
-    match state.check(&event) {
-        Ok(()) => {
-            state.apply(event);
-            Ok(answer.push_str("result 0")?)
-        }
-        Err(_) => put_result(answer, AccessResult::OtherReason),
+    match plan_action(asked.client, asked.descriptor, Some(&parameter)) {
+        Ok(event) => put_taken(state, event, answer),
+        Err(result) => put_result(answer, result),
     }
 }
 

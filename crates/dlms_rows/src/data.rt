@@ -1,5 +1,6 @@
 //! Rows of `dlms_data`.
 
+use crate::answers::{put_number, put_number_and, put_shown, put_with_number};
 use crate::bench::{Bench, Room};
 use crate::fault::RowFault;
 use crate::hexadecimal::put_hex;
@@ -9,7 +10,6 @@ use dlms_data::{
     is_value, laws, octets, read, secs, span, write,
 };
 use linked_list_allocator::LocalHeap;
-use std::fmt::Write;
 
 /// The calls of the codec of values.
 #[derive(Drop)]
@@ -18,7 +18,7 @@ pub struct DataBench<'h> {
 }
 
 fn put_fault(answer: &mut String, fault: DataFault) -> Result<(), RowFault> {
-    Ok(write!(answer, "fault {}", fault.number())?)
+    put_with_number(answer, "fault ", u64::from(fault.number()))
 }
 
 /// A value, as it is written with memory from this heap.
@@ -36,16 +36,25 @@ fn put_value<'h>(
     }
 }
 
-/// The length of what is read, as `span` tells it too, and how it is written.
+/// The length of a value that was read, as `span` tells it too, and how it is written.
+fn put_found<'h>(
+    heap: &'h LocalHeap,
+    bytes: &[u8],
+    value: &Data<&'h LocalHeap>,
+    len: usize,
+    answer: &mut String,
+) -> Result<(), RowFault> {
+    if span(bytes).ok() != Some(len) {
+        answer.push_str("another span ")?;
+    }
+    put_number_and(answer, len as u64, ' ')?;
+    put_value(answer, heap, value)
+}
+
+/// What is read.
 fn put_read(room: Room<'_>, bytes: &[u8], answer: &mut String) -> Result<(), RowFault> {
     match read(room.heap, bytes) {
-        Ok((value, len)) => {
-            if span(bytes).ok() != Some(len) {
-                answer.push_str("another span ")?;
-            }
-            write!(answer, "{len} ")?;
-            put_value(answer, room.ample, &value)
-        }
+        Ok((value, len)) => put_found(room.ample, bytes, &value, len, answer),
         Err(fault) => put_fault(answer, fault),
     }
 }
@@ -53,8 +62,27 @@ fn put_read(room: Room<'_>, bytes: &[u8], answer: &mut String) -> Result<(), Row
 /// The length of what stands at the front, or the fault.
 fn put_span(bytes: &[u8], answer: &mut String) -> Result<(), RowFault> {
     match span(bytes) {
-        Ok(len) => Ok(write!(answer, "{len}")?),
+        Ok(len) => put_number(answer, len as u64),
         Err(fault) => put_fault(answer, fault),
+    }
+}
+
+/// A value behind other bytes, with memory from the heap.
+fn put_appended<'h>(
+    heap: &'h LocalHeap,
+    front: &[u8],
+    value: &Data<&'h LocalHeap>,
+    answer: &mut String,
+) -> Result<(), RowFault> {
+    if !fits(value) {
+        return Ok(answer.push_str("unfit")?);
+    }
+    let Ok(out) = Vec::from_slice(heap, front) else {
+        return Ok(answer.push_str("memory")?);
+    };
+    match append(out, value) {
+        Ok(out) => put_hex(answer, &out),
+        Err(_) => Ok(answer.push_str("memory")?),
     }
 }
 
@@ -65,25 +93,16 @@ fn put_written(
     bytes: &[u8],
     answer: &mut String,
 ) -> Result<(), RowFault> {
-    let Ok((value, _)) = read(room.ample, bytes) else {
-        return Err(RowFault::Form);
-    };
-    if !fits(&value) {
-        return Ok(answer.push_str("unfit")?);
-    }
-    let Ok(out) = Vec::from_slice(room.heap, front) else {
-        return Ok(answer.push_str("memory")?);
-    };
-    match append(out, &value) {
-        Ok(out) => put_hex(answer, &out),
-        Err(_) => Ok(answer.push_str("memory")?),
+    match read(room.ample, bytes) {
+        Ok((value, _)) => put_appended(room.heap, front, &value, answer),
+        Err(_) => Err(RowFault::Form),
     }
 }
 
 /// What is read, variant by variant.
 fn put_debug(room: Room<'_>, bytes: &[u8], answer: &mut String) -> Result<(), RowFault> {
     match read(room.heap, bytes) {
-        Ok((value, _)) => Ok(write!(answer, "{value:?}")?),
+        Ok((value, _)) => put_shown(answer, &value),
         Err(fault) => put_fault(answer, fault),
     }
 }
@@ -143,7 +162,7 @@ fn put_structure(
     let octets = Data::OctetString(Bytes::from_slice(room.ample, octets)?);
     let items = extended(Items::new(room.ample), octets)?;
     let items = extended(items, Data::Integer(number))?;
-    write!(answer, "{} ", items.len())?;
+    put_number_and(answer, items.len() as u64, ' ')?;
     put_value(answer, room.ample, &Data::Structure(items))
 }
 
@@ -158,7 +177,7 @@ fn put_first_bits(
         return Err(RowFault::Form);
     }
     let bits = Bits::from_vec(Vec::from_slice(room.ample, bytes)?, count);
-    write!(answer, "{} ", bits.len())?;
+    put_number_and(answer, bits.len() as u64, ' ')?;
     put_hex(answer, bits.as_bytes())
 }
 
@@ -166,7 +185,7 @@ fn put_first_bits(
 fn put_bits(room: Room<'_>, bytes: &[u8], answer: &mut String) -> Result<(), RowFault> {
     match read(room.ample, bytes) {
         Ok((Data::BitString(bits), _)) => {
-            write!(answer, "{} ", bits.len())?;
+            put_number_and(answer, bits.len() as u64, ' ')?;
             put_hex(answer, bits.as_bytes())
         }
         _ => Err(RowFault::Form),
@@ -185,7 +204,7 @@ fn put_octets(second: u32, answer: &mut String) -> Result<(), RowFault> {
 /// A second, if there is one.
 fn put_second(answer: &mut String, second: Option<u32>) -> Result<(), RowFault> {
     match second {
-        Some(second) => Ok(write!(answer, " {second}")?),
+        Some(second) => put_with_number(answer, " ", u64::from(second)),
         None => Ok(answer.push_str(" no")?),
     }
 }

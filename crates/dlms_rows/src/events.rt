@@ -1,10 +1,10 @@
 //! Events, as the rows write them: a word and what the event holds.
 
+use crate::answers::put_with_number;
 use crate::fault::RowFault;
 use crate::words::Words;
 use arrayvec::ArrayVec;
 use dlms_state::{Event, Refused};
-use std::fmt::Write;
 
 /// Bytes in place; not understood where there are more than fit.
 pub fn in_place<const MOST: usize>(bytes: &[u8]) -> Result<ArrayVec<u8, MOST>, RowFault> {
@@ -53,9 +53,9 @@ pub fn event_of(call: &str, words: &mut Words<'_>) -> Result<Event, RowFault> {
 
 /// Why an event is refused: the number, and the last moment where it goes back.
 pub fn put_refused(answer: &mut String, refused: Refused) -> Result<(), RowFault> {
-    write!(answer, "refused {}", refused.number())?;
+    put_with_number(answer, "refused ", u64::from(refused.number()))?;
     if let Refused::MomentBack(last) = refused {
-        write!(answer, " {last}")?;
+        put_with_number(answer, " ", u64::from(last))?;
     }
     Ok(())
 }

@@ -5,7 +5,7 @@ use std::fmt;
 use thiserror::Error;
 
 /// Why a line gives no answer of its crate.
-#[derive(Clone, Copy, Debug, PartialEq, Eq, Error)]
+#[derive(Clone, Copy, Debug, Error)]
 pub enum RowFault {
     /// The line names no call, or not what the call takes.
     #[error("a line is not understood")]

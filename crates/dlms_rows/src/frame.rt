@@ -3,12 +3,12 @@
 ghost use Rattle.std.specs.Prelude.{IsTrue};
 ghost use Rattle.dlms_frame.specs.Frame.{IsAddress};
 
+use crate::answers::{put_number_and, put_shown, put_with_number};
 use crate::bench::Bench;
 use crate::fault::RowFault;
 use crate::hexadecimal::put_hex;
 use crate::words::{Words, truth_of};
 use dlms_frame::{Address, Deframer, Frame, check};
-use std::fmt::Write;
 
 /// A deframer.
 #[derive(Drop)]
@@ -62,18 +62,20 @@ fn put_made(words: &mut Words<'_>, answer: &mut String) -> Result<(), RowFault> 
         return Err(RowFault::Form);
     }
     let frame = Frame::new(segmented, dest, src, control, &info);
-    write!(answer, "{} ", frame.len())?;
+    put_number_and(answer, frame.len() as u64, ' ')?;
     put_frame(answer, &frame.copy())
 }
 
 /// The parts of a frame, as `put_made` takes them.
 fn put_parts(bytes: &[u8], answer: &mut String) -> Result<(), RowFault> {
     let frame = frame_of(bytes)?;
-    write!(
-        answer,
-        "{} {:?} {:?} {} ",
-        frame.segmented, frame.dest, frame.src, frame.control
-    )?;
+    put_shown(answer, &frame.segmented)?;
+    answer.push(' ')?;
+    put_shown(answer, &frame.dest)?;
+    answer.push(' ')?;
+    put_shown(answer, &frame.src)?;
+    put_with_number(answer, " ", u64::from(frame.control))?;
+    answer.push(' ')?;
     put_hex(answer, frame.info.as_slice())
 }
 
@@ -87,7 +89,7 @@ impl FrameBench {
     /// How many bytes are taken, and the frame that they close.
     fn feed(&mut self, bytes: &[u8], answer: &mut String) -> Result<(), RowFault> {
         let (taken, frame) = self.deframer.feed(bytes);
-        write!(answer, "{taken} ")?;
+        put_number_and(answer, taken as u64, ' ')?;
         match frame {
             Some(frame) => put_frame(answer, &frame),
             None => Ok(answer.push_str("no")?),
@@ -108,7 +110,7 @@ impl FrameBench {
 impl Bench for FrameBench {
     fn step(&mut self, words: &mut Words<'_>, answer: &mut String) -> Result<(), RowFault> {
         match words.word()? {
-            "check" => Ok(write!(answer, "{:04x}", check(&words.bytes()?))?),
+            "check" => put_hex(answer, &check(&words.bytes()?).to_be_bytes()),
             "deframer" => {
                 self.deframer = Deframer::new();
                 Ok(())

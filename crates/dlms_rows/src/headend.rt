@@ -2,15 +2,16 @@
 
 ghost use Rattle.std.specs.Prelude.{◌≤◌, IfOk, IfSome};
 
+use crate::answers::{put_number, put_with_number};
 use crate::bench::{Bench, Room};
 use crate::events::in_place;
 use crate::fault::RowFault;
 use crate::frame::{frame_of, put_frame};
+use crate::rows::put_row_parts;
 use crate::words::{Words, client_of, put_truth};
 use dlms_frame::Frame;
 use dlms_headend::{Plan, PollFault, PollStep, Poller, Readings, ReadingsFault, Row};
 use linked_list_allocator::LocalHeap;
-use std::fmt::Write;
 
 /// The last second of a meter's clock.
 const LAST_SECOND: u32 = 3_155_759_999;
@@ -24,29 +25,30 @@ pub struct HeadendBench<'h> {
 }
 
 fn put_poll_fault(answer: &mut String, fault: PollFault) -> Result<(), RowFault> {
-    write!(answer, "fault {}", fault.number())?;
+    put_with_number(answer, "fault ", u64::from(fault.number()))?;
     match fault {
-        PollFault::Refused(number) | PollFault::Result(number) => Ok(write!(answer, " {number}")?),
+        PollFault::Refused(number) | PollFault::Result(number) => {
+            put_with_number(answer, " ", u64::from(number))
+        }
         _ => Ok(()),
     }
 }
 
 fn put_readings_fault(answer: &mut String, fault: ReadingsFault) -> Result<(), RowFault> {
     match fault {
-        ReadingsFault::Line(number) => Ok(write!(answer, "line {number}")?),
+        ReadingsFault::Line(number) => put_with_number(answer, "line ", number as u64),
         ReadingsFault::Memory => Ok(answer.push_str("memory")?),
     }
 }
 
 /// A row: `clock,register,register,register`.
 fn put_row(answer: &mut String, row: &Row) -> Result<(), RowFault> {
-    let [first, second, third] = row.registers;
-    Ok(write!(answer, " {},{first},{second},{third}", row.clock)?)
+    put_row_parts(answer, row.clock, row.registers)
 }
 
 /// How many rows there are, and the rows.
 fn put_rows(answer: &mut String, rows: &[Row]) -> Result<(), RowFault> {
-    write!(answer, "{}", rows.len())?;
+    put_number(answer, rows.len() as u64)?;
     for row in rows {
         put_row(answer, row)?;
     }
@@ -142,7 +144,7 @@ fn put_merged(
         rows.push(row_of(words)?)?;
     }
     match readings.merge(&rows) {
-        Ok(count) => Ok(write!(answer, "{count}")?),
+        Ok(count) => put_number(answer, count as u64),
         Err(_) => Ok(answer.push_str("memory")?),
     }
 }
@@ -152,7 +154,8 @@ fn put_text(readings: &Readings<&LocalHeap>, answer: &mut String) -> Result<(), 
     match readings.text() {
         Ok(text) => {
             for line in text.as_str().lines() {
-                write!(answer, "{line}/")?;
+                answer.push_str(line)?;
+                answer.push('/')?;
             }
             Ok(())
         }
@@ -171,7 +174,7 @@ fn readings_step(
         "merge" => put_merged(readings, words, answer),
         "text" => put_text(readings, answer),
         "last" => match readings.last() {
-            Some(clock) => Ok(write!(answer, "{clock}")?),
+            Some(clock) => put_number(answer, u64::from(clock)),
             None => Ok(answer.push_str("no")?),
         },
         _ => Err(RowFault::Form),

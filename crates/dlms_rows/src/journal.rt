@@ -1,5 +1,6 @@
 //! Rows of `dlms_journal`.
 
+use crate::answers::{put_number_and, put_shown, put_with_number};
 use crate::bench::Bench;
 use crate::events::event_of;
 use crate::fault::RowFault;
@@ -9,7 +10,6 @@ use dlms_journal::{
     MOST_PAYLOAD, PAGE_BYTES, PageKind, generation_of, index_of, kind_of, page_of, payload_of,
     record_of, records_of, version_of,
 };
-use std::fmt::Write;
 
 /// The calls of records and pages.
 #[derive(Clone, Copy)]
@@ -29,7 +29,8 @@ fn put_records(bytes: &[u8], answer: &mut String) -> Result<(), RowFault> {
     };
     answer.push_str("yes")?;
     for event in events {
-        write!(answer, " {event:?}")?;
+        answer.push(' ')?;
+        put_shown(answer, &event)?;
     }
     Ok(())
 }
@@ -38,7 +39,7 @@ fn put_records(bytes: &[u8], answer: &mut String) -> Result<(), RowFault> {
 fn put_cuts(bytes: &[u8], answer: &mut String) -> Result<(), RowFault> {
     for len in 0..=bytes.len() {
         if records_of(&bytes[..len]).is_some() {
-            write!(answer, "{len},")?;
+            put_number_and(answer, len as u64, ',')?;
         }
     }
     Ok(())
@@ -69,11 +70,13 @@ fn put_head(bytes: &[u8], answer: &mut String) -> Result<(), RowFault> {
     }
     page.copy_from_slice(bytes);
     match kind_of(&page) {
-        Some(kind) => write!(answer, "{kind:?}")?,
+        Some(kind) => put_shown(answer, &kind)?,
         None => answer.push_str("unknown")?,
     }
-    write!(answer, " {} {}", version_of(&page), index_of(&page))?;
-    write!(answer, " {} ", generation_of(&page))?;
+    put_with_number(answer, " ", u64::from(version_of(&page)))?;
+    put_with_number(answer, " ", u64::from(index_of(&page)))?;
+    put_with_number(answer, " ", generation_of(&page))?;
+    answer.push(' ')?;
     match payload_of(&page) {
         Some(payload) => put_hex(answer, payload),
         None => Ok(answer.push_str("no")?),

@@ -11,6 +11,7 @@
 #![tactic(auto)]
 
 mod acse;
+mod answers;
 mod apdu;
 mod bench;
 mod blocks;

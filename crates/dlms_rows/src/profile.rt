@@ -1,13 +1,13 @@
 //! Rows of `dlms_profile`.
 
+use crate::answers::{put_number, put_number_and, put_shown};
 use crate::bench::Bench;
 use crate::fault::RowFault;
-use crate::rows::put_rows;
+use crate::rows::{put_entries, put_range, put_row};
 use crate::state::row_of;
 use crate::words::Words;
 use dlms_profile::{Row, Rows};
 use linked_list_allocator::LocalHeap;
-use std::fmt::Write;
 
 /// A buffer of rows that takes its memory from a heap.
 #[derive(Drop)]
@@ -27,45 +27,10 @@ fn push_periods(rows: &mut Rows<&LocalHeap>, count: u32) {
     }
 }
 
-fn put_range(
-    rows: &Rows<&LocalHeap>,
-    words: &mut Words<'_>,
-    answer: &mut String,
-) -> Result<(), RowFault> {
-    let first = words.number()?;
-    match rows.by_range(first, words.number()?) {
-        Ok(found) => put_rows(answer, &found),
-        Err(_) => Ok(answer.push_str("memory")?),
-    }
-}
-
-fn put_entries(
-    rows: &Rows<&LocalHeap>,
-    words: &mut Words<'_>,
-    answer: &mut String,
-) -> Result<(), RowFault> {
-    let first = words.number()?;
-    let last = words.number()?;
-    if first == 0 {
-        return Err(RowFault::Form);
-    }
-    match rows.by_entry(first, last) {
-        Ok(found) => put_rows(answer, &found),
-        Err(_) => Ok(answer.push_str("memory")?),
-    }
-}
-
-fn put_row(rows: &Rows<&LocalHeap>, index: u32, answer: &mut String) -> Result<(), RowFault> {
-    match rows.get(index as usize) {
-        Some(row) => put_rows(answer, &[*row]),
-        None => Ok(answer.push_str("no")?),
-    }
-}
-
 /// The clocks in place, oldest first.
 fn put_clocks(rows: &Rows<&LocalHeap>, answer: &mut String) -> Result<(), RowFault> {
     for row in rows.iter() {
-        write!(answer, "{},", row.clock)?;
+        put_number_and(answer, u64::from(row.clock), ',')?;
     }
     Ok(())
 }
@@ -73,7 +38,7 @@ fn put_clocks(rows: &Rows<&LocalHeap>, answer: &mut String) -> Result<(), RowFau
 /// How many rows the two slices have.
 fn put_slices(rows: &Rows<&LocalHeap>, answer: &mut String) -> Result<(), RowFault> {
     let (older, newer) = rows.as_slices();
-    Ok(write!(answer, "{}", older.len().saturating_add(newer.len()))?)
+    put_number(answer, older.len().saturating_add(newer.len()) as u64)
 }
 
 impl<'h> ProfileBench<'h> {
@@ -108,10 +73,28 @@ impl<'h> ProfileBench<'h> {
                 self.rows_mut()?.push(row);
             }
             "periods" => push_periods(self.rows_mut()?, words.number()?),
-            "clear" => self.rows_mut()?.clear(),
-            _ => return Err(RowFault::Form),
+            _ => self.rows_mut()?.clear(),
         }
         Ok(())
+    }
+}
+
+/// The calls that show the rows.
+fn put_view(
+    rows: &Rows<&LocalHeap>,
+    call: &str,
+    words: &mut Words<'_>,
+    answer: &mut String,
+) -> Result<(), RowFault> {
+    match call {
+        "len" => put_number(answer, rows.len() as u64),
+        "is-empty" => put_shown(answer, &rows.is_empty()),
+        "slices" => put_slices(rows, answer),
+        "clocks" => put_clocks(rows, answer),
+        "range" => put_range(rows, words, answer),
+        "entries" => put_entries(rows, words, answer),
+        "row" => put_row(rows, words.number()?, answer),
+        _ => Err(RowFault::Form),
     }
 }
 
@@ -120,14 +103,8 @@ impl Bench for ProfileBench<'_> {
         let call = words.word()?;
         match call {
             "rows" => self.begin(answer),
-            "len" => Ok(write!(answer, "{}", self.rows()?.len())?),
-            "is-empty" => Ok(write!(answer, "{}", self.rows()?.is_empty())?),
-            "slices" => put_slices(self.rows()?, answer),
-            "clocks" => put_clocks(self.rows()?, answer),
-            "range" => put_range(self.rows()?, words, answer),
-            "entries" => put_entries(self.rows()?, words, answer),
-            "row" => put_row(self.rows()?, words.number()?, answer),
-            _ => self.change(call, words),
+            "push" | "periods" | "clear" => self.change(call, words),
+            _ => put_view(self.rows()?, call, words, answer),
         }
     }
 }

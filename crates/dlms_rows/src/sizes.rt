@@ -5,7 +5,7 @@ use crate::words::Words;
 
 /// The sizes from `first` on, `count` of them, each `step` bytes above the one before. Where `least` is there, memory is
 /// refused at more than so many of them, and not at the last.
-#[derive(Clone, Copy, Debug, PartialEq, Eq)]
+#[derive(Clone, Copy)]
 pub struct Sizes {
     pub first: u32,
     pub step: u32,
@@ -14,7 +14,7 @@ pub struct Sizes {
 }
 
 /// What a scenario says of its heap; one ample heap where it says nothing.
-#[derive(Clone, Copy, Debug, PartialEq, Eq)]
+#[derive(Clone, Copy)]
 pub enum Heaps {
     Ample,
     Each(Sizes),

@@ -1,15 +1,15 @@
 //! Rows of `dlms_state`; other crates prepare their states by them.
 
+use crate::answers::{put_number, put_number_and, put_signed, put_text};
 use crate::bench::Bench;
 use crate::events::{event_of, in_place, put_refused};
 use crate::fault::RowFault;
 use crate::hexadecimal::put_hex;
-use crate::rows::put_rows;
+use crate::rows::{put_entries, put_range, put_row};
 use crate::words::Words;
 use dlms_profile::Row;
 use dlms_state::{CLOCK_END, Event, Outlook, Parts, PartsFault, State};
 use linked_list_allocator::LocalHeap;
-use std::fmt::Write;
 
 /// A state that takes its memory from a heap, and what an outlook on it comes to.
 #[derive(Drop)]
@@ -60,59 +60,60 @@ fn restore_row(state: &mut State<&LocalHeap>, row: Row) -> Result<(), RowFault> 
     }
 }
 
+/// The three registers of a state.
+fn put_registers(state: &State<&LocalHeap>, answer: &mut String) -> Result<(), RowFault> {
+    let [first, second, third] = state.registers();
+    put_number_and(answer, u64::from(first), ' ')?;
+    put_number_and(answer, u64::from(second), ' ')?;
+    put_number(answer, u64::from(third))
+}
+
+/// The calls that show a state.
+const VIEWS: [&str; 11] = [
+    "range",
+    "entries",
+    "row",
+    "registers",
+    "text",
+    "secret",
+    "clock",
+    "last",
+    "offset",
+    "period",
+    "count",
+];
+
 /// The numbers of a state.
-fn put_number(state: &State<&LocalHeap>, call: &str, answer: &mut String) -> Result<(), RowFault> {
+fn put_view_number(
+    state: &State<&LocalHeap>,
+    call: &str,
+    answer: &mut String,
+) -> Result<(), RowFault> {
     match call {
-        "clock" => Ok(write!(answer, "{}", state.clock())?),
-        "last" => Ok(write!(answer, "{}", state.last())?),
-        "offset" => Ok(write!(answer, "{}", state.offset())?),
-        "period" => Ok(write!(answer, "{}", state.period())?),
-        "count" => Ok(write!(answer, "{}", state.rows().len())?),
-        "text" => put_hex(answer, state.text()),
-        "secret" => put_hex(answer, state.secret()),
-        "registers" => {
-            let [first, second, third] = state.registers();
-            Ok(write!(answer, "{first} {second} {third}")?)
-        }
+        "clock" => put_number(answer, u64::from(state.clock())),
+        "last" => put_number(answer, u64::from(state.last())),
+        "offset" => put_signed(answer, state.offset()),
+        "period" => put_number(answer, u64::from(state.period())),
+        "count" => put_number(answer, state.rows().len() as u64),
         _ => Err(RowFault::Form),
     }
 }
 
-/// The rows of a state in a range of seconds.
-fn put_range(
+/// What a call of `VIEWS` shows.
+fn put_view(
     state: &State<&LocalHeap>,
+    call: &str,
     words: &mut Words<'_>,
     answer: &mut String,
 ) -> Result<(), RowFault> {
-    let first = words.number()?;
-    match state.rows().by_range(first, words.number()?) {
-        Ok(rows) => put_rows(answer, &rows),
-        Err(_) => Ok(answer.push_str("memory")?),
-    }
-}
-
-/// The rows of a state from one entry to another.
-fn put_entries(
-    state: &State<&LocalHeap>,
-    words: &mut Words<'_>,
-    answer: &mut String,
-) -> Result<(), RowFault> {
-    let first = words.number()?;
-    let last = words.number()?;
-    if first == 0 {
-        return Err(RowFault::Form);
-    }
-    match state.rows().by_entry(first, last) {
-        Ok(rows) => put_rows(answer, &rows),
-        Err(_) => Ok(answer.push_str("memory")?),
-    }
-}
-
-/// A row of a state.
-fn put_row(state: &State<&LocalHeap>, index: u32, answer: &mut String) -> Result<(), RowFault> {
-    match state.rows().get(index as usize) {
-        Some(row) => put_rows(answer, &[*row]),
-        None => Ok(answer.push_str("no")?),
+    match call {
+        "range" => put_range(state.rows(), words, answer),
+        "entries" => put_entries(state.rows(), words, answer),
+        "row" => put_row(state.rows(), words.number()?, answer),
+        "registers" => put_registers(state, answer),
+        "text" => put_hex(answer, state.text()),
+        "secret" => put_hex(answer, state.secret()),
+        _ => put_view_number(state, call, answer),
     }
 }
 
@@ -204,7 +205,10 @@ impl<'h> StateBench<'h> {
         let event = event_of(call, words)?;
         match self.state()?.check(&event) {
             Ok(()) => Ok(()),
-            Err(refused) => Ok(write!(answer, "{} {refused}", refused.number())?),
+            Err(refused) => {
+                put_number_and(answer, u64::from(refused.number()), ' ')?;
+                put_text(answer, &refused)
+            }
         }
     }
 
@@ -227,26 +231,8 @@ impl<'h> StateBench<'h> {
     /// How many rows the outlook has come to.
     fn put_outlook(&self, answer: &mut String) -> Result<(), RowFault> {
         match &self.outlook {
-            Some(outlook) => Ok(write!(answer, "{}", outlook.rows())?),
+            Some(outlook) => put_number(answer, outlook.rows() as u64),
             None => Err(RowFault::Missing),
-        }
-    }
-
-    /// The calls that show a state.
-    fn show(
-        &mut self,
-        call: &str,
-        words: &mut Words<'_>,
-        answer: &mut String,
-    ) -> Result<(), RowFault> {
-        match call {
-            "range" => put_range(self.state()?, words, answer),
-            "entries" => put_entries(self.state()?, words, answer),
-            "row" => put_row(self.state()?, words.number()?, answer),
-            "registers" | "clock" | "last" | "offset" | "period" | "count" | "text" | "secret" => {
-                put_number(self.state()?, call, answer)
-            }
-            _ => self.event(call, words, answer),
         }
     }
 
@@ -273,7 +259,8 @@ impl<'h> StateBench<'h> {
             }
             "after" => self.after(words, answer),
             "outlook-rows" => self.put_outlook(answer),
-            _ => self.show(call, words, answer),
+            _ if VIEWS.contains(&call) => put_view(self.state()?, call, words, answer),
+            _ => self.event(call, words, answer),
         }
     }
 }

@@ -17,7 +17,7 @@ use crate::scenario::Line;
 use crate::state::StateBench;
 
 /// A crate under test.
-#[derive(Clone, Copy, Debug, PartialEq, Eq)]
+#[derive(Clone, Copy)]
 pub enum Subject {
     Acse,
     Apdu,
@@ -75,18 +75,18 @@ impl Subject {
         answers: &mut String,
     ) -> Result<(), RowFault> {
         match self {
-            Subject::Acse => play(&mut AcseBench, lines, answers),
-            Subject::Apdu => play(&mut ApduBench::new(room), lines, answers),
-            Subject::Blocks => play(&mut BlocksBench::new(room), lines, answers),
-            Subject::Checkpoint => play(&mut CheckpointBench::new(room), lines, answers),
-            Subject::Classes => play(&mut ClassesBench::new(room), lines, answers),
-            Subject::Data => play(&mut DataBench::new(room), lines, answers),
-            Subject::Frame => play(&mut FrameBench::new(), lines, answers),
-            Subject::Headend => play(&mut HeadendBench::new(room), lines, answers),
-            Subject::Journal => play(&mut JournalBench, lines, answers),
-            Subject::Link => play(&mut LinkBench::new(), lines, answers),
-            Subject::Profile => play(&mut ProfileBench::new(room.heap), lines, answers),
-            Subject::State => play(&mut StateBench::new(room.heap), lines, answers),
+            Subject::Acse => play(AcseBench, lines, answers),
+            Subject::Apdu => play(ApduBench::new(room), lines, answers),
+            Subject::Blocks => play(BlocksBench::new(room), lines, answers),
+            Subject::Checkpoint => play(CheckpointBench::new(room), lines, answers),
+            Subject::Classes => play(ClassesBench::new(room), lines, answers),
+            Subject::Data => play(DataBench::new(room), lines, answers),
+            Subject::Frame => play(FrameBench::new(), lines, answers),
+            Subject::Headend => play(HeadendBench::new(room), lines, answers),
+            Subject::Journal => play(JournalBench, lines, answers),
+            Subject::Link => play(LinkBench::new(), lines, answers),
+            Subject::Profile => play(ProfileBench::new(room.heap), lines, answers),
+            Subject::State => play(StateBench::new(room.heap), lines, answers),
         }
     }
 }

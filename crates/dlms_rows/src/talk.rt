@@ -2,11 +2,11 @@
 
 ghost use Rattle.std.specs.Prelude.{◌≡◌, None};
 
+use crate::answers::{put_number, put_with_number};
 use crate::fault::RowFault;
 use arrayvec::ArrayVec;
 use dlms_frame::{Client, Deframer, Frame};
 use dlms_link::{ClientLink, ClientOut, LinkOut, ServerLink};
-use std::fmt::Write;
 
 /// Lengths of APDUs, those round the length of a segment among them.
 const LENGTHS: [usize; 40] = [
@@ -15,7 +15,7 @@ const LENGTHS: [usize; 40] = [
 ];
 
 /// How far a talk came.
-#[derive(Clone, Copy, Debug, PartialEq, Eq)]
+#[derive(Clone, Copy)]
 struct Course {
     /// The frames that went.
     frames: u32,
@@ -193,7 +193,11 @@ fn put_talk(lost: u32, answer: &mut String) -> Result<u32, RowFault> {
         wrong,
     } = talk.course;
     if served != 40 || taken != 40 || wrong != 0 || !talk.client.is_down() {
-        write!(answer, "lost {lost}: {served} {taken} {wrong}, ")?;
+        put_with_number(answer, "lost ", u64::from(lost))?;
+        put_with_number(answer, ": ", served as u64)?;
+        put_with_number(answer, " ", taken as u64)?;
+        put_with_number(answer, " ", u64::from(wrong))?;
+        answer.push_str(", ")?;
     }
     Ok(frames)
 }
@@ -203,11 +207,13 @@ fn put_talk(lost: u32, answer: &mut String) -> Result<u32, RowFault> {
 pub fn put_talks(least: u32, answer: &mut String) -> Result<(), RowFault> {
     let frames = put_talk(u32::MAX, answer)?;
     if frames <= least {
-        write!(answer, "{frames} frames, ")?;
+        put_number(answer, u64::from(frames))?;
+        answer.push_str(" frames, ")?;
     }
     for lost in 0..frames.min(10_000) {
         if put_talk(lost, answer)? <= frames {
-            write!(answer, "lost {lost}: no more frames, ")?;
+            put_with_number(answer, "lost ", u64::from(lost))?;
+            answer.push_str(": no more frames, ")?;
         }
     }
     Ok(answer.push_str("all")?)

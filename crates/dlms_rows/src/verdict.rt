@@ -11,7 +11,7 @@ use linked_list_allocator::LocalHeap;
 use std::alloc::Global;
 
 /// How many rows there were, and how many came out otherwise.
-#[derive(Clone, Copy, Debug, PartialEq, Eq)]
+#[derive(Clone, Copy)]
 pub struct Counts {
     pub rows: u32,
     pub differing: u32,
@@ -27,7 +27,7 @@ impl Counts {
 }
 
 /// What an answer is, beside what is written.
-#[derive(Clone, Copy, Debug, PartialEq, Eq)]
+#[derive(Clone, Copy)]
 enum Match {
     /// What is written.
     Same,
