@@ -1,9 +1,9 @@
 -- Answers to a GET.
-use Rattle.std.proofs.Common.{arith, refl, sym, ap, subst, ◌∙◌, ◌≡◌, ◌+◌, ◌++◌, ◌==◌, ◌≢◌, if◌then◌else◌, ℕ, List, Bool, true, false, Result, Ok, Err}
+use Rattle.std.proofs.Common.{arith, refl, sym, ap, subst, ◌∙◌, ◌≡◌, ◌≢◌, ◌+◌, ◌++◌, ℕ, List, [], ◌∷◌, drop, append-nil, Bool, true, Result, Ok, Err}
 use Rattle.std.proofs.lemmas.Bool.Decides.{nat_tests}
 use Rattle.std.specs.Prelude.{IsOkAnd}
 use Rattle.dlms_apdu.specs.Forms.{ResponseForm, get_data, get_block}
-use Rattle.dlms_apdu.specs.Reading.{HoldsData}
+use Rattle.dlms_apdu.specs.Reading.{HoldsData, response_at}
 use Rattle.dlms_apdu.specs.declared.fault.Refusal.{Refusal}
 use Rattle.dlms_data.specs.Value.{Value}
 use Rattle.dlms_blocks.specs.Joining.{Joining, is_next, with_block}
@@ -11,7 +11,12 @@ use Rattle.dlms_headend.specs.declared.heard.Heard.{Heard}
 use Rattle.dlms_headend.specs.declared.heard.Heard.TheVariants.{More, Rows}
 use Rattle.dlms_headend.specs.declared.poll_fault.PollFault.{PollFault}
 use Rattle.dlms_headend.specs.declared.poll_fault.PollFault.TheVariants.{Refused, Result as BadResult, Line, Protocol, Memory}
-use Rattle.dlms_headend.specs.Rows.{NoEncoding}
+use Rattle.dlms_apdu.proofs.WholeLaws.{reads_responses}
+use Rattle.dlms_apdu.specs.Spelling.{SpellsResponse}
+use Rattle.dlms_data.proofs.WholeLaws.{reads_one_value}
+use Rattle.dlms_data.specs.Spelling.{IsSpelling}
+use Rattle.dlms_headend.specs.declared.row.Row.{Row}
+use Rattle.dlms_headend.specs.Rows.{IsProfile, IsEncoded, NoEncoding}
 use Rattle.dlms_headend.specs.Heard.{HasTaken, LastHeard, HearsBy, FailsOrWants}
 
 pub next_number : (old : Joining) (number : ℕ) → is_next old number ≡ true → number ≡ old.taken + 1
@@ -38,20 +43,38 @@ last_heard taken invoke number old new last whole raw bytes result h is_whole sa
     let e : number ≡ taken + 1 = next_number old number is_next ∙ ap (λ (n : ℕ). n + 1) h.count in
     subst (λ (b : Bool). HearsBy taken old (Ok (get_block invoke b number raw)) result new) is_last (last_heard-at taken invoke number old new raw result e (rw all at heard))
 
--- ---- there was no memory for a value
+-- ---- there was no memory for data
 
-wants_value : (b : Bool) (taken : ℕ) (joined : List ℕ) (invoke : ℕ) (v : Value) (fault : PollFault) → (taken == 0) ≡ b → fault ≡ (if b then Memory else Protocol)
-    → FailsOrWants taken joined (Ok (get_data invoke v)) fault
-wants_value true taken joined invoke v fault e is =
-    let none : taken ≡ 0 = grind (arith, nat_tests) in
-    subst (λ (f : PollFault). FailsOrWants taken joined (Ok (get_data invoke v)) f) (sym is) none
-wants_value false taken joined invoke v fault e is =
-    let some : taken ≢ 0 = grind (arith, nat_tests) in
-    subst (λ (f : PollFault). FailsOrWants taken joined (Ok (get_data invoke v)) f) (sym is)
-    (refl, record { no_more = λ bytes h. h; no_rows = λ rows h. some h.0 })
+parted : (b : ℕ) (front rest bytes : List ℕ) → bytes ≡ front ++ rest → front ≡ b ∷ [] → bytes ≡ b ∷ rest
+parted b front rest bytes e f = e ∙ ap (λ (xs : List ℕ). xs ++ rest) f
 
-pub value_wanted : (taken : ℕ) (joined : List ℕ) (read : Result ResponseForm Refusal) (fault : PollFault) → IsOkAnd read HoldsData → fault ≡ (if taken == 0 then Memory else Protocol)
-    → FailsOrWants taken joined read fault
-value_wanted taken joined (Ok (get_data invoke v)) fault h is = wants_value (taken == 0) taken joined invoke v fault refl is
-value_wanted taken joined (Ok _) fault h is = absurd h
-value_wanted taken joined (Err refusal) fault h is = absurd h
+pub data_behind : (apdu : List ℕ) (invoke : ℕ) (v : Value) → response_at apdu ≡ Ok (get_data invoke v) → IsSpelling (drop 4 apdu) v
+data_behind apdu invoke v read =
+    let h = (reads_responses apdu (get_data invoke v)).0 read in
+    by_parts apdu invoke v h
+  where
+    by_parts : (apdu : List ℕ) (invoke : ℕ) (v : Value) → SpellsResponse apdu (get_data invoke v) → IsSpelling (drop 4 apdu) v
+    by_parts apdu invoke v (f1, r1, e1, b1, (f2, r2, e2, b2, (f3, r3, e3, b3, (f4, r4, e4, b4, spelled)))) =
+        let all : apdu ≡ 0xC4 ∷ 1 ∷ invoke ∷ 0 ∷ r4 =
+        parted 0xC4 f1 r1 apdu e1 b1 ∙ ap (λ (r : List ℕ). 0xC4 ∷ r) (parted 1 f2 r2 r1 e2 b2 ∙ ap (λ (r : List ℕ). 1 ∷ r) (parted invoke f3 r3 r2 e3 b3 ∙ ap (λ (r : List ℕ). invoke ∷ r) (parted 0 f4 r4 r3 e4 b4))) in
+        subst (λ (bytes : List ℕ). IsSpelling bytes v) (sym (ap (λ (bytes : List ℕ). drop 4 bytes) all)) spelled
+
+pub wants_data : (apdu : List ℕ) (invoke taken : ℕ) (joined : List ℕ) (v : Value) → response_at apdu ≡ Ok (get_data invoke v) → taken ≡ 0 → ((rows : List Row) × IsEncoded (drop 4 apdu) rows)
+    → FailsOrWants taken joined (Ok (get_data invoke v)) Memory
+wants_data apdu invoke taken joined v read none (rows, (w, spelled, is)) =
+    let bytes : List ℕ = drop 4 apdu in
+    let same = reads_one_value bytes bytes [] bytes [] w v (sym (append-nil bytes)) (sym (append-nil bytes)) spelled (data_behind apdu invoke v read) in
+    (none, (rows, subst (λ (x : Value). IsProfile x rows) same.1 is))
+
+pub no_data : (apdu : List ℕ) (invoke taken : ℕ) (joined : List ℕ) (v : Value) → response_at apdu ≡ Ok (get_data invoke v) → ((rows : List Row) → IsEncoded (drop 4 apdu) rows → ⊥)
+    → FailsOrWants taken joined (Ok (get_data invoke v)) Protocol
+no_data apdu invoke taken joined v read missing = (refl, record { no_more = λ bytes h. h; no_rows = λ rows h. missing rows (v, data_behind apdu invoke v read, h.1) })
+
+pub no_data_behind : (invoke taken : ℕ) (joined : List ℕ) (v : Value) → taken ≢ 0 → FailsOrWants taken joined (Ok (get_data invoke v)) Protocol
+no_data_behind invoke taken joined v some = (refl, record { no_more = λ bytes h. h; no_rows = λ rows h. some h.0 })
+
+pub data_wanted : (read : Result ResponseForm Refusal) (taken : ℕ) (joined : List ℕ) (fault : PollFault) → IsOkAnd read HoldsData
+    → ((invoke : ℕ) (v : Value) → read ≡ Ok (get_data invoke v) → FailsOrWants taken joined (Ok (get_data invoke v)) fault) → FailsOrWants taken joined read fault
+data_wanted (Ok (get_data invoke v)) taken joined fault h told = told invoke v refl
+data_wanted (Ok _) taken joined fault h told = absurd h
+data_wanted (Err refusal) taken joined fault h told = absurd h

@@ -73,7 +73,7 @@ not_encoded bytes v one missing rows h = missing rows (subst (λ (w : Value). Is
 
 not_encoded-at : (bytes : List ℕ) (v : Value) → IsSpelling bytes v → ((w : Value) → IsSpelling bytes w → w ≡ v) → (fault : PollFault) → NoProfile v fault → NoEncoding bytes fault
 not_encoded-at bytes v spelled one Protocol h = not_encoded bytes v one h
-not_encoded-at bytes v spelled one Memory h = (v, spelled)
+not_encoded-at bytes v spelled one Memory h = (h.0, (v, spelled, h.1))
 not_encoded-at bytes v spelled one (Refused diagnostic) h = h
 not_encoded-at bytes v spelled one (BadResult code) h = h
 not_encoded-at bytes v spelled one Line h = h
@@ -83,15 +83,12 @@ encoded_err bytes v (Ok x) spelled one h = tt
 encoded_err bytes v (Err fault) spelled one h = not_encoded-at bytes v spelled one fault h
 
 -- bytes that are no value spell no rows
-none_encoded-at : (bytes : List ℕ) (fault : PollFault) → NoValue bytes fault → NoEncoding bytes fault
-none_encoded-at bytes Protocol h = λ rows k. h k.0 k.1
-none_encoded-at bytes Memory h = h
-none_encoded-at bytes (Refused diagnostic) h = h
-none_encoded-at bytes (BadResult code) h = h
-none_encoded-at bytes Line h = h
-
-pub none_encoded : (bytes : List ℕ) (fault : PollFault) → NoValue bytes fault → NoEncoding bytes fault
-none_encoded bytes fault h = none_encoded-at bytes fault h
+pub none_encoded : (bytes : List ℕ) (fault : PollFault) → NoValue bytes fault → ((rows : List Row) × IsEncoded bytes rows) → NoEncoding bytes fault
+none_encoded bytes Protocol h there = λ rows k. h k.0 k.1
+none_encoded bytes Memory h there = there
+none_encoded bytes (Refused diagnostic) h there = h
+none_encoded bytes (BadResult code) h there = h
+none_encoded bytes Line h there = h
 
 pub encoded_ok : {X : Type 0} (bytes : List ℕ) (v : Value) (r : Result X PollFault) (view : X → List Row) → IsSpelling bytes v → IfOk r (λ x. IsProfile v (view x)) → IfOk r (λ x. IsEncoded bytes (view x))
 encoded_ok bytes v (Ok x) view spelled h = (v, spelled, h)

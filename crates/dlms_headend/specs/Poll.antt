@@ -78,9 +78,9 @@ FailsBy taken joined read fault = (fault ≡ Protocol) × IsNeither taken joined
 abbrev pub Fails : ℕ → List ℕ → List ℕ → PollFault → Type 0
 Fails taken joined apdu fault = FailsBy taken joined (response_at apdu) fault
 
--- Memory may be wanting for data, where no block came before, and for a block with the next number.
+-- Memory may be wanting for data that is an array of rows, where no block came before, and for a block with the next number.
 abbrev pub NeedsBy : ℕ → Result ResponseForm Refusal → Type 0
-NeedsBy taken (Ok (get_data invoke v)) = taken ≡ 0
+NeedsBy taken (Ok (get_data invoke v)) = (taken ≡ 0) × ((rows : List Row) × IsProfile v rows)
 NeedsBy taken (Ok (get_block invoke last number raw)) = number ≡ taken + 1
 NeedsBy taken _ = ⊥
 

@@ -79,6 +79,5 @@ NoValue bytes (Refused diagnostic) = ⊥
 NoValue bytes (BadResult code) = ⊥
 NoValue bytes Line = ⊥
 
--- memory may be wanting for any value
 abbrev pub NoEncoding : List ℕ → PollFault → Type 0
-NoEncoding bytes fault = Without (IsEncoded bytes) ((v : Value) × IsSpelling bytes v) fault
+NoEncoding bytes fault = Without (IsEncoded bytes) ((rows : List Row) × IsEncoded bytes rows) fault

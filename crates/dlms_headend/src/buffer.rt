@@ -7,6 +7,7 @@ ghost use Rattle.dlms_data.specs.View.{value_of, values_of};
 ghost use Rattle.dlms_headend.specs.Rows.{four_in, octets_in, register_in, fields_in, IsRow, AreRows, IsProfile, NoProfile, IsEncoded, NoEncoding, NoRows, NoValue};
 ghost use Rattle.dlms_headend.specs.declared.row.Row.{Row as RowOf};
 
+use crate::form::is_profile;
 use crate::poll_fault::PollFault;
 use crate::row::{Row, keep};
 use dlms_data::{Data, is_value, read, secs};
@@ -123,11 +124,14 @@ fn whole_value<A: Allocator + Copy>(alloc: A, bytes: &[u8]) -> Result<Data<A>, P
     }
 }
 
-/// The rows of the buffer's encoding.
+/// The rows of the buffer's encoding. That it is one is looked at before memory is asked for.
 pub fn encoded<A: Allocator + Copy>(alloc: A, bytes: &[u8]) -> Result<Vec<Row, A>, PollFault>
     ensures ok { IfOk result (λ rows. IsEncoded bytes.now rows.items) }
     ensures err { IfErr result (NoEncoding bytes.now) }
 {
+    if !is_profile(bytes) {
+        return Err(PollFault::Protocol);
+    }
     let value = whole_value(alloc, bytes)?;
     rows(alloc, &value)
 }

@@ -1,14 +1,17 @@
 //! The answers to a GET.
 
-ghost use Rattle.std.specs.Prelude.{◌≡◌, ◌==◌, if◌then◌else◌, ℕ, Ok};
+ghost use Rattle.std.specs.Prelude.{◌≡◌, ◌==◌, if◌then◌else◌, ℕ, List, Ok, drop};
 ghost use Rattle.dlms_apdu.specs.Forms.{get_data, get_block};
+ghost use Rattle.dlms_apdu.specs.Reading.{response_at};
 ghost use Rattle.dlms_blocks.specs.Joining.{Joining};
+ghost use Rattle.dlms_data.specs.Value.{Value};
 ghost use Rattle.dlms_data.specs.View.{value_of};
-ghost use Rattle.dlms_headend.specs.declared.poll_fault.PollFault.TheVariants.{Result as BadResult, Protocol, Memory};
-ghost use Rattle.dlms_headend.specs.Heard.{HasTaken, HearsBy, Hears, LastHeard};
+ghost use Rattle.dlms_headend.specs.declared.poll_fault.PollFault.TheVariants.{Result as BadResult, Protocol};
+ghost use Rattle.dlms_headend.specs.Heard.{HasTaken, HearsBy, Hears, LastHeard, FailsOrWants};
 
 use crate::answer::EXCEPTION;
 use crate::buffer::{encoded, rows};
+use crate::form::is_profile;
 use crate::heard::Heard;
 use crate::poll_fault::PollFault;
 use dlms_apdu::{ApduFault, Response, read_response};
@@ -68,11 +71,25 @@ fn result_of(taken: u32, code: u8) -> PollFault
     }
 }
 
-/// There was no memory for a value: where blocks have come, none is awaited.
-fn wanting(taken: u32) -> PollFault
-    ensures { result ≡ (if taken == 0 then Memory else Protocol) }
+/// What stands behind the first four bytes.
+fn behind_head(apdu: &[u8]) -> &[u8]
+    ensures { result.now ≡ drop 4 apdu.now }
 {
-    if taken == 0 {
+    if apdu.len() < 4 {
+        return &[];
+    }
+    &apdu[4..]
+}
+
+/// There was no memory for data. Where blocks have come none is awaited; and where it is no array of rows, more memory is of no use.
+fn wanting(taken: u32, apdu: &[u8]) -> PollFault
+    ensures { (joined : List ℕ) (invoke : ℕ) (v : Value) → response_at apdu.now ≡ Ok (get_data invoke v)
+        → FailsOrWants taken joined (Ok (get_data invoke v)) result }
+{
+    if taken != 0 {
+        return PollFault::Protocol;
+    }
+    if is_profile(behind_head(apdu)) {
         PollFault::Memory
     } else {
         PollFault::Protocol
@@ -102,7 +119,7 @@ pub fn heard<A: Allocator + Copy>(
         Ok(Response::GetBlockResult { result, .. }) => Err(PollFault::Result(result)),
         Ok(Response::Exception { .. }) => Err(PollFault::Result(EXCEPTION)),
         Ok(_) => Err(PollFault::Protocol),
-        Err(ApduFault::Memory) => Err(wanting(taken)),
+        Err(ApduFault::Memory) => Err(wanting(taken, apdu)),
         Err(_) => Err(PollFault::Protocol),
     }
 }

@@ -4,6 +4,7 @@
 mod answer;
 mod asking;
 mod buffer;
+mod form;
 mod heard;
 mod hearing;
 pub mod laws;
