@@ -2,14 +2,15 @@
 use dlms_loopback::LoopFault;
 use dlms_program::ReplayFault;
 use dlms_store::OpenFault;
+use std::alloc::Global;
 use std::io::ErrorKind;
 use std::{fmt, io};
 
 /// Why a run ended early.
 #[derive(Drop)]
 pub enum Fault<'a> {
-    /// This file could not be made or opened.
-    File(&'a str, io::Error),
+    /// This file could not be made or opened, for which the system has these words.
+    File(&'a str, String),
     /// The meter could not be made or recovered, or its device failed.
     Open(OpenFault),
     /// The replay ended early.
@@ -23,19 +24,32 @@ impl<'a> Fault<'a> {
     pub const MEMORY: Fault<'static> = Fault::Replay(ReplayFault::Memory);
 
     /// The fault of a file that could not be made or opened.
-    pub fn of_file(file: &'a str, error: io::Error) -> Fault<'a> {
+    pub fn of_file(alloc: Global, file: &'a str, error: &io::Error) -> Fault<'a> {
         if error.kind() == ErrorKind::OutOfMemory {
-            Fault::Replay(ReplayFault::Memory)
-        } else {
-            Fault::File(file, error)
+            return Fault::MEMORY;
         }
+        match format!(in alloc; "{error}") {
+            Ok(words) => Fault::File(file, words),
+            Err(_) => Fault::MEMORY,
+        }
+    }
+}
+
+/// The words of an error without the system's number, which stands behind them.
+fn without_number(words: &str) -> &str {
+    match words.split_once(" (os error ") {
+        Some((before, _)) => before,
+        None => words,
     }
 }
 
 impl fmt::Display for Fault<'_> {
     fn fmt<W: fmt::Write>(&self, f: &mut fmt::Formatter<W>) -> fmt::Result {
         match self {
-            Fault::File(file, error) => write!(f, "io\n  {file}: {error}"),
+            Fault::File(file, words) => {
+                let words = without_number(words.as_str());
+                write!(f, "io\n  {file}: {words}")
+            }
             Fault::Open(fault) => write!(f, "{fault}"),
             Fault::Replay(fault) => write!(f, "{fault}"),
             Fault::Loop(fault) => write!(f, "{fault}"),

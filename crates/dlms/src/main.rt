@@ -29,7 +29,7 @@ fn run_format<'a, R: Files<File = File> + Print + AllocGlobal>(
 ) -> Result<(), Fault<'a>> {
     let pages = match FilePages::create(rt, file, PAGES) {
         Ok(pages) => pages,
-        Err(error) => return Err(Fault::of_file(file, error)),
+        Err(error) => return Err(Fault::of_file(rt.alloc(), file, &error)),
     };
     match Meter::format(rt.alloc(), pages) {
         Ok(meter) => {
@@ -78,7 +78,7 @@ fn run_replay_file<'a, R: Input + Print + Files<File = File> + AllocGlobal>(
 ) -> Result<(), Fault<'a>> {
     let pages = match FilePages::open(rt, file, PAGES) {
         Ok(pages) => pages,
-        Err(error) => return Err(Fault::of_file(file, error)),
+        Err(error) => return Err(Fault::of_file(rt.alloc(), file, &error)),
     };
     match Meter::recover(rt.alloc(), pages) {
         Ok(meter) => run_on(rt, &mut io::writer(rt), meter),
