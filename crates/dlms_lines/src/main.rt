@@ -48,12 +48,12 @@ fn losses(alloc: Global, count: u32, expected: Ended) -> Result<Tally> {
     Ok(tally)
 }
 
-/// Polls on which the last byte of each frame in turn is missing.
-fn cuts(alloc: Global) -> Result<Tally> {
+/// Polls on which something is done to each frame in turn, with bytes that come joined and one by one.
+fn each(alloc: Global, fate: fn(u32) -> Fate) -> Result<Tally> {
     let mut tally = Tally { right: 0, wrong: 0 };
     for number in 0..FRAMES {
         for pieces in [Pieces::Joined, Pieces::Single] {
-            if let Some(ended) = ended_by(alloc, ROWS, Fate::Cut(number), pieces)? {
+            if let Some(ended) = ended_by(alloc, ROWS, fate(number), pieces)? {
                 tally.count(ended == Ended::Done);
             }
         }
@@ -65,11 +65,9 @@ fn cuts(alloc: Global) -> Result<Tally> {
 fn wholes(alloc: Global) -> Result<Tally> {
     let mut tally = Tally { right: 0, wrong: 0 };
     for rows in [0, 1, ROWS, 960, 1000] {
-        for fate in [Fate::Whole, Fate::Twice] {
-            for pieces in [Pieces::Joined, Pieces::Single] {
-                let ended = ended_by(alloc, rows, fate, pieces)?;
-                tally.count(ended.unwrap_or(Ended::Done) == Ended::Done);
-            }
+        for pieces in [Pieces::Joined, Pieces::Single] {
+            let ended = ended_by(alloc, rows, Fate::Whole, pieces)?;
+            tally.count(ended == Some(Ended::Done));
         }
     }
     Ok(tally)
@@ -89,8 +87,10 @@ fn run<R: Print + AllocGlobal>(rt: &R) -> Result<u32> {
     }
     let tally = losses(alloc, 4, Ended::Line)?;
     wrong = wrong.saturating_add(report(rt, "four frames lost in a row", tally)?);
-    let tally = cuts(alloc)?;
-    Ok(wrong.saturating_add(report(rt, "frames cut short", tally)?))
+    let tally = each(alloc, Fate::Cut)?;
+    wrong = wrong.saturating_add(report(rt, "frames cut short", tally)?);
+    let tally = each(alloc, Fate::Twice)?;
+    Ok(wrong.saturating_add(report(rt, "frames that come twice", tally)?))
 }
 
 fn main(rt: HostRuntime) -> Result<ExitCode> {

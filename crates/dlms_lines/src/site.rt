@@ -93,8 +93,8 @@ fn first_plan() -> Plan
 fn has_met(fate: Fate, sent: u32) -> bool {
     match fate {
         Fate::Lost(first, _) => first < sent,
-        Fate::Cut(number) => number < sent,
-        Fate::Whole | Fate::Twice => true,
+        Fate::Cut(number) | Fate::Twice(number) => number < sent,
+        Fate::Whole => true,
     }
 }
 

@@ -15,8 +15,8 @@ pub enum Fate {
     Lost(u32, u32),
     /// Of this one the last byte is missing.
     Cut(u32),
-    /// Each arrives twice.
-    Twice,
+    /// This one arrives twice.
+    Twice(u32),
 }
 
 /// In which pieces bytes come out.
@@ -96,7 +96,7 @@ fn arriving(fate: Fate, number: u32, frame: &[u8]) -> (&[u8], u8) {
     match fate {
         Fate::Lost(first, count) if first <= number && number - first < count => (&[], 0),
         Fate::Cut(at) if at == number => (frame.get(..short).unwrap_or(&[]), 1),
-        Fate::Twice => (frame, 2),
+        Fate::Twice(at) if at == number => (frame, 2),
         _ => (frame, 1),
     }
 }
