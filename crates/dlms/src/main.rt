@@ -113,7 +113,7 @@ fn run_loopback<'a, R: Net + Files + Print + AllocGlobal>(
         told,
     ) {
         (Ok(()), _, _) => Ok(()),
-        (Err(_), Some(file), Some(error)) => Err(Fault::of_file(file, error)),
+        (Err(_), Some(file), Some(error)) => Err(Fault::of_file(rt.alloc(), file, &error)),
         (Err(fault), _, _) => Err(Fault::Loop(fault)),
     }
 }

@@ -48,12 +48,17 @@ fn losses(alloc: Global, count: u32, expected: Ended) -> Result<Tally> {
     Ok(tally)
 }
 
-/// Polls on which something is done to each frame in turn, with bytes that come joined and one by one.
-fn each(alloc: Global, fate: fn(u32) -> Fate) -> Result<Tally> {
+/// Polls on which each frame in turn is cut short, or comes twice, with bytes that come joined and one by one.
+fn each(alloc: Global, is_cut: bool) -> Result<Tally> {
     let mut tally = Tally { right: 0, wrong: 0 };
     for number in 0..FRAMES {
+        let fate = if is_cut {
+            Fate::Cut(number)
+        } else {
+            Fate::Twice(number)
+        };
         for pieces in [Pieces::Joined, Pieces::Single] {
-            if let Some(ended) = ended_by(alloc, ROWS, fate(number), pieces)? {
+            if let Some(ended) = ended_by(alloc, ROWS, fate, pieces)? {
                 tally.count(ended == Ended::Done);
             }
         }
@@ -87,9 +92,9 @@ fn run<R: Print + AllocGlobal>(rt: &R) -> Result<u32> {
     }
     let tally = losses(alloc, 4, Ended::Line)?;
     wrong = wrong.saturating_add(report(rt, "four frames lost in a row", tally)?);
-    let tally = each(alloc, Fate::Cut)?;
+    let tally = each(alloc, true)?;
     wrong = wrong.saturating_add(report(rt, "frames cut short", tally)?);
-    let tally = each(alloc, Fate::Twice)?;
+    let tally = each(alloc, false)?;
     Ok(wrong.saturating_add(report(rt, "frames that come twice", tally)?))
 }
 

@@ -85,7 +85,7 @@ loops_else words met none is first second =
     elim found.1 [
       | inl formats ↦ absurd (first (ap (option_map (λ p. p.0)) (is ∙ formats)))
       | inr rest ↦ elim rest [
-          | inl replays ↦ absurd (second (ap (option_map (λ p. p.0)) (is ∙ replays)))
-          | inr loops ↦ (found.0, loops)
-        ]
+        | inl replays ↦ absurd (second (ap (option_map (λ p. p.0)) (is ∙ replays)))
+        | inr loops ↦ (found.0, loops)
+      ]
     ]
