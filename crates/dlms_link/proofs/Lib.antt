@@ -7,6 +7,8 @@ pub mod Steps
 pub mod InStep
 pub mod Whole
 pub mod ParameterLaws
+pub mod Passing
 pub mod Sending
+pub mod Taking
 pub mod OneRow
 pub mod LineLaws

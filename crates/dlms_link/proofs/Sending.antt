@@ -1,10 +1,11 @@
 -- What goes out in segments is the LLC and the APDU.
-use Rattle.std.proofs.Common.{◌≡◌, ℕ, ◌≤◌, ◌<◌, ◌==◌, ◌&&◌, ◌⊎◌, inl, inr, if◌then◌else◌, refl, sym, ◌∙◌, arith, ap, Bool, true, false, List, [], ◌∷◌, ◌++◌, length, take, drop, map, All, None, Some, Option, length-append, length-drop}
+use Rattle.std.proofs.Common.{append_assoc, ◌≡◌, ℕ, ◌≤◌, ◌<◌, ◌==◌, ◌&&◌, ◌⊎◌, inl, inr, if◌then◌else◌, refl, sym, ◌∙◌, arith, ap, Bool, true, false, List, [], ◌∷◌, ◌++◌, length, take, drop, map, All, None, Some, Option, length-append, length-drop}
 use Rattle.std.proofs.lemmas.Bool.Decides.{nat_tests}
 use Rattle.std.proofs.lemmas.List.{take-append-drop, length-take}
 use Rattle.std.proofs.lemmas.List.Elements.{All-cons, All-nil, All-head}
 use Rattle.dlms_frame.specs.Frame.{Parts}
 use Rattle.dlms_link.specs.declared.out.LinkOut.TheVariants.{Reply}
+use Rattle.dlms_link.specs.declared.out.ClientOut.{ClientOut}
 use Rattle.dlms_link.specs.declared.out.ClientOut.TheVariants.{Send}
 use Rattle.dlms_link.specs.declared.out.Phase.TheVariants.{Open}
 use Rattle.dlms_link.specs.declared.control.Control.{Control}
@@ -15,8 +16,10 @@ use Rattle.dlms_link.specs.Octet.{control_of, before}
 use Rattle.dlms_link.specs.Kept.{Fresh, capped, llc, from_meter, from_client, is_more}
 use Rattle.dlms_link.specs.Server.{ServerRecord, row_of, row_of_snrm, is_meter, is_client, row_while_up, row_while_down, was_information, server_send, segment_of}
 use Rattle.dlms_link.specs.Parameters.{size_of}
-use Rattle.dlms_link.specs.Client.{ClientRecord, way_of, client_step, client_send, client_segment, after_client_segment, on_control}
-use Rattle.dlms_link.specs.Segments.{joined, kept_after_all, read_whole, IsSegmented, SendsRest, AllSent, SendsOne, Between, LetsGo, ClientSendsRest, ClientSentAll, ClientSendsOne}
+use Rattle.dlms_link.specs.Client.{ClientRecord, way_of, client_step, client_timeout, client_send, client_segment}
+use Rattle.dlms_link.specs.Segments.{joined, kept_after_all, read_whole, IsSegmented, IsUnderWay}
+use Rattle.dlms_link.specs.Between.{MeterGoes, NothingCame, MeterTakes, MeterSends, MeterPasses, IsPassed, IsByWay, Heard, ClientGoes, NothingHeard, ClientTakes, ClientSends, ClientAnswersAgain, ClientPasses, ClientWaits}
+use Rattle.dlms_link.proofs.Passing.{passes, by_way_of, waits_on, takes_drops}
 use Rattle.dlms_link.proofs.Whole.{read_at_once}
 
 same : (n : ℕ) → (n == n) ≡ true
@@ -107,19 +110,57 @@ sends_more r f e = by_tests (is_meter f.dest && is_client r.client f.src) r.up e
 is_reply : (f g : Parts) → Reply f ≡ Reply g → f ≡ g
 is_reply f g e = cc
 
-rest_sent : {r : ServerRecord} {frames : List Parts} → SendsRest r frames → IsSent r.size r.unsent frames
-rest_sent (AllSent r e) = inl (e, refl)
-rest_sent (SendsOne r f sent rest er es more) =
-    let later = rest_sent more in
+more_behind : (xs ys : List ℕ) → is_more ys ≡ true → is_more (xs ++ ys) ≡ true
+more_behind [] ys e = e
+more_behind (x ∷ xs) ys e = refl
+
+-- of a text that is unsent, if there is one, these frames have gone out
+record IsOnWay (size : ℕ) (text : List ℕ) (frames : List Parts) (rest : List ℕ) : Type 0 where
+  together : joined (map (λ (f : Parts). f.info) frames) ++ rest ≡ text
+  full : is_more rest ≡ true → All (λ (f : Parts). length f.info ≡ size) frames
+  go_on : is_more rest ≡ true → All (λ (f : Parts). f.segmented ≡ true) frames
+  ends : rest ≡ [] → IsSent size text frames
+
+none_sent : (size : ℕ) (text : List ℕ) → IsOnWay size text [] text
+none_sent size text = record {
+  together = refl;
+  full = λ h. All-nil (λ (f : Parts). length f.info ≡ size);
+  go_on = λ h. All-nil (λ (f : Parts). f.segmented ≡ true);
+  ends = λ e. inl (e, refl);
+}
+
+-- a frame, and those that follow it
+one_more : (size : ℕ) (text : List ℕ) (f : Parts) (frames : List Parts) (rest : List ℕ) → f.info ≡ take size text → f.segmented ≡ is_more (drop size text) → IsOnWay size (drop size text) frames rest → IsUnderWay size text (f ∷ frames) rest
+one_more size text f frames rest ei es s =
+    let infos = joined (map (λ (g : Parts). g.info) frames) in
+    let more : is_more rest ≡ true → is_more (drop size text) ≡ true = λ h. ap is_more (sym s.together) ∙ more_behind infos rest h in
+    record {
+      together = ap (λ zs. (zs ++ infos) ++ rest) ei ∙ append_assoc (take size text) infos rest ∙ ap (λ zs. take size text ++ zs) s.together ∙ take-append-drop size text;
+      full = λ h. All-cons (λ (g : Parts). length g.info ≡ size) f frames (ap length ei ∙ fills size text (more h)) (s.full h);
+      go_on = λ h. All-cons (λ (g : Parts). g.segmented ≡ true) f frames (es ∙ more h) (s.go_on h);
+      ends = λ e. begins size text f frames ei es (s.ends e);
+    }
+
+on_way : (size : ℕ) (text : List ℕ) (frames : List Parts) (rest : List ℕ) → is_more text ≡ true → IsUnderWay size text frames rest → IsOnWay size text frames rest
+on_way size text frames rest h s = record { together = s.together; full = s.full; go_on = s.go_on; ends = λ e. inr (h, s.ends e) }
+
+meter_goes : {r now : ServerRecord} {frames sent : List Parts} {taken : List (List ℕ)} → MeterGoes r frames taken sent now → IsOnWay r.size r.unsent sent now.unsent
+meter_goes (NothingCame r) = none_sent r.size r.unsent
+meter_goes (MeterTakes r f frames taken sent now er more) = let later = meter_goes more in rw er at later
+meter_goes (MeterSends r f segment frames taken sent now er es more) =
+    let later = meter_goes more in
     let after = rw er at later in
     let reply = rw er at es in
-    let one : segment_of r f.dest ≡ sent = is_reply (segment_of r f.dest) sent reply in
-    inr (sends_more r f er, begins r.size r.unsent sent rest (ap (λ (g : Parts). g.info) (sym one)) (ap (λ (g : Parts). g.segmented) (sym one)) after)
-rest_sent (Between r f rest (inl e) more) = let later = rest_sent more in rw e at later
-rest_sent (Between r f rest (inr e) more) = let later = rest_sent more in rw e at later
+    let one : segment_of r f.dest ≡ segment = is_reply (segment_of r f.dest) segment reply in
+    on_way r.size r.unsent (segment ∷ sent) now.unsent (sends_more r f er) (one_more r.size r.unsent segment sent now.unsent (ap (λ (g : Parts). g.info) (sym one)) (ap (λ (g : Parts). g.segmented) (sym one)) after)
+meter_goes (MeterPasses r f frames taken sent now p more) =
+    let e = passes r f (row_of r f) p in
+    let later = meter_goes more in
+    rw (e.size, e.unsent) at later
 
-pub meter_sends : (r : ServerRecord) (answer : List ℕ) (frames : List Parts) → SendsRest (server_send r answer).0 frames → IsSegmented r.size (llc from_meter ++ answer) ((server_send r answer).1 ∷ frames)
-meter_sends r answer frames h = begins r.size (llc from_meter ++ answer) (server_send r answer).1 frames refl refl (rest_sent h)
+pub meter_sends : (r now : ServerRecord) (answer : List ℕ) (frames sent : List Parts) (taken : List (List ℕ)) → MeterGoes (server_send r answer).0 frames taken sent now →
+    IsUnderWay r.size (llc from_meter ++ answer) ((server_send r answer).1 ∷ sent) now.unsent
+meter_sends r now answer frames sent taken h = one_more r.size (llc from_meter ++ answer) (server_send r answer).1 sent now.unsent refl refl (meter_goes h)
 
 -- the way by which the client's next segment goes is taken only where one is unsent
 information_lets_none : (a b : Bool) → (if a then Takes else (if b then TakenBefore else Leaves)) ≡ LetsNext → ⊥
@@ -143,34 +184,59 @@ lets_more c Dm e = cc
 lets_more c NotReady e = cc
 lets_more c Other e = cc
 
-lets_one : (c : ClientRecord) (f : Parts) (k : Control) → c.phase ≡ Open → way_of c (control_of f.control) ≡ LetsNext → way_of c k ≡ LetsNext → on_control c f k ≡ (after_client_segment c, Send (client_segment c))
-unfolding way_of
-lets_one c f (Information s n) up e ek = rw (up, e) refl
-lets_one c f (Ready n) up e ek = rw (up, e) refl
-lets_one c f Snrm up e ek = cc
-lets_one c f Disc up e ek = cc
-lets_one c f Ua up e ek = cc
-lets_one c f Dm up e ek = cc
-lets_one c f NotReady up e ek = cc
-lets_one c f Other up e ek = cc
-
-lets_go : (c : ClientRecord) (f : Parts) → LetsGo c f → client_step c f ≡ (after_client_segment c, Send (client_segment c))
-lets_go c f h = rw h.from_meter (lets_one c f (control_of f.control) h.up h.way h.way)
-
 is_sent : (f g : Parts) → Send f ≡ Send g → f ≡ g
 is_sent f g e = cc
 
-rest_of_client : {c : ClientRecord} {frames : List Parts} → ClientSendsRest c frames → IsSent 128 c.unsent frames
-rest_of_client (ClientSentAll c e) = inl (e, refl)
-rest_of_client (ClientSendsOne c f sent rest goes es more) =
-    let later = rest_of_client more in
-    let after = rw (lets_go c f goes) at later in
-    let out = rw (lets_go c f goes) at es in
-    let one : client_segment c ≡ sent = is_sent (client_segment c) sent out in
-    inr (lets_more c (control_of f.control) goes.way, begins 128 c.unsent sent rest (ap (λ (g : Parts). g.info) (sym one)) (ap (λ (g : Parts). g.segmented) (sym one)) after)
+-- what the client sends, and what is left of it where no segment was taken yet
+record ClientIsOnWay (c now : ClientRecord) (taken : List (List ℕ)) (sent : List Parts) : Type 0 where
+  rest : List ℕ
+  on : IsOnWay 128 c.unsent sent rest
+  left : taken ≡ [] → now.unsent ≡ rest
 
-pub client_sends : (c : ClientRecord) (apdu : List ℕ) (frames : List Parts) → ClientSendsRest (client_send c apdu).0 frames → IsSegmented 128 (llc from_client ++ apdu) ((client_send c apdu).1 ∷ frames)
-client_sends c apdu frames h = begins 128 (llc from_client ++ apdu) (client_send c apdu).1 frames refl refl (rest_of_client h)
+none_left : (text : List ℕ) (frames : List Parts) (rest : List ℕ) → text ≡ [] → IsOnWay 128 text frames rest → frames ≡ []
+none_left text [] rest e s = refl
+none_left text (f ∷ frames) [] e s = elim (s.ends refl) [ inl h ↦ h.1 | inr h ↦ (let none = rw e at h.0 in cc) ]
+none_left text (f ∷ frames) (x ∷ rest) e s = let t = s.together in absurd (longer f.info (joined (map (λ (g : Parts). g.info) frames)) (t ∙ e))
+  where
+    longer : (a b : List ℕ) → (a ++ b) ++ x ∷ rest ≡ [] → ⊥
+    longer a b h = omega (arith, ap length h, length-append (a ++ b) (x ∷ rest))
+
+at_text : (t u : List ℕ) (frames : List Parts) (rest : List ℕ) → t ≡ u → IsOnWay 128 t frames rest → IsOnWay 128 u frames rest
+at_text t u frames rest e s = rw⁻¹ e s
+
+client_goes : {c now : ClientRecord} {heard : List Heard} {taken : List (List ℕ)} {sent : List Parts} → ClientGoes c heard taken sent now → ClientIsOnWay c now taken sent
+client_goes (NothingHeard c) = record { rest = c.unsent; on = none_sent 128 c.unsent; left = λ e. refl }
+client_goes (ClientTakes c f ready heard taken sent now way es more) =
+    let later = client_goes more in
+    let none : sent ≡ [] = none_left (client_step c f).0.unsent sent later.rest (takes_drops c f ready way es) later.on in
+    record { rest = c.unsent; on = rw none (none_sent 128 c.unsent); left = λ e. cc }
+client_goes (ClientSends c f segment heard taken sent now way es more) =
+    let e = by_way_of c f LetsNext (λ l. cc) way in
+    let later = client_goes more in
+    let after = at_text (client_step c f).0.unsent (drop 128 c.unsent) sent later.rest (ap (λ (z : ClientRecord × ClientOut). z.0.unsent) e) later.on in
+    let out = rw e at es in
+    let one : client_segment c ≡ segment = is_sent (client_segment c) segment out in
+    record {
+      rest = later.rest;
+      on = on_way 128 c.unsent (segment ∷ sent) later.rest (lets_more c (control_of f.control) way.its_way) (one_more 128 c.unsent segment sent later.rest (ap (λ (g : Parts). g.info) (sym one)) (ap (λ (g : Parts). g.segmented) (sym one)) after);
+      left = later.left;
+    }
+client_goes (ClientAnswersAgain c f heard taken sent now way more) =
+    let e = by_way_of c f TakenBefore (λ l. cc) way in
+    let later = client_goes more in
+    let after = at_text (client_step c f).0.unsent c.unsent sent later.rest (ap (λ (z : ClientRecord × ClientOut). z.0.unsent) e) later.on in
+    record { rest = later.rest; on = after; left = later.left }
+client_goes (ClientPasses c f heard taken sent now e more) = let later = client_goes more in record { rest = later.rest; on = later.on; left = later.left }
+client_goes (ClientWaits c heard taken sent now h more) =
+    let later = client_goes more in
+    let after = at_text (client_timeout c).0.unsent c.unsent sent later.rest (ap (λ (z : ClientRecord). z.unsent) (waits_on c h)) later.on in
+    record { rest = later.rest; on = after; left = later.left }
+
+pub client_sends : (c now : ClientRecord) (apdu : List ℕ) (heard : List Heard) (sent : List Parts) (taken : List (List ℕ)) → ClientGoes (client_send c apdu).0 heard taken sent now →
+    (rest : List ℕ) × IsUnderWay 128 (llc from_client ++ apdu) ((client_send c apdu).1 ∷ sent) rest × (taken ≡ [] → now.unsent ≡ rest)
+client_sends c now apdu heard sent taken h =
+    let s = client_goes h in
+    (s.rest, one_more 128 (llc from_client ++ apdu) (client_send c apdu).1 sent s.rest refl refl s.on, s.left)
 
 -- segments whose first one holds the LLC are read again
 reads : (side : ℕ) (apdu : List ℕ) (g : Parts) (gs : List Parts) → 3 ≤ length g.info → joined (map (λ (f : Parts). f.info) (g ∷ gs)) ≡ llc side ++ apdu →

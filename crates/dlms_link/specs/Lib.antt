@@ -8,4 +8,5 @@ pub mod Client
 pub mod ClientView
 pub mod World
 pub mod Segments
+pub mod Between
 pub mod Line

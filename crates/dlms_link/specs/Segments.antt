@@ -1,15 +1,7 @@
 -- The information of an APDU's frames, joined, is its LLC and then the APDU.
-use Rattle.std.specs.Prelude.{◌≡◌, ℕ, ◌≤◌, ◌⊎◌, ◌==◌, ◌&&◌, if◌then◌else◌, true, false, List, [], ◌∷◌, ◌++◌, length, map, All}
+use Rattle.std.specs.Prelude.{◌≡◌, ℕ, ◌≤◌, ◌==◌, ◌&&◌, if◌then◌else◌, true, false, List, [], ◌∷◌, ◌++◌, length, map, All}
 use Rattle.dlms_frame.specs.Frame.{Parts}
-use Rattle.dlms_link.specs.declared.out.LinkOut.TheVariants.{Reply}
-use Rattle.dlms_link.specs.declared.out.ClientOut.TheVariants.{Send}
-use Rattle.dlms_link.specs.declared.out.Phase.TheVariants.{Open}
-use Rattle.dlms_link.specs.declared.row.Row.TheVariants.{SendsNext, Repeats, Ignores}
-use Rattle.dlms_link.specs.declared.way.Way.TheVariants.{LetsNext}
-use Rattle.dlms_link.specs.Octet.{control_of}
-use Rattle.dlms_link.specs.Server.{ServerRecord, row_of, server_on}
-use Rattle.dlms_link.specs.Client.{ClientRecord, is_answer, way_of, client_step}
-use Rattle.dlms_link.specs.Kept.{Kept, BadStart, kept_after, capped}
+use Rattle.dlms_link.specs.Kept.{Kept, BadStart, kept_after, capped, is_more}
 
 abbrev pub joined : List (List ℕ) → List ℕ
 joined [] = []
@@ -37,20 +29,10 @@ pub record IsSegmented (size : ℕ) (text : List ℕ) (frames : List Parts) : Ty
   pub short : length last.info ≤ size
   pub ends : last.segmented ≡ false
 
--- The frames in which the meter sends what is unsent, one for each frame of the client that fits the row of the next segment.
--- Frames that are ignored, or get the last answer again, may come between.
-pub data SendsRest : ServerRecord → List Parts → Type 0 where
-  AllSent : (r : ServerRecord) → r.unsent ≡ [] → SendsRest r []
-  SendsOne : (r : ServerRecord) (f sent : Parts) (rest : List Parts) → row_of r f ≡ SendsNext → (server_on r f).1 ≡ Reply sent → SendsRest (server_on r f).0 rest → SendsRest r (sent ∷ rest)
-  Between : (r : ServerRecord) (f : Parts) (rest : List Parts) → (row_of r f ≡ Repeats) ⊎ (row_of r f ≡ Ignores) → SendsRest (server_on r f).0 rest → SendsRest r rest
-
--- a frame of the meter lets the client's next segment go
-pub record LetsGo (c : ClientRecord) (f : Parts) : Type 0 where
-  pub from_meter : is_answer c f ≡ true
-  pub up : c.phase ≡ Open
-  pub way : way_of c (control_of f.control) ≡ LetsNext
-
--- the frames in which the client sends what is unsent, one for each frame of the meter that lets it go
-pub data ClientSendsRest : ClientRecord → List Parts → Type 0 where
-  ClientSentAll : (c : ClientRecord) → c.unsent ≡ [] → ClientSendsRest c []
-  ClientSendsOne : (c : ClientRecord) (f sent : Parts) (rest : List Parts) → LetsGo c f → (client_step c f).1 ≡ Send sent → ClientSendsRest (client_step c f).0 rest → ClientSendsRest c (sent ∷ rest)
+-- Of a text these frames have gone out, and this rest has not: all of them are full and say that more follows, or nothing
+-- is left and they are the text in segments.
+pub record IsUnderWay (size : ℕ) (text : List ℕ) (frames : List Parts) (rest : List ℕ) : Type 0 where
+  pub together : joined (map (λ f. f.info) frames) ++ rest ≡ text
+  pub full : is_more rest ≡ true → All (λ f. length f.info ≡ size) frames
+  pub go_on : is_more rest ≡ true → All (λ f. f.segmented ≡ true) frames
+  pub ends : rest ≡ [] → IsSegmented size text frames

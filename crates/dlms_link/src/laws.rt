@@ -1,14 +1,16 @@
 //! Laws over whole runs. They make no call.
 
-ghost use Rattle.std.specs.Prelude.{◌≡◌, ◌≤◌, ◌<◌, ◌∷◌, ◌++◌, ℕ, List, length, map, Some};
+ghost use Rattle.std.specs.Prelude.{◌≡◌, ◌≤◌, ◌<◌, ◌∷◌, ◌++◌, ◌⊎◌, ℕ, List, [], length, map, Some};
 ghost use Rattle.dlms_frame.specs.declared.client.Client.{Client};
 ghost use Rattle.dlms_link.specs.declared.row.Row.TheVariants.{HandsUp};
-ghost use Rattle.dlms_link.specs.Kept.{Fresh, BadStart, llc, from_meter, from_client, capped};
+ghost use Rattle.dlms_link.specs.declared.way.Way.TheVariants.{Takes};
+ghost use Rattle.dlms_link.specs.Kept.{Fresh, BadStart, llc, from_meter, from_client, capped, apdu_of};
 ghost use Rattle.dlms_link.specs.Parameters.{Parameter, IsInformation, greatest_received, capped_size, size_of};
-ghost use Rattle.dlms_link.specs.Segments.{joined, kept_after_all, read_whole, IsSegmented, SendsRest, ClientSendsRest};
+ghost use Rattle.dlms_link.specs.Segments.{joined, kept_after_all, read_whole, IsSegmented, IsUnderWay};
+ghost use Rattle.dlms_link.specs.Between.{MeterGoes, GoesOn, BeginsAnew, IsAnew, IsByWay, Heard, ClientGoes};
 ghost use Rattle.dlms_frame.specs.Frame.{Parts};
-ghost use Rattle.dlms_link.specs.Server.{ServerRecord, answered, link_step, row_of, server_send};
-ghost use Rattle.dlms_link.specs.Client.{ClientRecord, client_send};
+ghost use Rattle.dlms_link.specs.Server.{ServerRecord, answered, link_step, row_of, server_on, server_send, told};
+ghost use Rattle.dlms_link.specs.Client.{ClientRecord, client_send, client_step, takes};
 ghost use Rattle.dlms_link.specs.Line.{ApdusComeUp, LineIsSilent, OneFrameAtMost};
 ghost use Rattle.dlms_link.specs.World.{Event, run, start, IsBeginningOf};
 
@@ -47,13 +49,27 @@ pub fn parameters_are_read()
     ensures found { (info : List ℕ) (size : ℕ) → size_of info ≡ Some size → (ps : List Parameter) × IsInformation info ps }
 {}
 
+/// Whatever comes to an end between two APDUs: what it tells of the second is what the segments taken of it, joined, are.
+/// Frames that are ignored, answers that are asked for again, segments of an answer and time-outs may stand between.
+/// Each list of frames goes on so to its end, or is cut where the link comes up or an APDU is whole; there nothing is kept.
+pub fn segments_are_taken()
+    ensures meter { (r now : ServerRecord) (frames sent : List Parts) (taken : List (List ℕ)) (f : Parts) → MeterGoes r frames taken sent now → r.kept ≡ Fresh → row_of now f ≡ HandsUp
+        → ((server_on now f).1 ≡ told (kept_after_all from_client Fresh (taken ++ f.info ∷ []))) × ((server_on now f).0.apdu ≡ apdu_of (kept_after_all from_client Fresh (taken ++ f.info ∷ []))) }
+    ensures client { (c now : ClientRecord) (heard : List Heard) (taken : List (List ℕ)) (sent : List Parts) (f : Parts) → ClientGoes c heard taken sent now → c.kept ≡ Fresh → IsByWay now f Takes
+        → client_step now f ≡ takes now f.segmented (kept_after_all from_meter Fresh (taken ++ f.info ∷ [])) }
+    ensures cut { (r : ServerRecord) (frames : List Parts) → GoesOn r frames ⊎ BeginsAnew r frames }
+    ensures anew { (r : ServerRecord) (f : Parts) → IsAnew (row_of r f) → (server_on r f).0.kept ≡ Fresh }
+    ensures answered { (r : ServerRecord) (answer : List ℕ) → (server_send r answer).0.kept ≡ r.kept }
+{}
+
 /// An APDU goes out in segments: their information, joined, is the LLC and the APDU, all but the last have exactly the size
-/// of the link, and the last alone says that nothing follows. Read by the other end, they are the APDU again.
+/// of the link, and the last alone says that nothing follows. So far as they have gone out they are its beginning, whatever
+/// came meanwhile. Read by the other end, they are the APDU again.
 pub fn segments_are_sent()
-    ensures meter { (r : ServerRecord) (answer : List ℕ) (frames : List Parts) → SendsRest (server_send r answer).0 frames
-        → IsSegmented r.size (llc from_meter ++ answer) ((server_send r answer).1 ∷ frames) }
-    ensures client { (c : ClientRecord) (apdu : List ℕ) (frames : List Parts) → ClientSendsRest (client_send c apdu).0 frames
-        → IsSegmented 128 (llc from_client ++ apdu) ((client_send c apdu).1 ∷ frames) }
+    ensures meter { (r now : ServerRecord) (answer : List ℕ) (frames sent : List Parts) (taken : List (List ℕ)) → MeterGoes (server_send r answer).0 frames taken sent now
+        → IsUnderWay r.size (llc from_meter ++ answer) ((server_send r answer).1 ∷ sent) now.unsent }
+    ensures client { (c now : ClientRecord) (apdu : List ℕ) (heard : List Heard) (sent : List Parts) (taken : List (List ℕ)) → ClientGoes (client_send c apdu).0 heard taken sent now
+        → (rest : List ℕ) × IsUnderWay 128 (llc from_client ++ apdu) ((client_send c apdu).1 ∷ sent) rest × (taken ≡ [] → now.unsent ≡ rest) }
     ensures read_again { (side size : ℕ) (apdu : List ℕ) (frames : List Parts) → 3 ≤ size → IsSegmented size (llc side ++ apdu) frames
         → kept_after_all side Fresh (map (λ f. f.info) frames) ≡ capped apdu }
 {}
