@@ -301,6 +301,10 @@ Replies old frame reply new (Some Public) =
 Replies old frame reply new (Some Management) =
     ((before : StoreWorld) → Knows old.store before → Handling old.manager frame reply new.manager before old.store new.store) × (new.deframer ≡ old.deframer) × (new.anyone ≡ old.anyone)
 
+-- with these bytes the next frame of the stretch ends
+abbrev pub EndsFrame : World → List ℕ → Type 0
+EndsFrame w taken = (i : ℕ) × (j : ℕ) × (frame : Parts) × (j + 1 ≡ length (w.stretch ++ taken)) × IsNext (w.stretch ++ taken) w.place i j frame
+
 -- One call of feed, for every run that the meter stands for. Where the device keeps the rules too, a stop at any moment of the
 -- call leaves what it may leave in a world of the store before one of these steps.
 abbrev pub Feeds : {P A : Type 0} → {ghosts : Ghosts P} → Meter P A ghosts → List ℕ → Option (List ℕ) → Meter P A ghosts → Type 0

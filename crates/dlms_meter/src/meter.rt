@@ -12,7 +12,7 @@ ghost use Rattle.dlms_store.specs.Store.{state_in, view_of, IsStopped, CommitIsE
 ghost use Rattle.dlms_store.specs.World.{World as StoreWorld};
 ghost use Rattle.dlms_store.specs.World.World.{Runs};
 ghost use Rattle.dlms_store.specs.World.Step.{Closes, ClosesInDoubt};
-ghost use Rattle.dlms_meter.specs.Run.{Stands, Feeds, Judges, World, first_world, recovered, silent, client_at, Replies, events_of, record_for};
+ghost use Rattle.dlms_meter.specs.Run.{Stands, Feeds, EndsFrame, Judges, World, first_world, recovered, silent, client_at, Replies, events_of, record_for};
 
 use crate::connection::{Connection, Reply};
 use dlms_frame::{Address, Client, Deframer, Frame};
@@ -124,6 +124,8 @@ impl<P: Pages, A: Allocator + Copy> Meter<P, A> {
     pub fn feed(&mut self, bytes: &[u8]) -> (usize, Option<Reply>)
         ensures len { result.0 ≤ length bytes.now }
         ensures some { 0 < length bytes.now → 0 < result.0 }
+        // It leaves bytes only where a frame ends with the last one that it took.
+        ensures all { (w : World) → Stands self.old w → result.0 < length bytes.now → EndsFrame w (take result.0 bytes.now) }
         ensures feeds { Feeds self.old (take result.0 bytes.now) (option_map (λ reply. reply.items) result.1) self.new }
     {
         let (taken, frame) = self.deframer.feed(bytes);
