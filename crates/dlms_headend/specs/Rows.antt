@@ -1,7 +1,7 @@
 -- The rows that a value holds: the buffer of class Profile generic (7) of IEC 62056-6-2 (Blue Book 4.3.6), captured by the
 -- clock and three registers.
-use Rattle.std.specs.Prelude.{◌≡◌, ℕ, List, [], ◌∷◌, Option, Some, None}
-use Rattle.dlms_data.specs.DateTime.{NamesSecond}
+use Rattle.std.specs.Prelude.{◌≡◌, ◌≤◌, ℕ, List, [], ◌∷◌, Option, Some, None, All}
+use Rattle.dlms_data.specs.DateTime.{NamesSecond, last_second}
 use Rattle.dlms_data.specs.Spelling.{IsSpelling}
 use Rattle.dlms_data.specs.Value.{Value, Values, array, structure, octet_string, double_long_unsigned, none, cons}
 use Rattle.dlms_headend.specs.declared.row.Row.{Row}
@@ -40,6 +40,10 @@ pub record IsRow (value : Value) (row : Row) : Type 0 where
   pub time : List ℕ
   pub fields : fields_in value ≡ Some (time, row.registers)
   pub clock : NamesSecond time row.clock
+
+-- each row shows a second of the clock
+abbrev pub HaveClocks : List Row → Type 0
+HaveClocks rows = All (λ row. row.clock ≤ last_second) rows
 
 -- the values are those of the rows, in their order
 abbrev pub AreRows : Values → List Row → Type 0

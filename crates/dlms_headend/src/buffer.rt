@@ -4,7 +4,7 @@ ghost use Rattle.std.specs.Prelude.{◌≡◌, List, IfOk, IfErr, IfSome, IfNone
 ghost use Rattle.dlms_data.specs.Spelling.{IsSpelling};
 ghost use Rattle.dlms_data.specs.Value.{Value};
 ghost use Rattle.dlms_data.specs.View.{value_of, values_of};
-ghost use Rattle.dlms_headend.specs.Rows.{four_in, octets_in, register_in, fields_in, IsRow, AreRows, IsProfile, NoProfile, IsEncoded, NoEncoding, NoRows, NoValue};
+ghost use Rattle.dlms_headend.specs.Rows.{four_in, octets_in, register_in, fields_in, IsRow, AreRows, IsProfile, NoProfile, IsEncoded, NoEncoding, NoRows, NoValue, HaveClocks};
 ghost use Rattle.dlms_headend.specs.declared.row.Row.{Row as RowOf};
 
 use crate::form::is_profile;
@@ -101,6 +101,7 @@ fn collected<A: Allocator>(alloc: A, values: &[Data<A>]) -> Result<Vec<Row, A>, 
 /// The rows of the buffer's value.
 pub fn rows<A: Allocator>(alloc: A, value: &Data<A>) -> Result<Vec<Row, A>, PollFault>
     ensures ok { IfOk result (λ rows. IsProfile (value_of value.now) rows.items) }
+    ensures clocks { IfOk result (λ rows. HaveClocks rows.items) }
     ensures err { IfErr result (NoProfile (value_of value.now)) }
 {
     match value {
@@ -127,6 +128,7 @@ fn whole_value<A: Allocator + Copy>(alloc: A, bytes: &[u8]) -> Result<Data<A>, P
 /// The rows of the buffer's encoding. That it is one is looked at before memory is asked for.
 pub fn encoded<A: Allocator + Copy>(alloc: A, bytes: &[u8]) -> Result<Vec<Row, A>, PollFault>
     ensures ok { IfOk result (λ rows. IsEncoded bytes.now rows.items) }
+    ensures clocks { IfOk result (λ rows. HaveClocks rows.items) }
     ensures err { IfErr result (NoEncoding bytes.now) }
 {
     if !is_profile(bytes) {

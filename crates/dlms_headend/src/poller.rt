@@ -10,6 +10,7 @@ ghost use Rattle.dlms_headend.specs.declared.step.PollStep.TheVariants.{Done};
 ghost use Rattle.dlms_headend.specs.Poll.{HasReleased};
 ghost use Rattle.dlms_headend.specs.Asking.{association_bytes};
 ghost use Rattle.dlms_headend.specs.PollerValue.{plan_of};
+ghost use Rattle.dlms_headend.specs.Rows.{HaveClocks};
 ghost use Rattle.dlms_headend.specs.Talk.{FitsTalk, CanTake, IsGetting};
 ghost use Rattle.dlms_headend.specs.Polling.{IsDone, fresh_poll, IsGet, IsDue, Fits, FitsIn, Begins, TimesOut, CanTimeOut, HasFailed, Continues, Answers, GoesDown, PollsEarly, PollsBy, Polls, with_link};
 
@@ -259,9 +260,10 @@ impl<A: Allocator + Copy> Poller<A> {
         }
     }
 
-    /// The rows that were polled; none before they are there.
+    /// The rows that were polled; none before they are there. Each shows a second of the clock.
     pub fn rows(&self) -> &[Row]
-        ensures { result.now ≡ self.now.talk.rows }
+        ensures rows { result.now ≡ self.now.talk.rows }
+        ensures clocks { HaveClocks result.now }
     {
         self.talk.rows()
     }

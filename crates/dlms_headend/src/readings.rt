@@ -1,7 +1,9 @@
 //! The readings file: the rows of all polls, in the order in which they came.
 
-ghost use Rattle.std.specs.Prelude.{◌≡◌, ◌+◌, ◌++◌, List, length, take, filter, IfOk, IfErr, OnOk, OnErr, MatchResult, string_bytes};
+ghost use Rattle.std.specs.Prelude.{◌≡◌, ◌≤◌, ◌+◌, ◌++◌, List, length, take, filter, IfOk, IfErr, IfSome, OnOk, OnErr, MatchResult, string_bytes};
+ghost use Rattle.dlms_data.specs.DateTime.{last_second};
 ghost use Rattle.dlms_headend.specs.Lines.{line, text_of, IsFile, Refuses};
+ghost use Rattle.dlms_headend.specs.Rows.{HaveClocks};
 ghost use Rattle.dlms_headend.specs.Merged.{last_clock, is_later, added, merged};
 ghost use Rattle.dlms_headend.specs.declared.readings_fault.ReadingsFault.TheVariants.{Memory};
 ghost use Rattle.dlms_headend.specs.declared.row.Row.{Row as RowOf};
@@ -21,10 +23,13 @@ pub struct Readings<A: Allocator = Global> {
 impl<A: Allocator> Model for Readings<A> {
     ghost use Rattle.std.specs.Prelude.{List};
     ghost use Rattle.dlms_headend.specs.declared.row.Row.{Row};
+    ghost use Rattle.dlms_headend.specs.Rows.{HaveClocks};
 
     ghost Value = { List Row };
 
     ghost view = { λ r. r.rows.items };
+
+    ghost invariant = { λ r. HaveClocks r.rows.items };
 }
 
 /// Whether the row comes after that clock.
@@ -78,7 +83,9 @@ impl<A: Allocator + Copy> Readings<A> {
     }
 
     /// Appends the rows, in their order, that come after the last row, and says how many they are; all of them to an empty file.
+    /// Each of them shows a second of the clock, as those of a poll do.
     pub fn merge(&mut self, rows: &[Row]) -> Result<usize, AllocError>
+        requires { HaveClocks rows.now }
         ensures ok { OnOk result (self.new ≡ merged self.old rows.now) }
         ensures count { IfOk result (λ count. count ≡ length (added self.old rows.now)) }
         ensures err { OnErr result (self.new ≡ self.old) }
@@ -101,9 +108,10 @@ impl<A: Allocator + Copy> Readings<A> {
         lines::text(*self.rows.allocator(), &self.rows)
     }
 
-    /// The clock of the last row.
+    /// The clock of the last row: a second that a plan may name.
     pub fn last(&self) -> Option<u32>
-        ensures { result ≡ last_clock self.now }
+        ensures last { result ≡ last_clock self.now }
+        ensures clock { IfSome result (λ clock. clock ≤ last_second) }
     {
         self.rows.last().map(|row| row.clock)
     }

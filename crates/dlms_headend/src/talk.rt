@@ -2,6 +2,7 @@
 
 ghost use Rattle.std.specs.Prelude.{◌≡◌, ◌++◌, ◌∷◌, [], List, ℕ};
 ghost use Rattle.dlms_headend.specs.declared.stage.Stage.TheVariants.{Getting};
+ghost use Rattle.dlms_headend.specs.Rows.{HaveClocks};
 ghost use Rattle.dlms_headend.specs.Talk.{fresh_talk, FitsTalk, CanTake, Takes};
 
 use crate::answer::{associated, released};
@@ -25,10 +26,13 @@ pub struct Talk<A: Allocator = Global> {
 
 impl<A: Allocator> Model for Talk<A> {
     ghost use Rattle.dlms_headend.specs.TalkValue.{TalkValue};
+    ghost use Rattle.dlms_headend.specs.Rows.{HaveClocks};
 
     ghost Value = { TalkValue };
 
     ghost view = { λ t. record { stage = t.stage; blocks = t.blocks; rows = t.rows.items } };
+
+    ghost invariant = { λ t. HaveClocks t.rows.items };
 }
 
 impl<A: Allocator + Copy> Talk<A> {
@@ -50,7 +54,8 @@ impl<A: Allocator + Copy> Talk<A> {
     }
 
     pub fn rows(&self) -> &[Row]
-        ensures { result.now ≡ self.now.rows }
+        ensures rows { result.now ≡ self.now.rows }
+        ensures clocks { HaveClocks result.now }
     {
         &self.rows
     }

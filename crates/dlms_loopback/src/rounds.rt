@@ -1,4 +1,7 @@
 //! The loopback: a meter in memory, polled over a socket, and its readings filed.
+
+ghost use Rattle.std.specs.Prelude.{◌≤◌, IfSome};
+
 use crate::fault::LoopFault;
 use crate::filing::{file_text, filed_text};
 use crate::polling::poll;
@@ -6,7 +9,7 @@ use crate::socket::{Line, ends};
 use arrayvec::ArrayVec;
 use dlms_data::LAST_SECOND;
 use dlms_frame::Client;
-use dlms_headend::{Plan, PollFault, Poller, Readings};
+use dlms_headend::{Plan, Poller, Readings};
 use dlms_meter::Meter;
 use dlms_pages::{MemoryPages, Pick};
 use dlms_store::PAGES;
@@ -74,7 +77,7 @@ impl Filed<'_> {
         line: &mut Line<S>,
         meter: &mut MemoryMeter,
     ) -> Result<(), LoopFault> {
-        let poller = poller(rt.alloc(), self.readings.last())?;
+        let poller = poller(rt.alloc(), self.readings.last());
         let done = poll(&mut line.head, &mut line.tail, meter, poller)?;
         let _added = self.readings.merge(done.rows())?;
         self.keep(rt)
@@ -114,12 +117,9 @@ fn stopped(alloc: Global, meter: MemoryMeter, round: u8) -> Result<MemoryMeter, 
 }
 
 /// A poll by management, from the last row's second on.
-fn poller(alloc: Global, after: Option<u32>) -> Result<Poller, LoopFault> {
-    if let Some(second) = after {
-        if LAST_SECOND < second {
-            return Err(LoopFault::Poll(PollFault::Protocol));
-        }
-    }
+fn poller(alloc: Global, after: Option<u32>) -> Poller
+    requires { IfSome after (λ second. second ≤ LAST_SECOND) }
+{
     let mut secret = ArrayVec::new();
     let _fits = secret.try_extend_from_slice(SECRET);
     let plan = Plan {
@@ -127,7 +127,7 @@ fn poller(alloc: Global, after: Option<u32>) -> Result<Poller, LoopFault> {
         secret,
         after,
     };
-    Ok(Poller::new(alloc, plan))
+    Poller::new(alloc, plan)
 }
 
 /// Polls, and so many times more, each time behind a stop of the meter.

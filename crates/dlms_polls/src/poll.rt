@@ -1,6 +1,6 @@
 //! One poll of a meter, frame by frame.
 
-ghost use Rattle.std.specs.Prelude.{◌≡◌};
+ghost use Rattle.std.specs.Prelude.{◌≡◌, ◌≤◌, IfSome};
 
 use arrayvec::ArrayVec;
 use dlms_data::LAST_SECOND;
@@ -41,12 +41,9 @@ fn plan(after: Option<u32>) -> Plan
 }
 
 /// A poll that is done, from a second of the clock on; none where it fails.
-pub fn polled(meter: &mut MemoryMeter, after: Option<u32>, alloc: Global) -> Option<Poller> {
-    if let Some(second) = after {
-        if second > LAST_SECOND {
-            return None;
-        }
-    }
+pub fn polled(meter: &mut MemoryMeter, after: Option<u32>, alloc: Global) -> Option<Poller>
+    requires { IfSome after (λ second. second ≤ LAST_SECOND) }
+{
     let mut poller = Poller::new(alloc, plan(after));
     let mut frame = poller.next()?;
     for _ in 0..FRAMES {

@@ -123,9 +123,15 @@ fn poll_step(
 }
 
 /// A row of the words: its clock and its registers.
-fn row_of(words: &mut Words<'_>) -> Result<Row, RowFault> {
+fn row_of(words: &mut Words<'_>) -> Result<Row, RowFault>
+    ensures { IfOk result (λ row. row.clock ≤ 3155759999) }
+{
+    let clock = words.number()?;
+    if clock > LAST_SECOND {
+        return Err(RowFault::Form);
+    }
     Ok(Row {
-        clock: words.number()?,
+        clock,
         registers: [words.number()?, words.number()?, words.number()?],
     })
 }

@@ -6,16 +6,16 @@ use Rattle.dlms_headend.proofs.talk.Talk.hear.Goals as goal
 pub returns-in-Err : goal.returns-in-Err
 returns-in-Err g c = λ apdus h e.
     let fits = getting_opened c.args.self.now (record { stage = c.self.inside.stage; blocks = c.self.inside.blocks; rows = c.self.inside.rows.items }) apdus c.args.taken c.self.view_is h e in
-    (get_ends apdus c.args.apdu.now c.args.taken c.self.inside.blocks c.self.inside.rows.items c.in-Err.fault fits (c.in-Err.ensures fits.1), ap (λ (t : TalkValue). t.rows) c.self.view_is)
+    (get_ends apdus c.args.apdu.now c.args.taken c.self.inside.blocks c.self.inside.rows.items c.in-Err.fault fits (c.in-Err.ensures.hears fits.1), ap (λ (t : TalkValue). t.rows) c.self.view_is)
 
 pub returns-in-Ok-More : goal.returns-in-Ok-More
 returns-in-Ok-More g c = λ apdus h e.
     let fits = getting_opened c.args.self.now (record { stage = c.self.inside.stage; blocks = c.self.inside.blocks; rows = c.self.inside.rows.items }) apdus c.args.taken c.self.view_is h e in
-    let heard = (rw c.in-Ok-More.field-0-is at c.in-Ok-More.ensures) fits.1 in
+    let heard = (rw c.in-Ok-More.field-0-is at c.in-Ok-More.ensures.hears) fits.1 in
     (block_taken apdus c.args.apdu.now heard.1.0 c.args.taken c.in-Ok-More.number c.self.inside.blocks c.heard.new.blocks c.self.inside.rows.items fits heard.0 heard.1.1 heard.1.2, λ getting. ap (λ (t : TalkValue). t.rows) c.self.view_is)
 
 pub returns-in-Ok-Rows : goal.returns-in-Ok-Rows
 returns-in-Ok-Rows g c = λ apdus h e.
     let fits = getting_opened c.args.self.now (record { stage = c.self.inside.stage; blocks = c.self.inside.blocks; rows = c.self.inside.rows.items }) apdus c.args.taken c.self.view_is h e in
-    let heard = (rw c.in-Ok-Rows.field-0-is at c.in-Ok-Rows.ensures) fits.1 in
+    let heard = (rw c.in-Ok-Rows.field-0-is at c.in-Ok-Rows.ensures.hears) fits.1 in
     (rows_taken apdus c.args.apdu.now c.args.taken c.self.inside.blocks c.heard.new.blocks c.self.inside.rows.items c.in-Ok-Rows.rows.items fits heard, λ getting. absurd getting)

@@ -1,0 +1,55 @@
+//! What this project is as a library, in a few lines: asks for the energy that was imported, and reads the answer.
+#![tactic(auto)]
+
+use anyhow::{Result, anyhow};
+use arrayvec::ArrayVec;
+use dlms_apdu::{Request, Response, read_response, write_request};
+use dlms_data::{Data, Descriptor};
+use dlms_frame::{Address, Deframer, Frame};
+use std::alloc::Global;
+
+/// The value (attribute 2) of the register (class 3) of energy imported.
+const ENERGY: Descriptor = Descriptor {
+    class: 3,
+    name: [1, 0, 1, 8, 0, 255],
+    id: 2,
+};
+
+/// A frame that asks for it: to the meter's address 1, from the public client's 16.
+fn question(alloc: Global) -> Result<Frame> {
+    let request: Request<'_, Global> = Request::GetNormal {
+        invoke: 0xc1,
+        descriptor: ENERGY,
+        selector: None,
+    };
+    let apdu = write_request(alloc, &request)?;
+    let mut info: ArrayVec<u8, 64> = ArrayVec::new();
+    let fits = info.try_extend_from_slice(&[0xe6, 0xe6, 0x00]).is_ok()
+        && info.try_extend_from_slice(&apdu).is_ok();
+    if !fits {
+        return Err(anyhow!("the request is too long"));
+    }
+    Ok(Frame::new(false, Address::One(1), Address::One(16), 0x32, info.as_slice()))
+}
+
+/// The number in a frame that answers it, behind the three bytes of the LLC.
+fn answer(alloc: Global, bytes: &[u8]) -> Option<u32> {
+    let (_, frame) = Deframer::new().feed(bytes);
+    let frame = frame?;
+    let apdu = frame.info.as_slice().get(3..)?;
+    match read_response(alloc, apdu) {
+        Ok(Response::GetData { value: Data::DoubleLongUnsigned(number), .. }) => Some(number),
+        _ => None,
+    }
+}
+
+fn main(rt: HostRuntime) -> Result<()> {
+    let asked = question(rt.alloc())?;
+    println!(rt; "{} bytes are sent", asked.put().len())?;
+    let line = b"\x7e\xa0\x15\x21\x03\x52\x5d\x8a\xe6\xe7\x00\xc4\x01\xc1\x00\x06\x00\x00\x00\x2a\x25\x96\x7e";
+    match answer(rt.alloc(), line.as_slice()) {
+        Some(count) => println!(rt; "{count} Wh")?,
+        None => println!(rt; "no answer")?,
+    }
+    Ok(())
+}
