@@ -4,7 +4,8 @@ use Rattle.std.proofs.lemmas.List.Elements.{All-push, All-head, All-tail}
 use Rattle.dlms_headend.specs.declared.row.Row.{Row}
 use Rattle.dlms_data.specs.DateTime.{last_second}
 use Rattle.dlms_headend.proofs.Fields.{same_field, field_is_longer}
-use Rattle.dlms_headend.specs.Lines.{IsReading, field, line, lines, text_of, IsFile, BeginsWith, IsFirstFault, Refuses}
+use Rattle.dlms_headend.specs.Rows.{IsReading}
+use Rattle.dlms_headend.specs.Lines.{field, line, lines, text_of, IsFile, BeginsWith, IsFirstFault, Refuses}
 use Rattle.dlms_headend.specs.declared.readings_fault.ReadingsFault.{ReadingsFault}
 use Rattle.dlms_headend.specs.declared.readings_fault.ReadingsFault.TheVariants.{Line, Memory}
 use Rattle.std.specs.Fmt.{decimal}

@@ -1,13 +1,12 @@
 -- Values that are rows.
-use Rattle.std.proofs.Common.{◌≡◌, ◌≤◌, ◌+◌, ◌<◌, ℕ, List, [], ◌∷◌, ◌++◌, length, get_or, take, Option, Some, None, zero, suc, unwrap_or, Result, Ok, Err, IfErr, IfOk, refl, sym, ap, subst, ◌∙◌, arith}
+use Rattle.std.proofs.Common.{◌≡◌, ◌+◌, ◌<◌, ℕ, List, [], ◌∷◌, ◌++◌, length, get_or, take, Option, Some, None, zero, suc, unwrap_or, Result, Ok, Err, IfErr, IfOk, refl, sym, ap, subst, ◌∙◌, arith}
 use Rattle.std.proofs.lemmas.List.{take_more}
-use Rattle.std.proofs.lemmas.List.Elements.{All-cons, All-nil}
 use Rattle.dlms_data.specs.declared.data.Data.{Data}
-use Rattle.dlms_data.specs.Value.{Value, Values, structure, none, cons}
+use Rattle.dlms_data.specs.Value.{Value, structure}
 use Rattle.dlms_data.specs.View.{value_of, values_of}
-use Rattle.dlms_data.specs.DateTime.{NamesSecond, last_second}
+use Rattle.dlms_data.specs.DateTime.{NamesSecond}
 use Rattle.dlms_headend.specs.declared.row.Row.{Row}
-use Rattle.dlms_headend.specs.Rows.{four_in, fields_in, IsRow, AreRows, IsProfile, IsEncoded, NoProfile, NoValue, NoEncoding, HaveClocks}
+use Rattle.dlms_headend.specs.Rows.{four_in, fields_in, IsRow, AreRows, IsProfile, IsEncoded, NoProfile, NoValue, NoEncoding}
 use Rattle.dlms_headend.specs.declared.poll_fault.PollFault.{PollFault}
 use Rattle.dlms_headend.specs.declared.poll_fault.PollFault.TheVariants.{Refused, Result as BadResult, Line, Protocol, Memory}
 use Rattle.dlms_data.specs.Spelling.{IsSpelling}
@@ -94,17 +93,6 @@ none_encoded bytes Line h there = h
 pub encoded_ok : {X : Type 0} (bytes : List ℕ) (v : Value) (r : Result X PollFault) (view : X → List Row) → IsSpelling bytes v → IfOk r (λ x. IsProfile v (view x)) → IfOk r (λ x. IsEncoded bytes (view x))
 encoded_ok bytes v (Ok x) view spelled h = (v, spelled, h)
 encoded_ok bytes v (Err fault) view spelled h = tt
-
--- the rows of values show seconds of the clock
-clocks_of : (vs : Values) (rows : List Row) → AreRows vs rows → HaveClocks rows
-clocks_of none [] h = All-nil (λ (row : Row). row.clock ≤ last_second)
-clocks_of none (row ∷ rows) h = absurd h
-clocks_of (cons v vs) [] h = absurd h
-clocks_of (cons v vs) (row ∷ rows) h = All-cons (λ (row : Row). row.clock ≤ last_second) row rows h.0.clock.range (clocks_of vs rows h.1)
-
-pub clocks_found : {X : Type 0} (vs : Values) (r : Result X PollFault) (view : X → List Row) → IfOk r (λ x. AreRows vs (view x)) → IfOk r (λ x. HaveClocks (view x))
-clocks_found vs (Ok x) view h = clocks_of vs (view x) h
-clocks_found vs (Err fault) view h = tt
 
 -- ---- what was read of bytes
 

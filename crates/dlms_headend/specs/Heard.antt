@@ -8,7 +8,7 @@ use Rattle.dlms_headend.specs.declared.heard.Heard.{Heard}
 use Rattle.dlms_headend.specs.declared.heard.Heard.TheVariants.{More, Rows}
 use Rattle.dlms_headend.specs.declared.poll_fault.PollFault.{PollFault}
 use Rattle.dlms_headend.specs.declared.poll_fault.PollFault.TheVariants.{Refused, Result as BadResult, Line, Protocol, Memory}
-use Rattle.dlms_headend.specs.Rows.{IsEncoded, NoEncoding, HaveClocks}
+use Rattle.dlms_headend.specs.Rows.{IsEncoded, NoEncoding, AreReadings}
 use Rattle.dlms_headend.specs.Poll.{IsMoreBy, SpellsBy, FailsBy, NeedsBy}
 
 -- so many blocks were joined, and others are to come
@@ -27,11 +27,11 @@ FailsOrWants taken joined read (BadResult code) = FailsBy taken joined read (Bad
 FailsOrWants taken joined read Line = FailsBy taken joined read Line
 FailsOrWants taken joined read Protocol = FailsBy taken joined read Protocol
 
--- rows that an answer brought show seconds of the clock
-abbrev pub BringsClocks : {A : Type 0} → Result (Heard A) PollFault → Type 0
-BringsClocks (Ok (More number)) = Unit {0}
-BringsClocks (Ok (Rows rows)) = HaveClocks rows.items
-BringsClocks (Err fault) = Unit {0}
+-- rows that an answer brought are readings
+abbrev pub BringsReadings : {A : Type 0} → Result (Heard A) PollFault → Type 0
+BringsReadings (Ok (More number)) = Unit {0}
+BringsReadings (Ok (Rows rows)) = AreReadings rows.items
+BringsReadings (Err fault) = Unit {0}
 
 -- of a whole encoding
 abbrev pub LastHeard : {A : Type 0} → List ℕ → Result (Heard A) PollFault → Type 0

@@ -1,17 +1,11 @@
 -- The text of a readings file: a line for each row, its clock and its three registers in plain decimal, parted by commas
 -- and ended by a line feed.
-use Rattle.std.specs.Prelude.{◌≡◌, ◌≢◌, ℕ, ◌+◌, ◌<◌, ◌≤◌, ◌^◌, List, [], ◌∷◌, ◌++◌, length, slice_index, All, Bool, false, not, ◌==◌, ◌&&◌}
+use Rattle.std.specs.Prelude.{◌≡◌, ◌≢◌, ℕ, ◌+◌, ◌<◌, List, [], ◌∷◌, ◌++◌, length, slice_index, All, Bool, false, not, ◌==◌, ◌&&◌}
 use Rattle.std.specs.Fmt.{decimal}
-use Rattle.dlms_data.specs.DateTime.{last_second}
 use Rattle.dlms_headend.specs.declared.row.Row.{Row}
+use Rattle.dlms_headend.specs.Rows.{IsReading}
 use Rattle.dlms_headend.specs.declared.readings_fault.ReadingsFault.{ReadingsFault}
 use Rattle.dlms_headend.specs.declared.readings_fault.ReadingsFault.TheVariants.{Line, Memory}
-
--- a row that a file may hold: its clock is one of the meter's clock, and it has three registers of 32 bits
-pub record IsReading (row : Row) : Type 0 where
-  pub clock : row.clock ≤ last_second
-  pub count : length row.registers ≡ 3
-  pub registers : All (λ register. register < 2 ^ 32) row.registers
 
 -- no sign stands in front, and no leading zero
 abbrev pub is_plain : List ℕ → Bool

@@ -1,6 +1,6 @@
 -- The rows that a value holds: the buffer of class Profile generic (7) of IEC 62056-6-2 (Blue Book 4.3.6), captured by the
 -- clock and three registers.
-use Rattle.std.specs.Prelude.{◌≡◌, ◌≤◌, ℕ, List, [], ◌∷◌, Option, Some, None, All}
+use Rattle.std.specs.Prelude.{◌≡◌, ◌≤◌, ◌<◌, ◌^◌, ℕ, List, [], ◌∷◌, length, Option, Some, None, All}
 use Rattle.dlms_data.specs.DateTime.{NamesSecond, last_second}
 use Rattle.dlms_data.specs.Spelling.{IsSpelling}
 use Rattle.dlms_data.specs.Value.{Value, Values, array, structure, octet_string, double_long_unsigned, none, cons}
@@ -41,9 +41,15 @@ pub record IsRow (value : Value) (row : Row) : Type 0 where
   pub fields : fields_in value ≡ Some (time, row.registers)
   pub clock : NamesSecond time row.clock
 
--- each row shows a second of the clock
-abbrev pub HaveClocks : List Row → Type 0
-HaveClocks rows = All (λ row. row.clock ≤ last_second) rows
+-- a row that a meter may have captured and a file may hold: its clock is one of the meter's clock, and it has three registers
+-- of 32 bits
+pub record IsReading (row : Row) : Type 0 where
+  pub clock : row.clock ≤ last_second
+  pub count : length row.registers ≡ 3
+  pub registers : All (λ register. register < 2 ^ 32) row.registers
+
+abbrev pub AreReadings : List Row → Type 0
+AreReadings rows = All IsReading rows
 
 -- the values are those of the rows, in their order
 abbrev pub AreRows : Values → List Row → Type 0

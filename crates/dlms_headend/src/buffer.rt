@@ -4,7 +4,7 @@ ghost use Rattle.std.specs.Prelude.{◌≡◌, List, IfOk, IfErr, IfSome, IfNone
 ghost use Rattle.dlms_data.specs.Spelling.{IsSpelling};
 ghost use Rattle.dlms_data.specs.Value.{Value};
 ghost use Rattle.dlms_data.specs.View.{value_of, values_of};
-ghost use Rattle.dlms_headend.specs.Rows.{four_in, octets_in, register_in, fields_in, IsRow, AreRows, IsProfile, NoProfile, IsEncoded, NoEncoding, NoRows, NoValue, HaveClocks};
+ghost use Rattle.dlms_headend.specs.Rows.{four_in, octets_in, register_in, fields_in, IsRow, AreRows, IsProfile, NoProfile, IsEncoded, NoEncoding, NoRows, NoValue, IsReading, AreReadings};
 ghost use Rattle.dlms_headend.specs.declared.row.Row.{Row as RowOf};
 
 use crate::form::is_profile;
@@ -61,6 +61,7 @@ fn fields<A: Allocator>(value: &Data<A>) -> Option<(&[u8], [u32; 3])>
 /// The row of a structure.
 fn row<A: Allocator>(value: &Data<A>) -> Option<Row>
     ensures some { IfSome result (IsRow (value_of value.now)) }
+    ensures reading { IfSome result IsReading }
     ensures none { IfNone result ((row : RowOf) → IsRow (value_of value.now) row → ⊥) }
 {
     let (time, registers) = fields(value)?;
@@ -83,6 +84,7 @@ fn are_rows<A: Allocator>(values: &[Data<A>]) -> bool
 /// The rows of values. That each is a row's is looked at before memory is asked for.
 fn collected<A: Allocator>(alloc: A, values: &[Data<A>]) -> Result<Vec<Row, A>, PollFault>
     ensures ok { IfOk result (λ rows. AreRows (values_of values.now) rows.items) }
+    ensures readings { IfOk result (λ rows. AreReadings rows.items) }
     ensures err { IfErr result (NoRows (values_of values.now)) }
 {
     if !are_rows(values) {
@@ -101,7 +103,7 @@ fn collected<A: Allocator>(alloc: A, values: &[Data<A>]) -> Result<Vec<Row, A>, 
 /// The rows of the buffer's value.
 pub fn rows<A: Allocator>(alloc: A, value: &Data<A>) -> Result<Vec<Row, A>, PollFault>
     ensures ok { IfOk result (λ rows. IsProfile (value_of value.now) rows.items) }
-    ensures clocks { IfOk result (λ rows. HaveClocks rows.items) }
+    ensures readings { IfOk result (λ rows. AreReadings rows.items) }
     ensures err { IfErr result (NoProfile (value_of value.now)) }
 {
     match value {
@@ -128,7 +130,7 @@ fn whole_value<A: Allocator + Copy>(alloc: A, bytes: &[u8]) -> Result<Data<A>, P
 /// The rows of the buffer's encoding. That it is one is looked at before memory is asked for.
 pub fn encoded<A: Allocator + Copy>(alloc: A, bytes: &[u8]) -> Result<Vec<Row, A>, PollFault>
     ensures ok { IfOk result (λ rows. IsEncoded bytes.now rows.items) }
-    ensures clocks { IfOk result (λ rows. HaveClocks rows.items) }
+    ensures readings { IfOk result (λ rows. AreReadings rows.items) }
     ensures err { IfErr result (NoEncoding bytes.now) }
 {
     if !is_profile(bytes) {

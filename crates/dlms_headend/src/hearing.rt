@@ -7,7 +7,7 @@ ghost use Rattle.dlms_blocks.specs.Joining.{Joining};
 ghost use Rattle.dlms_data.specs.Value.{Value};
 ghost use Rattle.dlms_data.specs.View.{value_of};
 ghost use Rattle.dlms_headend.specs.declared.poll_fault.PollFault.TheVariants.{Result as BadResult, Protocol};
-ghost use Rattle.dlms_headend.specs.Heard.{HasTaken, HearsBy, Hears, LastHeard, FailsOrWants, BringsClocks};
+ghost use Rattle.dlms_headend.specs.Heard.{HasTaken, HearsBy, Hears, LastHeard, FailsOrWants, BringsReadings};
 
 use crate::answer::EXCEPTION;
 use crate::buffer::{encoded, rows};
@@ -22,7 +22,7 @@ use std::alloc::Allocator;
 /// The value in an answer to GET.
 fn data<A: Allocator>(alloc: A, taken: u32, value: &Data<A>) -> Result<Heard<A>, PollFault>
     ensures hears { (old new : Joining) (invoke : ℕ) → HearsBy taken old (Ok (get_data invoke (value_of value.now))) result new }
-    ensures clocks { BringsClocks result }
+    ensures readings { BringsReadings result }
 {
     if taken != 0 {
         return Err(PollFault::Protocol);
@@ -36,7 +36,7 @@ fn data<A: Allocator>(alloc: A, taken: u32, value: &Data<A>) -> Result<Heard<A>,
 /// The last block was joined.
 fn last_block<A: Allocator + Copy>(alloc: A, bytes: &[u8]) -> Result<Heard<A>, PollFault>
     ensures hears { LastHeard bytes.now result }
-    ensures clocks { BringsClocks result }
+    ensures readings { BringsReadings result }
 {
     match encoded(alloc, bytes) {
         Ok(rows) => Ok(Heard::Rows(rows)),
@@ -53,7 +53,7 @@ fn block<A: Allocator + Copy>(
     raw: &[u8],
 ) -> Result<Heard<A>, PollFault>
     ensures hears { (taken invoke : ℕ) → HasTaken blocks.old taken → HearsBy taken blocks.old (Ok (get_block invoke last number raw.now)) result blocks.new }
-    ensures clocks { BringsClocks result }
+    ensures readings { BringsReadings result }
 {
     match blocks.more(last, number, raw) {
         Ok(true) => last_block(alloc, blocks.bytes()),
@@ -107,7 +107,7 @@ pub fn heard<A: Allocator + Copy>(
     apdu: &[u8],
 ) -> Result<Heard<A>, PollFault>
     ensures hears { Hears taken blocks.old apdu.now result blocks.new }
-    ensures clocks { BringsClocks result }
+    ensures readings { BringsReadings result }
 {
     match read_response(alloc, apdu) {
         Ok(Response::GetData { value, .. }) => data(alloc, taken, &value),

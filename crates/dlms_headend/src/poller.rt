@@ -10,7 +10,7 @@ ghost use Rattle.dlms_headend.specs.declared.step.PollStep.TheVariants.{Done};
 ghost use Rattle.dlms_headend.specs.Poll.{HasReleased};
 ghost use Rattle.dlms_headend.specs.Asking.{association_bytes};
 ghost use Rattle.dlms_headend.specs.PollerValue.{plan_of};
-ghost use Rattle.dlms_headend.specs.Rows.{HaveClocks};
+ghost use Rattle.dlms_headend.specs.Rows.{AreReadings};
 ghost use Rattle.dlms_headend.specs.Talk.{FitsTalk, CanTake, IsGetting};
 ghost use Rattle.dlms_headend.specs.Polling.{IsDone, fresh_poll, IsGet, IsDue, Fits, FitsIn, Begins, TimesOut, CanTimeOut, HasFailed, Continues, Answers, GoesDown, PollsEarly, PollsBy, Polls, with_link};
 
@@ -260,10 +260,10 @@ impl<A: Allocator + Copy> Poller<A> {
         }
     }
 
-    /// The rows that were polled; none before they are there. Each shows a second of the clock.
+    /// The rows that were polled; none before they are there. Each is a reading: its clock is one of the meter's.
     pub fn rows(&self) -> &[Row]
         ensures rows { result.now ≡ self.now.talk.rows }
-        ensures clocks { HaveClocks result.now }
+        ensures readings { AreReadings result.now }
     {
         self.talk.rows()
     }

@@ -3,7 +3,7 @@
 ghost use Rattle.std.specs.Prelude.{◌≡◌, ◌≤◌, ◌+◌, ◌++◌, List, length, take, filter, IfOk, IfErr, IfSome, OnOk, OnErr, MatchResult, string_bytes};
 ghost use Rattle.dlms_data.specs.DateTime.{last_second};
 ghost use Rattle.dlms_headend.specs.Lines.{line, text_of, IsFile, Refuses};
-ghost use Rattle.dlms_headend.specs.Rows.{HaveClocks};
+ghost use Rattle.dlms_headend.specs.Rows.{AreReadings};
 ghost use Rattle.dlms_headend.specs.Merged.{last_clock, is_later, added, merged};
 ghost use Rattle.dlms_headend.specs.declared.readings_fault.ReadingsFault.TheVariants.{Memory};
 ghost use Rattle.dlms_headend.specs.declared.row.Row.{Row as RowOf};
@@ -23,13 +23,13 @@ pub struct Readings<A: Allocator = Global> {
 impl<A: Allocator> Model for Readings<A> {
     ghost use Rattle.std.specs.Prelude.{List};
     ghost use Rattle.dlms_headend.specs.declared.row.Row.{Row};
-    ghost use Rattle.dlms_headend.specs.Rows.{HaveClocks};
+    ghost use Rattle.dlms_headend.specs.Rows.{AreReadings};
 
     ghost Value = { List Row };
 
     ghost view = { λ r. r.rows.items };
 
-    ghost invariant = { λ r. HaveClocks r.rows.items };
+    ghost invariant = { λ r. AreReadings r.rows.items };
 }
 
 /// Whether the row comes after that clock.
@@ -83,9 +83,9 @@ impl<A: Allocator + Copy> Readings<A> {
     }
 
     /// Appends the rows, in their order, that come after the last row, and says how many they are; all of them to an empty file.
-    /// Each of them shows a second of the clock, as those of a poll do.
+    /// Each of them is a reading, as those of a poll are: its clock is one of the meter's.
     pub fn merge(&mut self, rows: &[Row]) -> Result<usize, AllocError>
-        requires { HaveClocks rows.now }
+        requires { AreReadings rows.now }
         ensures ok { OnOk result (self.new ≡ merged self.old rows.now) }
         ensures count { IfOk result (λ count. count ≡ length (added self.old rows.now)) }
         ensures err { OnErr result (self.new ≡ self.old) }
@@ -101,9 +101,9 @@ impl<A: Allocator + Copy> Readings<A> {
         }
     }
 
-    /// The file's text, which `open` reads again where each clock is one of the meter's.
+    /// The file's text, which `open` reads again.
     pub fn text(&self) -> Result<String<A>, AllocError>
-        ensures { IfOk result (λ text. string_bytes text ≡ text_of self.now) }
+        ensures { IfOk result (λ text. IsFile (string_bytes text) self.now) }
     {
         lines::text(*self.rows.allocator(), &self.rows)
     }

@@ -2,7 +2,7 @@
 
 ghost use Rattle.std.specs.Prelude.{◌≡◌, ◌++◌, ◌∷◌, [], List, ℕ};
 ghost use Rattle.dlms_headend.specs.declared.stage.Stage.TheVariants.{Getting};
-ghost use Rattle.dlms_headend.specs.Rows.{HaveClocks};
+ghost use Rattle.dlms_headend.specs.Rows.{AreReadings};
 ghost use Rattle.dlms_headend.specs.Talk.{fresh_talk, FitsTalk, CanTake, Takes};
 
 use crate::answer::{associated, released};
@@ -26,13 +26,13 @@ pub struct Talk<A: Allocator = Global> {
 
 impl<A: Allocator> Model for Talk<A> {
     ghost use Rattle.dlms_headend.specs.TalkValue.{TalkValue};
-    ghost use Rattle.dlms_headend.specs.Rows.{HaveClocks};
+    ghost use Rattle.dlms_headend.specs.Rows.{AreReadings};
 
     ghost Value = { TalkValue };
 
     ghost view = { λ t. record { stage = t.stage; blocks = t.blocks; rows = t.rows.items } };
 
-    ghost invariant = { λ t. HaveClocks t.rows.items };
+    ghost invariant = { λ t. AreReadings t.rows.items };
 }
 
 impl<A: Allocator + Copy> Talk<A> {
@@ -55,7 +55,7 @@ impl<A: Allocator + Copy> Talk<A> {
 
     pub fn rows(&self) -> &[Row]
         ensures rows { result.now ≡ self.now.rows }
-        ensures clocks { HaveClocks result.now }
+        ensures readings { AreReadings result.now }
     {
         &self.rows
     }

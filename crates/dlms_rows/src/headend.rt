@@ -1,6 +1,7 @@
 //! Rows of `dlms_headend`.
 
 ghost use Rattle.std.specs.Prelude.{◌≤◌, IfOk, IfSome};
+ghost use Rattle.dlms_headend.specs.Rows.{IsReading};
 
 use crate::answers::{put_number, put_with_number};
 use crate::bench::{Bench, Room};
@@ -124,7 +125,7 @@ fn poll_step(
 
 /// A row of the words: its clock and its registers.
 fn row_of(words: &mut Words<'_>) -> Result<Row, RowFault>
-    ensures { IfOk result (λ row. row.clock ≤ 3155759999) }
+    ensures { IfOk result IsReading }
 {
     let clock = words.number()?;
     if clock > LAST_SECOND {
