@@ -2,18 +2,18 @@
 use Rattle.std.proofs.Common.{◌≡◌, inl, inr, ◌≤◌, ◌↔◌, ℕ, ◌+◌, Bool, true, false, List, [], ◌∷◌, ◌++◌, length, refl, sym, ◌∙◌, ap, subst, arith, Some, None, Result, Ok, Err, suc}
 use Rattle.std.specs.Prelude.{OnOk, OnErr, ◌≢◌}
 use Rattle.std.proofs.lemmas.Bool.{cases_lt}
-use Rattle.dlms_pages.specs.Device.{Image, Rules, Rose, View}
+use Rattle.dlms_pages.specs.Device.{Image, Rules, View}
 use Rattle.dlms_pages.specs.declared.device.Pages.{Ghosts}
 use Rattle.dlms_pages.proofs.Moments.{then_also, weaker}
 use Rattle.dlms_state.specs.declared.event.Event.{Event}
 use Rattle.dlms_state.specs.declared.event.Refused.{Refused}
 use Rattle.dlms_journal.specs.Record.{record_of}
-use Rattle.dlms_store.specs.Store.{IsStopped, IsRunning, JoinsPending, IsExhausted, AddIsExhausted, CommitIsExhausted, Joins, JoinsAlone, Settles as SettlesAll, Fails as FailsIn, view_of, records_in, refusal_in}
+use Rattle.dlms_store.specs.Store.{IsStopped, IsRunning, JoinsPending, AddIsExhausted, CommitIsExhausted, Joins, JoinsAlone, Settles as SettlesAll, Fails as FailsIn, view_of, records_in, refusal_in}
 use Rattle.dlms_store.specs.World.{World, Step, Next, Run}
 use Rattle.dlms_store.specs.World.World.{Runs, InDoubt, Rests}
 use Rattle.dlms_store.specs.World.Step.{Adds, AddsBehind, Settles, Fails, Refuses, Stops}
 use Rattle.dlms_store.specs.Fitting.{StoreFits, LeftBy, Moves, AddMoves, commit_step, DeviceFits}
-use Rattle.dlms_store.specs.Going.{Knows, LeftDuring, Goes, AddGoes, CommitGoes, HasCause, StopsDuring}
+use Rattle.dlms_store.specs.Going.{Knows, LeftDuring, Goes, AddGoes, CommitGoes, StopsDuring}
 use Rattle.dlms_store.specs.declared.store.Store.{Store}
 use Rattle.dlms_store.specs.declared.fault.AddFault.{AddFault}
 use Rattle.dlms_store.specs.declared.fault.AddFault.TheVariants as add
@@ -185,26 +185,3 @@ commit_goes (Ok done) before old new knows is = settled before old new knows (no
 commit_goes (Err commit.Device) before old new knows is = failed before old new knows (not_true old.stopped (λ stopped. absurd (cc (is.stopped.1 stopped)))) (is.device refl) (is.run before)
 commit_goes (Err commit.Stopped) before old new knows is = (before, refused before old new knows (is.unchanged (λ e. absurd (cc e))) (is.run before))
 commit_goes (Err commit.Exhausted) before old new knows is = (before, refused before old new knows (is.unchanged (λ e. absurd (cc e))) (is.run before))
-
--- ---- why a call failed
-
--- a fault that came later came since
-rose_later : (a b c : ℕ) → a ≤ b → Rose b c → Rose a c
-rose_later a b c le rose = omega (arith, le, rose)
-
--- of an event that the table does not refuse
-pub add_cause : {P A : Type 0} {ghosts : Ghosts P} (fault : AddFault) (event : Event) (old new : Store P A ghosts) → refusal_in old event ≡ None → Added (Err fault) event old new → HasCause old new
-add_cause add.Device event old new passes is = inl (is.device refl).cause
-add_cause add.Stopped event old new passes is = inr (inl (is.stopped.0 refl))
-add_cause add.Exhausted event old new passes is =
-    let why = is.exhausted.0 refl in
-    inr (inr (subst (λ x. IsExhausted x) (sym (is.unchanged (λ e. absurd (cc e)))) why.2.1))
-add_cause (add.Refused cause) event old new passes is = absurd (cc (sym passes ∙ ((is.refused cause).0 refl).1))
-
--- where the calls before it met no fault
-pub commit_cause : {P A : Type 0} {ghosts : Ghosts P} (fault : StoreFault) (old mid new : Store P A ghosts) → (view_of old).faults ≤ (view_of mid).faults → (IsStopped mid → IsStopped old) → Committed (Err fault) mid new → HasCause old new
-commit_cause commit.Device old mid new before stopped is = inl (rose_later _ _ _ before (is.device refl).cause)
-commit_cause commit.Stopped old mid new before stopped is = inr (inl (stopped (is.stopped.0 refl)))
-commit_cause commit.Exhausted old mid new before stopped is =
-    let why = is.exhausted.0 refl in
-    inr (inr (subst (λ x. IsExhausted x) (sym (is.unchanged (λ e. absurd (cc e)))) why.1.1))

@@ -1,11 +1,11 @@
 -- Calls of a store, one after another.
 use Rattle.std.specs.Prelude.{◌≡◌, ◌⊎◌, ℕ, List, [], ◌∷◌, ◌++◌, take, Result, Ok, Err}
-use Rattle.dlms_pages.specs.Device.{Image, Rose}
+use Rattle.dlms_pages.specs.Device.{Image}
 use Rattle.dlms_pages.specs.Stops.{LeavesOnly}
 use Rattle.dlms_pages.specs.declared.device.Pages.{Ghosts}
 use Rattle.dlms_state.specs.declared.event.Event.{Event}
 use Rattle.dlms_store.specs.Fitting.{StoreFits, LeftBy, commit_step}
-use Rattle.dlms_store.specs.Store.{Remembers, IsStopped, IsRunning, IsExhausted, view_of}
+use Rattle.dlms_store.specs.Store.{Remembers, IsStopped, IsRunning, view_of}
 use Rattle.dlms_store.specs.World.{World, Step, Next, Run}
 use Rattle.dlms_store.specs.World.World.{Runs, InDoubt, Rests}
 use Rattle.dlms_store.specs.World.Step.{Adds, AddsBehind, Fails, Refuses, Stops}
@@ -53,8 +53,3 @@ AddGoes (Err (add.Refused cause)) event before old new = Goes before (Refuses �
 -- what a `commit` was
 abbrev pub CommitGoes : {P A : Type 0} → {ghosts : Ghosts P} → Result (Unit {0}) StoreFault → World → Store P A ghosts → Store P A ghosts → Type 0
 CommitGoes result before old new = (now : World) × Goes before (commit_step result ∷ []) now old new
-
--- Why a store may have taken no event, or settled none: its device failed in these calls, it was stopped before them, or it
--- is exhausted.
-abbrev pub HasCause : {P A : Type 0} → {ghosts : Ghosts P} → Store P A ghosts → Store P A ghosts → Type 0
-HasCause old new = Rose (view_of old).faults (view_of new).faults ⊎ IsStopped old ⊎ IsExhausted new

@@ -9,7 +9,6 @@ pub mod Layout
 pub mod Page
 pub mod Ring
 pub mod RingCause
-pub mod Settled
 pub mod Steady
 pub mod Store
 pub mod Versions

@@ -1,50 +1,63 @@
--- What writing leaves: a page that is written and synced, the bodies of a slot, a slot, and a device made empty.
-use Rattle.std.specs.Prelude.{◌≡◌, ℕ, List, Result, OnOk, slice_set, ◌<◌, ◌≤◌, ◌⊎◌, ◌+◌, length, [], replicate}
+-- What a stop leaves of a device: once calls are done, and while one of them writes a page, the bodies of a slot, or a slot.
+use Rattle.std.specs.Prelude.{◌≡◌, ℕ, List, Result, OnOk, slice_set, ◌<◌, ◌≤◌, ◌⊎◌, ◌+◌, ◌++◌, length, [], replicate, true, false}
 use Rattle.dlms_pages.specs.Device.{View, Image, Outcome, page_at}
 use Rattle.dlms_pages.specs.Stops.{LeavesOnly}
 use Rattle.dlms_pages.specs.declared.device.PageRead.TheVariants.{Content}
-use Rattle.dlms_store.specs.Image.{Spells, Stands}
+use Rattle.dlms_pages.specs.declared.device.Pages.{Ghosts}
+use Rattle.dlms_store.specs.Image.{Spells, Stands, all_of}
 use Rattle.dlms_store.specs.declared.layout.TheConstants.{BODIES}
 use Rattle.dlms_state.specs.declared.event.Event.{Event}
 use Rattle.dlms_store.specs.declared.layout.Slot.{Slot}
+use Rattle.dlms_store.specs.declared.store.Store.{Store}
 use Rattle.dlms_store.specs.Layout.{other_of}
 
--- ---- a page
+-- ---- between calls
 
-pub record Puts {T E : Type 0} (index : ℕ) (bytes : List ℕ) (old new : View) (result : Result T E) : Type 0 where
-  -- at any moment the page is as it was, new or torn
-  pub any_moment : LeavesOnly old new (Outcome index bytes old.may_leave)
-  pub crash : (c : Image) → new.may_leave c → Outcome index bytes old.may_leave c
-  -- and at last it is new
-  pub durable : OnOk result ((c : Image) → new.may_leave c → c ≡ slice_set old.seen index (Content bytes))
+-- the device keeps the rules, and each image that a stop may leave has this
+pub record Leaves (v : View) (P : Image → Type 0) : Type 0 where
+  pub honest : v.honest ≡ true
+  pub each : (image : Image) → v.may_leave image → P image
 
--- ---- bodies
+-- Every page holds zeros: said of one image, where no slot stands yet and so no events do.
+abbrev pub IsClear : Image → Type 0
+IsClear image = (k : ℕ) → k < length image → page_at image k ≡ Content (replicate 512 0)
+
+-- These events are settled: said of a store, which runs, and whose slot, generation and next page are those of each image.
+pub record IsSettled {P A : Type 0} {ghosts : Ghosts P} (store : Store P A ghosts) (settled : List Event) : Type 0 where
+  pub runs : store.stopped ≡ false
+  pub base : List Event
+  pub pages : List (List Event)
+  pub spelled : base ++ all_of pages ≡ settled
+  pub next : store.next ≡ length pages
+  pub device : Leaves (ghosts.view store.device) (Stands store.slot store.generation base pages)
+
+-- ---- while a call writes
+
+-- A stop inside the call or after it leaves an image that has Meanwhile, and after an Ok one that has AtLast.
+pub record Brings {T E : Type 0} (Meanwhile AtLast : Image → Type 0) (old new : View) (result : Result T E) : Type 0 where
+  pub any_moment : LeavesOnly old new Meanwhile
+  pub after : (image : Image) → new.may_leave image → Meanwhile image
+  pub at_last : OnOk result ((image : Image) → new.may_leave image → AtLast image)
+
+-- a page: as it was, new or torn, and at last new
+abbrev pub Puts : {T E : Type 0} → ℕ → List ℕ → View → View → Result T E → Type 0
+Puts index bytes old new result = Brings (Outcome index bytes old.may_leave) (λ image. image ≡ slice_set old.seen index (Content bytes)) old new result
 
 -- an image of before, with anything in the bodies behind this gate
-pub record Scribbled (gate : ℕ) (old : Image → Type 0) (c : Image) : Type 0 where
+pub record Scribbled (gate : ℕ) (old : Image → Type 0) (image : Image) : Type 0 where
   pub before : Image
   pub was : old before
-  pub length_is : length c ≡ length before
-  pub elsewhere : (k : ℕ) → (k ≤ gate) ⊎ (gate + BODIES < k) → page_at c k ≡ page_at before k
+  pub length_is : length image ≡ length before
+  pub elsewhere : (k : ℕ) → (k ≤ gate) ⊎ (gate + BODIES < k) → page_at image k ≡ page_at before k
 
-pub record PutsBodies {T E : Type 0} (gate generation : ℕ) (bytes : List ℕ) (old new : View) (result : Result T E) : Type 0 where
-  pub any_moment : LeavesOnly old new (Scribbled gate old.may_leave)
-  pub crash : (c : Image) → new.may_leave c → Scribbled gate old.may_leave c
-  pub written : OnOk result ((c : Image) → new.may_leave c → Spells gate generation bytes c)
-
--- ---- a slot
+-- bodies: anything behind this gate, and at last those of these bytes
+abbrev pub PutsBodies : {T E : Type 0} → ℕ → ℕ → List ℕ → View → View → Result T E → Type 0
+PutsBodies gate generation bytes old new result = Brings (Scribbled gate old.may_leave) (Spells gate generation bytes) old new result
 
 -- the slot of before is active, or the other one, of the next generation and with an empty journal
 abbrev pub IsEither : Slot → ℕ → List Event → List (List Event) → List Event → Image → Type 0
 IsEither slot generation base pages events image = Stands slot generation base pages image ⊎ Stands (other_of slot) (generation + 1) events [] image
 
-pub record WritesSlot {T E : Type 0} (slot : Slot) (generation : ℕ) (base : List Event) (pages : List (List Event)) (events : List Event) (old new : View) (result : Result T E) : Type 0 where
-  pub any_moment : LeavesOnly old new (IsEither slot generation base pages events)
-  pub crash : (image : Image) → new.may_leave image → IsEither slot generation base pages events image
-  pub ok : OnOk result ((image : Image) → new.may_leave image → Stands (other_of slot) (generation + 1) events [] image)
-
--- ---- zeros
-
--- every page holds zeros
-abbrev pub IsClear : Image → Type 0
-IsClear image = (k : ℕ) → k < length image → page_at image k ≡ Content (replicate 512 0)
+-- a slot: either is active, and at last the other one
+abbrev pub WritesSlot : {T E : Type 0} → Slot → ℕ → List Event → List (List Event) → List Event → View → View → Result T E → Type 0
+WritesSlot slot generation base pages events old new result = Brings (IsEither slot generation base pages events) (Stands (other_of slot) (generation + 1) events []) old new result

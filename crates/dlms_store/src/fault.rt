@@ -53,7 +53,7 @@ pub enum StoreFault {
 #[derive(Clone, Copy, Debug, PartialEq, Eq, Error)]
 pub enum AddFault {
     /// The event may not come next.
-    #[error("refused")]
+    #[error("refused {}", .0.number())]
     Refused(Refused),
     /// The device failed. From now on the store is stopped, and this event is not in it.
     #[error("device")]

@@ -1,10 +1,10 @@
 //! A device made empty.
 ghost use Rattle.std.specs.Prelude.{◌≡◌, ◌≤◌, [], length, true, OnOk};
-ghost use Rattle.dlms_pages.specs.Device.{Goes, Image};
+ghost use Rattle.dlms_pages.specs.Device.{Goes};
 ghost use Rattle.dlms_state.specs.StateValue.{state_of};
 ghost use Rattle.dlms_checkpoint.specs.Checkpoint.{checkpoint_bytes};
 ghost use Rattle.dlms_store.specs.declared.layout.Slot.TheVariants as SlotOf;
-ghost use Rattle.dlms_store.specs.Writing.{IsClear};
+ghost use Rattle.dlms_store.specs.Writing.{IsClear, Leaves};
 ghost use Rattle.dlms_store.specs.Image.{Stands};
 ghost use Rattle.dlms_checkpoint.specs.Bodies.{body_count};
 ghost use Rattle.dlms_store.specs.declared.layout.TheConstants.{BODIES, PAGES};
@@ -19,7 +19,7 @@ use dlms_pages::{DeviceFault, Pages};
 /// Writes zeros to every page, and syncs.
 pub(crate) fn clear<P: Pages>(device: &mut P) -> Result<(), DeviceFault>
     ensures goes { Goes (P.view device.old) (P.view device.new) result }
-    ensures clear { (P.view device.old).honest ≡ true → OnOk result ((image : Image) → (P.view device.new).may_leave image → IsClear image) }
+    ensures clear { (P.view device.old).honest ≡ true → OnOk result (Leaves (P.view device.new) IsClear) }
 {
     for index in 0..device.count() {
         device.write(index, &[0; 512])?;
@@ -32,8 +32,7 @@ pub(crate) fn begin<P: Pages>(device: &mut P, bytes: &Checkpoint) -> Result<(), 
     requires room { PAGES ≤ length (P.view device.old).seen }
     requires few { body_count bytes.now ≤ BODIES }
     ensures goes { Goes (P.view device.old) (P.view device.new) result }
-    ensures starts { (P.view device.old).honest ≡ true → bytes.now ≡ checkpoint_bytes (state_of []) → ((image : Image) → (P.view device.old).may_leave image → IsClear image)
-        → OnOk result ((image : Image) → (P.view device.new).may_leave image → Stands SlotOf.First 1 [] [] image) }
+    ensures starts { bytes.now ≡ checkpoint_bytes (state_of []) → Leaves (P.view device.old) IsClear → OnOk result (Leaves (P.view device.new) (Stands SlotOf.First 1 [] [])) }
 {
     let gate = Slot::First.gate();
     put_bodies(device, gate, 1, bytes)?;

@@ -362,3 +362,19 @@ fn room_is_refused(rt: HostRuntime) -> Result<(), Fail> {
     }
     Ok(())
 }
+
+#[test]
+fn faults_are_told_by_name_and_number(rt: HostRuntime) -> Result<(), Fail> {
+    let told = [
+        (AddFault::Refused(Refused::MomentBack(900)), "refused 1"),
+        (AddFault::Refused(Refused::Range), "refused 2"),
+        (AddFault::Refused(Refused::Channel), "refused 3"),
+        (AddFault::Refused(Refused::Period), "refused 4"),
+        (AddFault::Refused(Refused::Length), "refused 5"),
+        (AddFault::Exhausted, "exhausted"),
+    ];
+    for (fault, text) in told {
+        assert_eq!(rt; format!(in rt.alloc(); "{fault}")?.as_str(), text);
+    }
+    Ok(())
+}

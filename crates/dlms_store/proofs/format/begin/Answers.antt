@@ -11,17 +11,17 @@ use Rattle.dlms_store.proofs.Starting.{started}
 use Rattle.dlms_store.proofs.format.begin.Goals as goal
 
 pub returns-clause-starts : goal.returns-clause-starts
-returns-clause-starts g c honest spelled clear =
+returns-clause-starts g c spelled clear =
     let view = g.P.Pages.view in
     let v0 = view c.args.device.now in
     let v1 = view c.put_bodies.new.device in
     let gate_is = c.gate-gate.ensures.value in
-    let p1 = c.in_ok-put_bodies.ensures.puts honest in
-    let h1 = c.in_ok-put_bodies.ensures.goes.honest ∙ honest in
+    let p1 = c.in_ok-put_bodies.ensures.puts clear.honest in
+    let h1 = c.in_ok-put_bodies.ensures.goes.honest ∙ clear.honest in
     let r1 = g.met.P.Pages.rules c.put_bodies.new.device h1 in
     let page = Content c.page_of-open.result in
     let room : 82 ≤ length v1.seen = omega (arith, c.in_ok-put_bodies.ensures.goes.count, c.requires.room) in
-    let scribbled = subst (λ (k : ℕ). Scribbled k v0.may_leave v1.seen) gate_is (p1.crash v1.seen r1.seen) in
-    let spells = subst (λ (k : ℕ). Spells k 1 (checkpoint_bytes (state_of [])) v1.seen) gate_is (subst (λ (b : List ℕ). Spells c.gate-gate.result 1 b v1.seen) spelled (p1.written v1.seen r1.seen)) in
-    let new = started v0.may_leave v1.seen page clear room scribbled (made_gate c.page_of-open.result _ 1 c.page_of-open.ensures) spells in
-    on_ok_weaker c.put.result (λ d. λ image left. subst (Stands First 1 [] []) (sym (d image left ∙ ap (λ (k : ℕ). set v1.seen k page) gate_is)) new) (c.put.ensures.puts h1).durable
+    let scribbled = subst (λ (k : ℕ). Scribbled k v0.may_leave v1.seen) gate_is (p1.after v1.seen r1.seen) in
+    let spells = subst (λ (k : ℕ). Spells k 1 (checkpoint_bytes (state_of [])) v1.seen) gate_is (subst (λ (b : List ℕ). Spells c.gate-gate.result 1 b v1.seen) spelled (p1.at_last v1.seen r1.seen)) in
+    let new = started v0.may_leave v1.seen page clear.each room scribbled (made_gate c.page_of-open.result _ 1 c.page_of-open.ensures) spells in
+    on_ok_weaker c.put.result (λ d. record { honest = c.put.ensures.goes.honest ∙ h1; each = λ image left. subst (Stands First 1 [] []) (sym (d image left ∙ ap (λ (k : ℕ). set v1.seen k page) gate_is)) new }) (c.put.ensures.puts h1).at_last

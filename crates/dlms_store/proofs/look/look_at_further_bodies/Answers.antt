@@ -6,6 +6,7 @@ use Rattle.dlms_checkpoint.specs.Bodies.{body_at}
 use Rattle.dlms_store.specs.Page.{HasPage}
 use Rattle.dlms_store.proofs.Looking.{page_is, one_payload, all_taken, one_awaited, next_fits, next_taken, read_on, was_ok, when_ok, not_ok}
 use Rattle.dlms_store.proofs.Causes.{further_fits, none_fits, too_long}
+use Rattle.dlms_store.proofs.Spelled.{none_behind_all}
 use Rattle.dlms_store.proofs.look.look_at_further_bodies.Goals as goal
 
 pub returns-then-awaited-eq0-clause-spelled : goal.returns-then-awaited-eq0-clause-spelled
@@ -78,7 +79,7 @@ loop-index-preserved g c =
           let so_far = inv.looks image fixed in
           let page = page_is (c.args.first + k) (view c.loop-index.device) image c.in_ok-page.page so_far.fixed (g.met.P.Pages.rules c.loop-index.device so_far.fixed.honest) (c.in_ok-page.ensures.page so_far.fixed.honest).page in
           let same = page ∙ ap (λ (f : ℕ). page_at image (f + k)) place in
-          further_fits gate c.args.generation image k inv.some (omega (arith, c.loop-index-test.true)) c.loop-index.restoring (inv.fits image gate place fixed first) c.in_ok-page.page same c.in-Some.body.now c.more.new.self c.in-Some.ensures
+          further_fits gate c.args.generation image k inv.some (omega (arith, c.loop-index-test.true)) c.loop-index.restoring (inv.fits image gate place fixed first) (λ none. c.if-awaited-eq0.false (c.awaited.ensures ∙ none)) c.in_ok-page.page same c.in-Some.body.now c.more.new.self c.in-Some.ensures
           (when_ok c.more.result c.if-is_err.ensures.value c.more.ensures.when.0) (was_ok c.more.result c.if-is_err.ensures.value c.more.ensures.ok);
       spelled = λ image gate bytes s place fixed is spells first.
           let so_far = inv.looks image fixed in
@@ -92,11 +93,13 @@ loop-index-preserved g c =
 
 pub returns-then-awaited-eq0-clause-cause : goal.returns-then-awaited-eq0-clause-cause
 returns-then-awaited-eq0-clause-cause g c image gate place fixed first =
-    record { count = c.loop-index.index; fit = c.loop-index.invariant.fits image gate place fixed first; all = inl (sym c.awaited.ensures ∙ c.if-awaited-eq0.true) }
+    record { count = c.loop-index.index; fit = c.loop-index.invariant.fits image gate place fixed first; all = sym c.awaited.ensures ∙ c.if-awaited-eq0.true }
 
 pub returns-clause-cause : goal.returns-clause-cause
 returns-clause-cause g c image gate place fixed first =
-    record { count = c.loop-index.index; fit = c.loop-index.invariant.fits image gate place fixed first; all = inr (omega (arith, c.loop-index-test.false)) }
+    let inv = c.loop-index.invariant in
+    let fit = inv.fits image gate place fixed first in
+    record { count = c.loop-index.index; fit = fit; all = none_behind_all gate c.args.generation image c.loop-index.index inv.some c.loop-index.restoring fit (omega (arith, c.loop-index-test.false)) }
 
 pub returns-in_default-clause-cause : goal.returns-in_default-clause-cause
 returns-in_default-clause-cause g c image gate place fixed first =
@@ -108,8 +111,8 @@ returns-in_default-clause-cause g c image gate place fixed first =
     inr (
       c.args.first + k,
       refl,
-      none_fits gate c.args.generation image k inv.some (omega (arith, c.loop-index-test.true)) c.loop-index.restoring (inv.fits image gate place fixed first) c.in_ok-page.page same
-          (λ none. c.if-awaited-eq0.false (c.awaited.ensures ∙ none)) (c.args.first + k) (ap (λ (f : ℕ). f + k) place) c.in_default.ensures,
+      none_fits gate c.args.generation image k inv.some (omega (arith, c.loop-index-test.true)) c.loop-index.restoring (inv.fits image gate place fixed first)
+          (λ none. c.if-awaited-eq0.false (c.awaited.ensures ∙ none)) c.in_ok-page.page same (c.args.first + k) (ap (λ (f : ℕ). f + k) place) c.in_default.ensures,
     )
 
 pub returns-then-is_err-clause-cause : goal.returns-then-is_err-clause-cause
@@ -122,7 +125,7 @@ returns-then-is_err-clause-cause g c image gate place fixed first =
     inr (
       c.args.first + k,
       refl,
-      too_long gate c.args.generation image k inv.some (omega (arith, c.loop-index-test.true)) c.loop-index.restoring (inv.fits image gate place fixed first) c.in_ok-page.page same
-          (λ none. c.if-awaited-eq0.false (c.awaited.ensures ∙ none)) (c.args.first + k) (ap (λ (f : ℕ). f + k) place) c.in-Some.body.now c.in-Some.ensures
+      too_long gate c.args.generation image k inv.some (omega (arith, c.loop-index-test.true)) c.loop-index.restoring (inv.fits image gate place fixed first)
+          (λ none. c.if-awaited-eq0.false (c.awaited.ensures ∙ none)) c.in_ok-page.page same (c.args.first + k) (ap (λ (f : ℕ). f + k) place) c.in-Some.body.now c.in-Some.ensures
           (λ long. not_ok c.more.result c.if-is_err.ensures.value (c.more.ensures.when.1 long)),
     )

@@ -10,8 +10,8 @@ returns-in_err-write-clause-puts g c honest =
     let at_first = g.met.P.Pages.rules c.args.device.now honest in
     record {
       any_moment = one_call _ _ _ (λ i old. Outcome.Old old) at_first w.time w.crash;
-      crash = w.crash;
-      durable = search rules;
+      after = w.crash;
+      at_last = search rules;
     }
 
 pub returns-clause-puts : goal.returns-clause-puts
@@ -26,6 +26,6 @@ returns-clause-puts g c honest =
     let second = one_call (view c.write.new.self) (view c.sync.new.self) P w.crash (g.met.P.Pages.rules c.write.new.self still) s.time crash in
     record {
       any_moment = then_also _ _ _ _ first second;
-      crash = crash;
-      durable = on_ok_weaker c.sync.result (λ d. λ i left. d i left ∙ w.written) s.durable;
+      after = crash;
+      at_last = on_ok_weaker c.sync.result (λ d. λ i left. d i left ∙ w.written) s.durable;
     }

@@ -82,8 +82,8 @@ returns-clause-puts g c honest =
     let spells : Spells gate c.args.generation c.args.bytes.now mid.seen = record { few = c.requires.few; each = λ k small. inv.written honest k (omega (arith, small, c.loop-index-test.false, c.body_count-index-end.ensures)) } in
     record {
       any_moment = then_also old mid new Q (inv.moments honest) (one_call mid new Q (inv.leaves honest) (g.met.P.Pages.rules c.loop-index.device still) s.time leaves);
-      crash = leaves;
-      written = on_ok_weaker c.sync.result (λ d. λ image left. subst (Spells gate c.args.generation c.args.bytes.now) (sym (d image left)) spells) s.durable;
+      after = leaves;
+      at_last = on_ok_weaker c.sync.result (λ d. λ image left. subst (Spells gate c.args.generation c.args.bytes.now) (sym (d image left)) spells) s.durable;
     }
 
 pub returns-in_err-write-clause-puts : goal.returns-in_err-write-clause-puts
@@ -103,6 +103,6 @@ returns-in_err-write-clause-puts g c honest =
     let leaves = λ (image : Image) (left : new.may_leave image). scribbled_more gate old.may_leave place from to mid.may_leave _ (inv.leaves honest) image (w.crash image left) in
     record {
       any_moment = then_also old mid new Q (inv.moments honest) (one_call mid new Q (inv.leaves honest) (g.met.P.Pages.rules c.loop-index.device still) w.time leaves);
-      crash = leaves;
-      written = search rules;
+      after = leaves;
+      at_last = search rules;
     }

@@ -10,7 +10,7 @@ use Rattle.dlms_pages.specs.declared.device.PageRead.TheVariants.{Content}
 use Rattle.dlms_journal.specs.Record.{Holds}
 use Rattle.dlms_state.specs.declared.event.Event.{Event}
 use Rattle.dlms_store.specs.Image.{Records}
-use Rattle.dlms_store.specs.Settled.{IsSettled}
+use Rattle.dlms_store.specs.Writing.{IsSettled}
 use Rattle.dlms_store.specs.World.Step.{Fails, Settles}
 use Rattle.dlms_store.proofs.Commit.{as_before, outcome, settles, settled_now, as_known, made_records, holds_none}
 use Rattle.dlms_store.proofs.Keeping.{running, refuses, settling, failing}
@@ -36,28 +36,28 @@ returns-then-is_empty-clause-run g c before fits =
     let empty = nothing store.pending.items c.is_empty.result c.is_empty.ensures c.if-is_empty.true in
     running Settles before store store c.if-self.false fits (λ s p is has.
     let none : p ≡ [] = holds_none p (subst (λ (b : List ℕ). Holds b p) empty has.records) in
-    settling s p store store (no_call _ _ (as_before store s p is has) (g.met.P.Pages.rules store.device is.honest)) (subst (IsSettled store) (sym (append-nil s) ∙ ap (λ (l : List Event). s ++ l) (sym none)) is) (settled_now s p store store has refl empty))
+    settling s p store store (no_call _ _ (as_before store s p is has) (g.met.P.Pages.rules store.device is.device.honest)) (subst (IsSettled store) (sym (append-nil s) ∙ ap (λ (l : List Event). s ++ l) (sym none)) is) (settled_now s p store store has refl empty))
 
 pub returns-in-Err-clause-run : goal.returns-in-Err-clause-run
 returns-in-Err-clause-run g c before fits =
     let store = c.args.self.now in
     running Fails before store _ c.if-self.false fits (λ s p is has.
-    let at_first = g.met.P.Pages.rules store.device is.honest in
-    let puts = c.in-Err.ensures.puts is.honest in
+    let at_first = g.met.P.Pages.rules store.device is.device.honest in
+    let puts = c.in-Err.ensures.puts is.device.honest in
     let page = c.page_of-page.result in
     let made = page_made page store.next store.generation c.as_slice.result.now store.pending.items p c.as_slice.ensures.value c.as_slice.ensures.fits c.page_of-page.ensures has.records (something store.pending.items c.is_empty.result c.is_empty.ensures c.if-is_empty.false) in
     let room : store.next < 16 = omega (arith, store.few, c.if-self-eq-JOURNAL_PAGES.false) in
     let each = outcome store s p is has at_first room page made in
-    failing s p store _ (weaker _ _ _ _ each puts.any_moment) refl (c.in-Err.ensures.goes.honest ∙ is.honest) (λ image left. each image (puts.crash image left)) (as_known s p store _ has refl refl))
+    failing s p store _ (weaker _ _ _ _ each puts.any_moment) refl (c.in-Err.ensures.goes.honest ∙ is.device.honest) (λ image left. each image (puts.after image left)) (as_known s p store _ has refl refl))
 
 pub returns-clause-run : goal.returns-clause-run
 returns-clause-run g c before fits =
     let store = c.args.self.now in
     running Settles before store _ c.if-self.false fits (λ s p is has.
-    let at_first = g.met.P.Pages.rules store.device is.honest in
-    let puts = c.in_default.ensures.puts is.honest in
+    let at_first = g.met.P.Pages.rules store.device is.device.honest in
+    let puts = c.in_default.ensures.puts is.device.honest in
     let page = c.page_of-page.result in
     let made = page_made page store.next store.generation c.as_slice.result.now store.pending.items p c.as_slice.ensures.value c.as_slice.ensures.fits c.page_of-page.ensures has.records (something store.pending.items c.is_empty.result c.is_empty.ensures c.if-is_empty.false) in
     let room : store.next < 16 = omega (arith, store.few, c.if-self-eq-JOURNAL_PAGES.false) in
     let each = outcome store s p is has at_first room page made in
-    settling s p store _ (weaker _ _ _ _ each puts.any_moment) (settles store s p is has at_first room page made _ (c.in_default.ensures.goes.honest ∙ is.honest) is.runs refl refl refl puts.durable) (settled_now s p store _ has refl c.clear.ensures))
+    settling s p store _ (weaker _ _ _ _ each puts.any_moment) (settles store s p is has at_first room page made _ (c.in_default.ensures.goes.honest ∙ is.device.honest) is.runs refl refl refl puts.at_last) (settled_now s p store _ has refl c.clear.ensures))

@@ -5,16 +5,14 @@ use Rattle.dlms_store.proofs.Commit.{no_records}
 use Rattle.dlms_store.proofs.store.Store.format.Goals as goal
 
 pub returns-clause-fits : goal.returns-clause-fits
-returns-clause-fits g c honest =
-    let h1 = c.in_default.ensures.goes.honest ∙ honest in (
-      record {
-        honest = c.in_default-begin.ensures.goes.honest ∙ h1;
-        runs = refl;
-        base = [];
-        pages = [];
-        spelled = refl;
-        next = refl;
-        stands = c.in_default-begin.ensures.starts h1 (c.checkpoint_of.ensures ∙ ap checkpoint_bytes c.in-Ok.ensures.value) (c.in_default.ensures.clear honest);
-      },
-      record { state = c.in-Ok.ensures; records = subst (λ (b : List ℕ). Holds b []) (sym c.new-2.ensures) no_records },
-    )
+returns-clause-fits g c honest = (
+  record {
+    runs = refl;
+    base = [];
+    pages = [];
+    spelled = refl;
+    next = refl;
+    device = c.in_default-begin.ensures.starts (c.checkpoint_of.ensures ∙ ap checkpoint_bytes c.in-Ok.ensures.value) (c.in_default.ensures.clear honest);
+  },
+  record { state = c.in-Ok.ensures; records = subst (λ (b : List ℕ). Holds b []) (sym c.new-2.ensures) no_records },
+)
