@@ -7,9 +7,13 @@ use Rattle.dlms_frame.specs.declared.client.Client.TheVariants.{Public, Manageme
 use Rattle.dlms_acse.specs.declared.outcome.Verdict.{Verdict}
 use Rattle.dlms_acse.specs.declared.outcome.Verdict.TheVariants.{Accepted, Refused}
 use Rattle.dlms_acse.specs.Reading.{octets_at, inner_at, secret_at, key_at, option_at, block_at, proposal_at, request_at, initiate_at, response_at, error_at, request_from, verdict_from}
-use Rattle.dlms_acse.specs.Spelling.{Field, SpellFields, Counts, IsAarq, IsAare, value_of, asked, answered, HasBlock}
+use Rattle.dlms_acse.specs.Spelling.{Field, SpellFields, Counts, IsAarq, IsAare, value_of, asked, answered}
+use Rattle.dlms_acse.specs.Services.{lower}
 use Rattle.dlms_acse.specs.Writing.{field, logical_names, mechanism_name, initiate_request, initiate_response, aarq_bytes, aare_bytes}
+use Rattle.dlms_acse.specs.Reading.{aarq_at, aare_at}
 use Rattle.dlms_acse.proofs.Takes.{octets_again}
+use Rattle.dlms_acse.proofs.Apdus.{aarq_only, aare_only}
+use Rattle.dlms_acse.proofs.Relations.{says_request, says_verdict}
 
 -- a length below 128
 short : (most : ℕ) (value : List ℕ) → length value < 128 → Counts most (length value ∷ value) value
@@ -29,32 +33,31 @@ secret_again secret l =
     let fits : ltb 16 (length secret) ≡ false = le-ltb 16 (length secret) l in
     rw (inner_again 0x80 secret (omega arith), fits) refl
 
-three : (n : ℕ) → n < 16777216 → 65536 * (n / 65536 % 256) + 256 * (n / 256 % 256) + n % 256 ≡ n
-three n l = omega arith
+three : (n : ℕ) → 65536 * (n / 65536 % 256) + 256 * (n / 256 % 256) + n % 256 ≡ lower n
+three n = omega arith
 
 two : (n : ℕ) → 256 * (n / 256) + n % 256 ≡ n
 two n = omega arith
 
-initiate_again : (bits size : ℕ) → bits < 16777216 →
-    initiate_at (field 0x04 (initiate_request bits size)) ≡ Some (record { version = 6; conformance = record { 0 = bits }; size = size })
+initiate_again : (bits size : ℕ) → initiate_at (field 0x04 (initiate_request bits size)) ≡ Some (record { version = 6; conformance = record { 0 = lower bits }; size = size })
 unfolding initiate_at request_at key_at option_at proposal_at block_at
-initiate_again bits size l = rw (inner_again 0x04 (initiate_request bits size) (lit< tt), three bits l, two size) refl
+initiate_again bits size = rw (inner_again 0x04 (initiate_request bits size) (lit< tt), three bits, two size) refl
 
 abbrev field_of : ℕ → List ℕ → Field
 field_of tag value = record { tag = tag; value = value }
 
-public_again : (secret : List ℕ) (bits size : ℕ) → bits < 16777216 → IsAarq (aarq_bytes Public secret bits size) (asked Public secret bits size)
-public_again secret bits size l =
+public_again : (secret : List ℕ) (bits size : ℕ) → IsAarq (aarq_bytes Public secret bits size) (asked Public secret bits size)
+public_again secret bits size =
     let v : List ℕ = field 0x04 (initiate_request bits size) in
     let body : List ℕ = field 0xA1 logical_names ++ field 0xBE v in
     let fs : List Field = field_of 0xA1 logical_names ∷ field_of 0xBE v ∷ [] in
     let last : SpellFields (field 0xBE v) (field_of 0xBE v ∷ []) = (length v ∷ v, [], refl, short 2 v (lit< tt), refl) in
     let spelled : SpellFields body fs = (length logical_names ∷ logical_names, field 0xBE v, refl, short 2 logical_names (lit< tt), last) in
-    let says : request_from (λ tag. value_of tag fs) ≡ asked Public secret bits size = rw (initiate_again bits size l) refl in
-    (fs, (length body ∷ body, body, refl, short 2 body (lit< tt), spelled, (refl, (refl, tt))), sym says)
+    let says : request_from (λ tag. value_of tag fs) ≡ asked Public secret bits size = rw (initiate_again bits size) refl in
+    (fs, (length body ∷ body, body, refl, short 2 body (lit< tt), spelled, (refl, (refl, tt))), says_request (λ tag. value_of tag fs) (asked Public secret bits size) says)
 
-management_again : (secret : List ℕ) (bits size : ℕ) → length secret ≤ 16 → bits < 16777216 → IsAarq (aarq_bytes Management secret bits size) (asked Management secret bits size)
-management_again secret bits size few l =
+management_again : (secret : List ℕ) (bits size : ℕ) → length secret ≤ 16 → IsAarq (aarq_bytes Management secret bits size) (asked Management secret bits size)
+management_again secret bits size few =
     let v : List ℕ = field 0x04 (initiate_request bits size) in
     let needs : List ℕ = 0x07 ∷ 0x80 ∷ [] in
     let name : List ℕ = mechanism_name 1 in
@@ -71,18 +74,18 @@ management_again secret bits size few l =
     let c : SpellFields third (field_of 0x8B name ∷ field_of 0xAC s ∷ field_of 0xBE v ∷ []) = (length name ∷ name, fourth, refl, short 2 name (lit< tt), d) in
     let b : SpellFields second (field_of 0x8A needs ∷ field_of 0x8B name ∷ field_of 0xAC s ∷ field_of 0xBE v ∷ []) = (length needs ∷ needs, third, refl, short 2 needs (lit< tt), c) in
     let spelled : SpellFields body fs = (length logical_names ∷ logical_names, second, refl, short 2 logical_names (lit< tt), b) in
-    let says : request_from (λ tag. value_of tag fs) ≡ asked Management secret bits size = rw (initiate_again bits size l, secret_again secret few) refl in
-    (fs, (length body ∷ body, body, refl, short 2 body size_of_body, spelled, (refl, (refl, (refl, (refl, (refl, tt)))))), sym says)
+    let says : request_from (λ tag. value_of tag fs) ≡ asked Management secret bits size = rw (initiate_again bits size, secret_again secret few) refl in
+    (fs, (length body ∷ body, body, refl, short 2 body size_of_body, spelled, (refl, (refl, (refl, (refl, (refl, tt)))))), says_request (λ tag. value_of tag fs) (asked Management secret bits size) says)
 
-pub aarq_again : (client : Client) (bytes secret : List ℕ) (bits size : ℕ) → bytes ≡ aarq_bytes client secret bits size → length secret ≤ 16 → bits < 16777216 → IsAarq bytes (asked client secret bits size)
-aarq_again Public bytes secret bits size e few l = subst (λ (w : List ℕ). IsAarq w (asked Public secret bits size)) (sym e) (public_again secret bits size l)
-aarq_again Management bytes secret bits size e few l = subst (λ (w : List ℕ). IsAarq w (asked Management secret bits size)) (sym e) (management_again secret bits size few l)
+pub aarq_again : (client : Client) (bytes secret : List ℕ) (bits size : ℕ) → bytes ≡ aarq_bytes client secret bits size → length secret ≤ 16 → IsAarq bytes (asked client secret bits size)
+aarq_again Public bytes secret bits size e few = subst (λ (w : List ℕ). IsAarq w (asked Public secret bits size)) (sym e) (public_again secret bits size)
+aarq_again Management bytes secret bits size e few = subst (λ (w : List ℕ). IsAarq w (asked Management secret bits size)) (sym e) (management_again secret bits size few)
 
 -- ---- the response
 
-response_again : (bits : ℕ) → bits < 16777216 → response_at (initiate_response bits 1024) ≡ Some (Accepted (record { 0 = bits }) 1024)
+response_again : (bits : ℕ) → response_at (initiate_response bits 1024) ≡ Some (Accepted (record { 0 = lower bits }) 1024)
 unfolding response_at
-response_again bits l = rw (three bits l) refl
+response_again bits = rw (three bits) refl
 
 error_again : (n : ℕ) → error_at (0x0E ∷ 0x01 ∷ 0x06 ∷ n ∷ []) ≡ Some n
 unfolding error_at
@@ -111,26 +114,35 @@ head_spelled r d rest fs s =
 user_spelled : (value : List ℕ) → length value < 128 → SpellFields (field 0xBE value) (field_of 0xBE value ∷ [])
 user_spelled value l = (length value ∷ value, [], ap (λ (w : List ℕ). 0xBE ∷ length value ∷ w) (sym (append-nil value)), short 2 value l, refl)
 
-verdict_again : (v : Verdict) → HasBlock v → IsAare (aare_bytes v) (answered v)
-verdict_again (Accepted conformance size) l =
+verdict_again : (v : Verdict) → IsAare (aare_bytes v) (answered v)
+verdict_again (Accepted conformance size) =
     let u : List ℕ = field 0x04 (initiate_response conformance.0 1024) in
     let fs : List Field = head_fields 0 0 (field_of 0xBE u ∷ []) in
     let body : List ℕ = head_bytes 0 0 (field 0xBE u) in
     let spelled : SpellFields body fs = head_spelled 0 0 (field 0xBE u) (field_of 0xBE u ∷ []) (user_spelled u (lit< tt)) in
-    let says : verdict_from (λ tag. value_of tag fs) ≡ Ok (Accepted conformance 1024) = rw (inner_again 0x04 (initiate_response conformance.0 1024) (lit< tt), response_again conformance.0 l) refl in
-    (fs, (length body ∷ body, body, refl, short 2 body (lit< tt), spelled, (refl, (refl, (refl, (refl, tt))))), says)
-verdict_again (Refused diagnostic None) l =
+    let says : verdict_from (λ tag. value_of tag fs) ≡ Ok (answered (Accepted conformance size)) = rw (inner_again 0x04 (initiate_response conformance.0 1024) (lit< tt), response_again conformance.0) refl in
+    (fs, (length body ∷ body, body, refl, short 2 body (lit< tt), spelled, (refl, (refl, (refl, (refl, tt))))), says_verdict (λ tag. value_of tag fs) (answered (Accepted conformance size)) says)
+verdict_again (Refused diagnostic None) =
     let fs : List Field = head_fields 1 diagnostic [] in
     let body : List ℕ = head_bytes 1 diagnostic [] in
     let spelled : SpellFields body fs = head_spelled 1 diagnostic [] [] refl in
-    (fs, (length body ∷ body, body, refl, short 2 body (lit< tt), spelled, (refl, (refl, (refl, tt)))), refl)
-verdict_again (Refused diagnostic (Some n)) l =
+    (fs, (length body ∷ body, body, refl, short 2 body (lit< tt), spelled, (refl, (refl, (refl, tt)))), says_verdict (λ tag. value_of tag fs) (Refused diagnostic None) refl)
+verdict_again (Refused diagnostic (Some n)) =
     let u : List ℕ = field 0x04 (0x0E ∷ 0x01 ∷ 0x06 ∷ n ∷ []) in
     let fs : List Field = head_fields 1 diagnostic (field_of 0xBE u ∷ []) in
     let body : List ℕ = head_bytes 1 diagnostic (field 0xBE u) in
     let spelled : SpellFields body fs = head_spelled 1 diagnostic (field 0xBE u) (field_of 0xBE u ∷ []) (user_spelled u (lit< tt)) in
     let says : verdict_from (λ tag. value_of tag fs) ≡ Ok (Refused diagnostic (Some n)) = rw (inner_again 0x04 (0x0E ∷ 0x01 ∷ 0x06 ∷ n ∷ []) (lit< tt), error_again n) refl in
-    (fs, (length body ∷ body, body, refl, short 2 body (lit< tt), spelled, (refl, (refl, (refl, (refl, tt))))), says)
+    (fs, (length body ∷ body, body, refl, short 2 body (lit< tt), spelled, (refl, (refl, (refl, (refl, tt))))), says_verdict (λ tag. value_of tag fs) (Refused diagnostic (Some n)) says)
 
-pub aare_again : (bytes : List ℕ) (v : Verdict) → bytes ≡ aare_bytes v → HasBlock v → IsAare bytes (answered v)
-aare_again bytes v e l = subst (λ (w : List ℕ). IsAare w (answered v)) (sym e) (verdict_again v l)
+pub aare_again : (bytes : List ℕ) (v : Verdict) → bytes ≡ aare_bytes v → IsAare bytes (answered v)
+aare_again bytes v e = subst (λ (w : List ℕ). IsAare w (answered v)) (sym e) (verdict_again v)
+
+-- ---- the laws
+
+pub written_requests_read : (client : Client) (secret : List ℕ) (bits size : ℕ) → length secret ≤ 16 → aarq_at (aarq_bytes client secret bits size) ≡ Ok (asked client secret bits size)
+written_requests_read client secret bits size few =
+    aarq_only (aarq_bytes client secret bits size) (asked client secret bits size) (aarq_again client (aarq_bytes client secret bits size) secret bits size refl few)
+
+pub written_responses_read : (v : Verdict) → aare_at (aare_bytes v) ≡ Ok (answered v)
+written_responses_read v = aare_only (aare_bytes v) (answered v) (verdict_again v)

@@ -11,6 +11,7 @@ use Rattle.dlms_acse.specs.Reading.{◌>>=◌, Tells, octets_at, contains, check
 use Rattle.dlms_acse.specs.Spelling.{Field, SpellFields, AreNew, IsApdu, value_of, IsAarq, IsAare}
 use Rattle.dlms_acse.proofs.Takes.{bind_ok, ok_is, guard_ok, done, octets_takes, octets_again, octets_within}
 use Rattle.dlms_acse.proofs.Walk.{checked-next, checked-done, find-done}
+use Rattle.dlms_acse.proofs.Relations.{says_request, only_request, says_verdict, only_verdict}
 
 -- ---- the fields
 
@@ -108,24 +109,24 @@ aarq_found bytes r e =
     let b = bind_ok (body_at 0x60 bytes) (λ body. Ok (request_from (λ tag. find_at (length body) tag body))) r e in
     let f = body_found 0x60 bytes b.0 b.1 in
     let said : request_from (λ tag. find_at (length b.0) tag b.0) ≡ r = ok_is _ _ b.2 in
-    (f.0, f.1, sym said ∙ same_request _ _ (values b.0 f.0 f.2))
+    (f.0, f.1, says_request (λ tag. value_of tag f.0) r (sym (same_request _ _ (values b.0 f.0 f.2)) ∙ said))
 
 pub aarq_only : (bytes : List ℕ) (r : Request) → IsAarq bytes r → aarq_at bytes ≡ Ok r
 aarq_only bytes r h =
     let b = body_spelled 0x60 bytes h.0 h.1 in
-    let said : request_from (λ tag. find_at (length b.0) tag b.0) ≡ r = same_request _ _ (values b.0 h.0 b.2) ∙ sym h.2 in
+    let said : request_from (λ tag. find_at (length b.0) tag b.0) ≡ r = same_request _ _ (values b.0 h.0 b.2) ∙ only_request (λ tag. value_of tag h.0) r h.2 in
     rw b.1 (ap done said)
 
 pub aare_found : (bytes : List ℕ) (v : Verdict) → aare_at bytes ≡ Ok v → IsAare bytes v
 aare_found bytes v e =
     let b = bind_ok (body_at 0x61 bytes) (λ body. verdict_from (λ tag. find_at (length body) tag body)) v e in
     let f = body_found 0x61 bytes b.0 b.1 in
-    (f.0, f.1, sym (same_verdict _ _ (values b.0 f.0 f.2)) ∙ b.2)
+    (f.0, f.1, says_verdict (λ tag. value_of tag f.0) v (sym (same_verdict _ _ (values b.0 f.0 f.2)) ∙ b.2))
 
 pub aare_only : (bytes : List ℕ) (v : Verdict) → IsAare bytes v → aare_at bytes ≡ Ok v
 aare_only bytes v h =
     let b = body_spelled 0x61 bytes h.0 h.1 in
-    rw b.1 (same_verdict _ _ (values b.0 h.0 b.2) ∙ h.2)
+    rw b.1 (same_verdict _ _ (values b.0 h.0 b.2) ∙ only_verdict (λ tag. value_of tag h.0) v h.2)
 
 -- ---- as the functions answer
 
@@ -140,3 +141,11 @@ aarq_told_only bytes (Err f) h q s = let e = aarq_only bytes q s in absurd cc
 pub aare_told : (bytes : List ℕ) (r : Result Verdict AcseFault) → r ≡ aare_at bytes → IfOk r (λ v. IsAare bytes v)
 aare_told bytes (Ok v) h = aare_found bytes v (sym h)
 aare_told bytes (Err f) h = tt
+
+-- ---- the laws
+
+pub requests_read : (bytes : List ℕ) (r : Request) → ((aarq_at bytes ≡ Ok r) → IsAarq bytes r) × (IsAarq bytes r → (aarq_at bytes ≡ Ok r))
+requests_read bytes r = (aarq_found bytes r, aarq_only bytes r)
+
+pub responses_read : (bytes : List ℕ) (v : Verdict) → ((aare_at bytes ≡ Ok v) → IsAare bytes v) × (IsAare bytes v → (aare_at bytes ≡ Ok v))
+responses_read bytes v = (aare_found bytes v, aare_only bytes v)

@@ -9,18 +9,18 @@ use Rattle.dlms_acse.specs.Spelling.{Counts, IsKey, IsOption, IsHead, IsBlock, S
 use Rattle.dlms_acse.proofs.Takes.{Takes, chosen, octets_takes, octets_again}
 use Rattle.dlms_acse.proofs.Inside.{some_is, none_is, inner_is, inner_of}
 
-bind_some : {A B : Type 0} (o : Option A) (f : A → Option B) (y : B) → on_some o f ≡ Some y → (x : A) × (o ≡ Some x) × (f x ≡ Some y)
+pub bind_some : {A B : Type 0} (o : Option A) (f : A → Option B) (y : B) → on_some o f ≡ Some y → (x : A) × (o ≡ Some x) × (f x ≡ Some y)
 bind_some None f y e = absurd (none_is e)
 bind_some (Some x) f y e = (x, refl, e)
 
-tested : {A : Type 0} (b : Bool) (x : Option A) (y : A) → (if b then x else None) ≡ Some y → (b ≡ true) × (x ≡ Some y)
+pub tested : {A : Type 0} (b : Bool) (x : Option A) (y : A) → (if b then x else None) ≡ Some y → (b ≡ true) × (x ≡ Some y)
 tested true x y e = (refl, e)
 tested false x y e = absurd (none_is e)
 
-is_equal : (a b : ℕ) → (a == b) ≡ true → a ≡ b
+pub is_equal : (a b : ℕ) → (a == b) ≡ true → a ≡ b
 is_equal a b e = grind (arith, nat_tests)
 
-both : (p q : Bool) → (p && q) ≡ true → (p ≡ true) × (q ≡ true)
+pub both : (p q : Bool) → (p && q) ≡ true → (p ≡ true) × (q ≡ true)
 both true q e = (refl, e)
 both false q e = absurd cc
 

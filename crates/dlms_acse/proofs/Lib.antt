@@ -4,3 +4,4 @@ pub mod Apdus
 pub mod Again
 pub mod Inside
 pub mod Initiates
+pub mod Relations

@@ -3,3 +3,4 @@ pub mod Verdict
 pub mod Writing
 pub mod Reading
 pub mod Spelling
+pub mod Services

@@ -1,6 +1,6 @@
 //! Writing the APDUs of an association.
 
-ghost use Rattle.dlms_acse.specs.Spelling.{IsAarq, IsAare, asked, answered, HasBlock};
+ghost use Rattle.dlms_acse.specs.Spelling.{IsAarq, IsAare, asked, answered};
 ghost use Rattle.std.specs.Prelude.{◌<◌, ◌≡◌, ◌≤◌, ◌+◌, ◌++◌, length};
 ghost use Rattle.arrayvec.specs.ArrayVec.{array_vec_len};
 ghost use Rattle.dlms_acse.specs.Writing.{aarq_bytes, aare_bytes, release_request, release_response, authentication, three_bytes, two_bytes, initiate_request, field};
@@ -126,7 +126,7 @@ pub fn write_aarq(
     requires { length secret.now ≤ 16 }
     ensures bytes { result.items ≡ aarq_bytes client secret.now conformance.0 size }
     // It is an association request that says what was asked for.
-    ensures read_again { conformance.0 < 16777216 → IsAarq result.items (asked client secret.now conformance.0 size) }
+    ensures read_again { IsAarq result.items (asked client secret.now conformance.0 size) }
 {
     request_text(client, secret, conformance, size)
 }
@@ -172,11 +172,12 @@ fn response_text(verdict: &Verdict) -> ArrayVec<u8, 128>
     }
 }
 
-/// The response to an association request. An accepted one always says that the meter receives APDUs of 1,024 bytes.
+/// The response to an association request. An accepted one always says that the meter receives APDUs of 1,024 bytes. Of the
+/// services the lower 24 bits are written.
 pub fn write_aare(verdict: &Verdict) -> ArrayVec<u8, 128>
     ensures bytes { result.items ≡ aare_bytes verdict.now }
     // It is a response that says this verdict, an accepted one with the size 1,024.
-    ensures read_again { HasBlock verdict.now → IsAare result.items (answered verdict.now) }
+    ensures read_again { IsAare result.items (answered verdict.now) }
 {
     response_text(verdict)
 }

@@ -1,8 +1,9 @@
 -- Reading from left to right, with the first refusal that is met.
-use Rattle.std.specs.Prelude.{◌≡◌, ℕ, Bool, false, List, [], ◌∷◌, length, take, drop, Result, Ok, Err, Option, Some, None, nat_lt, ◌==◌, if◌then◌else◌, IsOkAnd}
+use Rattle.std.specs.Prelude.{◌≡◌, ◌⊎◌, ℕ, Bool, false, List, [], ◌∷◌, length, take, drop, Result, Ok, Err, Option, Some, None, nat_lt, ◌==◌, if◌then◌else◌, IsOkAnd}
 use Rattle.byteorder.specs.Endian.{big_number}
 use Rattle.dlms_data.specs.declared.descriptor.Descriptor.{Descriptor}
 use Rattle.dlms_data.specs.Value.{Value}
+use Rattle.dlms_data.specs.Memory.{NeedsMemory}
 use Rattle.dlms_data.specs.Reading.{Fault, short, data_at, octets_at}
 use Rattle.dlms_apdu.specs.declared.fault.ApduFault.{ApduFault}
 use Rattle.dlms_apdu.specs.declared.fault.ApduFault.TheVariants as fault
@@ -207,21 +208,25 @@ action_at bytes = choice_at ((1, action_normal_at) ∷ (4, action_first_at) ∷ 
 unfoldable pub request_at : List ℕ → Result RequestForm Refusal
 request_at bytes = choice_at ((0xC0, get_at) ∷ (0xC1, set_at) ∷ (0xC3, action_at) ∷ []) bytes
 
--- ---- what needs memory: a value
+-- ---- what needs memory: a value that needs some
 
-abbrev pub IsThere : {Y : Type 0} → Option Y → Type 0
-IsThere None = ⊥
-IsThere (Some y) = Unit {0}
+abbrev pub SelectorNeeds : Option Selection → Type 0
+SelectorNeeds None = ⊥
+SelectorNeeds (Some s) = NeedsMemory s.value
 
-abbrev pub HoldsValue : RequestForm → Type 0
-HoldsValue (get_normal invoke d s) = IsThere s
-HoldsValue (get_next invoke n) = ⊥
-HoldsValue (set_normal invoke d s v) = Unit {0}
-HoldsValue (set_first invoke d s last n raw) = IsThere s
-HoldsValue (set_block invoke last n raw) = ⊥
-HoldsValue (action_normal invoke d p) = IsThere p
-HoldsValue (action_first invoke d last n raw) = ⊥
-HoldsValue (action_block invoke last n raw) = ⊥
+abbrev pub ParameterNeeds : Option Value → Type 0
+ParameterNeeds None = ⊥
+ParameterNeeds (Some v) = NeedsMemory v
+
+abbrev pub RequestNeeds : RequestForm → Type 0
+RequestNeeds (get_normal invoke d s) = SelectorNeeds s
+RequestNeeds (get_next invoke n) = ⊥
+RequestNeeds (set_normal invoke d s v) = SelectorNeeds s ⊎ NeedsMemory v
+RequestNeeds (set_first invoke d s last n raw) = SelectorNeeds s
+RequestNeeds (set_block invoke last n raw) = ⊥
+RequestNeeds (action_normal invoke d p) = ParameterNeeds p
+RequestNeeds (action_first invoke d last n raw) = ⊥
+RequestNeeds (action_block invoke last n raw) = ⊥
 
 -- ---- the responses
 
@@ -309,6 +314,6 @@ unfoldable pub response_at : List ℕ → Result ResponseForm Refusal
 response_at bytes = choice_at ((0xC4, get_response_at) ∷ (0xC5, set_response_at) ∷ (0xC7, action_response_at) ∷ (0xD8, exception_at) ∷ []) bytes
 
 -- and of a response
-abbrev pub HoldsData : ResponseForm → Type 0
-HoldsData (get_data invoke v) = Unit {0}
-HoldsData _ = ⊥
+abbrev pub ResponseNeeds : ResponseForm → Type 0
+ResponseNeeds (get_data invoke v) = NeedsMemory v
+ResponseNeeds _ = ⊥

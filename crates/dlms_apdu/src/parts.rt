@@ -2,9 +2,10 @@
 //! passed over, and made where it is known to stand, so that no memory is asked for before all has been read.
 
 ghost use Rattle.std.specs.Prelude.{◌≡◌, length, IfOk, IsOk, MatchResult, option_map};
+ghost use Rattle.dlms_data.specs.Memory.{NeedsMemory};
 ghost use Rattle.dlms_data.specs.Value.{Value};
 ghost use Rattle.dlms_data.specs.View.{value_of};
-ghost use Rattle.dlms_apdu.specs.Reading.{Tells, IsThere, end_at, Passes, Makes, byte_at, taken_at, number_at, flag_at, descriptor_at, value_at, raw_at, selector_at, parameter_at, block_at};
+ghost use Rattle.dlms_apdu.specs.Reading.{Tells, SelectorNeeds, ParameterNeeds, end_at, Passes, Makes, byte_at, taken_at, number_at, flag_at, descriptor_at, value_at, raw_at, selector_at, parameter_at, block_at};
 ghost use Rattle.dlms_apdu.specs.View.{selection_of, block_of};
 
 use crate::fault::{ApduFault, Refusal};
@@ -118,7 +119,7 @@ pub fn after_value(bytes: &[u8]) -> Result<&[u8], Refusal>
 /// The value that stands at the front.
 pub fn value<A: Allocator + Copy>(alloc: A, bytes: &[u8]) -> Result<Data<A>, ApduFault>
     requires { IsOk (value_at bytes.now) }
-    ensures { Makes value_of (λ v. Unit {0}) result (value_at bytes.now) }
+    ensures { Makes value_of NeedsMemory result (value_at bytes.now) }
 {
     match read(alloc, bytes) {
         Ok((value, _)) => Ok(value),
@@ -149,7 +150,7 @@ pub fn selector<A: Allocator + Copy>(
     bytes: &[u8],
 ) -> Result<Option<Selector<A>>, ApduFault>
     requires { IsOk (selector_at bytes.now) }
-    ensures { Makes (option_map selection_of) IsThere result (selector_at bytes.now) }
+    ensures { Makes (option_map selection_of) SelectorNeeds result (selector_at bytes.now) }
 {
     match bytes {
         [1, number, rest @ ..] => {
@@ -180,7 +181,7 @@ pub fn after_parameter(bytes: &[u8]) -> Result<&[u8], Refusal>
 #[tactic(auto, unfolding(crate::specs::Reading::parameter_at, crate::specs::Reading::some_parameter_at, crate::specs::Reading::and_then))]
 pub fn parameter<A: Allocator + Copy>(alloc: A, bytes: &[u8]) -> Result<Option<Data<A>>, ApduFault>
     requires { IsOk (parameter_at bytes.now) }
-    ensures { Makes (option_map value_of) IsThere result (parameter_at bytes.now) }
+    ensures { Makes (option_map value_of) ParameterNeeds result (parameter_at bytes.now) }
 {
     match bytes {
         [1, rest @ ..] => Ok(Some(value(alloc, rest)?)),

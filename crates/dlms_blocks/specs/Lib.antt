@@ -3,3 +3,4 @@ pub mod BlockView
 pub mod Going
 pub mod Coming
 pub mod Joining
+pub mod Calls

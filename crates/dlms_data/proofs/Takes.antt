@@ -12,6 +12,7 @@ use Rattle.std.specs.Int.{cast_signed, w8, w16, w32, w64}
 use Rattle.byteorder.specs.Endian.{big_number}
 use Rattle.dlms_data.specs.Value.{Value, Values, null, array, structure, boolean, bit_string, double_long, double_long_unsigned, octet_string, visible_string, utf8_string, bcd, integer, long, unsigned, long_unsigned, long64, long64_unsigned, enumerated, date_time, date, time, none, cons, count, depth, values_depth}
 use Rattle.dlms_data.specs.Bits.{bits_of, bytes_for, HoldsBits}
+use Rattle.dlms_data.specs.Memory.{NeedsFirst}
 use Rattle.dlms_data.specs.Reading.{◌>>=◌, Fault, short, no_type, no_length, too_deep, IsFault, Fails, Wants, behind, taken_at, length_at, number_at, octets_at, bits_at, plain_at, content_at, tagged_at, value_at, type_of, values_at, nested, data_at}
 use Rattle.dlms_data.specs.Spelling.{IsLength, Counted, Spells, SpellAll, IsSpelling}
 use Rattle.dlms_data.proofs.Loop.{Reader}
@@ -438,8 +439,8 @@ is_only bytes x n le e v text rest h parts =
     rw (value, len) refl
 
 -- no fault but memory, where a spelling stands
-pub no_fault : (f : DataFault) (bytes : List ℕ) → Wants f (data_at 8 bytes) → (v : Value) (text rest : List ℕ) → IsSpelling text v → bytes ≡ text ++ rest → Wants f (done {A = Value × ℕ} (v, length text))
-no_fault Memory bytes h v text rest s parts = refl
+pub no_fault : (f : DataFault) (bytes : List ℕ) → Wants NeedsFirst f (data_at 8 bytes) → (v : Value) (text rest : List ℕ) → IsSpelling text v → bytes ≡ text ++ rest → Wants NeedsFirst f (done {A = Value × ℕ} (v, length text))
+no_fault Memory bytes h v text rest s parts = rw (spelled bytes v text rest s parts) at h
 no_fault Short bytes h v text rest s parts = let e = spelled bytes v text rest s parts in absurd cc
 no_fault NoTag bytes h v text rest s parts = let e = spelled bytes v text rest s parts in absurd cc
 no_fault Length bytes h v text rest s parts = let e = spelled bytes v text rest s parts in absurd cc
@@ -450,7 +451,7 @@ faulty (Ok x) f h = absurd cc
 faulty (Err g) f h = cc
 
 -- a fault that was told before
-pub told_fault : (f : DataFault) (r : Result (Value × List ℕ) Fault) → IsFault f (behind r) → Wants f r
+pub told_fault : (f : DataFault) (r : Result (Value × List ℕ) Fault) → IsFault f (behind r) → Wants NeedsFirst f r
 told_fault Memory r h = absurd h
 told_fault Short r h = faulty r short h
 told_fault NoTag r h = faulty r no_type h
@@ -458,20 +459,20 @@ told_fault Length r h = faulty r no_length h
 told_fault Depth r h = faulty r too_deep h
 
 -- a fault that was told, of a function that may have wanted memory
-pub told_fails : {Y : Type 0} (f : DataFault) (r : Result (Y × List ℕ) Fault) → IsFault f (behind r) → Fails f r
-told_fails Memory r h = tt
-told_fails Short (Ok x) h = absurd cc
-told_fails Short (Err g) h = cc
-told_fails NoTag (Ok x) h = absurd cc
-told_fails NoTag (Err g) h = cc
-told_fails Length (Ok x) h = absurd cc
-told_fails Length (Err g) h = cc
-told_fails Depth (Ok x) h = absurd cc
-told_fails Depth (Err g) h = cc
+pub told_fails : {Y : Type 0} (needs : Y × List ℕ → Type 0) (f : DataFault) (r : Result (Y × List ℕ) Fault) → IsFault f (behind r) → Fails needs f r
+told_fails needs Memory r h = absurd h
+told_fails needs Short (Ok x) h = absurd cc
+told_fails needs Short (Err g) h = cc
+told_fails needs NoTag (Ok x) h = absurd cc
+told_fails needs NoTag (Err g) h = cc
+told_fails needs Length (Ok x) h = absurd cc
+told_fails needs Length (Err g) h = cc
+told_fails needs Depth (Ok x) h = absurd cc
+told_fails needs Depth (Err g) h = cc
 
 -- where the value's end is known, only memory may be wanting
-pub only_memory : (f : DataFault) (r : Result (Value × List ℕ) Fault) (rest : List ℕ) → behind r ≡ Ok rest → Fails f r → Wants f r
-only_memory Memory (Ok x) rest h fails = refl
+pub only_memory : (f : DataFault) (r : Result (Value × List ℕ) Fault) (rest : List ℕ) → behind r ≡ Ok rest → Fails NeedsFirst f r → Wants NeedsFirst f r
+only_memory Memory (Ok x) rest h fails = fails
 only_memory Memory (Err g) rest h fails = absurd cc
 only_memory Short r rest h fails = fails
 only_memory NoTag r rest h fails = fails

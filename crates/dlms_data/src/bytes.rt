@@ -1,6 +1,6 @@
 //! Strings of octets.
 
-ghost use Rattle.std.specs.Prelude.{◌≡◌, IfOk, length};
+ghost use Rattle.std.specs.Prelude.{◌≡◌, ◌<◌, IfOk, OnErr, length};
 
 use std::alloc::{AllocError, Allocator, Global};
 use std::marker::Model;
@@ -19,12 +19,23 @@ impl<A: Allocator> Model for Bytes<A> {
     ghost view = { λ b. b.bytes.items };
 }
 
+/// A copy of bytes in a vector of just their size. No memory is asked for where there are none.
+pub fn copied<A: Allocator>(alloc: A, bytes: &[u8]) -> Result<Vec<u8, A>, AllocError>
+    ensures items { IfOk result (λ copy. copy.items ≡ bytes.now) }
+    ensures memory { OnErr result (0 < length bytes.now) }
+{
+    let mut copy = Vec::with_capacity(alloc, bytes.len())?;
+    copy.extend_from_slice(bytes)?;
+    Ok(copy)
+}
+
 impl<A: Allocator> Bytes<A> {
-    /// A copy of bytes.
+    /// A copy of bytes, for which no memory is needed where there are none.
     pub fn from_slice(alloc: A, bytes: &[u8]) -> Result<Bytes<A>, AllocError>
-        ensures { IfOk result (λ b. b ≡ bytes.now) }
+        ensures items { IfOk result (λ b. b ≡ bytes.now) }
+        ensures memory { OnErr result (0 < length bytes.now) }
     {
-        let bytes = Vec::from_slice(alloc, bytes)?;
+        let bytes = copied(alloc, bytes)?;
         Ok(Bytes { bytes })
     }
 

@@ -2,10 +2,11 @@
 
 ghost use Rattle.std.specs.Prelude.{◌≡◌, ◌≤◌, ◌<◌, ◌+◌, length, IfOk};
 ghost use Rattle.byteorder.specs.Endian.{big_number};
+ghost use Rattle.dlms_data.specs.Memory.{HasSome};
 ghost use Rattle.dlms_data.specs.Reading.{Gives, Tells, taken_at, length_at, number_at, octets_at, bits_at};
 
 use crate::bits::Bits;
-use crate::bytes::Bytes;
+use crate::bytes::{Bytes, copied};
 use crate::fault::DataFault;
 use byteorder::{BigEndian, ByteOrder};
 use std::alloc::Allocator;
@@ -13,7 +14,6 @@ use std::alloc::Allocator;
 /// The first `n` bytes, and those after them.
 #[tactic(auto, unfolding(crate::specs::Reading::taken_at))]
 pub fn taken(bytes: &[u8], n: usize) -> Result<(&[u8], &[u8]), DataFault>
-    ensures exact { Gives (λ x. (x.0.now, x.1.now)) result (taken_at n bytes.now) }
     ensures told { Tells (λ x. (x.0.now, x.1.now)) result (taken_at n bytes.now) }
     ensures length { IfOk result (λ x. length x.0.now ≡ n) }
 {
@@ -26,7 +26,6 @@ pub fn taken(bytes: &[u8], n: usize) -> Result<(&[u8], &[u8]), DataFault>
 /// A number of one byte.
 #[tactic(auto, unfolding(crate::specs::Reading::number_at))]
 pub fn one(bytes: &[u8]) -> Result<(u8, &[u8]), DataFault>
-    ensures exact { Gives (λ x. (x.0, x.1.now)) result (number_at 1 bytes.now) }
     ensures told { Tells (λ x. (x.0, x.1.now)) result (number_at 1 bytes.now) }
 {
     let (front, rest) = taken(bytes, 1)?;
@@ -36,7 +35,6 @@ pub fn one(bytes: &[u8]) -> Result<(u8, &[u8]), DataFault>
 /// A number of two bytes.
 #[tactic(auto, unfolding(crate::specs::Reading::number_at))]
 pub fn two(bytes: &[u8]) -> Result<(u16, &[u8]), DataFault>
-    ensures exact { Gives (λ x. (x.0, x.1.now)) result (number_at 2 bytes.now) }
     ensures told { Tells (λ x. (x.0, x.1.now)) result (number_at 2 bytes.now) }
 {
     let (front, rest) = taken(bytes, 2)?;
@@ -46,7 +44,6 @@ pub fn two(bytes: &[u8]) -> Result<(u16, &[u8]), DataFault>
 /// A number of four bytes.
 #[tactic(auto, unfolding(crate::specs::Reading::number_at))]
 pub fn four(bytes: &[u8]) -> Result<(u32, &[u8]), DataFault>
-    ensures exact { Gives (λ x. (x.0, x.1.now)) result (number_at 4 bytes.now) }
     ensures told { Tells (λ x. (x.0, x.1.now)) result (number_at 4 bytes.now) }
 {
     let (front, rest) = taken(bytes, 4)?;
@@ -56,7 +53,6 @@ pub fn four(bytes: &[u8]) -> Result<(u32, &[u8]), DataFault>
 /// A number of eight bytes.
 #[tactic(auto, unfolding(crate::specs::Reading::number_at))]
 pub fn eight(bytes: &[u8]) -> Result<(u64, &[u8]), DataFault>
-    ensures exact { Gives (λ x. (x.0, x.1.now)) result (number_at 8 bytes.now) }
     ensures told { Tells (λ x. (x.0, x.1.now)) result (number_at 8 bytes.now) }
 {
     let (front, rest) = taken(bytes, 8)?;
@@ -80,7 +76,6 @@ fn number_of(bytes: &[u8]) -> u32
 /// A length, in any of its spellings.
 #[tactic(auto, unfolding(crate::specs::Reading::length_at, crate::specs::Reading::number_at))]
 pub fn length_of(bytes: &[u8]) -> Result<(u32, &[u8]), DataFault>
-    ensures exact { Gives (λ x. (x.0, x.1.now)) result (length_at bytes.now) }
     ensures told { Tells (λ x. (x.0, x.1.now)) result (length_at bytes.now) }
 {
     match bytes {
@@ -103,7 +98,6 @@ pub fn length_of(bytes: &[u8]) -> Result<(u32, &[u8]), DataFault>
 /// taken.
 #[tactic(auto, unfolding(crate::specs::Reading::octets_at))]
 pub fn counted(bytes: &[u8]) -> Result<(&[u8], &[u8]), DataFault>
-    ensures exact { Gives (λ x. (x.0.now, x.1.now)) result (octets_at bytes.now) }
     ensures told { Tells (λ x. (x.0.now, x.1.now)) result (octets_at bytes.now) }
 {
     let (count, rest) = length_of(bytes)?;
@@ -112,7 +106,7 @@ pub fn counted(bytes: &[u8]) -> Result<(&[u8], &[u8]), DataFault>
 
 /// A length and so many octets.
 pub fn octets<A: Allocator>(alloc: A, bytes: &[u8]) -> Result<(Bytes<A>, &[u8]), DataFault>
-    ensures { Gives (λ x. (x.0, x.1.now)) result (octets_at bytes.now) }
+    ensures { Gives (λ x. (x.0, x.1.now)) HasSome result (octets_at bytes.now) }
 {
     let (front, rest) = counted(bytes)?;
     Ok((Bytes::from_slice(alloc, front)?, rest))
@@ -121,17 +115,17 @@ pub fn octets<A: Allocator>(alloc: A, bytes: &[u8]) -> Result<(Bytes<A>, &[u8]),
 /// A length and so many bits.
 #[tactic(auto, unfolding(crate::specs::Reading::bits_at))]
 pub fn bits<A: Allocator>(alloc: A, bytes: &[u8]) -> Result<(Bits<A>, &[u8]), DataFault>
-    ensures { Gives (λ x. (x.0, x.1.now)) result (bits_at bytes.now) }
+    ensures { Gives (λ x. (x.0, x.1.now)) HasSome result (bits_at bytes.now) }
 {
     let (count, rest) = length_of(bytes)?;
     let count = count as usize;
     let (front, rest) = taken(rest, (count + 7) / 8)?;
-    Ok((Bits::from_vec(Vec::from_slice(alloc, front)?, count), rest))
+    Ok((Bits::from_vec(copied(alloc, front)?, count), rest))
 }
 
 /// Twelve octets.
 pub fn twelve(bytes: &[u8]) -> Result<([u8; 12], &[u8]), DataFault>
-    ensures { Gives (λ x. (x.0, x.1.now)) result (taken_at 12 bytes.now) }
+    ensures { Tells (λ x. (x.0, x.1.now)) result (taken_at 12 bytes.now) }
 {
     let (front, rest) = taken(bytes, 12)?;
     let mut octets = [0; 12];
@@ -141,7 +135,7 @@ pub fn twelve(bytes: &[u8]) -> Result<([u8; 12], &[u8]), DataFault>
 
 /// Five octets.
 pub fn five(bytes: &[u8]) -> Result<([u8; 5], &[u8]), DataFault>
-    ensures { Gives (λ x. (x.0, x.1.now)) result (taken_at 5 bytes.now) }
+    ensures { Tells (λ x. (x.0, x.1.now)) result (taken_at 5 bytes.now) }
 {
     let (front, rest) = taken(bytes, 5)?;
     let mut octets = [0; 5];
@@ -151,7 +145,7 @@ pub fn five(bytes: &[u8]) -> Result<([u8; 5], &[u8]), DataFault>
 
 /// Four octets.
 pub fn four_octets(bytes: &[u8]) -> Result<([u8; 4], &[u8]), DataFault>
-    ensures { Gives (λ x. (x.0, x.1.now)) result (taken_at 4 bytes.now) }
+    ensures { Tells (λ x. (x.0, x.1.now)) result (taken_at 4 bytes.now) }
 {
     let (front, rest) = taken(bytes, 4)?;
     let mut octets = [0; 4];

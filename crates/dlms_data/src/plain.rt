@@ -1,6 +1,7 @@
 //! Values that hold no others.
 
 ghost use Rattle.std.specs.Prelude.{◌≡◌};
+ghost use Rattle.dlms_data.specs.Memory.{NeedsFirst};
 ghost use Rattle.dlms_data.specs.Reading.{Gives, Tells, behind, bits_at, plain_at};
 ghost use Rattle.dlms_data.specs.View.{value_of};
 
@@ -13,13 +14,13 @@ use crate::tag::Plain;
 use std::alloc::Allocator;
 
 /// What stands behind the tag of a type that holds no other values.
-#[tactic(auto, unfolding(crate::specs::Reading::plain_at))]
+#[tactic(auto, using(crate::proofs::Wanting::wanting), unfolding(crate::specs::Reading::plain_at))]
 pub fn plain<A: Allocator>(
     alloc: A,
     tag: Plain,
     bytes: &[u8],
 ) -> Result<(Data<A>, &[u8]), DataFault>
-    ensures { Gives (λ x. (value_of x.0, x.1.now)) result (plain_at tag bytes.now) }
+    ensures { Gives (λ x. (value_of x.0, x.1.now)) NeedsFirst result (plain_at tag bytes.now) }
 {
     match tag {
         Plain::Null => Ok((Data::Null, bytes)),
