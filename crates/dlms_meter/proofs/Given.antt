@@ -37,7 +37,7 @@ use Rattle.dlms_service.specs.Planned.{done, result_of}
 use Rattle.dlms_service.specs.Stake.{failing, stake_of}
 use Rattle.dlms_service.specs.Shown.{IsShown, asked, Gives, block_form, in_blocks, goes_on}
 use Rattle.dlms_service.specs.Blocks.{Steps, ContinuesFor, open_for, taken_form, ended_form, code_for}
-use Rattle.dlms_service.specs.Serves.{Choice, FindsMemory, LacksMemory, Asks, Lacks, Permitted, Requested, Read, Within, Released, Associated, associated, permits, begins_with}
+use Rattle.dlms_service.specs.Serves.{Choice, FindsMemory, LacksMemoryToRead, LacksMemoryToAnswer, Asks, LacksToAnswer, Permitted, Requested, Read, Within, Released, Associated, associated, permits, begins_with}
 use Rattle.dlms_meter.specs.Run.{Choice as Chosen, Served as ByChoice, DeviceFails, Does}
 use Rattle.dlms_meter.specs.Transfers.{Own, Cleared, Asked, Served, InTurn, own_of, is_get_normal, is_block, begins, NoneBegins, blocks_in, Block, spelled, joined, has_last, GoesOut, BlocksJoin, NoBlockUnasked}
 use Rattle.dlms_meter.proofs.InTurn.{in_turn}
@@ -201,16 +201,10 @@ asked_is E s a (action_block invoke last number raw) o opened h =
 excepted : (E : List Event) (request : Result RequestForm Refusal) (s : SessionValue) (o : Outcome) (state service : ℕ) → o ≡ says s (apdu.exception state service) → Moved E request s o
 excepted E request s o state service e = said E request s o s (apdu.exception state service) e refl refl refl
 
-lacked : (E : List Event) (s : SessionValue) (a : Association) (form : RequestForm) (o : Outcome) → Lacks E s a form o → Moved E (Ok form) s o
-lacked E s a (get_normal invoke d selector) o (inl (would, e)) = dropped E (Ok (get_normal invoke d selector)) s o (get_result invoke 2) e refl
-lacked E s a (get_normal invoke d selector) o (inr (there, e)) = excepted E (Ok (get_normal invoke d selector)) s o 1 3 e
+lacked : (E : List Event) (s : SessionValue) (a : Association) (form : RequestForm) (o : Outcome) → LacksToAnswer E s a form o → Moved E (Ok form) s o
+lacked E s a (get_normal invoke d selector) o h = dropped E (Ok (get_normal invoke d selector)) s o (get_result invoke 2) h.1 refl
 lacked E s a (get_next invoke number) o h = excepted E (Ok (get_next invoke number)) s o 1 3 h.1
-lacked E s a (set_normal invoke d selector v) o h = excepted E (Ok (set_normal invoke d selector v)) s o 1 3 h
-lacked E s a (set_first invoke d selector last number raw) o h = excepted E (Ok (set_first invoke d selector last number raw)) s o 1 3 h.1
-lacked E s a (set_block invoke last number raw) o h = excepted E (Ok (set_block invoke last number raw)) s o 1 3 h.1
-lacked E s a (action_normal invoke d parameter) o h = excepted E (Ok (action_normal invoke d parameter)) s o 1 3 h.1
-lacked E s a (action_first invoke d last number raw) o h = excepted E (Ok (action_first invoke d last number raw)) s o 1 3 h.1
-lacked E s a (action_block invoke last number raw) o h = excepted E (Ok (action_block invoke last number raw)) s o 1 3 h.1
+lacked E s a _ o h = absurd h
 
 permitted : (b : Bool) (E : List Event) (s : SessionValue) (a : Association) (form : RequestForm) (o : Outcome) → s.opened ≡ Some a → Permitted E s a form b o → Moved E (Ok form) s o
 permitted true E s a form o opened h = asked_is E s a form o opened h
@@ -218,7 +212,8 @@ permitted false E s a form o opened h = excepted E (Ok form) s o 1 2 h
 
 requested : (choice : Choice) (E : List Event) (s : SessionValue) (a : Association) (form : RequestForm) (o : Outcome) → s.opened ≡ Some a → Requested choice E s a form o → Moved E (Ok form) s o
 requested FindsMemory E s a form o opened h = permitted (permits a form) E s a form o opened h
-requested LacksMemory E s a form o opened h = lacked E s a form o h
+requested LacksMemoryToRead E s a form o opened h = excepted E (Ok form) s o 1 3 h.1.1
+requested LacksMemoryToAnswer E s a form o opened h = lacked E s a form o h.1
 
 read : (choice : Choice) (E : List Event) (request : Result RequestForm Refusal) (s : SessionValue) (a : Association) (o : Outcome) → s.opened ≡ Some a → Read choice E s a request o → Moved E request s o
 read choice E (Ok form) s a o opened h = requested choice E s a form o opened h

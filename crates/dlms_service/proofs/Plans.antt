@@ -1,6 +1,7 @@
 -- What a null tells of an attribute: why it can't be set, or that its type does not match.
 use Rattle.std.proofs.Common.{◌≡◌, refl, sym, ◌∙◌, ap, arith, Bool, true, false, if◌then◌else◌, Option, Some, None, ok_or, Result, Ok, Err, ◌==◌}
-use Rattle.dlms_data.specs.Value.{null}
+use Rattle.std.specs.Prelude.{◌&&◌, not, is_ok}
+use Rattle.dlms_data.specs.Value.{Value, null}
 use Rattle.dlms_data.specs.declared.descriptor.Descriptor.{Descriptor}
 use Rattle.dlms_frame.specs.declared.client.Client.{Client}
 use Rattle.dlms_frame.specs.declared.client.Client.TheVariants.{Public, Management}
@@ -13,9 +14,12 @@ use Rattle.dlms_classes.specs.declared.table.Call.TheVariants as call
 use Rattle.dlms_classes.specs.declared.table.Content.{Content}
 use Rattle.dlms_classes.specs.declared.table.Content.TheVariants.{Text, Time, Secret, CapturePeriod}
 use Rattle.dlms_classes.specs.Table.{may_write, rights_of, may_call}
-use Rattle.dlms_classes.specs.Access.{◌>>=◌, object_named, numbered, object_of, attribute_of, method_of, writable}
+use Rattle.dlms_classes.specs.Access.{◌>>=◌, object_named, numbered, object_of, attribute_of, method_of, writable, callable}
 use Rattle.dlms_classes.specs.Plan.{Setting, setting_of, IsPlan, event_of, setting_asked, event_asked}
-use Rattle.dlms_service.specs.Planned.{set_asked, call_asked}
+use Rattle.dlms_service.specs.Planned.{set_asked, call_asked, IsPlanFor, reaches_for, reaches}
+use Rattle.dlms_service.specs.declared.target.Target.{Target}
+use Rattle.dlms_service.specs.declared.target.Service.{Service}
+use Rattle.dlms_service.specs.declared.target.Service.TheVariants.{Set, Action}
 
 abbrev no_setting : AccessResult → Result Setting AccessResult
 no_setting r = Err r
@@ -118,3 +122,60 @@ called client (Err r) = refl
 
 pub call_unmatched : (client : Client) (d : Descriptor) → call_asked client d None ≡ unmatched (event_asked client d None)
 call_unmatched client d = called client (method_of d)
+
+-- ---- what stands before the value
+
+callable_matched : (client : Client) (d : Descriptor) → Matched (callable client d)
+callable_matched client d =
+    bound (method_of d) (λ method. if may_call client method then Ok method else Err ReadWriteDenied)
+    (bound (object_of d) (λ o. ok_or (numbered d.id o.methods) ObjectUndefined)
+    (bound (ok_or (object_named d.name) ObjectUndefined) (λ o. if o.class == d.class then Ok o else Err ObjectClassInconsistent)
+    (or_refused (object_named d.name)) (λ o. of_class (o.class == d.class) o))
+    (λ o. or_refused (numbered d.id o.methods)))
+    (λ method. of_right (may_call client method) method)
+
+abbrev pub is_unmatched : Result Event AccessResult → Bool
+is_unmatched (Err TypeUnmatched) = true
+is_unmatched _ = false
+
+other_refusal : (r : AccessResult) → (no_event r ≡ Err TypeUnmatched → ⊥) → is_unmatched (Err r) ≡ false
+other_refusal TypeUnmatched h = absurd (h refl)
+other_refusal _ h = refl
+
+refused_before : {X : Type 0} (r : AccessResult) → Matched {X = X} (Err r) → (no_event r ≡ Err TypeUnmatched → ⊥)
+refused_before r h e = h (ap Err (ap err_of e))
+
+settable : (w : Result Attribute AccessResult) (selected : Bool) (plan : Result Event AccessResult) → Matched w
+    → IsPlan (w >>= λ a. (if selected then Err ScopeOfAccessViolated else no_setting TypeUnmatched)) plan → is_unmatched plan ≡ (is_ok w && not selected)
+settable (Ok a) true plan m h = ap is_unmatched h
+settable (Ok a) false plan m h = ap is_unmatched h
+settable (Err r) selected plan m h = ap is_unmatched h ∙ other_refusal r (refused_before r m)
+
+called_for : (w : Result Call AccessResult) (plan : Result Event AccessResult) → Matched w → plan ≡ (w >>= λ method. Err TypeUnmatched) → is_unmatched plan ≡ is_ok w
+called_for (Ok method) plan m h = ap is_unmatched h
+called_for (Err r) plan m h = ap is_unmatched h ∙ other_refusal r (refused_before r m)
+
+reached_for : (service : Service) (client : Client) (t : Target) (plan : Result Event AccessResult) → IsPlanFor service client t None plan → is_unmatched plan ≡ reaches_for service client t
+reached_for Set client t plan h = settable (writable client t.descriptor) t.selected plan (writable_matched client t.descriptor) h
+reached_for Action client t plan h = called_for (callable client t.descriptor) plan (callable_matched client t.descriptor) h
+
+pub reached : (client : Client) (t : Target) (plan : Result Event AccessResult) → IsPlanFor t.service client t None plan → is_unmatched plan ≡ reaches client t
+reached client t plan h = reached_for t.service client t plan h
+
+-- what is refused before its value is refused so whatever the value is
+unset_unread : (w : Result Attribute AccessResult) (selected : Bool) (v : Value) (plan : Result Event AccessResult) → (is_ok w && not selected) ≡ false
+    → IsPlan (w >>= λ a. (if selected then Err ScopeOfAccessViolated else no_setting TypeUnmatched)) plan
+    → IsPlan (w >>= λ a. (if selected then Err ScopeOfAccessViolated else setting_of a.content v)) plan
+unset_unread (Ok a) true v plan e h = h
+unset_unread (Ok a) false v plan e h = absurd cc
+unset_unread (Err r) selected v plan e h = h
+
+uncalled_unread : (w : Result Call AccessResult) (v : Value) (plan : Result Event AccessResult) → is_ok w ≡ false
+    → plan ≡ (w >>= λ method. Err TypeUnmatched) → plan ≡ (w >>= λ method. event_of method (Some v))
+uncalled_unread (Ok method) v plan e h = absurd cc
+uncalled_unread (Err r) v plan e h = h
+
+pub unread : (service : Service) (client : Client) (t : Target) (v : Value) (plan : Result Event AccessResult) → reaches_for service client t ≡ false
+    → IsPlanFor service client t None plan → IsPlanFor service client t (Some v) plan
+unread Set client t v plan e h = unset_unread (writable client t.descriptor) t.selected v plan e h
+unread Action client t v plan e h = uncalled_unread (callable client t.descriptor) v plan e h

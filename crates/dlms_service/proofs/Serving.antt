@@ -1,22 +1,21 @@
 -- What each part of a service shows of its outcome.
-use Rattle.std.proofs.Common.{◌≡◌, ◌⊎◌, inl, inr, refl, sym, ◌∙◌, ap, ℕ, Bool, true, false, List, [], Option, Some, None, is_some, option_map, option_copied, Bor, Result, Ok, Err, MatchResult, IsTrue, if◌then◌else◌, nat_le, length, ◌+◌, arith}
+use Rattle.std.proofs.Common.{◌≡◌, ◌⊎◌, inl, inr, refl, sym, ◌∙◌, ap, ℕ, Bool, true, List, [], Option, Some, None, is_some, option_map, option_copied, Bor, Result, Ok, Err, MatchResult, arith}
 use Rattle.dlms_data.specs.Value.{Value}
 use Rattle.dlms_data.specs.declared.descriptor.Descriptor.{Descriptor}
 use Rattle.dlms_apdu.specs.Forms.{RequestForm, ResponseForm, BlockForm, get_normal, get_result, set_normal, set_first, set_result, action_normal, action_result}
 use Rattle.dlms_apdu.specs.Forms as apdu
 use Rattle.dlms_apdu.specs.View.{selection_of}
+use Rattle.dlms_apdu.specs.Reading.{HoldsValue}
 use Rattle.dlms_apdu.specs.Writing.{response_bytes}
 use Rattle.dlms_data.specs.declared.descriptor.Selector.{Selector}
-use Rattle.dlms_blocks.specs.Coming.{Coming, step_of, follows, more_answer, more_after}
+use Rattle.dlms_blocks.specs.Coming.{Coming, more_answer, more_after}
 use Rattle.dlms_blocks.specs.declared.block.PutStep.{PutStep}
-use Rattle.dlms_blocks.specs.declared.block.PutStep.TheVariants.{Whole}
 use Rattle.dlms_state.specs.declared.event.Event.{Event}
 use Rattle.dlms_state.specs.StateValue.{state_of}
 use Rattle.dlms_classes.specs.declared.access.AccessResult.{AccessResult}
 use Rattle.dlms_classes.specs.declared.access.AccessResult.TheVariants.{TemporaryFailure}
 use Rattle.dlms_classes.specs.Access.{number_of}
 use Rattle.dlms_classes.specs.Answer.{Wanted}
-use Rattle.dlms_classes.specs.Plan.{event_asked}
 use Rattle.dlms_service.specs.declared.association.Association.{Association}
 use Rattle.dlms_service.specs.declared.served.Served.{Served}
 use Rattle.dlms_service.specs.declared.target.Target.{Target}
@@ -25,38 +24,27 @@ use Rattle.dlms_service.specs.declared.target.Service.TheVariants.{Set}
 use Rattle.dlms_service.specs.Session.{SessionValue, Outcome, outcome_of, listed, without_get, without_put, not_possible}
 use Rattle.dlms_service.specs.Planned.{IsValue, IsPlanFor, IsDone}
 use Rattle.dlms_service.specs.Shown.{Sends, IsShown, asked, WouldShow}
-use Rattle.dlms_service.specs.Blocks.{Completes, Steps, Begins, Continues, open_for, ended_form}
-use Rattle.dlms_service.specs.Serves.{Choice, FindsMemory, LacksMemory, Asks, Lacks, Requested, permits}
+use Rattle.dlms_service.specs.Blocks.{Completes, Steps, Begins, Continues, Brings, BringsAlone, BringsLast, open_for, ended_form}
+use Rattle.dlms_service.specs.Serves.{Choice, FindsMemory, LacksMemoryToRead, LacksMemoryToAnswer, Asks, BringsValue, LacksToAnswer, Requested, permits}
 
 pub completed : (E : List Event) (s : SessionValue) (invoke number : ℕ) (t : Target) (joined : List ℕ) (value : Option Value) (o : Outcome)
     → IsValue joined value → IsDone E (without_put s) (ended_form t.service invoke number) (IsPlanFor t.service s.client t value) o
-    → Completes E s invoke number t joined o ⊎ (o ≡ not_possible s)
-completed E s invoke number t joined value o is d = inl (value, d.0, is, d.1, d.2, d.3)
+    → Completes E s invoke number t joined o
+completed E s invoke number t joined value o is d = (value, d.0, is, d.1, d.2, d.3)
 
 -- a value that was sent, or for which there was no memory
 pub given : (E : List Event) (s : SessionValue) (a : Association) (invoke : ℕ) (d : Descriptor) (selector : Option apdu.Selection) (v : Value) (own : SessionValue) (answer : List ℕ)
     → IsShown (state_of E) s.client d (asked s.client a d selector) (Ok v)
     → (Sends (without_get s) a invoke v (record { own = own; answer = answer; accepted = [] }) ⊎ ((own ≡ without_get s) × (answer ≡ response_bytes (get_result invoke (number_of TemporaryFailure)))))
-    → Asks E s a (get_normal invoke d selector) (record { own = own; answer = answer; accepted = [] }) ⊎ Lacks E s a (get_normal invoke d selector) (record { own = own; answer = answer; accepted = [] })
+    → Asks E s a (get_normal invoke d selector) (record { own = own; answer = answer; accepted = [] }) ⊎ LacksToAnswer E s a (get_normal invoke d selector) (record { own = own; answer = answer; accepted = [] })
 given E s a invoke d selector v own answer shown (inl sends) = inl (Ok v, shown, sends)
-given E s a invoke d selector v own answer shown (inr lacks) = inr (inl (would (asked s.client a d selector) shown, rw (lacks.0, lacks.1) refl))
+given E s a invoke d selector v own answer shown (inr lacks) = inr (would (asked s.client a d selector) shown, rw (lacks.0, lacks.1) refl)
   where
     would : (w : Result Wanted AccessResult) → IsShown (state_of E) s.client d w (Ok v) → WouldShow (state_of E) s.client d w
     would (Ok w) h = inr (v, h)
     would (Err r) h = absurd (grind arith)
 
 -- ---- blocks that come
-
--- a whole value is that of a last block
-whole_is_last : (a b last : Bool) (x y : ℕ) → (if a then (if b then Ok (step_of last) else Err x) else Err y) ≡ Ok Whole → IsTrue last
-whole_is_last true true true x y e = refl
-whole_is_last true true false x y e = absurd (grind arith)
-whole_is_last true false last x y e = absurd (grind arith)
-whole_is_last false b last x y e = absurd (grind arith)
-
-further_is_last : (taken : Option ℕ) (joined : List ℕ) (last : Bool) (number : ℕ) (raw : List ℕ) → more_answer taken joined last number raw ≡ Ok Whole → IsTrue last
-further_is_last None joined last number raw e = absurd (grind arith)
-further_is_last (Some before) joined last number raw e = whole_is_last (follows before number) (nat_le (length joined + length raw) 1024) last 17 19 e
 
 -- what a call answered is this
 abbrev pub Answered : Result PutStep ℕ → Result PutStep ℕ → Type 0
@@ -69,17 +57,31 @@ answered (Err code) wanted h = h
 pub continued : (E : List Event) (s : SessionValue) (service : Service) (invoke : ℕ) (b : BlockForm) (t : Target) (coming : Coming) (step : Result PutStep ℕ) (o : Outcome)
     → open_for service s.target ≡ Some t
     → Answered step (more_answer s.coming.taken s.coming.joined b.last b.number b.raw) → coming ≡ more_after s.coming.taken s.coming b.last b.number b.raw
-    → Steps E s invoke b.number t coming step o ⊎ ((step ≡ Ok Whole) × (o ≡ not_possible s))
-    → Continues E s service invoke b o ⊎ (IsTrue b.last × (o ≡ not_possible s))
+    → Steps E s invoke b.number t coming step o ⊎ (Brings s.client t coming step × (o ≡ not_possible s))
+    → Continues E s service invoke b o ⊎ (BringsLast s service b × (o ≡ not_possible s))
 continued E s service invoke b t coming step o is_open a after (inl steps) = inl (rw (is_open, answered step (more_answer s.coming.taken s.coming.joined b.last b.number b.raw) a, sym after) steps)
 continued E s service invoke b t coming step o is_open a after (inr h) =
-    inr (further_is_last s.coming.taken s.coming.joined b.last b.number b.raw (answered step (more_answer s.coming.taken s.coming.joined b.last b.number b.raw) a ∙ h.0), h.1)
+    inr (rw (is_open, answered step (more_answer s.coming.taken s.coming.joined b.last b.number b.raw) a, sym after) h.0, h.1)
 
 -- ---- a request within an association
 
-pub led : (E : List Event) (s : SessionValue) (a : Association) (form : RequestForm) (o : Outcome) → permits a form ≡ true → Asks E s a form o ⊎ Lacks E s a form o → (choice : Choice) × Requested choice E s a form o
-led E s a form o p (inl asks) = (FindsMemory, rw p asks)
-led E s a form o p (inr lacks) = (LacksMemory, lacks)
+module _ (E : List Event) (s : SessionValue) (a : Association) (form : RequestForm) (o : Outcome) (permitted : permits a form ≡ true) where
+  pub led : Asks E s a form o → (choice : Choice) × Requested choice E s a form o
+  led asks = (FindsMemory, rw permitted asks)
+
+  -- or there was no memory for the answer
+  pub led_unless_answered : Asks E s a form o ⊎ LacksToAnswer E s a form o → (choice : Choice) × Requested choice E s a form o
+  led_unless_answered (inl asks) = led asks
+  led_unless_answered (inr lacks) = (LacksMemoryToAnswer, (permitted, lacks))
+
+  -- or for the value that its blocks brought
+  pub led_unless_brought : Asks E s a form o ⊎ (BringsValue s form × (o ≡ not_possible s)) → (choice : Choice) × Requested choice E s a form o
+  led_unless_brought (inl asks) = led asks
+  led_unless_brought (inr lacks) = (LacksMemoryToRead, (permitted, (inr lacks.0, lacks.1)))
+
+  -- or for the value that it holds
+  pub unread_request : HoldsValue form → o ≡ not_possible s → (choice : Choice) × Requested choice E s a form o
+  unread_request holds is = (LacksMemoryToRead, (permitted, (inl holds, is)))
 
 -- what accepts nothing
 pub accepts_nothing : (own : SessionValue) (answer : List ℕ) (served : Served) → served.answer.items ≡ answer → served.event ≡ None → record { own = own; answer = answer; accepted = [] } ≡ outcome_of own served
@@ -90,20 +92,15 @@ accepts_nothing own answer served is none =
 pub set_done : (E : List Event) (s : SessionValue) (a : Association) (invoke : ℕ) (d : Descriptor) (selector : Option apdu.Selection) (selected : Bool) (v : Value) (o : Outcome)
     → selected ≡ is_some selector
     → IsDone E (without_put s) (set_result invoke) (IsPlanFor Set s.client (record { service = Set; descriptor = d; selected = selected }) (Some v)) o
-    → Asks E s a (set_normal invoke d selector v) o ⊎ Lacks E s a (set_normal invoke d selector v) o
-set_done E s a invoke d selector selected v o e h = inl (h.0, rw (sym e) h.1, h.2, h.3)
-
-pub action_done : (E : List Event) (s : SessionValue) (a : Association) (invoke : ℕ) (d : Descriptor) (parameter : Option Value) (o : Outcome)
-    → IsDone E (without_put s) (action_result invoke) (λ plan. plan ≡ event_asked s.client d parameter) o
-    → Asks E s a (action_normal invoke d parameter) o ⊎ Lacks E s a (action_normal invoke d parameter) o
-action_done E s a invoke d parameter o h = inl h
+    → Asks E s a (set_normal invoke d selector v) o
+set_done E s a invoke d selector selected v o e h = (h.0, rw (sym e) h.1, h.2, h.3)
 
 pub begun : (E : List Event) (s : SessionValue) (a : Association) (invoke : ℕ) (d : Descriptor) (selector : Option apdu.Selection) (selected last : Bool) (number : ℕ) (raw : List ℕ) (o : Outcome)
     → selected ≡ is_some selector
-    → Begins E s invoke (record { service = Set; descriptor = d; selected = selected }) (record { last = last; number = number; raw = raw }) o ⊎ (IsTrue last × (o ≡ not_possible s))
-    → Asks E s a (set_first invoke d selector last number raw) o ⊎ Lacks E s a (set_first invoke d selector last number raw) o
-begun E s a invoke d selector selected last number raw o e (inl h) = inl (rw (sym e) h)
-begun E s a invoke d selector selected last number raw o e (inr h) = inr (inr h.0, h.1)
+    → Begins E s invoke (record { service = Set; descriptor = d; selected = selected }) (record { last = last; number = number; raw = raw }) o
+    ⊎ (BringsAlone s.client (record { service = Set; descriptor = d; selected = selected }) (record { last = last; number = number; raw = raw }) × (o ≡ not_possible s))
+    → Asks E s a (set_first invoke d selector last number raw) o ⊎ (BringsValue s (set_first invoke d selector last number raw) × (o ≡ not_possible s))
+begun E s a invoke d selector selected last number raw o e h = rw (sym e) h
 
 -- a selector is there, whatever is seen of it
 pub there : {A B : Type 0} (f : A → B) (o : Option A) → is_some o ≡ is_some (option_map f o)

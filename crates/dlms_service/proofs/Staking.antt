@@ -34,7 +34,7 @@ use Rattle.dlms_service.specs.Session.{SessionValue, Outcome, outcome_of, listed
 use Rattle.dlms_service.specs.Planned.{done, accepted_by, result_by}
 use Rattle.dlms_service.specs.Shown.{Gives, in_blocks}
 use Rattle.dlms_service.specs.Blocks.{Steps, ContinuesFor, open_for, ended_form}
-use Rattle.dlms_service.specs.Serves.{Choice, FindsMemory, LacksMemory, Asks, Lacks, Permitted, Requested, Read, Within, Released, Associated, begins_with, permits, associated}
+use Rattle.dlms_service.specs.Serves.{Choice, FindsMemory, LacksMemoryToRead, LacksMemoryToAnswer, Asks, LacksToAnswer, Permitted, Requested, Read, Within, Released, Associated, begins_with, permits, associated}
 use Rattle.dlms_service.specs.Stake.{is_success, stake_of, fails, failing, FailsBy, Fails}
 
 -- ---- the transfer of a request ends, whatever was made of it
@@ -142,16 +142,10 @@ record Nothing (o : Outcome) : Type 0 where
 nothing : (o p : Outcome) → o ≡ p → is_success p.answer ≡ false → p.accepted ≡ [] → Nothing o
 nothing o p is unsaid none = record { fails = ap (λ (x : Outcome). is_success x.answer) is ∙ unsaid; none = ap (λ (x : Outcome). x.accepted) is ∙ none }
 
-lacks_nothing : (E : List Event) (s : SessionValue) (a : Association) (form : RequestForm) (o : Outcome) → Lacks E s a form o → Nothing o
-lacks_nothing E s a (get_normal invoke d selector) o (inl h) = nothing o _ h.1 refl refl
-lacks_nothing E s a (get_normal invoke d selector) o (inr h) = nothing o _ h.1 refl refl
+lacks_nothing : (E : List Event) (s : SessionValue) (a : Association) (form : RequestForm) (o : Outcome) → LacksToAnswer E s a form o → Nothing o
+lacks_nothing E s a (get_normal invoke d selector) o h = nothing o _ h.1 refl refl
 lacks_nothing E s a (get_next invoke number) o h = nothing o _ h.1 refl refl
-lacks_nothing E s a (set_normal invoke d selector v) o h = nothing o _ h refl refl
-lacks_nothing E s a (set_first invoke d selector last number raw) o h = nothing o _ h.1 refl refl
-lacks_nothing E s a (set_block invoke last number raw) o h = nothing o _ h.1 refl refl
-lacks_nothing E s a (action_normal invoke d parameter) o h = nothing o _ h.1 refl refl
-lacks_nothing E s a (action_first invoke d last number raw) o h = nothing o _ h.1 refl refl
-lacks_nothing E s a (action_block invoke last number raw) o h = nothing o _ h.1 refl refl
+lacks_nothing E s a _ o h = absurd h
 
 -- ---- a request within an association
 
@@ -161,7 +155,8 @@ permitted_silent E s a form false o h = silent o _ h refl
 
 requested_silent : (choice : Choice) (E : List Event) (s : SessionValue) (a : Association) (form : RequestForm) (o : Outcome) → Requested choice E s a form o → IsSilent o
 requested_silent FindsMemory E s a form o h = permitted_silent E s a form (permits a form) o h
-requested_silent LacksMemory E s a form o h = λ unsaid. (lacks_nothing E s a form o h).none
+requested_silent LacksMemoryToRead E s a form o h = silent o _ h.1.1 refl
+requested_silent LacksMemoryToAnswer E s a form o h = λ unsaid. (lacks_nothing E s a form o h.1).none
 
 -- no stake, no event
 pub alone_by : (E : List Event) (s : SessionValue) (a : Association) (form : RequestForm) (own : SessionValue) (served : Served) (stake : Stake) (result : Served)
@@ -179,7 +174,8 @@ permitted_end E s a form false o h told = absurd (cc (sym told ∙ ap (λ (x : O
 
 found_memory : (choice : Choice) (E : List Event) (s : SessionValue) (a : Association) (form : RequestForm) (o : Outcome) → Requested choice E s a form o → is_success o.answer ≡ true → Requested FindsMemory E s a form o
 found_memory FindsMemory E s a form o h told = h
-found_memory LacksMemory E s a form o h told = absurd (cc (sym told ∙ (lacks_nothing E s a form o h).fails))
+found_memory LacksMemoryToRead E s a form o h told = absurd (cc (sym told ∙ (nothing o _ h.1.1 refl refl).fails))
+found_memory LacksMemoryToAnswer E s a form o h told = absurd (cc (sym told ∙ (lacks_nothing E s a form o h.1).fails))
 
 -- what is at stake, and how it fails
 pub fails_by : (E : List Event) (s : SessionValue) (a : Association) (form : RequestForm) (apdu : List ℕ) (own : SessionValue) (served result : Served) (at_request stake : Stake) (kept : Bool)

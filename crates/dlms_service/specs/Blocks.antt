@@ -1,9 +1,11 @@
 -- A value that comes in blocks, with SET or as the parameter of ACTION.
-use Rattle.std.specs.Prelude.{◌≡◌, ℕ, ◌==◌, if◌then◌else◌, Bool, true, false, List, Option, Some, None, Result, Ok, Err}
+use Rattle.std.specs.Prelude.{◌≡◌, ℕ, ◌==◌, if◌then◌else◌, Bool, true, false, List, Option, Some, None, Result, Ok, Err, IsTrue}
+use Rattle.dlms_frame.specs.declared.client.Client.{Client}
 use Rattle.dlms_blocks.specs.Coming.{Coming, first_answer, first_after, more_answer, more_after}
 use Rattle.dlms_blocks.specs.declared.block.PutStep.{PutStep}
 use Rattle.dlms_blocks.specs.declared.block.PutStep.TheVariants.{More, Whole}
 use Rattle.dlms_data.specs.Value.{Value}
+use Rattle.dlms_data.specs.Spelling.{IsSpelling}
 use Rattle.dlms_apdu.specs.Forms.{BlockForm, ResponseForm, set_block_taken, set_last, action_result, action_block_taken}
 use Rattle.dlms_state.specs.declared.event.Event.{Event}
 use Rattle.dlms_classes.specs.declared.access.AccessResult.{AccessResult}
@@ -11,7 +13,7 @@ use Rattle.dlms_service.specs.declared.target.Target.{Target}
 use Rattle.dlms_service.specs.declared.target.Service.{Service}
 use Rattle.dlms_service.specs.declared.target.Service.TheVariants.{Set, Action}
 use Rattle.dlms_service.specs.Session.{SessionValue, Outcome, says, without_put}
-use Rattle.dlms_service.specs.Planned.{IsValue, IsPlanFor, IsTyped, done}
+use Rattle.dlms_service.specs.Planned.{IsValue, IsPlanFor, IsTyped, reaches, done}
 
 -- a block was taken, and it was not the last one
 abbrev pub taken_form : Service → ℕ → ℕ → ResponseForm
@@ -65,3 +67,24 @@ ContinuesFor E s service invoke b (Some t) o =
 -- a further block; without a transfer of its service it finds none, and ends one of the other service
 abbrev pub Continues : List Event → SessionValue → Service → ℕ → BlockForm → Outcome → Type 0
 Continues E s service invoke b o = ContinuesFor E s service invoke b (open_for service s.target) o
+
+-- ---- a value that came whole, and is looked at: to read it takes memory
+
+-- the last block came, nothing refuses the target before its value, and the joined bytes are the spelling of one
+abbrev pub Brings : Client → Target → Coming → Result PutStep ℕ → Type 0
+Brings client t coming (Err code) = ⊥
+Brings client t coming (Ok More) = ⊥
+Brings client t coming (Ok Whole) = IsTrue (reaches client t) × ((v : Value) × IsSpelling coming.joined v)
+
+-- a first block that is the only one
+abbrev pub BringsAlone : Client → Target → BlockForm → Type 0
+BringsAlone client t b = Brings client t (first_after b.last b.number b.raw) (first_answer b.last b.number b.raw)
+
+abbrev pub BringsFor : SessionValue → BlockForm → Option Target → Type 0
+BringsFor s b None = ⊥
+BringsFor s b (Some t) =
+    Brings s.client t (more_after s.coming.taken s.coming b.last b.number b.raw) (more_answer s.coming.taken s.coming.joined b.last b.number b.raw)
+
+-- the last block of an open transfer of this service
+abbrev pub BringsLast : SessionValue → Service → BlockForm → Type 0
+BringsLast s service b = BringsFor s b (open_for service s.target)

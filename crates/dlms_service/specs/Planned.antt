@@ -1,5 +1,5 @@
 -- Which event a SET or an ACTION leads to, with a value that came in one piece or in blocks, and how it is answered.
-use Rattle.std.specs.Prelude.{◌≡◌, ℕ, Bool, if◌then◌else◌, List, [], ◌∷◌, Option, Some, None, IfSome, Result, Ok, Err, MatchResult, ⊤}
+use Rattle.std.specs.Prelude.{◌≡◌, ℕ, Bool, ◌&&◌, not, is_ok, if◌then◌else◌, List, [], ◌∷◌, Option, Some, None, IfSome, Result, Ok, Err, MatchResult, ⊤}
 use Rattle.dlms_data.specs.Value.{Value}
 use Rattle.dlms_data.specs.Spelling.{IsSpelling}
 use Rattle.dlms_data.specs.declared.descriptor.Descriptor.{Descriptor}
@@ -44,6 +44,14 @@ call_asked client d (Some v) = callable client d >>= λ method. event_of method 
 abbrev pub IsPlanFor : Service → Client → Target → Option Value → Result Event AccessResult → Type 0
 IsPlanFor Set client t value plan = IsPlan (set_asked client t.descriptor t.selected value) plan
 IsPlanFor Action client t value plan = plan ≡ call_asked client t.descriptor value
+
+-- nothing refuses the target before its value is looked at: name, class, attribute or method, right, selector
+abbrev pub reaches_for : Service → Client → Target → Bool
+reaches_for Set client t = is_ok (writable client t.descriptor) && not t.selected
+reaches_for Action client t = is_ok (callable client t.descriptor)
+
+abbrev pub reaches : Client → Target → Bool
+reaches client t = reaches_for t.service client t
 
 -- an event is of its type
 abbrev pub IsTyped : Result Event AccessResult → Type 0

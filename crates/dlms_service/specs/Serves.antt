@@ -1,6 +1,6 @@
 -- What an APDU of a client leads to, after the accepted events (IEC 62056-5-3: COSEM-OPEN, COSEM-RELEASE, GET, SET, ACTION,
 -- Exception-Response; which result and which exception answer which case is the meter's own).
-use Rattle.std.specs.Prelude.{◌≡◌, ◌⊎◌, ℕ, ◌==◌, ◌&&◌, Bool, true, false, List, [], ◌∷◌, Option, Some, None, IsTrue, IsOk, is_some, Result, Ok, Err}
+use Rattle.std.specs.Prelude.{◌≡◌, ◌⊎◌, ℕ, ◌==◌, ◌&&◌, if◌then◌else◌, Bool, true, false, List, [], ◌∷◌, Option, Some, None, IsTrue, IsOk, is_some, Result, Ok, Err}
 use Rattle.dlms_acse.specs.Reading.{aarq_at}
 use Rattle.dlms_acse.specs.Verdict.{Request, verdict}
 use Rattle.dlms_acse.specs.Writing.{aare_bytes, release_response}
@@ -8,7 +8,7 @@ use Rattle.dlms_acse.specs.declared.fault.AcseFault.{AcseFault}
 use Rattle.dlms_acse.specs.declared.outcome.Verdict.{Verdict}
 use Rattle.dlms_acse.specs.declared.outcome.Verdict.TheVariants.{Accepted, Refused}
 use Rattle.dlms_apdu.specs.Forms.{RequestForm, get_normal, get_next, set_normal, set_first, set_block, action_normal, action_first, action_block, get_result, set_result, action_result}
-use Rattle.dlms_apdu.specs.Reading.{request_at, IsThere}
+use Rattle.dlms_apdu.specs.Reading.{request_at, HoldsValue}
 use Rattle.dlms_apdu.specs.declared.fault.Refusal.{Refusal}
 use Rattle.dlms_state.specs.declared.event.Event.{Event}
 use Rattle.dlms_state.specs.Events.{secret_after}
@@ -22,7 +22,7 @@ use Rattle.dlms_service.specs.declared.target.Service.TheVariants.{Set, Action}
 use Rattle.dlms_service.specs.Session.{SessionValue, Outcome, fresh, without_get, without_put, has, get_service, set_service, action_service, blocks_with_set, blocks_with_action, says, not_associated, not_supported, unknown_service, not_possible}
 use Rattle.dlms_service.specs.Planned.{IsPlanFor, IsTyped, done}
 use Rattle.dlms_service.specs.Shown.{Gets, WouldShow, asked, next_answer, goes_on}
-use Rattle.dlms_service.specs.Blocks.{Begins, Continues}
+use Rattle.dlms_service.specs.Blocks.{Begins, Continues, BringsAlone, BringsLast}
 
 -- ---- the association
 
@@ -59,6 +59,15 @@ permits a (action_normal invoke d parameter) = has a action_service
 permits a (action_first invoke d last number raw) = has a action_service && has a blocks_with_action
 permits a (action_block invoke last number raw) = has a action_service && has a blocks_with_action
 
+-- the same by the first two bytes of a request, its service and its form, for private functions alone
+abbrev pub permits_form : Association → (service form : ℕ) → Bool
+permits_form a service form =
+    if service == 0xC0 then has a get_service
+    else if (service == 0xC1) && (form == 1) then has a set_service
+    else if service == 0xC1 then has a set_service && has a blocks_with_set
+    else if form == 1 then has a action_service
+    else has a action_service && has a blocks_with_action
+
 -- A request of a service that both ends have. A SET or an ACTION that is no further block drops the value that comes.
 abbrev pub Asks : List Event → SessionValue → Association → RequestForm → Outcome → Type 0
 Asks E s a (get_normal invoke d selector) o = Gets E s a invoke d selector o
@@ -75,31 +84,42 @@ Asks E s a (action_first invoke d last number raw) o =
     Begins E s invoke (record { service = Action; descriptor = d; selected = false }) (record { last = last; number = number; raw = raw }) o
 Asks E s a (action_block invoke last number raw) o = Continues E s Action invoke (record { last = last; number = number; raw = raw }) o
 
--- What no list of events determines: whether memory is found.
+-- What no list of events determines: whether memory is found, for the values of a request and for its answer.
 pub data Choice : Type 0 where
   FindsMemory : Choice
-  LacksMemory : Choice
+  LacksMemoryToRead : Choice
+  LacksMemoryToAnswer : Choice
 
--- Want of memory takes the place of what GET would show; of the next block; of a request whose value needs some.
-abbrev pub Lacks : List Event → SessionValue → Association → RequestForm → Outcome → Type 0
-Lacks E s a (get_normal invoke d selector) o =
-    (WouldShow (state_of E) s.client d (asked s.client a d selector) × (o ≡ says (without_get s) (get_result invoke (number_of TemporaryFailure))))
-    ⊎ (IsThere selector × (o ≡ not_possible s))
-Lacks E s a (get_next invoke number) o = IsOk (next_answer s.getting number) × (o ≡ not_possible s)
-Lacks E s a (set_normal invoke d selector v) o = o ≡ not_possible s
-Lacks E s a (set_first invoke d selector last number raw) o = (IsThere selector ⊎ IsTrue last) × (o ≡ not_possible s)
-Lacks E s a (set_block invoke last number raw) o = IsTrue last × (o ≡ not_possible s)
-Lacks E s a (action_normal invoke d parameter) o = IsThere parameter × (o ≡ not_possible s)
-Lacks E s a (action_first invoke d last number raw) o = IsTrue last × (o ≡ not_possible s)
-Lacks E s a (action_block invoke last number raw) o = IsTrue last × (o ≡ not_possible s)
+-- the blocks of a request bring a value that is looked at
+abbrev pub BringsValue : SessionValue → RequestForm → Type 0
+BringsValue s (set_first invoke d selector last number raw) =
+    BringsAlone s.client (record { service = Set; descriptor = d; selected = is_some selector }) (record { last = last; number = number; raw = raw })
+BringsValue s (set_block invoke last number raw) = BringsLast s Set (record { last = last; number = number; raw = raw })
+BringsValue s (action_first invoke d last number raw) =
+    BringsAlone s.client (record { service = Action; descriptor = d; selected = false }) (record { last = last; number = number; raw = raw })
+BringsValue s (action_block invoke last number raw) = BringsLast s Action (record { last = last; number = number; raw = raw })
+BringsValue s _ = ⊥
+
+-- Want of memory for a value that the request holds, or that its blocks brought.
+abbrev pub LacksToRead : SessionValue → RequestForm → Outcome → Type 0
+LacksToRead s form o = (HoldsValue form ⊎ BringsValue s form) × (o ≡ not_possible s)
+
+-- Want of memory for the answer: in place of what GET would show, and of the next block.
+abbrev pub LacksToAnswer : List Event → SessionValue → Association → RequestForm → Outcome → Type 0
+LacksToAnswer E s a (get_normal invoke d selector) o =
+    WouldShow (state_of E) s.client d (asked s.client a d selector) × (o ≡ says (without_get s) (get_result invoke (number_of TemporaryFailure)))
+LacksToAnswer E s a (get_next invoke number) o = IsOk (next_answer s.getting number) × (o ≡ not_possible s)
+LacksToAnswer E s a _ o = ⊥
 
 abbrev pub Permitted : List Event → SessionValue → Association → RequestForm → Bool → Outcome → Type 0
 Permitted E s a form true o = Asks E s a form o
 Permitted E s a form false o = o ≡ not_supported s
 
+-- Want of memory stands behind every refusal that can be told without it: of a service that is not permitted, too.
 abbrev pub Requested : Choice → List Event → SessionValue → Association → RequestForm → Outcome → Type 0
 Requested FindsMemory E s a form o = Permitted E s a form (permits a form) o
-Requested LacksMemory E s a form o = Lacks E s a form o
+Requested LacksMemoryToRead E s a form o = IsTrue (permits a form) × LacksToRead s form o
+Requested LacksMemoryToAnswer E s a form o = IsTrue (permits a form) × LacksToAnswer E s a form o
 
 abbrev pub Read : Choice → List Event → SessionValue → Association → Result RequestForm Refusal → Outcome → Type 0
 Read choice E s a (Ok form) o = Requested choice E s a form o

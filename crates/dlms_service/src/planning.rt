@@ -7,7 +7,7 @@ ghost use Rattle.dlms_data.specs.Spelling.{IsSpelling};
 ghost use Rattle.dlms_state.specs.declared.event.Event.{Event};
 ghost use Rattle.dlms_state.specs.StateValue.{IsStateOf};
 ghost use Rattle.dlms_classes.specs.Plan.{IsPlan};
-ghost use Rattle.dlms_service.specs.Planned.{IsValue, set_asked, call_asked, IsPlanFor, IsTyped, Passes, accepted, result_of};
+ghost use Rattle.dlms_service.specs.Planned.{IsValue, set_asked, call_asked, IsPlanFor, IsTyped, reaches, Passes, accepted, result_of};
 ghost use Rattle.dlms_service.specs.Session.{listed};
 
 use crate::target::{Service, Target};
@@ -20,9 +20,10 @@ use std::alloc::{AllocError, Allocator};
 /// The result in an answer of success.
 const SUCCESS: u8 = 0;
 
-/// The value that bytes are, if they are one and nothing else.
+/// The value that bytes are, if they are one and nothing else. Want of memory stands only where they are one.
 pub fn value_in<A: Allocator + Copy>(alloc: A, bytes: &[u8]) -> Result<Option<Data<A>>, AllocError>
-    ensures { IfOk result (λ value. IsValue bytes.now (option_map value_of value)) }
+    ensures found { IfOk result (λ value. IsValue bytes.now (option_map value_of value)) }
+    ensures lacks { OnErr result ((v : Value) × IsSpelling bytes.now v) }
 {
     if !is_value(bytes) {
         return Ok(None);
@@ -102,6 +103,18 @@ pub fn plan<A: Allocator + Copy>(
         Service::Set => set_event(client, target.descriptor, target.selected, value),
         Service::Action => call_event(client, target.descriptor, value),
     }
+}
+
+/// Whether nothing refuses a target before its value is looked at.
+#[tactic(auto, using(crate::proofs::Plans::reached))]
+pub fn reaches(client: Client, target: Target) -> bool
+    ensures { result ≡ reaches client target }
+{
+    let nothing: Option<&Data> = None;
+    matches!(
+        plan(client, target, nothing),
+        Err(AccessResult::TypeUnmatched)
+    )
 }
 
 /// What comes of a plan: the result, 0 or why it is refused, and the event that is to be accepted.

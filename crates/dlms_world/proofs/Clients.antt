@@ -19,7 +19,7 @@ use Rattle.dlms_link.specs.Server.{ServerRecord}
 use Rattle.dlms_link.specs.declared.out.LinkOut.{LinkOut}
 use Rattle.dlms_link.specs.declared.out.LinkOut.TheVariants.{Nothing, Reply, Apdu, Oversize, BadLlc, Up, Down}
 use Rattle.dlms_service.specs.Blocks.{Steps, ContinuesFor, open_for}
-use Rattle.dlms_service.specs.Serves.{Choice as Memory, FindsMemory, LacksMemory, Asks, Lacks, Permitted, Requested, Read, Within, Released, Associated, Serves, associated, permits, begins_with}
+use Rattle.dlms_service.specs.Serves.{Choice as Memory, FindsMemory, LacksMemoryToRead, LacksMemoryToAnswer, Asks, LacksToAnswer, Permitted, Requested, Read, Within, Released, Associated, Serves, associated, permits, begins_with}
 use Rattle.dlms_service.specs.Session.{SessionValue, Outcome, says, has, blocks_with_get}
 use Rattle.dlms_service.specs.Shown.{Gives, sent, in_blocks}
 use Rattle.dlms_service.specs.declared.association.Association.{Association}
@@ -79,15 +79,10 @@ asks_stays E s a (action_normal invoke d parameter) o is = ap (λ (x : Outcome).
 asks_stays E s a (action_first invoke d last number raw) o is = steps_stay E s invoke number _ (first_after last number raw) (first_answer last number raw) o is
 asks_stays E s a (action_block invoke last number raw) o is = continues_stays E s Action invoke _ (open_for Action s.target) o is
 
-lacks_stays : (E : List Event) (s : SessionValue) (a : Association) (form : RequestForm) (o : Outcome) → Lacks E s a form o → Stays s o
-lacks_stays E s a (get_normal invoke d selector) o is = ⊎_elim (λ x. ap (λ (x : Outcome). x.own.client) x.1) (λ x. ap (λ (x : Outcome). x.own.client) x.1) is
+lacks_stays : (E : List Event) (s : SessionValue) (a : Association) (form : RequestForm) (o : Outcome) → LacksToAnswer E s a form o → Stays s o
+lacks_stays E s a (get_normal invoke d selector) o is = ap (λ (x : Outcome). x.own.client) is.1
 lacks_stays E s a (get_next invoke number) o is = ap (λ (x : Outcome). x.own.client) is.1
-lacks_stays E s a (set_normal invoke d selector v) o is = ap (λ (x : Outcome). x.own.client) is
-lacks_stays E s a (set_first invoke d selector last number raw) o is = ap (λ (x : Outcome). x.own.client) is.1
-lacks_stays E s a (set_block invoke last number raw) o is = ap (λ (x : Outcome). x.own.client) is.1
-lacks_stays E s a (action_normal invoke d parameter) o is = ap (λ (x : Outcome). x.own.client) is.1
-lacks_stays E s a (action_first invoke d last number raw) o is = ap (λ (x : Outcome). x.own.client) is.1
-lacks_stays E s a (action_block invoke last number raw) o is = ap (λ (x : Outcome). x.own.client) is.1
+lacks_stays E s a _ o is = absurd is
 
 permitted_stays : (E : List Event) (s : SessionValue) (a : Association) (form : RequestForm) (b : Bool) (o : Outcome) → Permitted E s a form b o → Stays s o
 permitted_stays E s a form true o is = asks_stays E s a form o is
@@ -95,7 +90,8 @@ permitted_stays E s a form false o is = ap (λ (x : Outcome). x.own.client) is
 
 requested_stays : (choice : Memory) (E : List Event) (s : SessionValue) (a : Association) (form : RequestForm) (o : Outcome) → Requested choice E s a form o → Stays s o
 requested_stays FindsMemory E s a form o is = permitted_stays E s a form (permits a form) o is
-requested_stays LacksMemory E s a form o is = lacks_stays E s a form o is
+requested_stays LacksMemoryToRead E s a form o is = ap (λ (x : Outcome). x.own.client) is.1.1
+requested_stays LacksMemoryToAnswer E s a form o is = lacks_stays E s a form o is.1
 
 read_stays : (choice : Memory) (E : List Event) (s : SessionValue) (a : Association) (form : Result RequestForm Refusal) (o : Outcome) → Read choice E s a form o → Stays s o
 read_stays choice E s a (Ok form) o is = requested_stays choice E s a form o is

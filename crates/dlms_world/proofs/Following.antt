@@ -19,7 +19,7 @@ use Rattle.dlms_headend.specs.Rows.{IsEncoded}
 use Rattle.dlms_headend.specs.declared.row.Row.{Row}
 use Rattle.dlms_meter.specs.Transfers.{Served, Asked, InTurn}
 use Rattle.dlms_meter.specs.Run.{Choice, Does, DeviceFails, Served as ByChoice}
-use Rattle.dlms_service.specs.Serves.{Choice as Memory, FindsMemory, LacksMemory, Requested, Permitted, Read, Within, permits}
+use Rattle.dlms_service.specs.Serves.{Choice as Memory, FindsMemory, LacksMemoryToRead, LacksMemoryToAnswer, Requested, Permitted, Read, Within, permits}
 use Rattle.dlms_service.specs.Session.{SessionValue, Outcome}
 use Rattle.dlms_service.specs.Shown.{goes_on}
 use Rattle.dlms_service.specs.declared.association.Association.{Association}
@@ -111,7 +111,8 @@ module _ (E : List Event) (s : SessionValue) (k : ℕ) (o : Outcome) (given : Gi
 
   next_choice : (choice : Memory) (a : Association) → Requested choice E s a (get_next invoke k) o → o ≡ goes_on s invoke k
   next_choice FindsMemory a is = next_permit a (permits a (get_next invoke k)) is
-  next_choice LacksMemory a is = absurd (no_data o s (exception 1 3) (read_exception 1 3) tt is.1 given)
+  next_choice LacksMemoryToRead a is = absurd (no_data o s (exception 1 3) (read_exception 1 3) tt is.1.1 given)
+  next_choice LacksMemoryToAnswer a is = absurd (no_data o s (exception 1 3) (read_exception 1 3) tt is.1.1 given)
 
   next_within : (choice : Memory) (opened : Option Association) → Within choice E s (next_bytes k) opened o → o ≡ goes_on s invoke k
   next_within choice None is = absurd (no_data o s (exception 1 1) (read_exception 1 1) tt is given)

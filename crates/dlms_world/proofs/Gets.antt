@@ -18,7 +18,7 @@ use Rattle.dlms_frame.specs.declared.client.Client.{Client}
 use Rattle.dlms_frame.specs.declared.client.Client.TheVariants.{Public, Management}
 use Rattle.dlms_headend.specs.Asking.{buffer, buffer_bytes, invoke, range, IsRange}
 use Rattle.dlms_profile.specs.Rows.{in_range}
-use Rattle.dlms_service.specs.Serves.{Choice as Memory, FindsMemory, LacksMemory, Requested, Permitted, Read, Within, Serves, permits}
+use Rattle.dlms_service.specs.Serves.{Choice as Memory, FindsMemory, LacksMemoryToRead, LacksMemoryToAnswer, Requested, Permitted, Read, Within, Serves, permits}
 use Rattle.dlms_service.specs.Session.{SessionValue, Outcome, says, without_get, has, selective_access}
 use Rattle.dlms_service.specs.Shown.{IsShown, Gives, sent, no_selection, asked}
 use Rattle.dlms_service.specs.declared.association.Association.{Association}
@@ -134,8 +134,9 @@ module _ (E : List Event) (s : SessionValue) (second : ℕ) (value : Value) (r :
 
   by_choice : (choice : Memory) (a : Association) (open_as : s.opened ≡ Some a) → Requested choice E s a (get_form value) o → GaveTable second E s o
   by_choice FindsMemory a open_as is = by_permit a open_as (permits a (get_form value)) is
-  by_choice LacksMemory a open_as is =
-      absurd (⊎_elim (λ x. no_data o (without_get s) (get_result invoke (number_of TemporaryFailure)) (read_result (number_of TemporaryFailure)) tt x.1 given) (λ x. no_data o s (exception 1 3) (read_exception 1 3) tt x.1 given) is)
+  by_choice LacksMemoryToRead a open_as is = absurd (no_data o s (exception 1 3) (read_exception 1 3) tt is.1.1 given)
+  by_choice LacksMemoryToAnswer a open_as is =
+      absurd (no_data o (without_get s) (get_result invoke (number_of TemporaryFailure)) (read_result (number_of TemporaryFailure)) tt is.1.1 given)
 
   by_association : (choice : Memory) (opened : Option Association) → s.opened ≡ opened → Within choice E s (buffer_bytes value) opened o → GaveTable second E s o
   by_association choice None e is = absurd (no_data o s (exception 1 1) (read_exception 1 1) tt is given)
