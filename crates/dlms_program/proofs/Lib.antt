@@ -1,5 +1,6 @@
 pub mod LineLemmas
 pub mod NumberLemmas
+pub mod PutLemmas
 pub mod ReplayLemmas
 pub mod OutcomeLemmas
 pub mod WordLemmas

@@ -6,3 +6,4 @@ pub mod Pairs
 pub mod Printed
 pub mod Replay
 pub mod Words
+pub mod Written

@@ -40,3 +40,7 @@ TakesByte old new (Some byte) = Consumes old new (byte ∷ [])
 abbrev pub HasNoFeed : List ℕ → Type 0
 HasNoFeed [] = Unit {0}
 HasNoFeed (byte ∷ bytes) = (byte ≢ 10) × HasNoFeed bytes
+
+-- known bytes lose a part of a line, with no line feed
+abbrev pub LosesPart : Option (List ℕ) → Option (List ℕ) → List ℕ → Type 0
+LosesPart old new part = Consumes old new part × HasNoFeed part

@@ -1,5 +1,5 @@
 -- What a transcript's lines mean, and what a replay of them writes.
-use Rattle.std.specs.Prelude.{◌≡◌, ◌⊎◌, ◌<◌, ◌≤◌, ◌+◌, ℕ, Bool, true, false, List, [], ◌∷◌, ◌++◌, length, Option, Some, None, Result, Ok, Err, ⊤}
+use Rattle.std.specs.Prelude.{◌≡◌, ◌⊎◌, ◌<◌, ◌≤◌, ◌+◌, ℕ, Bool, true, false, List, [], ◌∷◌, ◌++◌, length, Option, Some, None, Result, Ok, Err, MatchResult, ⊤}
 use Rattle.std.specs.Io.KnownBytes.{Appends}
 use Rattle.dlms_state.specs.declared.event.Event.{Event}
 use Rattle.dlms_state.specs.declared.event.Event.TheVariants.{Pulses as PulseEvent, Moment as MomentEvent}
@@ -16,10 +16,11 @@ use Rattle.dlms_program.specs.declared.fault.ReplayFault.{ReplayFault}
 use Rattle.dlms_program.specs.declared.fault.ReplayFault.TheVariants.{Line, Io, Memory, Recovery}
 use Rattle.dlms_program.specs.declared.orders.Order.{Order}
 use Rattle.dlms_program.specs.declared.orders.Order.TheVariants.{Skip, Feed, Pulses, Moment, Silence, Open, Show}
-use Rattle.dlms_program.specs.Lines.{lines_of}
+use Rattle.dlms_program.specs.Lines.{HasNoFeed, lines_of}
 use Rattle.dlms_meter.specs.declared.meter.Meter.{Meter}
 use Rattle.dlms_program.specs.Orders.{Spells}
-use Rattle.dlms_program.specs.Printed.{reply_lines, refusal_line, fault_line, open_line, open_fault_line, state_line}
+use Rattle.dlms_program.specs.Printed.{reply_line, reply_lines, refusal_line, fault_line, open_line, open_fault_line, state_line}
+use Rattle.dlms_program.specs.Written.{AppendsPart}
 use Rattle.dlms_meter.specs.Run.{World, Comes, Judged, events_of, recovered, silent, Stands}
 
 -- what is written of an event: nothing, why it was refused, or the number of the fault for which it was not taken
@@ -81,19 +82,42 @@ pub record Did {P A : Type 0} {ghosts : Ghosts P} (honest : Bool) (old new : Opt
   pub left : IsLeft honest meter (Some world)
   pub appends : Appends old new written
 
--- the meter was closed and not recovered: it is gone, and why was written
-pub record Gone {P A : Type 0} {ghosts : Ghosts P} (honest : Bool) (old new : Option (List ℕ)) (order : Order) (meter : Option (Meter P A ghosts)) : Type 0 where
+-- What an order does whose answer could not be written whole: before what is written in part, this was written. A piece of bytes
+-- is taken up to the frame whose reply that is.
+abbrev pub DoesPart : Bool → World → List ℕ → Order → World → (before told : List ℕ) → Type 0
+DoesPart honest w bytes Feed w' before told =
+    (front : List ℕ) × (rest : List ℕ) × (front ++ rest ≡ bytes) × (replies : List (List ℕ)) × (reply : List ℕ)
+    × Comes w front (replies ++ reply ∷ []) w' × (before ≡ reply_lines replies) × (told ≡ reply_line reply)
+DoesPart honest w bytes order w' before told = (before ≡ []) × Does honest w bytes order w' told
+
+-- so it was done on a meter
+pub record DidPart {P A : Type 0} {ghosts : Ghosts P} (honest : Bool) (old new : Option (List ℕ)) (w : World) (bytes : List ℕ) (order : Order) (meter : Option (Meter P A ghosts)) : Type 0 where
+  pub world : World
+  pub before : List ℕ
+  pub told : List ℕ
+  pub does : DoesPart honest w bytes order world before told
+  pub left : IsLeft honest meter (Some world)
+  pub mid : Option (List ℕ)
+  pub appends : Appends old mid before
+  pub breaks : AppendsPart mid new told
+
+-- what came of an order on a meter that is there afterwards: the writer may have failed
+abbrev pub Obeyed : {P A : Type 0} → {ghosts : Ghosts P} → {T E : Type 0} → Bool → Option (List ℕ) → Option (List ℕ) → World → List ℕ → Order → Result T E → Option (Meter P A ghosts) → Type 0
+Obeyed honest old new w bytes order result meter = MatchResult result (λ _. Did honest old new w bytes order meter) (λ _. DidPart honest old new w bytes order meter)
+
+-- the meter was closed and not recovered: it is gone, and this is left of writing why
+pub record Gone {P A : Type 0} {ghosts : Ghosts P} (honest : Bool) (Told : List ℕ → Type 0) (order : Order) (meter : Option (Meter P A ghosts)) : Type 0 where
   pub opens : order ≡ Open
   pub fault : OpenFault
   pub may : MayStayClosed honest fault
   pub none : IsLeft honest meter None
-  pub appends : Appends old new (open_fault_line fault)
+  pub told : Told (open_fault_line fault)
 
 -- what came of an order
 abbrev pub Followed : {P A : Type 0} → {ghosts : Ghosts P} → Bool → Option (List ℕ) → Option (List ℕ) → World → List ℕ → Order → Result (Unit {0}) ReplayFault → Option (Meter P A ghosts) → Type 0
 Followed honest old new w bytes order (Ok done) meter = Did honest old new w bytes order meter
-Followed honest old new w bytes order (Err Recovery) meter = Gone honest old new order meter
-Followed honest old new w bytes order (Err Io) meter = ⊤
+Followed honest old new w bytes order (Err Recovery) meter = Gone honest (Appends old new) order meter
+Followed honest old new w bytes order (Err Io) meter = DidPart honest old new w bytes order meter ⊎ Gone honest (AppendsPart old new) order meter
 Followed honest old new w bytes order (Err _) meter = ⊥
 
 -- ---- the lines of a text
@@ -117,16 +141,55 @@ Replays honest w number (line ∷ lines) written end last =
     ⊎ ((length line ≤ 8192) × (bytes : List ℕ) × (order : Order) × (w' : World) × (first : List ℕ) × (rest : List ℕ)
     × Spells line bytes order × Does honest w bytes order w' first × Replays honest w' (number + 1) lines rest end last × (written ≡ first ++ rest))
 
--- where a replay ended by its own rules
-abbrev pub end_of : {T : Type 0} → Result T ReplayFault → Option End
-end_of (Ok x) = Some Whole
-end_of (Err (Line number)) = Some (Bad number)
-end_of (Err Recovery) = Some Closed
-end_of (Err Io) = None
-end_of (Err Memory) = None
-
--- a replay of a known text wrote what the text says, and nothing else, and the meter stands for where it led
-abbrev pub WroteReplay : {P A : Type 0} → {ghosts : Ghosts P} → Bool → Option (List ℕ) → Option (List ℕ) → World → Option (List ℕ) → Option End → Option (Meter P A ghosts) → Type 0
-WroteReplay honest old new w (Some text) (Some end) meter =
+-- a replay of a known text came to such an end: it wrote what the text says, and nothing else, and the meter stands for where it led
+abbrev pub Ended : {P A : Type 0} → {ghosts : Ghosts P} → Bool → Option (List ℕ) → Option (List ℕ) → World → Option (List ℕ) → End → Option (Meter P A ghosts) → Type 0
+Ended honest old new w None end meter = ⊤
+Ended honest old new w (Some text) end meter =
     (written : List ℕ) × (last : Option World) × Appends old new written × Replays honest w 1 (lines_of text) written end last × IsLeft honest meter last
-WroteReplay honest old new w _ _ meter = ⊤
+
+-- ---- a replay that is broken off
+
+-- these lines are done one after another, and lead to that world and write this
+abbrev pub AreDone : Bool → World → List (List ℕ) → World → List ℕ → Type 0
+AreDone honest w [] m written = (m ≡ w) × (written ≡ [])
+AreDone honest w (line ∷ lines) m written =
+    (length line ≤ 8192) × (bytes : List ℕ) × (order : Order) × (w' : World) × (first : List ℕ) × (rest : List ℕ)
+    × Spells line bytes order × Does honest w bytes order w' first × AreDone honest w' lines m rest × (written ≡ first ++ rest)
+
+-- The reader gave no more: lines were read and done, and of one more a part was read.
+pub record ReadNoMore {P A : Type 0} {ghosts : Ghosts P} (honest : Bool) (old new : Option (List ℕ)) (w : World) (text left : List ℕ) (meter : Option (Meter P A ghosts)) : Type 0 where
+  pub done : List (List ℕ)
+  pub part : List ℕ
+  pub cut : lines_of text ≡ done ++ lines_of (part ++ left)
+  pub no_feed : HasNoFeed part
+  pub world : World
+  pub written : List ℕ
+  pub are : AreDone honest w done world written
+  pub left_is : IsLeft honest meter (Some world)
+  pub appends : Appends old new written
+
+-- The writer took no more: lines were read and done, and one more was read, whose answer was written in part.
+pub record WroteNoMore {P A : Type 0} {ghosts : Ghosts P} (honest : Bool) (old new : Option (List ℕ)) (w : World) (text left : List ℕ) (meter : Option (Meter P A ghosts)) : Type 0 where
+  pub done : List (List ℕ)
+  pub line : List ℕ
+  pub cut : lines_of text ≡ done ++ line ∷ lines_of left
+  pub world : World
+  pub written : List ℕ
+  pub are : AreDone honest w done world written
+  pub mid : Option (List ℕ)
+  pub appends : Appends old mid written
+  pub bytes : List ℕ
+  pub order : Order
+  pub spells : Spells line bytes order
+  pub short : length line ≤ 8192
+  pub breaks : Followed honest mid new world bytes order (Err Io) meter
+
+-- A replay of a known text, of which this is left.
+abbrev pub WroteReplay : {P A : Type 0} → {ghosts : Ghosts P} → Bool → Option (List ℕ) → Option (List ℕ) → World → Option (List ℕ) → Option (List ℕ) → Result (Unit {0}) ReplayFault → Option (Meter P A ghosts) → Type 0
+WroteReplay honest old new w text left (Ok done) meter = Ended honest old new w text Whole meter
+WroteReplay honest old new w text left (Err (Line number)) meter = Ended honest old new w text (Bad number) meter
+WroteReplay honest old new w text left (Err Recovery) meter = Ended honest old new w text Closed meter
+WroteReplay honest old new w text left (Err Memory) meter = ⊥
+WroteReplay honest old new w None left (Err Io) meter = ⊤
+WroteReplay honest old new w (Some text) None (Err Io) meter = ⊥
+WroteReplay honest old new w (Some text) (Some left) (Err Io) meter = ReadNoMore honest old new w text left meter ⊎ WroteNoMore honest old new w text left meter

@@ -1,6 +1,7 @@
 //! Lines of bounded length from a reader.
-ghost use Rattle.std.specs.Prelude.{◌≡◌, ◌<◌, ◌≤◌, IfOk, IfErr};
-ghost use Rattle.dlms_program.specs.Lines.{TakesByte, TakesLine};
+ghost use Rattle.std.specs.Prelude.{◌≡◌, ◌<◌, ◌≤◌, IfOk, IfErr, OnErr};
+ghost use Rattle.std.specs.Io.KnownBytes.{Keeps};
+ghost use Rattle.dlms_program.specs.Lines.{LosesPart, TakesByte, TakesLine};
 
 use crate::fault::ReplayFault;
 use arrayvec::ArrayVec;
@@ -23,6 +24,7 @@ pub enum Taken {
 /// The next byte, if there is one. Each read is taken from `reads`.
 fn next_byte<R: Read>(reader: &mut R, reads: &mut u32) -> Result<Option<u8>, ReplayFault>
     ensures byte { IfOk result (TakesByte (R.remaining reader.old) (R.remaining reader.new)) }
+    ensures none { OnErr result (Keeps (R.remaining reader.old) (R.remaining reader.new)) }
     ensures fault { IfErr result (λ e. e ≡ ReplayFault.Io) }
 {
     'reading: while *reads > 0 {
@@ -45,6 +47,7 @@ pub fn take_line<R: Read>(
     line: &mut ArrayVec<u8, MOST_BYTES>,
 ) -> Result<Taken, ReplayFault>
     ensures line { IfOk result (TakesLine (R.remaining reader.old) (R.remaining reader.new) line.new.items MOST_BYTES) }
+    ensures part { OnErr result (LosesPart (R.remaining reader.old) (R.remaining reader.new) line.new.items) }
     ensures fault { IfErr result (λ e. e ≡ ReplayFault.Io) }
 {
     line.clear();

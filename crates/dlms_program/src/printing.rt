@@ -1,6 +1,7 @@
 //! What a replay writes.
 ghost use Rattle.std.specs.Prelude.{◌≡◌, ◌≤◌, ◌*◌, OnOk, length, option_map};
 ghost use Rattle.std.specs.Io.KnownBytes.{Appends};
+ghost use Rattle.dlms_program.specs.Written.{AppendsPart, Writes};
 ghost use Rattle.dlms_program.specs.Printed.{reply_line, reply_lines, refusal_line, fault_line, open_line, open_fault_line, open_fault_number, registers_text, clock_text, state_line};
 ghost use Rattle.dlms_meter.specs.Run.{listed};
 
@@ -9,7 +10,7 @@ use dlms_state::{Refused, State};
 use dlms_store::OpenFault;
 use std::alloc::Allocator;
 use std::io;
-use std::io::Write;
+use std::io::{ErrorKind, Write};
 
 /// The most hexadecimal digits of a reply.
 const MOST_DIGITS: usize = 4098;
@@ -17,23 +18,44 @@ const MOST_DIGITS: usize = 4098;
 /// The most hexadecimal digits of a short reply: the meter sends at most 128 bytes of information in a frame.
 const SHORT_DIGITS: usize = 512;
 
+/// Writes these bytes. Where the writer fails, or takes none of them, some of them may have been written, but not all.
+pub fn put<W: Write>(bytes: &[u8], writer: &mut W) -> io::Result<()>
+    ensures { Writes (W.contents writer.old) (W.contents writer.new) bytes.now result }
+{
+    let mut rest = bytes;
+    let mut tries = u64::MAX;
+    'writing: while !rest.is_empty() {
+        if tries == 0 {
+            return Err(ErrorKind::Interrupted.into());
+        }
+        tries -= 1;
+        match writer.write(rest) {
+            Ok(0) => return Err(ErrorKind::WriteZero.into()),
+            Ok(count) => rest = &rest[count..],
+            Err(e) if e.kind() == ErrorKind::Interrupted => {}
+            Err(e) => return Err(e),
+        }
+    }
+    Ok(())
+}
+
 /// Writes a reply frame in hexadecimal digits, as `< 7ea0..`, through a buffer of `ROOM` digits.
 fn write_digits<const ROOM: usize, W: Write>(bytes: &[u8], writer: &mut W) -> io::Result<()>
     requires fits { 2 * length bytes.now ≤ ROOM }
     requires small { ROOM ≤ 4098 }
-    ensures { OnOk result (Appends (W.contents writer.old) (W.contents writer.new) (reply_line bytes.now)) }
+    ensures { Writes (W.contents writer.old) (W.contents writer.new) (reply_line bytes.now) result }
 {
     let mut room = [0u8; ROOM];
     let digits = &mut room[..2 * bytes.len()];
     let _fits = hex::encode_to_slice(bytes, digits);
-    writer.write_all(b"< ")?;
-    writer.write_all(digits)?;
-    writer.write_all(b"\n")
+    put(b"< ", writer)?;
+    put(digits, writer)?;
+    put(b"\n", writer)
 }
 
 /// Writes a reply frame.
 fn write_reply<W: Write>(reply: &Reply, writer: &mut W) -> io::Result<()>
-    ensures { OnOk result (Appends (W.contents writer.old) (W.contents writer.new) (reply_line reply.now.items)) }
+    ensures { Writes (W.contents writer.old) (W.contents writer.new) (reply_line reply.now.items) result }
 {
     let bytes = reply.as_slice();
     if 2 * bytes.len() <= SHORT_DIGITS {
@@ -45,7 +67,7 @@ fn write_reply<W: Write>(reply: &Reply, writer: &mut W) -> io::Result<()>
 
 /// Writes the reply, if there is one.
 pub fn write_answer<W: Write>(reply: &Option<Reply>, writer: &mut W) -> io::Result<()>
-    ensures { OnOk result (Appends (W.contents writer.old) (W.contents writer.new) (reply_lines (listed (option_map (λ reply. reply.items) reply.now)))) }
+    ensures { Writes (W.contents writer.old) (W.contents writer.new) (reply_lines (listed (option_map (λ reply. reply.items) reply.now))) result }
 {
     match reply {
         Some(reply) => write_reply(reply, writer),
@@ -75,9 +97,9 @@ pub fn write_fault<W: Write>(number: u32, writer: &mut W) -> io::Result<()>
 
 /// Writes that the meter was closed and recovered.
 pub fn write_open<W: Write>(writer: &mut W) -> io::Result<()>
-    ensures { OnOk result (Appends (W.contents writer.old) (W.contents writer.new) open_line) }
+    ensures { Writes (W.contents writer.old) (W.contents writer.new) open_line result }
 {
-    writer.write_all(b"open\n")
+    put(b"open\n", writer)
 }
 
 /// The number of a fault of a recovery.

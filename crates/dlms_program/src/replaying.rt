@@ -2,7 +2,9 @@
 ghost use Rattle.std.specs.Prelude.{◌≡◌, ◌≢◌, ◌≤◌, Bool, List, ℕ, MatchResult, Some, true, OnOk, IfErr, is_some, length};
 ghost use Rattle.dlms_state.specs.declared.event.Event.{Event};
 ghost use Rattle.std.specs.Io.KnownBytes.{Appends};
-ghost use Rattle.dlms_program.specs.Replay.{Did, Followed, IsAt, IsLeft, WroteReplay, end_of, outcome_line};
+ghost use Rattle.dlms_program.specs.Printed.{open_fault_line, state_line};
+ghost use Rattle.dlms_program.specs.Replay.{Followed, IsAt, IsLeft, Obeyed, WroteReplay, outcome_line};
+ghost use Rattle.dlms_program.specs.Written.{Writes};
 ghost use Rattle.dlms_meter.specs.Run.{World, Stands, Judges};
 
 use crate::fault::ReplayFault;
@@ -10,23 +12,30 @@ use crate::lines::{Taken, take_line};
 use crate::orders::{Order, order_of};
 use crate::pairs::Pairs;
 use crate::printing::{
-    write_answer, write_fault, write_open, write_open_fault, write_refusal, write_state,
+    put, write_answer, write_fault, write_open, write_open_fault, write_refusal, write_state,
 };
 use arrayvec::ArrayVec;
 use dlms_meter::Meter;
 use dlms_pages::Pages;
-use dlms_store::AddFault;
+use dlms_state::State;
+use dlms_store::{AddFault, OpenFault};
 use std::alloc::Allocator;
 use std::io;
 use std::io::{Read, Write};
 
-/// Feeds bytes, and writes each reply.
+/// The most bytes of a line but a reply's.
+const MOST_LINE: usize = 128;
+
+/// A line that is put together before it is written.
+type Line = ArrayVec<u8, MOST_LINE>;
+
+/// Feeds bytes, and writes each reply. Where a reply cannot be written, the bytes behind its frame are not fed.
 fn feed<W: Write, P: Pages, A: Allocator + Copy>(
     meter: &mut Meter<P, A>,
     bytes: &[u8],
     writer: &mut W,
 ) -> io::Result<()>
-    ensures { OnOk result ((honest : Bool) (w : World) → IsAt honest meter.old w → Did honest (W.contents writer.old) (W.contents writer.new) w bytes.now Order.Feed (Some meter.new)) }
+    ensures { (honest : Bool) (w : World) → IsAt honest meter.old w → Obeyed honest (W.contents writer.old) (W.contents writer.new) w bytes.now Order.Feed result (Some meter.new) }
 {
     let mut rest = bytes;
     'frames: while !rest.is_empty() {
@@ -37,16 +46,52 @@ fn feed<W: Write, P: Pages, A: Allocator + Copy>(
     Ok(())
 }
 
+/// Spells the refusal or the number of the fault.
+fn spell<W: Write>(fault: AddFault, writer: &mut W) -> io::Result<()>
+    ensures { OnOk result (Appends (W.contents writer.old) (W.contents writer.new) (outcome_line (Err fault))) }
+{
+    match fault {
+        AddFault::Refused(refused) => write_refusal(refused, writer),
+        AddFault::Device => write_fault(2, writer),
+        AddFault::Stopped => write_fault(3, writer),
+        AddFault::Exhausted => write_fault(4, writer),
+    }
+}
+
+/// Writes the refusal or the number of the fault.
+fn tell_fault<W: Write>(fault: AddFault, writer: &mut W) -> io::Result<()>
+    ensures { Writes (W.contents writer.old) (W.contents writer.new) (outcome_line (Err fault)) result }
+{
+    let mut line = Line::new();
+    spell(fault, &mut line)?;
+    put(line.as_slice(), writer)
+}
+
+/// Writes why the meter was not recovered.
+fn tell_open_fault<W: Write>(fault: OpenFault, writer: &mut W) -> io::Result<()>
+    ensures { Writes (W.contents writer.old) (W.contents writer.new) (open_fault_line fault) result }
+{
+    let mut line = Line::new();
+    write_open_fault(fault, &mut line)?;
+    put(line.as_slice(), writer)
+}
+
+/// Writes the registers, the clock and the count of rows.
+fn tell_state<W: Write, A: Allocator + Copy>(state: &State<A>, writer: &mut W) -> io::Result<()>
+    ensures { Writes (W.contents writer.old) (W.contents writer.new) (state_line state.now) result }
+{
+    let mut line = Line::new();
+    write_state(state, &mut line)?;
+    put(line.as_slice(), writer)
+}
+
 /// Writes the refusal or the number of the fault, if there is one.
 fn answer<W: Write>(outcome: Result<(), AddFault>, writer: &mut W) -> io::Result<()>
-    ensures { OnOk result (Appends (W.contents writer.old) (W.contents writer.new) (outcome_line outcome)) }
+    ensures { Writes (W.contents writer.old) (W.contents writer.new) (outcome_line outcome) result }
 {
     match outcome {
         Ok(()) => Ok(()),
-        Err(AddFault::Refused(refused)) => write_refusal(refused, writer),
-        Err(AddFault::Device) => write_fault(2, writer),
-        Err(AddFault::Stopped) => write_fault(3, writer),
-        Err(AddFault::Exhausted) => write_fault(4, writer),
+        Err(fault) => tell_fault(fault, writer),
     }
 }
 
@@ -70,7 +115,7 @@ fn reopen<W: Write, P: Pages + Drop, A: Allocator + Copy>(
             Ok(())
         }
         Err((_, fault)) => {
-            write_open_fault(fault, writer)?;
+            tell_open_fault(fault, writer)?;
             Err(ReplayFault::Recovery)
         }
     }
@@ -84,7 +129,7 @@ fn obey<W: Write, P: Pages, A: Allocator + Copy>(
     writer: &mut W,
 ) -> io::Result<()>
     requires { order ≢ Order.Open }
-    ensures { OnOk result ((honest : Bool) (w : World) → IsAt honest meter.old w → Did honest (W.contents writer.old) (W.contents writer.new) w bytes.now order (Some meter.new)) }
+    ensures { (honest : Bool) (w : World) → IsAt honest meter.old w → Obeyed honest (W.contents writer.old) (W.contents writer.new) w bytes.now order result (Some meter.new) }
 {
     match order {
         Order::Skip => Ok(()),
@@ -96,7 +141,7 @@ fn obey<W: Write, P: Pages, A: Allocator + Copy>(
             Ok(())
         }
         Order::Open => Ok(()),
-        Order::Show => write_state(meter.state(), writer),
+        Order::Show => tell_state(meter.state(), writer),
     }
 }
 
@@ -124,7 +169,8 @@ fn follow<W: Write, P: Pages + Drop, A: Allocator + Copy>(
 /// Does what the lines of `reader` ask of the meter, and writes what comes of them, up to the first line that is of no
 /// known form or too long. The meter is there when it is called, and afterwards but for one case: a line `O` closes it and
 /// cannot recover it. Then that is written, the answer is `ReplayFault::Recovery`, and the meter is gone. After 2^32 - 1
-/// reads it ends with `ReplayFault::Io`, as where the reader or the writer fails.
+/// reads it ends with `ReplayFault::Io`, as where the reader or the writer fails: then the meter has done what the lines
+/// before that ask for, and of a line whose answer could not be written, that line too, up to that answer.
 pub fn replay<R: Read, W: Write, P: Pages + Drop, A: Allocator + Copy>(
     alloc: A,
     reader: &mut R,
@@ -132,7 +178,7 @@ pub fn replay<R: Read, W: Write, P: Pages + Drop, A: Allocator + Copy>(
     meter: &mut Option<Meter<P, A>>,
 ) -> Result<(), ReplayFault>
     requires { is_some meter.old ≡ true }
-    ensures { (honest : Bool) (w : World) → IsLeft honest meter.old (Some w) → WroteReplay honest (W.contents writer.old) (W.contents writer.new) w (R.remaining reader.old) (end_of result) meter.new }
+    ensures { (honest : Bool) (w : World) → IsLeft honest meter.old (Some w) → WroteReplay honest (W.contents writer.old) (W.contents writer.new) w (R.remaining reader.old) (R.remaining reader.new) result meter.new }
 {
     let mut reads = u32::MAX;
     let mut line = ArrayVec::new();

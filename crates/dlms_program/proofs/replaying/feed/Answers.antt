@@ -1,5 +1,6 @@
 use Rattle.std.proofs.Common.{rules}
-use Rattle.dlms_program.proofs.ReplayLemmas.{fed_start, fed_call, fed_all, taken_and_left}
+use Rattle.dlms_program.proofs.PutLemmas.{taken_and_left}
+use Rattle.dlms_program.proofs.ReplayLemmas.{fed_start, fed_call, fed_all, fed_part, was_err}
 use Rattle.dlms_program.proofs.replaying.feed.Goals as goal
 
 pub frames-init : goal.frames-init
@@ -13,3 +14,10 @@ frames-preserved g c =
 
 pub returns : goal.returns
 returns g c = fed_all (g.W.Write.contents c.args.writer.now) (g.W.Write.contents c.frames.writer) c.args.meter.now c.frames.meter c.args.bytes.now c.frames.rest.now (search rules) c.frames.invariant
+
+pub returns-in_err-write_answer : goal.returns-in_err-write_answer
+returns-in_err-write_answer g c honest w at =
+    was_err _ c.from_residual.result c.from_residual.ensures.0
+    (fed_part (g.W.Write.contents c.args.writer.now) (g.W.Write.contents c.frames.writer) (g.W.Write.contents c.write_answer.new.writer)
+    c.args.meter.now c.frames.meter c.feed-taken.new.self c.args.bytes.now c.frames.rest.now _ _ _
+    (taken_and_left c.feed-taken.result.0 c.frames.rest.now) c.frames.invariant c.feed-taken.ensures.feeds c.in_err-write_answer.ensures honest w at)
