@@ -8,7 +8,7 @@ use Rattle.dlms_acse.specs.declared.fault.AcseFault.{AcseFault}
 use Rattle.dlms_acse.specs.declared.outcome.Verdict.{Verdict}
 use Rattle.dlms_acse.specs.declared.outcome.Verdict.TheVariants.{Accepted, Refused}
 use Rattle.dlms_apdu.specs.Forms.{RequestForm, get_normal, get_next, set_normal, set_first, set_block, action_normal, action_first, action_block, get_result, set_result, action_result}
-use Rattle.dlms_apdu.specs.Reading.{request_at, IsThere}
+use Rattle.dlms_apdu.specs.Reading.{request_at, SelectorNeeds, ParameterNeeds}
 use Rattle.dlms_apdu.specs.declared.fault.Refusal.{Refusal}
 use Rattle.dlms_state.specs.declared.event.Event.{Event}
 use Rattle.dlms_state.specs.Events.{secret_after}
@@ -84,12 +84,12 @@ pub data Choice : Type 0 where
 abbrev pub Lacks : List Event → SessionValue → Association → RequestForm → Outcome → Type 0
 Lacks E s a (get_normal invoke d selector) o =
     (WouldShow (state_of E) s.client d (asked s.client a d selector) × (o ≡ says (without_get s) (get_result invoke (number_of TemporaryFailure))))
-    ⊎ (IsThere selector × (o ≡ not_possible s))
+    ⊎ (SelectorNeeds selector × (o ≡ not_possible s))
 Lacks E s a (get_next invoke number) o = IsOk (next_answer s.getting number) × (o ≡ not_possible s)
 Lacks E s a (set_normal invoke d selector v) o = o ≡ not_possible s
-Lacks E s a (set_first invoke d selector last number raw) o = (IsThere selector ⊎ IsTrue last) × (o ≡ not_possible s)
+Lacks E s a (set_first invoke d selector last number raw) o = (SelectorNeeds selector ⊎ IsTrue last) × (o ≡ not_possible s)
 Lacks E s a (set_block invoke last number raw) o = IsTrue last × (o ≡ not_possible s)
-Lacks E s a (action_normal invoke d parameter) o = IsThere parameter × (o ≡ not_possible s)
+Lacks E s a (action_normal invoke d parameter) o = ParameterNeeds parameter × (o ≡ not_possible s)
 Lacks E s a (action_first invoke d last number raw) o = IsTrue last × (o ≡ not_possible s)
 Lacks E s a (action_block invoke last number raw) o = IsTrue last × (o ≡ not_possible s)
 
