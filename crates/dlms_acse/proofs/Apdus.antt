@@ -18,7 +18,7 @@ use Rattle.dlms_acse.proofs.Relations.{says_request, only_request, says_verdict,
 abbrev AreSpelled : List ℕ → List ℕ → Type 0
 AreSpelled tags bytes = (fs : List Field) × SpellFields bytes fs × AreNew tags fs
 
-checked_spelled : (n : ℕ) (tags bytes : List ℕ) → length bytes ≤ n → checked_at n tags bytes ≡ Ok tt → AreSpelled tags bytes
+pub checked_spelled : (n : ℕ) (tags bytes : List ℕ) → length bytes ≤ n → checked_at n tags bytes ≡ Ok tt → AreSpelled tags bytes
 checked_spelled n tags [] l e = ([], refl, tt)
 checked_spelled zero tags (t ∷ rest) l e = absurd (omega arith)
 checked_spelled (suc n) tags (t ∷ rest) l e =
@@ -30,7 +30,7 @@ checked_spelled (suc n) tags (t ∷ rest) l e =
     let f : Field = record { tag = t; value = x.0.0 } in
     (f ∷ more.0, (took.0, x.0.1, ap (λ (w : List ℕ). t ∷ w) took.1, took.2, more.1), (g.0, more.2))
 
-spelled_checked : (n : ℕ) (tags : List ℕ) (fs : List Field) (bytes : List ℕ) → length bytes ≤ n → SpellFields bytes fs → AreNew tags fs → checked_at n tags bytes ≡ Ok tt
+pub spelled_checked : (n : ℕ) (tags : List ℕ) (fs : List Field) (bytes : List ℕ) → length bytes ≤ n → SpellFields bytes fs → AreNew tags fs → checked_at n tags bytes ≡ Ok tt
 spelled_checked n tags [] bytes l s new = ap (checked_at n tags) s ∙ checked-done n tags
 spelled_checked n tags (f ∷ fs) bytes l s new =
     let room : suc (length (s.0 ++ s.1)) ≤ n = omega (arith, ap length s.2, l) in

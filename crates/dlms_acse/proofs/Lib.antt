@@ -5,3 +5,4 @@ pub mod Again
 pub mod Inside
 pub mod Initiates
 pub mod Relations
+pub mod Faulty

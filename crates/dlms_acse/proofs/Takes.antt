@@ -83,7 +83,7 @@ length_takes most (b ∷ rest) x e =
     neither true q e = absurd cc
     neither false q e = (refl, e)
 
-length_again : (most : ℕ) (text : List ℕ) (n : ℕ) (rest : List ℕ) → IsLength most text n → length_at most (text ++ rest) ≡ Ok (n, rest)
+pub length_again : (most : ℕ) (text : List ℕ) (n : ℕ) (rest : List ℕ) → IsLength most text n → length_at most (text ++ rest) ≡ Ok (n, rest)
 unfolding length_at
 length_again most [] n rest h = absurd h
 length_again most (b ∷ []) n rest h =

@@ -4,3 +4,4 @@ pub mod Writing
 pub mod Reading
 pub mod Spelling
 pub mod Services
+pub mod Faults

@@ -4,6 +4,7 @@ ghost use Rattle.std.specs.Prelude.{◌≡◌, ◌≤◌, ◌↔◌, ℕ, List, 
 ghost use Rattle.dlms_frame.specs.declared.client.Client.{Client};
 ghost use Rattle.dlms_acse.specs.declared.aarq.Initiate.{Initiate};
 ghost use Rattle.dlms_acse.specs.declared.outcome.Verdict.{Verdict};
+ghost use Rattle.dlms_acse.specs.Faults.{TellsAnother, TellsCut, TellsFields, TellsLength, TellsRepeated};
 ghost use Rattle.dlms_acse.specs.Reading.{aare_at, aarq_at, initiate_at, secret_at};
 ghost use Rattle.dlms_acse.specs.Services.{AreBits, named};
 ghost use Rattle.dlms_acse.specs.Spelling.{IsAarq, IsAare, IsInitiate, IsSecret, answered, asked};
@@ -41,6 +42,15 @@ pub fn written_requests_are_read()
 /// A response is read as it was written: with its verdict, an accepted one with the size 1,024.
 pub fn written_responses_are_read()
     ensures { (v : Verdict) → aare_at (aare_bytes v) ≡ Ok (answered v) }
+{}
+
+/// Where each fault stands: among the fields, and in the whole APDU of this tag.
+pub fn faults_stand()
+    ensures fields { TellsFields }
+    ensures another { TellsAnother }
+    ensures repeated { TellsRepeated }
+    ensures cut { TellsCut }
+    ensures length { TellsLength }
 {}
 
 /// Each name of a service stands for its bit.

@@ -208,7 +208,7 @@ action_at bytes = choice_at ((1, action_normal_at) ∷ (4, action_first_at) ∷ 
 unfoldable pub request_at : List ℕ → Result RequestForm Refusal
 request_at bytes = choice_at ((0xC0, get_at) ∷ (0xC1, set_at) ∷ (0xC3, action_at) ∷ []) bytes
 
--- ---- what needs memory: a value that needs some
+-- ---- what needs memory: a value that needs some, in a selector, in a parameter, in a request
 
 abbrev pub SelectorNeeds : Option Selection → Type 0
 SelectorNeeds None = ⊥
@@ -218,15 +218,15 @@ abbrev pub ParameterNeeds : Option Value → Type 0
 ParameterNeeds None = ⊥
 ParameterNeeds (Some v) = NeedsMemory v
 
-abbrev pub RequestNeeds : RequestForm → Type 0
-RequestNeeds (get_normal invoke d s) = SelectorNeeds s
-RequestNeeds (get_next invoke n) = ⊥
-RequestNeeds (set_normal invoke d s v) = SelectorNeeds s ⊎ NeedsMemory v
-RequestNeeds (set_first invoke d s last n raw) = SelectorNeeds s
-RequestNeeds (set_block invoke last n raw) = ⊥
-RequestNeeds (action_normal invoke d p) = ParameterNeeds p
-RequestNeeds (action_first invoke d last n raw) = ⊥
-RequestNeeds (action_block invoke last n raw) = ⊥
+abbrev pub HoldsValue : RequestForm → Type 0
+HoldsValue (get_normal invoke d s) = SelectorNeeds s
+HoldsValue (get_next invoke n) = ⊥
+HoldsValue (set_normal invoke d s v) = SelectorNeeds s ⊎ NeedsMemory v
+HoldsValue (set_first invoke d s last n raw) = SelectorNeeds s
+HoldsValue (set_block invoke last n raw) = ⊥
+HoldsValue (action_normal invoke d p) = ParameterNeeds p
+HoldsValue (action_first invoke d last n raw) = ⊥
+HoldsValue (action_block invoke last n raw) = ⊥
 
 -- ---- the responses
 
@@ -314,6 +314,6 @@ unfoldable pub response_at : List ℕ → Result ResponseForm Refusal
 response_at bytes = choice_at ((0xC4, get_response_at) ∷ (0xC5, set_response_at) ∷ (0xC7, action_response_at) ∷ (0xD8, exception_at) ∷ []) bytes
 
 -- and of a response
-abbrev pub ResponseNeeds : ResponseForm → Type 0
-ResponseNeeds (get_data invoke v) = NeedsMemory v
-ResponseNeeds _ = ⊥
+abbrev pub HoldsData : ResponseForm → Type 0
+HoldsData (get_data invoke v) = NeedsMemory v
+HoldsData _ = ⊥

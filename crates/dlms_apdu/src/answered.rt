@@ -2,7 +2,7 @@
 
 ghost use Rattle.std.specs.Prelude.{◌≡◌, IfOk, MatchResult};
 ghost use Rattle.dlms_apdu.specs.Forms.{ResponseForm};
-ghost use Rattle.dlms_apdu.specs.Reading.{Tells, Answers, ResponseNeeds, get_data_at, get_result_at, get_answer_at, get_raw_at, get_block_result_at, get_block_answer_at, set_result_at, set_block_taken_at, set_last_at, action_result_at, action_block_taken_at, exception_at, get_response_at, set_response_at, action_response_at, response_at};
+ghost use Rattle.dlms_apdu.specs.Reading.{Tells, Answers, HoldsData, get_data_at, get_result_at, get_answer_at, get_raw_at, get_block_result_at, get_block_answer_at, set_result_at, set_block_taken_at, set_last_at, action_result_at, action_block_taken_at, exception_at, get_response_at, set_response_at, action_response_at, response_at};
 ghost use Rattle.dlms_apdu.specs.Spelling.{SpellsResponse};
 ghost use Rattle.dlms_apdu.specs.View.{response_of};
 ghost use Rattle.dlms_apdu.specs.declared.fault.ApduFault.TheVariants.{Memory};
@@ -19,7 +19,7 @@ fn get_data<A: Allocator + Copy>(
     invoke: u8,
     bytes: &[u8],
 ) -> Result<Response<'_, A>, ApduFault>
-    ensures { Answers response_of ResponseNeeds result (get_data_at invoke bytes.now) }
+    ensures { Answers response_of HoldsData result (get_data_at invoke bytes.now) }
 {
     ended(after_value(bytes)?)?;
     Ok(Response::GetData {
@@ -41,7 +41,7 @@ fn get_result<A: Allocator>(invoke: u8, bytes: &[u8]) -> Result<Response<'_, A>,
 /// The answer to a GET, behind the form's byte.
 #[tactic(auto, using(crate::proofs::Forms::told), unfolding(crate::specs::Reading::get_answer_at, crate::specs::Reading::and_then))]
 fn get_answer<A: Allocator + Copy>(alloc: A, bytes: &[u8]) -> Result<Response<'_, A>, ApduFault>
-    ensures { Answers response_of ResponseNeeds result (get_answer_at bytes.now) }
+    ensures { Answers response_of HoldsData result (get_answer_at bytes.now) }
 {
     let (invoke, rest) = byte(bytes)?;
     match rest {
@@ -186,7 +186,7 @@ fn exception<A: Allocator>(bytes: &[u8]) -> Result<Response<'_, A>, Refusal>
 /// An answer to a GET, behind the service's byte.
 #[tactic(auto, using(crate::proofs::Forms::told), unfolding(crate::specs::Reading::get_response_at))]
 fn get_response<A: Allocator + Copy>(alloc: A, bytes: &[u8]) -> Result<Response<'_, A>, ApduFault>
-    ensures { Answers response_of ResponseNeeds result (get_response_at bytes.now) }
+    ensures { Answers response_of HoldsData result (get_response_at bytes.now) }
 {
     match bytes {
         [] => Err(ApduFault::Short),
@@ -226,7 +226,7 @@ fn action_response<A: Allocator>(bytes: &[u8]) -> Result<Response<'_, A>, Refusa
 /// A response.
 #[tactic(auto, using(crate::proofs::Forms::told), unfolding(crate::specs::Reading::response_at))]
 fn response<A: Allocator + Copy>(alloc: A, bytes: &[u8]) -> Result<Response<'_, A>, ApduFault>
-    ensures { Answers response_of ResponseNeeds result (response_at bytes.now) }
+    ensures { Answers response_of HoldsData result (response_at bytes.now) }
 {
     match bytes {
         [] => Err(ApduFault::Short),
@@ -247,9 +247,9 @@ pub fn read_response<A: Allocator + Copy>(
     // The bytes are a spelling of what is read.
     ensures found { IfOk result (λ r. SpellsResponse bytes.now (response_of r)) }
     // What the bytes are a spelling of is read, unless it holds a value that needs memory, and memory runs out.
-    ensures only { (r : ResponseForm) → SpellsResponse bytes.now r → MatchResult result (λ x. response_of x ≡ r) (λ e. (e ≡ Memory) × ResponseNeeds r) }
+    ensures only { (r : ResponseForm) → SpellsResponse bytes.now r → MatchResult result (λ x. response_of x ≡ r) (λ e. (e ≡ Memory) × HoldsData r) }
     // Which fault it is.
-    ensures exact { Answers response_of ResponseNeeds result (response_at bytes.now) }
+    ensures exact { Answers response_of HoldsData result (response_at bytes.now) }
 {
     response(alloc, bytes)
 }

@@ -2,7 +2,7 @@
 
 ghost use Rattle.std.specs.Prelude.{◌≡◌, IfOk, MatchResult};
 ghost use Rattle.dlms_apdu.specs.Forms.{RequestForm};
-ghost use Rattle.dlms_apdu.specs.Reading.{Tells, Answers, RequestNeeds, get_normal_at, get_next_at, set_normal_at, set_first_at, set_block_at, action_normal_at, action_first_at, action_block_at, get_at, set_at, action_at, request_at};
+ghost use Rattle.dlms_apdu.specs.Reading.{Tells, Answers, HoldsValue, get_normal_at, get_next_at, set_normal_at, set_first_at, set_block_at, action_normal_at, action_first_at, action_block_at, get_at, set_at, action_at, request_at};
 ghost use Rattle.dlms_apdu.specs.Spelling.{SpellsRequest};
 ghost use Rattle.dlms_apdu.specs.View.{request_of};
 ghost use Rattle.dlms_apdu.specs.declared.fault.ApduFault.TheVariants.{Memory};
@@ -18,7 +18,7 @@ use std::alloc::Allocator;
 /// GET of an attribute, behind the form's byte.
 #[tactic(auto, using(crate::proofs::Forms::told), unfolding(crate::specs::Reading::get_normal_at, crate::specs::Reading::and_then))]
 fn get_normal<A: Allocator + Copy>(alloc: A, bytes: &[u8]) -> Result<Request<'_, A>, ApduFault>
-    ensures { Answers request_of RequestNeeds result (get_normal_at bytes.now) }
+    ensures { Answers request_of HoldsValue result (get_normal_at bytes.now) }
 {
     let (invoke, rest) = byte(bytes)?;
     let (descriptor, rest) = descriptor(rest)?;
@@ -44,7 +44,7 @@ fn get_next<A: Allocator>(bytes: &[u8]) -> Result<Request<'_, A>, Refusal>
 /// SET of an attribute, behind the form's byte.
 #[tactic(auto, using(crate::proofs::Forms::told), unfolding(crate::specs::Reading::set_normal_at, crate::specs::Reading::and_then))]
 fn set_normal<A: Allocator + Copy>(alloc: A, bytes: &[u8]) -> Result<Request<'_, A>, ApduFault>
-    ensures { Answers request_of RequestNeeds result (set_normal_at bytes.now) }
+    ensures { Answers request_of HoldsValue result (set_normal_at bytes.now) }
 {
     let (invoke, rest) = byte(bytes)?;
     let (descriptor, rest) = descriptor(rest)?;
@@ -61,7 +61,7 @@ fn set_normal<A: Allocator + Copy>(alloc: A, bytes: &[u8]) -> Result<Request<'_,
 /// SET of an attribute, the first block, behind the form's byte.
 #[tactic(auto, using(crate::proofs::Forms::told), unfolding(crate::specs::Reading::set_first_at, crate::specs::Reading::and_then))]
 fn set_first<A: Allocator + Copy>(alloc: A, bytes: &[u8]) -> Result<Request<'_, A>, ApduFault>
-    ensures { Answers request_of RequestNeeds result (set_first_at bytes.now) }
+    ensures { Answers request_of HoldsValue result (set_first_at bytes.now) }
 {
     let (invoke, rest) = byte(bytes)?;
     let (descriptor, rest) = descriptor(rest)?;
@@ -98,7 +98,7 @@ fn set_block<A: Allocator>(bytes: &[u8]) -> Result<Request<'_, A>, Refusal>
 /// ACTION, behind the form's byte.
 #[tactic(auto, using(crate::proofs::Forms::told), unfolding(crate::specs::Reading::action_normal_at, crate::specs::Reading::and_then))]
 fn action_normal<A: Allocator + Copy>(alloc: A, bytes: &[u8]) -> Result<Request<'_, A>, ApduFault>
-    ensures { Answers request_of RequestNeeds result (action_normal_at bytes.now) }
+    ensures { Answers request_of HoldsValue result (action_normal_at bytes.now) }
 {
     let (invoke, rest) = byte(bytes)?;
     let (descriptor, rest) = descriptor(rest)?;
@@ -149,7 +149,7 @@ fn action_block<A: Allocator>(bytes: &[u8]) -> Result<Request<'_, A>, Refusal>
 /// A GET, behind the service's byte.
 #[tactic(auto, using(crate::proofs::Forms::told), unfolding(crate::specs::Reading::get_at))]
 fn get<A: Allocator + Copy>(alloc: A, bytes: &[u8]) -> Result<Request<'_, A>, ApduFault>
-    ensures { Answers request_of RequestNeeds result (get_at bytes.now) }
+    ensures { Answers request_of HoldsValue result (get_at bytes.now) }
 {
     match bytes {
         [] => Err(ApduFault::Short),
@@ -162,7 +162,7 @@ fn get<A: Allocator + Copy>(alloc: A, bytes: &[u8]) -> Result<Request<'_, A>, Ap
 /// A SET, behind the service's byte.
 #[tactic(auto, using(crate::proofs::Forms::told), unfolding(crate::specs::Reading::set_at))]
 fn set<A: Allocator + Copy>(alloc: A, bytes: &[u8]) -> Result<Request<'_, A>, ApduFault>
-    ensures { Answers request_of RequestNeeds result (set_at bytes.now) }
+    ensures { Answers request_of HoldsValue result (set_at bytes.now) }
 {
     match bytes {
         [] => Err(ApduFault::Short),
@@ -176,7 +176,7 @@ fn set<A: Allocator + Copy>(alloc: A, bytes: &[u8]) -> Result<Request<'_, A>, Ap
 /// An ACTION, behind the service's byte.
 #[tactic(auto, using(crate::proofs::Forms::told), unfolding(crate::specs::Reading::action_at))]
 fn action<A: Allocator + Copy>(alloc: A, bytes: &[u8]) -> Result<Request<'_, A>, ApduFault>
-    ensures { Answers request_of RequestNeeds result (action_at bytes.now) }
+    ensures { Answers request_of HoldsValue result (action_at bytes.now) }
 {
     match bytes {
         [] => Err(ApduFault::Short),
@@ -190,7 +190,7 @@ fn action<A: Allocator + Copy>(alloc: A, bytes: &[u8]) -> Result<Request<'_, A>,
 /// A request.
 #[tactic(auto, using(crate::proofs::Forms::told), unfolding(crate::specs::Reading::request_at))]
 fn request<A: Allocator + Copy>(alloc: A, bytes: &[u8]) -> Result<Request<'_, A>, ApduFault>
-    ensures { Answers request_of RequestNeeds result (request_at bytes.now) }
+    ensures { Answers request_of HoldsValue result (request_at bytes.now) }
 {
     match bytes {
         [] => Err(ApduFault::Short),
@@ -211,9 +211,9 @@ pub fn read_request<A: Allocator + Copy>(
     // The bytes are a spelling of what is read.
     ensures found { IfOk result (λ r. SpellsRequest bytes.now (request_of r)) }
     // What the bytes are a spelling of is read, unless it holds a value that needs memory, and memory runs out.
-    ensures only { (r : RequestForm) → SpellsRequest bytes.now r → MatchResult result (λ x. request_of x ≡ r) (λ e. (e ≡ Memory) × RequestNeeds r) }
+    ensures only { (r : RequestForm) → SpellsRequest bytes.now r → MatchResult result (λ x. request_of x ≡ r) (λ e. (e ≡ Memory) × HoldsValue r) }
     // Which fault it is.
-    ensures exact { Answers request_of RequestNeeds result (request_at bytes.now) }
+    ensures exact { Answers request_of HoldsValue result (request_at bytes.now) }
 {
     request(alloc, bytes)
 }

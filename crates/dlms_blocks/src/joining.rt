@@ -1,5 +1,5 @@
 //! A value read that comes to the client in blocks.
-ghost use Rattle.std.specs.Prelude.{◌≡◌, ◌⊎◌, ◌++◌, Bool, true, false, MatchResult, IfOk, IfErr, IsTrue};
+ghost use Rattle.std.specs.Prelude.{◌≡◌, ◌<◌, ◌⊎◌, ◌++◌, Bool, true, false, length, MatchResult, IfOk, IfErr, IsTrue};
 ghost use Rattle.dlms_blocks.specs.Joining.{empty, is_next, with_block};
 
 use crate::block::{TEMPORARY_FAILURE, UNKNOWN_BLOCK};
@@ -42,10 +42,11 @@ impl<A: Allocator> GetIn<A> {
     }
 
     /// Takes a block, and says whether it was the last. Another number than the next, and a block after the last, are
-    /// answered 19; where memory is refused it is 2; both change nothing. After number 2^32 - 1 each number is another.
+    /// answered 19; where memory is refused it is 2, which is no answer to a block of no bytes; both change nothing. After
+    /// number 2^32 - 1 each number is another.
     pub fn more(&mut self, last: bool, number: u32, bytes: &[u8]) -> Result<bool, u8>
         ensures ok { IfOk result (λ whole. (whole ≡ last) × (is_next self.old number ≡ true) × (self.new ≡ with_block self.old last number bytes.now)) }
-        ensures err { IfErr result (λ code. ((code ≡ 19) × (is_next self.old number ≡ false)) ⊎ ((code ≡ 2) × (is_next self.old number ≡ true))) }
+        ensures err { IfErr result (λ code. ((code ≡ 19) × (is_next self.old number ≡ false)) ⊎ ((code ≡ 2) × (is_next self.old number ≡ true) × (0 < length bytes.now))) }
         ensures same { IfErr result (λ code. self.new ≡ self.old) }
     {
         if self.over || self.taken == u32::MAX || number != self.taken + 1 {

@@ -3,7 +3,7 @@ use Rattle.std.proofs.Common.{arith, refl, sym, ap, subst, ◌∙◌, ◌≡◌,
 use Rattle.std.proofs.lemmas.Bool.Decides.{nat_tests}
 use Rattle.std.specs.Prelude.{IsOkAnd}
 use Rattle.dlms_apdu.specs.Forms.{ResponseForm, get_data, get_block}
-use Rattle.dlms_apdu.specs.Reading.{ResponseNeeds, response_at}
+use Rattle.dlms_apdu.specs.Reading.{HoldsData, response_at}
 use Rattle.dlms_apdu.specs.declared.fault.Refusal.{Refusal}
 use Rattle.dlms_data.specs.Value.{Value}
 use Rattle.dlms_blocks.specs.Joining.{Joining, is_next, with_block}
@@ -73,7 +73,7 @@ no_data apdu invoke taken joined v read missing = (refl, record { no_more = λ b
 pub no_data_behind : (invoke taken : ℕ) (joined : List ℕ) (v : Value) → taken ≢ 0 → FailsOrWants taken joined (Ok (get_data invoke v)) Protocol
 no_data_behind invoke taken joined v some = (refl, record { no_more = λ bytes h. h; no_rows = λ rows h. some h.0 })
 
-pub data_wanted : (read : Result ResponseForm Refusal) (taken : ℕ) (joined : List ℕ) (fault : PollFault) → IsOkAnd read ResponseNeeds
+pub data_wanted : (read : Result ResponseForm Refusal) (taken : ℕ) (joined : List ℕ) (fault : PollFault) → IsOkAnd read HoldsData
     → ((invoke : ℕ) (v : Value) → read ≡ Ok (get_data invoke v) → FailsOrWants taken joined (Ok (get_data invoke v)) fault) → FailsOrWants taken joined read fault
 data_wanted (Ok (get_data invoke v)) taken joined fault h told = told invoke v refl
 data_wanted (Ok _) taken joined fault h told = absurd h
