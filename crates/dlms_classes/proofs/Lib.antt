@@ -3,4 +3,5 @@ pub mod Fours
 pub mod Listed
 pub mod Matching
 pub mod OneValue
+pub mod ShownOnce
 pub mod Times

@@ -1,5 +1,6 @@
 -- The answer of GET.
-use Rattle.std.specs.Prelude.{◌≡◌, List, Option, Result, Ok, Err, MatchResult}
+use Rattle.std.specs.Prelude.{◌≡◌, ◌⊎◌, List, Option, Result, Ok, Err, MatchResult, IsTrue}
+use Rattle.dlms_data.specs.Value.{Value}
 use Rattle.dlms_data.specs.declared.data.Data.{Data}
 use Rattle.dlms_data.specs.declared.descriptor.Descriptor.{Descriptor}
 use Rattle.dlms_data.specs.View.{value_of}
@@ -11,7 +12,7 @@ use Rattle.dlms_classes.specs.declared.access.AccessResult.TheVariants.{Temporar
 use Rattle.dlms_classes.specs.declared.table.Content.{Content}
 use Rattle.dlms_classes.specs.Access.{◌>>=◌, readable}
 use Rattle.dlms_classes.specs.Choice.{Selection, part_of, HasSeconds}
-use Rattle.dlms_classes.specs.Shown.{Part, Shows, shown}
+use Rattle.dlms_classes.specs.Shown.{Part, Shows, shown, takes_memory}
 
 -- an attribute, and which part of it
 pub record Wanted : Type 0 where
@@ -26,17 +27,26 @@ wanted client d selection =
     part_of a.content selection >>= λ p.
     Ok (record { content = a.content; part = p })
 
--- why there is no value of what could be shown: want of memory; or another reason, where the octets that bound a range name
--- no second of the clock
-abbrev pub Lacks : Part → AccessResult → Type 0
-Lacks p TemporaryFailure = HasSeconds p
-Lacks p OtherReason = ¬ (HasSeconds p)
-Lacks p _ = ⊥
+-- What is wanted of a state is this: the value that shows it; or the refusal, which is for another reason where the octets that
+-- bound a range name no second of the clock.
+abbrev pub IsShown : StateValue → Client → Descriptor → Result Wanted AccessResult → Result Value AccessResult → Type 0
+IsShown s client d (Err r) result = result ≡ Err r
+IsShown s client d (Ok w) result = MatchResult result (Shows (shown s client d w.part w.content)) (λ r. (r ≡ OtherReason) × ¬ (HasSeconds w.part))
 
--- the value that shows what is wanted of a state, or why there is none
+-- nothing refuses it
+abbrev pub IsGranted : Result Wanted AccessResult → Type 0
+IsGranted (Err r) = ⊥
+IsGranted (Ok w) = HasSeconds w.part
+
+-- and it takes memory to show it
+abbrev pub NeedsMemory : Result Wanted AccessResult → Type 0
+NeedsMemory (Err r) = ⊥
+NeedsMemory (Ok w) = HasSeconds w.part × IsTrue (takes_memory w.content)
+
+-- what a call answers: what is shown, or want of memory where it takes memory to show it
 abbrev pub IsAnswer : {A : Type 0} → StateValue → Client → Descriptor → Result Wanted AccessResult → Result (Data A) AccessResult → Type 0
-IsAnswer s client d (Err r) result = result ≡ Err r
-IsAnswer s client d (Ok w) result = MatchResult result (λ v. Shows (shown s client d w.part w.content) (value_of v)) (Lacks w.part)
+IsAnswer s client d w result =
+    MatchResult result (λ v. IsShown s client d w (Ok (value_of v))) (λ r. IsShown s client d w (Err r) ⊎ (NeedsMemory w × (r ≡ TemporaryFailure)))
 
 -- the answer after a list of events: the state is that of the definitions of settings, registers, clock and buffer
 abbrev pub AnswersAfter : {A : Type 0} → List Event → Client → Descriptor → Option Selection → Result (Data A) AccessResult → Type 0

@@ -1,6 +1,6 @@
 -- What an answer shows, and which value shows it: the attributes' values of IEC 62056-6-2 (Blue Book: Data 4.3.1, Register
 -- 4.3.2, Profile generic 4.3.6, Association LN 4.4.4, Clock 4.5.1). The constants are the meter's own.
-use Rattle.std.specs.Prelude.{◌≡◌, ℕ, ◌-◌, ◌==◌, ◌<◌, ◌≤◌, ◌^◌, All, ◌||◌, nat_lt, if◌then◌else◌, List, [], ◌∷◌, map, length, slice_index, slice_range, codes, replicate, pos, ⊤, false}
+use Rattle.std.specs.Prelude.{◌≡◌, ℕ, ◌-◌, ◌==◌, ◌<◌, ◌≤◌, ◌^◌, All, ◌||◌, nat_lt, if◌then◌else◌, List, [], ◌∷◌, map, length, slice_index, slice_range, codes, replicate, pos, ⊤, Bool, true, false}
 use Rattle.dlms_data.specs.Value.{Value, Values, null, array, structure, boolean, double_long_unsigned, octet_string, integer, long, unsigned, long_unsigned, enumerated, none, cons}
 use Rattle.dlms_data.specs.DateTime.{NamesSecond, IsPlainlyWritten, last_second}
 use Rattle.dlms_data.specs.declared.descriptor.Descriptor.{Descriptor}
@@ -95,6 +95,23 @@ shown s client d p ProfileEntries = as_value (double_long_unsigned 960)
 -- these two nobody may read
 shown s client d p Withheld = as_value null
 shown s client d p Secret = as_value null
+
+-- what is shown takes memory: all but numbers, an enumeration's place, a truth and nothing
+abbrev pub takes_memory : Content → Bool
+takes_memory (Register channel) = false
+takes_memory TimeZone = false
+takes_memory ClockStatus = false
+takes_memory DaylightDeviation = false
+takes_memory DaylightEnabled = false
+takes_memory ClockBase = false
+takes_memory Withheld = false
+takes_memory Secret = false
+takes_memory AssociationStatus = false
+takes_memory CapturePeriod = false
+takes_memory SortMethod = false
+takes_memory EntriesInUse = false
+takes_memory ProfileEntries = false
+takes_memory _ = true
 
 -- ---- which value shows it
 

@@ -32,12 +32,15 @@ fn answer<A: Allocator + Copy>(
 
 /// The value of an attribute, as this client may read it, or why it is refused: the first that fits of name, class,
 /// attribute, right, selector, types of its parameters and their values. A refusal takes no memory, and want of memory is
-/// answered only where a value would have been.
+/// answered only where a value would have been that takes some: not for a number, an enumeration's place or a truth.
 ///
 /// A selector is taken by the load profile's buffer alone: 1 by range, a structure of the clock's column, from and to (octet
 /// strings of twelve or date-times) and an empty array; 2 by entry, a structure of first and last entry (double-long-unsigned)
 /// and first and last column (long-unsigned), counted from 1, where 0 as the last stands for the end. No attribute takes
-/// another selector.
+/// another selector (`ScopeOfAccessViolated`). All types are looked at before any value (`TypeUnmatched`). Refused for another
+/// reason (`OtherReason`) is by range another column than the clock's time, columns that are named, and octets that name no
+/// second; by entry a first entry or a first column of 0, a first column past the last of the row, and a last column below the
+/// first. It is borrowed, `Option<&Selector>`, since a request holds it and nothing keeps it.
 pub fn get<A: Allocator + Copy>(
     alloc: A,
     state: &State<A>,

@@ -1,12 +1,12 @@
 //! The values of attributes.
 
-ghost use Rattle.std.specs.Prelude.{◌≡◌, IfOk, map, pos, slice_index};
+ghost use Rattle.std.specs.Prelude.{◌≡◌, IfOk, OnErr, IsTrue, map, pos, slice_index};
 ghost use Rattle.dlms_data.specs.Value.{array, structure, integer, enumerated, long_unsigned};
 ghost use Rattle.dlms_data.specs.View.{value_of};
 ghost use Rattle.dlms_frame.specs.Client.{sap_of};
 ghost use Rattle.dlms_classes.specs.Choice.{Picks, IsProper};
 ghost use Rattle.dlms_classes.specs.Listing.{map_values};
-ghost use Rattle.dlms_classes.specs.Shown.{Part, shown, Shows, column_value as column, no_column as no_object, two as pair};
+ghost use Rattle.dlms_classes.specs.Shown.{Part, shown, Shows, takes_memory, column_value as column, no_column as no_object, two as pair};
 ghost use Rattle.dlms_classes.specs.Table.{columns, entry_of};
 
 use crate::building::{four, octets_of, room, time_of, two};
@@ -81,7 +81,7 @@ fn partners<A: Allocator + Copy>(alloc: A, client: Client) -> Result<Data<A>, Al
     Ok(Data::Structure(two(alloc, sap, Data::LongUnsigned(1))?))
 }
 
-/// What an attribute shows to a client; of the buffer, the part that is wanted.
+/// What an attribute shows to a client; of the buffer, the part that is wanted. Want of memory stands only where it takes some.
 pub fn value<A: Allocator + Copy>(
     alloc: A,
     state: &State<A>,
@@ -91,7 +91,8 @@ pub fn value<A: Allocator + Copy>(
     content: Content,
 ) -> Result<Data<A>, AllocError>
     requires { IsProper choice }
-    ensures { (p : Part) → Picks p choice → IfOk result (λ v. Shows (shown state.now client descriptor p content) (value_of v)) }
+    ensures shows { (p : Part) → Picks p choice → IfOk result (λ v. Shows (shown state.now client descriptor p content) (value_of v)) }
+    ensures lacks { OnErr result (IsTrue (takes_memory content)) }
 {
     match content {
         Content::LogicalName => octets_of(alloc, descriptor.name.as_slice()),

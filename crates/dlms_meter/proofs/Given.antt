@@ -35,7 +35,8 @@ use Rattle.dlms_service.specs.declared.target.Service.TheVariants.{Set, Action}
 use Rattle.dlms_service.specs.Session.{SessionValue, Outcome, fresh, says, without_get, without_put, has, blocks_with_get}
 use Rattle.dlms_service.specs.Planned.{done, result_of}
 use Rattle.dlms_service.specs.Stake.{failing, stake_of}
-use Rattle.dlms_service.specs.Shown.{IsShown, asked, Gives, block_form, in_blocks, goes_on}
+use Rattle.dlms_classes.specs.Answer.{IsShown}
+use Rattle.dlms_service.specs.Shown.{asked, Gives, block_form, in_blocks, goes_on}
 use Rattle.dlms_service.specs.Blocks.{Steps, ContinuesFor, open_for, taken_form, ended_form, code_for}
 use Rattle.dlms_service.specs.Serves.{Choice, FindsMemory, LacksMemoryToRead, LacksMemoryToAnswer, Asks, LacksToAnswer, Permitted, Requested, Read, Within, Released, Associated, associated, permits, begins_with}
 use Rattle.dlms_meter.specs.Run.{Choice as Chosen, Served as ByChoice, DeviceFails, Does}

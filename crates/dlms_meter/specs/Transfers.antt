@@ -13,7 +13,8 @@ use Rattle.dlms_link.specs.Server.{ServerRecord, server_on}
 use Rattle.dlms_link.specs.declared.out.LinkOut.{LinkOut}
 use Rattle.dlms_link.specs.declared.out.LinkOut.TheVariants.{Nothing, Reply, Apdu, Oversize, BadLlc, Up, Down}
 use Rattle.dlms_service.specs.Session.{SessionValue, Outcome, fresh, without_get}
-use Rattle.dlms_service.specs.Shown.{IsShown, asked, in_blocks}
+use Rattle.dlms_classes.specs.Answer.{IsShown}
+use Rattle.dlms_service.specs.Shown.{asked, in_blocks}
 use Rattle.dlms_service.specs.Stake.{tells}
 use Rattle.dlms_service.specs.declared.association.Association.{Association}
 use Rattle.dlms_state.specs.StateValue.{state_of}

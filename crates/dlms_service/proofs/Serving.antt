@@ -1,5 +1,5 @@
 -- What each part of a service shows of its outcome.
-use Rattle.std.proofs.Common.{◌≡◌, ◌⊎◌, inl, inr, refl, sym, ◌∙◌, ap, ℕ, Bool, true, List, [], Option, Some, None, is_some, option_map, option_copied, Bor, Result, Ok, Err, MatchResult, arith}
+use Rattle.std.proofs.Common.{◌≡◌, ◌⊎◌, inl, inr, refl, sym, ◌∙◌, ap, subst, ℕ, Bool, true, List, [], Option, Some, None, is_some, option_map, option_copied, Bor, Result, Ok, Err, MatchResult}
 use Rattle.dlms_data.specs.Value.{Value}
 use Rattle.dlms_data.specs.declared.descriptor.Descriptor.{Descriptor}
 use Rattle.dlms_apdu.specs.Forms.{RequestForm, ResponseForm, BlockForm, get_normal, get_result, set_normal, set_first, set_result, action_normal, action_result}
@@ -15,7 +15,9 @@ use Rattle.dlms_state.specs.StateValue.{state_of}
 use Rattle.dlms_classes.specs.declared.access.AccessResult.{AccessResult}
 use Rattle.dlms_classes.specs.declared.access.AccessResult.TheVariants.{TemporaryFailure}
 use Rattle.dlms_classes.specs.Access.{number_of}
-use Rattle.dlms_classes.specs.Answer.{Wanted}
+use Rattle.dlms_frame.specs.declared.client.Client.{Client}
+use Rattle.dlms_classes.specs.Answer.{Wanted, IsShown, IsGranted, NeedsMemory}
+use Rattle.dlms_classes.proofs.ShownOnce.{granted}
 use Rattle.dlms_service.specs.declared.association.Association.{Association}
 use Rattle.dlms_service.specs.declared.served.Served.{Served}
 use Rattle.dlms_service.specs.declared.target.Target.{Target}
@@ -23,7 +25,7 @@ use Rattle.dlms_service.specs.declared.target.Service.{Service}
 use Rattle.dlms_service.specs.declared.target.Service.TheVariants.{Set}
 use Rattle.dlms_service.specs.Session.{SessionValue, Outcome, outcome_of, listed, without_get, without_put, not_possible}
 use Rattle.dlms_service.specs.Planned.{IsValue, IsPlanFor, IsDone}
-use Rattle.dlms_service.specs.Shown.{Sends, IsShown, asked, WouldShow}
+use Rattle.dlms_service.specs.Shown.{Sends, asked, seen}
 use Rattle.dlms_service.specs.Blocks.{Completes, Steps, Begins, Continues, Brings, BringsAlone, BringsLast, open_for, ended_form}
 use Rattle.dlms_service.specs.Serves.{Choice, FindsMemory, LacksMemoryToRead, LacksMemoryToAnswer, Asks, BringsValue, LacksToAnswer, Requested, permits}
 
@@ -38,11 +40,21 @@ pub given : (E : List Event) (s : SessionValue) (a : Association) (invoke : ℕ)
     → (Sends (without_get s) a invoke v (record { own = own; answer = answer; accepted = [] }) ⊎ ((own ≡ without_get s) × (answer ≡ response_bytes (get_result invoke (number_of TemporaryFailure)))))
     → Asks E s a (get_normal invoke d selector) (record { own = own; answer = answer; accepted = [] }) ⊎ LacksToAnswer E s a (get_normal invoke d selector) (record { own = own; answer = answer; accepted = [] })
 given E s a invoke d selector v own answer shown (inl sends) = inl (Ok v, shown, sends)
-given E s a invoke d selector v own answer shown (inr lacks) = inr (would (asked s.client a d selector) shown, rw (lacks.0, lacks.1) refl)
-  where
-    would : (w : Result Wanted AccessResult) → IsShown (state_of E) s.client d w (Ok v) → WouldShow (state_of E) s.client d w
-    would (Ok w) h = inr (v, h)
-    would (Err r) h = absurd (grind arith)
+given E s a invoke d selector v own answer shown (inr lacks) = inr (granted (state_of E) s.client d (seen a selector) v shown, rw (lacks.0, lacks.1) refl)
+
+-- a refusal, or want of memory for the value
+needed : (w : Result Wanted AccessResult) → NeedsMemory w → IsGranted w
+needed (Ok w) h = h.0
+needed (Err r) h = absurd h
+
+pub refusing : (E : List Event) (s : SessionValue) (a : Association) (invoke : ℕ) (d : Descriptor) (selector : Option apdu.Selection) (client : Client) (r : AccessResult) (own : SessionValue) (answer : List ℕ)
+    → client ≡ s.client → own ≡ without_get s → answer ≡ response_bytes (get_result invoke (number_of r))
+    → IsShown (state_of E) client d (asked client a d selector) (Err r) ⊎ (NeedsMemory (asked client a d selector) × (r ≡ TemporaryFailure))
+    → Asks E s a (get_normal invoke d selector) (record { own = own; answer = answer; accepted = [] }) ⊎ LacksToAnswer E s a (get_normal invoke d selector) (record { own = own; answer = answer; accepted = [] })
+refusing E s a invoke d selector client r own answer same is says (inl shown) =
+    inl (Err r, subst (λ (c : Client). IsShown (state_of E) c d (asked c a d selector) (Err r)) same shown, rw (is, says) refl)
+refusing E s a invoke d selector client r own answer same is says (inr lacks) =
+    inr (needed (asked s.client a d selector) (subst (λ (c : Client). NeedsMemory (asked c a d selector)) same lacks.0), rw (is, says, lacks.1) refl)
 
 -- ---- blocks that come
 

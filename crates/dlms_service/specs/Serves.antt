@@ -12,16 +12,16 @@ use Rattle.dlms_apdu.specs.Reading.{request_at, HoldsValue}
 use Rattle.dlms_apdu.specs.declared.fault.Refusal.{Refusal}
 use Rattle.dlms_state.specs.declared.event.Event.{Event}
 use Rattle.dlms_state.specs.Events.{secret_after}
-use Rattle.dlms_state.specs.StateValue.{state_of}
 use Rattle.dlms_classes.specs.declared.access.AccessResult.{AccessResult}
 use Rattle.dlms_classes.specs.declared.access.AccessResult.TheVariants.{TemporaryFailure}
 use Rattle.dlms_classes.specs.Access.{number_of}
+use Rattle.dlms_classes.specs.Answer.{IsGranted}
 use Rattle.dlms_classes.specs.Plan.{event_asked}
 use Rattle.dlms_service.specs.declared.association.Association.{Association}
 use Rattle.dlms_service.specs.declared.target.Service.TheVariants.{Set, Action}
 use Rattle.dlms_service.specs.Session.{SessionValue, Outcome, fresh, without_get, without_put, has, get_service, set_service, action_service, blocks_with_set, blocks_with_action, says, not_associated, not_supported, unknown_service, not_possible}
 use Rattle.dlms_service.specs.Planned.{IsPlanFor, IsTyped, done}
-use Rattle.dlms_service.specs.Shown.{Gets, WouldShow, asked, next_answer, goes_on}
+use Rattle.dlms_service.specs.Shown.{Gets, asked, next_answer, goes_on}
 use Rattle.dlms_service.specs.Blocks.{Begins, Continues, BringsAlone, BringsLast}
 
 -- ---- the association
@@ -107,7 +107,7 @@ LacksToRead s form o = (HoldsValue form ⊎ BringsValue s form) × (o ≡ not_po
 -- Want of memory for the answer: in place of what GET would show, and of the next block.
 abbrev pub LacksToAnswer : List Event → SessionValue → Association → RequestForm → Outcome → Type 0
 LacksToAnswer E s a (get_normal invoke d selector) o =
-    WouldShow (state_of E) s.client d (asked s.client a d selector) × (o ≡ says (without_get s) (get_result invoke (number_of TemporaryFailure)))
+    IsGranted (asked s.client a d selector) × (o ≡ says (without_get s) (get_result invoke (number_of TemporaryFailure)))
 LacksToAnswer E s a (get_next invoke number) o = IsOk (next_answer s.getting number) × (o ≡ not_possible s)
 LacksToAnswer E s a _ o = ⊥
 

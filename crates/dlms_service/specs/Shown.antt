@@ -1,23 +1,20 @@
 -- What GET shows, whole or in blocks.
-use Rattle.std.specs.Prelude.{◌≡◌, ◌⊎◌, ℕ, ◌+◌, ◌-◌, ◌&&◌, nat_le, if◌then◌else◌, List, length, Option, Some, None, option_map, Result, Ok, Err, MatchResult}
+use Rattle.std.specs.Prelude.{◌≡◌, ◌⊎◌, ℕ, ◌+◌, ◌-◌, ◌&&◌, nat_le, if◌then◌else◌, List, length, Option, Some, None, option_map, Result, Ok, Err}
 use Rattle.dlms_blocks.specs.Block.{BlockValue}
 use Rattle.dlms_blocks.specs.Going.{Going, beginning, answer, after}
 use Rattle.dlms_data.specs.Value.{Value, null}
-use Rattle.dlms_data.specs.View.{value_of}
-use Rattle.dlms_data.specs.declared.data.Data.{Data}
 use Rattle.dlms_data.specs.Writing.{canonical, Fits}
 use Rattle.dlms_data.specs.declared.descriptor.Descriptor.{Descriptor}
 use Rattle.dlms_apdu.specs.Forms.{ResponseForm, get_data, get_result, get_block, get_block_result}
 use Rattle.dlms_apdu.specs.Forms as apdu
 use Rattle.dlms_state.specs.declared.event.Event.{Event}
-use Rattle.dlms_state.specs.StateValue.{StateValue, state_of}
+use Rattle.dlms_state.specs.StateValue.{state_of}
 use Rattle.dlms_frame.specs.declared.client.Client.{Client}
 use Rattle.dlms_classes.specs.declared.access.AccessResult.{AccessResult}
-use Rattle.dlms_classes.specs.declared.access.AccessResult.TheVariants.{TemporaryFailure, OtherReason}
+use Rattle.dlms_classes.specs.declared.access.AccessResult.TheVariants.{OtherReason}
 use Rattle.dlms_classes.specs.Access.{number_of}
-use Rattle.dlms_classes.specs.Answer.{Wanted, wanted}
-use Rattle.dlms_classes.specs.Choice.{Selection, HasSeconds}
-use Rattle.dlms_classes.specs.Shown.{Shows, shown}
+use Rattle.dlms_classes.specs.Answer.{Wanted, wanted, IsShown}
+use Rattle.dlms_classes.specs.Choice.{Selection}
 use Rattle.dlms_service.specs.declared.association.Association.{Association}
 use Rattle.dlms_service.specs.Session.{SessionValue, Outcome, says, without_get, has, blocks_with_get, selective_access}
 
@@ -35,21 +32,6 @@ seen a selector = if has a selective_access then option_map selection selector e
 -- what a GET asks for, or the first refusal that fits
 abbrev pub asked : Client → Association → Descriptor → Option apdu.Selection → Result Wanted AccessResult
 asked client a d selector = wanted client d (seen a selector)
-
--- what is wanted of a state has this value, or none: the octets that bound a range name no second
-abbrev pub IsShown : StateValue → Client → Descriptor → Result Wanted AccessResult → Result Value AccessResult → Type 0
-IsShown s client d (Err r) result = result ≡ Err r
-IsShown s client d (Ok w) result = MatchResult result (λ v. Shows (shown s client d w.part w.content) v) (λ r. (r ≡ OtherReason) × ¬ (HasSeconds w.part))
-
--- something would have been shown: the octets that bound a range name seconds, or there is the value
-abbrev pub WouldShow : StateValue → Client → Descriptor → Result Wanted AccessResult → Type 0
-WouldShow s client d (Err r) = ⊥
-WouldShow s client d (Ok w) = HasSeconds w.part ⊎ ((v : Value) × Shows (shown s client d w.part w.content) v)
-
--- what a call answered is what is shown; want of memory stands only where a value would have been
-abbrev pub Tells : {A : Type 0} → StateValue → Client → Descriptor → Result Wanted AccessResult → Result (Data A) AccessResult → Type 0
-Tells s client d w result =
-    MatchResult result (λ v. IsShown s client d w (Ok (value_of v))) (λ r. IsShown s client d w (Err r) ⊎ (WouldShow s client d w × (r ≡ TemporaryFailure)))
 
 -- a block in an answer, or the result that ends the transfer
 abbrev pub block_form : ℕ → ℕ → Result BlockValue ℕ → ResponseForm

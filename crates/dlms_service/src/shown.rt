@@ -8,10 +8,10 @@ ghost use Rattle.dlms_data.specs.View.{value_of};
 ghost use Rattle.dlms_state.specs.StateValue.{state_of, IsStateOf};
 ghost use Rattle.dlms_state.specs.declared.event.Event.{Event};
 ghost use Rattle.dlms_classes.specs.Access.{number_of};
-ghost use Rattle.dlms_classes.specs.Answer.{wanted};
+ghost use Rattle.dlms_classes.specs.Answer.{IsAnswer, wanted};
 ghost use Rattle.dlms_classes.specs.Choice as classes;
 ghost use Rattle.dlms_classes.specs.declared.access.AccessResult.TheVariants.{TemporaryFailure};
-ghost use Rattle.dlms_service.specs.Shown.{asked, Tells, no_selection};
+ghost use Rattle.dlms_service.specs.Shown.{asked, no_selection};
 
 use crate::association::Association;
 use crate::writing::{Answer, short};
@@ -42,7 +42,7 @@ pub fn shown<A: Allocator + Copy>(
     descriptor: Descriptor,
     selector: Option<&Selector<A>>,
 ) -> Result<Data<A>, AccessResult>
-    ensures { (E : List Event) → IsStateOf E state.now → Tells (state_of E) client descriptor (asked client association descriptor (option_map (λ s. selection_of s.now) selector.entry)) result }
+    ensures { (E : List Event) → IsStateOf E state.now → IsAnswer (state_of E) client descriptor (asked client association descriptor (option_map (λ s. selection_of s.now) selector.entry)) result }
 {
     if association.has(Conformance::SELECTIVE_ACCESS) || selector.is_none() {
         seen(alloc, state, client, descriptor, selector)
@@ -52,7 +52,6 @@ pub fn shown<A: Allocator + Copy>(
 }
 
 /// The value, with a selector that is seen.
-#[tactic(auto, using(crate::proofs::Showing::is_shown))]
 fn seen<A: Allocator + Copy>(
     alloc: A,
     state: &State<A>,
@@ -60,20 +59,19 @@ fn seen<A: Allocator + Copy>(
     descriptor: Descriptor,
     selector: Option<&Selector<A>>,
 ) -> Result<Data<A>, AccessResult>
-    ensures { (E : List Event) → IsStateOf E state.now → Tells (state_of E) client descriptor (wanted client descriptor (option_map (λ s. classes.selection_of s.now) selector.entry)) result }
+    ensures { (E : List Event) → IsStateOf E state.now → IsAnswer (state_of E) client descriptor (wanted client descriptor (option_map (λ s. classes.selection_of s.now) selector.entry)) result }
 {
     get(alloc, state, client, descriptor, selector)
 }
 
 /// The refusal of a selector that no attribute takes, or what comes before it.
-#[tactic(auto, using(crate::proofs::Showing::is_shown))]
 fn barred<A: Allocator + Copy>(
     alloc: A,
     state: &State<A>,
     client: Client,
     descriptor: Descriptor,
 ) -> Result<Data<A>, AccessResult>
-    ensures { (E : List Event) → IsStateOf E state.now → Tells (state_of E) client descriptor (wanted client descriptor (Some no_selection)) result }
+    ensures { (E : List Event) → IsStateOf E state.now → IsAnswer (state_of E) client descriptor (wanted client descriptor (Some no_selection)) result }
 {
     let unknown = Selector {
         number: 0,

@@ -7,7 +7,6 @@ use Rattle.dlms_apdu.specs.declared.fault.Refusal.{Refusal}
 use Rattle.dlms_apdu.specs.Writing.{response_bytes, IsShort}
 use Rattle.dlms_apdu.proofs.WholeLaws.{reads_written_requests, reads_written_responses}
 use Rattle.dlms_classes.specs.Access.{object_named, number_of}
-use Rattle.dlms_classes.specs.Answer.{wanted}
 use Rattle.dlms_classes.specs.Shown.{IsTable, cells, IsRange as ShownRange}
 use Rattle.dlms_classes.specs.declared.access.AccessResult.{AccessResult}
 use Rattle.dlms_classes.specs.declared.access.AccessResult.TheVariants.{TemporaryFailure, OtherReason}
@@ -20,7 +19,8 @@ use Rattle.dlms_headend.specs.Asking.{buffer, buffer_bytes, invoke, range, IsRan
 use Rattle.dlms_profile.specs.Rows.{in_range}
 use Rattle.dlms_service.specs.Serves.{Choice as Memory, FindsMemory, LacksMemoryToRead, LacksMemoryToAnswer, Requested, Permitted, Read, Within, Serves, permits}
 use Rattle.dlms_service.specs.Session.{SessionValue, Outcome, says, without_get, has, selective_access}
-use Rattle.dlms_service.specs.Shown.{IsShown, Gives, sent, no_selection, asked}
+use Rattle.dlms_classes.specs.Answer.{IsShown, wanted}
+use Rattle.dlms_service.specs.Shown.{Gives, sent, no_selection, asked}
 use Rattle.dlms_service.specs.declared.association.Association.{Association}
 use Rattle.dlms_state.specs.Events.{buffer_after}
 use Rattle.dlms_state.specs.StateValue.{state_of}

@@ -5,7 +5,7 @@ use Rattle.dlms_apdu.specs.Writing.{response_bytes}
 use Rattle.dlms_data.specs.View.{value_of}
 use Rattle.dlms_service.specs.Session.{SessionValue}
 use Rattle.dlms_service.specs.Shown.{Sends}
-use Rattle.dlms_service.proofs.Serving.{given}
+use Rattle.dlms_service.proofs.Serving.{given, refusing}
 use Rattle.dlms_service.proofs.session.Session.get_normal.Goals as goal
 
 -- the value that is given is the one that is shown
@@ -16,3 +16,9 @@ returns-in-Ok g c E is =
     ⊎ ((c.give.new.self ≡ s) × (c.give.result.items ≡ response_bytes (get_result c.args.invoke 2)))) c.end_get.ensures c.give.ensures in
     given E c.args.self.now c.args.association c.args.invoke c.args.descriptor (option_map (λ s. selection_of s.now) c.args.selector) (value_of c.in-Ok.value) c.give.new.self c.give.result.items
     (rw (sym client) (c.in-Ok.ensures E is)) sends
+
+pub returns-in-Err : goal.returns-in-Err
+returns-in-Err g c E is =
+    let client : c.self.inside.client ≡ c.args.self.now.client = ap (λ (s : SessionValue). s.client) (c.self.view_is ∙ c.end_get.ensures) in
+    refusing E c.args.self.now c.args.association c.args.invoke c.args.descriptor (option_map (λ s. selection_of s.now) c.args.selector) c.self.inside.client c.in-Err.refusal
+    c.end_get.new.self c.refused.result.items client c.end_get.ensures c.refused.ensures (c.in-Err.ensures E is)
