@@ -1,5 +1,5 @@
 -- Calls of a store, one after another.
-use Rattle.std.proofs.Common.{◌≡◌, inl, inr, ◌≤◌, ◌↔◌, ℕ, ◌+◌, Bool, true, false, List, [], ◌∷◌, ◌++◌, length, refl, sym, ◌∙◌, ap, subst, arith, Some, None, Result, Ok, Err, suc}
+use Rattle.std.proofs.Common.{◌≡◌, inl, inr, ◌≤◌, ◌↔◌, ℕ, ◌+◌, Bool, true, false, List, [], ◌∷◌, ◌++◌, length, refl, sym, ap, subst, arith, Some, None, Result, Ok, Err, suc}
 use Rattle.std.specs.Prelude.{OnOk, OnErr, ◌≢◌}
 use Rattle.std.proofs.lemmas.Bool.{cases_lt}
 use Rattle.dlms_pages.specs.Device.{Image, Rules, View}
@@ -8,7 +8,7 @@ use Rattle.dlms_pages.proofs.Moments.{then_also, weaker}
 use Rattle.dlms_state.specs.declared.event.Event.{Event}
 use Rattle.dlms_state.specs.declared.event.Refused.{Refused}
 use Rattle.dlms_journal.specs.Record.{record_of}
-use Rattle.dlms_store.specs.Store.{IsStopped, IsRunning, JoinsPending, AddIsExhausted, CommitIsExhausted, Joins, JoinsAlone, Settles as SettlesAll, Fails as FailsIn, view_of, records_in, refusal_in}
+use Rattle.dlms_store.specs.Store.{IsStopped, IsRunning, JoinsPending, AddIsExhausted, CommitIsExhausted, Joins, JoinsAlone, Settles as SettlesAll, Fails as FailsIn, records_in, refusal_in}
 use Rattle.dlms_store.specs.World.{World, Step, Next, Run}
 use Rattle.dlms_store.specs.World.World.{Runs, InDoubt, Rests}
 use Rattle.dlms_store.specs.World.Step.{Adds, AddsBehind, Settles, Fails, Refuses, Stops}

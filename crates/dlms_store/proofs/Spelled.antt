@@ -1,12 +1,12 @@
 -- Bodies that fit, as bytes: how long they are, that one more joins them, and that a state's bytes are those of this state.
-use Rattle.std.proofs.Common.{Bool, true, false, Some, None, ◌≡◌, ◌≢◌, ◌<◌, ◌≤◌, ◌+◌, ◌*◌, ⊎_elim, ℕ, zero, suc, min, List, [], ◌++◌, length, take, drop, refl, sym, ◌∙◌, ap, subst, arith, eqb, ltb, leb, ◌&&◌, if◌then◌else◌}
+use Rattle.std.proofs.Common.{Bool, true, false, Some, None, ◌≡◌, ◌≢◌, ◌<◌, ◌≤◌, ◌+◌, ◌*◌, ⊎_elim, ℕ, zero, suc, min, List, ◌++◌, length, take, drop, refl, sym, ◌∙◌, ap, subst, arith, eqb, ltb, leb, ◌&&◌, if◌then◌else◌}
 use Rattle.std.proofs.lemmas.List.{length-append, length-take, length-drop, take_all, take-append-le, drop-append-le}
 use Rattle.std.proofs.lemmas.Bool.{ltb-false, eqb-true, leb-true, cases_eq}
 use Rattle.std.proofs.Math.Seq.{take-append_seam, drop-append_seam}
 use Rattle.dlms_pages.specs.Device.{Image, page_at}
 use Rattle.dlms_journal.specs.declared.kind.PageKind.TheVariants.{Body}
 use Rattle.dlms_state.specs.StateValue.{StateValue}
-use Rattle.dlms_checkpoint.specs.Bodies.{awaited, body_at, body_count, first_fault, row_count, secret_count, text_count, whole_length}
+use Rattle.dlms_checkpoint.specs.Bodies.{awaited, body_at, first_fault, row_count, secret_count, text_count, whole_length}
 use Rattle.dlms_checkpoint.specs.Checkpoint.{IsCheckpointOf}
 use Rattle.dlms_checkpoint.specs.declared.reading.BodyFault.TheVariants.{Length, Counts}
 use Rattle.dlms_checkpoint.proofs.Bodies.{one_body_more, rows_of_front, some_bodies}

@@ -1,4 +1,4 @@
-use Rattle.std.proofs.Common.{◌∙◌, ◌+◌, ℕ, ap, subst, sym, arith, inl, inr, refl}
+use Rattle.std.proofs.Common.{◌∙◌, ◌+◌, ℕ, ap, subst, sym, arith, inr, refl}
 use Rattle.dlms_checkpoint.proofs.Bodies.{all_bodies}
 use Rattle.dlms_pages.specs.Device.{page_at}
 use Rattle.dlms_journal.specs.declared.kind.PageKind.TheVariants.{Body}
