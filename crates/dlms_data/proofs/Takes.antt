@@ -78,7 +78,7 @@ long_length b [] n low high len is = absurd (omega arith)
 long_length b (c ∷ more) n low high len is =
     (omega arith, omega arith, is ∙ ap (λ (k : ℕ). big_number k (c ∷ more)) (sym len))
 
-length_takes : (bytes : List ℕ) (x : ℕ × List ℕ) → length_at bytes ≡ Ok x → Takes bytes x.1 (λ text. IsLength text x.0)
+pub length_takes : (bytes : List ℕ) (x : ℕ × List ℕ) → length_at bytes ≡ Ok x → Takes bytes x.1 (λ text. IsLength text x.0)
 unfolding length_at
 length_takes [] x e = absurd cc
 length_takes (b ∷ rest) x e =
@@ -97,7 +97,7 @@ length_takes (b ∷ rest) x e =
     neither true q e = absurd cc
     neither false q e = (refl, e)
 
-length_again : (text : List ℕ) (n : ℕ) (rest : List ℕ) → IsLength text n → length_at (text ++ rest) ≡ Ok (n, rest)
+pub length_again : (text : List ℕ) (n : ℕ) (rest : List ℕ) → IsLength text n → length_at (text ++ rest) ≡ Ok (n, rest)
 unfolding length_at
 length_again [] n rest h = absurd h
 length_again (b ∷ []) n rest h =

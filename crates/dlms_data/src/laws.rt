@@ -2,6 +2,7 @@
 //! are the laws.
 
 ghost use Rattle.std.specs.Prelude.{◌≡◌, ◌≤◌, Some};
+ghost use Rattle.dlms_data.specs.Faults.{TellsFaults};
 ghost use Rattle.dlms_data.specs.Laws.{ReadsWhatIsSpelled, ReadsOneValue, ReadsWhatWasWritten};
 
 use crate::date_time::{LAST_SECOND, octets, secs};
@@ -19,6 +20,11 @@ pub fn reads_one_value()
 /// The canonical spelling of a value is read again, whatever follows it.
 pub fn reads_what_was_written()
     ensures { ReadsWhatWasWritten }
+{}
+
+/// Where each fault stands.
+pub fn tells_faults()
+    ensures { TellsFaults }
 {}
 
 /// Each second is read again as it was written.
