@@ -23,7 +23,7 @@ use Rattle.dlms_store.specs.Going.{Goes}
 use Rattle.dlms_store.proofs.Going.{none}
 use Rattle.dlms_meter.specs.ClientRecord.{ClientRecord}
 use Rattle.dlms_meter.specs.declared.meter.Meter.{Meter}
-use Rattle.dlms_meter.specs.Run.{World, Records, Turn, Choice, Served, DeviceFails, Handled, Handles, Answered, Takes, IsSettling, StoredFor, Stored, pending_in, Feeds, Stands, Handling, Replies, MayChoose, client_at, record_for, with_record, after_turn, grown, events_of}
+use Rattle.dlms_meter.specs.Run.{World, Records, Turn, Choice, Served, DeviceFails, Handled, Handles, Answered, Takes, IsSettling, StoredFor, Stored, pending_in, Feeds, Stands, Handling, Replies, MayChoose, client_at, other_of, record_for, with_record, after_turn, grown, events_of}
 use Rattle.dlms_meter.proofs.RunLemmas.{none_ended}
 
 -- ---- an answer of success leaves nothing pending
@@ -92,6 +92,14 @@ promised_by own f reply w old new own' h =
     (λ kept e. unsaid kept (events_of w) (server_on own.link f).0 own.session (server_on own.link f).1 made (subst (λ (c : Choice). Handles c (events_of w) own f made) e h.handles))
     h.stored h.goes.run
 
+-- each client's record, where one of them changed
+own_records : {P A : Type 0} {ghosts : Ghosts P} (who : Client) (w : World) (old new : Meter P A ghosts) → Stands old w → record_for new (other_of who) ≡ record_for old (other_of who)
+    → (c : Client) → with_record w.records who (record_for new who) c ≡ record_for new c
+own_records Public w old new stands other Public = refl
+own_records Public w old new stands other Management = stands.own Management ∙ sym other
+own_records Management w old new stands other Public = stands.own Public ∙ sym other
+own_records Management w old new stands other Management = refl
+
 led : {P A : Type 0} {ghosts : Ghosts P} (who : Option Client) (w : World) (f : Parts) (reply : Option (List ℕ)) (old new : Meter P A ghosts) → ((ghosts.view old.store.device).honest ≡ true → Rules (ghosts.view old.store.device))
     → Stands old w → Replies old f reply new who → Led w f reply old new who
 led None w f reply old new rules stands (same, silent) = record {
@@ -110,50 +118,25 @@ led None w f reply old new rules stands (same, silent) = record {
   goes = subst (λ m. Goes w.store [] w.store old.store m.store) (sym same) (none w.store old.store rules stands.store);
   short = tt;
 }
-led (Some Public) w f reply old new rules stands (handling, kept, other) =
+led (Some who) w f reply old new rules stands (handling, kept, other) =
     let h = handling w.store stands.store in
+    let own : ClientRecord = record_for new who in
     record {
       choice = h.choice;
-      records = with_record w.records Public new.anyone;
+      records = with_record w.records who own;
       answer = h.answer;
       accepted = h.accepted;
       steps = h.steps;
       now = h.now;
-      takes = λ from to. (new.anyone, subst (λ (r : ClientRecord). Handles h.choice (events_of w) r f (record { own = new.anyone; reply = reply; answer = h.answer; accepted = h.accepted })) (sym (stands.own Public)) h.handles, refl);
+      takes = λ from to. (own, subst (λ (r : ClientRecord). Handles h.choice (events_of w) r f (record { own = own; reply = reply; answer = h.answer; accepted = h.accepted })) (sym (stands.own who)) h.handles, refl);
       stored = h.stored;
-      promise = promised_by old.anyone f reply w old new new.anyone h;
+      promise = promised_by (record_for old who) f reply w old new own h;
       may = h.may;
-      own = by_client;
+      own = own_records who w old new stands other;
       kept = kept;
       goes = h.goes;
       short = h.short;
     }
-  where
-    by_client : (c : Client) → with_record w.records Public new.anyone c ≡ record_for new c
-    by_client Public = refl
-    by_client Management = stands.own Management ∙ sym other
-led (Some Management) w f reply old new rules stands (handling, kept, other) =
-    let h = handling w.store stands.store in
-    record {
-      choice = h.choice;
-      records = with_record w.records Management new.manager;
-      answer = h.answer;
-      accepted = h.accepted;
-      steps = h.steps;
-      now = h.now;
-      takes = λ from to. (new.manager, subst (λ (r : ClientRecord). Handles h.choice (events_of w) r f (record { own = new.manager; reply = reply; answer = h.answer; accepted = h.accepted })) (sym (stands.own Management)) h.handles, refl);
-      stored = h.stored;
-      promise = promised_by old.manager f reply w old new new.manager h;
-      may = h.may;
-      own = by_client;
-      kept = kept;
-      goes = h.goes;
-      short = h.short;
-    }
-  where
-    by_client : (c : Client) → with_record w.records Management new.manager c ≡ record_for new c
-    by_client Public = stands.own Public ∙ sym other
-    by_client Management = refl
 
 -- ---- calls
 

@@ -111,6 +111,11 @@ is_same Public Management = false
 is_same Management Public = false
 is_same Management Management = true
 
+-- the other client
+abbrev pub other_of : Client → Client
+other_of Public = Management
+other_of Management = Public
+
 -- the records with this client's changed
 abbrev pub with_record : Records → Client → ClientRecord → Records
 with_record records who own other = if is_same who other then own else records other
@@ -296,10 +301,9 @@ pub record Handling {P A : Type 0} {ghosts : Ghosts P} (own : ClientRecord) (fra
 -- what a frame of a client, or of nobody, makes of a meter and what it is replied
 abbrev pub Replies : {P A : Type 0} → {ghosts : Ghosts P} → Meter P A ghosts → Parts → Option (List ℕ) → Meter P A ghosts → Option Client → Type 0
 Replies old frame reply new None = (new ≡ old) × (reply ≡ None)
-Replies old frame reply new (Some Public) =
-    ((before : StoreWorld) → Knows old.store before → Handling old.anyone frame reply new.anyone before old.store new.store) × (new.deframer ≡ old.deframer) × (new.manager ≡ old.manager)
-Replies old frame reply new (Some Management) =
-    ((before : StoreWorld) → Knows old.store before → Handling old.manager frame reply new.manager before old.store new.store) × (new.deframer ≡ old.deframer) × (new.anyone ≡ old.anyone)
+Replies old frame reply new (Some who) =
+    ((before : StoreWorld) → Knows old.store before → Handling (record_for old who) frame reply (record_for new who) before old.store new.store)
+    × (new.deframer ≡ old.deframer) × (record_for new (other_of who) ≡ record_for old (other_of who))
 
 -- with these bytes the next frame of the stretch ends
 abbrev pub EndsFrame : World → List ℕ → Type 0

@@ -9,7 +9,7 @@ use Rattle.dlms_link.specs.World.{World as Link, happens, ReachesMeter, reaches_
 use Rattle.dlms_link.specs.declared.out.LinkOut.{LinkOut}
 use Rattle.dlms_link.specs.declared.out.LinkOut.TheVariants.{Nothing, Reply, Apdu, Oversize, BadLlc, Up, Down}
 use Rattle.dlms_meter.specs.ClientRecord.{ClientRecord}
-use Rattle.dlms_meter.specs.Run.{World as MeterWorld, Turn as MeterTurn, Records, Choice, Served, DeviceFails, Does, ByLink, Handled, Handles, Answered, sends, replies, Takes as MeterTakes, IsTurn, IsTaking, IsSettling, IsUnsettling, StoredFor, Stored, Promised, pending_in, events_in, events_of, after_turn, grown, with_record, is_same, client_at, Stands, Feeds, Fed, Judges, Judged, with_store, IsRunningIn, IsStoppedIn}
+use Rattle.dlms_meter.specs.Run.{World as MeterWorld, Turn as MeterTurn, Records, Choice, Served, DeviceFails, Does, ByLink, Handled, Handles, Answered, sends, replies, Takes as MeterTakes, IsTurn, IsTaking, IsSettling, IsUnsettling, StoredFor, Stored, Promised, pending_in, events_in, events_of, after_turn, grown, with_record, is_same, client_at, Stands, Feeds, Fed, Judges, Judged, with_store, IsRunningIn, IsStoppedIn, other_of}
 use Rattle.dlms_meter.specs.declared.meter.Meter.{Meter}
 use Rattle.dlms_meter.proofs.Events.{turn_events, added_one}
 use Rattle.dlms_pages.specs.declared.device.Pages.{Ghosts}
@@ -23,7 +23,7 @@ use Rattle.dlms_store.specs.World.World.{Runs, InDoubt, Rests}
 use Rattle.dlms_store.specs.World.Step.{Settles, Fails as Fault, Refuses}
 use Rattle.dlms_store.specs.declared.fault.AddFault.{AddFault}
 use Rattle.dlms_store.specs.declared.fault.AddFault.TheVariants as add
-use Rattle.dlms_world.specs.World.{World, IsOn, IsUsual, AreUsual, Remembers, other_of}
+use Rattle.dlms_world.specs.World.{World, IsOn, IsUsual, AreUsual, Remembers}
 use Rattle.dlms_world.specs.Turn.{Arrives, OtherSends, Happens, Works, Answers, Takes, silent}
 use Rattle.dlms_world.specs.Ties.{IsMeterOf, StepsTo, StepsFrom, StepsAt, FeedsAreTurns, EventsAreTurns}
 use Rattle.dlms_world.proofs.Clients.{by_link}

@@ -20,7 +20,7 @@ use Rattle.dlms_link.specs.declared.out.LinkOut.{LinkOut}
 use Rattle.dlms_link.specs.declared.out.LinkOut.TheVariants.{Nothing, Reply, Apdu, Oversize, BadLlc, Up, Down}
 use Rattle.dlms_link.specs.declared.out.Phase.TheVariants.{Closed}
 use Rattle.dlms_meter.specs.ClientRecord.{ClientRecord, fresh_record}
-use Rattle.dlms_meter.specs.Run.{Choice, Does, ByLink, Handled, Handles, client_at, replies, sends}
+use Rattle.dlms_meter.specs.Run.{Choice, Does, ByLink, Handled, Handles, client_at, replies, sends, other_of}
 use Rattle.dlms_meter.specs.Transfers.{Served}
 use Rattle.dlms_service.specs.Stake.{is_success}
 use Rattle.dlms_service.specs.Session.{SessionValue, Outcome, fresh, not_possible, unknown_service}
@@ -28,7 +28,7 @@ use Rattle.dlms_state.specs.Refusal.{MayFollow}
 use Rattle.dlms_state.specs.declared.event.Event.{Event}
 use Rattle.dlms_store.specs.World.{World as Store, Step as StoreStep, Next}
 use Rattle.dlms_store.specs.World.Step.{Stops}
-use Rattle.dlms_world.specs.World.{World, IsOn, IsUsual, Remembers, other_of}
+use Rattle.dlms_world.specs.World.{World, IsOn, IsUsual, Remembers}
 use Rattle.dlms_meter.specs.Run.{events_in, pending_in}
 
 -- ---- the meter takes a frame of the poller's client

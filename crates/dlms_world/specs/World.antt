@@ -4,15 +4,13 @@ use Rattle.dlms_apdu.specs.Forms.{ResponseForm, get_data, get_block}
 use Rattle.dlms_apdu.specs.Reading.{response_at}
 use Rattle.dlms_apdu.specs.declared.fault.Refusal.{Refusal}
 use Rattle.dlms_data.specs.DateTime.{last_second}
-use Rattle.dlms_frame.specs.declared.client.Client.{Client}
-use Rattle.dlms_frame.specs.declared.client.Client.TheVariants.{Public, Management}
 use Rattle.dlms_headend.specs.Asking.{PlanValue, first_second}
 use Rattle.dlms_headend.specs.declared.row.Row.{Row}
 use Rattle.dlms_headend.specs.declared.stage.Course.{Course}
 use Rattle.dlms_headend.specs.declared.stage.Course.TheVariants.{Ready}
 use Rattle.dlms_link.specs.World.{World as Link, start as first_link}
 use Rattle.dlms_meter.specs.ClientRecord.{ClientRecord, fresh_record}
-use Rattle.dlms_meter.specs.Run.{events_in}
+use Rattle.dlms_meter.specs.Run.{events_in, other_of}
 use Rattle.dlms_meter.specs.Transfers.{Served}
 use Rattle.dlms_profile.specs.Rows.{in_range}
 use Rattle.dlms_profile.specs.declared.rows.Row.{Row as Captured}
@@ -92,12 +90,6 @@ GivesDataBy _ = ⊥
 -- an answer of data, whole or a block
 abbrev pub GivesData : List ℕ → Type 0
 GivesData apdu = GivesDataBy (response_at apdu)
-
--- ---- clients
-
-abbrev pub other_of : Client → Client
-other_of Public = Management
-other_of Management = Public
 
 -- ---- rows
 

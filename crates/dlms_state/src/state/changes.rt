@@ -3,7 +3,7 @@ ghost use Rattle.std.specs.Prelude.{◌≡◌, ◌<◌, ◌≤◌, None};
 ghost use Rattle.arrayvec.specs.ArrayVec.{array_vec_len};
 ghost use Rattle.dlms_state.specs.Refusal.{refusal};
 
-use crate::event;
+use crate::clock::passes;
 use crate::state::State;
 use arrayvec::ArrayVec;
 use dlms_profile::Row;
@@ -25,10 +25,9 @@ impl<A: Allocator + Copy> State<A> {
         requires { refusal self.old.last self.old.offset (Event.Moment moment) ≡ None }
         ensures { self.new ≡ step (Event.Moment moment) self.old }
     {
-        let before = self.clock();
-        self.last = moment;
-        let after = self.clock();
-        if self.period > 0 && before / self.period < after / self.period {
+        let before = self.clock.second();
+        self.clock = self.clock.at(moment);
+        if passes(self.period, before, self.clock.second()) {
             self.capture();
         }
     }
@@ -37,22 +36,21 @@ impl<A: Allocator + Copy> State<A> {
         requires { refusal self.old.last self.old.offset (Event.SetTime seconds) ≡ None }
         ensures { self.new ≡ step (Event.SetTime seconds) self.old }
     {
-        self.offset = i64::from(seconds) - i64::from(self.last);
+        self.clock = self.clock.set_to(seconds);
     }
 
     pub(super) fn shift(&mut self, by: i16)
         requires { refusal self.old.last self.old.offset (Event.Shift by) ≡ None }
         ensures { self.new ≡ step (Event.Shift by) self.old }
     {
-        self.offset += i64::from(by);
+        self.clock = self.clock.shifted(by);
     }
 
     pub(super) fn adjust_minute(&mut self)
         requires { refusal self.old.last self.old.offset Event.AdjustMinute ≡ None }
         ensures { self.new ≡ step Event.AdjustMinute self.old }
     {
-        let minute = event::nearest_minute(self.clock());
-        self.offset = i64::from(minute) - i64::from(self.last);
+        self.clock = self.clock.adjusted();
     }
 
     pub(super) fn set_period(&mut self, period: u32)
@@ -92,7 +90,7 @@ impl<A: Allocator + Copy> State<A> {
     pub(super) fn capture(&mut self)
         ensures { self.new ≡ step Event.Capture self.old }
     {
-        let clock = self.clock();
+        let clock = self.clock.second();
         let registers = self.registers;
         self.rows.push(Row { clock, registers });
     }

@@ -2,7 +2,6 @@
 ghost use Rattle.std.specs.Prelude.{◌≡◌, ◌<◌, ◌≤◌, List, All, length};
 ghost use Rattle.dlms_state.specs.Events.{clock_at, registers_after, clock_after, moment_after, offset_after, period_after, text_after, secret_after, buffer_after};
 
-use crate::event;
 use crate::state::State;
 use dlms_profile::Rows;
 use std::alloc::Allocator;
@@ -25,7 +24,7 @@ impl<A: Allocator + Copy> State<A> {
         ensures after { (E : List Event) → IsStateOf E self.now → result ≡ clock_after E }
         ensures in_range { result ≤ 3155759999 }
     {
-        event::clock_of(self.last, self.offset)
+        self.clock.second()
     }
 
     /// The last moment, 0 before any.
@@ -33,7 +32,7 @@ impl<A: Allocator + Copy> State<A> {
         ensures value { result ≡ self.now.last }
         ensures after { (E : List Event) → IsStateOf E self.now → result ≡ moment_after E }
     {
-        self.last
+        self.clock.last
     }
 
     /// What is added to the last moment to make the clock.
@@ -41,7 +40,7 @@ impl<A: Allocator + Copy> State<A> {
         ensures value { result ≡ self.now.offset }
         ensures after { (E : List Event) → IsStateOf E self.now → result ≡ offset_after E }
     {
-        self.offset
+        self.clock.offset
     }
 
     /// The capture period in seconds; 0 is none.
