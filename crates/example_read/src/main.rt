@@ -29,7 +29,13 @@ fn question(alloc: Global) -> Result<Frame> {
     if !fits {
         return Err(anyhow!("the request is too long"));
     }
-    Ok(Frame::new(false, Address::One(1), Address::One(16), 0x32, info.as_slice()))
+    Ok(Frame::new(
+        false,
+        Address::One(1),
+        Address::One(16),
+        0x32,
+        info.as_slice(),
+    ))
 }
 
 /// The number in a frame that answers it, behind the three bytes of the LLC.
@@ -38,7 +44,12 @@ fn answer(alloc: Global, bytes: &[u8]) -> Option<u32> {
     let frame = frame?;
     let apdu = frame.info.as_slice().get(3..)?;
     match read_response(alloc, apdu) {
-        Ok(Response::GetData { value: Data::DoubleLongUnsigned(number), .. }) => Some(number),
+        Ok(
+            Response::GetData {
+                value: Data::DoubleLongUnsigned(number),
+                ..
+            },
+        ) => Some(number),
         _ => None,
     }
 }
@@ -46,7 +57,8 @@ fn answer(alloc: Global, bytes: &[u8]) -> Option<u32> {
 fn main(rt: HostRuntime) -> Result<()> {
     let asked = question(rt.alloc())?;
     println!(rt; "{} bytes are sent", asked.put().len())?;
-    let line = b"\x7e\xa0\x15\x21\x03\x52\x5d\x8a\xe6\xe7\x00\xc4\x01\xc1\x00\x06\x00\x00\x00\x2a\x25\x96\x7e";
+    let line =
+        b"\x7e\xa0\x15\x21\x03\x52\x5d\x8a\xe6\xe7\x00\xc4\x01\xc1\x00\x06\x00\x00\x00\x2a\x25\x96\x7e";
     match answer(rt.alloc(), line.as_slice()) {
         Some(count) => println!(rt; "{count} Wh")?,
         None => println!(rt; "no answer")?,
