@@ -13,10 +13,11 @@ use Rattle.dlms_checkpoint.specs.Bodies.{body_at, body_count, secret_count, text
 use Rattle.dlms_checkpoint.proofs.Rows.{length-rows}
 use Rattle.dlms_checkpoint.proofs.Heads.{HeadIs, head_again, length-head}
 use Rattle.dlms_checkpoint.proofs.Whole.{known}
+use Rattle.dlms_profile.specs.declared.rows.TheConstants.{CAPACITY}
 
 pub record Lengths (s : StateValue) (bytes : List ℕ) : Type 0 where
   pub length_is : length bytes ≡ 288 + 16 * length s.rows.items
-  pub few : length s.rows.items ≤ 960
+  pub few : length s.rows.items ≤ CAPACITY
   pub head : HeadIs s (length s.rows.items) bytes
 
 pub lengths : (s : StateValue) (bytes : List ℕ) → IsCheckpointOf s bytes → Lengths s bytes
@@ -33,12 +34,12 @@ lengths s bytes is =
       head = subst (HeadIs s n) (sym is.spelled) (head_again s n r is.within is.fits few);
     }
 
-first_none : (bytes : List ℕ) → 288 ≤ length bytes → secret_count bytes ≤ 16 → text_count bytes ≤ 240 → row_count bytes ≤ 960 → length bytes ≡ min 496 (whole_length bytes) → first_fault bytes ≡ None
+first_none : (bytes : List ℕ) → 288 ≤ length bytes → secret_count bytes ≤ 16 → text_count bytes ≤ 240 → row_count bytes ≤ CAPACITY → length bytes ≡ min 496 (whole_length bytes) → first_fault bytes ≡ None
 first_none bytes long secret text rows same =
     let a = le-ltb (length bytes) 288 long in
     let b = le-leb (secret_count bytes) 16 secret in
     let d = le-leb (text_count bytes) 240 text in
-    let e = le-leb (row_count bytes) 960 rows in
+    let e = le-leb (row_count bytes) CAPACITY rows in
     let f : eqb (length bytes) (min 496 (whole_length bytes)) ≡ true = grind (arith, nat_tests) in
     rw (a, b, d, e, f) refl
 

@@ -12,6 +12,7 @@ use Rattle.dlms_checkpoint.specs.Bodies.{secret_count, text_count, row_count}
 use Rattle.dlms_checkpoint.specs.Reading.{registers_at, parts_at}
 use Rattle.dlms_checkpoint.proofs.Lists.{from_behind, drop_behind, number_here}
 use Rattle.dlms_checkpoint.proofs.Rows.{length-registers, registers_again, registers_drop}
+use Rattle.dlms_state.specs.declared.event.TheConstants.{LAST_SECOND}
 
 -- ---- a field
 
@@ -88,7 +89,7 @@ parts_are : (r l p t x : List ℕ) (a b : ℕ) (o q : ℤ) (r' t' x' : List ℕ)
     → (let made : StateValue = record { registers = r; last = a; offset = o; period = b; text = t; secret = x; rows = no_rows } in made) ≡ record { registers = r'; last = a'; offset = q; period = b'; text = t'; secret = x'; rows = no_rows }
 parts_are r l p t x a b o q r' t' x' a' b' e f g h i j = cc
 
-fits_64 : (last : ℕ) (z : ℤ) → last < 2 ^ 32 → pos 0 ≤ℤ (pos last +ℤ z) → (pos last +ℤ z) ≤ℤ pos 3155759999 → FitsSigned w64 z
+fits_64 : (last : ℕ) (z : ℤ) → last < 2 ^ 32 → pos 0 ≤ℤ (pos last +ℤ z) → (pos last +ℤ z) ≤ℤ pos LAST_SECOND → FitsSigned w64 z
 fits_64 last (pos n) small low high = record { sfits = omega (arith, ints) }
 fits_64 last (negsuc n) small low high = record { sfits = omega (arith, ints) }
 

@@ -12,6 +12,8 @@ use Rattle.dlms_checkpoint.specs.Bodies.{row_count}
 use Rattle.dlms_checkpoint.specs.Reading.{parts_at, rows_at}
 use Rattle.dlms_checkpoint.proofs.Rows.{AreOctets, rows_again, rows_back, length-rows_at}
 use Rattle.dlms_checkpoint.proofs.Heads.{head_again, length-head}
+use Rattle.dlms_state.specs.declared.event.TheConstants.{LAST_SECOND}
+use Rattle.dlms_profile.specs.declared.rows.TheConstants.{CAPACITY}
 
 -- the rows of a state do not stand in its head
 pub head_alone : (s : StateValue) (rows : ℕ) → head_bytes (record s { rows = no_rows }) rows ≡ head_bytes s rows
@@ -55,7 +57,7 @@ pub count_of_head : (bytes head : List ℕ) → head ≡ take 288 bytes → row_
 count_of_head bytes head is = ap row_count is ∙ big_from-take 286 2 288 bytes (omega arith)
 
 -- a state with these rows
-pub with_rows : (parts : StateValue) (rows : List Row) → IsWithinLimits parts → FitsTypes parts → All (λ row. row.clock ≤ 3155759999) rows → All IsRow rows → length rows ≤ 960
+pub with_rows : (parts : StateValue) (rows : List Row) → IsWithinLimits parts → FitsTypes parts → All (λ row. row.clock ≤ LAST_SECOND) rows → All IsRow rows → length rows ≤ CAPACITY
     → IsWithinLimits (record parts { rows = record { items = rows } }) × FitsTypes (record parts { rows = record { items = rows } })
 with_rows parts rows within fits clocks are few = (
   record { not_before = within.not_before; not_after = within.not_after; period = within.period; secret = within.secret; rows = clocks },

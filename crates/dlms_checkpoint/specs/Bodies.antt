@@ -3,6 +3,7 @@ use Rattle.std.specs.Prelude.{ℕ, ◌+◌, ◌-◌, ◌*◌, ◌/◌, min, nat_
 use Rattle.byteorder.specs.Endian.{big_from}
 use Rattle.dlms_checkpoint.specs.declared.reading.BodyFault.{BodyFault}
 use Rattle.dlms_checkpoint.specs.declared.reading.BodyFault.TheVariants.{Length, Counts}
+use Rattle.dlms_profile.specs.declared.rows.TheConstants.{CAPACITY}
 
 -- the body at this place, counted from 0
 abbrev pub body_at : ℕ → List ℕ → List ℕ
@@ -22,9 +23,9 @@ text_count bytes = slice_index bytes 45
 abbrev pub row_count : List ℕ → ℕ
 row_count bytes = big_from 286 2 bytes
 
--- a secret of at most 16 bytes, a text of at most 240, at most 960 rows
+-- a secret of at most 16 bytes, a text of at most 240, at most CAPACITY rows
 abbrev pub counts_fit : List ℕ → Bool
-counts_fit bytes = nat_le (secret_count bytes) 16 && (nat_le (text_count bytes) 240 && nat_le (row_count bytes) 960)
+counts_fit bytes = nat_le (secret_count bytes) 16 && (nat_le (text_count bytes) 240 && nat_le (row_count bytes) CAPACITY)
 
 -- how many bytes there are in all, as the first body says
 abbrev pub whole_length : List ℕ → ℕ

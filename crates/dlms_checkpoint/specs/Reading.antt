@@ -6,6 +6,7 @@ use Rattle.dlms_profile.specs.declared.rows.Row.{Row}
 use Rattle.dlms_profile.specs.Rows.{no_rows}
 use Rattle.dlms_state.specs.StateValue.{StateValue}
 use Rattle.dlms_checkpoint.specs.Bodies.{secret_count, text_count, row_count, whole_length}
+use Rattle.dlms_profile.specs.declared.rows.TheConstants.{CAPACITY}
 
 -- three registers from this place on
 unfoldable pub registers_at : ℕ → List ℕ → List ℕ
@@ -37,5 +38,5 @@ pub record HasHead (bytes : List ℕ) : Type 0 where
   pub long : 288 ≤ length bytes
   pub secret : secret_count bytes ≤ 16
   pub text : text_count bytes ≤ 240
-  pub rows : row_count bytes ≤ 960
+  pub rows : row_count bytes ≤ CAPACITY
   pub within : length bytes ≤ whole_length bytes

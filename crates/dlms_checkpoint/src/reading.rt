@@ -12,8 +12,8 @@ use crate::fields::{HEAD_BYTES, ROW_BYTES, append, head_of};
 use crate::writing::{MOST_BODY, MOST_BYTES};
 use arrayvec::ArrayVec;
 use byteorder::{BigEndian, ByteOrder};
-use dlms_profile::Row;
-use dlms_state::{CLOCK_END, Parts, PartsFault, State};
+use dlms_profile::{CAPACITY, Row};
+use dlms_state::{LAST_SECOND, Parts, PartsFault, State};
 use std::alloc::Allocator;
 use std::marker::Model;
 
@@ -64,7 +64,7 @@ fn have_room(bytes: &[u8]) -> bool
     requires { 288 ≤ length bytes.now }
     ensures { result ≡ counts_fit bytes.now }
 {
-    bytes[28] <= 16 && bytes[45] <= 240 && rows_of(bytes) <= 960
+    bytes[28] <= 16 && bytes[45] <= 240 && usize::from(rows_of(bytes)) <= CAPACITY
 }
 
 impl Restoring {
@@ -256,10 +256,10 @@ fn row_of(rows: &[u8], index: usize) -> Row
 fn are_rows(rows: &[u8], count: u16) -> bool
     requires { length rows.now ≡ 16 * count }
     ensures fit { IsTrue result → All IsRow (rows_at count rows.now) }
-    ensures when { IsTrue result ↔ All (λ row. row.clock ≤ 3155759999) (rows_at count rows.now) }
+    ensures when { IsTrue result ↔ All (λ row. row.clock ≤ LAST_SECOND) (rows_at count rows.now) }
 {
     for index in 0..usize::from(count) {
-        if row_of(rows, index).clock > CLOCK_END {
+        if row_of(rows, index).clock > LAST_SECOND {
             return false;
         }
     }
@@ -269,9 +269,9 @@ fn are_rows(rows: &[u8], count: u16) -> bool
 /// The state with so many rows.
 fn with_rows<A: Allocator + Copy>(state: State<A>, rows: &[u8], count: u16) -> State<A>
     requires length { length rows.now ≡ 16 * count }
-    requires room { count ≤ 960 }
+    requires room { count ≤ CAPACITY }
     requires none { state.rows ≡ no_rows }
-    requires clocks { All (λ row. row.clock ≤ 3155759999) (rows_at count rows.now) }
+    requires clocks { All (λ row. row.clock ≤ LAST_SECOND) (rows_at count rows.now) }
     ensures value { result ≡ record state { rows = record { items = rows_at count rows.now } } }
     ensures events { HasEvents result }
 {

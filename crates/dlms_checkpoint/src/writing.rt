@@ -15,7 +15,7 @@ use std::marker::Model;
 /// The most bytes of a body: those of a page's payload.
 pub const MOST_BODY: usize = 496;
 
-/// The most bytes of a checkpoint: its head and 960 rows.
+/// The most bytes of a checkpoint: its head and `CAPACITY` rows of 16 bytes.
 pub(crate) const MOST_BYTES: usize = 15648;
 
 /// The bytes of a state, which are read body by body. It stands in a fixed buffer of 15,648 bytes and takes no memory.
@@ -84,7 +84,7 @@ fn append_rows<A: Allocator + Copy>(bytes: &mut ArrayVec<u8, MOST_BYTES>, rows: 
     requires { array_vec_len bytes.old ≤ 288 }
     ensures { bytes.new.items ≡ bytes.old.items ++ rows_bytes rows.now.items }
 {
-    let _at_most_960 = rows.len();
+    let _at_most_the_capacity = rows.len();
     let (front, back) = rows.as_slices();
     append_slice(bytes, front);
     append_slice(bytes, back);

@@ -2,12 +2,13 @@
 -- 4.3.2, Profile generic 4.3.6, Association LN 4.4.4, Clock 4.5.1). The constants are the meter's own.
 use Rattle.std.specs.Prelude.{◌≡◌, ℕ, ◌-◌, ◌==◌, ◌<◌, ◌≤◌, ◌^◌, All, ◌||◌, nat_lt, if◌then◌else◌, List, [], ◌∷◌, map, length, slice_index, slice_range, codes, replicate, pos, ⊤, Bool, true, false}
 use Rattle.dlms_data.specs.Value.{Value, Values, null, array, structure, boolean, double_long_unsigned, octet_string, integer, long, unsigned, long_unsigned, enumerated, none, cons}
-use Rattle.dlms_data.specs.DateTime.{NamesSecond, IsPlainlyWritten, last_second}
+use Rattle.dlms_data.specs.DateTime.{NamesSecond, IsPlainlyWritten}
 use Rattle.dlms_data.specs.declared.descriptor.Descriptor.{Descriptor}
 use Rattle.dlms_frame.specs.Client.{sap_of}
 use Rattle.dlms_frame.specs.declared.client.Client.{Client}
 use Rattle.dlms_profile.specs.declared.rows.Row.{Row}
 use Rattle.dlms_profile.specs.Rows.{in_range, entries}
+use Rattle.dlms_profile.specs.declared.rows.TheConstants.{CAPACITY}
 use Rattle.dlms_state.specs.Events.{clock_at}
 use Rattle.dlms_state.specs.StateValue.{StateValue}
 use Rattle.dlms_classes.specs.declared.rows.Cell.{Cell}
@@ -16,6 +17,7 @@ use Rattle.dlms_classes.specs.declared.table.Content.{Content}
 use Rattle.dlms_classes.specs.declared.table.Content.TheVariants.{LogicalName, DeviceName, SerialNumber, Text, Register, ScalerUnit, Time, TimeZone, ClockStatus, DaylightTime, DaylightDeviation, DaylightEnabled, ClockBase, ObjectList, AssociatedPartners, Withheld, Secret, AssociationStatus, Buffer, CaptureObjects, CapturePeriod, SortMethod, SortObject, EntriesInUse, ProfileEntries}
 use Rattle.dlms_classes.specs.Table.{Entry, columns, captured_attribute}
 use Rattle.dlms_classes.specs.Listing.{object_list, map_values}
+use Rattle.dlms_data.specs.declared.date_time.TheConstants.{LAST_SECOND}
 
 -- ---- what is shown
 
@@ -91,7 +93,7 @@ shown s client d p CapturePeriod = as_value (double_long_unsigned s.period)
 shown s client d p SortMethod = as_value (enumerated 1)
 shown s client d p SortObject = as_value no_column
 shown s client d p EntriesInUse = as_value (double_long_unsigned (length s.rows.items))
-shown s client d p ProfileEntries = as_value (double_long_unsigned 960)
+shown s client d p ProfileEntries = as_value (double_long_unsigned CAPACITY)
 -- these two nobody may read
 shown s client d p Withheld = as_value null
 shown s client d p Secret = as_value null
@@ -125,7 +127,7 @@ pub record IsTime (moment : ℕ) (v : Value) : Type 0 where
 
 -- the second is one of the clock's
 abbrev pub HasTime : Cell → Type 0
-HasTime (Second s) = s ≤ last_second
+HasTime (Second s) = s ≤ LAST_SECOND
 HasTime (Number n) = ⊤
 
 abbrev pub IsCell : Cell → Value → Type 0

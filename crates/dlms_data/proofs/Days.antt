@@ -8,7 +8,8 @@ use Rattle.jiff_core.proofs.CalendarLemmas.{day_count-last_of_year, day_count-lt
 use Rattle.jiff_core.proofs.MarchLemmas.{day_count-early}
 use Rattle.jiff_core.proofs.DateLemmas.{civil}
 use Rattle.jiff_core.proofs.SignedLemmas.{signed_arith}
-use Rattle.dlms_data.specs.DateTime.{NamesSecond, last_second}
+use Rattle.dlms_data.specs.DateTime.{NamesSecond}
+use Rattle.dlms_data.specs.declared.date_time.TheConstants.{LAST_SECOND}
 
 pub day_count-2000 : day_count (pos 2000) 1 1 ≡ 4_382_910
 day_count-2000 = day_count-early (pos 2000) 11999 1 1 refl (omega arith) (omega arith) (omega arith)
@@ -37,7 +38,7 @@ year_to y m d h day =
     (λ le. le)
 
 -- the octets of a date and a time name the second that they were made of
-pub names_second : (d : Date) (year : List ℕ) (weekday secs : ℕ) → secs ≤ last_second → epoch_day d ≡ pos (10957 + secs / 86400)
+pub names_second : (d : Date) (year : List ℕ) (weekday secs : ℕ) → secs ≤ LAST_SECOND → epoch_day d ≡ pos (10957 + secs / 86400)
     → pos (256 * slice_index year 0 + slice_index year 1) ≡ d.year
     → NamesSecond (slice_index year 0 ∷ slice_index year 1 ∷ d.month ∷ d.day ∷ weekday ∷ secs % 86400 / 3600 ∷ secs % 86400 / 60 % 60 ∷ secs % 86400 % 60 ∷ 0 ∷ 0 ∷ 0 ∷ 0 ∷ []) secs
 names_second d year weekday secs h day is_year =

@@ -2,10 +2,7 @@
 -- clause 4.1.6; the days are those of the Gregorian calendar).
 use Rattle.std.specs.Prelude.{◌≡◌, ◌⊎◌, ◌<◌, ◌≤◌, ◌+◌, ◌*◌, ℕ, List, length, slice_index, pos, ◌+ℤ◌, ◌-ℤ◌, ◌*ℤ◌, ℤ}
 use Rattle.jiff_core.specs.Calendar.{IsCivilDate, days_from_civil, weekday_number}
-
--- the last second of the clock, the end of 2099
-abbrev pub last_second : ℕ
-last_second = 3155759999
+use Rattle.dlms_data.specs.declared.date_time.TheConstants.{LAST_SECOND}
 
 abbrev pub year_of : List ℕ → ℕ
 year_of octets = 256 * slice_index octets 0 + slice_index octets 1
@@ -49,7 +46,7 @@ pub record NamesSecond (octets : List ℕ) (second : ℕ) : Type 0 where
   pub date : HasDate octets
   pub time : HasTime octets
   pub deviation : IsDeviation (slice_index octets 9) (slice_index octets 10)
-  pub range : second ≤ last_second
+  pub range : second ≤ LAST_SECOND
   pub value : pos second ≡ second_at (day_number octets) (time_of_day octets)
 
 -- what is written beside the date and the time: the day of the week, from 1 for Monday, and zeros

@@ -2,7 +2,6 @@
 use Rattle.std.proofs.Common.{arith, refl, sym, ap, ◌∙◌, ◌≡◌, ◌<◌, ◌≤◌, ◌+◌, ◌^◌, ℕ, List, [], ◌∷◌, ◌++◌, length, append_assoc, All, length-append, slice_index, take, get_or, Result, Ok, Err, MatchResult}
 use Rattle.std.proofs.lemmas.List.Elements.{All-push, All-head, All-tail}
 use Rattle.dlms_headend.specs.declared.row.Row.{Row}
-use Rattle.dlms_data.specs.DateTime.{last_second}
 use Rattle.dlms_headend.proofs.Fields.{same_field, field_is_longer}
 use Rattle.dlms_headend.specs.Rows.{IsReading}
 use Rattle.dlms_headend.specs.Lines.{field, line, lines, text_of, IsFile, BeginsWith, IsFirstFault, Refuses}
@@ -10,6 +9,7 @@ use Rattle.dlms_headend.specs.declared.readings_fault.ReadingsFault.{ReadingsFau
 use Rattle.dlms_headend.specs.declared.readings_fault.ReadingsFault.TheVariants.{Line, Memory}
 use Rattle.std.specs.Fmt.{decimal}
 use Rattle.std.proofs.lemmas.List.{take_more}
+use Rattle.dlms_data.specs.declared.date_time.TheConstants.{LAST_SECOND}
 
 -- so many lines were read, and the rest follows
 pub record HasRead (text : List ℕ) (count : ℕ) (rest : List ℕ) : Type 0 where
@@ -68,7 +68,7 @@ no_third bytes a b c rest n m k row n_fits m_fits k_fits e f g none h =
     let second = second_parts b c rest k row k_fits h.reading first.1 g in
     none (slice_index row.registers 2) rest (register row h.reading 2 (omega arith)) second.1
 
-pub late_clock : (bytes behind rest : List ℕ) (n : ℕ) (row : Row) → n < 2 ^ 32 → bytes ≡ field n 44 behind → last_second < n → BeginsWith bytes row rest → ⊥
+pub late_clock : (bytes behind rest : List ℕ) (n : ℕ) (row : Row) → n < 2 ^ 32 → bytes ≡ field n 44 behind → LAST_SECOND < n → BeginsWith bytes row rest → ⊥
 late_clock bytes behind rest n row fits e late h = let clock = clock_parts bytes behind rest n row fits e h in omega (arith, clock.0, h.reading.clock)
 
 -- ---- lines read

@@ -1,9 +1,9 @@
 -- How long the requests are.
 use Rattle.std.proofs.Common.{arith, ◌≡◌, ◌≤◌, ℕ, List, length, length-append, Option, unwrap_or, subst, sym}
-use Rattle.dlms_data.specs.DateTime.{last_second}
 use Rattle.dlms_data.specs.Value.{Value, octet_string}
 use Rattle.dlms_data.specs.Writing.{short_length, canonical}
 use Rattle.dlms_headend.specs.Asking.{IsTime, IsBufferRequest, range, buffer_bytes}
+use Rattle.dlms_data.specs.declared.date_time.TheConstants.{LAST_SECOND}
 
 octets_length : (octets : List ℕ) → length octets ≡ 12 → length (canonical (octet_string octets)) ≡ 14
 unfolding short_length
@@ -23,5 +23,5 @@ pub request_is_short : (after : Option ℕ) (apdu : List ℕ) → IsBufferReques
 request_is_short after apdu h =
     let wanted = h.wanted in
     let long : length (canonical (range wanted.first wanted.last)) ≤ 100 =
-    range_length wanted.first wanted.last (time_length (unwrap_or after 0) wanted.first wanted.from_first) (time_length last_second wanted.last wanted.to_last) in
+    range_length wanted.first wanted.last (time_length (unwrap_or after 0) wanted.first wanted.from_first) (time_length LAST_SECOND wanted.last wanted.to_last) in
     rw h.is (buffer_length h.value (subst (λ (v : Value). length (canonical v) ≤ 100) (sym wanted.is) long))

@@ -3,12 +3,13 @@
 -- range_descriptor), further blocks, and the release.
 use Rattle.std.specs.Prelude.{◌≡◌, ℕ, List, [], ◌∷◌, Option, Some, unwrap_or, pos}
 use Rattle.dlms_frame.specs.declared.client.Client.{Client}
-use Rattle.dlms_data.specs.DateTime.{NamesSecond, IsPlainlyWritten, last_second}
+use Rattle.dlms_data.specs.DateTime.{NamesSecond, IsPlainlyWritten}
 use Rattle.dlms_data.specs.Value.{Value, array, structure, octet_string, integer, long_unsigned, none, cons}
 use Rattle.dlms_data.specs.declared.descriptor.Descriptor.{Descriptor}
 use Rattle.dlms_acse.specs.Writing.{aarq_bytes}
 use Rattle.dlms_apdu.specs.Forms.{get_normal, get_next}
 use Rattle.dlms_apdu.specs.Writing.{request_bytes}
+use Rattle.dlms_data.specs.declared.date_time.TheConstants.{LAST_SECOND}
 
 -- what is polled, as a contract sees it
 pub record PlanValue : Type 0 where
@@ -50,7 +51,7 @@ pub record IsRange (first_second : ℕ) (value : Value) : Type 0 where
   pub last : Value
   pub is : value ≡ range first last
   pub from_first : IsTime first_second first
-  pub to_last : IsTime last_second last
+  pub to_last : IsTime LAST_SECOND last
 
 abbrev pub first_second : Option ℕ → ℕ
 first_second after = unwrap_or after 0

@@ -1,12 +1,13 @@
 -- The rows that a value holds: the buffer of class Profile generic (7) of IEC 62056-6-2 (Blue Book 4.3.6), captured by the
 -- clock and three registers.
 use Rattle.std.specs.Prelude.{◌≡◌, ◌≤◌, ◌<◌, ◌^◌, ℕ, List, [], ◌∷◌, length, Option, Some, None, All}
-use Rattle.dlms_data.specs.DateTime.{NamesSecond, last_second}
+use Rattle.dlms_data.specs.DateTime.{NamesSecond}
 use Rattle.dlms_data.specs.Spelling.{IsSpelling}
 use Rattle.dlms_data.specs.Value.{Value, Values, array, structure, octet_string, double_long_unsigned, none, cons}
 use Rattle.dlms_headend.specs.declared.row.Row.{Row}
 use Rattle.dlms_headend.specs.declared.poll_fault.PollFault.{PollFault}
 use Rattle.dlms_headend.specs.declared.poll_fault.PollFault.TheVariants.{Refused, Result as BadResult, Line, Protocol, Memory}
+use Rattle.dlms_data.specs.declared.date_time.TheConstants.{LAST_SECOND}
 
 abbrev pub on_some : {A B : Type 0} → Option A → (A → Option B) → Option B
 on_some None f = None
@@ -44,7 +45,7 @@ pub record IsRow (value : Value) (row : Row) : Type 0 where
 -- a row that a meter may have captured and a file may hold: its clock is one of the meter's clock, and it has three registers
 -- of 32 bits
 pub record IsReading (row : Row) : Type 0 where
-  pub clock : row.clock ≤ last_second
+  pub clock : row.clock ≤ LAST_SECOND
   pub count : length row.registers ≡ 3
   pub registers : All (λ register. register < 2 ^ 32) row.registers
 

@@ -1,12 +1,12 @@
 //! The readings file: the rows of all polls, in the order in which they came.
 
 ghost use Rattle.std.specs.Prelude.{◌≡◌, ◌≤◌, ◌+◌, ◌++◌, List, length, take, filter, IfOk, IfErr, IfSome, OnOk, OnErr, MatchResult, string_bytes};
-ghost use Rattle.dlms_data.specs.DateTime.{last_second};
 ghost use Rattle.dlms_headend.specs.Lines.{line, text_of, IsFile, Refuses};
 ghost use Rattle.dlms_headend.specs.Rows.{AreReadings};
 ghost use Rattle.dlms_headend.specs.Merged.{last_clock, is_later, added, merged};
 ghost use Rattle.dlms_headend.specs.declared.readings_fault.ReadingsFault.TheVariants.{Memory};
 ghost use Rattle.dlms_headend.specs.declared.row.Row.{Row as RowOf};
+ghost use Rattle.dlms_data.specs.declared.date_time.TheConstants.{LAST_SECOND};
 
 use crate::lines;
 use crate::readings_fault::ReadingsFault;
@@ -111,7 +111,7 @@ impl<A: Allocator + Copy> Readings<A> {
     /// The clock of the last row: a second that a plan may name.
     pub fn last(&self) -> Option<u32>
         ensures last { result ≡ last_clock self.now }
-        ensures clock { IfSome result (λ clock. clock ≤ last_second) }
+        ensures clock { IfSome result (λ clock. clock ≤ LAST_SECOND) }
     {
         self.rows.last().map(|row| row.clock)
     }

@@ -10,12 +10,10 @@ use crate::fault::RowFault;
 use crate::frame::{frame_of, put_frame};
 use crate::rows::put_row_parts;
 use crate::words::{Words, client_of, put_truth};
+use dlms_data::LAST_SECOND;
 use dlms_frame::Frame;
 use dlms_headend::{Plan, PollFault, PollStep, Poller, Readings, ReadingsFault, Row};
 use linked_list_allocator::LocalHeap;
-
-/// The last second of a meter's clock.
-const LAST_SECOND: u32 = 3_155_759_999;
 
 /// A poll and a readings file.
 #[derive(Drop)]
@@ -58,7 +56,7 @@ fn put_rows(answer: &mut String, rows: &[Row]) -> Result<(), RowFault> {
 
 /// A second behind which is polled, or `-`.
 fn after_of(word: &str) -> Result<Option<u32>, RowFault>
-    ensures { IfOk result (λ after. IfSome after (λ second. second ≤ 3155759999)) }
+    ensures { IfOk result (λ after. IfSome after (λ second. second ≤ LAST_SECOND)) }
 {
     if word == "-" {
         return Ok(None);

@@ -7,8 +7,8 @@ use crate::fault::RowFault;
 use crate::hexadecimal::put_hex;
 use crate::rows::{put_entries, put_range, put_row};
 use crate::words::Words;
-use dlms_profile::Row;
-use dlms_state::{CLOCK_END, Event, Outlook, Parts, PartsFault, State};
+use dlms_profile::{CAPACITY, Row};
+use dlms_state::{Event, LAST_SECOND, Outlook, Parts, PartsFault, State};
 use linked_list_allocator::LocalHeap;
 
 /// A state that takes its memory from a heap, and what an outlook on it comes to.
@@ -52,7 +52,7 @@ fn take(state: &mut State<&LocalHeap>, event: Event, answer: &mut String) -> Res
 
 /// Restores a row, where there is room.
 fn restore_row(state: &mut State<&LocalHeap>, row: Row) -> Result<(), RowFault> {
-    if state.rows().len() < 960 && row.clock <= CLOCK_END {
+    if state.rows().len() < CAPACITY && row.clock <= LAST_SECOND {
         state.restore_row(row);
         Ok(())
     } else {

@@ -9,6 +9,7 @@ use Rattle.dlms_profile.specs.declared.rows.Row.{Row}
 use Rattle.dlms_state.specs.declared.event.Event.{Event}
 use Rattle.dlms_state.specs.Events.{captures, captures_by, ends_in_capture, ends_in_clearing, beginnings, row_after, kept_after, buffer_after}
 use Rattle.dlms_state.proofs.Lists.{latest-more, beginnings-more}
+use Rattle.dlms_profile.specs.declared.rows.TheConstants.{CAPACITY}
 
 -- what is kept of the end of a list is the end of what is kept of the list
 end_of_kept : {X Y : Type 0} (n k : ℕ) (f : X → Y) (keeps : X → Bool) (xs : List X) → (older : List Y) × (map f (filter keeps xs) ≡ older ++ drop k (map f (filter keeps (drop n xs))))
@@ -25,7 +26,7 @@ unfolding captures kept_after
 buffer_is_the_end E =
     let bs : List (List Event) = beginnings E in
     let late : List Row = map row_after (filter ends_in_capture (after_last ends_in_clearing bs)) in
-    end_of_kept (length bs - prefix_len (λ y. not (ends_in_clearing y)) (reverse bs)) (length late - 960) row_after ends_in_capture bs
+    end_of_kept (length bs - prefix_len (λ y. not (ends_in_clearing y)) (reverse bs)) (length late - CAPACITY) row_after ends_in_capture bs
 
 captures-more : (E : List Event) (e : Event) → captures (E ++ e ∷ []) ≡ captures E ++ cond (captures_by (E ++ e ∷ []) (Some e)) ((E ++ e ∷ []) ∷ []) []
 unfolding captures ends_in_capture

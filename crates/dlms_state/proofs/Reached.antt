@@ -20,6 +20,8 @@ use Rattle.dlms_state.specs.StateValue.{StateValue, state_of, HasEvents, IsWithi
 use Rattle.dlms_state.specs.Step.{step}
 use Rattle.dlms_state.proofs.Legal.{IsLegal-none}
 use Rattle.dlms_state.proofs.StateLaw.{IsStateOf-step}
+use Rattle.dlms_state.specs.declared.event.TheConstants.{LAST_SECOND}
+use Rattle.dlms_profile.specs.declared.rows.TheConstants.{CAPACITY}
 
 -- ---- one event more
 
@@ -38,18 +40,18 @@ HasEvents-first = record { events = []; state = record { legal = IsLegal-none; v
 
 -- ---- events that pass
 
-in_range_passes : (z : ℤ) → pos 0 ≤ℤ z → z ≤ℤ pos 3155759999 → unless Range (clock_is_in_range z) ≡ None
+in_range_passes : (z : ℤ) → pos 0 ≤ℤ z → z ≤ℤ pos LAST_SECOND → unless Range (clock_is_in_range z) ≡ None
 in_range_passes z low high =
     let above : int_le (pos 0) z ≡ true = grind (arith, ints) in
-    let below : int_le z (pos 3155759999) ≡ true = grind (arith, ints) in
+    let below : int_le z (pos LAST_SECOND) ≡ true = grind (arith, ints) in
     rw (above, below) refl
 
-moment_passes : (last t : ℕ) (offset : ℤ) → last ≤ t → pos 0 ≤ℤ (pos t +ℤ offset) → (pos t +ℤ offset) ≤ℤ pos 3155759999 → refusal last offset (Moment t) ≡ None
+moment_passes : (last t : ℕ) (offset : ℤ) → last ≤ t → pos 0 ≤ℤ (pos t +ℤ offset) → (pos t +ℤ offset) ≤ℤ pos LAST_SECOND → refusal last offset (Moment t) ≡ None
 moment_passes last t offset on low high =
     let not_back : nat_lt t last ≡ false = grind (arith, nat_tests) in
     rw not_back (in_range_passes (pos t +ℤ offset) low high)
 
-time_passes : (last : ℕ) (offset : ℤ) (t : ℕ) → t ≤ 3155759999 → refusal last offset (SetTime t) ≡ None
+time_passes : (last : ℕ) (offset : ℤ) (t : ℕ) → t ≤ LAST_SECOND → refusal last offset (SetTime t) ≡ None
 time_passes last offset t high = in_range_passes (pos t) (omega (arith, ints)) (omega (arith, ints))
 
 period_passes : (last : ℕ) (offset : ℤ) (p : ℕ) → p ≤ 86400 → refusal last offset (SetPeriod p) ≡ None
@@ -66,7 +68,7 @@ secret_passes last offset b some =
 
 -- the last moment that the clock can pass without being set
 abbrev stop_at : ℕ → ℕ
-stop_at last = min last 3155759999
+stop_at last = min last LAST_SECOND
 
 -- a state with no row, its registers at 0, its clock where the moments leave it
 abbrev settled : ℕ → ℕ → List ℕ → List ℕ → StateValue
@@ -79,8 +81,8 @@ HasEvents-moments : (last : ℕ) → last < 2 ^ 32 → HasEvents (settled last 0
 HasEvents-moments last small =
     let stop : ℕ = stop_at last in
     let low : stop ≤ last = omega arith in
-    let high : stop ≤ 3155759999 = omega arith in
-    let near : last ≤ stop + 3155759999 = omega arith in
+    let high : stop ≤ LAST_SECOND = omega arith in
+    let near : last ≤ stop + LAST_SECOND = omega arith in
     let quiet = HasEvents-step first_state (SetPeriod 0) (lit< tt) refl HasEvents-first in
     let stopped = HasEvents-step _ (Moment stop) (omega arith) (moment_passes 0 stop (pos 0) (omega arith) (omega (arith, ints)) (omega (arith, ints))) quiet in
     let set = HasEvents-step _ (SetTime 0) (lit< tt) (time_passes stop (pos 0) 0 (lit≤ tt)) stopped in
@@ -111,7 +113,7 @@ record HasSome (s : StateValue) : Type 0 where
 counted_up : (x : ℕ) → x < 2 ^ 32 → (0 + x) % 2 ^ 32 ≡ x
 counted_up x small = omega arith
 
-HasEvents-values : (s : StateValue) (x y z clock : ℕ) → x < 2 ^ 32 → y < 2 ^ 32 → z < 2 ^ 32 → clock ≤ 3155759999 → HasSome s → HasEvents (with_values s x y z (pos clock -ℤ pos s.last))
+HasEvents-values : (s : StateValue) (x y z clock : ℕ) → x < 2 ^ 32 → y < 2 ^ 32 → z < 2 ^ 32 → clock ≤ LAST_SECOND → HasSome s → HasEvents (with_values s x y z (pos clock -ℤ pos s.last))
 HasEvents-values s x y z clock fx fy fz high some =
     let o : ℤ = pos clock -ℤ pos s.last in
     let set = HasEvents-step (with_values s some.a some.b some.c some.offset) (SetTime clock) (omega arith) (time_passes s.last some.offset clock high) some.events in
@@ -127,12 +129,12 @@ HasEvents-values s x y z clock fx fy fz high some =
 shown : (clock last : ℕ) → clock_at last (pos clock -ℤ pos last) ≡ clock
 shown clock last = omega (arith, ints)
 
-all_kept : (rows : List Row) → length rows ≤ 960 → keep_last 960 rows ≡ rows
+all_kept : (rows : List Row) → length rows ≤ CAPACITY → keep_last CAPACITY rows ≡ rows
 all_kept rows short =
-    let none : length rows - 960 ≡ 0 = omega arith in
+    let none : length rows - CAPACITY ≡ 0 = omega arith in
     rw none refl
 
-HasSome-row : (s : StateValue) (clock : ℕ) (registers : List ℕ) → clock ≤ 3155759999 → length registers ≡ 3 → All (λ value. value < 2 ^ 32) registers → length s.rows.items < 960 →
+HasSome-row : (s : StateValue) (clock : ℕ) (registers : List ℕ) → clock ≤ LAST_SECOND → length registers ≡ 3 → All (λ value. value < 2 ^ 32) registers → length s.rows.items < CAPACITY →
     HasSome s → HasSome (with_rows s (s.rows.items ++ (record { clock = clock; registers = registers }) ∷ []))
 HasSome-row s clock [] high count fit room some = cc
 HasSome-row s clock (x ∷ []) high count fit room some = cc
@@ -143,16 +145,16 @@ HasSome-row s clock (x ∷ y ∷ z ∷ []) high count fit room some =
     let o : ℤ = pos clock -ℤ pos s.last in
     let set = HasEvents-values s x y z clock (fit 0 0 (lit< tt)) (fit 1 0 (lit< tt)) (fit 2 0 (lit< tt)) high some in
     let taken = HasEvents-step (with_values s x y z o) Capture tt refl set in
-    let short : length (s.rows.items ++ row ∷ []) ≤ 960 = simp length-append (omega arith) in
+    let short : length (s.rows.items ++ row ∷ []) ≤ CAPACITY = simp length-append (omega arith) in
     record { a = x; b = y; c = z; offset = o; events = rw (all_kept (s.rows.items ++ row ∷ []) short) at (rw (shown clock s.last) at taken) }
 
-HasSome-rows : (rows : List Row) (s : StateValue) → All IsRow rows → All (λ row. row.clock ≤ 3155759999) rows → length s.rows.items + length rows ≤ 960 → HasSome s → HasSome (with_rows s (s.rows.items ++ rows))
+HasSome-rows : (rows : List Row) (s : StateValue) → All IsRow rows → All (λ row. row.clock ≤ LAST_SECOND) rows → length s.rows.items + length rows ≤ CAPACITY → HasSome s → HasSome (with_rows s (s.rows.items ++ rows))
 HasSome-rows [] s fit clocks room some = rw (append-nil s.rows.items) some
 HasSome-rows (row ∷ rows) s fit clocks room some =
     let is : IsRow row = fit 0 row (omega arith) in
     let first = HasSome-row s row.clock row.registers (clocks 0 row (omega arith)) is.count is.registers (omega arith) some in
     let next : StateValue = with_rows s (s.rows.items ++ row ∷ []) in
-    let count : length next.rows.items + length rows ≤ 960 = simp length-append (omega arith) in
+    let count : length next.rows.items + length rows ≤ CAPACITY = simp length-append (omega arith) in
     rw append_snoc at (HasSome-rows rows next (λ k d low. fit (suc k) d (omega arith)) (λ k d low. clocks (suc k) d (omega arith)) count first)
 
 -- ---- the whole state
@@ -160,10 +162,10 @@ HasSome-rows (row ∷ rows) s fit clocks room some =
 back_to : (last : ℕ) (offset : ℤ) → pos 0 ≤ℤ (pos last +ℤ offset) → (pos (clock_at last offset) -ℤ pos last) ≡ offset
 back_to last offset low = omega (arith, ints)
 
-clock_le : (last : ℕ) (offset : ℤ) → pos 0 ≤ℤ (pos last +ℤ offset) → (pos last +ℤ offset) ≤ℤ pos 3155759999 → clock_at last offset ≤ 3155759999
+clock_le : (last : ℕ) (offset : ℤ) → pos 0 ≤ℤ (pos last +ℤ offset) → (pos last +ℤ offset) ≤ℤ pos LAST_SECOND → clock_at last offset ≤ LAST_SECOND
 clock_le last offset low high = grind (arith, ints)
 
-with_registers : (registers : List ℕ) (s : StateValue) → length registers ≡ 3 → All (λ value. value < 2 ^ 32) registers → pos 0 ≤ℤ (pos s.last +ℤ s.offset) → (pos s.last +ℤ s.offset) ≤ℤ pos 3155759999 →
+with_registers : (registers : List ℕ) (s : StateValue) → length registers ≡ 3 → All (λ value. value < 2 ^ 32) registers → pos 0 ≤ℤ (pos s.last +ℤ s.offset) → (pos s.last +ℤ s.offset) ≤ℤ pos LAST_SECOND →
     HasSome s → HasEvents (record s { registers = registers })
 with_registers [] s count fit low high some = cc
 with_registers (x ∷ []) s count fit low high some = cc
@@ -177,5 +179,5 @@ HasEvents-within s limits types =
     let start = HasEvents-settled s.last s.period s.text s.secret types.last limits.period types.text types.secret limits.secret in
     let settings : StateValue = record s { rows = no_rows } in
     let some : HasSome settings = record { a = 0; b = 0; c = 0; offset = pos 0 -ℤ pos (stop_at s.last); events = start } in
-    let filled = HasSome-rows s.rows.items settings types.rows limits.rows (let room : length s.rows.items ≤ 960 = types.room in omega arith) some in
+    let filled = HasSome-rows s.rows.items settings types.rows limits.rows (let room : length s.rows.items ≤ CAPACITY = types.room in omega arith) some in
     with_registers s.registers s types.count types.registers limits.not_before limits.not_after (record { a = filled.a; b = filled.b; c = filled.c; offset = filled.offset; events = filled.events })

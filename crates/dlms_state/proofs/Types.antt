@@ -16,6 +16,8 @@ use Rattle.dlms_state.specs.Step.{step, captured}
 use Rattle.dlms_state.proofs.Legal.{IsLegal-beginning}
 use Rattle.dlms_state.proofs.StateLaw.{state_of-more, register_after-lt}
 use Rattle.dlms_state.proofs.Limits.{by_more, IsWithinLimits-legal}
+use Rattle.dlms_state.specs.declared.event.TheConstants.{LAST_SECOND}
+use Rattle.dlms_profile.specs.declared.rows.TheConstants.{CAPACITY}
 
 -- three registers of 32 bits
 record ThreeWords (words : List ℕ) : Type 0 where
@@ -27,7 +29,7 @@ record RestFits (s : StateValue) : Type 0 where
   last : s.last < 2 ^ 32
   text : AreBytes 240 s.text
   secret : AreBytes 16 s.secret
-  room : length s.rows.items ≤ 960
+  room : length s.rows.items ≤ CAPACITY
   rows : All (λ row. ThreeWords row.registers) s.rows.items
 
 three_fit : (a b c : ℕ) → a < 2 ^ 32 → b < 2 ^ 32 → c < 2 ^ 32 → All (λ value. value < 2 ^ 32) (a ∷ b ∷ c ∷ [])
@@ -39,10 +41,10 @@ registers_fit E = record { count = refl; each = three_fit _ _ _ (register_after-
 one_row : (row : Row) → ThreeWords row.registers → All (λ r. ThreeWords r.registers) (row ∷ [])
 one_row row h = search rules
 
-rows_fit-more : (rows : List Row) (row : Row) → All (λ r. ThreeWords r.registers) rows → ThreeWords row.registers → All (λ r. ThreeWords r.registers) (keep_last 960 (rows ++ row ∷ []))
+rows_fit-more : (rows : List Row) (row : Row) → All (λ r. ThreeWords r.registers) rows → ThreeWords row.registers → All (λ r. ThreeWords r.registers) (keep_last CAPACITY (rows ++ row ∷ []))
 rows_fit-more rows row before h = All-drop (λ r. ThreeWords r.registers) _ _ (All-append (λ r. ThreeWords r.registers) rows (row ∷ []) before (one_row row h))
 
-kept_is_short : (rows : List Row) → length (keep_last 960 rows) ≤ 960
+kept_is_short : (rows : List Row) → length (keep_last CAPACITY rows) ≤ CAPACITY
 kept_is_short rows = simp length-drop (omega arith)
 
 captured_fits : (s : StateValue) → ThreeWords s.registers → RestFits s → RestFits (captured s)
@@ -81,14 +83,14 @@ rest_fits =
     (λ E e before legal. rw (state_of-more E e) (step_fits e (state_of E) (legal.each E e [] refl).fits (registers_fit E) (before (IsLegal-beginning E (e ∷ []) legal))))
 
 -- a row with a clock in its range and three registers fits its type
-row_fits : (row : Row) → row.clock ≤ 3155759999 → ThreeWords row.registers → IsRow row
+row_fits : (row : Row) → row.clock ≤ LAST_SECOND → ThreeWords row.registers → IsRow row
 row_fits row clock three = record { clock = omega arith; count = three.count; registers = three.each }
 
 pub FitsTypes-legal : (E : List Event) → IsLegal E → FitsTypes (state_of E)
 FitsTypes-legal E legal =
     let three = registers_fit E in
     let rest = rest_fits E legal in
-    let clocks : All (λ row. row.clock ≤ 3155759999) (state_of E).rows.items = (IsWithinLimits-legal E legal).rows in
+    let clocks : All (λ row. row.clock ≤ LAST_SECOND) (state_of E).rows.items = (IsWithinLimits-legal E legal).rows in
     record {
       count = three.count;
       registers = three.each;

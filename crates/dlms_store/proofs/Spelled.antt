@@ -14,6 +14,7 @@ use Rattle.dlms_store.specs.Cause.{AllFit, AreOf, Fit}
 use Rattle.dlms_store.specs.Image.{Spells}
 use Rattle.dlms_store.specs.Page.{HasPage}
 use Rattle.dlms_store.proofs.Looking.{one_payload}
+use Rattle.dlms_profile.specs.declared.rows.TheConstants.{CAPACITY}
 
 -- ---- the first body
 
@@ -25,16 +26,16 @@ none_told false true true false e is = absurd cc
 none_told false true true true false is = absurd cc
 none_told false true true true true is = (refl, refl, refl)
 
--- what the first body says: how long it is, and at most 960 rows
+-- what the first body says: how long it is, and at most CAPACITY rows
 pub record FirstSays (body : List ℕ) : Type 0 where
   pub some : 288 ≤ length body
-  pub rows : row_count body ≤ 960
+  pub rows : row_count body ≤ CAPACITY
   pub long : length body ≡ min 496 (whole_length body)
 
 pub first_says : (body : List ℕ) → first_fault body ≡ None → FirstSays body
 first_says body is =
-    let told = none_told (ltb (length body) 288) (leb (secret_count body) 16) (leb (text_count body) 240) (leb (row_count body) 960) (eqb (length body) (min 496 (whole_length body))) is in
-    record { some = ltb-false (length body) 288 told.0; rows = leb-true (row_count body) 960 told.1; long = eqb-true (length body) (min 496 (whole_length body)) told.2 }
+    let told = none_told (ltb (length body) 288) (leb (secret_count body) 16) (leb (text_count body) 240) (leb (row_count body) CAPACITY) (eqb (length body) (min 496 (whole_length body))) is in
+    record { some = ltb-false (length body) 288 told.0; rows = leb-true (row_count body) CAPACITY told.1; long = eqb-true (length body) (min 496 (whole_length body)) told.2 }
 
 -- ---- bytes cut into bodies
 

@@ -10,7 +10,6 @@ use Rattle.dlms_classes.specs.Access.{object_named, number_of}
 use Rattle.dlms_classes.specs.Shown.{IsTable, cells, IsRange as ShownRange}
 use Rattle.dlms_classes.specs.declared.access.AccessResult.{AccessResult}
 use Rattle.dlms_classes.specs.declared.access.AccessResult.TheVariants.{TemporaryFailure, OtherReason}
-use Rattle.dlms_data.specs.DateTime.{last_second}
 use Rattle.dlms_data.specs.Value.{Value, octet_string}
 use Rattle.dlms_data.specs.Writing.{Fits}
 use Rattle.dlms_frame.specs.declared.client.Client.{Client}
@@ -29,6 +28,7 @@ use Rattle.dlms_service.specs.Stake.{stake_of, fails, failing}
 use Rattle.dlms_meter.specs.Run.{Choice, Served, DeviceFails, Does}
 use Rattle.dlms_world.specs.World.{GivesData, GivesDataBy}
 use Rattle.dlms_world.proofs.Tables.{one_second}
+use Rattle.dlms_data.specs.declared.date_time.TheConstants.{LAST_SECOND}
 
 abbrev pub read_as : RequestForm → Result RequestForm Refusal
 read_as form = Ok form
@@ -72,7 +72,7 @@ shows_range E first last v size_first size_last shown = rw (size_first, size_las
 
 -- the meter shows the buffer's rows between the two seconds
 wants : (E : List Event) (client : Client) (b : Bool) (second : ℕ) (value v : Value) → IsRange second value → IsShown (state_of E) client buffer (wanted client buffer (if b then Some (record { number = 1; value = value }) else Some no_selection)) (Ok v) →
-    IsTable (map cells (in_range second last_second (buffer_after E))) v
+    IsTable (map cells (in_range second LAST_SECOND (buffer_after E))) v
 unfolding object_named
 wants E Public true second value v r shown = cc
 wants E Public false second value v r shown = cc
@@ -84,8 +84,8 @@ wants E Management true second value v r shown =
     shows_range E one two v r.from_first.names.size r.to_last.names.size
     (subst (λ x. IsShown (state_of E) Management buffer (wanted Management buffer (Some (record { number = 1; value = x }))) (Ok v)) (whole_range second value r) shown) in
     let from : is.from ≡ second = one_second one is.from second is.names_from r.from_first.names in
-    let to : is.to ≡ last_second = one_second two is.to last_second is.names_to r.to_last.names in
-    subst (λ a. IsTable (map cells (in_range a last_second (buffer_after E))) v) from (subst (λ b. IsTable (map cells (in_range is.from b (buffer_after E))) v) to is.value)
+    let to : is.to ≡ LAST_SECOND = one_second two is.to LAST_SECOND is.names_to r.to_last.names in
+    subst (λ a. IsTable (map cells (in_range a LAST_SECOND (buffer_after E))) v) from (subst (λ b. IsTable (map cells (in_range is.from b (buffer_after E))) v) to is.value)
 
 -- ---- the whole GET
 
@@ -113,7 +113,7 @@ pub record GaveTable (second : ℕ) (E : List Event) (s : SessionValue) (o : Out
   pub v : Value
   pub fits : Fits v
   pub outcome : o ≡ sent (without_get s) a invoke v
-  pub table : IsTable (map cells (in_range second last_second (buffer_after E))) v
+  pub table : IsTable (map cells (in_range second LAST_SECOND (buffer_after E))) v
 
 pub read_result : (r : ℕ) → response_at (response_bytes (get_result invoke r)) ≡ Ok (get_result invoke r)
 read_result r = reads_written_responses (get_result invoke r) tt tt

@@ -10,7 +10,6 @@ use Rattle.dlms_blocks.specs.Block.{block_bytes, is_last}
 use Rattle.dlms_blocks.proofs.BlockLemmas.{whole_of}
 use Rattle.dlms_classes.specs.Access.{number_of}
 use Rattle.dlms_classes.specs.declared.access.AccessResult.TheVariants.{OtherReason}
-use Rattle.dlms_data.specs.DateTime.{last_second}
 use Rattle.dlms_data.specs.Value.{Value}
 use Rattle.dlms_data.specs.Writing.{canonical}
 use Rattle.dlms_data.proofs.WholeLaws.{reads_one_value}
@@ -33,11 +32,12 @@ use Rattle.dlms_world.proofs.Tables.{table_is_profile, range_has_three}
 use Rattle.dlms_world.proofs.Gets.{GaveTable, gets_tell, no_data, read_result}
 use Rattle.dlms_world.proofs.Sized.{association_sized}
 use Rattle.dlms_world.proofs.Following.{IsSent, follow, block_read, given_blocks, spells_data, more_data, not_both, has_count, blocks_append}
+use Rattle.dlms_data.specs.declared.date_time.TheConstants.{LAST_SECOND}
 
 -- a value that shows the rows, and is what the poll read
 told_value : (plan : PlanValue) (E : List Event) (s : SessionValue) (o : Outcome) (g : GaveTable (first_second plan.after) E s o) (rows : List Row) → IsProfile g.v rows → rows ≡ rows_asked plan E
 told_value plan E s o g rows is =
-    table_is_profile (in_range (first_second plan.after) last_second (buffer_after E)) g.v rows (range_has_three (first_second plan.after) last_second E) g.table is
+    table_is_profile (in_range (first_second plan.after) LAST_SECOND (buffer_after E)) g.v rows (range_has_three (first_second plan.after) LAST_SECOND E) g.table is
 
 told_encoding : (plan : PlanValue) (E : List Event) (s : SessionValue) (o : Outcome) (g : GaveTable (first_second plan.after) E s o) (rows : List Row) → IsEncoded (canonical g.v) rows → rows ≡ rows_asked plan E
 told_encoding plan E s o g rows is =

@@ -3,7 +3,6 @@ use Rattle.std.specs.Prelude.{◌≡◌, ℕ, false, List, [], ◌∷◌, ◌++�
 use Rattle.dlms_apdu.specs.Forms.{ResponseForm, get_data, get_block}
 use Rattle.dlms_apdu.specs.Reading.{response_at}
 use Rattle.dlms_apdu.specs.declared.fault.Refusal.{Refusal}
-use Rattle.dlms_data.specs.DateTime.{last_second}
 use Rattle.dlms_headend.specs.Asking.{PlanValue, first_second}
 use Rattle.dlms_headend.specs.declared.row.Row.{Row}
 use Rattle.dlms_headend.specs.declared.stage.Course.{Course}
@@ -21,6 +20,7 @@ use Rattle.dlms_state.specs.declared.event.Event.{Event}
 use Rattle.dlms_store.specs.World.{World as Memory, Step as StoreStep, Run as StoreRun}
 use Rattle.dlms_store.specs.World.World.{Runs, InDoubt, Rests}
 use Rattle.dlms_store.specs.World.Step.{Adds, AddsBehind, Settles, Refuses, Fails, Closes, ClosesInDoubt, Stops, Opens, OpenFails}
+use Rattle.dlms_data.specs.declared.date_time.TheConstants.{LAST_SECOND}
 
 pub record World : Type 0 where
   -- the poller's link at both its ends, the line between them, and what went over it in this connection
@@ -103,7 +103,7 @@ all_readings E = map reading_of (map row_after (captures E))
 
 -- the buffer's rows from this second on, to the last of the clock
 abbrev pub rows_from : ℕ → List Event → List Row
-rows_from second E = map reading_of (in_range second last_second (buffer_after E))
+rows_from second E = map reading_of (in_range second LAST_SECOND (buffer_after E))
 
 -- all of its rows from this second on
 abbrev pub all_rows_from : ℕ → List Event → List Row

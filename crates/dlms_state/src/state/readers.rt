@@ -1,5 +1,6 @@
 //! What a state holds. Each reader's value is that of the definitions, for every list of events that leaves the state.
 ghost use Rattle.std.specs.Prelude.{◌≡◌, ◌<◌, ◌≤◌, List, All, length};
+ghost use Rattle.dlms_state.specs.declared.event.TheConstants.{LAST_SECOND};
 ghost use Rattle.dlms_state.specs.Events.{clock_at, registers_after, clock_after, moment_after, offset_after, period_after, text_after, secret_after, buffer_after};
 
 use crate::state::State;
@@ -22,7 +23,7 @@ impl<A: Allocator + Copy> State<A> {
     pub fn clock(&self) -> u32
         ensures value { result ≡ clock_at self.now.last self.now.offset }
         ensures after { (E : List Event) → IsStateOf E self.now → result ≡ clock_after E }
-        ensures in_range { result ≤ 3155759999 }
+        ensures in_range { result ≤ LAST_SECOND }
     {
         self.clock.second()
     }
@@ -75,7 +76,7 @@ impl<A: Allocator + Copy> State<A> {
     pub fn rows(&self) -> &Rows<A>
         ensures value { result.now ≡ self.now.rows }
         ensures after { (E : List Event) → IsStateOf E self.now → result.now.items ≡ buffer_after E }
-        ensures clocks { All (λ row. row.clock ≤ 3155759999) self.now.rows.items }
+        ensures clocks { All (λ row. row.clock ≤ LAST_SECOND) self.now.rows.items }
     {
         &self.rows
     }

@@ -3,17 +3,18 @@ use Rattle.dlms_profile.specs.declared.rows.Row.{Row}
 use Rattle.dlms_profile.specs.Rows.{IsRow}
 use Rattle.dlms_checkpoint.proofs.Rows.{all_rows, each_row}
 use Rattle.dlms_checkpoint.proofs.reading.are_rows.Goals as goal
+use Rattle.dlms_state.specs.declared.event.TheConstants.{LAST_SECOND}
 
 abbrev InTime : Row → Type 0
-InTime row = row.clock ≤ 3155759999
+InTime row = row.clock ≤ LAST_SECOND
 
-late : (row found : Row) → found ≡ row → 3155759999 < found.clock → InTime row → ⊥
+late : (row found : Row) → found ≡ row → LAST_SECOND < found.clock → InTime row → ⊥
 late row found same past fits = let e = ap (λ (r : Row). r.clock) same in omega (arith, e)
 
-pub returns-then-row_of-gt-CLOCK_END-clause-when : goal.returns-then-row_of-gt-CLOCK_END-clause-when
-returns-then-row_of-gt-CLOCK_END-clause-when c = (
+pub returns-then-row_of-gt-LAST_SECOND-clause-when : goal.returns-then-row_of-gt-LAST_SECOND-clause-when
+returns-then-row_of-gt-LAST_SECOND-clause-when c = (
   λ none. absurd (cc none),
-  λ all. absurd (late _ _ c.row_of.ensures.value c.if-row_of-gt-CLOCK_END.true (each_row InTime c.args.count c.args.rows.now all c.loop-index.index (omega (arith, c.loop-index-test.true)))),
+  λ all. absurd (late _ _ c.row_of.ensures.value c.if-row_of-gt-LAST_SECOND.true (each_row InTime c.args.count c.args.rows.now all c.loop-index.index (omega (arith, c.loop-index-test.true)))),
 )
 
 pub returns-clause-fit : goal.returns-clause-fit

@@ -4,9 +4,10 @@ use Rattle.dlms_state.specs.StateValue.{StateValue}
 use Rattle.dlms_checkpoint.specs.Reading.{row_at, rows_at}
 use Rattle.dlms_checkpoint.proofs.Rows.{each_row, rows_at-more, length-rows_at}
 use Rattle.dlms_checkpoint.proofs.reading.with_rows.Goals as goal
+use Rattle.dlms_state.specs.declared.event.TheConstants.{LAST_SECOND}
 
 abbrev InTime : Row → Type 0
-InTime row = row.clock ≤ 3155759999
+InTime row = row.clock ≤ LAST_SECOND
 
 -- a state with one row more
 appended : (s now next : StateValue) (i : ℕ) (bytes : List ℕ) (row : Row) → now ≡ record s { rows = record { items = rows_at i bytes } } → row ≡ row_at (16 * i) bytes

@@ -9,9 +9,11 @@ use Rattle.dlms_checkpoint.specs.Reading.{rows_at, HasHead}
 use Rattle.dlms_checkpoint.proofs.Rows.{length-rows_at}
 use Rattle.dlms_checkpoint.proofs.Whole.{known, spelled, count_of_head, with_rows, without_rows, left_by_events}
 use Rattle.dlms_checkpoint.proofs.reading.Restoring.finish.Goals as goal
+use Rattle.dlms_state.specs.declared.event.TheConstants.{LAST_SECOND}
+use Rattle.dlms_profile.specs.declared.rows.TheConstants.{CAPACITY}
 
 abbrev InTime : Row → Type 0
-InTime row = row.clock ≤ 3155759999
+InTime row = row.clock ≤ LAST_SECOND
 
 was_false : (b : Bool) → b ≡ false → b ≡ true → ⊥
 was_false b off on = absurd (cc (off, on))
@@ -73,7 +75,7 @@ returns-in-Err-Memory-clause-memory g c e =
     let has = subst HasHead c.self.view_is c.self.invariant in
     let len = rows_length bytes head rows has c.requires is_head is_rows ∙ ap (λ (k : ℕ). 16 * k) (sym c.rows_of-count.ensures) in
     let items = rows_at n rows in
-    let few : length items ≤ 960 = omega (arith, has.rows, length-rows_at n rows, c.rows_of-count.ensures, count_of_head bytes head is_head) in
+    let few : length items ≤ CAPACITY = omega (arith, has.rows, length-rows_at n rows, c.rows_of-count.ensures, count_of_head bytes head is_head) in
     let within : IsWithinLimits parts = c.restore.ensures.within (λ limits. absurd (cc (limits, c.in-Err-Memory.is))) in
     let made = with_rows parts items within c.parts_fit.ensures (c.are_rows.ensures.when.0 c.if-not-are_rows.false) (c.are_rows.ensures.fit c.if-not-are_rows.false) few in (
       record parts { rows = record { items = items } },
