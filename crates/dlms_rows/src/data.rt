@@ -4,6 +4,7 @@ use crate::answers::{put_number, put_number_and, put_shown, put_with_number};
 use crate::bench::{Bench, Room};
 use crate::fault::RowFault;
 use crate::hexadecimal::put_hex;
+use crate::measured::Measured;
 use crate::words::{Words, put_truth};
 use dlms_data::{
     Bits, Bytes, Data, DataFault, Items, LAST_SECOND, append, append_counted, counted, fits,
@@ -56,6 +57,23 @@ fn put_read(room: Room<'_>, bytes: &[u8], answer: &mut String) -> Result<(), Row
     match read(room.heap, bytes) {
         Ok((value, len)) => put_found(room.ample, bytes, &value, len, answer),
         Err(fault) => put_fault(answer, fault),
+    }
+}
+
+/// Whether reading asks for no more than so many bytes of memory at once for each byte that is given; else for how many.
+fn put_asked(
+    room: Room<'_>,
+    each: u32,
+    bytes: &[u8],
+    answer: &mut String,
+) -> Result<(), RowFault> {
+    let measured = Measured::new(room.ample);
+    drop(read(&measured, bytes));
+    let greatest = measured.greatest() as u64;
+    if greatest <= u64::from(each).saturating_mul(bytes.len() as u64) {
+        Ok(answer.push_str("within")?)
+    } else {
+        put_number(answer, greatest)
     }
 }
 
@@ -226,6 +244,10 @@ impl<'h> DataBench<'h> {
             "append-counted" => {
                 let front = words.bytes()?;
                 put_append_counted(self.room, &front, &words.bytes()?, answer)
+            }
+            "asks" => {
+                let each = words.number()?;
+                put_asked(self.room, each, &words.bytes()?, answer)
             }
             "nested" => put_nested(self.room, words.number()?, answer),
             "structure" => {

@@ -25,6 +25,7 @@ mod headend;
 mod hexadecimal;
 mod journal;
 mod link;
+mod measured;
 mod profile;
 mod rows;
 mod scenario;
