@@ -1,19 +1,25 @@
-//! Replays each transcript that lies here, and says which comes out otherwise than its writer expects.
+//! Runs the program's commands on the transcripts that lie here, and says which come out otherwise than their writer expects.
 //!
-//! A case is `NNN.in` (what is read), `NNN.out` (what is written, byte for byte), `NNN.status` (how the program ends)
-//! and, where something is said on standard error, `NNN.err`.
+//! A case is `NNN.in` (what is read), `NNN.out` (what is printed, byte for byte), `NNN.status` (the status of the run), where
+//! something is said among the errors `NNN.err`, and where the program is not asked to `replay` on a new meter `NNN.words` (its
+//! words, one a line). The cases run in the order of their numbers, in one folder: a file that one makes is there for the next.
 #![tactic(auto)]
 
-use anyhow::{Result, anyhow};
-use dlms_meter::Meter;
-use dlms_pages::MemoryPages;
-use dlms_program::{ReplayFault, replay};
-use dlms_store::PAGES;
-use std::alloc::Global;
+use anyhow::Result;
+use dlms_command::run;
+use std::alloc::{AllocError, Global};
 use std::fs;
+use std::fs::File;
 use std::io::ErrorKind;
+use std::net::Net;
 use std::process::ExitCode;
 use std::rt::Files;
+
+/// The program's own name, its first word.
+const PROGRAM: &str = "dlms";
+
+/// The words of a case that names none.
+const WORDS: &str = "replay";
 
 /// What a case differs in.
 #[derive(Clone, Copy, Debug, PartialEq, Eq)]
@@ -34,40 +40,38 @@ fn bytes_of<R: Files + AllocGlobal>(rt: &R, name: &str, kind: &str) -> Result<Op
     }
 }
 
-/// What was said on standard error is what the case says; nothing where it says nothing.
-fn is_said(expected: &Option<Vec<u8>>, said: &str) -> bool {
+/// What was said among the errors is what the case says; nothing where it says nothing.
+fn is_said(expected: &Option<Vec<u8>>, said: &[u8]) -> bool {
     match expected {
-        Some(error) => error.as_slice() == said.as_bytes(),
+        Some(error) => error.as_slice() == said,
         None => said.is_empty(),
     }
 }
 
-/// A new meter in memory.
-fn new_meter(alloc: Global) -> Result<Meter<MemoryPages>> {
-    match Meter::format(alloc, MemoryPages::new(alloc, PAGES)?) {
-        Ok(meter) => Ok(meter),
-        Err(_) => Err(anyhow!("no meter is made")),
+/// The program's name, and the words behind it, one a line.
+fn words_of(alloc: Global, lines: &str) -> std::result::Result<Vec<&str>, AllocError> {
+    let mut words = Vec::new(alloc);
+    words.push(PROGRAM)?;
+    for word in lines.lines() {
+        words.push(word)?;
     }
+    Ok(words)
 }
 
-/// Replays a text on a new meter.
-fn replayed(
-    alloc: Global,
+/// Runs a case.
+fn verdict_of<R: Net + Files<File = File> + AllocGlobal>(
+    rt: &R,
+    name: &str,
     input: &[u8],
-    output: &mut Vec<u8>,
-) -> Result<std::result::Result<(), ReplayFault>> {
-    let mut reader = input;
-    let mut meter = Some(new_meter(alloc)?);
-    Ok(replay(alloc, &mut reader, output, &mut meter))
-}
-
-/// Replays a case on a new meter.
-fn verdict_of<R: Files + AllocGlobal>(rt: &R, name: &str, input: &[u8]) -> Result<Verdict> {
-    let mut output = Vec::new(rt.alloc());
-    let (status, said) = match replayed(rt.alloc(), input, &mut output)? {
-        Ok(()) => ("0\n", format!(in rt.alloc(); "")?),
-        Err(fault) => ("1\n", format!(in rt.alloc(); "dlms: {fault}\n")?),
+) -> Result<Verdict> {
+    let lines = match bytes_of(rt, name, "words")? {
+        Some(bytes) => String::from_utf8(bytes)?,
+        None => format!(in rt.alloc(); "{WORDS}")?,
     };
+    let words = words_of(rt.alloc(), lines.as_str())?;
+    let (mut output, mut errors) = (Vec::new(rt.alloc()), Vec::new(rt.alloc()));
+    let status = run(rt, words.as_slice(), input, &mut output, &mut errors)?;
+    let status = format!(in rt.alloc(); "{status}\n")?;
     let expected = bytes_of(rt, name, "out")?;
     let expected_status = bytes_of(rt, name, "status")?;
     let expected_error = bytes_of(rt, name, "err")?;
@@ -77,7 +81,7 @@ fn verdict_of<R: Files + AllocGlobal>(rt: &R, name: &str, input: &[u8]) -> Resul
     if !is_bytes(&expected_status, status.as_bytes()) {
         return Ok(Verdict::OtherStatus);
     }
-    if !is_said(&expected_error, said.as_str()) {
+    if !is_said(&expected_error, errors.as_slice()) {
         return Ok(Verdict::OtherError);
     }
     Ok(Verdict::AsExpected)
@@ -91,8 +95,8 @@ fn is_bytes(expected: &Option<Vec<u8>>, bytes: &[u8]) -> bool {
     }
 }
 
-/// Replays the cases that are there, in the order of their numbers.
-fn run<R: Files + Print + AllocGlobal>(rt: &R) -> Result<u32> {
+/// Runs the cases that are there, in the order of their numbers.
+fn run_all<R: Net + Files<File = File> + Print + AllocGlobal>(rt: &R) -> Result<u32> {
     let mut cases = 0u32;
     let mut differing = 0u32;
     for number in 1..1000u32 {
@@ -112,7 +116,7 @@ fn run<R: Files + Print + AllocGlobal>(rt: &R) -> Result<u32> {
 }
 
 fn main(rt: HostRuntime) -> Result<ExitCode> {
-    if run(&rt)? == 0 {
+    if run_all(&rt)? == 0 {
         Ok(ExitCode::SUCCESS)
     } else {
         Ok(ExitCode::from(1))

@@ -1,0 +1,171 @@
+//! What the program does for its words, over any three streams.
+#![tactic(auto)]
+
+use clap::error::ErrorKind;
+use dlms_loopback::loopback;
+use dlms_meter::Meter;
+use dlms_pages::{FilePages, MemoryPages, Pages};
+use dlms_program::{Job, ReplayFault, job, replay};
+use dlms_store::{OpenFault, PAGES};
+use std::fs::File;
+use std::io;
+use std::io::{BufReader, BufWriter, Read, Write};
+use std::net::Net;
+use std::rt::Files;
+
+mod fault;
+
+pub use fault::Fault;
+
+/// How many bytes are read or written at a time.
+const BUFFER: usize = 65_536;
+
+/// The status of a run that came to its end.
+pub const DONE: u8 = 0;
+
+/// The status of a run that a fault ended.
+pub const FAULT: u8 = 1;
+
+/// The status of a run whose words ask for nothing that the program does, and of one that asks for help.
+pub const USAGE: u8 = 2;
+
+/// Makes a new meter in a file, over whatever the file holds.
+fn run_format<'a, H: Files<File = File> + AllocGlobal, W: Write>(
+    host: &H,
+    file: &'a str,
+    output: &mut W,
+) -> Result<(), Fault<'a>> {
+    let pages = match FilePages::create(host, file, PAGES) {
+        Ok(pages) => pages,
+        Err(error) => return Err(Fault::of_file(host.alloc(), file, &error)),
+    };
+    match Meter::format(host.alloc(), pages) {
+        Ok(meter) => {
+            let _pages = meter.close();
+        }
+        Err((_, fault)) => return Err(Fault::Open(fault)),
+    }
+    match writeln!(output, "formatted {PAGES} pages") {
+        Ok(()) => Ok(()),
+        Err(_) => Err(Fault::Replay(ReplayFault::Io)),
+    }
+}
+
+/// Replays the input on a meter, and closes it.
+fn run_on<H: AllocGlobal, R: Read + Drop, W: Write, P: Pages + Drop>(
+    host: &H,
+    input: R,
+    output: &mut W,
+    meter: Meter<P>,
+) -> Result<(), Fault<'static>> {
+    let Ok(mut reader) = BufReader::with_capacity(host.alloc(), BUFFER, input) else {
+        return Err(Fault::Replay(ReplayFault::Memory));
+    };
+    let mut meter = Some(meter);
+    let replayed = replay(host.alloc(), &mut reader, output, &mut meter);
+    let flushed = output.flush();
+    let has_failed = match meter {
+        Some(meter) => meter.close().faults() > 0,
+        None => false,
+    };
+    if let Err(fault) = replayed {
+        return Err(Fault::Replay(fault));
+    }
+    if flushed.is_err() {
+        return Err(Fault::Replay(ReplayFault::Io));
+    }
+    if has_failed {
+        return Err(Fault::Open(OpenFault::Device));
+    }
+    Ok(())
+}
+
+/// Replays the input on the meter in a file. Each answer goes out as soon as it is made.
+fn run_replay_file<'a, H: Files<File = File> + AllocGlobal, R: Read + Drop, W: Write>(
+    host: &H,
+    file: &'a str,
+    input: R,
+    output: &mut W,
+) -> Result<(), Fault<'a>> {
+    let pages = match FilePages::open(host, file, PAGES) {
+        Ok(pages) => pages,
+        Err(error) => return Err(Fault::of_file(host.alloc(), file, &error)),
+    };
+    match Meter::recover(host.alloc(), pages) {
+        Ok(meter) => run_on(host, input, output, meter),
+        Err((_, fault)) => Err(Fault::Open(fault)),
+    }
+}
+
+/// Replays the input on a new meter in memory.
+fn run_replay_memory<H: AllocGlobal, R: Read + Drop, W: Write>(
+    host: &H,
+    input: R,
+    output: &mut W,
+) -> Result<(), Fault<'static>> {
+    let Ok(mut writer) = BufWriter::with_capacity(host.alloc(), BUFFER, output) else {
+        return Err(Fault::Replay(ReplayFault::Memory));
+    };
+    let Ok(pages) = MemoryPages::new(host.alloc(), PAGES) else {
+        return Err(Fault::Replay(ReplayFault::Memory));
+    };
+    match Meter::format(host.alloc(), pages) {
+        Ok(meter) => run_on(host, input, &mut writer, meter),
+        Err((_, fault)) => Err(Fault::Open(fault)),
+    }
+}
+
+/// Polls a meter in memory over a socket, into the file where one is named.
+fn run_loopback<'a, H: Net + Files + AllocGlobal, W: Write>(
+    host: &H,
+    file: Option<&'a str>,
+    stops: u8,
+    output: &mut W,
+) -> Result<(), Fault<'a>> {
+    let mut told = None;
+    match (loopback(host, file, stops, output, &mut told), file, told) {
+        (Ok(()), _, _) => Ok(()),
+        (Err(_), Some(file), Some(error)) => Err(Fault::of_file(host.alloc(), file, &error)),
+        (Err(fault), _, _) => Err(Fault::Loop(fault)),
+    }
+}
+
+/// The status of a run that has ended; a fault is named among the errors.
+pub fn finish<E: Write>(ended: Result<(), Fault<'_>>, errors: &mut E) -> io::Result<u8> {
+    match ended {
+        Ok(()) => Ok(DONE),
+        Err(fault) => {
+            writeln!(errors, "dlms: {fault}")?;
+            Ok(FAULT)
+        }
+    }
+}
+
+/// Does the job that the words name, the first of which is the program's own name, and answers its status. What a replay
+/// reads is the input, what is printed goes to the output, a fault's name and the help go to the errors. An Err comes where
+/// the errors can't be written.
+pub fn run<H: Net + Files<File = File> + AllocGlobal, R: Read + Drop, W: Write, E: Write>(
+    host: &H,
+    words: &[&str],
+    input: R,
+    output: &mut W,
+    errors: &mut E,
+) -> io::Result<u8> {
+    match job(host.alloc(), words) {
+        Ok(Job::Format { file }) => finish(run_format(host, file, output), errors),
+        Ok(Job::Replay { file: Some(file) }) => {
+            finish(run_replay_file(host, file, input, output), errors)
+        }
+        Ok(Job::Replay { file: None }) => finish(run_replay_memory(host, input, output), errors),
+        Ok(Job::Loopback { readings, stops }) => {
+            finish(run_loopback(host, readings, stops, output), errors)
+        }
+        Err(error) if error.kind() == ErrorKind::OutOfMemory => {
+            finish(Err(Fault::MEMORY), errors)
+        }
+        Err(error) => {
+            write!(errors, "{error}")?;
+            Ok(USAGE)
+        }
+    }
+}
