@@ -4,6 +4,7 @@ use Rattle.dlms_frame.specs.declared.frame.Address.{Address}
 use Rattle.dlms_frame.specs.declared.frame.Address.TheVariants.{One, Two, Four}
 use Rattle.dlms_frame.specs.declared.frame.Header.{Header}
 use Rattle.dlms_frame.specs.Check.{check_of}
+use Rattle.dlms_frame.specs.declared.reading.TheConstants.{FLAG}
 
 -- what a frame says
 pub record Parts : Type 0 where
@@ -44,7 +45,7 @@ segment_bit true = 8
 
 -- 1010, the segmentation bit and 11 bits of length, the addresses and the control byte
 abbrev pub header_bytes : Header → List ℕ
-header_bytes h = (160 + segment_bit h.segmented + h.len / 256) ∷ h.len % 256 ∷ (address_bytes h.dest ++ (address_bytes h.src ++ h.control ∷ []))
+header_bytes h = (0xA0 + segment_bit h.segmented + h.len / 256) ∷ h.len % 256 ∷ (address_bytes h.dest ++ (address_bytes h.src ++ h.control ∷ []))
 
 abbrev pub header_of : Parts → Header
 header_of f = record { segmented = f.segmented; len = frame_len f; dest = f.dest; src = f.src; control = f.control }
@@ -69,7 +70,7 @@ abbrev pub body : Parts → List ℕ
 body f = body_with (header_bytes (header_of f)) f.info
 
 abbrev pub spelling : Parts → List ℕ
-spelling f = 126 ∷ (body f ++ 126 ∷ [])
+spelling f = FLAG ∷ (body f ++ FLAG ∷ [])
 
 -- what a frame keeps to
 pub record IsFrame (f : Parts) : Type 0 where

@@ -5,7 +5,7 @@ ghost use Rattle.dlms_frame.specs.Stream.{IsLongest};
 ghost use Rattle.dlms_frame.specs.Index.{IsIndex, end_of};
 
 use crate::frame::Frame;
-use crate::reading::{FLAG, read};
+use crate::reading::{FLAG, FORMAT, read};
 use std::marker::Model;
 
 pub(crate) const ROOM: usize = 4096;
@@ -24,7 +24,7 @@ fn end_at(bytes: &[u8; ROOM], start: usize) -> usize
     ensures { result ≡ end_of bytes.now start }
 {
     let high = usize::from(bytes[start + 1]);
-    if bytes[start] == FLAG && high / 16 == 10 {
+    if bytes[start] == FLAG && high / 16 == FORMAT {
         start + 1 + (high % 8 * 256 + usize::from(bytes[start + 2]))
     } else {
         0

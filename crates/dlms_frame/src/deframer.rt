@@ -55,7 +55,7 @@ impl Deframer {
 
     /// Keeps a byte that closes no frame.
     fn keep(&mut self, byte: u8)
-        requires { byte ≢ 126 }
+        requires { byte ≢ FLAG }
         ensures { Takes self.old (byte ∷ []) None self.new }
     {
         self.window.push(byte);

@@ -8,7 +8,11 @@ use crate::division::check;
 use crate::frame::{Address, Frame, Header};
 use arrayvec::ArrayVec;
 
+/// The octet before and behind a frame (IEC 62056-46, the flag).
 pub(crate) const FLAG: u8 = 0x7e;
+
+/// The format of every frame, the high half of its first octet (IEC 62056-46, the frame format field: type 3).
+pub(crate) const FORMAT: usize = 0xa;
 
 /// Whether the last two bytes are the check of those before.
 fn is_checked(bytes: &[u8]) -> bool

@@ -1,19 +1,19 @@
 -- What a frame leaves as it is, at which nothing is taken and nothing sent, and what the client does by its way.
-use Rattle.std.proofs.Common.{◌≡◌, ℕ, ◌<◌, ◌+◌, ◌==◌, ◌&&◌, if◌then◌else◌, refl, sym, ◌∙◌, ap, arith, Bool, true, false, List, [], nat_lt}
+use Rattle.std.proofs.Common.{◌≡◌, ◌<◌, ◌+◌, refl, sym, arith, Bool, true, false, [], nat_lt}
 use Rattle.std.proofs.lemmas.Bool.Decides.{nat_tests}
 use Rattle.dlms_frame.specs.Frame.{Parts}
-use Rattle.dlms_link.specs.declared.out.ClientOut.TheVariants.{Send, Down}
+use Rattle.dlms_link.specs.declared.out.ClientOut.TheVariants.{Send}
 use Rattle.dlms_link.specs.declared.out.Phase.TheVariants.{Open}
 use Rattle.dlms_link.specs.declared.control.Control.{Control}
 use Rattle.dlms_link.specs.declared.control.Control.TheVariants.{Snrm, Disc, Ua, Dm, Information, Ready, NotReady, Other}
 use Rattle.dlms_link.specs.declared.row.Row.{Row}
 use Rattle.dlms_link.specs.declared.row.Row.TheVariants.{Connects, Refuses, Disconnects, Keeps, HandsUp, Repeats, SendsNext, SaysReady, Ignores}
 use Rattle.dlms_link.specs.declared.way.Way.{Way}
-use Rattle.dlms_link.specs.declared.way.Way.TheVariants.{Takes, TakenBefore, LetsNext, Leaves}
+use Rattle.dlms_link.specs.declared.way.Way.TheVariants.{Takes, Leaves}
 use Rattle.dlms_link.specs.Octet.{control_of}
 use Rattle.dlms_link.specs.Kept.{Kept, Fresh, Good, TooLong, BadStart, kept_after, from_meter}
 use Rattle.dlms_link.specs.Server.{ServerRecord, by_row}
-use Rattle.dlms_link.specs.Client.{ClientRecord, way_of, by_way, on_control, client_step, client_timeout, by_count, takes}
+use Rattle.dlms_link.specs.Client.{ClientRecord, way_of, by_way, on_control, client_step, client_timeout, takes}
 use Rattle.dlms_link.specs.Between.{IsPassed, IsByWay}
 
 pub record Passes (r now : ServerRecord) : Type 0 where

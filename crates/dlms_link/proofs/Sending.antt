@@ -7,7 +7,6 @@ use Rattle.dlms_frame.specs.Frame.{Parts}
 use Rattle.dlms_link.specs.declared.out.LinkOut.TheVariants.{Reply}
 use Rattle.dlms_link.specs.declared.out.ClientOut.{ClientOut}
 use Rattle.dlms_link.specs.declared.out.ClientOut.TheVariants.{Send}
-use Rattle.dlms_link.specs.declared.out.Phase.TheVariants.{Open}
 use Rattle.dlms_link.specs.declared.control.Control.{Control}
 use Rattle.dlms_link.specs.declared.control.Control.TheVariants.{Snrm, Disc, Ua, Dm, Information, Ready, NotReady, Other}
 use Rattle.dlms_link.specs.declared.row.Row.TheVariants.{Keeps, HandsUp, Repeats, SendsNext, SaysReady, Ignores}
@@ -18,7 +17,7 @@ use Rattle.dlms_link.specs.Server.{ServerRecord, row_of, row_of_snrm, is_meter, 
 use Rattle.dlms_link.specs.Parameters.{size_of}
 use Rattle.dlms_link.specs.Client.{ClientRecord, way_of, client_step, client_timeout, client_send, client_segment}
 use Rattle.dlms_link.specs.Segments.{joined, kept_after_all, read_whole, IsSegmented, IsUnderWay}
-use Rattle.dlms_link.specs.Between.{MeterGoes, NothingCame, MeterTakes, MeterSends, MeterPasses, IsPassed, IsByWay, Heard, ClientGoes, NothingHeard, ClientTakes, ClientSends, ClientAnswersAgain, ClientPasses, ClientWaits}
+use Rattle.dlms_link.specs.Between.{MeterGoes, NothingCame, MeterTakes, MeterSends, MeterPasses, Heard, ClientGoes, NothingHeard, ClientTakes, ClientSends, ClientAnswersAgain, ClientPasses, ClientWaits}
 use Rattle.dlms_link.proofs.Passing.{passes, by_way_of, waits_on, takes_drops}
 use Rattle.dlms_link.proofs.Whole.{read_at_once}
 

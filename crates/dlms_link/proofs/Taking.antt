@@ -1,16 +1,14 @@
 -- What is taken in segments is read as the segments one after another, and each list of frames is cut where something begins anew.
-use Rattle.std.proofs.Common.{◌≡◌, ℕ, ◌<◌, ◌⊎◌, inl, inr, refl, sym, ◌∙◌, ap, Bool, true, false, List, [], ◌∷◌, ◌++◌}
+use Rattle.std.proofs.Common.{◌≡◌, ℕ, ◌⊎◌, inl, inr, refl, sym, ◌∙◌, ap, Bool, true, false, List, [], ◌∷◌, ◌++◌}
 use Rattle.dlms_frame.specs.Frame.{Parts}
-use Rattle.dlms_frame.specs.declared.client.Client.{Client}
 use Rattle.dlms_link.specs.declared.out.LinkOut.TheVariants.{Reply}
-use Rattle.dlms_link.specs.declared.out.ClientOut.{ClientOut}
-use Rattle.dlms_link.specs.declared.out.ClientOut.TheVariants.{Send, Down, Apdu}
+use Rattle.dlms_link.specs.declared.out.ClientOut.TheVariants.{Send}
 use Rattle.dlms_link.specs.declared.row.Row.{Row}
 use Rattle.dlms_link.specs.declared.row.Row.TheVariants.{Connects, Refuses, Disconnects, Keeps, HandsUp, Repeats, SendsNext, SaysReady, Ignores}
-use Rattle.dlms_link.specs.declared.way.Way.TheVariants.{Takes, TakenBefore, LetsNext, Leaves}
+use Rattle.dlms_link.specs.declared.way.Way.TheVariants.{Takes, TakenBefore, LetsNext}
 use Rattle.dlms_link.specs.Kept.{Kept, Fresh, Good, TooLong, BadStart, kept_after, apdu_of, from_meter, from_client}
-use Rattle.dlms_link.specs.Server.{ServerRecord, fresh_server, row_of, server_on, by_row, told, segment_of}
-use Rattle.dlms_link.specs.Client.{ClientRecord, client_step, takes, client_send}
+use Rattle.dlms_link.specs.Server.{ServerRecord, row_of, server_on, by_row, told, segment_of}
+use Rattle.dlms_link.specs.Client.{ClientRecord, client_step, takes}
 use Rattle.dlms_link.specs.Segments.{kept_after_all}
 use Rattle.dlms_link.specs.Between.{MeterGoes, NothingCame, MeterTakes, MeterSends, MeterPasses, IsPassed, IsAnew, GoesOn, BeginsAnew, IsByWay, Heard, ClientGoes, NothingHeard, ClientTakes, ClientSends, ClientAnswersAgain, ClientPasses, ClientWaits}
 use Rattle.dlms_link.proofs.Passing.{passes, by_way_of, waits_on}

@@ -16,6 +16,8 @@ use Rattle.dlms_link.specs.declared.way.Way.TheVariants.{Takes, TakenBefore, Let
 use Rattle.dlms_link.specs.Octet.{control_of, information_octet, ready_octet, next, before}
 use Rattle.dlms_link.specs.Kept.{Kept, Fresh, Good, TooLong, BadStart, kept_after, llc, from_client, from_meter, is_more}
 use Rattle.dlms_link.specs.Server.{is_client}
+use Rattle.dlms_link.specs.declared.control.TheConstants.{SNRM, DISC}
+use Rattle.dlms_link.specs.declared.segments.TheConstants.{MOST_BYTES}
 
 pub record ClientRecord : Type 0 where
   pub client : Client
@@ -49,10 +51,10 @@ abbrev pub out : ClientRecord → Parts → ClientRecord
 out c f = record c { waits = Some f; repeats = 0 }
 
 abbrev pub snrm_of : ClientRecord → Parts
-snrm_of c = to_meter c.client 147 false []
+snrm_of c = to_meter c.client SNRM false []
 
 abbrev pub disc_of : ClientRecord → Parts
-disc_of c = to_meter c.client 83 false []
+disc_of c = to_meter c.client DISC false []
 
 abbrev pub client_connect : ClientRecord → ClientRecord
 client_connect c = record (out c (snrm_of c)) { phase = Connecting }
@@ -62,10 +64,10 @@ client_disconnect c = record (out c (disc_of c)) { phase = Closing }
 
 -- the next unsent segment as an I
 abbrev pub client_segment : ClientRecord → Parts
-client_segment c = to_meter c.client (information_octet c.send_next c.receive_next) (is_more (drop 128 c.unsent)) (take 128 c.unsent)
+client_segment c = to_meter c.client (information_octet c.send_next c.receive_next) (is_more (drop MOST_BYTES c.unsent)) (take MOST_BYTES c.unsent)
 
 abbrev pub after_client_segment : ClientRecord → ClientRecord
-after_client_segment c = record (out c (client_segment c)) { send_next = next c.send_next; unsent = drop 128 c.unsent }
+after_client_segment c = record (out c (client_segment c)) { send_next = next c.send_next; unsent = drop MOST_BYTES c.unsent }
 
 abbrev pub client_giving : ClientRecord → List ℕ → ClientRecord
 client_giving c apdu = record c { kept = Fresh; unsent = llc from_client ++ apdu }

@@ -2,6 +2,7 @@
 -- during the connection phase).
 use Rattle.std.specs.Prelude.{◌≡◌, ℕ, ◌+◌, ◌*◌, ◌⊎◌, ◌==◌, ◌&&◌, ◌||◌, if◌then◌else◌, Bool, true, List, [], ◌∷◌, ◌++◌, length, fold, IsTrue, All, take, drop, Option, None, Some, unwrap_or, nat_le, min, zero, suc}
 use Rattle.std.specs.List.{flat_map, filter_map, last_or}
+use Rattle.dlms_link.specs.declared.segments.TheConstants.{MOST_BYTES}
 
 -- one parameter: its identifier, and the octets of its value
 pub record Parameter : Type 0 where
@@ -28,7 +29,7 @@ group_of ps = flat_map parameter_bytes ps
 
 -- format 81, group 80, the group's length, the parameters one after another
 abbrev pub information_of : List Parameter → List ℕ
-information_of ps = 129 ∷ 128 ∷ length (group_of ps) ∷ group_of ps
+information_of ps = 0x81 ∷ 0x80 ∷ length (group_of ps) ∷ group_of ps
 
 -- An SNRM's information: nothing at all, which leaves every parameter as it is, or a group of parameters and nothing behind it.
 abbrev pub IsInformation : List ℕ → List Parameter → Type 0
@@ -44,7 +45,7 @@ received_by p = if p.id == 6 then Some (number_of p.value) else None
 
 -- The greatest information that the sender of these parameters receives in a frame: the last 06 says it, and without one it is 128.
 abbrev pub greatest_received : List Parameter → ℕ
-greatest_received ps = unwrap_or (last_or None (filter_map received_by ps)) 128
+greatest_received ps = unwrap_or (last_or None (filter_map received_by ps)) MOST_BYTES
 
 -- The same by reading from left to right. The first number bounds how many parameters are read, the second is the greatest
 -- information so far.
@@ -64,20 +65,20 @@ pub record IsFirst (id : ℕ) (value behind octets : List ℕ) : Type 0 where
 
 -- the most information of a frame that the meter then sends: at most 128, and a link with less than 32 isn't made
 abbrev pub capped_size : ℕ → Option ℕ
-capped_size received = if nat_le 32 received then Some (min received 128) else None
+capped_size received = if nat_le 32 received then Some (min received MOST_BYTES) else None
 
 abbrev pub size_read : Option ℕ → Option ℕ
 size_read None = None
 size_read (Some received) = capped_size received
 
 unfoldable pub size_of : List ℕ → Option ℕ
-size_of [] = Some 128
+size_of [] = Some MOST_BYTES
 size_of (format ∷ group ∷ len ∷ rest) =
-    if (format == 129) && (group == 128) && (len == length rest) then size_read (read_group (length rest) 128 rest) else None
+    if (format == 0x81) && (group == 0x80) && (len == length rest) then size_read (read_group (length rest) MOST_BYTES rest) else None
 size_of _ = None
 
 -- the meter's own: it sends this much, receives 128, and its windows are 1
 abbrev pub own_parameters : ℕ → List Parameter
 own_parameters size =
-    record { id = 5; value = size ∷ [] } ∷ record { id = 6; value = 128 ∷ [] }
+    record { id = 5; value = size ∷ [] } ∷ record { id = 6; value = MOST_BYTES ∷ [] }
     ∷ record { id = 7; value = 0 ∷ 0 ∷ 0 ∷ 1 ∷ [] } ∷ record { id = 8; value = 0 ∷ 0 ∷ 0 ∷ 1 ∷ [] } ∷ []

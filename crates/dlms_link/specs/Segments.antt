@@ -2,6 +2,7 @@
 use Rattle.std.specs.Prelude.{◌≡◌, ℕ, ◌≤◌, ◌==◌, ◌&&◌, if◌then◌else◌, true, false, List, [], ◌∷◌, ◌++◌, length, map, All}
 use Rattle.dlms_frame.specs.Frame.{Parts}
 use Rattle.dlms_link.specs.Kept.{Kept, BadStart, kept_after, capped, is_more}
+use Rattle.dlms_link.specs.declared.kept.TheConstants.{DESTINATION, QUALITY}
 
 abbrev pub joined : List (List ℕ) → List ℕ
 joined [] = []
@@ -14,7 +15,7 @@ kept_after_all side k (info ∷ infos) = kept_after_all side (kept_after side k 
 
 -- the whole information of an APDU's frames, read at once
 abbrev pub read_whole : ℕ → List ℕ → Kept
-read_whole side (x ∷ y ∷ z ∷ apdu) = if (x == 230) && (y == side) && (z == 0) then capped apdu else BadStart
+read_whole side (x ∷ y ∷ z ∷ apdu) = if (x == DESTINATION) && (y == side) && (z == QUALITY) then capped apdu else BadStart
 read_whole side _ = BadStart
 
 -- A text goes out in these frames: their information, joined, is the text; each but the last holds exactly as much as fits

@@ -16,6 +16,8 @@ use Rattle.dlms_link.specs.declared.row.Row.TheVariants.{Connects, Refuses, Disc
 use Rattle.dlms_link.specs.Octet.{control_of, information_octet, ready_octet, next, before}
 use Rattle.dlms_link.specs.Kept.{Kept, Fresh, Good, TooLong, BadStart, kept_after, apdu_of, llc, from_client, from_meter, is_more}
 use Rattle.dlms_link.specs.Parameters.{size_of, information_of, own_parameters}
+use Rattle.dlms_link.specs.declared.control.TheConstants.{UA, DM}
+use Rattle.dlms_link.specs.declared.segments.TheConstants.{MOST_BYTES}
 
 pub record ServerRecord : Type 0 where
   pub client : Client
@@ -38,9 +40,9 @@ pub record ServerRecord : Type 0 where
   pub waits : Option Address
 
 abbrev pub fresh_server : Client → ServerRecord
-fresh_server who = record { client = who; up = false; send_next = 0; receive_next = 0; last = NoAnswer; took_information = false; kept = Fresh; apdu = []; unsent = []; size = 128; waits = None }
+fresh_server who = record { client = who; up = false; send_next = 0; receive_next = 0; last = NoAnswer; took_information = false; kept = Fresh; apdu = []; unsent = []; size = MOST_BYTES; waits = None }
 
--- the meter's address is 1, with 17 or nothing as its lower part
+-- the meter's address is 1, with 17 or nothing as its lower part (IEC 62056-46: the management logical device, and a physical one)
 abbrev pub is_meter : Address → Bool
 is_meter (One upper) = upper == 1
 is_meter (Two upper lower) = (upper == 1) && (lower == 17)
@@ -62,7 +64,7 @@ row_of_snrm None = Refuses
 
 -- the size that an SNRM's row names is in range
 abbrev pub HasSize : Row → Type 0
-HasSize (Connects size) = (32 ≤ size) × (size ≤ 128)
+HasSize (Connects size) = (32 ≤ size) × (size ≤ MOST_BYTES)
 HasSize Refuses = Unit {0}
 HasSize Disconnects = Unit {0}
 HasSize Keeps = Unit {0}
@@ -141,10 +143,10 @@ ready_frame r from = to_client r.client from (ready_octet r.receive_next) false 
 abbrev pub by_row : ServerRecord → Parts → Row → ServerRecord × LinkOut
 by_row r f (Connects size) = (
   record { client = r.client; up = true; send_next = 0; receive_next = 0; last = NoAnswer; took_information = false; kept = Fresh; apdu = []; unsent = []; size = size; waits = None },
-  Up (to_client r.client f.dest 115 false (information_of (own_parameters size))),
+  Up (to_client r.client f.dest UA false (information_of (own_parameters size))),
 )
-by_row r f Refuses = (record r { up = false }, Down (to_client r.client f.dest 31 false []))
-by_row r f Disconnects = (record r { up = false }, Down (to_client r.client f.dest 115 false []))
+by_row r f Refuses = (record r { up = false }, Down (to_client r.client f.dest DM false []))
+by_row r f Disconnects = (record r { up = false }, Down (to_client r.client f.dest UA false []))
 by_row r f Keeps =
     let ready = to_client r.client f.dest (ready_octet (next r.receive_next)) false [] in
     (record r { receive_next = next r.receive_next; last = WasReady ready; took_information = true; kept = kept_after from_client r.kept f.info }, Reply ready)

@@ -10,6 +10,7 @@ use Rattle.dlms_link.specs.declared.out.ClientOut.{ClientOut}
 use Rattle.dlms_link.specs.declared.out.ClientOut.TheVariants.{Nothing as NothingTaken, Up as IsUp, Send, Apdu as ApduTaken, Down as IsDown}
 use Rattle.dlms_link.specs.Server.{ServerRecord, fresh_server, server_on, server_send}
 use Rattle.dlms_link.specs.Client.{ClientRecord, fresh_client, client_connect, client_disconnect, client_send, client_step, client_timeout, snrm_of, disc_of}
+use Rattle.dlms_link.specs.declared.kept.TheConstants.{MOST_APDU}
 
 pub record World : Type 0 where
   pub meter : ServerRecord
@@ -27,10 +28,10 @@ pub record World : Type 0 where
 -- what may happen next. A loss is that of the oldest frame: a later one is lost when it has become the oldest
 pub data Event : Type 0 where
   Connect : Event
-  Give : (apdu : List ℕ) → length apdu ≤ 1024 → Event
+  Give : (apdu : List ℕ) → length apdu ≤ MOST_APDU → Event
   Disconnect : Event
   -- the oldest frame reaches the meter, which is given this answer where it waits for one
-  ReachesMeter : (answer : List ℕ) → length answer ≤ 1024 → Event
+  ReachesMeter : (answer : List ℕ) → length answer ≤ MOST_APDU → Event
   ReachesClient : Event
   LostUp : Event
   LostDown : Event

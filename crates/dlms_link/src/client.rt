@@ -4,10 +4,10 @@ ghost use Rattle.std.specs.Prelude.{◌≡◌, ◌≤◌, ◌<◌, ℕ, ◌↔�
 ghost use Rattle.dlms_link.specs.Client.{IsDown, IsIdle, StandsAfter, fresh_client, to_meter, client_connect, client_disconnect, client_send, client_step, client_timeout, client_segment, after_client_segment, client_ready, snrm_of, disc_of, closed, connected, out, way_of, is_answer, is_server, takes, by_way, on_counted};
 ghost use Rattle.dlms_link.specs.Server.{is_client};
 
-use crate::control::{Control, before, information_octet, next, read, ready_octet};
-use crate::kept::{Assembly, Progress};
+use crate::control::{Control, DISC, SNRM, before, information_octet, next, read, ready_octet};
+use crate::kept::{Assembly, DESTINATION, FROM_CLIENT, FROM_METER, MOST_APDU, Progress, QUALITY};
 use crate::out::{ClientOut, Phase};
-use crate::segments::cut;
+use crate::segments::{MOST_BYTES, cut};
 use crate::server::is_client;
 use crate::way::Way;
 use arrayvec::ArrayVec;
@@ -28,7 +28,7 @@ pub struct ClientLink {
     waits: Option<Frame>,
     repeats: u8,
     kept: Assembly,
-    apdu: ArrayVec<u8, 1024>,
+    apdu: ArrayVec<u8, MOST_APDU>,
     unsent: ArrayVec<u8, 1027>,
 }
 
@@ -78,7 +78,7 @@ impl ClientLink {
     /// The last APDU that was handed up.
     pub fn apdu(&self) -> &[u8]
         ensures value { result.now ≡ self.now.apdu }
-        ensures short { length result.now ≤ 1024 }
+        ensures short { length result.now ≤ MOST_APDU }
     {
         self.apdu.as_slice()
     }
@@ -110,7 +110,7 @@ impl ClientLink {
         ensures frame { result ≡ snrm_of self.old }
         ensures after { self.new ≡ client_connect self.old }
     {
-        let frame = to_meter(self.client, 0x93, false, &[]);
+        let frame = to_meter(self.client, SNRM, false, &[]);
         self.phase = Phase::Connecting;
         self.goes_out(&frame);
         frame
@@ -122,7 +122,7 @@ impl ClientLink {
         ensures frame { result ≡ disc_of self.old }
         ensures after { self.new ≡ client_disconnect self.old }
     {
-        let frame = to_meter(self.client, 0x53, false, &[]);
+        let frame = to_meter(self.client, DISC, false, &[]);
         self.phase = Phase::Closing;
         self.goes_out(&frame);
         frame
@@ -131,12 +131,12 @@ impl ClientLink {
     /// Sends an APDU: its first segment.
     pub fn send(&mut self, apdu: &[u8]) -> Frame
         requires idle { IsIdle self.old }
-        requires short { length apdu.now ≤ 1024 }
+        requires short { length apdu.now ≤ MOST_APDU }
         ensures frame { result ≡ (client_send self.old apdu.now).1 }
         ensures after { self.new ≡ (client_send self.old apdu.now).0 }
     {
         let mut unsent = ArrayVec::new();
-        let _ = unsent.try_extend_from_slice(&[0xe6, 0xe6, 0x00]);
+        let _ = unsent.try_extend_from_slice(&[DESTINATION, FROM_CLIENT, QUALITY]);
         let _ = unsent.try_extend_from_slice(apdu);
         self.unsent = unsent;
         self.kept = Assembly::new();
@@ -236,7 +236,7 @@ impl ClientLink {
     {
         match way {
             Way::Takes => {
-                self.kept.take(0xe7, frame.info.as_slice());
+                self.kept.take(FROM_METER, frame.info.as_slice());
                 self.takes(frame.segmented)
             }
             Way::TakenBefore => ClientOut::Send(self.ready()),
@@ -276,7 +276,7 @@ impl ClientLink {
         ensures frame { result ≡ client_segment self.old }
         ensures after { self.new ≡ after_client_segment self.old }
     {
-        let (front, more) = cut(&mut self.unsent, 128);
+        let (front, more) = cut(&mut self.unsent, MOST_BYTES);
         let frame = to_meter(
             self.client,
             information_octet(self.send_next, self.receive_next),

@@ -13,6 +13,7 @@ ghost use Rattle.dlms_link.specs.Server.{ServerRecord, answered, link_step, row_
 ghost use Rattle.dlms_link.specs.Client.{ClientRecord, client_send, client_step, takes};
 ghost use Rattle.dlms_link.specs.Line.{ApdusComeUp, LineIsSilent, OneFrameAtMost};
 ghost use Rattle.dlms_link.specs.World.{Event, run, start, IsBeginningOf};
+ghost use Rattle.dlms_link.specs.declared.segments.TheConstants.{MOST_BYTES};
 
 /// Over a line that loses any frames, and in which a time-out comes only where nothing is on the
 /// line, what each end gives up during a connection is a beginning of what the other was given to
@@ -69,7 +70,7 @@ pub fn segments_are_sent()
     ensures meter { (r now : ServerRecord) (answer : List ℕ) (frames sent : List Parts) (taken : List (List ℕ)) → MeterGoes (server_send r answer).0 frames taken sent now
         → IsUnderWay r.size (llc from_meter ++ answer) ((server_send r answer).1 ∷ sent) now.unsent }
     ensures client { (c now : ClientRecord) (apdu : List ℕ) (heard : List Heard) (sent : List Parts) (taken : List (List ℕ)) → ClientGoes (client_send c apdu).0 heard taken sent now
-        → (rest : List ℕ) × IsUnderWay 128 (llc from_client ++ apdu) ((client_send c apdu).1 ∷ sent) rest × (taken ≡ [] → now.unsent ≡ rest) }
+        → (rest : List ℕ) × IsUnderWay MOST_BYTES (llc from_client ++ apdu) ((client_send c apdu).1 ∷ sent) rest × (taken ≡ [] → now.unsent ≡ rest) }
     ensures read_again { (side size : ℕ) (apdu : List ℕ) (frames : List Parts) → 3 ≤ size → IsSegmented size (llc side ++ apdu) frames
         → kept_after_all side Fresh (map (λ f. f.info) frames) ≡ capped apdu }
 {}

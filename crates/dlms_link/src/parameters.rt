@@ -3,6 +3,8 @@
 ghost use Rattle.std.specs.Prelude.{◌≡◌, ◌≤◌, ◌<◌, ℕ, IfSome, IfNone, IsTrue, length, None};
 ghost use Rattle.dlms_link.specs.Parameters.{IsFirst, has_lawful_length, number_of, read_group, size_of, information_of, own_parameters};
 
+use crate::segments::MOST_BYTES;
+
 /// Whether a parameter may have a value of this length.
 fn has_lawful_length(id: u8, len: usize) -> bool
     ensures { result ≡ has_lawful_length id len }
@@ -47,9 +49,9 @@ fn first_parameter(bytes: &[u8]) -> Option<(u8, &[u8], &[u8])>
 
 /// The greatest information that a group's parameters say is received.
 fn greatest_received(group: &[u8]) -> Option<u32>
-    ensures { result ≡ read_group (length group.now) 128 group.now }
+    ensures { result ≡ read_group (length group.now) MOST_BYTES group.now }
 {
-    let mut received = 128;
+    let mut received = MOST_BYTES as u32;
     let mut rest = group;
     while !rest.is_empty() {
         let (id, value, behind) = first_parameter(rest)?;
@@ -65,16 +67,16 @@ fn greatest_received(group: &[u8]) -> Option<u32>
 #[tactic(auto, unfolding(crate::specs::Parameters::size_of))]
 pub(crate) fn size_of(info: &[u8]) -> Option<u8>
     ensures size { result ≡ size_of info.now }
-    ensures within { IfSome result (λ size. (32 ≤ size) × (size ≤ 128)) }
+    ensures within { IfSome result (λ size. (32 ≤ size) × (size ≤ MOST_BYTES)) }
 {
     match info {
-        [] => Some(128),
+        [] => Some(MOST_BYTES as u8),
         [0x81, 0x80, len, group @ ..] if usize::from(*len) == group.len() => {
             let received = greatest_received(group)?;
             if received < 32 {
                 None
             } else {
-                Some(received.min(128) as u8)
+                Some(received.min(MOST_BYTES as u32) as u8)
             }
         }
         _ => None,
@@ -86,6 +88,6 @@ pub(crate) fn parameters(size: u8) -> [u8; 21]
     ensures { result ≡ information_of (own_parameters size) }
 {
     [
-        0x81, 0x80, 18, 5, 1, size, 6, 1, 128, 7, 4, 0, 0, 0, 1, 8, 4, 0, 0, 0, 1,
+        0x81, 0x80, 18, 5, 1, size, 6, 1, MOST_BYTES as u8, 7, 4, 0, 0, 0, 1, 8, 4, 0, 0, 0, 1,
     ]
 }

@@ -10,7 +10,7 @@ pub const MOST_BYTES: usize = 128;
 
 /// Takes the front of at most `size` bytes off, and says whether more is left.
 pub fn cut(unsent: &mut ArrayVec<u8, 1027>, size: usize) -> (ArrayVec<u8, MOST_BYTES>, bool)
-    requires { size ≤ 128 }
+    requires { size ≤ MOST_BYTES }
     ensures front { result.0.items ≡ take size unsent.old.items }
     ensures short { length result.0.items ≤ size }
     ensures more { result.1 ≡ is_more (drop size unsent.old.items) }

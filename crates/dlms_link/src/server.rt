@@ -5,12 +5,12 @@ ghost use Rattle.dlms_frame.specs.Frame.{IsAddress};
 ghost use Rattle.dlms_link.specs.Parameters.{size_of};
 ghost use Rattle.dlms_link.specs.Server.{again, fresh_server, is_meter, is_client, to_client, row_of, row_of_snrm, row_while_up, row_while_down, by_row, ready_frame, server_on, server_send, awaits, HasSize, segment_of, after_segment, was_information};
 
-use crate::control::{Control, before, information_octet, next, read, ready_octet};
-use crate::kept::Assembly;
+use crate::control::{Control, DM, UA, before, information_octet, next, read, ready_octet};
+use crate::kept::{Assembly, DESTINATION, FROM_CLIENT, FROM_METER, MOST_APDU, QUALITY};
 use crate::out::{Answer, LinkOut};
 use crate::parameters::{parameters, size_of};
 use crate::row::Row;
-use crate::segments::cut;
+use crate::segments::{MOST_BYTES, cut};
 use arrayvec::ArrayVec;
 use dlms_frame::{Address, Client, Frame};
 use std::marker::Model;
@@ -25,7 +25,7 @@ pub struct ServerLink {
     last: Answer,
     took_information: bool,
     kept: Assembly,
-    apdu: ArrayVec<u8, 1024>,
+    apdu: ArrayVec<u8, MOST_APDU>,
     unsent: ArrayVec<u8, 1027>,
     size: u8,
     waits: Option<Address>,
@@ -110,7 +110,7 @@ impl ServerLink {
             kept: Assembly::new(),
             apdu: ArrayVec::new(),
             unsent: ArrayVec::new(),
-            size: 128,
+            size: MOST_BYTES as u8,
             waits: None,
         }
     }
@@ -118,7 +118,7 @@ impl ServerLink {
     /// The last APDU that was handed up.
     pub fn apdu(&self) -> &[u8]
         ensures value { result.now ≡ self.now.apdu }
-        ensures short { length result.now ≤ 1024 }
+        ensures short { length result.now ≤ MOST_APDU }
     {
         self.apdu.as_slice()
     }
@@ -196,7 +196,7 @@ impl ServerLink {
     /// The answer to the APDU that was handed up: its first segment.
     pub fn send(&mut self, answer: &[u8]) -> Frame
         requires waits { IsSome self.old.waits }
-        requires short { length answer.now ≤ 1024 }
+        requires short { length answer.now ≤ MOST_APDU }
         ensures frame { result ≡ (server_send self.old answer.now).1 }
         ensures after { self.new ≡ (server_send self.old answer.now).0 }
         ensures idle { self.new.waits ≡ None }
@@ -204,7 +204,7 @@ impl ServerLink {
     {
         let from = self.waits.unwrap_or(Address::One(1));
         let mut unsent = ArrayVec::new();
-        let _ = unsent.try_extend_from_slice(&[0xe6, 0xe7, 0x00]);
+        let _ = unsent.try_extend_from_slice(&[DESTINATION, FROM_METER, QUALITY]);
         let _ = unsent.try_extend_from_slice(answer);
         self.unsent = unsent;
         self.waits = None;
@@ -235,14 +235,14 @@ impl ServerLink {
     /// The link comes up.
     fn connects(&mut self, frame: &Frame, size: u8) -> LinkOut
         requires least { 32 ≤ size }
-        requires most { size ≤ 128 }
+        requires most { size ≤ MOST_BYTES }
         requires idle { self.old.waits ≡ None }
         ensures out { result ≡ (by_row self.old frame.now (Row.Connects size)).1 }
         ensures after { self.new ≡ (by_row self.old frame.now (Row.Connects size)).0 }
     {
         let client = self.client;
         *self = ServerLink::connected(client, size);
-        LinkOut::Up(to_client(client, frame.dest, 0x73, false, &parameters(size)))
+        LinkOut::Up(to_client(client, frame.dest, UA, false, &parameters(size)))
     }
 
     /// The link is down, or comes down for an SNRM that can't be met.
@@ -251,7 +251,7 @@ impl ServerLink {
         ensures after { self.new ≡ (by_row self.old frame.now Row.Refuses).0 }
     {
         self.up = false;
-        LinkOut::Down(to_client(self.client, frame.dest, 0x1f, false, &[]))
+        LinkOut::Down(to_client(self.client, frame.dest, DM, false, &[]))
     }
 
     /// The link comes down, as the client wants it.
@@ -260,7 +260,7 @@ impl ServerLink {
         ensures after { self.new ≡ (by_row self.old frame.now Row.Disconnects).0 }
     {
         self.up = false;
-        LinkOut::Down(to_client(self.client, frame.dest, 0x73, false, &[]))
+        LinkOut::Down(to_client(self.client, frame.dest, UA, false, &[]))
     }
 
     /// A segment is kept.
@@ -270,7 +270,7 @@ impl ServerLink {
     {
         self.receive_next = next(self.receive_next);
         self.took_information = true;
-        self.kept.take(0xe6, frame.info.as_slice());
+        self.kept.take(FROM_CLIENT, frame.info.as_slice());
         LinkOut::Reply(self.ready(frame.dest))
     }
 
@@ -281,7 +281,7 @@ impl ServerLink {
     {
         self.receive_next = next(self.receive_next);
         self.took_information = true;
-        self.kept.take(0xe6, frame.info.as_slice());
+        self.kept.take(FROM_CLIENT, frame.info.as_slice());
         let told = self.kept.told();
         self.kept.give(&mut self.apdu);
         self.unsent.clear();
@@ -327,7 +327,7 @@ impl ServerLink {
     /// A link that has just come up.
     fn connected(client: Client, size: u8) -> Self
         requires least { 32 ≤ size }
-        requires most { size ≤ 128 }
+        requires most { size ≤ MOST_BYTES }
         ensures { result ≡ record (fresh_server client) { up = true; size = size } }
     {
         ServerLink {
