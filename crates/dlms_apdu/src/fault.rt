@@ -46,9 +46,13 @@ impl ApduFault {
 /// Why bytes are no APDU, which is told without memory.
 #[derive(Clone, Copy, Debug, PartialEq, Eq)]
 pub enum Refusal {
+    /// As `ApduFault::Short`.
     Short,
+    /// As `ApduFault::Choice`.
     Choice,
+    /// As `ApduFault::Trailing`.
     Trailing,
+    /// As `ApduFault::Data`.
     Data,
 }
 

@@ -31,6 +31,7 @@ pub enum BodyFault {
 pub enum RestoreFault {
     /// They are the bytes of no state: an unused byte is not zero, or a value is past its limit.
     Spelling,
+    /// The room for the rows was refused.
     Memory,
 }
 

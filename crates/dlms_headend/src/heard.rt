@@ -8,5 +8,6 @@ use std::alloc::Allocator;
 pub enum Heard<A: Allocator> {
     /// The block of this number, behind which others are to come.
     More(u32),
+    /// These rows: nothing else is to come.
     Rows(Vec<Row, A>),
 }

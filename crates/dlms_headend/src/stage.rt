@@ -20,7 +20,10 @@ pub enum Stage {
 pub enum Course {
     /// Nothing was sent yet.
     Ready,
+    /// A frame is out, and its answer is awaited.
     Running,
+    /// It ended with its rows.
     Done,
+    /// It ended with this fault, for good.
     Failed(PollFault),
 }

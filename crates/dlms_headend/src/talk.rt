@@ -36,6 +36,7 @@ impl<A: Allocator> Model for Talk<A> {
 }
 
 impl<A: Allocator + Copy> Talk<A> {
+    /// Nothing was taken yet.
     pub fn new(alloc: A) -> Self
         ensures { result ≡ fresh_talk }
     {
@@ -47,12 +48,14 @@ impl<A: Allocator + Copy> Talk<A> {
         }
     }
 
+    /// What is awaited.
     pub fn stage(&self) -> Stage
         ensures { result ≡ self.now.stage }
     {
         self.stage
     }
 
+    /// The rows that were brought; none before an answer that has them.
     pub fn rows(&self) -> &[Row]
         ensures rows { result.now ≡ self.now.rows }
         ensures readings { AreReadings result.now }

@@ -59,6 +59,7 @@ fn to_meter(client: Client, control: u8, segmented: bool, bytes: &[u8]) -> Frame
 }
 
 impl ClientLink {
+    /// The end of this client, closed.
     pub fn new(client: Client) -> Self
         ensures { result ≡ fresh_client client }
     {

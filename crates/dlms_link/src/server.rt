@@ -97,6 +97,7 @@ fn was_information(last: &Answer) -> bool
 }
 
 impl ServerLink {
+    /// The meter's end for this client, down.
     pub fn new(client: Client) -> Self
         ensures { result ≡ fresh_server client }
     {

@@ -7,6 +7,7 @@ use thiserror::Error;
 /// What a page reads as.
 #[derive(Clone, Copy, Debug, PartialEq, Eq)]
 pub enum PageRead {
+    /// The 512 bytes that were written there.
     Content([u8; 512]),
     /// What stands there was never written: a write was torn, or nothing was written yet.
     Damaged,

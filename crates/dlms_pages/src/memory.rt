@@ -18,7 +18,9 @@ use std::snapshot::Snapshot;
 /// A call that a stop may undo.
 #[derive(Clone, Copy, Debug, PartialEq, Eq)]
 pub enum Call {
+    /// These bytes were written to the page of this index.
     Write { index: u16, bytes: [u8; 512] },
+    /// A sync.
     Sync,
 }
 

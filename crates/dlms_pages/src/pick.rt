@@ -16,8 +16,11 @@ pub enum Choice {
 /// What a stop leaves of all of them.
 #[derive(Clone, Copy, Debug)]
 pub enum Pick<'a> {
+    /// Each is left as it was at the last sync.
     AllOld,
+    /// Each is left as it was written last.
     AllNew,
+    /// Each reads as damaged.
     AllDamaged,
     /// The choice at each place is for the page with that index; pages past the list's end are left old.
     Each(&'a [Choice]),

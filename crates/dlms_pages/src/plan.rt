@@ -5,6 +5,7 @@ ghost use Rattle.dlms_pages.specs.Memory.{fails_at};
 /// Which of the calls to come fail.
 #[derive(Clone, Copy, Debug, PartialEq, Eq)]
 pub enum Plan {
+    /// None fails.
     Never,
     /// So many pass, and every later one fails.
     From(u64),

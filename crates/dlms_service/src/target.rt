@@ -8,7 +8,9 @@ use dlms_data::Descriptor;
 /// A service that changes something.
 #[derive(Clone, Copy, Debug, PartialEq, Eq)]
 pub enum Service {
+    /// SET of an attribute.
     Set,
+    /// ACTION, a method with its parameter.
     Action,
 }
 

@@ -6,6 +6,7 @@ use thiserror::Error;
 /// Why a store was not made or opened. The device is given back.
 #[derive(Clone, Copy, Debug, PartialEq, Eq, Error)]
 pub enum OpenFault {
+    /// The device failed.
     #[error("device")]
     Device,
     /// No slot has a whole, open gate of a known version.
@@ -14,6 +15,7 @@ pub enum OpenFault {
     /// This page of the active slot is damaged, or does not fit.
     #[error("corrupt {0}")]
     Corrupt(u16),
+    /// A growth was refused.
     #[error("memory")]
     Memory,
     /// A checkpoint is due, and there is no further generation.
