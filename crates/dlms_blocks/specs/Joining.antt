@@ -1,5 +1,5 @@
 -- A value read that comes in blocks.
-use Rattle.std.specs.Prelude.{◌≡◌, ℕ, ◌+◌, ◌++◌, Bool, true, false, not, ◌&&◌, List, [], Result, Ok, Err}
+use Rattle.std.specs.Prelude.{ℕ, ◌++◌, Bool, false, not, ◌&&◌, List, []}
 use Rattle.dlms_blocks.specs.Coming.{follows}
 
 -- the bytes joined so far, the number of the last block taken (0 before the first), and whether that was the last one

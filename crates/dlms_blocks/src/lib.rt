@@ -8,7 +8,7 @@ mod joining;
 pub mod laws;
 mod sending;
 
-pub use block::{Block, PutStep, UNKNOWN_BLOCK};
+pub use block::{Block, LONG_SET_ABORTED, NO_LONG_GET, NO_LONG_SET, PutStep, UNKNOWN_BLOCK};
 pub use coming::PutIn;
 pub use going::{GetOut, PutOut};
 pub use joining::GetIn;

@@ -14,6 +14,8 @@ use Rattle.dlms_service.specs.declared.target.Service.{Service}
 use Rattle.dlms_service.specs.declared.target.Service.TheVariants.{Set, Action}
 use Rattle.dlms_service.specs.Session.{SessionValue, Outcome, says, without_put}
 use Rattle.dlms_service.specs.Planned.{IsValue, IsPlanFor, IsTyped, reaches, done}
+use Rattle.dlms_blocks.specs.declared.block.TheConstants.{NO_LONG_SET}
+use Rattle.dlms_service.specs.declared.blocks.TheConstants.{LONG_ACTION_ABORTED, NO_LONG_ACTION}
 
 -- a block was taken, and it was not the last one
 abbrev pub taken_form : Service → ℕ → ℕ → ResponseForm
@@ -29,7 +31,7 @@ ended_form Action invoke number result = action_result invoke result
 -- (long-action-aborted, no-long-action-in-progress)
 abbrev pub code_for : Service → ℕ → ℕ
 code_for Set code = code
-code_for Action code = if code == 18 then 16 else 15
+code_for Action code = if code == NO_LONG_SET then NO_LONG_ACTION else LONG_ACTION_ABORTED
 
 -- the whole value came, for this target: the transfer ends, and what is asked for is done
 abbrev pub Completes : List Event → SessionValue → ℕ → ℕ → Target → List ℕ → Outcome → Type 0
@@ -60,7 +62,7 @@ open_for service None = None
 open_for service (Some t) = if same_service service t.service then Some t else None
 
 abbrev pub ContinuesFor : List Event → SessionValue → Service → ℕ → BlockForm → Option Target → Outcome → Type 0
-ContinuesFor E s service invoke b None o = o ≡ says (without_put s) (ended_form service invoke b.number (code_for service 18))
+ContinuesFor E s service invoke b None o = o ≡ says (without_put s) (ended_form service invoke b.number (code_for service NO_LONG_SET))
 ContinuesFor E s service invoke b (Some t) o =
     Steps E s invoke b.number t (more_after s.coming.taken s.coming b.last b.number b.raw) (more_answer s.coming.taken s.coming.joined b.last b.number b.raw) o
 

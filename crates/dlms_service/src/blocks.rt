@@ -8,18 +8,13 @@ ghost use Rattle.dlms_service.specs.Blocks.{taken_form, ended_form, code_for, op
 use crate::target::{Service, Target, is_same};
 use crate::writing::{Answer, short};
 use dlms_apdu::Response;
+use dlms_blocks::NO_LONG_SET;
 
-/// The result of a next block where no long get is in progress.
-pub const NO_LONG_GET: u8 = 16;
+/// The result of ACTION that ends for any cause but the next (long-action-aborted).
+pub const LONG_ACTION_ABORTED: u8 = 15;
 
-/// The result of a further block where no long set is in progress.
-pub const NO_LONG_SET: u8 = 18;
-
-/// The result of ACTION that ends for any cause but the next.
-const LONG_ACTION_ABORTED: u8 = 15;
-
-/// The result of a further block where no long action is in progress.
-const NO_LONG_ACTION: u8 = 16;
+/// The result of a further block where no long action is in progress (no-long-action-in-progress).
+pub const NO_LONG_ACTION: u8 = 16;
 
 /// No block, but the result that ends the transfer.
 pub fn no_block(invoke: u8, number: u32, code: u8) -> Answer
