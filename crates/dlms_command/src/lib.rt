@@ -1,6 +1,10 @@
 //! What the program does for its words, over any three streams.
 #![tactic(auto)]
 
+ghost use Rattle.std.specs.Prelude.{◌≡◌, ◌≢◌, [], map, IfOk, MatchResult};
+ghost use Rattle.clap.specs.Words.{fault_of};
+ghost use Rattle.dlms_program.specs.Words.{dlms};
+
 use clap::error::ErrorKind;
 use dlms_loopback::loopback;
 use dlms_meter::Meter;
@@ -131,7 +135,9 @@ fn run_loopback<'a, H: Net + Files + AllocGlobal, W: Write>(
 }
 
 /// The status of a run that has ended; a fault is named among the errors.
-pub fn finish<E: Write>(ended: Result<(), Fault<'_>>, errors: &mut E) -> io::Result<u8> {
+pub fn finish<E: Write>(ended: Result<(), Fault<'_>>, errors: &mut E) -> io::Result<u8>
+    ensures { IfOk result (λ status. MatchResult ended.entry (λ _. status ≡ DONE) (λ _. status ≡ FAULT)) }
+{
     match ended {
         Ok(()) => Ok(DONE),
         Err(fault) => {
@@ -150,7 +156,11 @@ pub fn run<H: Net + Files<File = File> + AllocGlobal, R: Read + Drop, W: Write, 
     input: R,
     output: &mut W,
     errors: &mut E,
-) -> io::Result<u8> {
+) -> io::Result<u8>
+    // Words that ask for nothing are told as such, or memory was wanting; and only they are.
+    ensures done { IfOk result (λ status. status ≡ DONE → fault_of dlms (map (λ word. word.now) words.now) ≡ []) }
+    ensures usage { IfOk result (λ status. status ≡ USAGE → fault_of dlms (map (λ word. word.now) words.now) ≢ []) }
+{
     match job(host.alloc(), words) {
         Ok(Job::Format { file }) => finish(run_format(host, file, output), errors),
         Ok(Job::Replay { file: Some(file) }) => {
