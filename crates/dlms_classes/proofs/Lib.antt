@@ -5,3 +5,5 @@ pub mod Matching
 pub mod OneValue
 pub mod ShownOnce
 pub mod Times
+pub mod Sizes
+pub mod Sendable

@@ -1,10 +1,12 @@
 -- The answer of GET.
-use Rattle.std.specs.Prelude.{◌≡◌, ◌⊎◌, List, Option, Result, Ok, Err, MatchResult, IsTrue}
+use Rattle.std.specs.Prelude.{◌≡◌, ◌⊎◌, ◌≤◌, ℕ, ◌+◌, ◌*◌, List, length, Option, Result, Ok, Err, MatchResult, IsTrue}
 use Rattle.dlms_data.specs.Value.{Value}
+use Rattle.dlms_data.specs.Writing.{canonical, Fits}
 use Rattle.dlms_data.specs.declared.data.Data.{Data}
 use Rattle.dlms_data.specs.declared.descriptor.Descriptor.{Descriptor}
 use Rattle.dlms_data.specs.View.{value_of}
 use Rattle.dlms_frame.specs.declared.client.Client.{Client}
+use Rattle.dlms_profile.specs.declared.rows.TheConstants.{CAPACITY}
 use Rattle.dlms_state.specs.declared.event.Event.{Event}
 use Rattle.dlms_state.specs.StateValue.{StateValue, state_of}
 use Rattle.dlms_classes.specs.declared.access.AccessResult.{AccessResult}
@@ -51,3 +53,12 @@ IsAnswer s client d w result =
 -- the answer after a list of events: the state is that of the definitions of settings, registers, clock and buffer
 abbrev pub AnswersAfter : {A : Type 0} → List Event → Client → Descriptor → Option Selection → Result (Data A) AccessResult → Type 0
 AnswersAfter E client d selection result = IsAnswer (state_of E) client d (wanted client d selection) result
+
+-- The bytes of the whole buffer when it is full: an array of structures of a time and three numbers. No attribute has more.
+abbrev pub most_bytes : ℕ
+most_bytes = 4 + 31 * CAPACITY
+
+-- the value has a spelling, and it is not longer than that of the full buffer
+pub record IsSendable (v : Value) : Type 0 where
+  pub fits : Fits v
+  pub size : length (canonical v) ≤ most_bytes

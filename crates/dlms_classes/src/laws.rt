@@ -1,10 +1,15 @@
 //! Laws of the definitions, and worked examples. They make no call.
 
-ghost use Rattle.std.specs.Prelude.{◌≡◌, List, [], ◌∷◌, take};
+ghost use Rattle.std.specs.Prelude.{◌≡◌, List, [], ◌∷◌, take, Option, Ok};
+ghost use Rattle.dlms_data.specs.declared.descriptor.Descriptor.{Descriptor};
 ghost use Rattle.dlms_data.specs.Value.{Value};
 ghost use Rattle.dlms_data.specs.Writing.{canonical};
+ghost use Rattle.dlms_frame.specs.declared.client.Client.{Client};
 ghost use Rattle.dlms_frame.specs.declared.client.Client.TheVariants.{Public, Management};
 ghost use Rattle.dlms_profile.specs.declared.rows.Row.{Row};
+ghost use Rattle.dlms_state.specs.StateValue.{StateValue, HasEvents};
+ghost use Rattle.dlms_classes.specs.Answer.{IsSendable, IsShown, wanted};
+ghost use Rattle.dlms_classes.specs.Choice.{Selection};
 ghost use Rattle.dlms_classes.specs.Listing.{object_list};
 ghost use Rattle.dlms_classes.specs.Shown.{Shown, Shows, part_shown, whole, cut};
 
@@ -12,6 +17,12 @@ ghost use Rattle.dlms_classes.specs.Shown.{Shown, Shows, part_shown, whole, cut}
 /// two answers of the same state to the same question are equal, want of memory aside.
 pub fn one_value_shows_it()
     ensures { (x : Shown) (v w : Value) → Shows x v → Shows x w → v ≡ w }
+{}
+
+/// What is shown of a state that some legal list of events leaves has a spelling, and no longer one than the full buffer.
+pub fn what_is_shown_can_be_sent()
+    ensures { (s : StateValue) (client : Client) (d : Descriptor) (selection : Option Selection) (v : Value) → HasEvents s
+        → IsShown s client d (wanted client d selection) (Ok v) → IsSendable v }
 {}
 
 /// Entries 1 to 0 and columns 1 to 0 are all of the buffer.

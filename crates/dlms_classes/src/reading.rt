@@ -1,9 +1,10 @@
 //! What GET answers.
 
-ghost use Rattle.std.specs.Prelude.{◌≡◌, List, option_map};
+ghost use Rattle.std.specs.Prelude.{◌≡◌, List, IfOk, option_map};
+ghost use Rattle.dlms_data.specs.View.{value_of};
 ghost use Rattle.dlms_state.specs.declared.event.Event.{Event};
 ghost use Rattle.dlms_state.specs.StateValue.{IsStateOf};
-ghost use Rattle.dlms_classes.specs.Answer.{IsAnswer, AnswersAfter, wanted};
+ghost use Rattle.dlms_classes.specs.Answer.{IsAnswer, IsSendable, AnswersAfter, wanted};
 ghost use Rattle.dlms_classes.specs.Choice.{selection_of};
 
 use crate::access::AccessResult;
@@ -41,6 +42,8 @@ fn answer<A: Allocator + Copy>(
 /// reason (`OtherReason`) is by range another column than the clock's time, columns that are named, and octets that name no
 /// second; by entry a first entry or a first column of 0, a first column past the last of the row, and a last column below the
 /// first. It is borrowed, `Option<&Selector>`, since a request holds it and nothing keeps it.
+///
+/// A value that is answered has a spelling, of at most the 29,764 bytes of the full buffer.
 pub fn get<A: Allocator + Copy>(
     alloc: A,
     state: &State<A>,
@@ -48,7 +51,9 @@ pub fn get<A: Allocator + Copy>(
     descriptor: Descriptor,
     selector: Option<&Selector<A>>,
 ) -> Result<Data<A>, AccessResult>
-    ensures { (E : List Event) → IsStateOf E state.now → AnswersAfter E client descriptor (option_map (λ s. selection_of s.now) selector.entry) result }
+    ensures answer { (E : List Event) → IsStateOf E state.now → AnswersAfter E client descriptor (option_map (λ s. selection_of s.now) selector.entry) result }
+    ensures sendable { IfOk result (λ v. IsSendable (value_of v)) }
 {
+    state.has_events();
     answer(alloc, state, client, descriptor, selector)
 }

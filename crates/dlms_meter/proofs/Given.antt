@@ -180,9 +180,8 @@ sent_is false true E s a invoke d selector v o opened shown e = record {
 given : (E : List Event) (s : SessionValue) (a : Association) (invoke : ℕ) (d : Descriptor) (selector : Option apdu.Selection) (result : Result Value AccessResult) (o : Outcome) → s.opened ≡ Some a
     → IsShown (state_of E) s.client d (asked s.client a d selector) result → Gives (without_get s) a invoke result o → Moved E (Ok (get_normal invoke d selector)) s o
 given E s a invoke d selector (Err r) o opened shown e = dropped E (Ok (get_normal invoke d selector)) s o (get_result invoke (number_of r)) e refl
-given E s a invoke d selector (Ok v) o opened shown (inr (none, e)) = dropped E (Ok (get_normal invoke d selector)) s o (get_result invoke (number_of OtherReason)) e refl
-given E s a invoke d selector (Ok v) o opened shown (inl (fits, e)) =
-    sent_is (nat_le (4 + length (canonical v)) a.size) (has a blocks_with_get && nat_le (length (canonical v)) 65536) E s a invoke d selector v o opened shown e
+given E s a invoke d selector (Ok v) o opened shown (sendable, e) =
+    sent_is (nat_le (4 + length (canonical v)) a.size) (has a blocks_with_get) E s a invoke d selector v o opened shown e
 
 asked_is : (E : List Event) (s : SessionValue) (a : Association) (form : RequestForm) (o : Outcome) → s.opened ≡ Some a → Asks E s a form o → Moved E (Ok form) s o
 asked_is E s a (get_normal invoke d selector) o opened (result, shown, gives) = given E s a invoke d selector result o opened shown gives

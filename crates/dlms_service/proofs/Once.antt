@@ -1,5 +1,5 @@
 -- An APDU leads to one outcome, for each choice.
-use Rattle.std.proofs.Common.{◌≡◌, ◌∙◌, ℕ, refl, sym, ap, subst, inl, inr, append-nil, unsigned_abs, Bool, true, false, List, [], Option, Some, None, is_some, Result, Ok, Err}
+use Rattle.std.proofs.Common.{◌≡◌, ◌∙◌, ℕ, refl, sym, ap, subst, append-nil, unsigned_abs, Bool, true, false, List, [], Option, Some, None, is_some, Result, Ok, Err}
 use Rattle.dlms_blocks.specs.Coming.{Coming, first_answer, first_after, more_answer, more_after}
 use Rattle.dlms_blocks.specs.declared.block.PutStep.{PutStep}
 use Rattle.dlms_blocks.specs.declared.block.PutStep.TheVariants.{More, Whole}
@@ -32,10 +32,7 @@ use Rattle.dlms_service.specs.Laws.{HasOneOutcome}
 -- ---- the value that GET shows
 
 sends_once : (s : SessionValue) (a : Association) (invoke : ℕ) (v : Value) (o p : Outcome) → Sends s a invoke v o → Sends s a invoke v p → o ≡ p
-sends_once s a invoke v o p (inl h) (inl k) = h.1 ∙ sym k.1
-sends_once s a invoke v o p (inl h) (inr k) = absurd (k.0 h.0)
-sends_once s a invoke v o p (inr h) (inl k) = absurd (h.0 k.0)
-sends_once s a invoke v o p (inr h) (inr k) = h.1 ∙ sym k.1
+sends_once s a invoke v o p h k = h.1 ∙ sym k.1
 
 gives_once : (s : SessionValue) (a : Association) (invoke : ℕ) (result : Result Value AccessResult) (o p : Outcome) → Gives s a invoke result o → Gives s a invoke result p → o ≡ p
 gives_once s a invoke (Err r) o p h k = h ∙ sym k

@@ -1,6 +1,6 @@
 -- What is at stake with an answer.
 use Rattle.std.proofs.Common.{◌≡◌, inl, inr, refl, sym, ◌∙◌, ap, subst, ℕ, Bool, true, false, List, [], ◌∷◌, Option, Some, None, is_some, Result, Ok, Err, if◌then◌else◌, nat_le, length, ◌+◌}
-use Rattle.std.specs.Prelude.{◌&&◌, ◌==◌}
+use Rattle.std.specs.Prelude.{◌==◌}
 use Rattle.std.proofs.lemmas.Bool.{cases_eq, ne_eqb}
 use Rattle.dlms_acse.specs.Verdict.{Request, verdict}
 use Rattle.dlms_acse.specs.declared.fault.AcseFault.{AcseFault}
@@ -63,8 +63,7 @@ sent_get s a invoke v o false false is = ap (λ (x : Outcome). without_get x.own
 
 given_get : (s : SessionValue) (a : Association) (invoke : ℕ) (result : Result Value AccessResult) (o : Outcome) → Gives s a invoke result o → without_get o.own ≡ without_get s
 given_get s a invoke (Err r) o is = ap (λ (x : Outcome). without_get x.own) is
-given_get s a invoke (Ok v) o (inl (fits, is)) = sent_get s a invoke v o (nat_le (4 + length (canonical v)) a.size) (has a blocks_with_get && nat_le (length (canonical v)) 65536) is
-given_get s a invoke (Ok v) o (inr (none, is)) = ap (λ (x : Outcome). without_get x.own) is
+given_get s a invoke (Ok v) o (sendable, is) = sent_get s a invoke v o (nat_le (4 + length (canonical v)) a.size) (has a blocks_with_get) is
 
 same_end : (E : List Event) (s : SessionValue) (a : Association) (form : RequestForm) (o : Outcome) → Asks E s a form o → fails o.own (stake_of form) ≡ fails s (stake_of form)
 same_end E s a (get_normal invoke d selector) o (result, shown, gives) = ap (λ (x : SessionValue). says x (get_result invoke 1)) (given_get (without_get s) a invoke result o gives)
@@ -119,8 +118,7 @@ sent_silent s a invoke v o false false is = silent o _ is refl
 
 given_silent : (s : SessionValue) (a : Association) (invoke : ℕ) (result : Result Value AccessResult) (o : Outcome) → Gives s a invoke result o → IsSilent o
 given_silent s a invoke (Err r) o is = silent o _ is refl
-given_silent s a invoke (Ok v) o (inl (fits, is)) = sent_silent s a invoke v o (nat_le (4 + length (canonical v)) a.size) (has a blocks_with_get && nat_le (length (canonical v)) 65536) is
-given_silent s a invoke (Ok v) o (inr (none, is)) = silent o _ is refl
+given_silent s a invoke (Ok v) o (sendable, is) = sent_silent s a invoke v o (nat_le (4 + length (canonical v)) a.size) (has a blocks_with_get) is
 
 asks_silent : (E : List Event) (s : SessionValue) (a : Association) (form : RequestForm) (o : Outcome) → Asks E s a form o → IsSilent o
 asks_silent E s a (get_normal invoke d selector) o (result, shown, gives) = given_silent (without_get s) a invoke result o gives

@@ -1,9 +1,9 @@
 -- What GET shows, whole or in blocks.
-use Rattle.std.specs.Prelude.{◌≡◌, ◌⊎◌, ℕ, ◌+◌, ◌-◌, ◌&&◌, nat_le, if◌then◌else◌, List, length, Option, Some, None, option_map, Result, Ok, Err}
+use Rattle.std.specs.Prelude.{◌≡◌, ℕ, ◌+◌, ◌-◌, nat_le, if◌then◌else◌, List, length, Option, Some, None, option_map, Result, Ok, Err}
 use Rattle.dlms_blocks.specs.Block.{BlockValue}
 use Rattle.dlms_blocks.specs.Going.{Going, beginning, answer, after}
 use Rattle.dlms_data.specs.Value.{Value, null}
-use Rattle.dlms_data.specs.Writing.{canonical, Fits}
+use Rattle.dlms_data.specs.Writing.{canonical}
 use Rattle.dlms_data.specs.declared.descriptor.Descriptor.{Descriptor}
 use Rattle.dlms_apdu.specs.Forms.{ResponseForm, get_data, get_result, get_block, get_block_result}
 use Rattle.dlms_apdu.specs.Forms as apdu
@@ -13,7 +13,7 @@ use Rattle.dlms_frame.specs.declared.client.Client.{Client}
 use Rattle.dlms_classes.specs.declared.access.AccessResult.{AccessResult}
 use Rattle.dlms_classes.specs.declared.access.AccessResult.TheVariants.{OtherReason}
 use Rattle.dlms_classes.specs.Access.{number_of}
-use Rattle.dlms_classes.specs.Answer.{Wanted, wanted, IsShown}
+use Rattle.dlms_classes.specs.Answer.{Wanted, wanted, IsShown, IsSendable}
 use Rattle.dlms_classes.specs.Choice.{Selection}
 use Rattle.dlms_service.specs.declared.association.Association.{Association}
 use Rattle.dlms_service.specs.Session.{SessionValue, Outcome, says, without_get, has, blocks_with_get, selective_access}
@@ -44,17 +44,16 @@ in_blocks s a invoke encoding =
     let transfer = beginning encoding (a.size - 12) in
     says (record s { getting = Some (after transfer 0) }) (block_form invoke 0 (answer transfer 0))
 
--- An answer that fits the client's size goes whole; a longer one in blocks, where both ends have them. (65,536 bytes are
--- more than any attribute has.)
+-- An answer that fits the client's size goes whole; a longer one in blocks, where both ends have them.
 abbrev pub sent : SessionValue → Association → ℕ → Value → Outcome
 sent s a invoke v =
     if nat_le (4 + length (canonical v)) a.size then says s (get_data invoke v)
-    else if has a blocks_with_get && nat_le (length (canonical v)) 65536 then in_blocks s a invoke (canonical v)
+    else if has a blocks_with_get then in_blocks s a invoke (canonical v)
     else says s (get_result invoke (number_of OtherReason))
 
--- a value that has a spelling is sent
+-- What is shown has a spelling, no longer than that of the full buffer, and is sent.
 abbrev pub Sends : SessionValue → Association → ℕ → Value → Outcome → Type 0
-Sends s a invoke v o = (Fits v × (o ≡ sent s a invoke v)) ⊎ (¬ (Fits v) × (o ≡ says s (get_result invoke (number_of OtherReason))))
+Sends s a invoke v o = IsSendable v × (o ≡ sent s a invoke v)
 
 abbrev pub Gives : SessionValue → Association → ℕ → Result Value AccessResult → Outcome → Type 0
 Gives s a invoke (Err r) o = o ≡ says s (get_result invoke (number_of r))

@@ -1,6 +1,6 @@
 //! What GET shows, whole or in blocks.
 
-ghost use Rattle.std.specs.Prelude.{◌≡◌, ◌⊎◌, ◌≤◌, ◌<◌, Ok, Err, List, Some, None, Option, option_map, Result, MatchResult, length};
+ghost use Rattle.std.specs.Prelude.{◌≡◌, ◌⊎◌, ◌≤◌, ◌<◌, Ok, Err, List, Some, None, Option, option_map, Result, MatchResult, length, IfOk};
 ghost use Rattle.dlms_apdu.specs.View.{selection_of, response_of};
 ghost use Rattle.dlms_apdu.specs.Forms.{get_result};
 ghost use Rattle.dlms_apdu.specs.Writing.{response_bytes};
@@ -8,7 +8,7 @@ ghost use Rattle.dlms_data.specs.View.{value_of};
 ghost use Rattle.dlms_state.specs.StateValue.{state_of, IsStateOf};
 ghost use Rattle.dlms_state.specs.declared.event.Event.{Event};
 ghost use Rattle.dlms_classes.specs.Access.{number_of};
-ghost use Rattle.dlms_classes.specs.Answer.{IsAnswer, wanted};
+ghost use Rattle.dlms_classes.specs.Answer.{IsAnswer, IsSendable, wanted};
 ghost use Rattle.dlms_classes.specs.Choice as classes;
 ghost use Rattle.dlms_classes.specs.declared.access.AccessResult.TheVariants.{TemporaryFailure};
 ghost use Rattle.dlms_service.specs.Shown.{asked, no_selection};
@@ -42,7 +42,8 @@ pub fn shown<A: Allocator + Copy>(
     descriptor: Descriptor,
     selector: Option<&Selector<A>>,
 ) -> Result<Data<A>, AccessResult>
-    ensures { (E : List Event) → IsStateOf E state.now → IsAnswer (state_of E) client descriptor (asked client association descriptor (option_map (λ s. selection_of s.now) selector.entry)) result }
+    ensures answer { (E : List Event) → IsStateOf E state.now → IsAnswer (state_of E) client descriptor (asked client association descriptor (option_map (λ s. selection_of s.now) selector.entry)) result }
+    ensures sendable { IfOk result (λ v. IsSendable (value_of v)) }
 {
     if association.has(Conformance::SELECTIVE_ACCESS) || selector.is_none() {
         seen(alloc, state, client, descriptor, selector)
@@ -59,7 +60,8 @@ fn seen<A: Allocator + Copy>(
     descriptor: Descriptor,
     selector: Option<&Selector<A>>,
 ) -> Result<Data<A>, AccessResult>
-    ensures { (E : List Event) → IsStateOf E state.now → IsAnswer (state_of E) client descriptor (wanted client descriptor (option_map (λ s. classes.selection_of s.now) selector.entry)) result }
+    ensures answer { (E : List Event) → IsStateOf E state.now → IsAnswer (state_of E) client descriptor (wanted client descriptor (option_map (λ s. classes.selection_of s.now) selector.entry)) result }
+    ensures sendable { IfOk result (λ v. IsSendable (value_of v)) }
 {
     get(alloc, state, client, descriptor, selector)
 }
@@ -71,7 +73,8 @@ fn barred<A: Allocator + Copy>(
     client: Client,
     descriptor: Descriptor,
 ) -> Result<Data<A>, AccessResult>
-    ensures { (E : List Event) → IsStateOf E state.now → IsAnswer (state_of E) client descriptor (wanted client descriptor (Some no_selection)) result }
+    ensures answer { (E : List Event) → IsStateOf E state.now → IsAnswer (state_of E) client descriptor (wanted client descriptor (Some no_selection)) result }
+    ensures sendable { IfOk result (λ v. IsSendable (value_of v)) }
 {
     let unknown = Selector {
         number: 0,

@@ -1,6 +1,6 @@
 -- What is kept of a client stays that client's.
-use Rattle.std.proofs.Common.{◌≡◌, ⊎_elim, ℕ, ◌+◌, Bool, true, false, if◌then◌else◌, List, Option, Some, None, Result, Ok, Err, refl, ◌∙◌, ap, length}
-use Rattle.std.specs.Prelude.{◌&&◌, nat_le}
+use Rattle.std.proofs.Common.{◌≡◌, ℕ, ◌+◌, Bool, true, false, if◌then◌else◌, List, Option, Some, None, Result, Ok, Err, refl, ◌∙◌, ap, length}
+use Rattle.std.specs.Prelude.{nat_le}
 use Rattle.dlms_apdu.specs.Forms.{RequestForm, BlockForm, get_normal, get_next, set_normal, set_first, set_block, action_normal, action_first, action_block, get_data, get_result}
 use Rattle.dlms_apdu.specs.Reading.{request_at}
 use Rattle.dlms_apdu.specs.declared.fault.Refusal.{Refusal}
@@ -52,12 +52,12 @@ sent_by s false x y a b = b
 sent_stays : (s : SessionValue) (a : Association) (invoke : ℕ) (v : Value) → Stays s (sent s a invoke v)
 sent_stays s a invoke v =
     let refused : Outcome = says s (get_result invoke (number_of OtherReason)) in
-    let more : Outcome = if has a blocks_with_get && nat_le (length (canonical v)) 65536 then in_blocks s a invoke (canonical v) else refused in
-    sent_by s (nat_le (4 + length (canonical v)) a.size) (says s (get_data invoke v)) more refl (blocks_stay s a invoke (canonical v) refused (has a blocks_with_get && nat_le (length (canonical v)) 65536) refl)
+    let more : Outcome = if has a blocks_with_get then in_blocks s a invoke (canonical v) else refused in
+    sent_by s (nat_le (4 + length (canonical v)) a.size) (says s (get_data invoke v)) more refl (blocks_stay s a invoke (canonical v) refused (has a blocks_with_get) refl)
 
 gives_stays : (s : SessionValue) (a : Association) (invoke : ℕ) (result : Result Value AccessResult) (o : Outcome) → Gives s a invoke result o → Stays s o
 gives_stays s a invoke (Err r) o is = by o (says s (get_result invoke (number_of r))) is
-gives_stays s a invoke (Ok v) o is = ⊎_elim (λ x. by o (sent s a invoke v) x.1 ∙ sent_stays s a invoke v) (λ x. by o (says s (get_result invoke (number_of OtherReason))) x.1) is
+gives_stays s a invoke (Ok v) o is = by o (sent s a invoke v) is.1 ∙ sent_stays s a invoke v
 
 steps_stay : (E : List Event) (s : SessionValue) (invoke number : ℕ) (t : Target) (coming : Coming) (result : Result PutStep ℕ) (o : Outcome) → Steps E s invoke number t coming result o → Stays s o
 steps_stay E s invoke number t coming (Err code) o is = ap (λ (x : Outcome). x.own.client) is

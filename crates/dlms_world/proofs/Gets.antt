@@ -1,5 +1,5 @@
 -- A poll's GET that is answered with data shows the buffer's rows of its range.
-use Rattle.std.proofs.Common.{◌≡◌, ◌<◌, ⊎_elim, ℕ, Bool, true, false, Option, Some, None, Result, Ok, Err, List, map, length, refl, sym, ◌∙◌, ap, subst, arith, if◌then◌else◌}
+use Rattle.std.proofs.Common.{◌≡◌, ◌<◌, ℕ, Bool, true, false, Option, Some, None, Result, Ok, Err, List, map, length, refl, sym, ◌∙◌, ap, subst, arith, if◌then◌else◌}
 use Rattle.std.specs.Prelude.{◌^◌}
 use Rattle.dlms_apdu.specs.Forms.{RequestForm, ResponseForm, get_normal, get_data, get_result, get_block, get_block_result, set_result, set_block_taken, set_last, action_result, action_block_taken, exception}
 use Rattle.dlms_apdu.specs.Reading.{request_at, response_at}
@@ -9,7 +9,7 @@ use Rattle.dlms_apdu.proofs.WholeLaws.{reads_written_requests, reads_written_res
 use Rattle.dlms_classes.specs.Access.{object_named, number_of}
 use Rattle.dlms_classes.specs.Shown.{IsTable, cells, IsRange as ShownRange}
 use Rattle.dlms_classes.specs.declared.access.AccessResult.{AccessResult}
-use Rattle.dlms_classes.specs.declared.access.AccessResult.TheVariants.{TemporaryFailure, OtherReason}
+use Rattle.dlms_classes.specs.declared.access.AccessResult.TheVariants.{TemporaryFailure}
 use Rattle.dlms_data.specs.Value.{Value, octet_string}
 use Rattle.dlms_data.specs.Writing.{Fits}
 use Rattle.dlms_frame.specs.declared.client.Client.{Client}
@@ -18,7 +18,7 @@ use Rattle.dlms_headend.specs.Asking.{buffer, buffer_bytes, invoke, range, IsRan
 use Rattle.dlms_profile.specs.Rows.{in_range}
 use Rattle.dlms_service.specs.Serves.{Choice as Memory, FindsMemory, LacksMemoryToRead, LacksMemoryToAnswer, Requested, Permitted, Read, Within, Serves, permits}
 use Rattle.dlms_service.specs.Session.{SessionValue, Outcome, says, without_get, has, selective_access}
-use Rattle.dlms_classes.specs.Answer.{IsShown, wanted}
+use Rattle.dlms_classes.specs.Answer.{IsShown, IsSendable, wanted}
 use Rattle.dlms_service.specs.Shown.{Gives, sent, no_selection, asked}
 use Rattle.dlms_service.specs.declared.association.Association.{Association}
 use Rattle.dlms_state.specs.Events.{buffer_after}
@@ -111,7 +111,7 @@ pub record GaveTable (second : ℕ) (E : List Event) (s : SessionValue) (o : Out
   pub a : Association
   pub opened : s.opened ≡ Some a
   pub v : Value
-  pub fits : Fits v
+  pub sendable : IsSendable v
   pub outcome : o ≡ sent (without_get s) a invoke v
   pub table : IsTable (map cells (in_range second LAST_SECOND (buffer_after E))) v
 
@@ -125,8 +125,7 @@ module _ (E : List Event) (s : SessionValue) (second : ℕ) (value : Value) (r :
   by_value : (a : Association) (open_as : s.opened ≡ Some a) (result : Result Value AccessResult) → IsShown (state_of E) s.client buffer (asked s.client a buffer (Some (record { number = 1; value = value }))) result → Gives (without_get s) a invoke result o → GaveTable second E s o
   by_value a open_as (Err cause) shown is = absurd (no_data o (without_get s) (get_result invoke (number_of cause)) (read_result (number_of cause)) tt is given)
   by_value a open_as (Ok v) shown is =
-      ⊎_elim (λ x. record { a = a; opened = open_as; v = v; fits = x.0; outcome = x.1; table = wants E s.client (has a selective_access) second value v r shown })
-      (λ x. absurd (no_data o (without_get s) (get_result invoke (number_of OtherReason)) (read_result (number_of OtherReason)) tt x.1 given)) is
+      record { a = a; opened = open_as; v = v; sendable = is.0; outcome = is.1; table = wants E s.client (has a selective_access) second value v r shown }
 
   by_permit : (a : Association) (open_as : s.opened ≡ Some a) (b : Bool) → Permitted E s a (get_form value) b o → GaveTable second E s o
   by_permit a open_as true is = by_value a open_as is.0 is.1 is.2

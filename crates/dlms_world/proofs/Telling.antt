@@ -1,8 +1,7 @@
 -- The answers to a whole poll tell the buffer's rows.
 use Rattle.std.proofs.Common.{arith, ◌≡◌, ◌<◌, ◌≤◌, ◌+◌, ◌-◌, ℕ, Bool, true, false, Some, Ok, List, [], ◌∷◌, ◌++◌, map, length, refl, sym, ◌∙◌, ap, subst, if◌then◌else◌, append_assoc, nat_le, ◌⊎◌, ⊎_elim, inl, inr}
-use Rattle.std.specs.Prelude.{◌&&◌, Contains}
+use Rattle.std.specs.Prelude.{Contains}
 use Rattle.std.proofs.lemmas.List.{append-nil}
-use Rattle.std.proofs.lemmas.Bool.{leb-true}
 use Rattle.dlms_apdu.specs.Forms.{get_data, get_block, get_result}
 use Rattle.dlms_apdu.specs.Reading.{response_at}
 use Rattle.dlms_apdu.proofs.WholeLaws.{reads_written_responses}
@@ -42,7 +41,7 @@ told_value plan E s o g rows is =
 told_encoding : (plan : PlanValue) (E : List Event) (s : SessionValue) (o : Outcome) (g : GaveTable (first_second plan.after) E s o) (rows : List Row) → IsEncoded (canonical g.v) rows → rows ≡ rows_asked plan E
 told_encoding plan E s o g rows is =
     let bytes : List ℕ = canonical g.v in
-    let same = reads_one_value bytes bytes [] bytes [] is.0 g.v (sym (append-nil bytes)) (sym (append-nil bytes)) is.1 (is_spelled g.v g.fits) in
+    let same = reads_one_value bytes bytes [] bytes [] is.0 g.v (sym (append-nil bytes)) (sym (append-nil bytes)) is.1 (is_spelled g.v g.sendable.fits) in
     told_value plan E s o g rows (subst (λ (w : Value). IsProfile w rows) same.1 is.2)
 
 -- the three ways in which a value is sent
@@ -50,10 +49,6 @@ which : (o x y z : Outcome) (whole blocks : Bool) → o ≡ (if whole then x els
 which o x y z true blocks is = inl is
 which o x y z false true is = inr (inl (refl, is))
 which o x y z false false is = inr (inr is)
-
-short_by : (b : Bool) (n : ℕ) → (b && nat_le n 65536) ≡ true → n ≤ 65536
-short_by true n e = leb-true n 65536 e
-short_by false n e = cc
 
 module _ (plan : PlanValue) (response answer tail : List ℕ) (rows : List Row) (accepts : Accepts response) where
   only : HasBlocks (response ∷ []) 0 []
@@ -84,7 +79,7 @@ module _ (plan : PlanValue) (response answer tail : List ℕ) (rows : List Row) 
         ⊎_elim (λ is. ap (λ (o : Outcome). is_success o.answer) is)
         (λ rest. ⊎_elim (λ is. ap (λ (o : Outcome). is_success o.answer) is.1)
         (λ is. absurd (no_data x.outcome (without_get s) (get_result invoke (number_of OtherReason)) (read_result (number_of OtherReason)) tt is given)) rest)
-        (which x.outcome (says (without_get s) (get_data invoke g.v)) (in_blocks (without_get s) g.a invoke enc) refused (nat_le (4 + length enc) g.a.size) (has g.a blocks_with_get && nat_le (length enc) 65536) g.outcome)
+        (which x.outcome (says (without_get s) (get_data invoke g.v)) (in_blocks (without_get s) g.a invoke enc) refused (nat_le (4 + length enc) g.a.size) (has g.a blocks_with_get) g.outcome)
 
     at_once : (n : ℕ) (joined : List ℕ) → n ≡ 0 → joined ≡ [] → x.outcome.answer ≡ answer → Spells n joined answer rows → GivesData x.outcome.answer → rows ≡ rows_asked plan x.before
     at_once n joined count empty said spelled given =
@@ -95,17 +90,17 @@ module _ (plan : PlanValue) (response answer tail : List ℕ) (rows : List Row) 
         let blocks : Outcome = in_blocks (without_get s) g.a invoke enc in
         let refused : Outcome = says (without_get s) (get_result invoke (number_of OtherReason)) in
         ⊎_elim (λ is.
-        let read : response_at answer ≡ Ok (get_data invoke g.v) = ap response_at (sym said ∙ ap (λ (y : Outcome). y.answer) is) ∙ reads_written_responses (get_data invoke g.v) g.fits tt in
+        let read : response_at answer ≡ Ok (get_data invoke g.v) = ap response_at (sym said ∙ ap (λ (y : Outcome). y.answer) is) ∙ reads_written_responses (get_data invoke g.v) g.sendable.fits tt in
         let spells = subst (λ r. SpellsBy n joined r rows) read spelled in
         told_value plan x.before s x.outcome g rows spells.1)
         (λ rest. ⊎_elim (λ is.
-        let few : length enc ≤ 65536 = short_by (has g.a blocks_with_get) (length enc) is.0 in
+        let few : length enc ≤ 65536 = omega (arith, g.sendable.size) in
         let read : response_at answer ≡ Ok (get_block invoke (is_last enc room 1) 1 (block_bytes enc room 1)) = ap response_at (sym said ∙ ap (λ (y : Outcome). y.answer) is.1) ∙ block_read enc room 1 few (omega arith) in
         let spells = subst (λ r. SpellsBy n joined r rows) read spelled in
         let all : joined ++ block_bytes enc room 1 ≡ enc = ap (λ l. l ++ block_bytes enc room 1) empty ∙ whole_of enc room 1 spells.0 in
         told_encoding plan x.before s x.outcome g rows (subst (λ bytes. IsEncoded bytes rows) all spells.2))
         (λ is. absurd (no_data x.outcome (without_get s) (get_result invoke (number_of OtherReason)) (read_result (number_of OtherReason)) tt is given)) rest)
-        (which x.outcome whole blocks refused (nat_le (4 + length enc) g.a.size) (has g.a blocks_with_get && nat_le (length enc) 65536) g.outcome)
+        (which x.outcome whole blocks refused (nat_le (4 + length enc) g.a.size) (has g.a blocks_with_get) g.outcome)
 
     in_parts : (b : List ℕ) (blocks : List (List ℕ)) (n : ℕ) (joined : List ℕ) → x.outcome.answer ≡ b → AreBlocks 0 (b ∷ blocks) n joined → Spells n joined answer rows → Talks plan (response ∷ b ∷ []) served (blocks ++ answer ∷ tail ∷ []) → GivesData x.outcome.answer → rows ≡ rows_asked plan x.before
     in_parts b bs n joined said come spelled talk given =
@@ -116,10 +111,10 @@ module _ (plan : PlanValue) (response answer tail : List ℕ) (rows : List Row) 
         let blocks : Outcome = in_blocks (without_get s) g.a invoke enc in
         let refused : Outcome = says (without_get s) (get_result invoke (number_of OtherReason)) in
         ⊎_elim (λ is.
-        let read : response_at b ≡ Ok (get_data invoke g.v) = ap response_at (sym said ∙ ap (λ (y : Outcome). y.answer) is) ∙ reads_written_responses (get_data invoke g.v) g.fits tt in
+        let read : response_at b ≡ Ok (get_data invoke g.v) = ap response_at (sym said ∙ ap (λ (y : Outcome). y.answer) is) ∙ reads_written_responses (get_data invoke g.v) g.sendable.fits tt in
         absurd (subst (λ r. IsMoreBy 0 r come.0) read come.2))
         (λ rest. ⊎_elim (λ is.
-        let few : length enc ≤ 65536 = short_by (has g.a blocks_with_get) (length enc) is.0 in
+        let few : length enc ≤ 65536 = omega (arith, g.sendable.size) in
         let read : response_at b ≡ Ok (get_block invoke (is_last enc room 1) 1 (block_bytes enc room 1)) = ap response_at (sym said ∙ ap (λ (y : Outcome). y.answer) is.1) ∙ block_read enc room 1 few (omega arith) in
         let more = subst (λ r. IsMoreBy 0 r come.0) read come.2 in
         let goes : x.outcome.own.getting ≡ Some (given_blocks enc room 1 false) = ap (λ (y : Outcome). y.own.getting) is.1 ∙ ap (λ l. Some (given_blocks enc room 1 l)) more.0 in
@@ -129,7 +124,7 @@ module _ (plan : PlanValue) (response answer tail : List ℕ) (rows : List Row) 
         (follow plan enc room sent_so n answer (tail ∷ []) rows last bs 1 (response ∷ b ∷ []) come.0 come.1 x.outcome.own served (omega arith) (omega arith) (blocks_append (response ∷ []) 0 [] come.0 b only come.2) (sym more.2) goes chain talk come.4
         (subst (λ j. Spells n j answer rows) come.3 spelled)))
         (λ is. absurd (no_data x.outcome (without_get s) (get_result invoke (number_of OtherReason)) (read_result (number_of OtherReason)) tt is given)) rest)
-        (which x.outcome whole blocks refused (nat_le (4 + length enc) g.a.size) (has g.a blocks_with_get && nat_le (length enc) 65536) g.outcome)
+        (which x.outcome whole blocks refused (nat_le (4 + length enc) g.a.size) (has g.a blocks_with_get) g.outcome)
 
 -- the first APDU that a poll asks
 first_asked : (plan : PlanValue) (apdu : List ℕ) → Asks plan [] apdu → apdu ≡ association_bytes plan
