@@ -103,6 +103,5 @@ written_first a b x y (Err e) is first = part_before a b x y first
 pub written_line : {T E : Type 0} (old new : Option (List ℕ)) (line text : List ℕ) (r : Result T E) → line ≡ text → Writes old new line r → Writes old new text r
 written_line old new line text r same writes = subst (λ (t : List ℕ). Writes old new t r) same writes
 
-pub not_made : {T E : Type 0} (contents : Option (List ℕ)) (text : List ℕ) (r : Result T E) → IsErr r → 0 < length text → Writes contents contents text r
-not_made contents text (Ok done) is some = absurd cc
-not_made contents text (Err e) is some = none_of contents text some
+pub part_line : (old new : Option (List ℕ)) (line text : List ℕ) → line ≡ text → AppendsPart old new line → AppendsPart old new text
+part_line old new line text same part = subst (λ (t : List ℕ). AppendsPart old new t) same part

@@ -12,6 +12,7 @@ use Rattle.dlms_store.specs.World.{World as StoreWorld, Next}
 use Rattle.dlms_store.specs.World.World.{Runs, InDoubt, Rests}
 use Rattle.dlms_store.specs.World.Step.{Closes, ClosesInDoubt, Opens}
 use Rattle.dlms_state.specs.declared.event.Event.{Event}
+use Rattle.dlms_program.specs.Calls.{Calls, Passes, Told}
 use Rattle.dlms_program.specs.declared.fault.ReplayFault.{ReplayFault}
 use Rattle.dlms_program.specs.declared.fault.ReplayFault.TheVariants.{Line, Io, Memory, Recovery}
 use Rattle.dlms_program.specs.declared.orders.Order.{Order}
@@ -21,12 +22,13 @@ use Rattle.dlms_pages.specs.declared.device.Pages.{Ghosts}
 use Rattle.dlms_meter.specs.declared.meter.Meter.{Meter}
 use Rattle.dlms_program.specs.Orders.{Spells}
 use Rattle.dlms_program.specs.Printed.{reply_lines, reply_line, open_line, open_fault_line, state_line}
-use Rattle.dlms_program.specs.Replay.{AreDone, Did, DidPart, Does, DoesPart, End, Ended, Finds, Followed, Gone, IsAt, IsBad, IsLeft, MayStayClosed, Replays, Tells, WroteReplay, outcome_line}
+use Rattle.dlms_program.specs.Replay.{AreDone, Did, DidPart, Does, DoesPart, End, Ended, Finds, Followed, Gone, IfKnown, IsAt, IsBad, IsLeft, MayStayClosed, ReadNoMore, Replays, Tells, WroteNoMore, WroteReplay, outcome_line}
 use Rattle.dlms_program.specs.Replay.End.{Whole, Bad, Closed}
 use Rattle.dlms_program.specs.Written.{AppendsPart}
 use Rattle.dlms_state.specs.StateValue.{StateValue, IsStateOf, state_of}
 use Rattle.dlms_store.specs.World.{Step as StoreStep}
 use Rattle.dlms_meter.specs.Run.{World, Comes, Fed, Stands, Feeds, Judges, MayChoose, events_of, listed, recovered, silent}
+use Rattle.dlms_program.proofs.CallLemmas.{told_behind}
 use Rattle.dlms_program.proofs.PutLemmas.{appends_none, appends_more, nothing_missing}
 use Rattle.dlms_meter.proofs.Joining.{GoesOn, goes_start as start_piece, goes_call, goes_end as end_piece}
 
@@ -277,17 +279,17 @@ module _ {P A : Type 0} {ghosts : Ghosts P} (start : Meter P A ghosts) (device :
         | inr gives ↦ refuses gives.now gives.fits
       ]
 
-  pub gone_part : (old new : Option (List ℕ)) (before after : Option (Meter P A ghosts)) (fault : OpenFault) (back : View) → before ≡ Some start → after ≡ None → IsClosed
-      → ((world : StoreWorld) → DeviceFits (ghosts.view device) world → GivesBack world (ghosts.view device) back fault) → AppendsPart old new (open_fault_line fault)
-      → (honest : Bool) (w : World) → IsLeft honest before (Some w) → Gone honest (AppendsPart old new) Open after
-  gone_part old new before after fault back is none closed gives part honest w left =
+  pub gone_told : (Told : List ℕ → Type 0) (before after : Option (Meter P A ghosts)) (fault : OpenFault) (back : View) → before ≡ Some start → after ≡ None → IsClosed
+      → ((world : StoreWorld) → DeviceFits (ghosts.view device) world → GivesBack world (ghosts.view device) back fault) → Told (open_fault_line fault)
+      → (honest : Bool) (w : World) → IsLeft honest before (Some w) → Gone honest Told Open after
+  gone_told Told before after fault back is none closed gives told honest w left =
       let at : IsAt honest start w = subst (λ (m : Option (Meter P A ghosts)). IsLeft honest m (Some w)) is left in
       record {
         opens = refl;
         fault = fault;
         may = may_stay honest w fault closed (λ world fits. (gives world fits).cause) at;
         none = subst (λ (m : Option (Meter P A ghosts)). IsLeft honest m None) (sym none) tt;
-        told = part;
+        told = told;
       }
 
 -- ---- the lines of a text
@@ -441,11 +443,11 @@ loses_none None = (tt, tt)
 loses_none (Some xs) = (refl, tt)
 
 read_part : {P A : Type 0} {ghosts : Ghosts P} (honest : Bool) (old now : Option (List ℕ)) (meter : Option (Meter P A ghosts)) (w m : World) (text rest left : Option (List ℕ)) (written part : List ℕ) (done : List (List ℕ))
-    → IsLeft honest meter (Some m) → Appends old now written → AreDone honest w done m written → CutAt text rest done → LosesPart rest left part → WroteReplay honest old now w text left (Err Io) meter
+    → IsLeft honest meter (Some m) → Appends old now written → AreDone honest w done m written → CutAt text rest done → LosesPart rest left part → IfKnown text left (λ text left. ReadNoMore honest old now w text left meter)
 read_part honest old now meter w m None rest left written part done at appends are cut loses = tt
 read_part honest old now meter w m (Some text) None left written part done at appends are cut loses = absurd cut
 read_part honest old now meter w m (Some text) (Some rest) None written part done at appends are cut loses = absurd loses.0
-read_part honest old now meter w m (Some text) (Some rest) (Some left) written part done at appends are cut loses = inl (record {
+read_part honest old now meter w m (Some text) (Some rest) (Some left) written part done at appends are cut loses = record {
   done = done;
   part = part;
   cut = cut ∙ ap (λ (t : List ℕ). done ++ lines_of t) loses.0;
@@ -455,23 +457,23 @@ read_part honest old now meter w m (Some text) (Some rest) (Some left) written p
   are = are;
   left_is = at;
   appends = appends;
-})
+}
 
 -- the reader gave no more
 pub replay_cut : {P A : Type 0} {ghosts : Ghosts P} (old now : Option (List ℕ)) (start meter : Option (Meter P A ghosts)) (text rest left : Option (List ℕ)) (part : List ℕ) (number : ℕ)
     → ReplayedSoFar old now start meter text rest number → LosesPart rest left part
-    → (honest : Bool) (w : World) → IsLeft honest start (Some w) → WroteReplay honest old now w text left (Err Io) meter
+    → (honest : Bool) (w : World) → IsLeft honest start (Some w) → IfKnown text left (λ text left. ReadNoMore honest old now w text left meter)
 replay_cut old now start meter text rest left part number so_far loses honest w at =
     let here = so_far honest w at in
     read_part honest old now meter w here.0 text rest left here.1 part here.5 here.2 here.3 here.6 here.7 loses
 
 written_part : {P A : Type 0} {ghosts : Ghosts P} (honest : Bool) (old now new : Option (List ℕ)) (meter : Option (Meter P A ghosts)) (w m : World) (text rest left : Option (List ℕ)) (written line bytes : List ℕ) (order : Order) (done : List (List ℕ))
     → Appends old now written → AreDone honest w done m written → CutAt text rest done → LosesLine rest left line → length line ≤ 8192 → Spells line bytes order → Followed honest now new m bytes order (Err Io) meter
-    → WroteReplay honest old new w text left (Err Io) meter
+    → IfKnown text left (λ text left. WroteNoMore honest old new w text left meter)
 written_part honest old now new meter w m None rest left written line bytes order done appends are cut loses short spells breaks = tt
 written_part honest old now new meter w m (Some text) None left written line bytes order done appends are cut loses short spells breaks = absurd cut
 written_part honest old now new meter w m (Some text) (Some rest) None written line bytes order done appends are cut loses short spells breaks = absurd loses
-written_part honest old now new meter w m (Some text) (Some rest) (Some left) written line bytes order done appends are cut loses short spells breaks = inr (record {
+written_part honest old now new meter w m (Some text) (Some rest) (Some left) written line bytes order done appends are cut loses short spells breaks = record {
   done = done;
   line = line;
   cut = cut ∙ ap (λ (ls : List (List ℕ)). done ++ ls) loses;
@@ -485,19 +487,21 @@ written_part honest old now new meter w m (Some text) (Some rest) (Some left) wr
   spells = spells;
   short = short;
   breaks = breaks;
-})
+}
 
 -- an order that ended the replay
-pub replay_fault : {P A : Type 0} {ghosts : Ghosts P} (old now new : Option (List ℕ)) (start meter meter' : Option (Meter P A ghosts)) (text rest left : Option (List ℕ)) (line bytes : List ℕ) (order : Order) (number : ℕ) (fault : ReplayFault)
+pub replay_fault : {P A : Type 0} {ghosts : Ghosts P} (reads reads' writes mid writes' : Option Calls) (old now new : Option (List ℕ)) (start meter meter' : Option (Meter P A ghosts)) (text rest left : Option (List ℕ)) (line bytes : List ℕ) (order : Order) (number : ℕ) (fault : ReplayFault)
+    → Passes 0 reads reads' → Passes 0 writes mid → Told {T = Unit {0}} mid writes' (Err fault)
     → ReplayedSoFar old now start meter text rest number → LosesLine rest left line → length line ≤ 8192 → Spells line bytes order
     → ((honest : Bool) (w : World) → IsLeft honest meter (Some w) → Followed honest now new w bytes order (Err fault) meter')
-    → (honest : Bool) (w : World) → IsLeft honest start (Some w) → WroteReplay honest old new w text left (Err fault) meter'
-replay_fault old now new start meter meter' text rest left line bytes order number (Line n) so_far loses short spells followed honest w at =
+    → (honest : Bool) (w : World) → IsLeft honest start (Some w) → WroteReplay honest reads reads' writes writes' old new w text left (Err fault) meter'
+replay_fault reads reads' writes mid writes' old now new start meter meter' text rest left line bytes order number (Line n) read wrote told so_far loses short spells followed honest w at =
     let here = so_far honest w at in absurd (followed honest here.0 here.2)
-replay_fault old now new start meter meter' text rest left line bytes order number Io so_far loses short spells followed honest w at =
+replay_fault reads reads' writes mid writes' old now new start meter meter' text rest left line bytes order number Io read wrote told so_far loses short spells followed honest w at =
     let here = so_far honest w at in
-    written_part honest old now new meter' w here.0 text rest left here.1 line bytes order here.5 here.3 here.6 here.7 loses short spells (followed honest here.0 here.2)
-replay_fault old now new start meter meter' text rest left line bytes order number Memory so_far loses short spells followed honest w at =
+    let breaks = written_part honest old now new meter' w here.0 text rest left here.1 line bytes order here.5 here.3 here.6 here.7 loses short spells (followed honest here.0 here.2) in
+    inr (read, told_behind writes mid writes' Io wrote told, breaks)
+replay_fault reads reads' writes mid writes' old now new start meter meter' text rest left line bytes order number Memory read wrote told so_far loses short spells followed honest w at =
     let here = so_far honest w at in absurd (followed honest here.0 here.2)
-replay_fault old now new start meter meter' text rest left line bytes order number Recovery so_far loses short spells followed honest w at =
-    replay_gone old now new start meter meter' text rest left line bytes order number so_far loses spells followed honest w at
+replay_fault reads reads' writes mid writes' old now new start meter meter' text rest left line bytes order number Recovery read wrote told so_far loses short spells followed honest w at =
+    (read, told_behind writes mid writes' Recovery wrote told, replay_gone old now new start meter meter' text rest left line bytes order number so_far loses spells followed honest w at)

@@ -1,4 +1,5 @@
 pub mod Outcome
+pub mod Calls
 pub mod Lines
 pub mod Numbers
 pub mod Orders

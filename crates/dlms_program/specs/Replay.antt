@@ -1,5 +1,5 @@
 -- What a transcript's lines mean, and what a replay of them writes.
-use Rattle.std.specs.Prelude.{◌≡◌, ◌⊎◌, ◌<◌, ◌≤◌, ◌+◌, ℕ, Bool, true, false, List, [], ◌∷◌, ◌++◌, length, Option, Some, None, Result, Ok, Err, MatchResult, ⊤}
+use Rattle.std.specs.Prelude.{◌≡◌, ◌⊎◌, ◌<◌, ◌≤◌, ◌+◌, ◌-◌, ◌^◌, ℕ, Bool, true, false, List, [], ◌∷◌, ◌++◌, length, Option, Some, None, Result, Ok, Err, MatchResult, ⊤}
 use Rattle.std.specs.Io.KnownBytes.{Appends}
 use Rattle.dlms_state.specs.declared.event.Event.{Event}
 use Rattle.dlms_state.specs.declared.event.Event.TheVariants.{Pulses as PulseEvent, Moment as MomentEvent}
@@ -12,6 +12,7 @@ use Rattle.dlms_store.specs.Fitting.{StoreFits, IsRefusal}
 use Rattle.dlms_store.specs.declared.fault.OpenFault.{OpenFault}
 use Rattle.dlms_store.specs.declared.fault.AddFault.{AddFault}
 use Rattle.dlms_store.specs.declared.fault.AddFault.TheVariants as add
+use Rattle.dlms_program.specs.Calls.{Calls, Fails, Passes}
 use Rattle.dlms_program.specs.declared.fault.ReplayFault.{ReplayFault}
 use Rattle.dlms_program.specs.declared.fault.ReplayFault.TheVariants.{Line, Io, Memory, Recovery}
 use Rattle.dlms_program.specs.declared.orders.Order.{Order}
@@ -184,12 +185,23 @@ pub record WroteNoMore {P A : Type 0} {ghosts : Ghosts P} (honest : Bool) (old n
   pub short : length line ≤ 8192
   pub breaks : Followed honest mid new world bytes order (Err Io) meter
 
--- A replay of a known text, of which this is left.
-abbrev pub WroteReplay : {P A : Type 0} → {ghosts : Ghosts P} → Bool → Option (List ℕ) → Option (List ℕ) → World → Option (List ℕ) → Option (List ℕ) → Result (Unit {0}) ReplayFault → Option (Meter P A ghosts) → Type 0
-WroteReplay honest old new w text left (Ok done) meter = Ended honest old new w text Whole meter
-WroteReplay honest old new w text left (Err (Line number)) meter = Ended honest old new w text (Bad number) meter
-WroteReplay honest old new w text left (Err Recovery) meter = Ended honest old new w text Closed meter
-WroteReplay honest old new w text left (Err Memory) meter = ⊥
-WroteReplay honest old new w None left (Err Io) meter = ⊤
-WroteReplay honest old new w (Some text) None (Err Io) meter = ⊥
-WroteReplay honest old new w (Some text) (Some left) (Err Io) meter = ReadNoMore honest old new w text left meter ⊎ WroteNoMore honest old new w text left meter
+-- of known bytes this is said, and of what is left of them
+abbrev pub IfKnown : Option (List ℕ) → Option (List ℕ) → (List ℕ → List ℕ → Type 0) → Type 0
+IfKnown None left Said = ⊤
+IfKnown (Some text) None Said = ⊥
+IfKnown (Some text) (Some left) Said = Said text left
+
+-- the reader's last call failed, and none before, or 2^32 - 1 of them were made
+abbrev pub ReadsEnded : Option Calls → Option Calls → Type 0
+ReadsEnded reads reads' = Fails reads reads' ⊎ Passes (2 ^ 32 - 1) reads reads'
+
+-- A replay of a known text, of which this is left, by these calls of the reader and of the writer. `Io` is answered where the last
+-- call of one of them failed, or where the reads were used up. In any other case no call failed.
+abbrev pub WroteReplay : {P A : Type 0} → {ghosts : Ghosts P} → Bool → (reads reads' writes writes' : Option Calls) → Option (List ℕ) → Option (List ℕ) → World → Option (List ℕ) → Option (List ℕ) → Result (Unit {0}) ReplayFault → Option (Meter P A ghosts) → Type 0
+WroteReplay honest reads reads' writes writes' old new w text left (Ok done) meter = Passes 0 reads reads' × Passes 0 writes writes' × Ended honest old new w text Whole meter
+WroteReplay honest reads reads' writes writes' old new w text left (Err (Line number)) meter = Passes 0 reads reads' × Passes 0 writes writes' × Ended honest old new w text (Bad number) meter
+WroteReplay honest reads reads' writes writes' old new w text left (Err Recovery) meter = Passes 0 reads reads' × Passes 0 writes writes' × Ended honest old new w text Closed meter
+WroteReplay honest reads reads' writes writes' old new w text left (Err Memory) meter = ⊥
+WroteReplay honest reads reads' writes writes' old new w text left (Err Io) meter =
+    (ReadsEnded reads reads' × Passes 0 writes writes' × IfKnown text left (λ text left. ReadNoMore honest old new w text left meter))
+    ⊎ (Passes 0 reads reads' × Fails writes writes' × IfKnown text left (λ text left. WroteNoMore honest old new w text left meter))

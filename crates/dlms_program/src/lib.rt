@@ -9,11 +9,13 @@ mod orders;
 mod pairs;
 mod printing;
 mod replaying;
+mod streams;
 mod work;
 mod working;
 
 pub use fault::ReplayFault;
 pub use replaying::replay;
+pub use streams::{Sink, Source};
 pub use work::Job;
 pub use working::job;
 

@@ -1,16 +1,17 @@
-//! Lines of bounded length from a reader.
+//! Lines of bounded length from a source of bytes.
 ghost use Rattle.std.specs.Prelude.{◌≡◌, ◌<◌, ◌≤◌, IfOk, IfErr, OnErr};
 ghost use Rattle.std.specs.Io.KnownBytes.{Keeps};
+ghost use Rattle.dlms_program.specs.Calls.{Called};
 ghost use Rattle.dlms_program.specs.Lines.{LosesPart, TakesByte, TakesLine};
 
 use crate::fault::ReplayFault;
+use crate::streams::{Source, is_interrupted};
 use arrayvec::ArrayVec;
-use std::io::{ErrorKind, Read};
 
 /// The most bytes of a line, without its line feed.
 pub const MOST_BYTES: usize = 8192;
 
-/// What the reader had.
+/// What the source had.
 #[derive(Clone, Copy, Debug, PartialEq, Eq)]
 pub enum Taken {
     /// No byte was left.
@@ -21,38 +22,36 @@ pub enum Taken {
     Long,
 }
 
-/// The next byte, if there is one. Each read is taken from `reads`.
-fn next_byte<R: Read>(reader: &mut R, reads: &mut u32) -> Result<Option<u8>, ReplayFault>
-    ensures byte { IfOk result (TakesByte (R.remaining reader.old) (R.remaining reader.new)) }
-    ensures none { OnErr result (Keeps (R.remaining reader.old) (R.remaining reader.new)) }
+/// The next byte, if there is one. A call that a signal interrupts is made again.
+fn next_byte<S: Source>(source: &mut S) -> Result<Option<u8>, ReplayFault>
+    ensures byte { IfOk result (TakesByte (S.remaining source.old) (S.remaining source.new)) }
+    ensures none { OnErr result (Keeps (S.remaining source.old) (S.remaining source.new)) }
     ensures fault { IfErr result (λ e. e ≡ ReplayFault.Io) }
+    ensures calls { Called 1 (S.calls source.old) (S.calls source.new) result }
 {
-    'reading: while *reads > 0 {
-        *reads -= 1;
-        let mut byte = [0u8; 1];
-        match reader.read(&mut byte) {
-            Ok(0) => return Ok(None),
-            Ok(_) => return Ok(Some(byte[0])),
-            Err(e) if e.kind() == ErrorKind::Interrupted => {}
+    let mut tries = u64::MAX;
+    'reading: loop {
+        match source.next_byte() {
+            Ok(byte) => return Ok(byte),
+            Err(e) if tries > 0 && is_interrupted(&e) => tries -= 1,
             Err(_) => return Err(ReplayFault::Io),
         }
     }
-    Err(ReplayFault::Io)
 }
 
-/// Takes a line into `line`, without its line feed. Each read is taken from `reads`.
-pub fn take_line<R: Read>(
-    reader: &mut R,
-    reads: &mut u32,
+/// Takes a line into `line`, without its line feed. A fault is that of the last call.
+pub fn take_line<S: Source>(
+    source: &mut S,
     line: &mut ArrayVec<u8, MOST_BYTES>,
 ) -> Result<Taken, ReplayFault>
-    ensures line { IfOk result (TakesLine (R.remaining reader.old) (R.remaining reader.new) line.new.items MOST_BYTES) }
-    ensures part { OnErr result (LosesPart (R.remaining reader.old) (R.remaining reader.new) line.new.items) }
+    ensures line { IfOk result (TakesLine (S.remaining source.old) (S.remaining source.new) line.new.items MOST_BYTES) }
+    ensures part { OnErr result (LosesPart (S.remaining source.old) (S.remaining source.new) line.new.items) }
     ensures fault { IfErr result (λ e. e ≡ ReplayFault.Io) }
+    ensures calls { Called 1 (S.calls source.old) (S.calls source.new) result }
 {
     line.clear();
     'bytes: loop {
-        match next_byte(reader, reads)? {
+        match next_byte(source)? {
             Some(b'\n') => return Ok(Taken::Whole),
             Some(byte) => {
                 if line.is_full() {

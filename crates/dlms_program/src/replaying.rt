@@ -1,8 +1,7 @@
 //! The replay of a transcript on a meter.
-ghost use Rattle.std.specs.Prelude.{◌≡◌, ◌≢◌, ◌≤◌, Bool, List, ℕ, MatchResult, Some, true, OnOk, IfErr, is_some, length};
+ghost use Rattle.std.specs.Prelude.{◌≡◌, ◌≢◌, ◌≤◌, Bool, List, ℕ, MatchResult, Some, true, OnOk, is_some};
 ghost use Rattle.dlms_state.specs.declared.event.Event.{Event};
-ghost use Rattle.std.specs.Io.KnownBytes.{Appends};
-ghost use Rattle.dlms_program.specs.Printed.{open_fault_line, state_line};
+ghost use Rattle.dlms_program.specs.Calls.{Called, Told};
 ghost use Rattle.dlms_program.specs.Replay.{Followed, IsAt, IsLeft, Obeyed, WroteReplay, outcome_line};
 ghost use Rattle.dlms_program.specs.Written.{Writes};
 ghost use Rattle.dlms_meter.specs.Run.{World, Stands, Judges};
@@ -12,8 +11,9 @@ use crate::lines::{Taken, take_line};
 use crate::orders::{Order, order_of};
 use crate::pairs::Pairs;
 use crate::printing::{
-    put, write_answer, write_fault, write_open, write_open_fault, write_refusal, write_state,
+    Line, fault_text, open_fault_text, put, refusal_text, state_text, write_answer, write_open,
 };
+use crate::streams::{Sink, Source};
 use arrayvec::ArrayVec;
 use dlms_meter::Meter;
 use dlms_pages::Pages;
@@ -21,21 +21,15 @@ use dlms_state::State;
 use dlms_store::{AddFault, OpenFault};
 use std::alloc::Allocator;
 use std::io;
-use std::io::{Read, Write};
-
-/// The most bytes of a line but a reply's.
-const MOST_LINE: usize = 128;
-
-/// A line that is put together before it is written.
-type Line = ArrayVec<u8, MOST_LINE>;
 
 /// Feeds bytes, and writes each reply. Where a reply cannot be written, the bytes behind its frame are not fed.
-fn feed<W: Write, P: Pages, A: Allocator + Copy>(
+fn feed<W: Sink, P: Pages, A: Allocator + Copy>(
     meter: &mut Meter<P, A>,
     bytes: &[u8],
     writer: &mut W,
 ) -> io::Result<()>
-    ensures { (honest : Bool) (w : World) → IsAt honest meter.old w → Obeyed honest (W.contents writer.old) (W.contents writer.new) w bytes.now Order.Feed result (Some meter.new) }
+    ensures lines { (honest : Bool) (w : World) → IsAt honest meter.old w → Obeyed honest (W.contents writer.old) (W.contents writer.new) w bytes.now Order.Feed result (Some meter.new) }
+    ensures calls { Called 0 (W.calls writer.old) (W.calls writer.new) result }
 {
     let mut rest = bytes;
     'frames: while !rest.is_empty() {
@@ -46,57 +40,39 @@ fn feed<W: Write, P: Pages, A: Allocator + Copy>(
     Ok(())
 }
 
-/// Spells the refusal or the number of the fault.
-fn spell<W: Write>(fault: AddFault, writer: &mut W) -> io::Result<()>
-    ensures { OnOk result (Appends (W.contents writer.old) (W.contents writer.new) (outcome_line (Err fault))) }
+/// The refusal or the number of the fault.
+fn text_of(fault: AddFault) -> Line
+    ensures { result.bytes ≡ outcome_line (Err fault) }
 {
     match fault {
-        AddFault::Refused(refused) => write_refusal(refused, writer),
-        AddFault::Device => write_fault(2, writer),
-        AddFault::Stopped => write_fault(3, writer),
-        AddFault::Exhausted => write_fault(4, writer),
+        AddFault::Refused(refused) => refusal_text(refused),
+        AddFault::Device => fault_text(2),
+        AddFault::Stopped => fault_text(3),
+        AddFault::Exhausted => fault_text(4),
     }
 }
 
-/// Writes the refusal or the number of the fault.
-fn tell_fault<W: Write>(fault: AddFault, writer: &mut W) -> io::Result<()>
-    ensures { Writes (W.contents writer.old) (W.contents writer.new) (outcome_line (Err fault)) result }
+/// Writes a line.
+fn tell<W: Sink>(line: &Line, writer: &mut W) -> io::Result<()>
+    ensures bytes { Writes (W.contents writer.old) (W.contents writer.new) line.now.bytes result }
+    ensures calls { Called 0 (W.calls writer.old) (W.calls writer.new) result }
 {
-    let mut line = Line::new();
-    spell(fault, &mut line)?;
-    put(line.as_slice(), writer)
-}
-
-/// Writes why the meter was not recovered.
-fn tell_open_fault<W: Write>(fault: OpenFault, writer: &mut W) -> io::Result<()>
-    ensures { Writes (W.contents writer.old) (W.contents writer.new) (open_fault_line fault) result }
-{
-    let mut line = Line::new();
-    write_open_fault(fault, &mut line)?;
-    put(line.as_slice(), writer)
-}
-
-/// Writes the registers, the clock and the count of rows.
-fn tell_state<W: Write, A: Allocator + Copy>(state: &State<A>, writer: &mut W) -> io::Result<()>
-    ensures { Writes (W.contents writer.old) (W.contents writer.new) (state_line state.now) result }
-{
-    let mut line = Line::new();
-    write_state(state, &mut line)?;
-    put(line.as_slice(), writer)
+    put(line.as_str().as_bytes(), writer)
 }
 
 /// Writes the refusal or the number of the fault, if there is one.
-fn answer<W: Write>(outcome: Result<(), AddFault>, writer: &mut W) -> io::Result<()>
-    ensures { Writes (W.contents writer.old) (W.contents writer.new) (outcome_line outcome) result }
+fn answer<W: Sink>(outcome: Result<(), AddFault>, writer: &mut W) -> io::Result<()>
+    ensures bytes { Writes (W.contents writer.old) (W.contents writer.new) (outcome_line outcome) result }
+    ensures calls { Called 0 (W.calls writer.old) (W.calls writer.new) result }
 {
     match outcome {
         Ok(()) => Ok(()),
-        Err(fault) => tell_fault(fault, writer),
+        Err(fault) => tell(&text_of(fault), writer),
     }
 }
 
 /// Closes the meter and recovers it from its device, and writes that, or why it could not be recovered: then it is gone.
-fn reopen<W: Write, P: Pages + Drop, A: Allocator + Copy>(
+fn reopen<W: Sink, P: Pages + Drop, A: Allocator + Copy>(
     alloc: A,
     meter: &mut Option<Meter<P, A>>,
     writer: &mut W,
@@ -104,6 +80,7 @@ fn reopen<W: Write, P: Pages + Drop, A: Allocator + Copy>(
     requires { is_some meter.old ≡ true }
     ensures there { OnOk result (is_some meter.new ≡ true) }
     ensures lines { (honest : Bool) (w : World) (bytes : List ℕ) → IsLeft honest meter.old (Some w) → Followed honest (W.contents writer.old) (W.contents writer.new) w bytes Order.Open result meter.new }
+    ensures calls { Told (W.calls writer.old) (W.calls writer.new) result }
 {
     let Some(running) = meter.take() else {
         return Err(ReplayFault::Recovery);
@@ -115,21 +92,22 @@ fn reopen<W: Write, P: Pages + Drop, A: Allocator + Copy>(
             Ok(())
         }
         Err((_, fault)) => {
-            tell_open_fault(fault, writer)?;
+            tell(&open_fault_text(fault), writer)?;
             Err(ReplayFault::Recovery)
         }
     }
 }
 
 /// Does what a line asks for, but for closing and recovering.
-fn obey<W: Write, P: Pages, A: Allocator + Copy>(
+fn obey<W: Sink, P: Pages, A: Allocator + Copy>(
     order: Order,
     bytes: &Pairs,
     meter: &mut Meter<P, A>,
     writer: &mut W,
 ) -> io::Result<()>
     requires { order ≢ Order.Open }
-    ensures { (honest : Bool) (w : World) → IsAt honest meter.old w → Obeyed honest (W.contents writer.old) (W.contents writer.new) w bytes.now order result (Some meter.new) }
+    ensures lines { (honest : Bool) (w : World) → IsAt honest meter.old w → Obeyed honest (W.contents writer.old) (W.contents writer.new) w bytes.now order result (Some meter.new) }
+    ensures calls { Called 0 (W.calls writer.old) (W.calls writer.new) result }
 {
     match order {
         Order::Skip => Ok(()),
@@ -141,12 +119,12 @@ fn obey<W: Write, P: Pages, A: Allocator + Copy>(
             Ok(())
         }
         Order::Open => Ok(()),
-        Order::Show => tell_state(meter.state(), writer),
+        Order::Show => tell(&state_text(meter.state()), writer),
     }
 }
 
 /// Does what a line asks for.
-fn follow<W: Write, P: Pages + Drop, A: Allocator + Copy>(
+fn follow<W: Sink, P: Pages + Drop, A: Allocator + Copy>(
     alloc: A,
     order: Order,
     bytes: &Pairs,
@@ -156,6 +134,7 @@ fn follow<W: Write, P: Pages + Drop, A: Allocator + Copy>(
     requires { is_some meter.old ≡ true }
     ensures there { OnOk result (is_some meter.new ≡ true) }
     ensures lines { (honest : Bool) (w : World) → IsLeft honest meter.old (Some w) → Followed honest (W.contents writer.old) (W.contents writer.new) w bytes.now order result meter.new }
+    ensures calls { Told (W.calls writer.old) (W.calls writer.new) result }
 {
     if order == Order::Open {
         return reopen(alloc, meter, writer);
@@ -168,23 +147,25 @@ fn follow<W: Write, P: Pages + Drop, A: Allocator + Copy>(
 
 /// Does what the lines of `reader` ask of the meter, and writes what comes of them, up to the first line that is of no
 /// known form or too long. The meter is there when it is called, and afterwards but for one case: a line `O` closes it and
-/// cannot recover it. Then that is written, the answer is `ReplayFault::Recovery`, and the meter is gone. After 2^32 - 1
-/// reads it ends with `ReplayFault::Io`, as where the reader or the writer fails: then the meter has done what the lines
-/// before that ask for, and of a line whose answer could not be written, that line too, up to that answer.
-pub fn replay<R: Read, W: Write, P: Pages + Drop, A: Allocator + Copy>(
+/// cannot recover it. Then that is written, the answer is `ReplayFault::Recovery`, and the meter is gone.
+///
+/// It ends with `ReplayFault::Io` where the reader's or the writer's last call failed, and after 2^32 - 1 lines: then the
+/// meter has done what the lines before that ask for, and of a line whose answer could not be written, that line too, up
+/// to that answer. A call that a signal interrupts is made again, up to 2^64 - 1 times. A `Read` is a `Source`, and a
+/// `Write` a `Sink`.
+pub fn replay<R: Source, W: Sink, P: Pages + Drop, A: Allocator + Copy>(
     alloc: A,
     reader: &mut R,
     writer: &mut W,
     meter: &mut Option<Meter<P, A>>,
 ) -> Result<(), ReplayFault>
     requires { is_some meter.old ≡ true }
-    ensures { (honest : Bool) (w : World) → IsLeft honest meter.old (Some w) → WroteReplay honest (W.contents writer.old) (W.contents writer.new) w (R.remaining reader.old) (R.remaining reader.new) result meter.new }
+    ensures { (honest : Bool) (w : World) → IsLeft honest meter.old (Some w) → WroteReplay honest (R.calls reader.old) (R.calls reader.new) (W.calls writer.old) (W.calls writer.new) (W.contents writer.old) (W.contents writer.new) w (R.remaining reader.old) (R.remaining reader.new) result meter.new }
 {
-    let mut reads = u32::MAX;
     let mut line = ArrayVec::new();
     let mut bytes = Pairs::new();
     'lines: for number in 1..=u32::MAX {
-        match take_line(reader, &mut reads, &mut line)? {
+        match take_line(reader, &mut line)? {
             Taken::End => return Ok(()),
             Taken::Long => return Err(ReplayFault::Line(number)),
             Taken::Whole => {}
