@@ -4,8 +4,8 @@ use crate::answers::{put_number, put_number_and, put_shown, put_with_number};
 use crate::bench::{Bench, Room};
 use crate::fault::RowFault;
 use crate::hexadecimal::put_hex;
-use crate::measured::Measured;
 use crate::words::{Words, put_truth};
+use bumpalo::Bump;
 use dlms_data::{
     Bits, Bytes, Data, DataFault, Items, LAST_SECOND, append, append_counted, counted, fits,
     is_value, laws, octets, read, secs, span, write,
@@ -60,20 +60,20 @@ fn put_read(room: Room<'_>, bytes: &[u8], answer: &mut String) -> Result<(), Row
     }
 }
 
-/// Whether reading asks for no more than so many bytes of memory at once for each byte that is given; else for how many.
-fn put_asked(
+/// Whether reading takes no more than so many bytes of memory, all its growths together; else how many.
+fn put_taken(
     room: Room<'_>,
-    each: u32,
+    most: u32,
     bytes: &[u8],
     answer: &mut String,
 ) -> Result<(), RowFault> {
-    let measured = Measured::new(room.ample);
-    drop(read(&measured, bytes));
-    let greatest = measured.greatest() as u64;
-    if greatest <= u64::from(each).saturating_mul(bytes.len() as u64) {
+    let arena = Bump::new(room.ample);
+    drop(read(&arena, bytes));
+    let taken = arena.allocated_bytes() as u64;
+    if taken <= u64::from(most) {
         Ok(answer.push_str("within")?)
     } else {
-        put_number(answer, greatest)
+        put_number(answer, taken)
     }
 }
 
@@ -245,9 +245,9 @@ impl<'h> DataBench<'h> {
                 let front = words.bytes()?;
                 put_append_counted(self.room, &front, &words.bytes()?, answer)
             }
-            "asks" => {
-                let each = words.number()?;
-                put_asked(self.room, each, &words.bytes()?, answer)
+            "takes" => {
+                let most = words.number()?;
+                put_taken(self.room, most, &words.bytes()?, answer)
             }
             "nested" => put_nested(self.room, words.number()?, answer),
             "structure" => {

@@ -25,7 +25,6 @@ mod headend;
 mod hexadecimal;
 mod journal;
 mod link;
-mod measured;
 mod profile;
 mod rows;
 mod scenario;
