@@ -1,5 +1,5 @@
 -- How a replay goes on: a call, an order, a line.
-use Rattle.std.proofs.Common.{arith, refl, sym, ap, subst, inl, inr, append-nil, append_assoc, ◌∙◌, ◌≡◌, ◌⊎◌, ◌≤◌, ◌+◌, ℕ, Bool, true, false, List, [], ◌∷◌, ◌++◌, length, IsErr, MatchResult}
+use Rattle.std.proofs.Common.{arith, refl, sym, ap, subst, inl, inr, append-nil, append_assoc, ◌∙◌, ◌≡◌, ◌⊎◌, ◌≤◌, ◌+◌, ℕ, Bool, true, false, List, [], ◌∷◌, ◌++◌, ◌-◌, ◌^◌, length, length-append, IsErr, MatchResult}
 use Rattle.std.specs.Prelude.{Option, Some, None, ⊤, Result, Ok, Err, OnOk}
 use Rattle.std.specs.Io.KnownBytes.{Appends, IsAtEnd}
 use Rattle.dlms_state.specs.declared.event.Event.TheVariants.{Pulses as PulseEvent, Moment as MomentEvent}
@@ -22,7 +22,7 @@ use Rattle.dlms_pages.specs.declared.device.Pages.{Ghosts}
 use Rattle.dlms_meter.specs.declared.meter.Meter.{Meter}
 use Rattle.dlms_program.specs.Orders.{Spells}
 use Rattle.dlms_program.specs.Printed.{reply_lines, reply_line, open_line, open_fault_line, state_line}
-use Rattle.dlms_program.specs.Replay.{AreDone, Did, DidPart, Does, DoesPart, End, Ended, Finds, Followed, Gone, IfKnown, IsAt, IsBad, IsLeft, MayStayClosed, ReadNoMore, Replays, Tells, WroteNoMore, WroteReplay, outcome_line}
+use Rattle.dlms_program.specs.Replay.{AreDone, Did, DidPart, Does, DoesPart, End, Ended, Finds, Followed, Gone, IfKnown, IsAt, IsBad, IsLeft, LinesUsedUp, MayStayClosed, ReadNoMore, Replays, Tells, WroteNoMore, WroteReplay, outcome_line}
 use Rattle.dlms_program.specs.Replay.End.{Whole, Bad, Closed}
 use Rattle.dlms_program.specs.Written.{AppendsPart}
 use Rattle.dlms_state.specs.StateValue.{StateValue, IsStateOf, state_of}
@@ -344,10 +344,10 @@ done_line honest (l ∷ done) w m m' written line bytes first order (short', byt
 -- what has been replayed so far
 abbrev pub ReplayedSoFar : {P A : Type 0} → {ghosts : Ghosts P} → Option (List ℕ) → Option (List ℕ) → Option (Meter P A ghosts) → Option (Meter P A ghosts) → Option (List ℕ) → Option (List ℕ) → ℕ → Type 0
 ReplayedSoFar old now start meter text rest number = (honest : Bool) (w : World) → IsLeft honest start (Some w) → (m : World) × (written : List ℕ) × IsLeft honest meter (Some m)
-    × Appends old now written × Goes honest text w rest m number written × (done : List (List ℕ)) × AreDone honest w done m written × CutAt text rest done
+    × Appends old now written × Goes honest text w rest m number written × (done : List (List ℕ)) × AreDone honest w done m written × CutAt text rest done × (length done + 1 ≡ number)
 
 pub replay_start : {P A : Type 0} {ghosts : Ghosts P} (contents : Option (List ℕ)) (meter : Option (Meter P A ghosts)) (text : Option (List ℕ)) → ReplayedSoFar contents contents meter meter text text 1
-replay_start contents meter text = λ honest w at. (w, [], at, appends_none contents, goes_start honest text w, [], (refl, refl), cut_start text)
+replay_start contents meter text = λ honest w at. (w, [], at, appends_none contents, goes_start honest text w, [], (refl, refl), cut_start text, refl)
 
 pub replay_line : {P A : Type 0} {ghosts : Ghosts P} (old now new : Option (List ℕ)) (start meter meter' : Option (Meter P A ghosts)) (text rest left : Option (List ℕ)) (line bytes : List ℕ) (order : Order) (number : ℕ)
     → ReplayedSoFar old now start meter text rest number → LosesLine rest left line → length line ≤ 8192 → Spells line bytes order
@@ -363,6 +363,7 @@ replay_line old now new start meter meter' text rest left line bytes order numbe
       here.5 ++ line ∷ [],
       done_line honest here.5 w here.0 did.world here.1 line bytes did.written order here.6 short spells did.does,
       cut_line text rest left here.5 line here.7 loses,
+      omega (arith, here.8, length-append here.5 (line ∷ [])),
     )
 
 -- The end of the whole: from here the rest of the text writes this and comes to this end.
@@ -437,11 +438,6 @@ replay_gone old now new start meter meter' text rest left line bytes order numbe
 
 -- ---- a replay that is broken off
 
--- a part of a line is lost
-pub loses_none : (a : Option (List ℕ)) → LosesPart a a []
-loses_none None = (tt, tt)
-loses_none (Some xs) = (refl, tt)
-
 read_part : {P A : Type 0} {ghosts : Ghosts P} (honest : Bool) (old now : Option (List ℕ)) (meter : Option (Meter P A ghosts)) (w m : World) (text rest left : Option (List ℕ)) (written part : List ℕ) (done : List (List ℕ))
     → IsLeft honest meter (Some m) → Appends old now written → AreDone honest w done m written → CutAt text rest done → LosesPart rest left part → IfKnown text left (λ text left. ReadNoMore honest old now w text left meter)
 read_part honest old now meter w m None rest left written part done at appends are cut loses = tt
@@ -466,6 +462,24 @@ pub replay_cut : {P A : Type 0} {ghosts : Ghosts P} (old now : Option (List ℕ)
 replay_cut old now start meter text rest left part number so_far loses honest w at =
     let here = so_far honest w at in
     read_part honest old now meter w here.0 text rest left here.1 part here.5 here.2 here.3 here.6 here.7 loses
+
+used_part : {P A : Type 0} {ghosts : Ghosts P} (honest : Bool) (old now : Option (List ℕ)) (meter : Option (Meter P A ghosts)) (w m : World) (text rest : Option (List ℕ)) (written : List ℕ) (done : List (List ℕ))
+    → IsLeft honest meter (Some m) → Appends old now written → AreDone honest w done m written → CutAt text rest done → length done ≡ 2 ^ 32 - 1 → IfKnown text rest (λ text left. LinesUsedUp honest old now w text left meter)
+used_part honest old now meter w m None rest written done at appends are cut many = tt
+used_part honest old now meter w m (Some text) None written done at appends are cut many = absurd cut
+used_part honest old now meter w m (Some text) (Some rest) written done at appends are cut many = record {
+  read = record { done = done; part = []; cut = cut; no_feed = tt; world = m; written = written; are = are; left_is = at; appends = appends };
+  none = refl;
+  many = many;
+}
+
+-- the lines were used up
+pub replay_used : {P A : Type 0} {ghosts : Ghosts P} (old now : Option (List ℕ)) (start meter : Option (Meter P A ghosts)) (text rest : Option (List ℕ)) (number : ℕ)
+    → ReplayedSoFar old now start meter text rest number → number ≡ 2 ^ 32
+    → (honest : Bool) (w : World) → IsLeft honest start (Some w) → IfKnown text rest (λ text left. LinesUsedUp honest old now w text left meter)
+replay_used old now start meter text rest number so_far last honest w at =
+    let here = so_far honest w at in
+    used_part honest old now meter w here.0 text rest here.1 here.5 here.2 here.3 here.6 here.7 (omega (arith, here.8, last))
 
 written_part : {P A : Type 0} {ghosts : Ghosts P} (honest : Bool) (old now new : Option (List ℕ)) (meter : Option (Meter P A ghosts)) (w m : World) (text rest left : Option (List ℕ)) (written line bytes : List ℕ) (order : Order) (done : List (List ℕ))
     → Appends old now written → AreDone honest w done m written → CutAt text rest done → LosesLine rest left line → length line ≤ 8192 → Spells line bytes order → Followed honest now new m bytes order (Err Io) meter
@@ -500,7 +514,7 @@ replay_fault reads reads' writes mid writes' old now new start meter meter' text
 replay_fault reads reads' writes mid writes' old now new start meter meter' text rest left line bytes order number Io read wrote told so_far loses short spells followed honest w at =
     let here = so_far honest w at in
     let breaks = written_part honest old now new meter' w here.0 text rest left here.1 line bytes order here.5 here.3 here.6 here.7 loses short spells (followed honest here.0 here.2) in
-    inr (read, told_behind writes mid writes' Io wrote told, breaks)
+    inr (inl (read, told_behind writes mid writes' Io wrote told, breaks))
 replay_fault reads reads' writes mid writes' old now new start meter meter' text rest left line bytes order number Memory read wrote told so_far loses short spells followed honest w at =
     let here = so_far honest w at in absurd (followed honest here.0 here.2)
 replay_fault reads reads' writes mid writes' old now new start meter meter' text rest left line bytes order number Recovery read wrote told so_far loses short spells followed honest w at =

@@ -191,17 +191,20 @@ IfKnown None left Said = ⊤
 IfKnown (Some text) None Said = ⊥
 IfKnown (Some text) (Some left) Said = Said text left
 
--- the reader's last call failed, and none before, or 2^32 - 1 of them were made
-abbrev pub ReadsEnded : Option Calls → Option Calls → Type 0
-ReadsEnded reads reads' = Fails reads reads' ⊎ Passes (2 ^ 32 - 1) reads reads'
+-- 2^32 - 1 lines were done, and none of the next one was read
+pub record LinesUsedUp {P A : Type 0} {ghosts : Ghosts P} (honest : Bool) (old new : Option (List ℕ)) (w : World) (text left : List ℕ) (meter : Option (Meter P A ghosts)) : Type 0 where
+  pub read : ReadNoMore honest old new w text left meter
+  pub none : read.part ≡ []
+  pub many : length read.done ≡ 2 ^ 32 - 1
 
 -- A replay of a known text, of which this is left, by these calls of the reader and of the writer. `Io` is answered where the last
--- call of one of them failed, or where the reads were used up. In any other case no call failed.
+-- call of one of them failed, or where 2^32 - 1 lines were done, by as many reads or more. In any other case no call failed.
 abbrev pub WroteReplay : {P A : Type 0} → {ghosts : Ghosts P} → Bool → (reads reads' writes writes' : Option Calls) → Option (List ℕ) → Option (List ℕ) → World → Option (List ℕ) → Option (List ℕ) → Result (Unit {0}) ReplayFault → Option (Meter P A ghosts) → Type 0
 WroteReplay honest reads reads' writes writes' old new w text left (Ok done) meter = Passes 0 reads reads' × Passes 0 writes writes' × Ended honest old new w text Whole meter
 WroteReplay honest reads reads' writes writes' old new w text left (Err (Line number)) meter = Passes 0 reads reads' × Passes 0 writes writes' × Ended honest old new w text (Bad number) meter
 WroteReplay honest reads reads' writes writes' old new w text left (Err Recovery) meter = Passes 0 reads reads' × Passes 0 writes writes' × Ended honest old new w text Closed meter
 WroteReplay honest reads reads' writes writes' old new w text left (Err Memory) meter = ⊥
 WroteReplay honest reads reads' writes writes' old new w text left (Err Io) meter =
-    (ReadsEnded reads reads' × Passes 0 writes writes' × IfKnown text left (λ text left. ReadNoMore honest old new w text left meter))
+    (Fails reads reads' × Passes 0 writes writes' × IfKnown text left (λ text left. ReadNoMore honest old new w text left meter))
     ⊎ (Passes 0 reads reads' × Fails writes writes' × IfKnown text left (λ text left. WroteNoMore honest old new w text left meter))
+    ⊎ (Passes (2 ^ 32 - 1) reads reads' × Passes 0 writes writes' × IfKnown text left (λ text left. LinesUsedUp honest old new w text left meter))

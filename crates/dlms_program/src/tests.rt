@@ -56,6 +56,64 @@ impl Write for FailingWriter {
     }
 }
 
+/// Gives some bytes, each behind an interruption.
+#[derive(Drop)]
+struct InterruptedReader<'a> {
+    bytes: &'a [u8],
+    interrupted: bool,
+}
+
+impl Read for InterruptedReader<'_> {
+    fn read(&mut self, buf: &mut [u8]) -> io::Result<usize> {
+        self.interrupted = !self.interrupted;
+        if self.interrupted {
+            return Err(Error::from(ErrorKind::Interrupted));
+        }
+        self.bytes.read(buf)
+    }
+}
+
+/// Counts the bytes that it takes, one at a call, each behind an interruption.
+#[derive(Drop)]
+struct InterruptedWriter {
+    taken: u64,
+    interrupted: bool,
+}
+
+impl Write for InterruptedWriter {
+    fn write(&mut self, buf: &[u8]) -> io::Result<usize> {
+        self.interrupted = !self.interrupted;
+        if self.interrupted {
+            return Err(Error::from(ErrorKind::Interrupted));
+        }
+        let taken = buf.len().min(1);
+        self.taken = self.taken.saturating_add(taken as u64);
+        Ok(taken)
+    }
+
+    fn flush(&mut self) -> io::Result<()> {
+        Ok(())
+    }
+}
+
+/// A call that a signal interrupts is made again.
+#[test]
+fn interruptions_end_nothing(rt: HostRuntime) -> Result<(), Fail> {
+    let mut meter = Some(in_memory(rt.alloc())?);
+    let mut reader = InterruptedReader {
+        bytes: b"P 0 42\nS\n",
+        interrupted: false,
+    };
+    let mut writer = InterruptedWriter {
+        taken: 0,
+        interrupted: false,
+    };
+    let ended = replay(rt.alloc(), &mut reader, &mut writer, &mut meter);
+    assert_eq!(rt; ended, Ok(()));
+    assert_eq!(rt; writer.taken, 17);
+    Ok(())
+}
+
 #[test]
 fn a_failing_reader_keeps_what_was_printed(rt: HostRuntime) -> Result<(), Fail> {
     let mut meter = Some(in_memory(rt.alloc())?);

@@ -1,9 +1,9 @@
-use Rattle.std.proofs.Common.{arith, sym, subst, inl, inr, ◌+◌, ◌-◌, ◌^◌, ℕ, List, []}
+use Rattle.std.proofs.Common.{arith, sym, subst, inl, inr, ◌+◌, ◌-◌, ◌^◌, ℕ, List}
 use Rattle.dlms_program.specs.Lines.{LosesLine, TakesLine}
 use Rattle.dlms_program.specs.declared.lines.Taken.{Taken}
 use Rattle.std.proofs.lemmas.Result.{err_from_is_err_and}
 use Rattle.dlms_program.proofs.CallLemmas.{fails_behind, passes_least, passes_more}
-use Rattle.dlms_program.proofs.ReplayLemmas.{loses_none, replay_cut, replay_fault, replay_line, replay_end, replay_bad, unknown_first, long_first}
+use Rattle.dlms_program.proofs.ReplayLemmas.{replay_cut, replay_fault, replay_used, replay_line, replay_end, replay_bad, unknown_first, long_first}
 use Rattle.dlms_program.proofs.replaying.replay.Goals as goal
 
 pub returns-in-End : goal.returns-in-End
@@ -71,14 +71,14 @@ returns-in_err-take_line g c honest w at =
     let cut = replay_cut (g.W.Sink.contents c.args.writer.now) (g.W.Sink.contents c.lines.writer) c.args.meter.now c.lines.meter
     (g.R.Source.remaining c.args.reader.now) (g.R.Source.remaining c.lines.reader) (g.R.Source.remaining c.take_line.new.source) c.take_line.new.line.items c.lines.number c.lines.invariant.0 c.in_err-take_line.ensures.part honest w at in
     rw (p.1, p.2, c.in_err-take_line.ensures.fault)
-    (inl (inl failed, c.lines.invariant.3, cut))
+    (inl (failed, c.lines.invariant.3, cut))
 
 pub returns : goal.returns
 returns g c honest w at =
     let read = passes_least (2 ^ 32 - 1) (c.lines.number - 1) (g.R.Source.calls c.args.reader.now) (g.R.Source.calls c.lines.reader) (omega arith) c.lines.invariant.2 in
-    let cut = replay_cut (g.W.Sink.contents c.args.writer.now) (g.W.Sink.contents c.lines.writer) c.args.meter.now c.lines.meter
-    (g.R.Source.remaining c.args.reader.now) (g.R.Source.remaining c.lines.reader) (g.R.Source.remaining c.lines.reader) [] c.lines.number c.lines.invariant.0 (loses_none (g.R.Source.remaining c.lines.reader)) honest w at in
-    inl (inr read, c.lines.invariant.3, cut)
+    let cut = replay_used (g.W.Sink.contents c.args.writer.now) (g.W.Sink.contents c.lines.writer) c.args.meter.now c.lines.meter
+    (g.R.Source.remaining c.args.reader.now) (g.R.Source.remaining c.lines.reader) c.lines.number c.lines.invariant.0 (omega arith) honest w at in
+    inr (inr (read, c.lines.invariant.3, cut))
 
 pub returns-in_ok-follow : goal.returns-in_ok-follow
 returns-in_ok-follow g c honest w at =
@@ -92,6 +92,6 @@ returns-in_ok-follow g c honest w at =
     let read = passes_more (c.lines.number - 1) 1 (2 ^ 32 - 1) (g.R.Source.calls c.args.reader.now) (g.R.Source.calls c.lines.reader) (g.R.Source.calls c.take_line.new.source) c.lines.invariant.2 c.in_ok-take_line.ensures.calls (omega arith) in
     let wrote = passes_more 0 0 0 (g.W.Sink.calls c.args.writer.now) (g.W.Sink.calls c.lines.writer) (g.W.Sink.calls c.follow.new.writer) c.lines.invariant.3 c.in_ok-follow.ensures.calls (omega arith) in
     let cut =
-    replay_cut (g.W.Sink.contents c.args.writer.now) (g.W.Sink.contents c.follow.new.writer) c.args.meter.now c.follow.new.meter
-    (g.R.Source.remaining c.args.reader.now) (g.R.Source.remaining c.take_line.new.source) (g.R.Source.remaining c.take_line.new.source) [] (c.lines.number + 1) so_far (loses_none (g.R.Source.remaining c.take_line.new.source)) honest w at in
-    inl (inr read, wrote, cut)
+    replay_used (g.W.Sink.contents c.args.writer.now) (g.W.Sink.contents c.follow.new.writer) c.args.meter.now c.follow.new.meter
+    (g.R.Source.remaining c.args.reader.now) (g.R.Source.remaining c.take_line.new.source) (c.lines.number + 1) so_far (omega arith) honest w at in
+    inr (inr (read, wrote, cut))
