@@ -39,8 +39,8 @@ use Rattle.dlms_classes.specs.Answer.{IsShown}
 use Rattle.dlms_service.specs.Shown.{asked, Gives, block_form, in_blocks, goes_on}
 use Rattle.dlms_service.specs.Blocks.{Steps, ContinuesFor, open_for, taken_form, ended_form, code_for}
 use Rattle.dlms_service.specs.Serves.{Choice, FindsMemory, LacksMemoryToRead, LacksMemoryToAnswer, Asks, LacksToAnswer, Permitted, Requested, Read, Within, Released, Associated, associated, permits, begins_with}
-use Rattle.dlms_meter.specs.Run.{Choice as Chosen, Served as ByChoice, DeviceFails, Does}
-use Rattle.dlms_meter.specs.Transfers.{Own, Cleared, Asked, Served, InTurn, own_of, is_get_normal, is_block, begins, NoneBegins, blocks_in, Block, spelled, joined, has_last, GoesOut, BlocksJoin, NoBlockUnasked}
+use Rattle.dlms_meter.specs.Run.{Choice as Chosen, Served, DeviceFails, Does}
+use Rattle.dlms_meter.specs.Transfers.{Own, Cleared, Asked, Exchange, InTurn, own_of, is_get_normal, is_block, begins, NoneBegins, blocks_in, Block, spelled, joined, has_last, GoesOut, BlocksJoin, NoBlockUnasked}
 use Rattle.dlms_meter.proofs.InTurn.{in_turn}
 
 -- ---- one APDU
@@ -251,10 +251,10 @@ failed kept E request s (action_first invoke d last number raw) events o e = qui
 failed kept E request s (action_block invoke last number raw) events o e = quiet E request s o _ e refl refl (inr (inl refl))
 
 moved_by : (choice : Chosen) (E : List Event) (s : SessionValue) (bytes : List ℕ) (o : Outcome) → Does choice E s bytes o → Moved E (request_at bytes) s o
-moved_by (ByChoice memory) E s bytes o h = associated_or (begins_with 0x60 bytes) memory E s bytes o h
+moved_by (Served memory) E s bytes o h = associated_or (begins_with 0x60 bytes) memory E s bytes o h
 moved_by (DeviceFails kept) E s bytes o (form, at, would, leads, success, e) = failed kept E (request_at bytes) s form would.accepted o e
 
-moved : (x : Served) (s : SessionValue) → Does x.choice x.before s x.apdu x.outcome → Moved x.before (request_at x.apdu) s x.outcome
+moved : (x : Exchange) (s : SessionValue) → Does x.choice x.before s x.apdu x.outcome → Moved x.before (request_at x.apdu) s x.outcome
 moved x s does = moved_by x.choice x.before s x.apdu x.outcome does
 
 -- ---- blocks, one after another
@@ -332,14 +332,14 @@ record Gave (text : List ℕ) (size : ℕ) (front : List Block) (xs : List Own) 
   bytes : joined (front ++ blocks) ≡ blocks_up_to text size (length (front ++ blocks))
   final : has_last (front ++ blocks) ≡ true → is_last text size (length (front ++ blocks)) ≡ true
 
-begins_first : (x : Served) (s : SessionValue) → First x.before (request_at x.apdu) s x.outcome → begins x ≡ true
+begins_first : (x : Exchange) (s : SessionValue) → First x.before (request_at x.apdu) s x.outcome → begins x ≡ true
 begins_first x s first =
     ap (λ (r : Result RequestForm Refusal). is_get_normal r && is_block x.outcome.answer) first.asks ∙ ap (λ (o : Outcome). is_block o.answer) first.leads
 
-unless_block : (x : Served) (xs : List Own) (b : Bool) → is_block x.outcome.answer ≡ b → blocks_in (Asked x ∷ xs) ≡ (if b then x.outcome.answer ∷ blocks_in xs else blocks_in xs)
+unless_block : (x : Exchange) (xs : List Own) (b : Bool) → is_block x.outcome.answer ≡ b → blocks_in (Asked x ∷ xs) ≡ (if b then x.outcome.answer ∷ blocks_in xs else blocks_in xs)
 unless_block x xs b is = ap (λ (c : Bool). if c then x.outcome.answer ∷ blocks_in xs else blocks_in xs) is
 
-gave_more : (text : List ℕ) (size : ℕ) (front : List Block) (b : Block) (x : Served) (xs : List Own) → x.outcome.answer ≡ spelled b → Gave text size (front ++ b ∷ []) xs → Gave text size front (Asked x ∷ xs)
+gave_more : (text : List ℕ) (size : ℕ) (front : List Block) (b : Block) (x : Exchange) (xs : List Own) → x.outcome.answer ≡ spelled b → Gave text size (front ++ b ∷ []) xs → Gave text size front (Asked x ∷ xs)
 gave_more text size front b x xs says rest =
     let all : (front ++ b ∷ []) ++ rest.blocks ≡ front ++ b ∷ rest.blocks = append_assoc front (b ∷ []) rest.blocks in
     let is : is_block x.outcome.answer ≡ true = ap is_block says in
@@ -350,7 +350,7 @@ gave_more text size front b x xs says rest =
       final = subst (λ (blocks : List Block). has_last blocks ≡ true → is_last text size (length blocks) ≡ true) all rest.final;
     }
 
-gave_none : (text : List ℕ) (size : ℕ) (front : List Block) (x : Served) (xs : List Own) → is_block x.outcome.answer ≡ false → Gave text size front xs → Gave text size front (Asked x ∷ xs)
+gave_none : (text : List ℕ) (size : ℕ) (front : List Block) (x : Exchange) (xs : List Own) → is_block x.outcome.answer ≡ false → Gave text size front xs → Gave text size front (Asked x ∷ xs)
 gave_none text size front x xs none rest = record { blocks = rest.blocks; are = rest.are ∙ sym (unless_block x xs false none); bytes = rest.bytes; final = rest.final }
 
 all_given : (xs : List Own) (text : List ℕ) (size : ℕ) (s s' : SessionValue) (front : List Block) → SoFar text size s.getting front → InTurn s xs s' → NoneBegins xs → Gave text size front xs
@@ -381,14 +381,14 @@ all_given (Asked x ∷ xs) text size s s' front so_far (does, run) (other, none)
 -- ---- in a run
 
 -- what those before one of them left
-record Parted (s s' : SessionValue) (before : List Own) (x : Served) (behind : List Own) : Type 0 where
+record Parted (s s' : SessionValue) (before : List Own) (x : Exchange) (behind : List Own) : Type 0 where
   session : SessionValue
   to : InTurn s before session
   client : session.client ≡ s.client
   does : Does x.choice x.before session x.apdu x.outcome
   from : InTurn x.outcome.own behind s'
 
-parted : (before : List Own) (x : Served) (behind : List Own) (s s' : SessionValue) → InTurn s (before ++ Asked x ∷ behind) s' → Parted s s' before x behind
+parted : (before : List Own) (x : Exchange) (behind : List Own) (s s' : SessionValue) → InTurn s (before ++ Asked x ∷ behind) s' → Parted s s' before x behind
 parted [] x behind s s' run = record { session = s; to = refl; client = refl; does = run.0; from = run.1 }
 parted (Cleared ∷ before) x behind s s' run =
     let rest : Parted (fresh s.client) s' before x behind = parted before x behind (fresh s.client) s' run in
@@ -402,7 +402,7 @@ both true true h = (refl, refl)
 both false b h = absurd cc
 both true false h = absurd cc
 
-first_of_them : (x : Served) (s : SessionValue) → begins x ≡ true → Moved x.before (request_at x.apdu) s x.outcome → First x.before (request_at x.apdu) s x.outcome
+first_of_them : (x : Exchange) (s : SessionValue) → begins x ≡ true → Moved x.before (request_at x.apdu) s x.outcome → First x.before (request_at x.apdu) s x.outcome
 first_of_them x s begun one =
     let tests = both (is_get_normal (request_at x.apdu)) (is_block x.outcome.answer) begun in
     elim one.move as (λ _. First x.before (request_at x.apdu) s x.outcome) [

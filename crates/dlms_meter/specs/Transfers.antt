@@ -23,8 +23,8 @@ use Rattle.dlms_meter.specs.ClientRecord.{ClientRecord}
 use Rattle.dlms_meter.specs.Run.{World, Records, Turn, Choice, Does, Handled, Handles, Answered, Takes, Answers, client_at, is_same, events_of, after_turn, grown}
 use Rattle.dlms_meter.specs.Steps.{Step, Piece, Silence, Happens, Leads, Run}
 
--- an APDU that was served, after these events, and what it led to
-pub record Served : Type 0 where
+-- an APDU of a client, after these events, and what it led to
+pub record Exchange : Type 0 where
   pub apdu : List ℕ
   pub before : List Event
   pub choice : Choice
@@ -33,7 +33,7 @@ pub record Served : Type 0 where
 -- what becomes of a client's association and transfers: its link comes up or goes down, or an APDU is served
 pub data Own : Type 0 where
   Cleared : Own
-  Asked : Served → Own
+  Asked : Exchange → Own
 
 -- one after another, whatever events are accepted between them
 abbrev pub InTurn : SessionValue → List Own → SessionValue → Type 0
@@ -96,7 +96,7 @@ abbrev pub is_block : List ℕ → Bool
 is_block answer = tells 0xC4 2 8 answer
 
 -- a new GET, answered by the first block of its value
-abbrev pub begins : Served → Bool
+abbrev pub begins : Exchange → Bool
 begins x = is_get_normal (request_at x.apdu) && is_block x.outcome.answer
 
 -- no other GET begins
@@ -132,7 +132,7 @@ has_last (b ∷ blocks) = b.last || has_last blocks
 
 -- A GET of the client, after these of its APDUs, which asked for an attribute: what it showed, after the events accepted
 -- before it, goes out in blocks.
-pub record GoesOut (who : Client) (s : SessionValue) (before : List Own) (x : Served) : Type 0 where
+pub record GoesOut (who : Client) (s : SessionValue) (before : List Own) (x : Exchange) : Type 0 where
   pub invoke : ℕ
   pub descriptor : Descriptor
   pub selector : Option apdu.Selection
@@ -151,7 +151,7 @@ pub record GoesOut (who : Client) (s : SessionValue) (before : List Own) (x : Se
 -- device that fails, a link that goes down and comes up, frames of the other client, pulses and moments.
 abbrev pub BlocksJoin : Type 0
 BlocksJoin =
-    (who : Client) (w w' : World) (steps : List Step) (run : Run w steps w') (before behind : List Own) (x : Served) → (w.records who).session.client ≡ who
+    (who : Client) (w w' : World) (steps : List Step) (run : Run w steps w') (before behind : List Own) (x : Exchange) → (w.records who).session.client ≡ who
     → own_of who w steps w' run ≡ before ++ Asked x ∷ behind → begins x ≡ true → NoneBegins behind
     → (out : GoesOut who (w.records who).session before x) × (blocks : List Block) × (map spelled blocks ≡ blocks_in (Asked x ∷ behind))
     × (joined blocks ≡ take (length blocks * (out.association.size - 12)) (canonical out.value)) × (has_last blocks ≡ true → joined blocks ≡ canonical out.value)

@@ -14,7 +14,7 @@ use Rattle.dlms_link.specs.declared.out.Phase.{Phase}
 use Rattle.dlms_link.specs.declared.out.Phase.TheVariants.{Closed, Connecting, Open, Closing}
 use Rattle.dlms_link.proofs.Sound.{Sound}
 use Rattle.dlms_link.proofs.Steps.{served_is, taken_is}
-use Rattle.dlms_meter.specs.Transfers.{Served, Asked, InTurn}
+use Rattle.dlms_meter.specs.Transfers.{Exchange, Asked, InTurn}
 use Rattle.dlms_service.specs.Session.{fresh}
 use Rattle.dlms_store.specs.World.{World as Store, IsBeginning}
 use Rattle.dlms_service.specs.Stake.{is_success}
@@ -47,7 +47,7 @@ abbrev rest_of : List (List ℕ) → List (List ℕ)
 rest_of [] = []
 rest_of (x ∷ xs) = xs
 
-talks : (plan : PlanValue) (b qs ts rest more others : List (List ℕ)) (served : List Served) → Answered plan b qs ts → asked_in served ++ more ≡ qs ++ rest → ts ++ others ≡ told_in served → Talks plan b served ts
+talks : (plan : PlanValue) (b qs ts rest more others : List (List ℕ)) (served : List Exchange) → Answered plan b qs ts → asked_in served ++ more ≡ qs ++ rest → ts ++ others ≡ told_in served → Talks plan b served ts
 talks plan b qs [] rest more others served h e k = tt
 talks plan b [] (t ∷ ts) rest more others served h e k = absurd h
 talks plan b (q ∷ qs) (t ∷ ts) rest more others [] h e k = cc
@@ -79,10 +79,10 @@ is_told tell who w frame rest rows client sound line fit c released =
     tell w.plan w.served c.last w.link.taken rows (subst (λ k. InTurn (fresh k) (map Asked w.served) c.last) (sym client) c.in_turn) talk released
 
 -- the events behind an answer of data are settled
-settled_each : (memory : Store) (served : List Served) → DataSettled memory served → ByRecursion (λ x. is_success x.outcome.answer ≡ true → IsBeginning x.before (settled_in memory)) served
+settled_each : (memory : Store) (served : List Exchange) → DataSettled memory served → ByRecursion (λ x. is_success x.outcome.answer ≡ true → IsBeginning x.before (settled_in memory)) served
 settled_each memory [] d = tt
 settled_each memory (x ∷ served) d = (d.0, settled_each memory served d.1)
 
-pub is_settled : (memory : Store) (served : List Served) (x : Served) → DataSettled memory served → Contains served x → is_success x.outcome.answer ≡ true → IsBeginning x.before (settled_in memory)
+pub is_settled : (memory : Store) (served : List Exchange) (x : Exchange) → DataSettled memory served → Contains served x → is_success x.outcome.answer ≡ true → IsBeginning x.before (settled_in memory)
 is_settled memory served x d in_it = All-contains (λ y. is_success y.outcome.answer ≡ true → IsBeginning y.before (settled_in memory)) served x
     (All-from_recursion (λ y. is_success y.outcome.answer ≡ true → IsBeginning y.before (settled_in memory)) served (settled_each memory served d)) in_it

@@ -17,8 +17,8 @@ use Rattle.dlms_headend.specs.Asking.{PlanValue, invoke, next_bytes}
 use Rattle.dlms_headend.specs.Poll.{Asks, associates, gets, goes_on as goes_further, releases, HasBlocks, HasRows, AreBlocks, IsMore, IsMoreBy, Spells, SpellsBy}
 use Rattle.dlms_headend.specs.Rows.{IsEncoded}
 use Rattle.dlms_headend.specs.declared.row.Row.{Row}
-use Rattle.dlms_meter.specs.Transfers.{Served, Asked, InTurn}
-use Rattle.dlms_meter.specs.Run.{Choice, Does, DeviceFails, Served as ByChoice}
+use Rattle.dlms_meter.specs.Transfers.{Exchange, Asked, InTurn}
+use Rattle.dlms_meter.specs.Run.{Choice, Does, DeviceFails, Served}
 use Rattle.dlms_service.specs.Serves.{Choice as Memory, FindsMemory, LacksMemoryToRead, LacksMemoryToAnswer, Requested, Permitted, Read, Within, permits}
 use Rattle.dlms_service.specs.Session.{SessionValue, Outcome}
 use Rattle.dlms_service.specs.Shown.{goes_on}
@@ -119,7 +119,7 @@ module _ (E : List Event) (s : SessionValue) (k : ℕ) (o : Outcome) (given : Gi
   next_within choice (Some a) is = next_choice choice a (subst (λ form. Read choice E s a form o) (reads_written_requests (get_next invoke k) tt few) is)
 
   pub next_tells : (choice : Choice) → Does choice E s (next_bytes k) o → o ≡ goes_on s invoke k
-  next_tells (ByChoice memory) serves = next_within memory s.opened serves
+  next_tells (Served memory) serves = next_within memory s.opened serves
   next_tells (DeviceFails kept) (form, read, would, leads, success, is) =
       absurd (no_data_in o.answer (get_block_result invoke k 1) (reads_written_responses (get_block_result invoke k 1) tt few) tt
       (failed_get kept s (get_next invoke k) form would.accepted (sym read ∙ reads_written_requests (get_next invoke k) tt few) o is) given)
@@ -174,7 +174,7 @@ more_data taken _ bytes h = absurd h
 
 module _ (plan : PlanValue) (encoding : List ℕ) (room : ℕ) (sent : IsSent encoding room) (n : ℕ) (answer : List ℕ) (tail : List (List ℕ)) (rows : List Row) (last : SessionValue) where
   -- behind k blocks these come, and then the last one: their bytes, joined, are the encoding
-  pub follow : (blocks : List (List ℕ)) (k : ℕ) (before : List (List ℕ)) (joined rest : List ℕ) (s : SessionValue) (served : List Served) → 0 < k → k < 65536 → HasBlocks before k joined → joined ≡ blocks_up_to encoding room k →
+  pub follow : (blocks : List (List ℕ)) (k : ℕ) (before : List (List ℕ)) (joined rest : List ℕ) (s : SessionValue) (served : List Exchange) → 0 < k → k < 65536 → HasBlocks before k joined → joined ≡ blocks_up_to encoding room k →
       s.getting ≡ Some (given_blocks encoding room k false) → InTurn s (map Asked served) last → Talks plan before served (blocks ++ answer ∷ tail) → AreBlocks k blocks n rest → Spells n (joined ++ rest) answer rows → IsEncoded encoding rows
   follow [] k before joined rest s [] some few h is getting chain talk come spelled = absurd talk
   follow [] k before joined rest s (x ∷ served) some few h is getting chain talk come spelled =

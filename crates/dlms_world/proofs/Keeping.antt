@@ -15,7 +15,7 @@ use Rattle.dlms_link.specs.declared.out.LinkOut.{LinkOut}
 use Rattle.dlms_link.specs.declared.out.LinkOut.TheVariants.{Nothing, Reply, Apdu, Oversize, BadLlc, Up, Down}
 use Rattle.dlms_link.proofs.Sound.{Sound}
 use Rattle.dlms_link.proofs.Steps.{keep as link_keeps}
-use Rattle.dlms_meter.specs.Transfers.{Served}
+use Rattle.dlms_meter.specs.Transfers.{Exchange}
 use Rattle.dlms_meter.specs.Run.{Choice}
 use Rattle.dlms_service.specs.Stake.{is_success}
 use Rattle.dlms_service.specs.Session.{SessionValue, Outcome, fresh}
@@ -201,7 +201,7 @@ ready_closed w ready s = subst (λ c. StandsBy c w.plan w.link) ready s
 closed_silent : (who : Client) (link : Link) → Sound who link → link.client.phase ≡ Closed → link.down_line ≡ []
 closed_silent who link sound closed = (subst (λ p. IsQuiet p link.up_line link.down_line) closed (quiet who sound)).1
 
-reached_aside : (who : Client) (link : Link) (e : LinkEvent) → IsAside e → Sound who link → (ours : Bool) (session : SessionValue) (served : List Served) → Chain who link ours session served → Chain who (happens link e) ours session served
+reached_aside : (who : Client) (link : Link) (e : LinkEvent) → IsAside e → Sound who link → (ours : Bool) (session : SessionValue) (served : List Exchange) → Chain who link ours session served → Chain who (happens link e) ours session served
 reached_aside who link e a sound ours session served c = chain.aside who link (happens link e) ours session served c (aside_same link e a) (live_before who e a sound)
 
 takes_over_dead : (link : Link) (up down : List Parts) → up ≡ [] → down ≡ [] → live (takes_over link up down) ≡ true → ⊥
@@ -271,19 +271,19 @@ chained who (Restarted w step memory unusual next) l s c =
 
 -- ---- the events behind answers of success or data are settled
 
-abbrev pub DataSettled : Store → List Served → Type 0
+abbrev pub DataSettled : Store → List Exchange → Type 0
 DataSettled memory [] = Unit {0}
 DataSettled memory (x ∷ served) = (is_success x.outcome.answer ≡ true → IsBeginning x.before (settled_in memory)) × DataSettled memory served
 
-pub still_settled : (before after : Store) (served : List Served) → IsBeginning (settled_in before) (settled_in after) → DataSettled before served → DataSettled after served
+pub still_settled : (before after : Store) (served : List Exchange) → IsBeginning (settled_in before) (settled_in after) → DataSettled before served → DataSettled after served
 still_settled before after [] grown d = tt
 still_settled before after (x ∷ served) grown d = (λ success. through x.before (settled_in before) (settled_in after) (d.0 success) grown, still_settled before after served grown d.1)
 
-one_settled : (memory : Store) (served : List Served) (x : Served) → DataSettled memory served → (is_success x.outcome.answer ≡ true → IsBeginning x.before (settled_in memory)) → DataSettled memory (served ++ x ∷ [])
+one_settled : (memory : Store) (served : List Exchange) (x : Exchange) → DataSettled memory served → (is_success x.outcome.answer ≡ true → IsBeginning x.before (settled_in memory)) → DataSettled memory (served ++ x ∷ [])
 one_settled memory [] x d new = (new, tt)
 one_settled memory (y ∷ served) x d new = (d.0, one_settled memory served x d.1 new)
 
-more_settled : (memory : Store) (served : List Served) (choice : Choice) (E : List Event) (r : ServerRecord) (result : LinkOut) (o : Outcome) → DataSettled memory served → (is_success o.answer ≡ true → IsBeginning E (settled_in memory)) →
+more_settled : (memory : Store) (served : List Exchange) (choice : Choice) (E : List Event) (r : ServerRecord) (result : LinkOut) (o : Outcome) → DataSettled memory served → (is_success o.answer ≡ true → IsBeginning E (settled_in memory)) →
     DataSettled memory (served ++ served_by choice E r result o)
 more_settled memory served choice E r Apdu o d new = one_settled memory served (record { apdu = r.apdu; before = E; choice = choice; outcome = o }) d new
 more_settled memory served choice E r Nothing o d new = subst (DataSettled memory) (sym (append-nil served)) d

@@ -17,7 +17,7 @@ use Rattle.dlms_headend.specs.Asking.{PlanValue, IsBufferRequest, first_second, 
 use Rattle.dlms_headend.specs.Poll.{Accepts, Asks, associates, gets, goes_on as goes_further, releases, HasBlocks, HasRows, AreBlocks, IsMoreBy, Spells, SpellsBy}
 use Rattle.dlms_headend.specs.Rows.{IsProfile, IsEncoded}
 use Rattle.dlms_headend.specs.declared.row.Row.{Row}
-use Rattle.dlms_meter.specs.Transfers.{Served, Asked, InTurn}
+use Rattle.dlms_meter.specs.Transfers.{Exchange, Asked, InTurn}
 use Rattle.dlms_profile.specs.Rows.{in_range}
 use Rattle.dlms_meter.specs.Run.{Does}
 use Rattle.dlms_service.specs.Stake.{is_success}
@@ -64,7 +64,7 @@ module _ (plan : PlanValue) (response answer tail : List ℕ) (rows : List Row) 
   first_get apdu (releases more r is) = absurd (not_both (response ∷ []) 0 [] more only r)
 
   -- the GET, what answered it, and what came behind it
-  module _ (x : Served) (served : List Served) (s last : SessionValue) (size : HasSize s.opened) (serves : Does x.choice x.before s x.apdu x.outcome) (chain : InTurn x.outcome.own (map Asked served) last) (asks : Asks plan (response ∷ []) x.apdu) where
+  module _ (x : Exchange) (served : List Exchange) (s last : SessionValue) (size : HasSize s.opened) (serves : Does x.choice x.before s x.apdu x.outcome) (chain : InTurn x.outcome.own (map Asked served) last) (asks : Asks plan (response ∷ []) x.apdu) where
     request : IsBufferRequest plan.after x.apdu
     request = first_get x.apdu asks
 
@@ -134,11 +134,11 @@ first_asked plan apdu (goes_further n joined some g is) = cc (g.are)
 first_asked plan apdu (releases rows r is) =
     let none : [] ≡ (r.blocks.response ∷ r.blocks.blocks) ++ r.answer ∷ [] = r.are ∙ ap (λ l. l ++ r.answer ∷ []) r.blocks.are in cc
 
-second_is_in : (x y : Served) (xs : List Served) → Contains (x ∷ y ∷ xs) y
+second_is_in : (x y : Exchange) (xs : List Exchange) → Contains (x ∷ y ∷ xs) y
 second_is_in x y xs = (1, omega arith, refl)
 
-module _ (plan : PlanValue) (response answer tail : List ℕ) (rows : List Row) (accepts : Accepts response) (last : SessionValue) (first : Served) (size : HasSize first.outcome.own.opened) (n : ℕ) (joined : List ℕ) (spelled : Spells n joined answer rows) where
-  from_get : (blocks : List (List ℕ)) (served : List Served) → AreBlocks 0 blocks n joined → InTurn first.outcome.own (map Asked served) last → Talks plan (response ∷ []) served (blocks ++ answer ∷ tail ∷ []) → IsTold plan (first ∷ served) rows
+module _ (plan : PlanValue) (response answer tail : List ℕ) (rows : List Row) (accepts : Accepts response) (last : SessionValue) (first : Exchange) (size : HasSize first.outcome.own.opened) (n : ℕ) (joined : List ℕ) (spelled : Spells n joined answer rows) where
+  from_get : (blocks : List (List ℕ)) (served : List Exchange) → AreBlocks 0 blocks n joined → InTurn first.outcome.own (map Asked served) last → Talks plan (response ∷ []) served (blocks ++ answer ∷ tail ∷ []) → IsTold plan (first ∷ served) rows
   from_get [] [] come chain talk = absurd talk
   from_get [] (x ∷ served) come chain talk =
       let given : GivesData x.outcome.answer = subst GivesData (sym talk.1) (spells_data n joined (response_at answer) rows spelled) in
@@ -172,7 +172,7 @@ tells plan served last taken rows chain talk released = from_first served chain 
     all : taken ≡ hb.response ∷ (hb.blocks ++ polled.answer ∷ released.answer ∷ [])
     all = released.are ∙ ap (λ l. l ++ released.answer ∷ []) (polled.are ∙ ap (λ l. l ++ polled.answer ∷ []) hb.are) ∙ append_assoc (hb.response ∷ hb.blocks) (polled.answer ∷ []) (released.answer ∷ [])
 
-    from_first : (served : List Served) → InTurn (fresh plan.client) (map Asked served) last → Talks plan [] served (hb.response ∷ (hb.blocks ++ polled.answer ∷ released.answer ∷ [])) → IsTold plan served rows
+    from_first : (served : List Exchange) → InTurn (fresh plan.client) (map Asked served) last → Talks plan [] served (hb.response ∷ (hb.blocks ++ polled.answer ∷ released.answer ∷ [])) → IsTold plan served rows
     from_first [] chain talk = absurd talk
     from_first (x ∷ served) chain talk =
         let sized : HasSize x.outcome.own.opened = association_sized x.choice x.before plan (fresh plan.client) x.outcome tt (subst (λ a. Does x.choice x.before (fresh plan.client) a x.outcome) (first_asked plan x.apdu talk.0) chain.0) in

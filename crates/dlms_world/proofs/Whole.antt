@@ -10,7 +10,7 @@ use Rattle.dlms_headend.specs.declared.stage.Course.{Course}
 use Rattle.dlms_headend.specs.declared.stage.Course.TheVariants.{Ready, Running, Done, Failed}
 use Rattle.dlms_link.specs.Server.{server_on}
 use Rattle.dlms_link.proofs.Steps.{sound}
-use Rattle.dlms_meter.specs.Transfers.{Served}
+use Rattle.dlms_meter.specs.Transfers.{Exchange}
 use Rattle.dlms_service.specs.Session.{fresh}
 use Rattle.dlms_store.specs.World.{World as Store, IsBeginning}
 use Rattle.dlms_world.specs.World.{World, settled_in, all_readings, rows_asked, first_world}
@@ -31,32 +31,32 @@ use Rattle.dlms_state.proofs.Limits.{IsWithinLimits-legal}
 use Rattle.dlms_state.specs.Refusal.{IsLegal}
 
 -- the poll's rows were told by events that are settled
-pub record Brought (plan : PlanValue) (served : List Served) (memory : Store) (rows : List Row) : Type 0 where
+pub record Brought (plan : PlanValue) (served : List Exchange) (memory : Store) (rows : List Row) : Type 0 where
   pub told : IsTold plan served rows
   pub settled : IsBeginning told.get.before (settled_in memory)
 
-abbrev pub DoneBy : Course → PlanValue → List Served → Store → List Row → Type 0
+abbrev pub DoneBy : Course → PlanValue → List Exchange → Store → List Row → Type 0
 DoneBy Ready plan served memory rows = Unit {0}
 DoneBy Running plan served memory rows = Unit {0}
 DoneBy Done plan served memory rows = Brought plan served memory rows
 DoneBy (Failed fault) plan served memory rows = Unit {0}
 
-brought_still : (plan : PlanValue) (served more : List Served) (before after : Store) (rows : List Row) → IsBeginning (settled_in before) (settled_in after) → Brought plan served before rows → Brought plan (served ++ more) after rows
+brought_still : (plan : PlanValue) (served more : List Exchange) (before after : Store) (rows : List Row) → IsBeginning (settled_in before) (settled_in after) → Brought plan served before rows → Brought plan (served ++ more) after rows
 brought_still plan served more before after rows grown b = record {
   told = record { get = b.told.get; took = Contains-append_left served more b.told.get b.told.took; asked = b.told.asked; success = b.told.success; are = b.told.are };
   settled = through b.told.get.before (settled_in before) (settled_in after) b.settled grown;
 }
 
-done_still : (course : Course) (plan : PlanValue) (served more : List Served) (before after : Store) (rows : List Row) → IsBeginning (settled_in before) (settled_in after) → DoneBy course plan served before rows → DoneBy course plan (served ++ more) after rows
+done_still : (course : Course) (plan : PlanValue) (served more : List Exchange) (before after : Store) (rows : List Row) → IsBeginning (settled_in before) (settled_in after) → DoneBy course plan served before rows → DoneBy course plan (served ++ more) after rows
 done_still Ready plan served more before after rows grown d = tt
 done_still Running plan served more before after rows grown d = tt
 done_still Done plan served more before after rows grown d = brought_still plan served more before after rows grown d
 done_still (Failed fault) plan served more before after rows grown d = tt
 
-done_on : (course : Course) (plan : PlanValue) (served : List Served) (before after : Store) (rows : List Row) → IsBeginning (settled_in before) (settled_in after) → DoneBy course plan served before rows → DoneBy course plan served after rows
+done_on : (course : Course) (plan : PlanValue) (served : List Exchange) (before after : Store) (rows : List Row) → IsBeginning (settled_in before) (settled_in after) → DoneBy course plan served before rows → DoneBy course plan served after rows
 done_on course plan served before after rows grown d = subst (λ l. DoneBy course plan l after rows) (append-nil served) (done_still course plan served [] before after rows grown d)
 
-runs_on : (course : Course) (plan : PlanValue) (served : List Served) (memory : Store) (rows : List Row) → course ≡ Running → DoneBy course plan served memory rows
+runs_on : (course : Course) (plan : PlanValue) (served : List Exchange) (memory : Store) (rows : List Row) → course ≡ Running → DoneBy course plan served memory rows
 runs_on course plan served memory rows runs = subst (λ c. DoneBy c plan served memory rows) (sym runs) tt
 
 -- what is kept of a world
@@ -124,11 +124,11 @@ is_brought : (who : Client) (w : World) → Good who w → w.course ≡ Done →
 is_brought who w g done = subst (λ c. DoneBy c w.plan w.served w.memory w.rows) done g.done
 
 -- the rows that are merged are readings of settled captures, and rise where these do
-brought_captures : (plan : PlanValue) (served : List Served) (memory : Store) (rows : List Row) → Brought plan served memory rows → AreCaptures (settled_in memory) rows
+brought_captures : (plan : PlanValue) (served : List Exchange) (memory : Store) (rows : List Row) → Brought plan served memory rows → AreCaptures (settled_in memory) rows
 brought_captures plan served memory rows b =
     subst (AreCaptures (settled_in memory)) (sym b.told.are) (still_captures b.told.get.before (settled_in memory) (rows_asked plan b.told.get.before) b.settled (asked_are_captures plan b.told.get.before))
 
-brought_rise : (plan : PlanValue) (served : List Served) (memory : Store) (rows : List Row) → Brought plan served memory rows → Rise (all_readings (settled_in memory)) → Rise rows
+brought_rise : (plan : PlanValue) (served : List Exchange) (memory : Store) (rows : List Row) → Brought plan served memory rows → Rise (all_readings (settled_in memory)) → Rise rows
 brought_rise plan served memory rows b rise =
     subst Rise (sym b.told.are) (asked_rise plan b.told.get.before (rose_before b.told.get.before (settled_in memory) b.settled rise))
 

@@ -3,7 +3,7 @@ use Rattle.std.specs.Prelude.{◌≡◌, ◌<◌, List, [], ◌∷◌, true, Con
 use Rattle.dlms_headend.specs.Asking.{PlanValue, IsBufferRequest}
 use Rattle.dlms_headend.specs.declared.row.Row.{Row}
 use Rattle.dlms_headend.specs.declared.stage.Course.TheVariants.{Running, Done}
-use Rattle.dlms_meter.specs.Transfers.{Served}
+use Rattle.dlms_meter.specs.Transfers.{Exchange}
 use Rattle.dlms_state.specs.declared.event.Event.{Event}
 use Rattle.dlms_world.specs.World.{World, all_readings, rows_due, first_world}
 use Rattle.dlms_meter.specs.Run.{events_in}
@@ -29,8 +29,8 @@ Rise [] = Unit {0}
 Rise (row ∷ rows) = IsBefore row rows × Rise rows
 
 -- these rows are those of the meter's buffer when it took the poll's GET, whose clock is at least the plan's second
-pub record BringsBuffer (plan : PlanValue) (served : List Served) (rows : List Row) : Type 0 where
-  pub get : Served
+pub record BringsBuffer (plan : PlanValue) (served : List Exchange) (rows : List Row) : Type 0 where
+  pub get : Exchange
   pub took : Contains served get
   pub asked : IsBufferRequest plan.after get.apdu
   pub are : rows ≡ rows_due plan get.before

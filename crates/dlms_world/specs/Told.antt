@@ -3,20 +3,20 @@ use Rattle.std.specs.Prelude.{◌≡◌, ℕ, true, List, [], ◌∷◌, ◌++�
 use Rattle.dlms_headend.specs.Asking.{PlanValue, IsBufferRequest}
 use Rattle.dlms_headend.specs.Poll.{Asks, HasReleased}
 use Rattle.dlms_headend.specs.declared.row.Row.{Row}
-use Rattle.dlms_meter.specs.Transfers.{Served, Asked, InTurn}
+use Rattle.dlms_meter.specs.Transfers.{Exchange, Asked, InTurn}
 use Rattle.dlms_service.specs.Session.{SessionValue, fresh}
 use Rattle.dlms_service.specs.Stake.{is_success}
 use Rattle.dlms_world.specs.World.{rows_asked}
 
 -- a poll that had taken these answers asked the APDUs that were served, one after another, and took their answers
-abbrev pub Talks : PlanValue → List (List ℕ) → List Served → List (List ℕ) → Type 0
+abbrev pub Talks : PlanValue → List (List ℕ) → List Exchange → List (List ℕ) → Type 0
 Talks plan before served [] = Unit {0}
 Talks plan before [] (apdu ∷ taken) = ⊥
 Talks plan before (x ∷ served) (apdu ∷ taken) = Asks plan before x.apdu × (x.outcome.answer ≡ apdu) × Talks plan (before ++ apdu ∷ []) served taken
 
 -- The rows are those that the buffer had when the GET was taken, from the plan's second on; its answer is one of success or data.
-pub record IsTold (plan : PlanValue) (served : List Served) (rows : List Row) : Type 0 where
-  pub get : Served
+pub record IsTold (plan : PlanValue) (served : List Exchange) (rows : List Row) : Type 0 where
+  pub get : Exchange
   pub took : Contains served get
   pub asked : IsBufferRequest plan.after get.apdu
   pub success : is_success get.outcome.answer ≡ true
@@ -25,5 +25,5 @@ pub record IsTold (plan : PlanValue) (served : List Served) (rows : List Row) : 
 -- APDUs served in turn to a client that has just come up, whose answers are those of a whole poll, tell its rows.
 abbrev pub AnswersTell : Type 0
 AnswersTell =
-    (plan : PlanValue) (served : List Served) (last : SessionValue) (taken : List (List ℕ)) (rows : List Row) → InTurn (fresh plan.client) (map Asked served) last
+    (plan : PlanValue) (served : List Exchange) (last : SessionValue) (taken : List (List ℕ)) (rows : List Row) → InTurn (fresh plan.client) (map Asked served) last
     → Talks plan [] served taken → HasReleased taken rows → IsTold plan served rows

@@ -21,7 +21,7 @@ use Rattle.dlms_link.specs.declared.out.LinkOut.TheVariants.{Nothing, Reply, Apd
 use Rattle.dlms_link.specs.declared.out.Phase.TheVariants.{Closed}
 use Rattle.dlms_meter.specs.ClientRecord.{ClientRecord, fresh_record}
 use Rattle.dlms_meter.specs.Run.{Choice, Does, ByLink, Handled, Handles, client_at, replies, sends, other_of}
-use Rattle.dlms_meter.specs.Transfers.{Served}
+use Rattle.dlms_meter.specs.Transfers.{Exchange}
 use Rattle.dlms_service.specs.Stake.{is_success}
 use Rattle.dlms_service.specs.Session.{SessionValue, Outcome, fresh, not_possible, unknown_service}
 use Rattle.dlms_state.specs.Refusal.{MayFollow}
@@ -34,7 +34,7 @@ use Rattle.dlms_meter.specs.Run.{events_in, pending_in}
 -- ---- the meter takes a frame of the poller's client
 
 -- what was served, where an APDU was
-abbrev pub served_by : Choice → List Event → ServerRecord → LinkOut → Outcome → List Served
+abbrev pub served_by : Choice → List Event → ServerRecord → LinkOut → Outcome → List Exchange
 served_by choice E r Apdu o = record { apdu = r.apdu; before = E; choice = choice; outcome = o } ∷ []
 served_by choice E r Nothing o = []
 served_by choice E r (Reply frame) o = []

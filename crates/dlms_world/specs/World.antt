@@ -10,7 +10,7 @@ use Rattle.dlms_headend.specs.declared.stage.Course.TheVariants.{Ready}
 use Rattle.dlms_link.specs.World.{World as Link, start as first_link}
 use Rattle.dlms_meter.specs.ClientRecord.{ClientRecord, fresh_record}
 use Rattle.dlms_meter.specs.Run.{events_in, other_of}
-use Rattle.dlms_meter.specs.Transfers.{Served}
+use Rattle.dlms_meter.specs.Transfers.{Exchange}
 use Rattle.dlms_profile.specs.Rows.{in_range}
 use Rattle.dlms_profile.specs.declared.rows.Row.{Row as Captured}
 use Rattle.dlms_service.specs.Session.{SessionValue, fresh}
@@ -31,7 +31,7 @@ pub record World : Type 0 where
   pub session : SessionValue
   pub other : ClientRecord
   -- the APDUs that the meter served in this connection, each with the events that it then held
-  pub served : List Served
+  pub served : List Exchange
   -- the events that the meter's store holds
   pub memory : Memory
   -- the poll: what it is to read, where it stands, and the rows that it was done with
