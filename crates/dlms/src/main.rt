@@ -36,7 +36,13 @@ fn status_of(rt: &HostRuntime) -> io::Result<u8> {
     let Ok(words) = slices_of(rt.alloc(), owned.as_slice()) else {
         return finish(Err(Fault::MEMORY), &mut errors);
     };
-    run(rt, words.as_slice(), rt.reader(), &mut io::writer(rt), &mut errors)
+    run(
+        rt,
+        words.as_slice(),
+        rt.reader(),
+        &mut io::writer(rt),
+        &mut errors,
+    )
 }
 
 fn main(rt: HostRuntime) -> io::Result<ExitCode> {

@@ -61,12 +61,7 @@ fn put_read(room: Room<'_>, bytes: &[u8], answer: &mut String) -> Result<(), Row
 }
 
 /// Whether reading takes no more than so many bytes of memory, all its growths together; else how many.
-fn put_taken(
-    room: Room<'_>,
-    most: u32,
-    bytes: &[u8],
-    answer: &mut String,
-) -> Result<(), RowFault> {
+fn put_taken(room: Room<'_>, most: u32, bytes: &[u8], answer: &mut String) -> Result<(), RowFault> {
     let arena = Bump::new(room.ample);
     drop(read(&arena, bytes));
     let taken = arena.allocated_bytes() as u64;
