@@ -1,4 +1,4 @@
-use Rattle.std.proofs.Common.{◌≡◌, ◌≤◌, ◌++◌, List, filter, sym, subst}
+use Rattle.std.proofs.Common.{List, filter, sym, subst}
 use Rattle.std.proofs.lemmas.List.Elements.{All-append, All-filter}
 use Rattle.dlms_headend.specs.Rows.{IsReading, AreReadings}
 use Rattle.dlms_headend.specs.Merged.{is_later}
