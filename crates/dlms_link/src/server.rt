@@ -194,6 +194,13 @@ impl ServerLink {
         frame
     }
 
+    /// Whether an APDU waits for its answer: then `send` may be called, and `on` may not before it was.
+    pub fn is_waiting(&self) -> bool
+        ensures { IsTrue result ↔ IsSome self.now.waits }
+    {
+        self.waits.is_some()
+    }
+
     /// The answer to the APDU that was handed up: its first segment.
     pub fn send(&mut self, answer: &[u8]) -> Frame
         requires waits { IsSome self.old.waits }

@@ -17,6 +17,7 @@ use Rattle.dlms_classes.specs.Answer.{Wanted, wanted, IsShown, IsSendable}
 use Rattle.dlms_classes.specs.Choice.{Selection}
 use Rattle.dlms_service.specs.declared.association.Association.{Association}
 use Rattle.dlms_service.specs.Session.{SessionValue, Outcome, says, without_get, has, blocks_with_get, selective_access}
+use Rattle.dlms_blocks.specs.declared.block.TheConstants.{NO_LONG_GET}
 
 -- a selector, as the objects see it
 abbrev pub selection : apdu.Selection → Selection
@@ -65,9 +66,9 @@ Gets E s a invoke d selector o =
     (result : Result Value AccessResult) × IsShown (state_of E) s.client d (asked s.client a d selector) result
     × Gives (without_get s) a invoke result o
 
--- GET of the next block: 16 where no value goes out
+-- GET of the next block; where no value goes out, the result for a get that is not in progress
 abbrev pub next_answer : Option Going → ℕ → Result BlockValue ℕ
-next_answer None number = Err 16
+next_answer None number = Err NO_LONG_GET
 next_answer (Some g) number = answer g number
 
 abbrev pub next_after : Option Going → ℕ → Option Going
