@@ -1,4 +1,5 @@
 pub mod Takes
+pub mod Shared
 pub mod Walk
 pub mod Apdus
 pub mod Again

@@ -119,12 +119,3 @@ pub octets_within : (most : ℕ) (bytes : List ℕ) (x : List ℕ × List ℕ) �
 octets_within most bytes x e =
     let t = octets_takes most bytes x e in
     omega (arith, ap length t.1, length-append t.0 x.1)
-
--- what is behind it is no longer than the whole
-pub counted_within : (most count : ℕ) (bytes rest : List ℕ) (r : Result (Bor (List ℕ) × Bor (List ℕ)) AcseFault) → length_at most bytes ≡ Ok (count, rest)
-    → Tells (λ (x : Bor (List ℕ) × Bor (List ℕ)). (x.0.now, x.1.now)) r (taken_at count rest) → IfOk r (λ x. length x.1.now ≤ length bytes)
-unfolding octets_at
-counted_within most count bytes rest (Ok x) e h =
-    let both : octets_at most bytes ≡ Ok (x.0.now, x.1.now) = rw (e, h) refl in
-    octets_within most bytes (x.0.now, x.1.now) both
-counted_within most count bytes rest (Err f) e h = tt

@@ -7,12 +7,12 @@ use Rattle.dlms_acse.specs.Spelling.{IsLength, Counts, Field, SpellFields, AreNe
 
 -- no length begins so: 80, or a byte that promises more bytes than there may be
 abbrev pub IsNoLength : ℕ → List ℕ → Type 0
-IsNoLength most bytes = (b : ℕ) × (rest : List ℕ) × (bytes ≡ b ∷ rest) × ((b ≡ 128) ⊎ (128 + most < b))
+IsNoLength most bytes = (b : ℕ) × (rest : List ℕ) × (bytes ≡ b ∷ rest) × ((b ≡ 0x80) ⊎ (0x80 + most < b))
 
 -- a length and what it counts are cut short: nothing is there, or the length is cut, or what it counts
 abbrev pub IsCut : ℕ → List ℕ → Type 0
 IsCut most bytes = (bytes ≡ [])
-    ⊎ (((b : ℕ) × (rest : List ℕ) × (bytes ≡ b ∷ rest) × (128 < b) × (b ≤ 128 + most) × (length rest < b - 128))
+    ⊎ (((b : ℕ) × (rest : List ℕ) × (bytes ≡ b ∷ rest) × (0x80 < b) × (b ≤ 0x80 + most) × (length rest < b - 0x80))
     ⊎ ((len rest : List ℕ) × (n : ℕ) × (bytes ≡ len ++ rest) × IsLength most len n × (length rest < n)))
 
 -- the tags that stood before, and those of these fields

@@ -10,6 +10,8 @@ use Rattle.dlms_acse.specs.declared.aarq.Mechanism.TheVariants.{Absent, Lowest, 
 use Rattle.dlms_acse.specs.declared.outcome.Verdict.{Verdict}
 use Rattle.dlms_acse.specs.declared.outcome.Verdict.TheVariants.{Accepted, Refused}
 use Rattle.dlms_acse.specs.Verdict.{Request}
+use Rattle.dlms_data.specs.declared.fault.DataFault.{DataFault}
+use Rattle.dlms_data.specs.declared.fault.DataFault.TheVariants as xdr
 use Rattle.dlms_acse.specs.Writing.{logical_names, mechanism_name}
 
 infixl 10 ◌>>=◌
@@ -33,9 +35,22 @@ number_at n bytes = taken_at n bytes >>= λ t. Ok (big_number n t.0, t.1)
 unfoldable pub length_at : ℕ → List ℕ → Result (ℕ × List ℕ) AcseFault
 length_at most [] = Err Short
 length_at most (b ∷ rest) =
-    if nat_lt b 128 then Ok (b, rest)
-    else (if nat_lt b 129 || nat_lt (128 + most) b then Err Length
-    else number_at (b - 128) rest)
+    if nat_lt b 0x80 then Ok (b, rest)
+    else (if nat_lt b 0x81 || nat_lt (0x80 + most) b then Err Length
+    else number_at (b - 0x80) rest)
+
+-- a length begins here that has more bytes than so many
+abbrev pub is_longer : ℕ → List ℕ → Bool
+is_longer most [] = false
+is_longer most (b ∷ rest) = nat_lt (0x80 + most) b
+
+-- what is told of a fault that dlms_data finds in a length and what it counts
+abbrev pub told : DataFault → AcseFault
+told xdr.Short = Short
+told xdr.Tag = Length
+told xdr.Length = Length
+told xdr.Depth = Length
+told xdr.Memory = Length
 
 unfoldable pub octets_at : ℕ → List ℕ → Result (List ℕ × List ℕ) AcseFault
 octets_at most bytes = length_at most bytes >>= λ n. taken_at n.0 n.1
@@ -100,7 +115,7 @@ mechanism_of (Some name) =
 
 -- a secret of at most 16 bytes
 unfoldable pub secret_at : List ℕ → Option (List ℕ)
-secret_at value = on_some (inner_at 128 value) (λ secret. if nat_lt 16 (length secret) then None else Some secret)
+secret_at value = on_some (inner_at 0x80 value) (λ secret. if nat_lt 16 (length secret) then None else Some secret)
 
 -- behind a dedicated key: 00, or 01 and a length with the key
 unfoldable pub key_at : List ℕ → Option (List ℕ)

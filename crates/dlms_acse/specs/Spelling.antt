@@ -14,12 +14,13 @@ use Rattle.dlms_acse.specs.Verdict.{Request}
 use Rattle.dlms_acse.specs.Reading.{contains}
 use Rattle.dlms_acse.specs.Services.{lower}
 use Rattle.dlms_acse.specs.Writing.{logical_names, mechanism_name}
+use Rattle.dlms_acse.specs.declared.judging.TheConstants.{MOST_SIZE}
 
 -- one byte below 128, or 81 for one byte, 82 for two and so on, with at most so many
 abbrev pub IsLength : ℕ → List ℕ → ℕ → Type 0
 IsLength most [] n = ⊥
-IsLength most (b ∷ []) n = (b < 128) × (n ≡ b)
-IsLength most (b ∷ c ∷ more) n = (length more < most) × (b ≡ 129 + length more) × (n ≡ big_number (length (c ∷ more)) (c ∷ more))
+IsLength most (b ∷ []) n = (b < 0x80) × (n ≡ b)
+IsLength most (b ∷ c ∷ more) n = (length more < most) × (b ≡ 0x81 + length more) × (n ≡ big_number (length (c ∷ more)) (c ∷ more))
 
 -- a length, and so many bytes behind it
 abbrev pub Counts : ℕ → List ℕ → List ℕ → Type 0
@@ -181,5 +182,5 @@ asked Management secret bits size = record {
 
 -- what a written response says: an accepted one the lower 24 bits, and always the size 1,024
 abbrev pub answered : Verdict → Verdict
-answered (Accepted conformance size) = Accepted (record { 0 = lower conformance.0 }) 1024
+answered (Accepted conformance size) = Accepted (record { 0 = lower conformance.0 }) MOST_SIZE
 answered (Refused diagnostic initiate) = Refused diagnostic initiate

@@ -10,6 +10,7 @@ use Rattle.dlms_acse.specs.declared.aarq.Mechanism.{Mechanism}
 use Rattle.dlms_acse.specs.declared.aarq.Mechanism.TheVariants.{Absent, Lowest, Low}
 use Rattle.dlms_acse.specs.declared.outcome.Verdict.{Verdict}
 use Rattle.dlms_acse.specs.declared.outcome.Verdict.TheVariants.{Accepted, Refused}
+use Rattle.dlms_acse.specs.declared.judging.TheConstants.{LEAST_SIZE, MOST_SIZE}
 
 -- what a request says
 pub record Request : Type 0 where
@@ -56,11 +57,11 @@ abbrev pub agreed : Initiate → ℕ
 agreed i = bit_and i.conformance.0 offered
 
 abbrev pub has_get : ℕ → Bool
-has_get bits = not (bit_and bits 16 == 0)
+has_get bits = not (bit_and bits 0x10 == 0)
 
 -- the largest APDU that the meter sends: the client's size, at most 1,024, and 0 stands for no limit
 abbrev pub size_in_use : ℕ → ℕ
-size_in_use size = if size == 0 then 1024 else min size 1024
+size_in_use size = if size == 0 then MOST_SIZE else min size MOST_SIZE
 
 abbrev pub refused : ℕ → Verdict
 refused diagnostic = Refused diagnostic None
@@ -93,7 +94,7 @@ objections initiate =
     (not (proposes (λ i. true) initiate), refused 1)
     ∷ (proposes (λ i. nat_lt i.version 6) initiate, initiate_error 1)
     ∷ (proposes (λ i. not (has_get (agreed i))) initiate, initiate_error 2)
-    ∷ (proposes (λ i. nat_lt 0 i.size && nat_lt i.size 64) initiate, initiate_error 3)
+    ∷ (proposes (λ i. nat_lt 0 i.size && nat_lt i.size LEAST_SIZE) initiate, initiate_error 3)
     ∷ []
 
 -- the table: another context, then who the client is, then what it proposes; where no case fits it is accepted

@@ -5,6 +5,7 @@ use Rattle.dlms_frame.specs.declared.client.Client.{Client}
 use Rattle.dlms_frame.specs.declared.client.Client.TheVariants.{Public, Management}
 use Rattle.dlms_acse.specs.declared.outcome.Verdict.{Verdict}
 use Rattle.dlms_acse.specs.declared.outcome.Verdict.TheVariants.{Accepted, Refused}
+use Rattle.dlms_acse.specs.declared.judging.TheConstants.{MOST_SIZE}
 
 -- a tag, a length below 128, and what it counts
 abbrev pub field : ℕ → List ℕ → List ℕ
@@ -64,7 +65,7 @@ error_field (Some n) = field 0xBE (field 0x04 (0x0E ∷ 0x01 ∷ 0x06 ∷ n ∷ 
 
 abbrev pub aare_bytes : Verdict → List ℕ
 aare_bytes (Accepted conformance size) =
-    field 0x61 (field 0xA1 logical_names ++ result_field 0 ++ diagnostic_field 0 ++ field 0xBE (field 0x04 (initiate_response conformance.0 1024)))
+    field 0x61 (field 0xA1 logical_names ++ result_field 0 ++ diagnostic_field 0 ++ field 0xBE (field 0x04 (initiate_response conformance.0 MOST_SIZE)))
 aare_bytes (Refused diagnostic initiate) =
     field 0x61 (field 0xA1 logical_names ++ result_field 1 ++ diagnostic_field diagnostic ++ error_field initiate)
 

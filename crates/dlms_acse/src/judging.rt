@@ -10,6 +10,12 @@ use crate::outcome::Verdict;
 use arrayvec::ArrayVec;
 use dlms_frame::Client;
 
+/// The least size of an APDU that a client may take: a smaller one is no size.
+pub const LEAST_SIZE: u16 = 64;
+
+/// The greatest size of an APDU that the meter takes and gives.
+pub const MOST_SIZE: u16 = 1024;
+
 // Whether two secrets are the same. Every byte is compared, whatever the ones before it gave, so that the work tells
 // nothing of where the secrets differ: keep this form, which no contract can ask for.
 fn is_same(one: &[u8], other: &[u8]) -> bool
@@ -83,15 +89,15 @@ fn services(initiate: Initiate) -> Verdict
         initiate_error(1)
     } else if agreed & Conformance::GET.0 == 0 {
         initiate_error(2)
-    } else if 0 < initiate.size && initiate.size < 64 {
+    } else if 0 < initiate.size && initiate.size < LEAST_SIZE {
         initiate_error(3)
     } else {
         Verdict::Accepted {
             conformance: Conformance(agreed),
             size: if initiate.size == 0 {
-                1024
+                MOST_SIZE
             } else {
-                initiate.size.min(1024)
+                initiate.size.min(MOST_SIZE)
             },
         }
     }

@@ -15,7 +15,7 @@ mod writing;
 pub use aarq::{Aarq, Initiate, Mechanism};
 pub use conformance::Conformance;
 pub use fault::AcseFault;
-pub use judging::verdict;
+pub use judging::{LEAST_SIZE, MOST_SIZE, verdict};
 pub use outcome::Verdict;
 pub use reading::read_aarq;
 pub use response::read_aare;

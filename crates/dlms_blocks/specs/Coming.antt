@@ -3,7 +3,7 @@ use Rattle.std.specs.Prelude.{ℕ, ◌+◌, ◌==◌, ◌&&◌, nat_le, nat_lt, 
 use Rattle.dlms_blocks.specs.declared.block.PutStep.{PutStep}
 use Rattle.dlms_blocks.specs.declared.block.PutStep.TheVariants.{More, Whole}
 use Rattle.dlms_blocks.specs.declared.block.TheConstants.{LONG_SET_ABORTED, NO_LONG_SET, UNKNOWN_BLOCK}
-use Rattle.dlms_blocks.specs.declared.coming.TheConstants.{MOST_BYTES}
+use Rattle.dlms_blocks.specs.declared.put_in.TheConstants.{MOST_BYTES}
 
 -- the bytes joined so far, and the number of the last block taken where a further one is to come
 pub record Coming : Type 0 where

@@ -2,6 +2,12 @@
 
 use arrayvec::ArrayVec;
 
+/// The fewest bytes of an APDU on which two ends may agree.
+pub const LEAST_SIZE: u16 = 64;
+
+/// The most bytes of an APDU.
+pub const MOST_SIZE: u16 = 1024;
+
 /// The most bytes of a block.
 pub const MOST_BYTES: usize = 1012;
 

@@ -4,7 +4,8 @@ ghost use Rattle.dlms_blocks.specs.Block.{blocks_up_to, is_last};
 ghost use Rattle.dlms_blocks.specs.Calls.{IsCall, seen, GiveTheBlocks, JoinToTheValue, GiveEachInOrder};
 
 use crate::block::Block;
-use crate::going::{GetOut, PutOut};
+use crate::get_out::GetOut;
+use crate::put_out::PutOut;
 use std::alloc::Allocator;
 
 /// The blocks of one encoding, joined, are a beginning of it, and all of it once the last is given.

@@ -2,13 +2,18 @@
 #![tactic(auto)]
 
 mod block;
-mod coming;
-mod going;
-mod joining;
+mod get_in;
+mod get_out;
 pub mod laws;
-mod sending;
+mod put_in;
+mod put_out;
+mod value_out;
 
-pub use block::{Block, LONG_SET_ABORTED, NO_LONG_GET, NO_LONG_SET, PutStep, UNKNOWN_BLOCK};
-pub use coming::PutIn;
-pub use going::{GetOut, PutOut};
-pub use joining::GetIn;
+pub use block::{
+    Block, LEAST_SIZE, LONG_SET_ABORTED, MOST_SIZE, NO_LONG_GET, NO_LONG_SET, PutStep,
+    UNKNOWN_BLOCK,
+};
+pub use get_in::GetIn;
+pub use get_out::{GET_HEAD, GetOut};
+pub use put_in::PutIn;
+pub use put_out::{PUT_HEAD, PutOut};

@@ -4,14 +4,15 @@ use Rattle.byteorder.specs.Endian.{big_from}
 use Rattle.dlms_checkpoint.specs.declared.reading.BodyFault.{BodyFault}
 use Rattle.dlms_checkpoint.specs.declared.reading.BodyFault.TheVariants.{Length, Counts}
 use Rattle.dlms_profile.specs.declared.rows.TheConstants.{CAPACITY}
+use Rattle.dlms_checkpoint.specs.declared.writing.TheConstants.{MOST_BODY}
 
 -- the body at this place, counted from 0
 abbrev pub body_at : ℕ → List ℕ → List ℕ
-body_at index bytes = take 496 (drop (496 * index) bytes)
+body_at index bytes = take MOST_BODY (drop (MOST_BODY * index) bytes)
 
 -- how many bodies the bytes fill; none is empty
 abbrev pub body_count : List ℕ → ℕ
-body_count bytes = (length bytes + 495) / 496
+body_count bytes = (length bytes + (MOST_BODY - 1)) / MOST_BODY
 
 -- the counts that a first body says
 abbrev pub secret_count : List ℕ → ℕ
@@ -33,11 +34,11 @@ whole_length bytes = 288 + 16 * row_count bytes
 
 -- how long the next body is, where these bytes were taken; 0 where there is none
 abbrev pub awaited : List ℕ → ℕ
-awaited bytes = min 496 (whole_length bytes - length bytes)
+awaited bytes = min MOST_BODY (whole_length bytes - length bytes)
 
 -- why bytes are no first body, or None
 abbrev pub first_fault : List ℕ → Option BodyFault
 first_fault bytes =
     if nat_lt (length bytes) 288 then Some Length
-    else if counts_fit bytes then (if nat_eq (length bytes) (min 496 (whole_length bytes)) then None else Some Length)
+    else if counts_fit bytes then (if nat_eq (length bytes) (min MOST_BODY (whole_length bytes)) then None else Some Length)
     else Some Counts

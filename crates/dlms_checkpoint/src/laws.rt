@@ -3,6 +3,7 @@ ghost use Rattle.std.specs.Prelude.{◌≡◌, ◌<◌, ◌≤◌, ◌*◌, ◌+
 ghost use Rattle.dlms_state.specs.StateValue.{StateValue};
 ghost use Rattle.dlms_checkpoint.specs.Checkpoint.{IsCheckpointOf};
 ghost use Rattle.dlms_checkpoint.specs.Bodies.{awaited, body_at, body_count, first_fault};
+ghost use Rattle.dlms_checkpoint.specs.declared.writing.TheConstants.{MOST_BODY};
 
 /// Bytes are those of one state at most.
 pub fn bytes_tell_one_state()
@@ -12,13 +13,13 @@ pub fn bytes_tell_one_state()
 /// The bodies of a state's bytes are taken one after another, and none is awaited behind the last.
 pub fn bodies_are_taken()
     ensures first { (bytes : List ℕ) (s : StateValue) → IsCheckpointOf s bytes → first_fault (body_at 0 bytes) ≡ None }
-    ensures further { (bytes : List ℕ) (s : StateValue) (k : ℕ) → IsCheckpointOf s bytes → 0 < k → awaited (take (496 * k) bytes) ≡ length (body_at k bytes) }
+    ensures further { (bytes : List ℕ) (s : StateValue) (k : ℕ) → IsCheckpointOf s bytes → 0 < k → awaited (take (MOST_BODY * k) bytes) ≡ length (body_at k bytes) }
     ensures count { (bytes : List ℕ) (s : StateValue) → IsCheckpointOf s bytes → (0 < body_count bytes) × (body_count bytes ≤ 32) }
 {}
 
 /// Bodies joined are the bytes, and each of them holds at least one byte.
 pub fn bodies_join()
-    ensures more { (bytes : List ℕ) (k : ℕ) → take (496 * (k + 1)) bytes ≡ take (496 * k) bytes ++ body_at k bytes }
-    ensures all { (bytes : List ℕ) (k : ℕ) → body_count bytes ≤ k → take (496 * k) bytes ≡ bytes }
+    ensures more { (bytes : List ℕ) (k : ℕ) → take (MOST_BODY * (k + 1)) bytes ≡ take (MOST_BODY * k) bytes ++ body_at k bytes }
+    ensures all { (bytes : List ℕ) (k : ℕ) → body_count bytes ≤ k → take (MOST_BODY * k) bytes ≡ bytes }
     ensures some { (bytes : List ℕ) (k : ℕ) → k < body_count bytes → 0 < length (body_at k bytes) }
 {}

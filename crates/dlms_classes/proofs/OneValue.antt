@@ -5,7 +5,8 @@ use Rattle.dlms_data.specs.Value.{Value, Values, array, structure, octet_string,
 use Rattle.dlms_profile.specs.Rows.{in_range}
 use Rattle.dlms_classes.specs.declared.rows.Cell.{Cell}
 use Rattle.dlms_classes.specs.declared.rows.Cell.TheVariants.{Second, Number}
-use Rattle.dlms_classes.specs.Shown.{as_value, as_time, as_table, as_range, IsTime, IsCell, IsRow, IsTable, Match, Shows, cells}
+use Rattle.dlms_data.specs.Building.{IsTime}
+use Rattle.dlms_classes.specs.Shown.{as_value, as_time, as_table, as_range, IsCell, IsRow, IsTable, Match, Shows, cells}
 use Rattle.dlms_classes.proofs.Times.{same_octets}
 
 abbrev IsSingle : {X : Type 0} → (X → Value → Type 0) → Type 0

@@ -11,7 +11,8 @@ use Rattle.dlms_profile.specs.declared.rows.Row.{Row}
 use Rattle.dlms_profile.specs.Rows.{IsRow as FitsRow}
 use Rattle.dlms_classes.specs.declared.rows.Cell.{Cell}
 use Rattle.dlms_classes.specs.declared.rows.Cell.TheVariants.{Second, Number}
-use Rattle.dlms_classes.specs.Shown.{IsTime, IsCell, IsRow, IsTable, Match, cells}
+use Rattle.dlms_data.specs.Building.{IsTime}
+use Rattle.dlms_classes.specs.Shown.{IsCell, IsRow, IsTable, Match, cells}
 
 -- at most so many levels, numbers in their ranges, and a spelling of at most so many bytes
 pub record Small (levels bytes : ℕ) (v : Value) : Type 0 where

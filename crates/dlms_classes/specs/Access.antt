@@ -26,8 +26,8 @@ abbrev pub ◌>>=◌ : {X Y : Type 0} → Result X AccessResult → (X → Resul
 (Err r) >>= f = Err r
 
 -- the call answers this: the value by what contracts see of it, or the refusal
-abbrev pub Tells : {X Y : Type 0} → (X → Y) → Result X AccessResult → Result Y AccessResult → Type 0
-Tells seen result told = MatchResult result (λ x. told ≡ Ok (seen x)) (λ r. told ≡ Err r)
+abbrev pub IsToldAs : {X Y : Type 0} → (X → Y) → Result X AccessResult → Result Y AccessResult → Type 0
+IsToldAs seen result told = MatchResult result (λ x. told ≡ Ok (seen x)) (λ r. told ≡ Err r)
 
 -- the object of this name
 unfoldable pub object_named : List ℕ → Option Entry

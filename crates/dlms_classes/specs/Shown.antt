@@ -2,7 +2,8 @@
 -- 4.3.2, Profile generic 4.3.6, Association LN 4.4.4, Clock 4.5.1). The constants are the meter's own.
 use Rattle.std.specs.Prelude.{◌≡◌, ℕ, ◌-◌, ◌==◌, ◌<◌, ◌≤◌, ◌^◌, All, ◌||◌, nat_lt, if◌then◌else◌, List, [], ◌∷◌, map, length, slice_index, slice_range, codes, replicate, pos, ⊤, Bool, true, false}
 use Rattle.dlms_data.specs.Value.{Value, Values, null, array, structure, boolean, double_long_unsigned, octet_string, integer, long, unsigned, long_unsigned, enumerated, none, cons}
-use Rattle.dlms_data.specs.DateTime.{NamesSecond, IsPlainlyWritten}
+use Rattle.dlms_data.specs.DateTime.{NamesSecond}
+use Rattle.dlms_data.specs.Building.{IsTime}
 use Rattle.dlms_data.specs.declared.descriptor.Descriptor.{Descriptor}
 use Rattle.dlms_frame.specs.Client.{sap_of}
 use Rattle.dlms_frame.specs.declared.client.Client.{Client}
@@ -116,14 +117,6 @@ takes_memory ProfileEntries = false
 takes_memory _ = true
 
 -- ---- which value shows it
-
--- an octet-string of the second's date-time, plainly written
-pub record IsTime (moment : ℕ) (v : Value) : Type 0 where
-  pub octets : List ℕ
-  pub bytes : All (λ octet. octet < 2 ^ 8) octets
-  pub value : v ≡ octet_string octets
-  pub names : NamesSecond octets moment
-  pub plainly : IsPlainlyWritten octets
 
 -- the second is one of the clock's
 abbrev pub HasTime : Cell → Type 0

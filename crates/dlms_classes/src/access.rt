@@ -15,13 +15,16 @@ pub enum AccessResult {
     /// Want of memory, and nothing else.
     #[error("out of memory")]
     TemporaryFailure,
+    /// This client has no right to it.
     #[error("this client may not do that")]
     ReadWriteDenied,
     /// No object has the name, or its class no such attribute or method.
     #[error("there is no such object, attribute or method")]
     ObjectUndefined,
+    /// The name is an object's, and the class is not its.
     #[error("the object is of another class")]
     ObjectClassInconsistent,
+    /// The value, or what the selector holds, is of another type.
     #[error("the value is of another type")]
     TypeUnmatched,
     /// The attribute takes no such selector.

@@ -2,7 +2,7 @@
 
 ghost use Rattle.std.specs.Prelude.{◌≡◌, Ok, IfOk, option_map};
 ghost use Rattle.dlms_data.specs.View.{value_of};
-ghost use Rattle.dlms_classes.specs.Access.{Tells};
+ghost use Rattle.dlms_classes.specs.Access.{IsToldAs};
 ghost use Rattle.dlms_classes.specs.Choice.{selection_of, four_of, long_unsigned_of, double_long_unsigned_of, octet_string_of, integer_of, is_empty_array as empty_array, is_clock_column as clock_column, range_of, cut_of, part_named, part_of, IsChoice, IsProper};
 ghost use Rattle.dlms_classes.specs.Listing.{is_selective as selective};
 ghost use Rattle.dlms_classes.specs.Shown.{last_column as last_of, between as between_times};
@@ -43,7 +43,7 @@ pub fn is_selective(content: Content) -> bool
 fn four<A: Allocator>(
     value: &Data<A>,
 ) -> Result<(&Data<A>, &Data<A>, &Data<A>, &Data<A>), AccessResult>
-    ensures { Tells (λ x. (value_of x.0.now, value_of x.1.now, value_of x.2.now, value_of x.3.now)) result (four_of (value_of value.now)) }
+    ensures { IsToldAs (λ x. (value_of x.0.now, value_of x.1.now, value_of x.2.now, value_of x.3.now)) result (four_of (value_of value.now)) }
 {
     let Data::Structure(items) = value else {
         return Err(AccessResult::TypeUnmatched);
@@ -74,7 +74,7 @@ fn double_long_unsigned<A: Allocator>(value: &Data<A>) -> Result<u32, AccessResu
 }
 
 fn octet_string<A: Allocator>(value: &Data<A>) -> Result<&[u8], AccessResult>
-    ensures { Tells (λ bytes. bytes.now) result (octet_string_of (value_of value.now)) }
+    ensures { IsToldAs (λ bytes. bytes.now) result (octet_string_of (value_of value.now)) }
 {
     match value {
         Data::OctetString(bytes) => Ok(bytes.as_slice()),

@@ -2,7 +2,6 @@
 #![tactic(auto)]
 
 mod access;
-mod building;
 mod choosing;
 pub mod laws;
 mod listing;

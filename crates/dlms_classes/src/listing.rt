@@ -7,11 +7,10 @@ ghost use Rattle.dlms_data.specs.View.{value_of};
 ghost use Rattle.dlms_classes.specs.Listing.{mode_of as mode, selectors as both_selectors, map_values, listed_attribute as attribute_value, listed_method as method_value, listed_rights as rights_value, listed as object_value, object_list as list_of};
 ghost use Rattle.dlms_classes.specs.Table.{entry_of};
 
-use crate::building::{four, octets_of, room, three, two};
 use crate::choosing::{BY_ENTRY, BY_RANGE, is_selective};
 use crate::lookup::{may_call, rights};
 use crate::table::{Attribute, Call, OBJECTS, Object, Rights};
-use dlms_data::Data;
+use dlms_data::{Data, four, octet_string_of, room, three, two};
 use dlms_frame::Client;
 use std::alloc::{AllocError, Allocator};
 
@@ -115,7 +114,7 @@ fn listed<A: Allocator + Copy>(
     let attributes = listed_attributes(alloc, client, object.attributes)?;
     let methods = listed_methods(alloc, client, object.methods)?;
     let rights = Data::Structure(two(alloc, attributes, methods)?);
-    let name = octets_of(alloc, object.name.as_slice())?;
+    let name = octet_string_of(alloc, object.name.as_slice())?;
     let class = Data::LongUnsigned(object.class);
     let version = Data::Unsigned(object.version);
     Ok(Data::Structure(four(alloc, class, version, name, rights)?))

@@ -2,7 +2,7 @@
 
 ghost use Rattle.std.specs.Prelude.{◌≡◌, option_map};
 ghost use Rattle.dlms_classes.specs.Table.{entry_of, rights_of, may_read as reads, may_write as writes, may_call as calls};
-ghost use Rattle.dlms_classes.specs.Access.{Tells, object_named, object_of, numbered as nth, attribute_of, method_of, readable as read_of, writable as write_of, callable as call_of};
+ghost use Rattle.dlms_classes.specs.Access.{IsToldAs, object_named, object_of, numbered as nth, attribute_of, method_of, readable as read_of, writable as write_of, callable as call_of};
 
 use crate::access::AccessResult;
 use crate::table::{Attribute, Call, OBJECTS, Object, Rights};
@@ -24,7 +24,7 @@ fn object_with(name: [u8; 6]) -> Option<Object>
 
 /// The object that a descriptor names.
 fn object(descriptor: Descriptor) -> Result<Object, AccessResult>
-    ensures { Tells entry_of result (object_of descriptor) }
+    ensures { IsToldAs entry_of result (object_of descriptor) }
 {
     let Some(object) = object_with(descriptor.name) else {
         return Err(AccessResult::ObjectUndefined);

@@ -2,7 +2,7 @@
 
 ghost use Rattle.std.specs.Prelude.{◌≡◌, option_map};
 ghost use Rattle.dlms_data.specs.View.{value_of};
-ghost use Rattle.dlms_classes.specs.Access.{Tells};
+ghost use Rattle.dlms_classes.specs.Access.{IsToldAs};
 ghost use Rattle.dlms_classes.specs.Plan.{IsPlan, clock_to, text_to, secret_to, octets_of_time, text_setting, time_setting, period_setting, secret_setting, setting_asked, event_of, shift_asked, event_asked};
 
 use crate::access::AccessResult;
@@ -16,7 +16,7 @@ use std::alloc::Allocator;
 
 /// The octets of a time.
 pub fn time_octets<A: Allocator>(value: &Data<A>) -> Result<&[u8], AccessResult>
-    ensures { Tells (λ octets. octets.now) result (octets_of_time (value_of value.now)) }
+    ensures { IsToldAs (λ octets. octets.now) result (octets_of_time (value_of value.now)) }
 {
     match value {
         Data::DateTime(octets) => Ok(octets.as_slice()),

@@ -8,9 +8,8 @@ ghost use Rattle.dlms_classes.specs.Shown.{cells as cells_of, HasTime, Match, Is
 ghost use Rattle.dlms_profile.specs.Rows.{in_range, entries as cut_out};
 ghost use Rattle.dlms_classes.specs.Choice.{Picks, IsProper};
 
-use crate::building::{room, time_of};
 use crate::choosing::{Choice, last_column};
-use dlms_data::{Data, Items, LAST_SECOND};
+use dlms_data::{Data, Items, LAST_SECOND, room, time_of};
 use dlms_profile::{Row, Rows};
 use std::alloc::{AllocError, Allocator};
 

@@ -9,12 +9,11 @@ ghost use Rattle.dlms_classes.specs.Listing.{map_values};
 ghost use Rattle.dlms_classes.specs.Shown.{Part, shown, Shows, takes_memory, column_value as column, no_column as no_object, two as pair};
 ghost use Rattle.dlms_classes.specs.Table.{columns, entry_of};
 
-use crate::building::{four, octets_of, room, time_of, two};
 use crate::choosing::Choice;
 use crate::listing::object_list;
 use crate::rows::buffer;
 use crate::table::{CAPTURED_ATTRIBUTE, COLUMNS, Content, Object};
-use dlms_data::{Data, Descriptor};
+use dlms_data::{Data, Descriptor, four, octet_string_of, room, time_of, two};
 use dlms_frame::Client;
 use dlms_profile::CAPACITY;
 use dlms_state::State;
@@ -29,7 +28,7 @@ const OPEN_TIME: [u8; 12] = [
 fn column_of<A: Allocator + Copy>(alloc: A, object: Object) -> Result<Data<A>, AllocError>
     ensures { IfOk result (λ v. value_of v ≡ column (entry_of object)) }
 {
-    let name = octets_of(alloc, object.name.as_slice())?;
+    let name = octet_string_of(alloc, object.name.as_slice())?;
     let class = Data::LongUnsigned(object.class);
     let attribute = Data::Integer(CAPTURED_ATTRIBUTE);
     let index = Data::LongUnsigned(0);
@@ -51,7 +50,7 @@ fn columns_of<A: Allocator + Copy>(alloc: A) -> Result<Data<A>, AllocError>
 fn no_column<A: Allocator + Copy>(alloc: A) -> Result<Data<A>, AllocError>
     ensures { IfOk result (λ v. value_of v ≡ no_object) }
 {
-    let name = octets_of(alloc, &[0, 0, 0, 0, 0, 0])?;
+    let name = octet_string_of(alloc, &[0, 0, 0, 0, 0, 0])?;
     let class = Data::LongUnsigned(0);
     let attribute = Data::Integer(0);
     let index = Data::LongUnsigned(0);
@@ -95,16 +94,16 @@ pub fn value<A: Allocator + Copy>(
     ensures lacks { OnErr result (IsTrue (takes_memory content)) }
 {
     match content {
-        Content::LogicalName => octets_of(alloc, descriptor.name.as_slice()),
-        Content::DeviceName => octets_of(alloc, b"RTL0000000000001"),
-        Content::SerialNumber => octets_of(alloc, b"00000001"),
-        Content::Text => octets_of(alloc, state.text()),
+        Content::LogicalName => octet_string_of(alloc, descriptor.name.as_slice()),
+        Content::DeviceName => octet_string_of(alloc, b"RTL0000000000001"),
+        Content::SerialNumber => octet_string_of(alloc, b"00000001"),
+        Content::Text => octet_string_of(alloc, state.text()),
         Content::Register(channel) => Ok(Data::DoubleLongUnsigned(register(state, channel))),
         Content::ScalerUnit(unit) => scaler_unit(alloc, unit),
         Content::Time => time_of(alloc, state.clock()),
         Content::TimeZone => Ok(Data::Long(0)),
         Content::ClockStatus => Ok(Data::Unsigned(0)),
-        Content::DaylightTime => octets_of(alloc, OPEN_TIME.as_slice()),
+        Content::DaylightTime => octet_string_of(alloc, OPEN_TIME.as_slice()),
         Content::DaylightDeviation => Ok(Data::Integer(0)),
         Content::DaylightEnabled => Ok(Data::Boolean(false)),
         Content::ClockBase => Ok(Data::Enum(1)),

@@ -9,8 +9,10 @@ use clap::error::ErrorKind;
 use dlms_loopback::loopback;
 use dlms_meter::Meter;
 use dlms_pages::{FilePages, MemoryPages, Pages};
-use dlms_program::{Job, ReplayFault, job, replay};
+use dlms_program::{Job, ReplayFault, Sink, Source, job, replay};
 use dlms_store::{OpenFault, PAGES};
+use std::alloc::Global;
+use std::cell::RefCell;
 use std::fs::File;
 use std::io;
 use std::io::{BufReader, BufWriter, Read, Write};
@@ -18,8 +20,10 @@ use std::net::Net;
 use std::rt::Files;
 
 mod fault;
+mod streams;
 
 pub use fault::Fault;
+use streams::{Input, Output, flush};
 
 /// How many bytes are read or written at a time.
 const BUFFER: usize = 65_536;
@@ -56,18 +60,14 @@ fn run_format<'a, H: Files<File = File> + AllocGlobal, W: Write>(
 }
 
 /// Replays the input on a meter, and closes it.
-fn run_on<H: AllocGlobal, R: Read + Drop, W: Write, P: Pages + Drop>(
+fn run_on<'f, H: AllocGlobal, R: Source, W: Sink, P: Pages + Drop>(
     host: &H,
-    input: R,
+    input: &mut R,
     output: &mut W,
     meter: Meter<P>,
-) -> Result<(), Fault<'static>> {
-    let Ok(mut reader) = BufReader::with_capacity(host.alloc(), BUFFER, input) else {
-        return Err(Fault::Replay(ReplayFault::Memory));
-    };
+) -> Result<(), Fault<'f>> {
     let mut meter = Some(meter);
-    let replayed = replay(host.alloc(), &mut reader, output, &mut meter);
-    let flushed = output.flush();
+    let replayed = replay(host.alloc(), input, output, &mut meter);
     let has_failed = match meter {
         Some(meter) => meter.close().faults() > 0,
         None => false,
@@ -75,13 +75,27 @@ fn run_on<H: AllocGlobal, R: Read + Drop, W: Write, P: Pages + Drop>(
     if let Err(fault) = replayed {
         return Err(Fault::Replay(fault));
     }
-    if flushed.is_err() {
-        return Err(Fault::Replay(ReplayFault::Io));
-    }
     if has_failed {
         return Err(Fault::Open(OpenFault::Device));
     }
     Ok(())
+}
+
+/// The end of a replay, and that of its output.
+fn ended<'a>(replayed: Result<(), Fault<'a>>, flushed: io::Result<()>) -> Result<(), Fault<'a>> {
+    replayed?;
+    match flushed {
+        Ok(()) => Ok(()),
+        Err(_) => Err(Fault::Replay(ReplayFault::Io)),
+    }
+}
+
+/// The input, through a buffer.
+fn buffered<R: Read + Drop>(alloc: Global, input: R) -> Result<BufReader<R>, Fault<'static>> {
+    match BufReader::with_capacity(alloc, BUFFER, input) {
+        Ok(reader) => Ok(reader),
+        Err(_) => Err(Fault::MEMORY),
+    }
 }
 
 /// Replays the input on the meter in a file. Each answer goes out as soon as it is made.
@@ -96,25 +110,35 @@ fn run_replay_file<'a, H: Files<File = File> + AllocGlobal, R: Read + Drop, W: W
         Err(error) => return Err(Fault::of_file(host.alloc(), file, &error)),
     };
     match Meter::recover(host.alloc(), pages) {
-        Ok(meter) => run_on(host, input, output, meter),
+        Ok(meter) => {
+            let mut reader = buffered(host.alloc(), input)?;
+            let replayed = run_on(host, &mut reader, output, meter);
+            ended(replayed, output.flush())
+        }
         Err((_, fault)) => Err(Fault::Open(fault)),
     }
 }
 
-/// Replays the input on a new meter in memory.
-fn run_replay_memory<H: AllocGlobal, R: Read + Drop, W: Write>(
+/// Replays the input on a new meter in memory. The answers go out through a buffer, before more input is waited for.
+fn run_replay_memory<H: AllocGlobal, R: Read + Drop, W: Write + Drop>(
     host: &H,
     input: R,
-    output: &mut W,
+    output: W,
 ) -> Result<(), Fault<'static>> {
-    let Ok(mut writer) = BufWriter::with_capacity(host.alloc(), BUFFER, output) else {
-        return Err(Fault::Replay(ReplayFault::Memory));
+    let reader = buffered(host.alloc(), input)?;
+    let Ok(writer) = BufWriter::with_capacity(host.alloc(), BUFFER, output) else {
+        return Err(Fault::MEMORY);
     };
+    let output = RefCell::new(writer);
     let Ok(pages) = MemoryPages::new(host.alloc(), PAGES) else {
-        return Err(Fault::Replay(ReplayFault::Memory));
+        return Err(Fault::MEMORY);
     };
     match Meter::format(host.alloc(), pages) {
-        Ok(meter) => run_on(host, input, &mut writer, meter),
+        Ok(meter) => {
+            let mut input = Input::new(reader, &output);
+            let replayed = run_on(host, &mut input, &mut Output(&output), meter);
+            ended(replayed, flush(&output))
+        }
         Err((_, fault)) => Err(Fault::Open(fault)),
     }
 }
@@ -166,7 +190,10 @@ pub fn run<H: Net + Files<File = File> + AllocGlobal, R: Read + Drop, W: Write, 
         Ok(Job::Replay { file: Some(file) }) => {
             finish(run_replay_file(host, file, input, output), errors)
         }
-        Ok(Job::Replay { file: None }) => finish(run_replay_memory(host, input, output), errors),
+        Ok(Job::Replay { file: None }) => finish(
+            run_replay_memory(host, input, &mut *output),
+            errors,
+        ),
         Ok(Job::Loopback { readings, stops }) => {
             finish(run_loopback(host, readings, stops, output), errors)
         }

@@ -38,7 +38,7 @@ HasTime octets = (slice_index octets 5 < 24) × (slice_index octets 6 < 60) × (
 
 -- the deviation is 0 or left open
 abbrev pub IsDeviation : ℕ → ℕ → Type 0
-IsDeviation high low = ((high ≡ 0) ⊎ (high ≡ 128)) × (low ≡ 0)
+IsDeviation high low = ((high ≡ 0) ⊎ (high ≡ 0x80)) × (low ≡ 0)
 
 -- the octets are a date-time of that second of the clock
 pub record NamesSecond (octets : List ℕ) (second : ℕ) : Type 0 where

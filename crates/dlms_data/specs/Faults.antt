@@ -11,8 +11,8 @@ use Rattle.dlms_data.specs.Reading.{Fault, short, no_type, no_length, too_deep, 
 
 -- what is wrong at a length: it is cut, or no length begins so
 abbrev pub LengthFault : Fault → List ℕ → Type 0
-LengthFault short bytes = (bytes ≡ []) ⊎ ((b : ℕ) × (rest : List ℕ) × (bytes ≡ b ∷ rest) × (128 < b) × (b ≤ 132) × (length rest < b - 128))
-LengthFault no_length bytes = (b : ℕ) × (rest : List ℕ) × (bytes ≡ b ∷ rest) × ((b ≡ 128) ⊎ (132 < b))
+LengthFault short bytes = (bytes ≡ []) ⊎ ((b : ℕ) × (rest : List ℕ) × (bytes ≡ b ∷ rest) × (0x80 < b) × (b ≤ 0x84) × (length rest < b - 0x80))
+LengthFault no_length bytes = (b : ℕ) × (rest : List ℕ) × (bytes ≡ b ∷ rest) × ((b ≡ 0x80) ⊎ (0x84 < b))
 LengthFault no_type bytes = ⊥
 LengthFault too_deep bytes = ⊥
 

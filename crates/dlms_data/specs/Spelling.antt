@@ -9,8 +9,8 @@ use Rattle.dlms_data.specs.Bits.{HoldsBits}
 -- one byte below 128, or 81 to 84 and a number of 1 to 4 bytes
 abbrev pub IsLength : List ℕ → ℕ → Type 0
 IsLength [] n = ⊥
-IsLength (b ∷ []) n = (b < 128) × (n ≡ b)
-IsLength (b ∷ c ∷ more) n = (length more < 4) × (b ≡ 129 + length more) × (n ≡ big_number (length (c ∷ more)) (c ∷ more))
+IsLength (b ∷ []) n = (b < 0x80) × (n ≡ b)
+IsLength (b ∷ c ∷ more) n = (length more < 4) × (b ≡ 0x81 + length more) × (n ≡ big_number (length (c ∷ more)) (c ∷ more))
 
 -- a tag, and content behind it
 abbrev pub Tagged : ℕ → List ℕ → (List ℕ → Type 0) → Type 0

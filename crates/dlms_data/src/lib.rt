@@ -2,6 +2,7 @@
 #![tactic(auto)]
 
 mod bits;
+mod building;
 mod bytes;
 mod data;
 mod date_time;
@@ -19,6 +20,7 @@ mod tag;
 mod writing;
 
 pub use bits::Bits;
+pub use building::{four, octet_string_of, room, three, time_of, two};
 pub use bytes::Bytes;
 pub use data::{Data, Items};
 pub use date_time::{LAST_SECOND, octets, secs};

@@ -7,8 +7,8 @@ use Rattle.dlms_apdu.specs.Reading.{HoldsData, response_at}
 use Rattle.dlms_apdu.specs.declared.fault.Refusal.{Refusal}
 use Rattle.dlms_data.specs.Value.{Value}
 use Rattle.dlms_blocks.specs.Joining.{Joining, is_next, with_block}
-use Rattle.dlms_headend.specs.declared.heard.Heard.{Heard}
-use Rattle.dlms_headend.specs.declared.heard.Heard.TheVariants.{More, Rows}
+use Rattle.dlms_headend.specs.declared.get_answer.GetAnswer.{GetAnswer}
+use Rattle.dlms_headend.specs.declared.get_answer.GetAnswer.TheVariants.{More, Rows}
 use Rattle.dlms_headend.specs.declared.poll_fault.PollFault.{PollFault}
 use Rattle.dlms_headend.specs.declared.poll_fault.PollFault.TheVariants.{Refused, Result as BadResult, Line, Protocol, Memory}
 use Rattle.dlms_apdu.proofs.WholeLaws.{reads_responses}
@@ -29,13 +29,13 @@ last_fault taken invoke number joined raw (Refused diagnostic) e h = absurd h
 last_fault taken invoke number joined raw (BadResult code) e h = absurd h
 last_fault taken invoke number joined raw Line e h = absurd h
 
-last_heard-at : {A : Type 0} (taken invoke number : ℕ) (old new : Joining) (raw : List ℕ) (result : Result (Heard A) PollFault) → number ≡ taken + 1 → LastHeard (old.joined ++ raw) result
+last_heard-at : {A : Type 0} (taken invoke number : ℕ) (old new : Joining) (raw : List ℕ) (result : Result (GetAnswer A) PollFault) → number ≡ taken + 1 → LastHeard (old.joined ++ raw) result
     → HearsBy taken old (Ok (get_block invoke true number raw)) result new
 last_heard-at taken invoke number old new raw (Ok (More next)) e h = absurd h
 last_heard-at taken invoke number old new raw (Ok (Rows rows)) e h = (refl, e, h)
 last_heard-at taken invoke number old new raw (Err fault) e h = last_fault taken invoke number old.joined raw fault e h
 
-pub last_heard : {A : Type 0} (taken invoke number : ℕ) (old new : Joining) (last whole : Bool) (raw bytes : List ℕ) (result : Result (Heard A) PollFault) → HasTaken old taken → whole ≡ true → whole ≡ last → is_next old number ≡ true
+pub last_heard : {A : Type 0} (taken invoke number : ℕ) (old new : Joining) (last whole : Bool) (raw bytes : List ℕ) (result : Result (GetAnswer A) PollFault) → HasTaken old taken → whole ≡ true → whole ≡ last → is_next old number ≡ true
     → new ≡ with_block old last number raw → bytes ≡ new.joined → LastHeard bytes result → HearsBy taken old (Ok (get_block invoke last number raw)) result new
 last_heard taken invoke number old new last whole raw bytes result h is_whole says_last is_next joined same heard =
     let is_last : true ≡ last = sym is_whole ∙ says_last in

@@ -2,7 +2,8 @@
 use Rattle.std.proofs.Common.{arith, ◌≡◌, ◌≤◌, ℕ, List, length, length-append, Option, unwrap_or, subst, sym}
 use Rattle.dlms_data.specs.Value.{Value, octet_string}
 use Rattle.dlms_data.specs.Writing.{short_length, canonical}
-use Rattle.dlms_headend.specs.Asking.{IsTime, IsBufferRequest, range, buffer_bytes}
+use Rattle.dlms_data.specs.Building.{IsTime}
+use Rattle.dlms_headend.specs.Asking.{IsBufferRequest, range, buffer_bytes}
 use Rattle.dlms_data.specs.declared.date_time.TheConstants.{LAST_SECOND}
 
 octets_length : (octets : List ℕ) → length octets ≡ 12 → length (canonical (octet_string octets)) ≡ 14
@@ -10,7 +11,7 @@ unfolding short_length
 octets_length octets e = rw e (omega (arith, e))
 
 time_length : (second : ℕ) (v : Value) → IsTime second v → length (canonical v) ≡ 14
-time_length second v h = rw h.is (octets_length h.octets h.names.size)
+time_length second v h = rw h.value (octets_length h.octets h.names.size)
 
 range_length : (first last : Value) → length (canonical first) ≡ 14 → length (canonical last) ≡ 14 → length (canonical (range first last)) ≤ 100
 unfolding short_length

@@ -3,7 +3,7 @@
 -- range_descriptor), further blocks, and the release.
 use Rattle.std.specs.Prelude.{◌≡◌, ℕ, List, [], ◌∷◌, Option, Some, unwrap_or, pos}
 use Rattle.dlms_frame.specs.declared.client.Client.{Client}
-use Rattle.dlms_data.specs.DateTime.{NamesSecond, IsPlainlyWritten}
+use Rattle.dlms_data.specs.Building.{IsTime}
 use Rattle.dlms_data.specs.Value.{Value, array, structure, octet_string, integer, long_unsigned, none, cons}
 use Rattle.dlms_data.specs.declared.descriptor.Descriptor.{Descriptor}
 use Rattle.dlms_acse.specs.Writing.{aarq_bytes}
@@ -37,13 +37,6 @@ clock_column =
 -- the rows from one date-time to another, with all columns
 abbrev pub range : Value → Value → Value
 range first last = structure (cons clock_column (cons first (cons last (cons (array none) none))))
-
--- an octet-string that names the second, plainly written
-pub record IsTime (second : ℕ) (value : Value) : Type 0 where
-  pub octets : List ℕ
-  pub is : value ≡ octet_string octets
-  pub names : NamesSecond octets second
-  pub plain : IsPlainlyWritten octets
 
 -- the rows from a second to the last one of the clock, both included
 pub record IsRange (first_second : ℕ) (value : Value) : Type 0 where

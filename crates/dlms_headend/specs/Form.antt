@@ -11,7 +11,7 @@ begins tag (b ∷ rest) = b == tag
 
 -- what stands behind a tag and a length
 abbrev pub body_of : List ℕ → List ℕ
-body_of (tag ∷ first ∷ rest) = if nat_lt first 128 then rest else drop (first - 128) rest
+body_of (tag ∷ first ∷ rest) = if nat_lt first 0x80 then rest else drop (first - 0x80) rest
 body_of _ = []
 
 -- the bytes are the spellings of these values, one after another

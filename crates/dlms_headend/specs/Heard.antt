@@ -4,8 +4,8 @@ use Rattle.dlms_apdu.specs.declared.fault.Refusal.{Refusal}
 use Rattle.dlms_apdu.specs.Forms.{ResponseForm}
 use Rattle.dlms_apdu.specs.Reading.{response_at}
 use Rattle.dlms_blocks.specs.Joining.{Joining}
-use Rattle.dlms_headend.specs.declared.heard.Heard.{Heard}
-use Rattle.dlms_headend.specs.declared.heard.Heard.TheVariants.{More, Rows}
+use Rattle.dlms_headend.specs.declared.get_answer.GetAnswer.{GetAnswer}
+use Rattle.dlms_headend.specs.declared.get_answer.GetAnswer.TheVariants.{More, Rows}
 use Rattle.dlms_headend.specs.declared.poll_fault.PollFault.{PollFault}
 use Rattle.dlms_headend.specs.declared.poll_fault.PollFault.TheVariants.{Refused, Result as BadResult, Line, Protocol, Memory}
 use Rattle.dlms_headend.specs.Rows.{IsEncoded, NoEncoding, AreReadings}
@@ -28,21 +28,21 @@ FailsOrWants taken joined read Line = FailsBy taken joined read Line
 FailsOrWants taken joined read Protocol = FailsBy taken joined read Protocol
 
 -- rows that an answer brought are readings
-abbrev pub BringsReadings : {A : Type 0} → Result (Heard A) PollFault → Type 0
+abbrev pub BringsReadings : {A : Type 0} → Result (GetAnswer A) PollFault → Type 0
 BringsReadings (Ok (More number)) = Unit {0}
 BringsReadings (Ok (Rows rows)) = AreReadings rows.items
 BringsReadings (Err fault) = Unit {0}
 
 -- of a whole encoding
-abbrev pub LastHeard : {A : Type 0} → List ℕ → Result (Heard A) PollFault → Type 0
+abbrev pub LastHeard : {A : Type 0} → List ℕ → Result (GetAnswer A) PollFault → Type 0
 LastHeard bytes (Ok (More number)) = ⊥
 LastHeard bytes (Ok (Rows rows)) = IsEncoded bytes rows.items
 LastHeard bytes (Err fault) = NoEncoding bytes fault
 
-abbrev pub HearsBy : {A : Type 0} → ℕ → Joining → Result ResponseForm Refusal → Result (Heard A) PollFault → Joining → Type 0
+abbrev pub HearsBy : {A : Type 0} → ℕ → Joining → Result ResponseForm Refusal → Result (GetAnswer A) PollFault → Joining → Type 0
 HearsBy taken old read (Ok (More number)) new = (number ≡ taken + 1) × ((bytes : List ℕ) × IsMoreBy taken read bytes × (new ≡ joined_on old taken bytes))
 HearsBy taken old read (Ok (Rows rows)) new = SpellsBy taken old.joined read rows.items
 HearsBy taken old read (Err fault) new = FailsOrWants taken old.joined read fault
 
-abbrev pub Hears : {A : Type 0} → ℕ → Joining → List ℕ → Result (Heard A) PollFault → Joining → Type 0
+abbrev pub Hears : {A : Type 0} → ℕ → Joining → List ℕ → Result (GetAnswer A) PollFault → Joining → Type 0
 Hears taken old apdu result new = HasTaken old taken → HearsBy taken old (response_at apdu) result new

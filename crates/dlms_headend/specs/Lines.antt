@@ -7,11 +7,11 @@ use Rattle.dlms_headend.specs.Rows.{IsReading}
 use Rattle.dlms_headend.specs.declared.readings_fault.ReadingsFault.{ReadingsFault}
 use Rattle.dlms_headend.specs.declared.readings_fault.ReadingsFault.TheVariants.{Line, Memory}
 
--- no sign stands in front, and no leading zero
+-- no sign stands in front (a plus is 0x2B), and no leading zero (0x30)
 abbrev pub is_plain : List ℕ → Bool
 is_plain [] = false
-is_plain (first ∷ []) = not (first == 43)
-is_plain (first ∷ next ∷ rest) = not (first == 43) && not (first == 48)
+is_plain (first ∷ []) = not (first == 0x2B)
+is_plain (first ∷ next ∷ rest) = not (first == 0x2B) && not (first == 0x30)
 
 -- none of the bytes is the separator
 abbrev pub Lacks : ℕ → List ℕ → Type 0
@@ -22,10 +22,10 @@ Lacks separator (byte ∷ bytes) = (byte ≢ separator) × Lacks separator bytes
 abbrev pub field : ℕ → ℕ → List ℕ → List ℕ
 field number separator rest = decimal number ++ separator ∷ rest
 
--- a row's line, and what follows it; the comma is 44 and the line feed 10
+-- a row's line, and what follows it; the comma is 0x2C and the line feed 0x0A
 abbrev pub line : Row → List ℕ → List ℕ
 line row rest =
-    field row.clock 44 (field (slice_index row.registers 0) 44 (field (slice_index row.registers 1) 44 (field (slice_index row.registers 2) 10 rest)))
+    field row.clock 0x2C (field (slice_index row.registers 0) 0x2C (field (slice_index row.registers 1) 0x2C (field (slice_index row.registers 2) 0x0A rest)))
 
 -- the lines of the rows, in their order, and what follows them
 abbrev pub lines : List Row → List ℕ → List ℕ

@@ -10,6 +10,7 @@ use Rattle.dlms_acse.specs.Writing.{release_request}
 use Rattle.dlms_apdu.specs.declared.fault.Refusal.{Refusal}
 use Rattle.dlms_apdu.specs.Forms.{ResponseForm, get_data, get_result, get_block, get_block_result, exception}
 use Rattle.dlms_apdu.specs.Reading.{response_at}
+use Rattle.dlms_headend.specs.declared.answer.TheConstants.{EXCEPTION}
 use Rattle.dlms_headend.specs.declared.row.Row.{Row}
 use Rattle.dlms_headend.specs.declared.poll_fault.PollFault.{PollFault}
 use Rattle.dlms_headend.specs.declared.poll_fault.PollFault.TheVariants.{Refused, Result as BadResult, Protocol}
@@ -25,7 +26,7 @@ is_exception _ = false
 
 -- an APDU of another form than the awaited one
 abbrev pub other_fault : List ℕ → PollFault
-other_fault apdu = if is_exception apdu then BadResult 250 else Protocol
+other_fault apdu = if is_exception apdu then BadResult EXCEPTION else Protocol
 
 -- the association is accepted
 abbrev pub AcceptsBy : Result Verdict AcseFault → Type 0
@@ -72,7 +73,7 @@ pub record IsNeither (taken : ℕ) (joined : List ℕ) (read : Result ResponseFo
 abbrev pub FailsBy : ℕ → List ℕ → Result ResponseForm Refusal → PollFault → Type 0
 FailsBy taken joined (Ok (get_result invoke code)) fault = fault ≡ (if taken == 0 then BadResult code else Protocol)
 FailsBy taken joined (Ok (get_block_result invoke number code)) fault = fault ≡ BadResult code
-FailsBy taken joined (Ok (exception state service)) fault = fault ≡ BadResult 250
+FailsBy taken joined (Ok (exception state service)) fault = fault ≡ BadResult EXCEPTION
 FailsBy taken joined read fault = (fault ≡ Protocol) × IsNeither taken joined read
 
 abbrev pub Fails : ℕ → List ℕ → List ℕ → PollFault → Type 0

@@ -3,8 +3,8 @@ use Rattle.std.specs.Prelude.{◌≡◌, ◌⊎◌, ◌<◌, ◌≤◌, ℕ, Lis
 use Rattle.dlms_acse.specs.Writing.{release_request}
 use Rattle.dlms_frame.specs.Frame.{Parts}
 use Rattle.dlms_link.specs.Client.{ClientRecord, fresh_client, snrm_of, disc_of, client_connect, client_disconnect, client_send, client_step, client_timeout}
-use Rattle.dlms_link.specs.declared.out.Phase.{Phase}
-use Rattle.dlms_link.specs.declared.out.Phase.TheVariants.{Connecting, Open, Closing}
+use Rattle.dlms_link.specs.declared.phase.Phase.{Phase}
+use Rattle.dlms_link.specs.declared.phase.Phase.TheVariants.{Connecting, Open, Closing}
 use Rattle.dlms_link.specs.declared.out.ClientOut.{ClientOut}
 use Rattle.dlms_link.specs.declared.out.ClientOut.TheVariants as out
 use Rattle.dlms_headend.specs.declared.stage.Stage.{Stage}
@@ -20,6 +20,7 @@ use Rattle.dlms_headend.specs.Asking.{PlanValue, association_bytes, IsBufferRequ
 use Rattle.dlms_headend.specs.Poll.{HasBlocks, HasReleased, Asks}
 use Rattle.dlms_headend.specs.Talk.{fresh_talk, FitsTalk, Ends}
 use Rattle.dlms_headend.specs.PollerValue.{PollerValue}
+use Rattle.dlms_link.specs.declared.kept.TheConstants.{MOST_APDU}
 
 -- a poll that begins
 abbrev pub fresh_poll : PlanValue → PollerValue
@@ -29,7 +30,7 @@ fresh_poll plan = record { plan = plan; link = fresh_client plan.client; course 
 
 -- the link is given this APDU, which has at most the bytes that a link takes
 abbrev pub Gives : ClientRecord → List ℕ → Parts → ClientRecord → Type 0
-Gives link apdu frame new = (length apdu ≤ 1024) × (frame ≡ (client_send link apdu).1) × (new ≡ (client_send link apdu).0)
+Gives link apdu frame new = (length apdu ≤ MOST_APDU) × (frame ≡ (client_send link apdu).1) × (new ≡ (client_send link apdu).0)
 
 -- the request for the next block; for the buffer, where none has come
 abbrev pub IsGet : PlanValue → ℕ → List ℕ → Type 0

@@ -1,13 +1,12 @@
 //! What a poll asks.
 
 ghost use Rattle.std.specs.Prelude.{◌≡◌, ◌≤◌, ◌<◌, ◌^◌, length, IfOk, IfSome};
-ghost use Rattle.dlms_data.specs.DateTime.{NamesSecond, IsPlainlyWritten};
-ghost use Rattle.dlms_data.specs.Value.{octet_string, cons, none};
 ghost use Rattle.dlms_data.specs.View.{value_of};
-ghost use Rattle.dlms_headend.specs.Asking.{clock_column, first_second, range, next_bytes, buffer_bytes, IsTime, IsRange, IsBufferRequest};
+ghost use Rattle.dlms_headend.specs.Asking.{clock_column, first_second, range, next_bytes, buffer_bytes, IsRange, IsBufferRequest};
+ghost use Rattle.dlms_link.specs.declared.kept.TheConstants.{MOST_APDU};
 
 use dlms_apdu::{Request, write_request};
-use dlms_data::{Bytes, Data, Descriptor, Items, LAST_SECOND, Selector, octets};
+use dlms_data::{Data, Descriptor, Items, LAST_SECOND, Selector, four, octet_string_of, time_of};
 use std::alloc::{AllocError, Allocator};
 
 /// The invoke-id-and-priority byte of each request: number 1, confirmed, high priority.
@@ -23,38 +22,6 @@ const BUFFER: Descriptor = Descriptor {
 /// The clock's logical name.
 const CLOCK: [u8; 6] = [0, 0, 1, 0, 0, 255];
 
-/// Four values.
-fn four<A: Allocator + Copy>(
-    alloc: A,
-    first: Data<A>,
-    second: Data<A>,
-    third: Data<A>,
-    fourth: Data<A>,
-) -> Result<Items<A>, AllocError>
-    ensures { IfOk result (λ items. items ≡ cons (value_of first) (cons (value_of second) (cons (value_of third) (cons (value_of fourth) none)))) }
-{
-    let mut items = Items::from_vec(Vec::with_capacity(alloc, 4)?);
-    items.push(first)?;
-    items.push(second)?;
-    items.push(third)?;
-    items.push(fourth)?;
-    Ok(items)
-}
-
-fn octet_string<A: Allocator>(alloc: A, bytes: &[u8]) -> Result<Data<A>, AllocError>
-    ensures { IfOk result (λ v. value_of v ≡ octet_string bytes.now) }
-{
-    Ok(Data::OctetString(Bytes::from_slice(alloc, bytes)?))
-}
-
-/// The octet-string of a second's date-time.
-fn time<A: Allocator>(alloc: A, second: u32) -> Result<Data<A>, AllocError>
-    requires { second ≤ LAST_SECOND }
-    ensures { IfOk result (λ v. IsTime second (value_of v)) }
-{
-    octet_string(alloc, octets(second).as_slice())
-}
-
 /// The column of the clock's time: class, logical name, attribute and data index.
 fn column<A: Allocator + Copy>(alloc: A) -> Result<Data<A>, AllocError>
     ensures { IfOk result (λ v. value_of v ≡ clock_column) }
@@ -62,7 +29,7 @@ fn column<A: Allocator + Copy>(alloc: A) -> Result<Data<A>, AllocError>
     Ok(Data::Structure(four(
         alloc,
         Data::LongUnsigned(8),
-        octet_string(alloc, CLOCK.as_slice())?,
+        octet_string_of(alloc, CLOCK.as_slice())?,
         Data::Integer(2),
         Data::LongUnsigned(0),
     )?))
@@ -74,8 +41,8 @@ fn range_from<A: Allocator + Copy>(alloc: A, first: u32) -> Result<Data<A>, Allo
     ensures { IfOk result (λ v. IsRange first (value_of v)) }
 {
     let column = column(alloc)?;
-    let first = time(alloc, first)?;
-    let last = time(alloc, LAST_SECOND)?;
+    let first = time_of(alloc, first)?;
+    let last = time_of(alloc, LAST_SECOND)?;
     let columns = Data::Array(Items::new(alloc));
     Ok(Data::Structure(four(alloc, column, first, last, columns)?))
 }
@@ -105,7 +72,7 @@ pub fn buffer_request<A: Allocator + Copy>(
 ) -> Result<Vec<u8, A>, AllocError>
     requires { IfSome after (λ second. second ≤ LAST_SECOND) }
     ensures asks { IfOk result (λ apdu. IsBufferRequest after apdu.items) }
-    ensures short { IfOk result (λ apdu. length apdu.items ≤ 1024) }
+    ensures short { IfOk result (λ apdu. length apdu.items ≤ MOST_APDU) }
 {
     let request = range_request(alloc, after)?;
     Ok(request)
@@ -114,7 +81,7 @@ pub fn buffer_request<A: Allocator + Copy>(
 /// The GET of the block behind the one with this number.
 pub fn next_request<A: Allocator + Copy>(alloc: A, number: u32) -> Result<Vec<u8, A>, AllocError>
     ensures asks { IfOk result (λ apdu. apdu.items ≡ next_bytes number) }
-    ensures short { IfOk result (λ apdu. length apdu.items ≤ 1024) }
+    ensures short { IfOk result (λ apdu. length apdu.items ≤ MOST_APDU) }
 {
     let request: Request<'_, A> = Request::GetNext {
         invoke: INVOKE,

@@ -13,6 +13,7 @@ ghost use Rattle.dlms_headend.specs.PollerValue.{plan_of};
 ghost use Rattle.dlms_headend.specs.Rows.{AreReadings};
 ghost use Rattle.dlms_headend.specs.Talk.{FitsTalk, CanTake, IsGetting};
 ghost use Rattle.dlms_headend.specs.Polling.{IsDone, fresh_poll, IsGet, IsDue, Fits, FitsIn, Begins, TimesOut, CanTimeOut, HasFailed, Continues, Answers, GoesDown, PollsEarly, PollsBy, Polls, with_link};
+ghost use Rattle.dlms_link.specs.declared.kept.TheConstants.{MOST_APDU};
 
 use crate::asking::{buffer_request, next_request};
 use crate::plan::Plan;
@@ -70,7 +71,7 @@ fn get_request<A: Allocator + Copy>(
 ) -> Result<Vec<u8, A>, AllocError>
     requires { IfSome plan.now.after (λ second. second ≤ LAST_SECOND) }
     ensures asks { IfOk result (λ apdu. IsGet (plan_of plan.now) taken apdu.items) }
-    ensures short { IfOk result (λ apdu. length apdu.items ≤ 1024) }
+    ensures short { IfOk result (λ apdu. length apdu.items ≤ MOST_APDU) }
 {
     if taken == 0 {
         buffer_request(alloc, plan.after)

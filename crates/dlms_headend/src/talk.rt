@@ -6,9 +6,9 @@ ghost use Rattle.dlms_headend.specs.Rows.{AreReadings};
 ghost use Rattle.dlms_headend.specs.Talk.{fresh_talk, FitsTalk, CanTake, Takes};
 
 use crate::answer::{associated, released};
-use crate::heard::Heard;
-use crate::hearing::heard;
+use crate::get_answer::GetAnswer;
 use crate::poll_fault::PollFault;
+use crate::read_get_answer::heard;
 use crate::row::Row;
 use crate::stage::Stage;
 use dlms_blocks::GetIn;
@@ -69,11 +69,11 @@ impl<A: Allocator + Copy> Talk<A> {
         ensures { (apdus : List (List ℕ)) → FitsTalk self.old apdus → self.old.stage ≡ Getting taken → Takes self.old apdus apdu.now result self.new }
     {
         match heard(self.alloc, taken, &mut self.blocks, apdu) {
-            Ok(Heard::More(number)) => {
+            Ok(GetAnswer::More(number)) => {
                 self.stage = Stage::Getting(number);
                 Ok(())
             }
-            Ok(Heard::Rows(rows)) => {
+            Ok(GetAnswer::Rows(rows)) => {
                 self.stage = Stage::Releasing;
                 self.rows = rows;
                 Ok(())

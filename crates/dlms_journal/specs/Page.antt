@@ -4,6 +4,7 @@ use Rattle.std.specs.Prelude.{◌≡◌, ◌-◌, ◌==◌, ℕ, List, ◌∷◌
 use Rattle.byteorder.specs.Endian.{big_from}
 use Rattle.dlms_journal.specs.declared.kind.PageKind.{PageKind}
 use Rattle.dlms_journal.specs.declared.kind.PageKind.TheVariants.{Empty, OpenGate, ClosedGate, Body, Journal, Ring}
+use Rattle.dlms_journal.specs.declared.page.TheConstants.{MOST_PAYLOAD}
 
 abbrev pub number_of : PageKind → ℕ
 number_of Empty = 0
@@ -44,10 +45,10 @@ head_of page = record {
 
 -- the payload that a head counts, where it can stand behind the head
 abbrev pub payload_at : List ℕ → Option (List ℕ)
-payload_at page = if nat_le (head_of page).payload 496 then Some (take (head_of page).payload (drop 16 page)) else None
+payload_at page = if nat_le (head_of page).payload MOST_PAYLOAD then Some (take (head_of page).payload (drop 16 page)) else None
 
 -- A page as it is written: what its head says, zeros in the two bytes that mean nothing, the payload, and zeros behind it.
 pub record IsPage (page : List ℕ) (kind : PageKind) (index generation : ℕ) (payload : List ℕ) : Type 0 where
   pub bytes : length page ≡ 512
   pub head : head_of page ≡ record { kind = number_of kind; version = 0; index = index; generation = generation; payload = length payload }
-  pub behind : drop 14 page ≡ 0 ∷ 0 ∷ (payload ++ replicate (496 - length payload) 0)
+  pub behind : drop 14 page ≡ 0 ∷ 0 ∷ (payload ++ replicate (MOST_PAYLOAD - length payload) 0)

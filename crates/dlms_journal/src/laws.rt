@@ -5,6 +5,7 @@ ghost use Rattle.dlms_state.specs.Types.{FitsType};
 ghost use Rattle.dlms_journal.specs.declared.kind.PageKind.{PageKind};
 ghost use Rattle.dlms_journal.specs.Page.{IsPage, head_of, kind_named, payload_at};
 ghost use Rattle.dlms_journal.specs.Record.{Holds, record_of};
+ghost use Rattle.dlms_journal.specs.declared.page.TheConstants.{MOST_PAYLOAD};
 
 /// No record is the beginning of another: an event and what stands behind its record are told by the bytes.
 pub fn no_record_begins_another()
@@ -23,6 +24,6 @@ pub fn records_join()
 
 /// What is written of a page is read of it: its kind and its payload. The other fields are equations of `IsPage` itself.
 pub fn pages_are_read()
-    ensures { (page : List ℕ) (kind : PageKind) (index generation : ℕ) (payload : List ℕ) → length payload ≤ 496 → IsPage page kind index generation payload
+    ensures { (page : List ℕ) (kind : PageKind) (index generation : ℕ) (payload : List ℕ) → length payload ≤ MOST_PAYLOAD → IsPage page kind index generation payload
         → (kind_named (head_of page).kind ≡ Some kind) × (payload_at page ≡ Some payload) }
 {}

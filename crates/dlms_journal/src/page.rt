@@ -2,6 +2,7 @@
 ghost use Rattle.std.specs.Prelude.{◌≡◌, ◌≤◌, ◌+◌, ◌-◌, ◌++◌, ◌∷◌, [], List, ℕ, length, drop, take, replicate, IfSome, option_map, slice_index};
 ghost use Rattle.byteorder.specs.Endian.{big_bytes, big_number};
 ghost use Rattle.dlms_journal.specs.Page.{IsPage, head_of, kind_named, number_of, payload_at};
+ghost use Rattle.dlms_journal.specs.declared.page.TheConstants.{MOST_PAYLOAD};
 
 use crate::kind::PageKind;
 use byteorder::{BigEndian, ByteOrder};
@@ -47,8 +48,8 @@ fn head_bytes(kind: PageKind, index: u16, generation: u64, payload: u16) -> [u8;
 
 /// A head and a payload, and zeros behind them.
 fn joined(head: &[u8; HEAD_BYTES], payload: &[u8]) -> [u8; PAGE_BYTES]
-    requires { length payload.now ≤ 496 }
-    ensures { result ≡ head.now ++ (payload.now ++ replicate (496 - length payload.now) 0) }
+    requires { length payload.now ≤ MOST_PAYLOAD }
+    ensures { result ≡ head.now ++ (payload.now ++ replicate (MOST_PAYLOAD - length payload.now) 0) }
 {
     let mut page = [0; PAGE_BYTES];
     let (front, behind) = page.split_at_mut(HEAD_BYTES);
@@ -61,7 +62,7 @@ fn joined(head: &[u8; HEAD_BYTES], payload: &[u8]) -> [u8; PAGE_BYTES]
 /// A page of the present version: kind, version, index, generation and the payload's length, two zeros, the payload, and
 /// zeros to its end.
 pub fn page_of(kind: PageKind, index: u16, generation: u64, payload: &[u8]) -> [u8; PAGE_BYTES]
-    requires { length payload.now ≤ 496 }
+    requires { length payload.now ≤ MOST_PAYLOAD }
     ensures { IsPage result kind index generation payload.now }
 {
     let head = head_bytes(kind, index, generation, payload.len() as u16);

@@ -3,6 +3,7 @@ ghost use Rattle.std.specs.Prelude.{◌≡◌, ◌≤◌, ◌++◌, ◌∷◌, l
 ghost use Rattle.std.specs.Int.{cast_unsigned, w16};
 ghost use Rattle.byteorder.specs.Endian.{big_bytes};
 ghost use Rattle.dlms_journal.specs.Record.{record_of};
+ghost use Rattle.dlms_journal.specs.declared.page.TheConstants.{MOST_PAYLOAD};
 
 use crate::page::MOST_PAYLOAD;
 use arrayvec::ArrayVec;
@@ -13,7 +14,7 @@ pub type Record = ArrayVec<u8, MOST_PAYLOAD>;
 
 /// A record of these bytes.
 fn record(bytes: &[u8]) -> Record
-    requires { length bytes.now ≤ 496 }
+    requires { length bytes.now ≤ MOST_PAYLOAD }
     ensures { result.items ≡ bytes.now }
 {
     let mut record = ArrayVec::new();

@@ -2,9 +2,9 @@
 use Rattle.std.proofs.Common.{◌≡◌, ℕ, ◌<◌, ◌≤◌, refl, arith, true, false, Bool, List, [], ◌∷◌, ◌++◌, length, length-append, Option, None, Some}
 use Rattle.dlms_frame.specs.declared.client.Client.{Client}
 use Rattle.dlms_frame.specs.Frame.{Parts}
-use Rattle.dlms_link.specs.declared.out.Answer.{Answer}
-use Rattle.dlms_link.specs.declared.out.Phase.{Phase}
-use Rattle.dlms_link.specs.declared.out.Phase.TheVariants.{Closed, Connecting, Open, Closing}
+use Rattle.dlms_link.specs.declared.last_answer.Answer.{Answer}
+use Rattle.dlms_link.specs.declared.phase.Phase.{Phase}
+use Rattle.dlms_link.specs.declared.phase.Phase.TheVariants.{Closed, Connecting, Open, Closing}
 use Rattle.dlms_link.specs.declared.out.LinkOut.{LinkOut}
 use Rattle.dlms_link.specs.declared.out.LinkOut.TheVariants.{Nothing, Reply, Apdu, Oversize, BadLlc, Up, Down}
 use Rattle.dlms_link.specs.declared.out.ClientOut.{ClientOut}
@@ -13,7 +13,7 @@ use Rattle.dlms_link.specs.Octet.{information_octet}
 use Rattle.dlms_link.specs.Kept.{Kept, Good, kept_after, from_client, is_more}
 use Rattle.dlms_link.specs.Server.{ServerRecord, server_on}
 use Rattle.dlms_link.specs.Client.{client_step, client_timeout}
-use Rattle.dlms_link.specs.World.{World, Event, Connect, Give, Disconnect, ReachesMeter, ReachesClient, LostUp, LostDown, TimesOut, Restarts, Intrudes, TakesOver, happens, connects, gives, disconnects, meter_does, reaches_meter, client_does, reaches_client, times_out, intrudes, takes_over, run, start}
+use Rattle.dlms_link.specs.World.{LinkWorld, LinkEvent, Connect, Give, Disconnect, ReachesMeter, ReachesClient, LostUp, LostDown, TimesOut, Restarts, Intrudes, TakesOver, happens, connects, gives, disconnects, meter_does, reaches_meter, client_does, reaches_client, times_out, intrudes, takes_over, run, start}
 use Rattle.dlms_link.proofs.Numbers.{next_lt, before-next}
 use Rattle.dlms_link.proofs.Joining.{Joins, IsFirst, kept_goes_on}
 use Rattle.dlms_link.proofs.Rows.{row_of-expected, row_of-repeated, row_of-goes_on, row_of-snrm, row_of-disc_up, row_of-disc_down}
@@ -35,7 +35,7 @@ abbrev pub IsTaken : ServerRecord → List Parts → Type 0
 IsTaken m [] = Unit {0}
 IsTaken m (f ∷ rest) = IsFine (server_on m f).1
 
-abbrev pub InStep : World → Type 0
+abbrev pub InStep : LinkWorld → Type 0
 InStep w = length w.served ≡ length w.answers
 
 module _ (who : Client) where
@@ -52,7 +52,7 @@ module _ (who : Client) where
       rw (row_of-expected (server_at who n s last took k had [] size) info true s n hs hn refl refl refl) tt
 
   -- no frame of the client is too long or badly begun
-  pub fine : {w : World} → Sound who w → IsTaken w.meter w.up_line
+  pub fine : {w : LinkWorld} → Sound who w → IsTaken w.meter w.up_line
   fine (Away m x asked served answers taken ps pt) = tt
   fine (Calling true m t x) = rw (row_of-snrm (at who m)) tt
   fine (Calling false m t x) = tt
@@ -82,27 +82,27 @@ module _ (who : Client) where
 one_more : (xs ys : List (List ℕ)) (x y : List ℕ) → length xs ≡ length ys → length (xs ++ x ∷ []) ≡ length (ys ++ y ∷ [])
 one_more xs ys x y h = simp length-append (omega arith)
 
-connects_step : (w : World) (phase : Phase) → InStep w → InStep (connects w phase)
+connects_step : (w : LinkWorld) (phase : Phase) → InStep w → InStep (connects w phase)
 connects_step w Closed h = refl
 connects_step w Connecting h = h
 connects_step w Open h = h
 connects_step w Closing h = h
 
-gives_step : (w : World) (apdu : List ℕ) (phase : Phase) (waits : Option Parts) → InStep w → InStep (gives w apdu phase waits)
+gives_step : (w : LinkWorld) (apdu : List ℕ) (phase : Phase) (waits : Option Parts) → InStep w → InStep (gives w apdu phase waits)
 gives_step w apdu Open None h = h
 gives_step w apdu Open (Some f) h = h
 gives_step w apdu Closed waits h = h
 gives_step w apdu Connecting waits h = h
 gives_step w apdu Closing waits h = h
 
-disconnects_step : (w : World) (phase : Phase) (waits : Option Parts) → InStep w → InStep (disconnects w phase waits)
+disconnects_step : (w : LinkWorld) (phase : Phase) (waits : Option Parts) → InStep w → InStep (disconnects w phase waits)
 disconnects_step w Open None h = h
 disconnects_step w Open (Some f) h = h
 disconnects_step w Closed waits h = h
 disconnects_step w Connecting waits h = h
 disconnects_step w Closing waits h = h
 
-meter_step : (w : World) (answer : List ℕ) (result : LinkOut) → IsFine result → InStep w → InStep (meter_does w answer result)
+meter_step : (w : LinkWorld) (answer : List ℕ) (result : LinkOut) → IsFine result → InStep w → InStep (meter_does w answer result)
 meter_step w answer Nothing f h = h
 meter_step w answer (Reply g) f h = h
 meter_step w answer (Up g) f h = h
@@ -111,40 +111,40 @@ meter_step w answer Apdu f h = one_more w.served w.answers w.meter.apdu answer h
 meter_step w answer Oversize f h = absurd f
 meter_step w answer BadLlc f h = absurd f
 
-reaches_meter_step : (w : World) (answer : List ℕ) (line : List Parts) → IsTaken w.meter line → InStep w → InStep (reaches_meter w answer line)
+reaches_meter_step : (w : LinkWorld) (answer : List ℕ) (line : List Parts) → IsTaken w.meter line → InStep w → InStep (reaches_meter w answer line)
 reaches_meter_step w answer [] f h = h
 reaches_meter_step w answer (g ∷ rest) f h = meter_step (record w { meter = (server_on w.meter g).0; up_line = rest }) answer (server_on w.meter g).1 f h
 
-client_does_step : (w : World) (result : ClientOut) → InStep w → InStep (client_does w result)
+client_does_step : (w : LinkWorld) (result : ClientOut) → InStep w → InStep (client_does w result)
 client_does_step w NothingTaken h = h
 client_does_step w IsUp h = h
 client_does_step w (Send f) h = h
 client_does_step w ApduTaken h = h
 client_does_step w IsDown h = h
 
-reaches_client_step : (w : World) (line : List Parts) → InStep w → InStep (reaches_client w line)
+reaches_client_step : (w : LinkWorld) (line : List Parts) → InStep w → InStep (reaches_client w line)
 reaches_client_step w [] h = h
 reaches_client_step w (g ∷ rest) h = client_does_step (record w { client = (client_step w.client g).0; down_line = rest }) (client_step w.client g).1 h
 
-times_out_step : (w : World) (waits : Option Parts) (up down : List Parts) → InStep w → InStep (times_out w waits up down)
+times_out_step : (w : LinkWorld) (waits : Option Parts) (up down : List Parts) → InStep w → InStep (times_out w waits up down)
 times_out_step w None up down h = h
 times_out_step w (Some f) [] [] h = h
 times_out_step w (Some f) [] (g ∷ down) h = h
 times_out_step w (Some f) (g ∷ up) down h = h
 
-intrudes_step : (w : World) (frame : Parts) (answer : List ℕ) (phase : Phase) → InStep w → InStep (intrudes w frame answer phase)
+intrudes_step : (w : LinkWorld) (frame : Parts) (answer : List ℕ) (phase : Phase) → InStep w → InStep (intrudes w frame answer phase)
 intrudes_step w frame answer Closed h = h
 intrudes_step w frame answer Connecting h = h
 intrudes_step w frame answer Open h = h
 intrudes_step w frame answer Closing h = h
 
-takes_over_step : (w : World) (up down : List Parts) → InStep w → InStep (takes_over w up down)
+takes_over_step : (w : LinkWorld) (up down : List Parts) → InStep w → InStep (takes_over w up down)
 takes_over_step w [] [] h = h
 takes_over_step w [] (g ∷ down) h = h
 takes_over_step w (g ∷ up) down h = h
 
 module _ (who : Client) where
-  step : (w : World) (e : Event) → Sound who w → InStep w → InStep (happens w e)
+  step : (w : LinkWorld) (e : LinkEvent) → Sound who w → InStep w → InStep (happens w e)
   step w Connect good h = connects_step w w.client.phase h
   step w (Give apdu short) good h = gives_step w apdu w.client.phase w.client.waits h
   step w Disconnect good h = disconnects_step w w.client.phase w.client.waits h
@@ -157,9 +157,9 @@ module _ (who : Client) where
   step w (Intrudes frame answer) good h = intrudes_step w frame answer w.client.phase h
   step w TakesOver good h = takes_over_step w w.up_line w.down_line h
 
-  steps : (es : List Event) (w : World) → Sound who w → InStep w → InStep (run es w)
+  steps : (es : List LinkEvent) (w : LinkWorld) → Sound who w → InStep w → InStep (run es w)
   steps [] w good h = h
   steps (e ∷ es) w good h = steps es (happens w e) (keep who e good) (step w e good h)
 
-  pub in_step : (es : List Event) → InStep (run es (start who))
+  pub in_step : (es : List LinkEvent) → InStep (run es (start who))
   in_step es = steps es (start who) (sound who []) refl

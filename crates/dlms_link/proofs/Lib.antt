@@ -10,5 +10,6 @@ pub mod ParameterLaws
 pub mod Passing
 pub mod Sending
 pub mod Taking
+pub mod ClientCut
 pub mod OneRow
 pub mod LineLaws

@@ -2,13 +2,13 @@
 use Rattle.std.proofs.Common.{◌≡◌, ◌+◌, ◌≤◌, arith, Bool, true, false, List, [], length, Option, None, Some, refl, subst}
 use Rattle.dlms_frame.specs.declared.client.Client.{Client}
 use Rattle.dlms_frame.specs.Frame.{Parts}
-use Rattle.dlms_link.specs.declared.out.Phase.{Phase}
-use Rattle.dlms_link.specs.declared.out.Phase.TheVariants.{Closed, Connecting, Open, Closing}
+use Rattle.dlms_link.specs.declared.phase.Phase.{Phase}
+use Rattle.dlms_link.specs.declared.phase.Phase.TheVariants.{Closed, Connecting, Open, Closing}
 use Rattle.dlms_link.specs.declared.out.LinkOut.{LinkOut}
 use Rattle.dlms_link.specs.declared.out.LinkOut.TheVariants.{Nothing, Reply, Apdu, Oversize, BadLlc, Up, Down}
 use Rattle.dlms_link.specs.Line.{HandsUpAt, AreUp, ApdusComeUp, LineIsSilent, OneFrameAtMost}
 use Rattle.dlms_link.specs.Server.{ServerRecord, server_on}
-use Rattle.dlms_link.specs.World.{World}
+use Rattle.dlms_link.specs.World.{LinkWorld}
 use Rattle.dlms_link.proofs.Rows.{row_of-snrm, row_of-disc_up, row_of-disc_down}
 use Rattle.dlms_link.proofs.Sound.{Sound, Away, Calling, Called, Leaving, Left, Idle, Asking, Received, Answered, Readying, LostCalled, LostIdle, LostAsking, Denied, LostReceived, LostAnswered, Silent, Going, Coming, at, disc}
 use Rattle.dlms_link.proofs.Steps.{sound}
@@ -29,7 +29,7 @@ module _ (who : Client) where
   leaves_other m true e = rw (row_of-disc_up (at who m) e) tt
   leaves_other m false e = rw (row_of-disc_down (at who m) e) tt
 
-  come_up : {w : World} → Sound who w → HandsUpAt w.meter w.up_line → AreUp w
+  come_up : {w : LinkWorld} → Sound who w → HandsUpAt w.meter w.up_line → AreUp w
   come_up (Away m x asked served answers taken ps pt) h = absurd h
   come_up (Calling true m t x) h = absurd (subst IsOther h (rw (row_of-snrm (at who m)) tt))
   come_up (Calling false m t x) h = absurd h
@@ -76,7 +76,7 @@ IsResting Open waits = Unit {0}
 IsResting Closing waits = Unit {0}
 
 module _ (who : Client) where
-  pub silent : {w : World} → Sound who w → IsSilent w.client.waits w.up_line w.down_line
+  pub silent : {w : LinkWorld} → Sound who w → IsSilent w.client.waits w.up_line w.down_line
   silent (Away m x asked served answers taken ps pt) = (refl, refl)
   silent (Calling sent m t x) = tt
   silent (Called t x) = tt
@@ -94,7 +94,7 @@ module _ (who : Client) where
   silent (LostReceived s n t y x info u apdu given got hs hn) = tt
   silent (LostAnswered s n t q k x info u answer given got hs hn j i short refuses) = tt
 
-  pub quiet : {w : World} → Sound who w → IsQuiet w.client.phase w.up_line w.down_line
+  pub quiet : {w : LinkWorld} → Sound who w → IsQuiet w.client.phase w.up_line w.down_line
   quiet (Away m x asked served answers taken ps pt) = (refl, refl)
   quiet (Calling sent m t x) = tt
   quiet (Called t x) = tt
@@ -112,7 +112,7 @@ module _ (who : Client) where
   quiet (LostReceived s n t y x info u apdu given got hs hn) = tt
   quiet (LostAnswered s n t q k x info u answer given got hs hn j i short refuses) = tt
 
-  pub resting : {w : World} → Sound who w → IsResting w.client.phase w.client.waits
+  pub resting : {w : LinkWorld} → Sound who w → IsResting w.client.phase w.client.waits
   resting (Away m x asked served answers taken ps pt) = refl
   resting (Calling sent m t x) = tt
   resting (Called t x) = tt
@@ -130,7 +130,7 @@ module _ (who : Client) where
   resting (LostReceived s n t y x info u apdu given got hs hn) = tt
   resting (LostAnswered s n t q k x info u answer given got hs hn j i short refuses) = tt
 
-  one_frame : {w : World} → Sound who w → length w.up_line + length w.down_line ≤ 1
+  one_frame : {w : LinkWorld} → Sound who w → length w.up_line + length w.down_line ≤ 1
   one_frame (Away m x asked served answers taken ps pt) = omega arith
   one_frame (Calling true m t x) = omega arith
   one_frame (Calling false m t x) = omega arith

@@ -1,7 +1,7 @@
 -- What is handed up and what answers it are one row.
 use Rattle.std.proofs.Common.{◌≡◌, ℕ, List, refl, Some}
 use Rattle.dlms_frame.specs.Frame.{Parts}
-use Rattle.dlms_link.specs.declared.row.Row.TheVariants.{HandsUp}
+use Rattle.dlms_link.specs.declared.server_row.ServerRow.TheVariants.{HandsUp}
 use Rattle.dlms_link.specs.Kept.{Kept, Fresh, Good, TooLong, BadStart, kept_after, from_client}
 use Rattle.dlms_link.specs.Server.{ServerRecord, answered, link_step, row_of, row_done, server_send, told, by_row}
 

@@ -3,13 +3,13 @@ use Rattle.std.proofs.Common.{◌≡◌, ◌<◌, ◌+◌, refl, sym, arith, Boo
 use Rattle.std.proofs.lemmas.Bool.Decides.{nat_tests}
 use Rattle.dlms_frame.specs.Frame.{Parts}
 use Rattle.dlms_link.specs.declared.out.ClientOut.TheVariants.{Send}
-use Rattle.dlms_link.specs.declared.out.Phase.TheVariants.{Open}
+use Rattle.dlms_link.specs.declared.phase.Phase.TheVariants.{Open}
 use Rattle.dlms_link.specs.declared.control.Control.{Control}
 use Rattle.dlms_link.specs.declared.control.Control.TheVariants.{Snrm, Disc, Ua, Dm, Information, Ready, NotReady, Other}
-use Rattle.dlms_link.specs.declared.row.Row.{Row}
-use Rattle.dlms_link.specs.declared.row.Row.TheVariants.{Connects, Refuses, Disconnects, Keeps, HandsUp, Repeats, SendsNext, SaysReady, Ignores}
-use Rattle.dlms_link.specs.declared.way.Way.{Way}
-use Rattle.dlms_link.specs.declared.way.Way.TheVariants.{Takes, Leaves}
+use Rattle.dlms_link.specs.declared.server_row.ServerRow.{ServerRow}
+use Rattle.dlms_link.specs.declared.server_row.ServerRow.TheVariants.{Connects, Refuses, Disconnects, Keeps, HandsUp, Repeats, SendsNext, SaysReady, Ignores}
+use Rattle.dlms_link.specs.declared.client_row.ClientRow.{ClientRow}
+use Rattle.dlms_link.specs.declared.client_row.ClientRow.TheVariants.{Takes, Leaves}
 use Rattle.dlms_link.specs.Octet.{control_of}
 use Rattle.dlms_link.specs.Kept.{Kept, Fresh, Good, TooLong, BadStart, kept_after, from_meter}
 use Rattle.dlms_link.specs.Server.{ServerRecord, by_row}
@@ -21,7 +21,7 @@ pub record Passes (r now : ServerRecord) : Type 0 where
   pub unsent : now.unsent ≡ r.unsent
   pub kept : now.kept ≡ r.kept
 
-pub passes : (r : ServerRecord) (f : Parts) (row : Row) → IsPassed row → Passes r (by_row r f row).0
+pub passes : (r : ServerRecord) (f : Parts) (row : ServerRow) → IsPassed row → Passes r (by_row r f row).0
 passes r f (Connects size) p = absurd p
 passes r f Refuses p = record { size = refl; unsent = refl; kept = refl }
 passes r f Disconnects p = record { size = refl; unsent = refl; kept = refl }
@@ -32,7 +32,7 @@ passes r f SendsNext p = absurd p
 passes r f SaysReady p = record { size = refl; unsent = refl; kept = refl }
 passes r f Ignores p = record { size = refl; unsent = refl; kept = refl }
 
-control_by_way : (c : ClientRecord) (f : Parts) (way : Way) (k : Control) → (way ≡ Leaves → ⊥) → c.phase ≡ Open → way_of c (control_of f.control) ≡ way → way_of c k ≡ way → on_control c f k ≡ by_way c f way
+control_by_way : (c : ClientRecord) (f : Parts) (way : ClientRow) (k : Control) → (way ≡ Leaves → ⊥) → c.phase ≡ Open → way_of c (control_of f.control) ≡ way → way_of c k ≡ way → on_control c f k ≡ by_way c f way
 unfolding way_of
 control_by_way c f way (Information s n) l up e ek = rw (up, e) refl
 control_by_way c f way (Ready n) l up e ek = rw (up, e) refl
@@ -43,7 +43,7 @@ control_by_way c f way Dm l up e ek = absurd (l (sym ek))
 control_by_way c f way NotReady l up e ek = absurd (l (sym ek))
 control_by_way c f way Other l up e ek = absurd (l (sym ek))
 
-pub by_way_of : (c : ClientRecord) (f : Parts) (way : Way) → (way ≡ Leaves → ⊥) → IsByWay c f way → client_step c f ≡ by_way c f way
+pub by_way_of : (c : ClientRecord) (f : Parts) (way : ClientRow) → (way ≡ Leaves → ⊥) → IsByWay c f way → client_step c f ≡ by_way c f way
 by_way_of c f way l h = rw h.from_meter (control_by_way c f way (control_of f.control) l h.up h.its_way h.its_way)
 
 pub waits_on : (c : ClientRecord) → c.repeats < 3 → (client_timeout c).0 ≡ record c { repeats = c.repeats + 1 }

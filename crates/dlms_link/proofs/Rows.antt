@@ -10,10 +10,10 @@ use Rattle.dlms_link.specs.Octet.{control_of, information_octet, ready_octet, be
 use Rattle.dlms_link.specs.Kept.{is_more}
 use Rattle.dlms_link.specs.Parameters.{size_of}
 use Rattle.dlms_link.specs.Server.{fresh_server, ServerRecord, row_of, to_client, was_information}
-use Rattle.dlms_link.specs.declared.row.Row.{Row}
-use Rattle.dlms_link.specs.declared.row.Row.TheVariants.{Connects, Refuses, Disconnects, Keeps, HandsUp, Repeats, SendsNext}
+use Rattle.dlms_link.specs.declared.server_row.ServerRow.{ServerRow}
+use Rattle.dlms_link.specs.declared.server_row.ServerRow.TheVariants.{Connects, Refuses, Disconnects, Keeps, HandsUp, Repeats, SendsNext}
 use Rattle.dlms_link.specs.Client.{ClientRecord, to_meter, way_of, is_answer}
-use Rattle.dlms_link.specs.declared.way.Way.TheVariants.{Takes, LetsNext}
+use Rattle.dlms_link.specs.declared.client_row.ClientRow.TheVariants.{Takes, LetsNext}
 use Rattle.dlms_link.proofs.Numbers.{control_of-information, control_of-ready, before_differs}
 
 same : (n : ℕ) → (n == n) ≡ true
@@ -49,7 +49,7 @@ module _ (r : ServerRecord) (info : List ℕ) (segmented : Bool) where
       let here : (n == before r.send_next) ≡ true = grind (arith, nat_tests) in
       rw (same (sap_of r.client), up, control_of-ready n hn, apart, here, was) refl
 
-either : (b : Bool) (x : Row) → (if b then x else x) ≡ x
+either : (b : Bool) (x : ServerRow) → (if b then x else x) ≡ x
 either true x = refl
 either false x = refl
 

@@ -9,8 +9,8 @@ use Rattle.dlms_link.specs.declared.out.ClientOut.{ClientOut}
 use Rattle.dlms_link.specs.declared.out.ClientOut.TheVariants.{Send}
 use Rattle.dlms_link.specs.declared.control.Control.{Control}
 use Rattle.dlms_link.specs.declared.control.Control.TheVariants.{Snrm, Disc, Ua, Dm, Information, Ready, NotReady, Other}
-use Rattle.dlms_link.specs.declared.row.Row.TheVariants.{Keeps, HandsUp, Repeats, SendsNext, SaysReady, Ignores}
-use Rattle.dlms_link.specs.declared.way.Way.TheVariants.{Takes, TakenBefore, LetsNext, Leaves}
+use Rattle.dlms_link.specs.declared.server_row.ServerRow.TheVariants.{Keeps, HandsUp, Repeats, SendsNext, SaysReady, Ignores}
+use Rattle.dlms_link.specs.declared.client_row.ClientRow.TheVariants.{Takes, TakenBefore, LetsNext, Leaves}
 use Rattle.dlms_link.specs.Octet.{control_of, before}
 use Rattle.dlms_link.specs.Kept.{Fresh, capped, llc, from_meter, from_client, is_more}
 use Rattle.dlms_link.specs.Server.{ServerRecord, row_of, row_of_snrm, is_meter, is_client, row_while_up, row_while_down, was_information, server_send, segment_of}

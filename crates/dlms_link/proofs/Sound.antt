@@ -3,17 +3,17 @@ use Rattle.std.proofs.Common.{◌≡◌, ℕ, ◌<◌, ◌≤◌, ap, true, fals
 use Rattle.dlms_frame.specs.declared.client.Client.{Client}
 use Rattle.dlms_frame.specs.declared.frame.Address.TheVariants.{One}
 use Rattle.dlms_frame.specs.Frame.{Parts}
-use Rattle.dlms_link.specs.declared.out.Answer.{Answer}
-use Rattle.dlms_link.specs.declared.out.Answer.TheVariants.{NoAnswer, WasReady, WasInformation}
-use Rattle.dlms_link.specs.declared.out.Phase.{Phase}
-use Rattle.dlms_link.specs.declared.out.Phase.TheVariants.{Closed, Connecting, Open, Closing}
+use Rattle.dlms_link.specs.declared.last_answer.Answer.{Answer}
+use Rattle.dlms_link.specs.declared.last_answer.Answer.TheVariants.{NoAnswer, WasReady, WasInformation}
+use Rattle.dlms_link.specs.declared.phase.Phase.{Phase}
+use Rattle.dlms_link.specs.declared.phase.Phase.TheVariants.{Closed, Connecting, Open, Closing}
 use Rattle.dlms_link.specs.Octet.{information_octet, ready_octet, next}
 use Rattle.dlms_link.specs.Kept.{Kept, Fresh, Good, from_client, from_meter, is_more}
 use Rattle.dlms_link.specs.Parameters.{information_of, own_parameters}
 use Rattle.dlms_link.specs.Server.{ServerRecord, fresh_server, row_of, to_client}
-use Rattle.dlms_link.specs.declared.row.Row.TheVariants.{Repeats}
+use Rattle.dlms_link.specs.declared.server_row.ServerRow.TheVariants.{Repeats}
 use Rattle.dlms_link.specs.Client.{ClientRecord, to_meter}
-use Rattle.dlms_link.specs.World.{World, IsBeginningOf}
+use Rattle.dlms_link.specs.World.{LinkWorld, IsBeginningOf}
 use Rattle.dlms_link.proofs.Joining.{Joins, IsFirst}
 use Rattle.dlms_link.proofs.Rows.{IsRefused}
 
@@ -60,7 +60,7 @@ ua_up who = to_client who (One 1) 115 false (information_of (own_parameters 128)
 abbrev pub gone : Client → Bool → Parts
 gone who was_up = to_client who (One 1) (cond was_up 115 31) false []
 
-pub data Sound (who : Client) : World → Type 0 where
+pub data Sound (who : Client) : LinkWorld → Type 0 where
   -- the client's link is closed, and nothing is on the line
   Away : (m : ServerRecord) (x : List ℕ) (asked served answers taken : List (List ℕ)) → IsBeginningOf served asked → IsBeginningOf taken answers →
       Sound who (record { meter = at who m; client = client_at who Closed 0 0 None 0 Fresh x []; up_line = []; down_line = []; asked = asked; served = served; answers = answers; taken = taken })

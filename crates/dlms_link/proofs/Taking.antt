@@ -3,9 +3,9 @@ use Rattle.std.proofs.Common.{◌≡◌, ℕ, ◌⊎◌, inl, inr, refl, sym, �
 use Rattle.dlms_frame.specs.Frame.{Parts}
 use Rattle.dlms_link.specs.declared.out.LinkOut.TheVariants.{Reply}
 use Rattle.dlms_link.specs.declared.out.ClientOut.TheVariants.{Send}
-use Rattle.dlms_link.specs.declared.row.Row.{Row}
-use Rattle.dlms_link.specs.declared.row.Row.TheVariants.{Connects, Refuses, Disconnects, Keeps, HandsUp, Repeats, SendsNext, SaysReady, Ignores}
-use Rattle.dlms_link.specs.declared.way.Way.TheVariants.{Takes, TakenBefore, LetsNext}
+use Rattle.dlms_link.specs.declared.server_row.ServerRow.{ServerRow}
+use Rattle.dlms_link.specs.declared.server_row.ServerRow.TheVariants.{Connects, Refuses, Disconnects, Keeps, HandsUp, Repeats, SendsNext, SaysReady, Ignores}
+use Rattle.dlms_link.specs.declared.client_row.ClientRow.TheVariants.{Takes, TakenBefore, LetsNext}
 use Rattle.dlms_link.specs.Kept.{Kept, Fresh, Good, TooLong, BadStart, kept_after, apdu_of, from_meter, from_client}
 use Rattle.dlms_link.specs.Server.{ServerRecord, row_of, server_on, by_row, told, segment_of}
 use Rattle.dlms_link.specs.Client.{ClientRecord, client_step, takes}
@@ -90,7 +90,7 @@ cut r (f ∷ frames) = by_its_row (row_of r f) refl (cut (server_on r f).0 frame
     at_once : IsAnew (row_of r f) → BeginsAnew r (f ∷ frames)
     at_once a = record { front = []; first = f; rest = frames; in_order = refl; before = record { taken = []; sent = []; now = r; goes = NothingCame r }; anew = a }
 
-    by_its_row : (row : Row) → row_of r f ≡ row → GoesOn (server_on r f).0 frames ⊎ BeginsAnew (server_on r f).0 frames → GoesOn r (f ∷ frames) ⊎ BeginsAnew r (f ∷ frames)
+    by_its_row : (row : ServerRow) → row_of r f ≡ row → GoesOn (server_on r f).0 frames ⊎ BeginsAnew (server_on r f).0 frames → GoesOn r (f ∷ frames) ⊎ BeginsAnew r (f ∷ frames)
     by_its_row (Connects size) e later = inr (at_once (rw e tt))
     by_its_row Refuses e later = passed (rw e tt) later
     by_its_row Disconnects e later = passed (rw e tt) later
@@ -101,7 +101,7 @@ cut r (f ∷ frames) = by_its_row (row_of r f) refl (cut (server_on r f).0 frame
     by_its_row SaysReady e later = passed (rw e tt) later
     by_its_row Ignores e later = passed (rw e tt) later
 
-anew_at : (r : ServerRecord) (f : Parts) (row : Row) → IsAnew row → (by_row r f row).0.kept ≡ Fresh
+anew_at : (r : ServerRecord) (f : Parts) (row : ServerRow) → IsAnew row → (by_row r f row).0.kept ≡ Fresh
 anew_at r f (Connects size) a = refl
 anew_at r f HandsUp a = refl
 anew_at r f Refuses a = absurd a

@@ -7,12 +7,12 @@ use Rattle.dlms_frame.specs.declared.frame.Address.TheVariants.{One, Two, Four}
 use Rattle.dlms_frame.specs.Frame.{Parts}
 use Rattle.dlms_link.specs.declared.control.Control.{Control}
 use Rattle.dlms_link.specs.declared.control.Control.TheVariants.{Snrm, Disc, Ua, Dm, Information, Ready, NotReady, Other}
-use Rattle.dlms_link.specs.declared.out.Phase.{Phase}
-use Rattle.dlms_link.specs.declared.out.Phase.TheVariants.{Closed, Connecting, Open, Closing}
+use Rattle.dlms_link.specs.declared.phase.Phase.{Phase}
+use Rattle.dlms_link.specs.declared.phase.Phase.TheVariants.{Closed, Connecting, Open, Closing}
 use Rattle.dlms_link.specs.declared.out.ClientOut.{ClientOut}
 use Rattle.dlms_link.specs.declared.out.ClientOut.TheVariants.{Nothing, Up, Send, Apdu, Down}
-use Rattle.dlms_link.specs.declared.way.Way.{Way}
-use Rattle.dlms_link.specs.declared.way.Way.TheVariants.{Takes, TakenBefore, LetsNext, Leaves}
+use Rattle.dlms_link.specs.declared.client_row.ClientRow.{ClientRow}
+use Rattle.dlms_link.specs.declared.client_row.ClientRow.TheVariants.{Takes, TakenBefore, LetsNext, Leaves}
 use Rattle.dlms_link.specs.Octet.{control_of, information_octet, ready_octet, next, before}
 use Rattle.dlms_link.specs.Kept.{Kept, Fresh, Good, TooLong, BadStart, kept_after, llc, from_client, from_meter, is_more}
 use Rattle.dlms_link.specs.Server.{is_client}
@@ -97,7 +97,7 @@ on_ua c Open = (c, Nothing)
 on_ua c Closing = (closed c, Down)
 
 -- what an open link does with an I or an RR
-unfoldable pub way_of : ClientRecord → Control → Way
+unfoldable pub way_of : ClientRecord → Control → ClientRow
 way_of c (Information send receive) =
     if (send == c.receive_next) && (receive == c.send_next) then Takes
     else (if send == before c.receive_next then TakenBefore else Leaves)
@@ -109,7 +109,7 @@ way_of c Dm = Leaves
 way_of c NotReady = Leaves
 way_of c Other = Leaves
 
-abbrev pub by_way : ClientRecord → Parts → Way → ClientRecord × ClientOut
+abbrev pub by_way : ClientRecord → Parts → ClientRow → ClientRecord × ClientOut
 by_way c f Takes = takes c f.segmented (kept_after from_meter c.kept f.info)
 by_way c f TakenBefore = (out c (client_ready c), Send (client_ready c))
 by_way c f LetsNext = (after_client_segment c, Send (client_segment c))

@@ -7,12 +7,12 @@ use Rattle.dlms_frame.specs.declared.frame.Address.TheVariants.{One, Two, Four}
 use Rattle.dlms_frame.specs.Frame.{Parts}
 use Rattle.dlms_link.specs.declared.control.Control.{Control}
 use Rattle.dlms_link.specs.declared.control.Control.TheVariants.{Snrm, Disc, Ua, Dm, Information, Ready, NotReady, Other}
-use Rattle.dlms_link.specs.declared.out.Answer.{Answer}
-use Rattle.dlms_link.specs.declared.out.Answer.TheVariants.{NoAnswer, WasReady, WasInformation}
+use Rattle.dlms_link.specs.declared.last_answer.Answer.{Answer}
+use Rattle.dlms_link.specs.declared.last_answer.Answer.TheVariants.{NoAnswer, WasReady, WasInformation}
 use Rattle.dlms_link.specs.declared.out.LinkOut.{LinkOut}
 use Rattle.dlms_link.specs.declared.out.LinkOut.TheVariants.{Nothing, Reply, Apdu, Oversize, BadLlc, Up, Down}
-use Rattle.dlms_link.specs.declared.row.Row.{Row}
-use Rattle.dlms_link.specs.declared.row.Row.TheVariants.{Connects, Refuses, Disconnects, Keeps, HandsUp, Repeats, SendsNext, SaysReady, Ignores}
+use Rattle.dlms_link.specs.declared.server_row.ServerRow.{ServerRow}
+use Rattle.dlms_link.specs.declared.server_row.ServerRow.TheVariants.{Connects, Refuses, Disconnects, Keeps, HandsUp, Repeats, SendsNext, SaysReady, Ignores}
 use Rattle.dlms_link.specs.Octet.{control_of, information_octet, ready_octet, next, before}
 use Rattle.dlms_link.specs.Kept.{Kept, Fresh, Good, TooLong, BadStart, kept_after, apdu_of, llc, from_client, from_meter, is_more}
 use Rattle.dlms_link.specs.Parameters.{size_of, information_of, own_parameters}
@@ -58,12 +58,12 @@ abbrev pub to_client : Client → Address → ℕ → Bool → List ℕ → Part
 to_client who from octet segmented info = record { segmented = segmented; dest = One (sap_of who); src = from; control = octet; info = info }
 
 -- an SNRM brings the link up, where its parameters are read
-abbrev pub row_of_snrm : Option ℕ → Row
+abbrev pub row_of_snrm : Option ℕ → ServerRow
 row_of_snrm (Some size) = Connects size
 row_of_snrm None = Refuses
 
 -- the size that an SNRM's row names is in range
-abbrev pub HasSize : Row → Type 0
+abbrev pub HasSize : ServerRow → Type 0
 HasSize (Connects size) = (32 ≤ size) × (size ≤ MOST_BYTES)
 HasSize Refuses = Unit {0}
 HasSize Disconnects = Unit {0}
@@ -81,7 +81,7 @@ was_information (WasReady f) = false
 was_information (WasInformation f) = true
 
 -- the row of a frame that comes while the link is up, tried from above
-abbrev pub row_while_up : ServerRecord → Bool → List ℕ → Control → Row
+abbrev pub row_while_up : ServerRecord → Bool → List ℕ → Control → ServerRow
 row_while_up r segmented info Snrm = row_of_snrm (size_of info)
 row_while_up r segmented info Disc = Disconnects
 row_while_up r segmented info (Information send receive) =
@@ -98,7 +98,7 @@ row_while_up r segmented info Dm = Ignores
 row_while_up r segmented info Other = Ignores
 
 -- the row of a frame that comes while the link is down
-abbrev pub row_while_down : List ℕ → Control → Row
+abbrev pub row_while_down : List ℕ → Control → ServerRow
 row_while_down info Snrm = row_of_snrm (size_of info)
 row_while_down info Disc = Refuses
 row_while_down info (Information send receive) = Refuses
@@ -109,7 +109,7 @@ row_while_down info Dm = Ignores
 row_while_down info Other = Ignores
 
 -- frames for others are ignored
-unfoldable pub row_of : ServerRecord → Parts → Row
+unfoldable pub row_of : ServerRecord → Parts → ServerRow
 row_of r f =
     if is_meter f.dest && is_client r.client f.src
     then (if r.up then row_while_up r f.segmented f.info (control_of f.control) else row_while_down f.info (control_of f.control))
@@ -140,7 +140,7 @@ abbrev pub ready_frame : ServerRecord → Address → Parts
 ready_frame r from = to_client r.client from (ready_octet r.receive_next) false []
 
 -- each row: what comes out, and the record after it
-abbrev pub by_row : ServerRecord → Parts → Row → ServerRecord × LinkOut
+abbrev pub by_row : ServerRecord → Parts → ServerRow → ServerRecord × LinkOut
 by_row r f (Connects size) = (
   record { client = r.client; up = true; send_next = 0; receive_next = 0; last = NoAnswer; took_information = false; kept = Fresh; apdu = []; unsent = []; size = size; waits = None },
   Up (to_client r.client f.dest UA false (information_of (own_parameters size))),

@@ -2,8 +2,8 @@
 use Rattle.std.specs.Prelude.{◌≡◌, ℕ, ◌≤◌, List, [], ◌∷◌, ◌++◌, length, Option, None, Some}
 use Rattle.dlms_frame.specs.declared.client.Client.{Client}
 use Rattle.dlms_frame.specs.Frame.{Parts}
-use Rattle.dlms_link.specs.declared.out.Phase.{Phase}
-use Rattle.dlms_link.specs.declared.out.Phase.TheVariants.{Closed, Connecting, Open, Closing}
+use Rattle.dlms_link.specs.declared.phase.Phase.{Phase}
+use Rattle.dlms_link.specs.declared.phase.Phase.TheVariants.{Closed, Connecting, Open, Closing}
 use Rattle.dlms_link.specs.declared.out.LinkOut.{LinkOut}
 use Rattle.dlms_link.specs.declared.out.LinkOut.TheVariants.{Nothing, Reply, Apdu, Oversize, BadLlc, Up, Down}
 use Rattle.dlms_link.specs.declared.out.ClientOut.{ClientOut}
@@ -12,7 +12,7 @@ use Rattle.dlms_link.specs.Server.{ServerRecord, fresh_server, server_on, server
 use Rattle.dlms_link.specs.Client.{ClientRecord, fresh_client, client_connect, client_disconnect, client_send, client_step, client_timeout, snrm_of, disc_of}
 use Rattle.dlms_link.specs.declared.kept.TheConstants.{MOST_APDU}
 
-pub record World : Type 0 where
+pub record LinkWorld : Type 0 where
   pub meter : ServerRecord
   pub client : ClientRecord
   -- the frames that are on the way, the oldest first
@@ -26,38 +26,38 @@ pub record World : Type 0 where
   pub taken : List (List ℕ)
 
 -- what may happen next. A loss is that of the oldest frame: a later one is lost when it has become the oldest
-pub data Event : Type 0 where
-  Connect : Event
-  Give : (apdu : List ℕ) → length apdu ≤ MOST_APDU → Event
-  Disconnect : Event
+pub data LinkEvent : Type 0 where
+  Connect : LinkEvent
+  Give : (apdu : List ℕ) → length apdu ≤ MOST_APDU → LinkEvent
+  Disconnect : LinkEvent
   -- the oldest frame reaches the meter, which is given this answer where it waits for one
-  ReachesMeter : (answer : List ℕ) → length answer ≤ MOST_APDU → Event
-  ReachesClient : Event
-  LostUp : Event
-  LostDown : Event
-  TimesOut : Event
+  ReachesMeter : (answer : List ℕ) → length answer ≤ MOST_APDU → LinkEvent
+  ReachesClient : LinkEvent
+  LostUp : LinkEvent
+  LostDown : LinkEvent
+  TimesOut : LinkEvent
   -- the meter stops and comes back with its link down; what is on the line stays
-  Restarts : Event
+  Restarts : LinkEvent
   -- another hand sends a frame while the client's link is closed: the meter takes it at once, and its answer reaches nobody
-  Intrudes : (frame : Parts) → (answer : List ℕ) → Event
+  Intrudes : (frame : Parts) → (answer : List ℕ) → LinkEvent
   -- a new client takes the place of the old one, in whatever state that is, once nothing is on the line
-  TakesOver : Event
+  TakesOver : LinkEvent
 
-abbrev pub connects : World → Phase → World
+abbrev pub connects : LinkWorld → Phase → LinkWorld
 connects w Closed = record w { client = client_connect w.client; up_line = w.up_line ++ snrm_of w.client ∷ []; asked = []; served = []; answers = []; taken = [] }
 connects w Connecting = w
 connects w Open = w
 connects w Closing = w
 
 -- `send` and `disconnect` ask for an up link that awaits nothing
-abbrev pub gives : World → List ℕ → Phase → Option Parts → World
+abbrev pub gives : LinkWorld → List ℕ → Phase → Option Parts → LinkWorld
 gives w apdu Open None = record w { client = (client_send w.client apdu).0; up_line = w.up_line ++ (client_send w.client apdu).1 ∷ []; asked = w.asked ++ apdu ∷ [] }
 gives w apdu Open (Some f) = w
 gives w apdu Closed waits = w
 gives w apdu Connecting waits = w
 gives w apdu Closing waits = w
 
-abbrev pub disconnects : World → Phase → Option Parts → World
+abbrev pub disconnects : LinkWorld → Phase → Option Parts → LinkWorld
 disconnects w Open None = record w { client = client_disconnect w.client; up_line = w.up_line ++ disc_of w.client ∷ [] }
 disconnects w Open (Some f) = w
 disconnects w Closed waits = w
@@ -65,10 +65,10 @@ disconnects w Connecting waits = w
 disconnects w Closing waits = w
 
 -- the meter sends its answer
-abbrev pub replies : World → List ℕ → World
+abbrev pub replies : LinkWorld → List ℕ → LinkWorld
 replies w answer = record w { meter = (server_send w.meter answer).0; down_line = w.down_line ++ (server_send w.meter answer).1 ∷ []; answers = w.answers ++ answer ∷ [] }
 
-abbrev pub meter_does : World → List ℕ → LinkOut → World
+abbrev pub meter_does : LinkWorld → List ℕ → LinkOut → LinkWorld
 meter_does w answer Nothing = w
 meter_does w answer (Reply f) = record w { down_line = w.down_line ++ f ∷ [] }
 meter_does w answer (Up f) = record w { down_line = w.down_line ++ f ∷ [] }
@@ -77,18 +77,18 @@ meter_does w answer Apdu = replies (record w { served = w.served ++ w.meter.apdu
 meter_does w answer Oversize = replies w answer
 meter_does w answer BadLlc = replies w answer
 
-abbrev pub reaches_meter : World → List ℕ → List Parts → World
+abbrev pub reaches_meter : LinkWorld → List ℕ → List Parts → LinkWorld
 reaches_meter w answer [] = w
 reaches_meter w answer (f ∷ rest) = let done = server_on w.meter f in meter_does (record w { meter = done.0; up_line = rest }) answer done.1
 
-abbrev pub client_does : World → ClientOut → World
+abbrev pub client_does : LinkWorld → ClientOut → LinkWorld
 client_does w NothingTaken = w
 client_does w IsUp = w
 client_does w (Send f) = record w { up_line = w.up_line ++ f ∷ [] }
 client_does w ApduTaken = record w { taken = w.taken ++ w.client.apdu ∷ [] }
 client_does w IsDown = w
 
-abbrev pub reaches_client : World → List Parts → World
+abbrev pub reaches_client : LinkWorld → List Parts → LinkWorld
 reaches_client w [] = w
 reaches_client w (f ∷ rest) = let done = client_step w.client f in client_does (record w { client = done.0; down_line = rest }) done.1
 
@@ -101,10 +101,10 @@ abbrev pub resent : Option Parts → List Parts
 resent None = []
 resent (Some f) = f ∷ []
 
-abbrev pub timed_out : World → ClientRecord × Option Parts → World
+abbrev pub timed_out : LinkWorld → ClientRecord × Option Parts → LinkWorld
 timed_out w done = record w { client = done.0; up_line = resent done.1 }
 
-abbrev pub times_out : World → Option Parts → List Parts → List Parts → World
+abbrev pub times_out : LinkWorld → Option Parts → List Parts → List Parts → LinkWorld
 times_out w (Some f) [] [] = timed_out w (client_timeout w.client)
 times_out w (Some f) [] (g ∷ down) = w
 times_out w (Some f) (g ∷ up) down = w
@@ -123,18 +123,18 @@ settled r answer BadLlc = (server_send r answer).0
 abbrev pub after_both : ServerRecord × LinkOut → List ℕ → ServerRecord
 after_both done answer = settled done.0 answer done.1
 
-abbrev pub intrudes : World → Parts → List ℕ → Phase → World
+abbrev pub intrudes : LinkWorld → Parts → List ℕ → Phase → LinkWorld
 intrudes w frame answer Closed = record w { meter = after_both (server_on w.meter frame) answer }
 intrudes w frame answer Connecting = w
 intrudes w frame answer Open = w
 intrudes w frame answer Closing = w
 
-abbrev pub takes_over : World → List Parts → List Parts → World
+abbrev pub takes_over : LinkWorld → List Parts → List Parts → LinkWorld
 takes_over w [] [] = record w { client = fresh_client w.client.client }
 takes_over w [] (g ∷ down) = w
 takes_over w (g ∷ up) down = w
 
-abbrev pub happens : World → Event → World
+abbrev pub happens : LinkWorld → LinkEvent → LinkWorld
 happens w Connect = connects w w.client.phase
 happens w (Give apdu short) = gives w apdu w.client.phase w.client.waits
 happens w Disconnect = disconnects w w.client.phase w.client.waits
@@ -148,11 +148,11 @@ happens w TakesOver = takes_over w w.up_line w.down_line
 happens w TimesOut = times_out w w.client.waits w.up_line w.down_line
 
 -- a whole run
-abbrev pub run : List Event → World → World
+abbrev pub run : List LinkEvent → LinkWorld → LinkWorld
 run [] w = w
 run (e ∷ es) w = run es (happens w e)
 
-abbrev pub start : Client → World
+abbrev pub start : Client → LinkWorld
 start who = record { meter = fresh_server who; client = fresh_client who; up_line = []; down_line = []; asked = []; served = []; answers = []; taken = [] }
 
 -- xs is a beginning of ys

@@ -4,12 +4,13 @@ ghost use Rattle.std.specs.Prelude.{◌≡◌, ◌≤◌, ◌<◌, ℕ, ◌↔�
 ghost use Rattle.dlms_link.specs.Client.{IsDown, IsIdle, StandsAfter, fresh_client, to_meter, client_connect, client_disconnect, client_send, client_step, client_timeout, client_segment, after_client_segment, client_ready, snrm_of, disc_of, closed, connected, out, way_of, is_answer, is_server, takes, by_way, on_counted};
 ghost use Rattle.dlms_link.specs.Server.{is_client};
 
+use crate::client_row::ClientRow;
 use crate::control::{Control, DISC, SNRM, before, information_octet, next, read, ready_octet};
 use crate::kept::{Assembly, DESTINATION, FROM_CLIENT, FROM_METER, MOST_APDU, Progress, QUALITY};
-use crate::out::{ClientOut, Phase};
+use crate::out::ClientOut;
+use crate::phase::Phase;
 use crate::segments::{MOST_BYTES, cut};
 use crate::server::is_client;
-use crate::way::Way;
 use arrayvec::ArrayVec;
 use dlms_frame::{Address, Client, Frame};
 use std::marker::Model;
@@ -207,42 +208,42 @@ impl ClientLink {
 
     /// What an open link does with an I or an RR.
     #[tactic(auto, unfolding(crate::specs::Client::way_of))]
-    fn way(&self, control: Control) -> Way
+    fn way(&self, control: Control) -> ClientRow
         ensures { result ≡ way_of self.now control }
     {
         match control {
             Control::Information(send, receive) => {
                 if send == self.receive_next && receive == self.send_next {
-                    Way::Takes
+                    ClientRow::Takes
                 } else if send == before(self.receive_next) {
-                    Way::TakenBefore
+                    ClientRow::TakenBefore
                 } else {
-                    Way::Leaves
+                    ClientRow::Leaves
                 }
             }
             Control::Ready(receive) => {
                 if receive == self.send_next && !self.unsent.is_empty() {
-                    Way::LetsNext
+                    ClientRow::LetsNext
                 } else {
-                    Way::Leaves
+                    ClientRow::Leaves
                 }
             }
-            _ => Way::Leaves,
+            _ => ClientRow::Leaves,
         }
     }
 
-    fn by_way(&mut self, frame: &Frame, way: Way) -> ClientOut
+    fn by_way(&mut self, frame: &Frame, way: ClientRow) -> ClientOut
         ensures out { result ≡ (by_way self.old frame.now way).1 }
         ensures after { self.new ≡ (by_way self.old frame.now way).0 }
     {
         match way {
-            Way::Takes => {
+            ClientRow::Takes => {
                 self.kept.take(FROM_METER, frame.info.as_slice());
                 self.takes(frame.segmented)
             }
-            Way::TakenBefore => ClientOut::Send(self.ready()),
-            Way::LetsNext => ClientOut::Send(self.segment()),
-            Way::Leaves => ClientOut::Nothing,
+            ClientRow::TakenBefore => ClientOut::Send(self.ready()),
+            ClientRow::LetsNext => ClientOut::Send(self.segment()),
+            ClientRow::Leaves => ClientOut::Nothing,
         }
     }
 

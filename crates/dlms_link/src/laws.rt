@@ -2,26 +2,26 @@
 
 ghost use Rattle.std.specs.Prelude.{◌≡◌, ◌≤◌, ◌<◌, ◌∷◌, ◌++◌, ◌⊎◌, ℕ, List, [], length, map, Some};
 ghost use Rattle.dlms_frame.specs.declared.client.Client.{Client};
-ghost use Rattle.dlms_link.specs.declared.row.Row.TheVariants.{HandsUp};
-ghost use Rattle.dlms_link.specs.declared.way.Way.TheVariants.{Takes};
+ghost use Rattle.dlms_link.specs.declared.server_row.ServerRow.TheVariants.{HandsUp};
+ghost use Rattle.dlms_link.specs.declared.client_row.ClientRow.TheVariants.{Takes};
 ghost use Rattle.dlms_link.specs.Kept.{Fresh, BadStart, llc, from_meter, from_client, capped, apdu_of};
 ghost use Rattle.dlms_link.specs.Parameters.{Parameter, IsInformation, greatest_received, capped_size, size_of};
 ghost use Rattle.dlms_link.specs.Segments.{joined, kept_after_all, read_whole, IsSegmented, IsUnderWay};
-ghost use Rattle.dlms_link.specs.Between.{MeterGoes, GoesOn, BeginsAnew, IsAnew, IsByWay, Heard, ClientGoes};
+ghost use Rattle.dlms_link.specs.Between.{MeterGoes, GoesOn, BeginsAnew, IsAnew, IsByWay, Heard, ClientGoes, ClientGoesOn, ClientBeginsAnew, IsAnewForClient, client_hears};
 ghost use Rattle.dlms_frame.specs.Frame.{Parts};
 ghost use Rattle.dlms_link.specs.Server.{ServerRecord, answered, link_step, row_of, server_on, server_send, told};
 ghost use Rattle.dlms_link.specs.Client.{ClientRecord, client_send, client_step, takes};
 ghost use Rattle.dlms_link.specs.Line.{ApdusComeUp, LineIsSilent, OneFrameAtMost};
-ghost use Rattle.dlms_link.specs.World.{Event, run, start, IsBeginningOf};
+ghost use Rattle.dlms_link.specs.World.{LinkEvent, run, start, IsBeginningOf};
 ghost use Rattle.dlms_link.specs.declared.segments.TheConstants.{MOST_BYTES};
 
 /// Over a line that loses any frames, and in which a time-out comes only where nothing is on the
 /// line, what each end gives up during a connection is a beginning of what the other was given to
 /// send, each APDU once and in order.
 pub fn in_order()
-    ensures to_meter { (who : Client) (events : List Event) → IsBeginningOf (run events (start who)).served (run events (start who)).asked }
-    ensures to_client { (who : Client) (events : List Event) → IsBeginningOf (run events (start who)).taken (run events (start who)).answers }
-    ensures in_step { (who : Client) (events : List Event) → length (run events (start who)).served ≡ length (run events (start who)).answers }
+    ensures to_meter { (who : Client) (events : List LinkEvent) → IsBeginningOf (run events (start who)).served (run events (start who)).asked }
+    ensures to_client { (who : Client) (events : List LinkEvent) → IsBeginningOf (run events (start who)).taken (run events (start who)).answers }
+    ensures in_step { (who : Client) (events : List LinkEvent) → length (run events (start who)).served ≡ length (run events (start who)).answers }
 {}
 
 /// In every such run an APDU is handed up only where the meter's end is up and the client's link is open; where the client
@@ -52,7 +52,8 @@ pub fn parameters_are_read()
 
 /// Whatever comes to an end between two APDUs: what it tells of the second is what the segments taken of it, joined, are.
 /// Frames that are ignored, answers that are asked for again, segments of an answer and time-outs may stand between.
-/// Each list of frames goes on so to its end, or is cut where the link comes up or an APDU is whole; there nothing is kept.
+/// Each list of frames, and each of frames and silences at the client's end, goes on so to its end, or is cut where the link
+/// comes up or, at the client's end, down, or an APDU is whole; there nothing is kept.
 pub fn segments_are_taken()
     ensures meter { (r now : ServerRecord) (frames sent : List Parts) (taken : List (List ℕ)) (f : Parts) → MeterGoes r frames taken sent now → r.kept ≡ Fresh → row_of now f ≡ HandsUp
         → ((server_on now f).1 ≡ told (kept_after_all from_client Fresh (taken ++ f.info ∷ []))) × ((server_on now f).0.apdu ≡ apdu_of (kept_after_all from_client Fresh (taken ++ f.info ∷ []))) }
@@ -60,6 +61,8 @@ pub fn segments_are_taken()
         → client_step now f ≡ takes now f.segmented (kept_after_all from_meter Fresh (taken ++ f.info ∷ [])) }
     ensures cut { (r : ServerRecord) (frames : List Parts) → GoesOn r frames ⊎ BeginsAnew r frames }
     ensures anew { (r : ServerRecord) (f : Parts) → IsAnew (row_of r f) → (server_on r f).0.kept ≡ Fresh }
+    ensures client_cut { (c : ClientRecord) (heard : List Heard) → ClientGoesOn c heard ⊎ ClientBeginsAnew c heard }
+    ensures client_anew { (c : ClientRecord) (h : Heard) → IsAnewForClient c h → (client_hears c h).kept ≡ Fresh }
     ensures answered { (r : ServerRecord) (answer : List ℕ) → (server_send r answer).0.kept ≡ r.kept }
 {}
 

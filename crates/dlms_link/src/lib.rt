@@ -2,15 +2,17 @@
 #![tactic(auto)]
 
 mod client;
+mod client_row;
 mod control;
 mod kept;
+mod last_answer;
 pub mod laws;
 mod out;
 mod parameters;
-mod row;
+mod phase;
 mod segments;
 mod server;
-mod way;
+mod server_row;
 
 pub use client::{ClientLink, LineFault};
 pub use out::{ClientOut, LinkOut};

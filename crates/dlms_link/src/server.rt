@@ -7,10 +7,11 @@ ghost use Rattle.dlms_link.specs.Server.{again, fresh_server, is_meter, is_clien
 
 use crate::control::{Control, DM, UA, before, information_octet, next, read, ready_octet};
 use crate::kept::{Assembly, DESTINATION, FROM_CLIENT, FROM_METER, MOST_APDU, QUALITY};
-use crate::out::{Answer, LinkOut};
+use crate::last_answer::Answer;
+use crate::out::LinkOut;
 use crate::parameters::{parameters, size_of};
-use crate::row::Row;
 use crate::segments::{MOST_BYTES, cut};
+use crate::server_row::ServerRow;
 use arrayvec::ArrayVec;
 use dlms_frame::{Address, Client, Frame};
 use std::marker::Model;
@@ -126,12 +127,12 @@ impl ServerLink {
 
     /// The row of the table that a frame fits.
     #[tactic(auto, unfolding(crate::specs::Server::row_of))]
-    fn row(&self, frame: &Frame) -> Row
+    fn row(&self, frame: &Frame) -> ServerRow
         ensures row { result ≡ row_of self.now frame.now }
         ensures size { HasSize result }
     {
         if !(is_meter(frame.dest) && is_client(self.client, frame.src)) {
-            return Row::Ignores;
+            return ServerRow::Ignores;
         }
         let control = read(frame.control);
         if self.up {
@@ -142,36 +143,40 @@ impl ServerLink {
     }
 
     /// The row of a frame that comes while the link is up.
-    fn row_while_up(&self, segmented: bool, info: &[u8], control: Control) -> Row
+    fn row_while_up(&self, segmented: bool, info: &[u8], control: Control) -> ServerRow
         ensures row { result ≡ row_while_up self.now segmented info.now control }
         ensures size { HasSize result }
     {
         match control {
             Control::Snrm => row_of_snrm(info),
-            Control::Disc => Row::Disconnects,
+            Control::Disc => ServerRow::Disconnects,
             Control::Information(send, receive) => {
                 if send == self.receive_next && receive == self.send_next {
-                    if segmented { Row::Keeps } else { Row::HandsUp }
+                    if segmented {
+                        ServerRow::Keeps
+                    } else {
+                        ServerRow::HandsUp
+                    }
                 } else if send == before(self.receive_next) && self.took_information {
-                    Row::Repeats
+                    ServerRow::Repeats
                 } else {
-                    Row::Ignores
+                    ServerRow::Ignores
                 }
             }
             Control::Ready(receive) => {
                 if receive == self.send_next {
                     if self.unsent.is_empty() {
-                        Row::SaysReady
+                        ServerRow::SaysReady
                     } else {
-                        Row::SendsNext
+                        ServerRow::SendsNext
                     }
                 } else if receive == before(self.send_next) && was_information(&self.last) {
-                    Row::Repeats
+                    ServerRow::Repeats
                 } else {
-                    Row::Ignores
+                    ServerRow::Ignores
                 }
             }
-            Control::NotReady | Control::Ua | Control::Dm | Control::Other => Row::Ignores,
+            Control::NotReady | Control::Ua | Control::Dm | Control::Other => ServerRow::Ignores,
         }
     }
 
@@ -228,15 +233,15 @@ impl ServerLink {
         ensures client { self.new.client ≡ self.old.client }
     {
         match self.row(frame) {
-            Row::Connects(size) => self.connects(frame, size),
-            Row::Refuses => self.refuses(frame),
-            Row::Disconnects => self.disconnects(frame),
-            Row::Keeps => self.keeps(frame),
-            Row::HandsUp => self.hands_up(frame),
-            Row::Repeats => again(&self.last),
-            Row::SendsNext => self.sends_next(frame),
-            Row::SaysReady => self.says_ready(frame),
-            Row::Ignores => LinkOut::Nothing,
+            ServerRow::Connects(size) => self.connects(frame, size),
+            ServerRow::Refuses => self.refuses(frame),
+            ServerRow::Disconnects => self.disconnects(frame),
+            ServerRow::Keeps => self.keeps(frame),
+            ServerRow::HandsUp => self.hands_up(frame),
+            ServerRow::Repeats => again(&self.last),
+            ServerRow::SendsNext => self.sends_next(frame),
+            ServerRow::SaysReady => self.says_ready(frame),
+            ServerRow::Ignores => LinkOut::Nothing,
         }
     }
 
@@ -245,8 +250,8 @@ impl ServerLink {
         requires least { 32 ≤ size }
         requires most { size ≤ MOST_BYTES }
         requires idle { self.old.waits ≡ None }
-        ensures out { result ≡ (by_row self.old frame.now (Row.Connects size)).1 }
-        ensures after { self.new ≡ (by_row self.old frame.now (Row.Connects size)).0 }
+        ensures out { result ≡ (by_row self.old frame.now (ServerRow.Connects size)).1 }
+        ensures after { self.new ≡ (by_row self.old frame.now (ServerRow.Connects size)).0 }
     {
         let client = self.client;
         *self = ServerLink::connected(client, size);
@@ -255,8 +260,8 @@ impl ServerLink {
 
     /// The link is down, or comes down for an SNRM that can't be met.
     fn refuses(&mut self, frame: &Frame) -> LinkOut
-        ensures out { result ≡ (by_row self.old frame.now Row.Refuses).1 }
-        ensures after { self.new ≡ (by_row self.old frame.now Row.Refuses).0 }
+        ensures out { result ≡ (by_row self.old frame.now ServerRow.Refuses).1 }
+        ensures after { self.new ≡ (by_row self.old frame.now ServerRow.Refuses).0 }
     {
         self.up = false;
         LinkOut::Down(to_client(self.client, frame.dest, DM, false, &[]))
@@ -264,8 +269,8 @@ impl ServerLink {
 
     /// The link comes down, as the client wants it.
     fn disconnects(&mut self, frame: &Frame) -> LinkOut
-        ensures out { result ≡ (by_row self.old frame.now Row.Disconnects).1 }
-        ensures after { self.new ≡ (by_row self.old frame.now Row.Disconnects).0 }
+        ensures out { result ≡ (by_row self.old frame.now ServerRow.Disconnects).1 }
+        ensures after { self.new ≡ (by_row self.old frame.now ServerRow.Disconnects).0 }
     {
         self.up = false;
         LinkOut::Down(to_client(self.client, frame.dest, UA, false, &[]))
@@ -273,8 +278,8 @@ impl ServerLink {
 
     /// A segment is kept.
     fn keeps(&mut self, frame: &Frame) -> LinkOut
-        ensures out { result ≡ (by_row self.old frame.now Row.Keeps).1 }
-        ensures after { self.new ≡ (by_row self.old frame.now Row.Keeps).0 }
+        ensures out { result ≡ (by_row self.old frame.now ServerRow.Keeps).1 }
+        ensures after { self.new ≡ (by_row self.old frame.now ServerRow.Keeps).0 }
     {
         self.receive_next = next(self.receive_next);
         self.took_information = true;
@@ -284,8 +289,8 @@ impl ServerLink {
 
     /// The APDU is whole, and is handed up.
     fn hands_up(&mut self, frame: &Frame) -> LinkOut
-        ensures out { result ≡ (by_row self.old frame.now Row.HandsUp).1 }
-        ensures after { self.new ≡ (by_row self.old frame.now Row.HandsUp).0 }
+        ensures out { result ≡ (by_row self.old frame.now ServerRow.HandsUp).1 }
+        ensures after { self.new ≡ (by_row self.old frame.now ServerRow.HandsUp).0 }
     {
         self.receive_next = next(self.receive_next);
         self.took_information = true;
@@ -299,8 +304,8 @@ impl ServerLink {
 
     /// The next segment of the answer goes out.
     fn sends_next(&mut self, frame: &Frame) -> LinkOut
-        ensures out { result ≡ (by_row self.old frame.now Row.SendsNext).1 }
-        ensures after { self.new ≡ (by_row self.old frame.now Row.SendsNext).0 }
+        ensures out { result ≡ (by_row self.old frame.now ServerRow.SendsNext).1 }
+        ensures after { self.new ≡ (by_row self.old frame.now ServerRow.SendsNext).0 }
     {
         self.took_information = false;
         LinkOut::Reply(self.segment(frame.dest))
@@ -308,8 +313,8 @@ impl ServerLink {
 
     /// No segment is left: an RR goes out.
     fn says_ready(&mut self, frame: &Frame) -> LinkOut
-        ensures out { result ≡ (by_row self.old frame.now Row.SaysReady).1 }
-        ensures after { self.new ≡ (by_row self.old frame.now Row.SaysReady).0 }
+        ensures out { result ≡ (by_row self.old frame.now ServerRow.SaysReady).1 }
+        ensures after { self.new ≡ (by_row self.old frame.now ServerRow.SaysReady).0 }
     {
         self.took_information = false;
         LinkOut::Reply(self.ready(frame.dest))
@@ -347,26 +352,26 @@ impl ServerLink {
 }
 
 /// The row of an SNRM.
-fn row_of_snrm(info: &[u8]) -> Row
+fn row_of_snrm(info: &[u8]) -> ServerRow
     ensures row { result ≡ row_of_snrm (size_of info.now) }
     ensures size { HasSize result }
 {
     match size_of(info) {
-        Some(size) => Row::Connects(size),
-        None => Row::Refuses,
+        Some(size) => ServerRow::Connects(size),
+        None => ServerRow::Refuses,
     }
 }
 
 /// The row of a frame that comes while the link is down.
-fn row_while_down(info: &[u8], control: Control) -> Row
+fn row_while_down(info: &[u8], control: Control) -> ServerRow
     ensures row { result ≡ row_while_down info.now control }
     ensures size { HasSize result }
 {
     match control {
         Control::Snrm => row_of_snrm(info),
         Control::Disc | Control::Information(_, _) | Control::Ready(_) | Control::NotReady => {
-            Row::Refuses
+            ServerRow::Refuses
         }
-        Control::Ua | Control::Dm | Control::Other => Row::Ignores,
+        Control::Ua | Control::Dm | Control::Other => ServerRow::Ignores,
     }
 }

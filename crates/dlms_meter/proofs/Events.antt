@@ -3,11 +3,11 @@ use Rattle.std.proofs.Common.{◌≡◌, ◌⊎◌, inl, inr, refl, sym, ◌∙�
 use Rattle.dlms_state.specs.declared.event.Event.{Event}
 use Rattle.dlms_service.specs.Serves.{Choice as Memory}
 use Rattle.dlms_service.specs.Stake.{is_success}
-use Rattle.dlms_store.specs.World.{World as StoreWorld, Step as StoreStep, Next, Run as StoreRun}
-use Rattle.dlms_store.specs.World.World.{Runs, InDoubt, Rests}
-use Rattle.dlms_store.specs.World.Step.{Settles, Fails as Fault, Refuses}
+use Rattle.dlms_store.specs.World.{StoreWorld, StoreStep, Next, StoreRun}
+use Rattle.dlms_store.specs.World.StoreWorld.{Runs, InDoubt, Rests}
+use Rattle.dlms_store.specs.World.StoreStep.{Settles, Fails as Fault, Refuses}
 use Rattle.dlms_store.specs.Going.{IsAdd}
-use Rattle.dlms_meter.specs.Run.{World, Turn, Choice, Served, DeviceFails, IsTurn, IsTaking, IsSettling, StoredFor, Stored, events_in, events_of, after_turn}
+use Rattle.dlms_meter.specs.Run.{MeterWorld, Turn, Choice, Served, DeviceFails, IsTurn, IsTaking, IsSettling, StoredFor, Stored, events_in, events_of, after_turn}
 
 pub added_one : (step : StoreStep) (event : Event) (before now : StoreWorld) → IsAdd event step → Next before step now → events_in now ≡ events_in before ++ event ∷ []
 added_one step event (Runs s p) now (inl e) next = (let n = subst (λ (x : StoreStep). Next (Runs s p) x now) e next in ap events_in n.0 ∙ sym (append_assoc s p (event ∷ [])))
@@ -67,7 +67,7 @@ stored_events (Served memory) (Some bytes) accepted steps before now stored run 
 stored_events (DeviceFails kept) (Some bytes) accepted steps before now (taking, last, is, which, same) run = behind accepted taking last steps before now is same run (unsettled last now which)
 
 -- the events after a turn
-pub turn_events : (w : World) (turn : Turn) → IsTurn w turn → events_of (after_turn w turn) ≡ events_of w ++ turn.accepted
+pub turn_events : (w : MeterWorld) (turn : Turn) → IsTurn w turn → events_of (after_turn w turn) ≡ events_of w ++ turn.accepted
 turn_events w turn is = stored_events turn.choice turn.answer turn.accepted turn.steps w.store turn.store is.stored is.run
 
 -- ---- what was taken and settled leads to one world

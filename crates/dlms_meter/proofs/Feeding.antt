@@ -16,14 +16,14 @@ use Rattle.dlms_service.specs.Stake.{is_success, fails, stake_of}
 use Rattle.dlms_service.specs.declared.stake.Stake.{Stake}
 use Rattle.dlms_service.specs.declared.stake.Stake.TheVariants.{Get, Next as NextBlock, Set, SetLast, Action}
 use Rattle.dlms_state.specs.declared.event.Event.{Event}
-use Rattle.dlms_store.specs.World.{World as StoreWorld, Step as StoreStep, Next, Run as StoreRun}
-use Rattle.dlms_store.specs.World.World.{Runs, InDoubt, Rests}
-use Rattle.dlms_store.specs.World.Step.{Settles}
+use Rattle.dlms_store.specs.World.{StoreWorld, StoreStep, Next, StoreRun}
+use Rattle.dlms_store.specs.World.StoreWorld.{Runs, InDoubt, Rests}
+use Rattle.dlms_store.specs.World.StoreStep.{Settles}
 use Rattle.dlms_store.specs.Going.{Goes}
 use Rattle.dlms_store.proofs.Going.{none}
 use Rattle.dlms_meter.specs.ClientRecord.{ClientRecord}
 use Rattle.dlms_meter.specs.declared.meter.Meter.{Meter}
-use Rattle.dlms_meter.specs.Run.{World, Records, Turn, Choice, Served, DeviceFails, Handled, Handles, Answered, Takes, IsSettling, StoredFor, Stored, pending_in, Feeds, Stands, Handling, Replies, MayChoose, client_at, other_of, record_for, with_record, after_turn, grown, events_of}
+use Rattle.dlms_meter.specs.Run.{MeterWorld, Records, Turn, Choice, Served, DeviceFails, Handled, Handles, Answered, Takes, IsSettling, StoredFor, Stored, pending_in, Feeds, Stands, Handling, Replies, MayChoose, client_at, other_of, record_for, with_record, after_turn, grown, events_of}
 use Rattle.dlms_meter.proofs.RunLemmas.{none_ended}
 
 -- ---- an answer of success leaves nothing pending
@@ -68,7 +68,7 @@ promised (DeviceFails kept) (Some bytes) accepted steps before now fails stored 
 
 -- ---- a frame
 
-record Led {P A : Type 0} {ghosts : Ghosts P} (w : World) (f : Parts) (reply : Option (List ℕ)) (old new : Meter P A ghosts) (who : Option Client) : Type 0 where
+record Led {P A : Type 0} {ghosts : Ghosts P} (w : MeterWorld) (f : Parts) (reply : Option (List ℕ)) (old new : Meter P A ghosts) (who : Option Client) : Type 0 where
   choice : Choice
   records : Records
   answer : Option (List ℕ)
@@ -84,7 +84,7 @@ record Led {P A : Type 0} {ghosts : Ghosts P} (w : World) (f : Parts) (reply : O
   goes : Goes w.store steps now old.store new.store
   short : IfSome answer (λ bytes. length bytes ≤ 1024)
 
-promised_by : {P A : Type 0} {ghosts : Ghosts P} (own : ClientRecord) (f : Parts) (reply : Option (List ℕ)) (w : World) (old new : Meter P A ghosts) (own' : ClientRecord) (h : Handling own f reply own' w.store old.store new.store)
+promised_by : {P A : Type 0} {ghosts : Ghosts P} (own : ClientRecord) (f : Parts) (reply : Option (List ℕ)) (w : MeterWorld) (old new : Meter P A ghosts) (own' : ClientRecord) (h : Handling own f reply own' w.store old.store new.store)
     → IfSome h.answer (λ bytes. is_success bytes ≡ true → pending_in h.now ≡ [])
 promised_by own f reply w old new own' h =
     let made : Handled = record { own = own'; reply = reply; answer = h.answer; accepted = h.accepted } in
@@ -93,14 +93,14 @@ promised_by own f reply w old new own' h =
     h.stored h.goes.run
 
 -- each client's record, where one of them changed
-own_records : {P A : Type 0} {ghosts : Ghosts P} (who : Client) (w : World) (old new : Meter P A ghosts) → Stands old w → record_for new (other_of who) ≡ record_for old (other_of who)
+own_records : {P A : Type 0} {ghosts : Ghosts P} (who : Client) (w : MeterWorld) (old new : Meter P A ghosts) → Stands old w → record_for new (other_of who) ≡ record_for old (other_of who)
     → (c : Client) → with_record w.records who (record_for new who) c ≡ record_for new c
 own_records Public w old new stands other Public = refl
 own_records Public w old new stands other Management = stands.own Management ∙ sym other
 own_records Management w old new stands other Public = stands.own Public ∙ sym other
 own_records Management w old new stands other Management = refl
 
-led : {P A : Type 0} {ghosts : Ghosts P} (who : Option Client) (w : World) (f : Parts) (reply : Option (List ℕ)) (old new : Meter P A ghosts) → ((ghosts.view old.store.device).honest ≡ true → Rules (ghosts.view old.store.device))
+led : {P A : Type 0} {ghosts : Ghosts P} (who : Option Client) (w : MeterWorld) (f : Parts) (reply : Option (List ℕ)) (old new : Meter P A ghosts) → ((ghosts.view old.store.device).honest ≡ true → Rules (ghosts.view old.store.device))
     → Stands old w → Replies old f reply new who → Led w f reply old new who
 led None w f reply old new rules stands (same, silent) = record {
   choice = Served FindsMemory;
@@ -141,7 +141,7 @@ led (Some who) w f reply old new rules stands (handling, kept, other) =
 -- ---- calls
 
 abbrev with_kept : {P A : Type 0} → {ghosts : Ghosts P} → Meter P A ghosts → List ℕ → Meter P A ghosts
-with_kept m kept = record { alloc = m.alloc; deframer = kept; anyone = m.anyone; manager = m.manager; store = m.store }
+with_kept m kept = record { alloc = m.alloc; deframer = kept; public = m.public; management = m.management; store = m.store }
 
 -- one that ended no frame
 pub fed_none : {P A : Type 0} {ghosts : Ghosts P} (old : Meter P A ghosts) (taken kept : List ℕ) → ((ghosts.view old.store.device).honest ≡ true → Rules (ghosts.view old.store.device))
@@ -155,7 +155,7 @@ fed_none old taken kept rules takes = λ w stands.
       none w.store old.store rules stands.store,
     )
   where
-    by_client : (w : World) → Stands old w → (c : Client) → w.records c ≡ record_for (with_kept old kept) c
+    by_client : (w : MeterWorld) → Stands old w → (c : Client) → w.records c ≡ record_for (with_kept old kept) c
     by_client w stands Public = stands.own Public
     by_client w stands Management = stands.own Management
 
@@ -165,7 +165,7 @@ pub fed_one : {P A : Type 0} {ghosts : Ghosts P} (old : Meter P A ghosts) (taken
     → TakesBytes old.deframer taken (Some f) kept → Replies (with_kept old kept) f reply new (client_at f.src) → Feeds old taken reply new
 fed_one old taken kept f reply new rules takes replies = λ w stands.
     let found = takes w.stretch w.place stands.line in
-    let at : World = record { stretch = w.stretch ++ taken; place = found.1; records = w.records; store = w.store } in
+    let at : MeterWorld = record { stretch = w.stretch ++ taken; place = found.1; records = w.records; store = w.store } in
     let mid : Stands (with_kept old kept) at = record { line = found.4; own = by_client w stands; store = stands.store } in
     let leads = led (client_at f.src) at f reply (with_kept old kept) new rules mid replies in
     let turn : Turn = record { from = found.0; to = found.1; frame = f; choice = leads.choice; records = leads.records; reply = reply; answer = leads.answer; accepted = leads.accepted; steps = leads.steps; store = leads.now } in (
@@ -176,6 +176,6 @@ fed_one old taken kept f reply new rules takes replies = λ w stands.
       leads.goes,
     )
   where
-    by_client : (w : World) → Stands old w → (c : Client) → w.records c ≡ record_for (with_kept old kept) c
+    by_client : (w : MeterWorld) → Stands old w → (c : Client) → w.records c ≡ record_for (with_kept old kept) c
     by_client w stands Public = stands.own Public
     by_client w stands Management = stands.own Management

@@ -8,16 +8,16 @@ use Rattle.dlms_state.specs.declared.event.Refused.{Refused}
 use Rattle.dlms_state.specs.Refusal.{refusal, refusal_after}
 use Rattle.dlms_state.specs.StateValue.{StateValue, IsStateOf}
 use Rattle.dlms_store.specs.Store.{IsRunning, IsStopped, refusal_in, state_in}
-use Rattle.dlms_store.specs.World.{World as StoreWorld, Step as StoreStep, Next}
-use Rattle.dlms_store.specs.World.World.{Runs, InDoubt, Rests}
-use Rattle.dlms_store.specs.World.Step.{Fails as Fault, Refuses}
+use Rattle.dlms_store.specs.World.{StoreWorld, StoreStep, Next}
+use Rattle.dlms_store.specs.World.StoreWorld.{Runs, InDoubt, Rests}
+use Rattle.dlms_store.specs.World.StoreStep.{Fails as Fault, Refuses}
 use Rattle.dlms_store.specs.Going.{Knows, Goes}
 use Rattle.dlms_store.specs.declared.fault.AddFault.{AddFault}
 use Rattle.dlms_store.specs.declared.fault.AddFault.TheVariants as add
 use Rattle.dlms_store.specs.declared.store.Store.{Store}
 use Rattle.dlms_store.proofs.Going.{Added, add_goes}
 use Rattle.dlms_meter.specs.declared.meter.Meter.{Meter}
-use Rattle.dlms_meter.specs.Run.{World, Stands, Judged, JudgedFor, IsRunningIn, IsStoppedIn, with_store, events_in, record_for}
+use Rattle.dlms_meter.specs.Run.{MeterWorld, Stands, Judged, JudgedFor, IsRunningIn, IsStoppedIn, with_store, events_in, record_for}
 use Rattle.dlms_meter.proofs.RunLemmas.{state_known}
 
 not_true : (b : Bool) → (b ≡ true → ⊥) → b ≡ false
@@ -52,7 +52,7 @@ passes result event old new is runs unrefused =
     passes_by (refusal_in old event) (λ cause e. unrefused cause ((is.refused cause).1 (running, e)))
 
 -- the meter with the store's world changed
-stands_on : {P A : Type 0} {ghosts : Ghosts P} (w : World) (now : StoreWorld) (old new : Meter P A ghosts) → Stands old w → new.deframer ≡ old.deframer → ((who : Client) → record_for old who ≡ record_for new who)
+stands_on : {P A : Type 0} {ghosts : Ghosts P} (w : MeterWorld) (now : StoreWorld) (old new : Meter P A ghosts) → Stands old w → new.deframer ≡ old.deframer → ((who : Client) → record_for old who ≡ record_for new who)
     → Knows new.store now → Stands new (with_store w now)
 stands_on w now old new stands line own knows = record {
   line = subst (λ kept. Fits kept w.stretch w.place) (sym line) stands.line;
@@ -60,9 +60,9 @@ stands_on w now old new stands line own knows = record {
   store = knows;
 }
 
-pub judged : {P A : Type 0} {ghosts : Ghosts P} (result : Result (Unit {0}) AddFault) (event : Event) (w : World) (old new : Meter P A ghosts) → Stands old w → Added result event old.store new.store
+pub judged : {P A : Type 0} {ghosts : Ghosts P} (result : Result (Unit {0}) AddFault) (event : Event) (w : MeterWorld) (old new : Meter P A ghosts) → Stands old w → Added result event old.store new.store
     → new.deframer ≡ old.deframer → ((who : Client) → record_for old who ≡ record_for new who)
-    → (w' : World) × (step : StoreStep) × Judged w event result step w' × JudgedFor event result old.store new.store × Stands new w' × Goes w.store (step ∷ []) w'.store old.store new.store
+    → (w' : MeterWorld) × (step : StoreStep) × Judged w event result step w' × JudgedFor event result old.store new.store × Stands new w' × Goes w.store (step ∷ []) w'.store old.store new.store
 judged (Ok done) event w old new stands is line own =
     let goes = add_goes (Ok done) event w.store old.store new.store stands.store is in
     let free = passes (Ok done) event old.store new.store is (λ e. absurd (cc e)) (λ cause e. absurd (cc e)) in (

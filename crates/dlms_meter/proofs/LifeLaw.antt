@@ -1,11 +1,11 @@
 -- What the store did in a life of the meter is a run of the store.
 use Rattle.std.proofs.Common.{◌≡◌, refl, sym, ap, subst, ◌∙◌, append_assoc, List, [], ◌∷◌, ◌++◌}
 use Rattle.dlms_state.specs.declared.event.Event.{Event}
-use Rattle.dlms_store.specs.World.{World as StoreWorld, Step as StoreStep, Next, Run as StoreRun}
-use Rattle.dlms_store.specs.World.World.{Runs, InDoubt, Rests}
-use Rattle.dlms_store.specs.World.Step.{Stops, Opens}
+use Rattle.dlms_store.specs.World.{StoreWorld, StoreStep, Next, StoreRun}
+use Rattle.dlms_store.specs.World.StoreWorld.{Runs, InDoubt, Rests}
+use Rattle.dlms_store.specs.World.StoreStep.{Stops, Opens}
 use Rattle.dlms_store.proofs.Runs.{recovers, at_start, ends_at_rest, stays_found}
-use Rattle.dlms_meter.specs.Run.{World, first_world, recovered}
+use Rattle.dlms_meter.specs.Run.{MeterWorld, first_world, recovered}
 use Rattle.dlms_meter.specs.Storing.{store_steps}
 use Rattle.dlms_meter.specs.Lives.{Leg, IsLeg, Lives, before_recovery, life_steps, RecoversInLives, NoFurtherStopInLives}
 use Rattle.dlms_meter.proofs.StoreLaw.{runs_on, stores_in_turn}
@@ -21,7 +21,7 @@ ends_opened [] before now found (mid, next, same) = same ∙ opened before mid f
 ends_opened (step ∷ steps) before now found (mid, next, run) = ends_opened steps mid now found run
 
 -- a leg, with its recovery
-leg_run : (w : World) (leg : Leg) (is : IsLeg w leg) → StoreRun w.store (before_recovery w leg is ++ Opens leg.found ∷ []) is.now
+leg_run : (w : MeterWorld) (leg : Leg) (is : IsLeg w leg) → StoreRun w.store (before_recovery w leg is ++ Opens leg.found ∷ []) is.now
 leg_run w leg is =
     let front = store_steps w leg.steps is.last is.run in
     let all = runs_on front (leg.cut ++ leg.quiet ++ Opens leg.found ∷ []) w.store is.last.store is.now (stores_in_turn w is.last leg.steps is.run) is.store in
@@ -29,11 +29,11 @@ leg_run w leg is =
     subst (λ (xs : List StoreStep). StoreRun w.store xs is.now)
     (sym (append_assoc front (leg.cut ++ leg.quiet) end) ∙ ap (λ (xs : List StoreStep). xs ++ end) (sym (append_assoc front leg.cut leg.quiet))) all
 
-leg_found : (w : World) (leg : Leg) (is : IsLeg w leg) → is.now ≡ (recovered leg.found).store
+leg_found : (w : MeterWorld) (leg : Leg) (is : IsLeg w leg) → is.now ≡ (recovered leg.found).store
 leg_found w leg is = ends_opened (before_recovery w leg is) w.store is.now leg.found (leg_run w leg is)
 
-life_run : (w w' : World) (legs : List Leg) (lives : Lives w legs w') → StoreRun w.store (life_steps w legs w' lives) w'.store
-life_run w w' [] lives = ap (λ (x : World). x.store) lives
+life_run : (w w' : MeterWorld) (legs : List Leg) (lives : Lives w legs w') → StoreRun w.store (life_steps w legs w' lives) w'.store
+life_run w w' [] lives = ap (λ (x : MeterWorld). x.store) lives
 life_run w w' (leg ∷ legs) (is, lives) =
     runs_on (before_recovery w leg is ++ Opens leg.found ∷ []) (life_steps (recovered leg.found) legs w' lives) w.store (recovered leg.found).store w'.store
     (subst (λ (x : StoreWorld). StoreRun w.store (before_recovery w leg is ++ Opens leg.found ∷ []) x) (leg_found w leg is) (leg_run w leg is))

@@ -5,9 +5,9 @@ use Rattle.dlms_frame.specs.Frame.{Parts}
 use Rattle.dlms_frame.specs.Stream.{IsNext}
 use Rattle.dlms_frame.proofs.LawLemmas.{one_next}
 use Rattle.dlms_service.specs.Serves.{FindsMemory}
-use Rattle.dlms_store.specs.World.{World as StoreWorld}
+use Rattle.dlms_store.specs.World.{StoreWorld}
 use Rattle.dlms_state.specs.declared.event.Event.{Event}
-use Rattle.dlms_meter.specs.Run.{Choice, Served, Stored, IsTurn, events_of, World, Records, Turn, Handled, Handles, Takes, Answers, Comes, FoundMemory, client_at, with_record, after_turn, grown, listed}
+use Rattle.dlms_meter.specs.Run.{Choice, Served, Stored, IsTurn, events_of, MeterWorld, Records, Turn, Handled, Handles, Takes, Answers, Comes, FoundMemory, client_at, with_record, after_turn, grown, listed}
 use Rattle.dlms_meter.proofs.Once.{handled_once}
 use Rattle.dlms_meter.specs.Alike.{IsAlike}
 use Rattle.dlms_meter.proofs.Events.{stored_once, turn_events}
@@ -37,20 +37,20 @@ taken_once (Some who) E records t u frame found found' (own, handles, same) (own
       accepted = ap (λ (h : Handled). h.accepted) equal;
     }
 
-same_store : (w : World) (t u : Turn) → t.choice ≡ Served FindsMemory → u.choice ≡ Served FindsMemory → Same t u → IsTurn w t → IsTurn w u → t.store ≡ u.store
+same_store : (w : MeterWorld) (t u : Turn) → t.choice ≡ Served FindsMemory → u.choice ≡ Served FindsMemory → Same t u → IsTurn w t → IsTurn w u → t.store ≡ u.store
 same_store w t u found found' same is is' =
     let there : Stored t.choice t.answer t.accepted u.steps =
     subst (λ (c : Choice). Stored c t.answer t.accepted u.steps) (found' ∙ sym found)
     (subst (λ (a : Option (List ℕ)). Stored u.choice a t.accepted u.steps) (sym same.answer) (subst (λ (es : List Event). Stored u.choice u.answer es u.steps) (sym same.accepted) is'.stored)) in
     stored_once t.answer t.choice FindsMemory t.accepted t.steps u.steps w.store t.store u.store found is.stored is.run there is'.run
 
-same_world : (w : World) (t u : Turn) → t.to ≡ u.to → t.store ≡ u.store → Same t u → after_turn w t ≡ after_turn w u
+same_world : (w : MeterWorld) (t u : Turn) → t.to ≡ u.to → t.store ≡ u.store → Same t u → after_turn w t ≡ after_turn w u
 same_world w t u to store same =
     ap (λ (n : ℕ). record (after_turn w t) { place = n }) to
     ∙ ap (λ (r : Records). record { stretch = w.stretch; place = u.to; records = r; store = t.store }) same.records
     ∙ ap (λ (x : StoreWorld). record { stretch = w.stretch; place = u.to; records = u.records; store = x }) store
 
-same_answers : (ts us : List Turn) (w u v : World) (xs ys : List (List ℕ)) → Answers w ts xs u → Answers w us ys v → FoundMemory ts → FoundMemory us → (xs ≡ ys) × (u ≡ v)
+same_answers : (ts us : List Turn) (w u v : MeterWorld) (xs ys : List (List ℕ)) → Answers w ts xs u → Answers w us ys v → FoundMemory ts → FoundMemory us → (xs ≡ ys) × (u ≡ v)
 same_answers [] [] w u v xs ys a b found found' = (a.1 ∙ sym b.1, a.2 ∙ sym b.2)
 same_answers [] (n ∷ us) w u v xs ys a b found found' = absurd (a.0 n.from n.to n.frame b.0.next.behind b.0.next.stands)
 same_answers (t ∷ ts) [] w u v xs ys a b found found' = absurd (b.0 t.from t.to t.frame a.0.next.behind a.0.next.stands)
@@ -59,27 +59,27 @@ same_answers (t ∷ ts) (n ∷ us) w u v xs ys (is_turn, more, joins, answers) (
     let moved : Takes (events_of w) w.records n (client_at t.frame.src) = subst (λ (f : Parts). Takes (events_of w) w.records n (client_at f.src)) (sym one.1) is_turn'.takes in
     let same : Same t n = taken_once (client_at t.frame.src) (events_of w) w.records t n one.1 found.0 found'.0 is_turn.takes moved in
     let after : after_turn w t ≡ after_turn w n = same_world w t n one.0 (same_store w t n found.0 found'.0 same is_turn is_turn') same in
-    let rest = same_answers ts us (after_turn w t) u v more more' answers (subst (λ (x : World). Answers x us more' v) (sym after) answers') found.1 found'.1 in (
+    let rest = same_answers ts us (after_turn w t) u v more more' answers (subst (λ (x : MeterWorld). Answers x us more' v) (sym after) answers') found.1 found'.1 in (
       joins ∙ ap (λ (o : Option (List ℕ)). listed o ++ more) same.reply ∙ ap (λ (rs : List (List ℕ)). listed n.reply ++ rs) rest.0 ∙ sym joins',
       rest.1,
     )
 
-pub same_comes : (w u v : World) (bytes : List ℕ) (first second : List (List ℕ)) (a : Comes w bytes first u) (b : Comes w bytes second v)
+pub same_comes : (w u v : MeterWorld) (bytes : List ℕ) (first second : List (List ℕ)) (a : Comes w bytes first u) (b : Comes w bytes second v)
     → FoundMemory a.turns → FoundMemory b.turns → (first ≡ second) × (u ≡ v)
 same_comes w u v bytes first second a b found found' = same_answers a.turns b.turns (grown w bytes) u v first second a.answers b.answers found found'
 
 -- ---- from worlds that are alike
 
 -- a turn of one of them is next in the other too
-moved_next : (w x : World) (n : Turn) → IsAlike w x → IsNext x.stretch x.place n.from n.to n.frame → IsNext w.stretch w.place n.from n.to n.frame
+moved_next : (w x : MeterWorld) (n : Turn) → IsAlike w x → IsNext x.stretch x.place n.from n.to n.frame → IsNext w.stretch w.place n.from n.to n.frame
 moved_next w x n alike next =
     subst (λ (s : List ℕ). IsNext s w.place n.from n.to n.frame) (sym alike.stretch) (subst (λ (k : ℕ). IsNext x.stretch k n.from n.to n.frame) (sym alike.place) next)
 
-moved_takes : (w x : World) (n : Turn) (who : Option Client) → IsAlike w x → Takes (events_of x) x.records n who → Takes (events_of w) w.records n who
+moved_takes : (w x : MeterWorld) (n : Turn) (who : Option Client) → IsAlike w x → Takes (events_of x) x.records n who → Takes (events_of w) w.records n who
 moved_takes w x n who alike takes =
     subst (λ (es : List Event). Takes es w.records n who) (sym alike.events) (subst (λ (r : Records). Takes (events_of x) r n who) (sym alike.records) takes)
 
-alike_after : (w x : World) (t n : Turn) → IsAlike w x → t.to ≡ n.to → Same t n → IsTurn w t → IsTurn x n → IsAlike (after_turn w t) (after_turn x n)
+alike_after : (w x : MeterWorld) (t n : Turn) → IsAlike w x → t.to ≡ n.to → Same t n → IsTurn w t → IsTurn x n → IsAlike (after_turn w t) (after_turn x n)
 alike_after w x t n alike to same is is' = record {
   stretch = alike.stretch;
   place = to;
@@ -87,9 +87,9 @@ alike_after w x t n alike to same is is' = record {
   events = turn_events w t is ∙ ap (λ (es : List Event). es ++ t.accepted) alike.events ∙ ap (λ (es : List Event). events_of x ++ es) same.accepted ∙ sym (turn_events x n is');
 }
 
-alike_answers : (ts us : List Turn) (w x u v : World) (xs ys : List (List ℕ)) → IsAlike w x → Answers w ts xs u → Answers x us ys v → FoundMemory ts → FoundMemory us → (xs ≡ ys) × IsAlike u v
+alike_answers : (ts us : List Turn) (w x u v : MeterWorld) (xs ys : List (List ℕ)) → IsAlike w x → Answers w ts xs u → Answers x us ys v → FoundMemory ts → FoundMemory us → (xs ≡ ys) × IsAlike u v
 alike_answers [] [] w x u v xs ys alike a b found found' =
-    (a.1 ∙ sym b.1, subst (λ (z : World). IsAlike z v) (sym a.2) (subst (λ (z : World). IsAlike w z) (sym b.2) alike))
+    (a.1 ∙ sym b.1, subst (λ (z : MeterWorld). IsAlike z v) (sym a.2) (subst (λ (z : MeterWorld). IsAlike w z) (sym b.2) alike))
 alike_answers [] (n ∷ us) w x u v xs ys alike a b found found' =
     let next = moved_next w x n alike b.0.next in absurd (a.0 n.from n.to n.frame next.behind next.stands)
 alike_answers (t ∷ ts) [] w x u v xs ys alike a b found found' =
@@ -106,7 +106,7 @@ alike_answers (t ∷ ts) (n ∷ us) w x u v xs ys alike (is_turn, more, joins, a
       rest.1,
     )
 
-pub alike_comes : (w w' u v : World) (bytes : List ℕ) (first second : List (List ℕ)) → IsAlike w w' → (a : Comes w bytes first u) (b : Comes w' bytes second v)
+pub alike_comes : (w w' u v : MeterWorld) (bytes : List ℕ) (first second : List (List ℕ)) → IsAlike w w' → (a : Comes w bytes first u) (b : Comes w' bytes second v)
     → FoundMemory a.turns → FoundMemory b.turns → (first ≡ second) × IsAlike u v
 alike_comes w w' u v bytes first second alike a b found found' =
     let grows : IsAlike (grown w bytes) (grown w' bytes) = record { stretch = ap (λ (s : List ℕ). s ++ bytes) alike.stretch; place = alike.place; records = alike.records; events = alike.events } in

@@ -15,8 +15,8 @@ use Rattle.dlms_service.specs.Serves.{FindsMemory}
 use Rattle.dlms_state.specs.declared.event.Event.{Event}
 use Rattle.dlms_state.specs.StateValue.{StateValue, IsStateOf}
 use Rattle.dlms_store.specs.Store.{Remembers}
-use Rattle.dlms_store.specs.World.{World as StoreWorld, Step as StoreStep}
-use Rattle.dlms_store.specs.World.World.{Runs, InDoubt, Rests}
+use Rattle.dlms_store.specs.World.{StoreWorld, StoreStep}
+use Rattle.dlms_store.specs.World.StoreWorld.{Runs, InDoubt, Rests}
 use Rattle.dlms_store.specs.Going.{Knows, Goes}
 use Rattle.dlms_store.specs.declared.store.Store.{Store}
 use Rattle.dlms_store.proofs.Going.{none}

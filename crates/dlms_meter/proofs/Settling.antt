@@ -6,8 +6,8 @@ use Rattle.dlms_state.specs.Types.{FitsType}
 use Rattle.dlms_state.specs.declared.event.Event.{Event}
 use Rattle.dlms_state.specs.declared.event.Event.TheVariants.{Pulses, Moment, SetTime, Shift, AdjustMinute, SetPeriod, SetText, SetSecret, ResetRegister, ResetProfile, Capture}
 use Rattle.dlms_store.specs.Store.{AddIsExhausted, CommitIsExhausted, IsStopped, JoinsPending, records_in, refusal_in, view_of}
-use Rattle.dlms_store.specs.World.{World as StoreWorld, Step as StoreStep}
-use Rattle.dlms_store.specs.World.Step.{Settles, Fails as Fault, Refuses}
+use Rattle.dlms_store.specs.World.{StoreWorld, StoreStep}
+use Rattle.dlms_store.specs.World.StoreStep.{Settles, Fails as Fault, Refuses}
 use Rattle.dlms_store.specs.Going.{Knows, Goes, AddGoes}
 use Rattle.dlms_store.specs.Fitting.{commit_step}
 use Rattle.dlms_store.specs.declared.fault.AddFault.{AddFault}

@@ -14,9 +14,9 @@ use Rattle.dlms_service.specs.Serves.{Choice as Memory, FindsMemory, Serves}
 use Rattle.dlms_service.specs.Stake.{Fails, is_success}
 use Rattle.dlms_state.specs.declared.event.Event.{Event}
 use Rattle.dlms_state.specs.Refusal.{refusal_after}
-use Rattle.dlms_store.specs.World.{World as StoreWorld, Step as StoreStep, Next, Run as StoreRun}
-use Rattle.dlms_store.specs.World.World.{Runs, InDoubt, Rests}
-use Rattle.dlms_store.specs.World.Step.{Settles, Fails as Fault, Refuses}
+use Rattle.dlms_store.specs.World.{StoreWorld, StoreStep, Next, StoreRun}
+use Rattle.dlms_store.specs.World.StoreWorld.{Runs, InDoubt, Rests}
+use Rattle.dlms_store.specs.World.StoreStep.{Settles, Fails as Fault, Refuses}
 use Rattle.dlms_store.specs.Going.{Knows, Goes, IsAdd}
 use Rattle.dlms_store.specs.declared.fault.AddFault.{AddFault}
 use Rattle.dlms_store.specs.declared.fault.AddFault.TheVariants as add
@@ -45,13 +45,13 @@ pending_in (Rests events) = []
 
 -- What a run has led to: the bytes since the last silence, the place in them from which the next frame is sought, each
 -- client's record, and the store's world: the accepted events, which of them are settled, and whether the store runs.
-pub record World : Type 0 where
+pub record MeterWorld : Type 0 where
   pub stretch : List ℕ
   pub place : ℕ
   pub records : Records
   pub store : StoreWorld
 
-abbrev pub events_of : World → List Event
+abbrev pub events_of : MeterWorld → List Event
 events_of w = events_in w.store
 
 -- ---- one frame of a client
@@ -175,7 +175,7 @@ Stored (Served memory) (Some answer) accepted steps = StoredFor (is_success answ
 Stored (DeviceFails kept) (Some answer) accepted steps = IsUnsettling accepted steps
 
 -- the next frame of the stretch is this turn's; an answer has at most the bytes that a link takes
-pub record IsTurn (w : World) (turn : Turn) : Type 0 where
+pub record IsTurn (w : MeterWorld) (turn : Turn) : Type 0 where
   pub next : IsNext w.stretch w.place turn.from turn.to turn.frame
   pub takes : Takes (events_of w) w.records turn (client_at turn.frame.src)
   pub stored : Stored turn.choice turn.answer turn.accepted turn.steps
@@ -186,7 +186,7 @@ pub record IsTurn (w : World) (turn : Turn) : Type 0 where
 abbrev pub Promised : Turn → Type 0
 Promised turn = IfSome turn.answer (λ answer. is_success answer ≡ true → pending_in turn.store ≡ [])
 
-abbrev pub after_turn : World → Turn → World
+abbrev pub after_turn : MeterWorld → Turn → MeterWorld
 after_turn w turn = record { stretch = w.stretch; place = turn.to; records = turn.records; store = turn.store }
 
 -- ---- a piece of bytes
@@ -200,7 +200,7 @@ abbrev pub HasNoFrame : List ℕ → ℕ → Type 0
 HasNoFrame stretch place = (i j : ℕ) (frame : Parts) → place ≤ i → FrameAt stretch i j frame → ⊥
 
 -- The turns are the frames of the stretch from the place on, each answered from what the ones before it led to.
-abbrev pub Answers : World → List Turn → List (List ℕ) → World → Type 0
+abbrev pub Answers : MeterWorld → List Turn → List (List ℕ) → MeterWorld → Type 0
 Answers w [] replies w' = HasNoFrame w.stretch w.place × (replies ≡ []) × (w' ≡ w)
 Answers w (turn ∷ turns) replies w' =
     IsTurn w turn × (rest : List (List ℕ)) × (replies ≡ listed turn.reply ++ rest) × Answers (after_turn w turn) turns rest w'
@@ -211,17 +211,17 @@ FoundMemory [] = Unit {0}
 FoundMemory (turn ∷ turns) = (turn.choice ≡ Served FindsMemory) × FoundMemory turns
 
 -- the stretch goes on
-abbrev pub grown : World → List ℕ → World
+abbrev pub grown : MeterWorld → List ℕ → MeterWorld
 grown w bytes = record w { stretch = w.stretch ++ bytes }
 
 -- A piece of bytes comes in, and the frames that it ends are answered.
-pub record Comes (w : World) (bytes : List ℕ) (replies : List (List ℕ)) (w' : World) : Type 0 where
+pub record Comes (w : MeterWorld) (bytes : List ℕ) (replies : List (List ℕ)) (w' : MeterWorld) : Type 0 where
   pub turns : List Turn
   pub answers : Answers (grown w bytes) turns replies w'
 
 -- One call of feed took these bytes: they ended no frame, or they end with the closing flag of the next one. The choice that was
 -- taken at it may be taken, and these were the steps of the store.
-abbrev pub Fed : (Choice → Type 0) → World → List ℕ → Option (List ℕ) → List StoreStep → World → Type 0
+abbrev pub Fed : (Choice → Type 0) → MeterWorld → List ℕ → Option (List ℕ) → List StoreStep → MeterWorld → Type 0
 Fed May w taken reply steps w' =
     (HasNoFrame (w.stretch ++ taken) w.place × (reply ≡ None) × (steps ≡ []) × (w' ≡ grown w taken))
     ⊎ ((turn : Turn) × IsTurn (grown w taken) turn × May turn.choice × Promised turn × (turn.to + 1 ≡ length (w.stretch ++ taken))
@@ -230,7 +230,7 @@ Fed May w taken reply steps w' =
 -- ---- pulses, moments, silence
 
 -- with the store's world changed
-abbrev pub with_store : World → StoreWorld → World
+abbrev pub with_store : MeterWorld → StoreWorld → MeterWorld
 with_store w store = record { stretch = w.stretch; place = w.place; records = w.records; store = store }
 
 -- the store runs
@@ -245,7 +245,7 @@ IsStoppedIn _ = ⊥
 
 -- An event is accepted, or refused by the table; a stopped store looks at no event, and a fault or an exhausted generation stands
 -- only where the table does not refuse.
-abbrev pub Judged : World → Event → Result (Unit {0}) AddFault → StoreStep → World → Type 0
+abbrev pub Judged : MeterWorld → Event → Result (Unit {0}) AddFault → StoreStep → MeterWorld → Type 0
 Judged w event (Ok done) step w' = (refusal_after (events_of w) event ≡ None) × IsAdd event step × (now : StoreWorld) × Next w.store step now × (w' ≡ with_store w now)
 Judged w event (Err (add.Refused cause)) step w' = IsRunningIn w.store × (refusal_after (events_of w) event ≡ Some cause) × (step ≡ Refuses) × (w' ≡ w)
 Judged w event (Err add.Device) step w' = (refusal_after (events_of w) event ≡ None) × (step ≡ Fault) × (now : StoreWorld) × Next w.store Fault now × (w' ≡ with_store w now)
@@ -253,24 +253,24 @@ Judged w event (Err add.Stopped) step w' = IsStoppedIn w.store × (step ≡ Refu
 Judged w event (Err add.Exhausted) step w' = IsRunningIn w.store × (refusal_after (events_of w) event ≡ None) × (step ≡ Refuses) × (w' ≡ w)
 
 -- silence begins a new stretch
-abbrev pub silent : World → World
+abbrev pub silent : MeterWorld → MeterWorld
 silent w = record w { stretch = []; place = 0 }
 
 -- nothing has happened yet
-abbrev pub first_world : World
+abbrev pub first_world : MeterWorld
 first_world = record { stretch = []; place = 0; records = fresh_record; store = Runs [] [] }
 
 -- after a recovery: these events, all links down and no association
-abbrev pub recovered : List Event → World
+abbrev pub recovered : List Event → MeterWorld
 recovered events = record { stretch = []; place = 0; records = fresh_record; store = Runs events [] }
 
 -- ---- a meter stands for what a run has led to
 
 abbrev pub record_for : {P A : Type 0} → {ghosts : Ghosts P} → Meter P A ghosts → Client → ClientRecord
-record_for m Public = m.anyone
-record_for m Management = m.manager
+record_for m Public = m.public
+record_for m Management = m.management
 
-pub record Stands {P A : Type 0} {ghosts : Ghosts P} (m : Meter P A ghosts) (w : World) : Type 0 where
+pub record Stands {P A : Type 0} {ghosts : Ghosts P} (m : Meter P A ghosts) (w : MeterWorld) : Type 0 where
   pub line : Fits m.deframer w.stretch w.place
   pub own : (who : Client) → w.records who ≡ record_for m who
   pub store : Knows m.store w.store
@@ -306,13 +306,13 @@ Replies old frame reply new (Some who) =
     × (new.deframer ≡ old.deframer) × (record_for new (other_of who) ≡ record_for old (other_of who))
 
 -- with these bytes the next frame of the stretch ends
-abbrev pub EndsFrame : World → List ℕ → Type 0
+abbrev pub EndsFrame : MeterWorld → List ℕ → Type 0
 EndsFrame w taken = (i : ℕ) × (j : ℕ) × (frame : Parts) × (j + 1 ≡ length (w.stretch ++ taken)) × IsNext (w.stretch ++ taken) w.place i j frame
 
 -- One call of feed, for every run that the meter stands for. Where the device keeps the rules too, a stop at any moment of the
 -- call leaves what it may leave in a world of the store before one of these steps.
 abbrev pub Feeds : {P A : Type 0} → {ghosts : Ghosts P} → Meter P A ghosts → List ℕ → Option (List ℕ) → Meter P A ghosts → Type 0
-Feeds old taken reply new = (w : World) → Stands old w → (w' : World) × (steps : List StoreStep)
+Feeds old taken reply new = (w : MeterWorld) → Stands old w → (w' : MeterWorld) × (steps : List StoreStep)
     × Fed (MayChoose old.store new.store) w taken reply steps w' × Stands new w' × Goes w.store steps w'.store old.store new.store
 
 -- The device is told to have failed where it did, and the generation to be exhausted where the store was, before the call.
@@ -323,5 +323,5 @@ JudgedFor event _ old new = Unit {0}
 
 -- one call that judges an event
 abbrev pub Judges : {P A : Type 0} → {ghosts : Ghosts P} → Meter P A ghosts → Event → Result (Unit {0}) AddFault → Meter P A ghosts → Type 0
-Judges old event outcome new = (w : World) → Stands old w → (w' : World) × (step : StoreStep)
+Judges old event outcome new = (w : MeterWorld) → Stands old w → (w' : MeterWorld) × (step : StoreStep)
     × Judged w event outcome step w' × JudgedFor event outcome old.store new.store × Stands new w' × Goes w.store (step ∷ []) w'.store old.store new.store

@@ -2,7 +2,7 @@
 use Rattle.std.specs.Prelude.{List, [], Bool, if◌then◌else◌, Result, Ok, Err}
 use Rattle.dlms_pages.specs.declared.device.Pages.{Ghosts}
 use Rattle.dlms_state.specs.declared.event.Event.{Event}
-use Rattle.dlms_store.specs.World.{World as StoreWorld, Step as StoreStep}
+use Rattle.dlms_store.specs.World.{StoreWorld, StoreStep}
 use Rattle.dlms_store.specs.Going.{Goes}
 use Rattle.dlms_store.specs.declared.fault.AddFault.{AddFault}
 use Rattle.dlms_store.specs.declared.store.Store.{Store}

@@ -20,8 +20,9 @@ use Rattle.dlms_service.specs.declared.association.Association.{Association}
 use Rattle.dlms_state.specs.StateValue.{state_of}
 use Rattle.dlms_state.specs.declared.event.Event.{Event}
 use Rattle.dlms_meter.specs.ClientRecord.{ClientRecord}
-use Rattle.dlms_meter.specs.Run.{World, Records, Turn, Choice, Does, Handled, Handles, Answered, Takes, Answers, client_at, is_same, events_of, after_turn, grown}
+use Rattle.dlms_meter.specs.Run.{MeterWorld, Records, Turn, Choice, Does, Handled, Handles, Answered, Takes, Answers, client_at, is_same, events_of, after_turn, grown}
 use Rattle.dlms_meter.specs.Steps.{Step, Piece, Silence, Happens, Leads, Run}
+use Rattle.dlms_blocks.specs.declared.get_out.TheConstants.{GET_HEAD}
 
 -- an APDU of a client, after these events, and what it led to
 pub record Exchange : Type 0 where
@@ -66,24 +67,24 @@ own_at who E records turn None takes = []
 own_at who E records turn (Some other) (own, handles, same) = own_here (is_same other who) E (records other) own turn handles
 
 -- in the turns of a piece
-abbrev pub own_among : (who : Client) (w : World) (turns : List Turn) (replies : List (List ℕ)) (w' : World) → Answers w turns replies w' → List Own
+abbrev pub own_among : (who : Client) (w : MeterWorld) (turns : List Turn) (replies : List (List ℕ)) (w' : MeterWorld) → Answers w turns replies w' → List Own
 own_among who w [] replies w' answers = []
 own_among who w (turn ∷ turns) replies w' (is, rest, told, answers) =
     own_at who (events_of w) w.records turn (client_at turn.frame.src) is.takes ++ own_among who (after_turn w turn) turns rest w' answers
 
-abbrev pub own_in : (who : Client) (w : World) (step : Step) (w' : World) → Leads w step w' → List Own
+abbrev pub own_in : (who : Client) (w : MeterWorld) (step : Step) (w' : MeterWorld) → Leads w step w' → List Own
 own_in who w (Piece bytes replies) w' leads = own_among who (grown w bytes) leads.turns replies w' leads.answers
 own_in who w Silence w' leads = []
 own_in who w (Happens event outcome) w' leads = []
 
 -- in a run, in their order
-abbrev pub own_of : (who : Client) (w : World) (steps : List Step) (w' : World) → Run w steps w' → List Own
+abbrev pub own_of : (who : Client) (w : MeterWorld) (steps : List Step) (w' : MeterWorld) → Run w steps w' → List Own
 own_of who w [] w' run = []
 own_of who w (step ∷ steps) w' (mid, leads, rest) = own_in who w step mid leads ++ own_of who mid steps w' rest
 
 -- In every run a client's APDUs are answered one after another, each from what the one before left.
 abbrev pub AreInTurn : Type 0
-AreInTurn = (who : Client) (w w' : World) (steps : List Step) (run : Run w steps w') → InTurn (w.records who).session (own_of who w steps w' run) (w'.records who).session
+AreInTurn = (who : Client) (w w' : MeterWorld) (steps : List Step) (run : Run w steps w') → InTurn (w.records who).session (own_of who w steps w' run) (w'.records who).session
 
 -- ---- one GET in blocks
 
@@ -151,13 +152,13 @@ pub record GoesOut (who : Client) (s : SessionValue) (before : List Own) (x : Ex
 -- device that fails, a link that goes down and comes up, frames of the other client, pulses and moments.
 abbrev pub BlocksJoin : Type 0
 BlocksJoin =
-    (who : Client) (w w' : World) (steps : List Step) (run : Run w steps w') (before behind : List Own) (x : Exchange) → (w.records who).session.client ≡ who
+    (who : Client) (w w' : MeterWorld) (steps : List Step) (run : Run w steps w') (before behind : List Own) (x : Exchange) → (w.records who).session.client ≡ who
     → own_of who w steps w' run ≡ before ++ Asked x ∷ behind → begins x ≡ true → NoneBegins behind
     → (out : GoesOut who (w.records who).session before x) × (blocks : List Block) × (map spelled blocks ≡ blocks_in (Asked x ∷ behind))
-    × (joined blocks ≡ take (length blocks * (out.association.size - 12)) (canonical out.value)) × (has_last blocks ≡ true → joined blocks ≡ canonical out.value)
+    × (joined blocks ≡ take (length blocks * (out.association.size - GET_HEAD)) (canonical out.value)) × (has_last blocks ≡ true → joined blocks ≡ canonical out.value)
 
 -- In every run that begins without a transfer, as each does from a formatted meter and behind a recovery: no block is given where
 -- no GET began.
 abbrev pub NoBlockUnasked : Type 0
 NoBlockUnasked =
-    (who : Client) (w w' : World) (steps : List Step) (run : Run w steps w') → (w.records who).session.getting ≡ None → NoneBegins (own_of who w steps w' run) → blocks_in (own_of who w steps w' run) ≡ []
+    (who : Client) (w w' : MeterWorld) (steps : List Step) (run : Run w steps w') → (w.records who).session.getting ≡ None → NoneBegins (own_of who w steps w' run) → blocks_in (own_of who w steps w' run) ≡ []

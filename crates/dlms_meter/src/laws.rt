@@ -1,8 +1,8 @@
 //! Laws over whole runs. They make no call: the calls' own contracts cite the same definitions.
 
 ghost use Rattle.std.specs.Prelude.{◌≡◌, ℕ, List, ◌++◌, map};
-ghost use Rattle.dlms_store.specs.World.{Run as StoreRun};
-ghost use Rattle.dlms_meter.specs.Run.{World, Stands, Comes, FoundMemory};
+ghost use Rattle.dlms_store.specs.World.{StoreRun};
+ghost use Rattle.dlms_meter.specs.Run.{MeterWorld, Stands, Comes, FoundMemory};
 ghost use Rattle.dlms_meter.specs.Alike.{IsAlike};
 ghost use Rattle.dlms_meter.specs.Steps.{Step, Call, Calls, Run, step_of};
 ghost use Rattle.dlms_meter.specs.Independence.{IsAlone, IsIndependent};
@@ -17,28 +17,28 @@ use std::alloc::Allocator;
 /// The calls of a meter, one after another, are a run from each world that it stood for, and it then stands for the
 /// world that the run leads to.
 pub fn calls_are_a_run<P: Pages, A: Allocator + Copy>(_old: &Meter<P, A>, _new: &Meter<P, A>)
-    ensures { (calls : List Call) (w : World) → Calls _old.now calls _new.now → Stands _old.now w
-        → (w' : World) × Run w (map step_of calls) w' × Stands _new.now w' }
+    ensures { (calls : List Call) (w : MeterWorld) → Calls _old.now calls _new.now → Stands _old.now w
+        → (w' : MeterWorld) × Run w (map step_of calls) w' × Stands _new.now w' }
 {}
 
 /// However a piece of bytes is cut in two, its frames, its replies and its events are the same.
 pub fn pieces_join()
-    ensures { (w m w' : World) (front back : List ℕ) (first second : List (List ℕ)) → Comes w front first m → Comes m back second w'
+    ensures { (w m w' : MeterWorld) (front back : List ℕ) (first second : List (List ℕ)) → Comes w front first m → Comes m back second w'
         → Comes w (front ++ back) (first ++ second) w' }
 {}
 
 /// A piece of bytes has one outcome, where memory is found and the device fails at none of its frames: its replies, and the
 /// world that it leads to. Where more was settled in one of two worlds, the replies are the same too.
 pub fn one_outcome()
-    ensures equal { (w u v : World) (bytes : List ℕ) (first second : List (List ℕ)) (a : Comes w bytes first u) (b : Comes w bytes second v)
+    ensures equal { (w u v : MeterWorld) (bytes : List ℕ) (first second : List (List ℕ)) (a : Comes w bytes first u) (b : Comes w bytes second v)
         → FoundMemory a.turns → FoundMemory b.turns → (first ≡ second) × (u ≡ v) }
-    ensures alike { (w w' u v : World) (bytes : List ℕ) (first second : List (List ℕ)) → IsAlike w w' → (a : Comes w bytes first u) (b : Comes w' bytes second v)
+    ensures alike { (w w' u v : MeterWorld) (bytes : List ℕ) (first second : List (List ℕ)) → IsAlike w w' → (a : Comes w bytes first u) (b : Comes w' bytes second v)
         → FoundMemory a.turns → FoundMemory b.turns → (first ≡ second) × IsAlike u v }
 {}
 
 /// What the store did in a run of the meter is a run of the store: the laws of the store's runs hold of it.
 pub fn stores_in_turn()
-    ensures { (w w' : World) (steps : List Step) (run : Run w steps w') → StoreRun w.store (store_steps w steps w' run) w'.store }
+    ensures { (w w' : MeterWorld) (steps : List Step) (run : Run w steps w') → StoreRun w.store (store_steps w steps w' run) w'.store }
 {}
 
 /// The clients are independent: a client's replies come of its own frames, its own record and the events accepted before each

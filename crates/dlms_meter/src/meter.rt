@@ -9,10 +9,10 @@ ghost use Rattle.dlms_state.specs.declared.event.Event.{Event};
 ghost use Rattle.dlms_state.specs.StateValue.{IsStateOf};
 ghost use Rattle.dlms_store.specs.Fitting.{StoreFits, DeviceFits, OpensAs, GivesBack, GivesUp};
 ghost use Rattle.dlms_store.specs.Store.{state_in, view_of, IsStopped, CommitIsExhausted, Remembers};
-ghost use Rattle.dlms_store.specs.World.{World as StoreWorld};
-ghost use Rattle.dlms_store.specs.World.World.{Runs};
-ghost use Rattle.dlms_store.specs.World.Step.{Closes, ClosesInDoubt};
-ghost use Rattle.dlms_meter.specs.Run.{Stands, Feeds, EndsFrame, Judges, World, first_world, recovered, silent, client_at, Replies, events_of, record_for};
+ghost use Rattle.dlms_store.specs.World.{StoreWorld};
+ghost use Rattle.dlms_store.specs.World.StoreWorld.{Runs};
+ghost use Rattle.dlms_store.specs.World.StoreStep.{Closes, ClosesInDoubt};
+ghost use Rattle.dlms_meter.specs.Run.{Stands, Feeds, EndsFrame, Judges, MeterWorld, first_world, recovered, silent, client_at, Replies, events_of, record_for};
 
 use crate::connection::{Connection, Reply};
 use dlms_frame::{Address, Client, Deframer, Frame};
@@ -27,8 +27,8 @@ use std::alloc::{Allocator, Global};
 pub struct Meter<P: Pages, A: Allocator + Copy = Global> {
     alloc: A,
     deframer: Deframer,
-    anyone: Connection<A>,
-    manager: Connection<A>,
+    public: Connection<A>,
+    management: Connection<A>,
     store: Store<P, A>,
 }
 
@@ -75,8 +75,8 @@ impl<P: Pages, A: Allocator + Copy> Meter<P, A> {
         Meter {
             alloc,
             deframer: Deframer::new(),
-            anyone: Connection::new(Client::Public),
-            manager: Connection::new(Client::Management),
+            public: Connection::new(Client::Public),
+            management: Connection::new(Client::Management),
             store,
         }
     }
@@ -97,7 +97,7 @@ impl<P: Pages, A: Allocator + Copy> Meter<P, A> {
 
     /// Silence on the line: half a frame is forgotten.
     pub fn idle(&mut self)
-        ensures run { (w : World) → Stands self.old w → Stands self.new (silent w) }
+        ensures run { (w : MeterWorld) → Stands self.old w → Stands self.new (silent w) }
         ensures store { self.new.store ≡ self.old.store }
     {
         self.deframer.idle();
@@ -105,7 +105,7 @@ impl<P: Pages, A: Allocator + Copy> Meter<P, A> {
 
     /// What the accepted events have left.
     pub fn state(&self) -> &State<A>
-        ensures { (w : World) → Stands self.now w → IsStateOf (events_of w) result.now }
+        ensures { (w : MeterWorld) → Stands self.now w → IsStateOf (events_of w) result.now }
     {
         self.store.state()
     }
@@ -125,7 +125,7 @@ impl<P: Pages, A: Allocator + Copy> Meter<P, A> {
         ensures len { result.0 ≤ length bytes.now }
         ensures some { 0 < length bytes.now → 0 < result.0 }
         // It leaves bytes only where a frame ends with the last one that it took.
-        ensures all { (w : World) → Stands self.old w → result.0 < length bytes.now → EndsFrame w (take result.0 bytes.now) }
+        ensures all { (w : MeterWorld) → Stands self.old w → result.0 < length bytes.now → EndsFrame w (take result.0 bytes.now) }
         ensures feeds { Feeds self.old (take result.0 bytes.now) (option_map (λ reply. reply.items) result.1) self.new }
     {
         let (taken, frame) = self.deframer.feed(bytes);
@@ -147,8 +147,8 @@ impl<P: Pages, A: Allocator + Copy> Meter<P, A> {
         ensures { Replies self.old frame.now (option_map (λ reply. reply.items) result) self.new (client_at frame.now.src) }
     {
         match client_at(frame.src) {
-            Some(Client::Public) => self.anyone.answer(self.alloc, &mut self.store, frame),
-            Some(Client::Management) => self.manager.answer(self.alloc, &mut self.store, frame),
+            Some(Client::Public) => self.public.answer(self.alloc, &mut self.store, frame),
+            Some(Client::Management) => self.management.answer(self.alloc, &mut self.store, frame),
             None => None,
         }
     }

@@ -5,6 +5,7 @@ use arrayvec::ArrayVec;
 use dlms_acse::{Conformance, write_aarq};
 use dlms_frame::{Client, Deframer, Frame};
 use dlms_link::{ClientLink, ClientOut};
+use std::alloc::Allocator;
 
 /// An APDU.
 pub type Apdu = ArrayVec<u8, 1024>;
@@ -16,7 +17,7 @@ const PROPOSED: Conformance = Conformance(0x7e_1f);
 const SIZE: u16 = 64;
 
 /// The meter's reply to a frame.
-fn reply_to(meter: &mut MemoryMeter, frame: &Frame) -> Option<Frame> {
+fn reply_to<A: Allocator + Copy>(meter: &mut MemoryMeter<A>, frame: &Frame) -> Option<Frame> {
     let bytes = frame.put();
     let (_, reply) = meter.feed(bytes.as_slice());
     let reply = reply?;
@@ -24,7 +25,11 @@ fn reply_to(meter: &mut MemoryMeter, frame: &Frame) -> Option<Frame> {
 }
 
 /// Sends an APDU, and takes its answer, in as many frames as it comes in.
-pub fn exchange(meter: &mut MemoryMeter, link: &mut ClientLink, apdu: &[u8]) -> Option<Apdu> {
+pub fn exchange<A: Allocator + Copy>(
+    meter: &mut MemoryMeter<A>,
+    link: &mut ClientLink,
+    apdu: &[u8],
+) -> Option<Apdu> {
     if !link.is_idle() || apdu.len() > 1024 {
         return None;
     }
@@ -44,15 +49,18 @@ pub fn exchange(meter: &mut MemoryMeter, link: &mut ClientLink, apdu: &[u8]) -> 
     None
 }
 
-/// The management client's link, with an association.
-pub fn associated(meter: &mut MemoryMeter) -> Option<ClientLink> {
-    let mut link = ClientLink::new(Client::Management);
+/// A client's link, with an association.
+pub fn associated<A: Allocator + Copy>(
+    meter: &mut MemoryMeter<A>,
+    client: Client,
+) -> Option<ClientLink> {
+    let mut link = ClientLink::new(client);
     let frame = link.connect();
     let reply = reply_to(meter, &frame)?;
     let ClientOut::Up = link.on(&reply) else {
         return None;
     };
-    let request = write_aarq(Client::Management, b"12345678", PROPOSED, SIZE);
+    let request = write_aarq(client, b"12345678", PROPOSED, SIZE);
     let answer = exchange(meter, &mut link, request.as_slice())?;
     (answer.len() == 43).then_some(link)
 }

@@ -4,22 +4,27 @@
 
 mod acts;
 mod client;
+mod heaps;
 mod play;
+mod replays;
 mod stops;
 
 use acts::SET_A;
 use anyhow::Result;
 use client::{associated, exchange};
+use dlms_frame::Client;
 use dlms_meter::Meter;
 use dlms_pages::MemoryPages;
 use dlms_store::PAGES;
+use heaps::{GET_LIST, GET_REGISTER, is_refused_in_turn, is_transfer_left};
 use play::Seen;
+use replays::replays;
 use std::alloc::{AllocError, Global};
 use std::process::ExitCode;
 use stops::{Fault, Left, after_stop, found_behind, found_on, stopped_everywhere};
 
 /// A meter over pages in memory.
-type MemoryMeter = Meter<MemoryPages>;
+type MemoryMeter<A = Global> = Meter<MemoryPages, A>;
 
 /// The calls of a format: the 82 pages and a sync; a body and a sync; a gate and a sync.
 const FORMATS: u64 = 87;
@@ -39,7 +44,7 @@ fn recovered(alloc: Global, device: MemoryPages) -> Result<MemoryMeter, MemoryPa
 
 /// Sets the text, and then counts five pulses.
 fn set_and_count(meter: &mut MemoryMeter) {
-    if let Some(mut link) = associated(meter) {
+    if let Some(mut link) = associated(meter, Client::Management) {
         let _answer = exchange(meter, &mut link, SET_A.apdu);
         let _counted = meter.pulses(0, 5);
     }
@@ -116,6 +121,13 @@ fn run(rt: &HostRuntime) -> Result<()> {
         let differ = others_behind_a_torn_page(alloc, pick)?;
         println!(rt; "behind a torn page, {pick:?}: {RECOVERY} recoveries, {differ} differ")?;
     }
+    let is_refused = is_refused_in_turn(alloc, &GET_REGISTER, 16)?
+        && is_refused_in_turn(alloc, &GET_LIST, 512)?;
+    println!(rt; "each growth refused in turn: {is_refused}")?;
+    let is_left = is_transfer_left(alloc)?;
+    println!(rt; "a transfer left by a refusal: {is_left}")?;
+    let (runs, differ) = replays(alloc)?;
+    println!(rt; "replays: {runs} runs, {differ} differ")?;
     for (fault, pick) in RUNS {
         let (runs, differ) = stopped_everywhere(alloc, fault, pick)?;
         println!(rt; "{fault:?}, {pick:?}: {runs} runs, {differ} differ")?;

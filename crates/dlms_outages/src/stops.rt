@@ -3,6 +3,7 @@
 use crate::client::associated;
 use crate::play::{Played, Seen, play, seen_in};
 use crate::{FORMATS, MemoryMeter, formatted, recovered};
+use dlms_frame::Client;
 use dlms_pages::{MemoryPages, Pick};
 use dlms_store::PAGES;
 use std::alloc::{AllocError, Global};
@@ -47,7 +48,7 @@ fn device_of(alloc: Global, fault: Fault, calls: u64) -> Result<MemoryPages, All
 
 /// Plays the scenario for a client that associates first.
 fn played_on(meter: &mut MemoryMeter, trace: &mut Vec<Seen>) -> Result<Option<Played>, AllocError> {
-    match associated(meter) {
+    match associated(meter, Client::Management) {
         Some(mut link) => Ok(Some(play(meter, &mut link, trace)?)),
         None => Ok(None),
     }

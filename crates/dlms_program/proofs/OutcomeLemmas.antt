@@ -3,7 +3,7 @@ use Rattle.std.proofs.Common.{◌≡◌, ℕ, ◌+◌, ◌≤◌, Bool, List, []
 use Rattle.dlms_state.specs.declared.event.Event.{Event}
 use Rattle.dlms_state.specs.declared.event.Event.TheVariants.{Pulses as PulseEvent, Moment as MomentEvent}
 use Rattle.dlms_state.specs.declared.event.Refused.{Refused}
-use Rattle.dlms_store.specs.World.{Step as StoreStep}
+use Rattle.dlms_store.specs.World.{StoreStep}
 use Rattle.dlms_store.specs.declared.fault.AddFault.{AddFault}
 use Rattle.dlms_store.specs.declared.fault.AddFault.TheVariants as add
 use Rattle.dlms_state.specs.Refusal.{refusal_after}
@@ -16,16 +16,16 @@ use Rattle.dlms_program.specs.Numbers.{IsNumberOf}
 use Rattle.dlms_program.specs.Orders.{SpellsBytes, SpellsMoment, SpellsPulses, Spells}
 use Rattle.dlms_program.specs.Printed.{reply_lines, state_line}
 use Rattle.dlms_meter.specs.Alike.{IsAlike}
-use Rattle.dlms_meter.specs.Run.{World, Answers, Comes, FoundMemory, Judged, events_of, grown, recovered, silent}
+use Rattle.dlms_meter.specs.Run.{MeterWorld, Answers, Comes, FoundMemory, Judged, events_of, grown, recovered, silent}
 use Rattle.dlms_meter.proofs.OneOutcome.{alike_comes}
 use Rattle.dlms_meter.proofs.Events.{added_one}
-use Rattle.dlms_program.specs.Replay.{Does, End, IsBad, Replays, Tells, outcome_line}
+use Rattle.dlms_program.specs.Replay.{Does, End, IsBad, Replays, TellsOutcome, outcome_line}
 use Rattle.dlms_program.specs.Outcome.{AlikeEnds, LineFound, AllFound, IsByTable}
 use Rattle.dlms_program.proofs.NumberLemmas.{pulses_parts, digits_no_space}
 
 -- ---- one piece of bytes
 
-same_piece : (w w' : World) (bytes bytes' : List ℕ) (xs ys : List (List ℕ)) (a b : World) → IsAlike w w' → bytes ≡ bytes'
+same_piece : (w w' : MeterWorld) (bytes bytes' : List ℕ) (xs ys : List (List ℕ)) (a b : MeterWorld) → IsAlike w w' → bytes ≡ bytes'
     → (c : Comes w bytes xs a) (d : Comes w' bytes' ys b) → FoundMemory c.turns → FoundMemory d.turns → (xs ≡ ys) × IsAlike a b
 same_piece w w' bytes bytes' xs ys a b alike piece c d found found' =
     let moved : Answers (grown w' bytes) d.turns ys b = subst (λ (z : List ℕ). Answers (grown w' z) d.turns ys b) (sym piece) d.answers in
@@ -39,17 +39,17 @@ none_is e = cc
 some_is : {A : Type 0} {x y : A} → Some x ≡ Some y → x ≡ y
 some_is e = cc
 
-alike_to : (w w' a b : World) → IsAlike w w' → a ≡ w → b ≡ w' → IsAlike a b
-alike_to w w' a b alike e e' = subst (λ (x : World). IsAlike x b) (sym e) (subst (λ (x : World). IsAlike w x) (sym e') alike)
+alike_to : (w w' a b : MeterWorld) → IsAlike w w' → a ≡ w → b ≡ w' → IsAlike a b
+alike_to w w' a b alike e e' = subst (λ (x : MeterWorld). IsAlike x b) (sym e) (subst (λ (x : MeterWorld). IsAlike w x) (sym e') alike)
 
-same_judged : (w w' : World) (event : Event) (x y : Result (Unit {0}) AddFault) (i j : StoreStep) (a b : World) → IsAlike w w' → IsByTable x → IsByTable y
+same_judged : (w w' : MeterWorld) (event : Event) (x y : Result (Unit {0}) AddFault) (i j : StoreStep) (a b : MeterWorld) → IsAlike w w' → IsByTable x → IsByTable y
     → Judged w event x i a → Judged w' event y j b → (outcome_line x ≡ outcome_line y) × IsAlike a b
 same_judged w w' event (Ok d) (Ok d') i j a b alike t t' (free, is, now, next, same) (free', is', now', next', same') = (
   refl,
   record {
-    stretch = ap (λ (v : World). v.stretch) same ∙ alike.stretch ∙ sym (ap (λ (v : World). v.stretch) same');
-    place = ap (λ (v : World). v.place) same ∙ alike.place ∙ sym (ap (λ (v : World). v.place) same');
-    records = ap (λ (v : World). v.records) same ∙ alike.records ∙ sym (ap (λ (v : World). v.records) same');
+    stretch = ap (λ (v : MeterWorld). v.stretch) same ∙ alike.stretch ∙ sym (ap (λ (v : MeterWorld). v.stretch) same');
+    place = ap (λ (v : MeterWorld). v.place) same ∙ alike.place ∙ sym (ap (λ (v : MeterWorld). v.place) same');
+    records = ap (λ (v : MeterWorld). v.records) same ∙ alike.records ∙ sym (ap (λ (v : MeterWorld). v.records) same');
     events = ap events_of same ∙ added_one i event w.store now is next ∙ ap (λ (es : List Event). es ++ event ∷ []) alike.events
         ∙ sym (ap events_of same' ∙ added_one j event w'.store now' is' next');
   },
@@ -69,7 +69,7 @@ same_judged w w' event x (Err add.Device) i j a b alike t t' g h = absurd t'
 same_judged w w' event x (Err add.Stopped) i j a b alike t t' g h = absurd t'
 same_judged w w' event x (Err add.Exhausted) i j a b alike t t' g h = absurd t'
 
-same_told : (w w' : World) (event event' : Event) (a b : World) (s t : List ℕ) → IsAlike w w' → event ≡ event' → (c : Tells w event a s) (d : Tells w' event' b t)
+same_told : (w w' : MeterWorld) (event event' : Event) (a b : MeterWorld) (s t : List ℕ) → IsAlike w w' → event ≡ event' → (c : TellsOutcome w event a s) (d : TellsOutcome w' event' b t)
     → IsByTable c.0 → IsByTable d.0 → IsAlike a b × (s ≡ t)
 same_told w w' event event' a b s t alike is (x, i, judged, written) (y, j, judged', written') found found' =
     let moved : Judged w' event y j b = subst (λ (v : Event). Judged w' v y j b) (sym is) judged' in
@@ -129,7 +129,7 @@ one_pulses line c n d m h g =
 
 -- ---- one line
 
-same_line : (honest : Bool) (line bytes bytes' : List ℕ) (order order' : Order) (w w' a b : World) (s t : List ℕ) → IsAlike w w' → Spells line bytes order → Spells line bytes' order'
+same_line : (honest : Bool) (line bytes bytes' : List ℕ) (order order' : Order) (w w' a b : MeterWorld) (s t : List ℕ) → IsAlike w w' → Spells line bytes order → Spells line bytes' order'
     → (c : Does honest w bytes order a s) (d : Does honest w' bytes' order' b t) → LineFound honest w bytes order a s c → LineFound honest w' bytes' order' b t d → IsAlike a b × (s ≡ t)
 same_line honest line bytes bytes' Skip Skip w w' a b s t same h g c d e e' = (alike_to w w' a b same c.0 d.0, c.1 ∙ sym d.1)
 same_line honest line bytes bytes' Feed Feed w w' a b s t same h g (xs, comes, is) (ys, comes', is') e e' =
@@ -198,10 +198,10 @@ not_bad : (line bytes : List ℕ) (order : Order) → length line ≤ 8192 → S
 not_bad line bytes order short spells (inl long) = omega (arith, short, long)
 not_bad line bytes order short spells (inr none) = none bytes order spells
 
-alike_ends : (w w' : World) (a b : Option World) → IsAlike w w' → a ≡ Some w → b ≡ Some w' → AlikeEnds a b
-alike_ends w w' a b alike e e' = subst (λ (x : Option World). AlikeEnds x b) (sym e) (subst (λ (x : Option World). AlikeEnds (Some w) x) (sym e') alike)
+alike_ends : (w w' : MeterWorld) (a b : Option MeterWorld) → IsAlike w w' → a ≡ Some w → b ≡ Some w' → AlikeEnds a b
+alike_ends w w' a b alike e e' = subst (λ (x : Option MeterWorld). AlikeEnds x b) (sym e) (subst (λ (x : Option MeterWorld). AlikeEnds (Some w) x) (sym e') alike)
 
-same_run : (honest : Bool) (lines : List (List ℕ)) (number : ℕ) (w w' : World) (s t : List ℕ) (end end' : End) (last last' : Option World) → IsAlike w w'
+same_run : (honest : Bool) (lines : List (List ℕ)) (number : ℕ) (w w' : MeterWorld) (s t : List ℕ) (end end' : End) (last last' : Option MeterWorld) → IsAlike w w'
     → (a : Replays honest w number lines s end last) (b : Replays honest w' number lines t end' last')
     → AllFound honest w number lines s end last a → AllFound honest w' number lines t end' last' b → (s ≡ t) × (end ≡ end') × AlikeEnds last last'
 same_run honest [] number w w' s t end end' last last' same a b e e' = (a.0 ∙ sym b.0, a.1 ∙ sym b.1, alike_ends w w' last last' same a.2 b.2)
@@ -215,7 +215,7 @@ same_run honest (line ∷ lines) number w w' s t end end' last last' same (inr (
     let more = same_run honest lines (number + 1) v v' rest rest' end end' last last' one.0 replays replays' e.1 e'.1 in
     (joins ∙ ap (λ (x : List ℕ). x ++ rest) one.1 ∙ ap (λ (x : List ℕ). first' ++ x) more.0 ∙ sym joins', more.1, more.2)
 
-pub one_outcome_of : (honest : Bool) (lines : List (List ℕ)) (number : ℕ) (w : World) (s t : List ℕ) (end end' : End) (last last' : Option World)
+pub one_outcome_of : (honest : Bool) (lines : List (List ℕ)) (number : ℕ) (w : MeterWorld) (s t : List ℕ) (end end' : End) (last last' : Option MeterWorld)
     → (a : Replays honest w number lines s end last) (b : Replays honest w number lines t end' last')
     → AllFound honest w number lines s end last a → AllFound honest w number lines t end' last' b → (s ≡ t) × (end ≡ end') × AlikeEnds last last'
 one_outcome_of honest lines number w s t end end' last last' a b e e' =

@@ -8,9 +8,9 @@ use Rattle.dlms_store.specs.declared.fault.OpenFault.{OpenFault}
 use Rattle.dlms_pages.specs.Device.{View}
 use Rattle.dlms_store.specs.Fitting.{DeviceFits, GivesBack, GivesUp, IsRefusal, OpensAs, StoreFits}
 use Rattle.dlms_store.specs.Store.{Remembers, view_of}
-use Rattle.dlms_store.specs.World.{World as StoreWorld, Next}
-use Rattle.dlms_store.specs.World.World.{Runs, InDoubt, Rests}
-use Rattle.dlms_store.specs.World.Step.{Closes, ClosesInDoubt, Opens}
+use Rattle.dlms_store.specs.World.{StoreWorld, Next}
+use Rattle.dlms_store.specs.World.StoreWorld.{Runs, InDoubt, Rests}
+use Rattle.dlms_store.specs.World.StoreStep.{Closes, ClosesInDoubt, Opens}
 use Rattle.dlms_state.specs.declared.event.Event.{Event}
 use Rattle.dlms_program.specs.Calls.{Calls, Passes, Told}
 use Rattle.dlms_program.specs.declared.fault.ReplayFault.{ReplayFault}
@@ -22,12 +22,12 @@ use Rattle.dlms_pages.specs.declared.device.Pages.{Ghosts}
 use Rattle.dlms_meter.specs.declared.meter.Meter.{Meter}
 use Rattle.dlms_program.specs.Orders.{Spells}
 use Rattle.dlms_program.specs.Printed.{reply_lines, reply_line, open_line, open_fault_line, state_line}
-use Rattle.dlms_program.specs.Replay.{AreDone, Did, DidPart, Does, DoesPart, End, Ended, Finds, Followed, Gone, IfKnown, IsAt, IsBad, IsLeft, LinesUsedUp, MayStayClosed, ReadNoMore, Replays, Tells, WroteNoMore, WroteReplay, outcome_line}
+use Rattle.dlms_program.specs.Replay.{AreDone, Did, DidPart, Does, DoesPart, End, Ended, Finds, Followed, Gone, IfKnown, IsAt, IsBad, IsLeft, LinesUsedUp, MayStayClosed, ReadNoMore, Replays, TellsOutcome, WroteNoMore, WroteReplay, outcome_line}
 use Rattle.dlms_program.specs.Replay.End.{Whole, Bad, Closed}
 use Rattle.dlms_program.specs.Written.{AppendsPart}
 use Rattle.dlms_state.specs.StateValue.{StateValue, IsStateOf, state_of}
-use Rattle.dlms_store.specs.World.{Step as StoreStep}
-use Rattle.dlms_meter.specs.Run.{World, Comes, Fed, Stands, Feeds, Judges, MayChoose, events_of, listed, recovered, silent}
+use Rattle.dlms_store.specs.World.{StoreStep}
+use Rattle.dlms_meter.specs.Run.{MeterWorld, Comes, Fed, Stands, Feeds, Judges, MayChoose, events_of, listed, recovered, silent}
 use Rattle.dlms_program.proofs.CallLemmas.{told_behind}
 use Rattle.dlms_program.proofs.PutLemmas.{appends_none, appends_more, nothing_missing}
 use Rattle.dlms_meter.proofs.Joining.{GoesOn, goes_start as start_piece, goes_call, goes_end as end_piece}
@@ -49,25 +49,25 @@ lines-append [] b = refl
 lines-append (x ∷ a) b = ap (λ (t : List ℕ). reply_line x ++ t) (lines-append a b) ∙ sym (append_assoc (reply_line x) (reply_lines a) (reply_lines b))
 
 -- what a call keeps of what a meter stands for
-pub at_of : {P A : Type 0} {ghosts : Ghosts P} (honest : Bool) (meter meter' : Meter P A ghosts) (w w' : World)
+pub at_of : {P A : Type 0} {ghosts : Ghosts P} (honest : Bool) (meter meter' : Meter P A ghosts) (w w' : MeterWorld)
     → IsAt honest meter w → Stands meter' w' → (StoreFits meter.store w.store → StoreFits meter'.store w'.store) → IsAt honest meter' w'
 at_of true meter meter' w w' at stands fits = (stands, fits at.1)
 at_of false meter meter' w w' at stands fits = stands
 
-pub stands_at : {P A : Type 0} {ghosts : Ghosts P} (honest : Bool) (meter : Meter P A ghosts) (w : World) → IsAt honest meter w → Stands meter w
+pub stands_at : {P A : Type 0} {ghosts : Ghosts P} (honest : Bool) (meter : Meter P A ghosts) (w : MeterWorld) → IsAt honest meter w → Stands meter w
 stands_at true meter w at = at.0
 stands_at false meter w at = at
 
 -- what has been fed so far, for every world that the meter stood for when it began
 abbrev pub FedSoFar : {P A : Type 0} → {ghosts : Ghosts P} → Option (List ℕ) → Option (List ℕ) → Meter P A ghosts → Meter P A ghosts → List ℕ → List ℕ → Type 0
-FedSoFar old now start meter bytes rest = (honest : Bool) (w : World) → IsAt honest start w → (m : World) × (replies : List (List ℕ)) × IsAt honest meter m
+FedSoFar old now start meter bytes rest = (honest : Bool) (w : MeterWorld) → IsAt honest start w → (m : MeterWorld) × (replies : List (List ℕ)) × IsAt honest meter m
     × Appends old now (reply_lines replies) × (front : List ℕ) × (front ++ rest ≡ bytes) × ((more : List ℕ) → GoesOn w (front ++ more) m more replies)
 
 pub fed_start : {P A : Type 0} {ghosts : Ghosts P} (contents : Option (List ℕ)) (meter : Meter P A ghosts) (bytes : List ℕ) → FedSoFar contents contents meter meter bytes bytes
 fed_start contents meter bytes = λ honest w at. (w, [], at, appends_none contents, [], refl, λ more. start_piece w more)
 
 -- one call more takes these bytes behind those before
-goes_further : {P A : Type 0} {ghosts : Ghosts P} (meter meter' : Meter P A ghosts) (w m m' : World) (front taken : List ℕ) (replies : List (List ℕ)) (reply : Option (List ℕ)) (steps : List StoreStep)
+goes_further : {P A : Type 0} {ghosts : Ghosts P} (meter meter' : Meter P A ghosts) (w m m' : MeterWorld) (front taken : List ℕ) (replies : List (List ℕ)) (reply : Option (List ℕ)) (steps : List StoreStep)
     → ((more : List ℕ) → GoesOn w (front ++ more) m more replies) → Fed (MayChoose meter.store meter'.store) m taken reply steps m' → (more : List ℕ) → GoesOn w ((front ++ taken) ++ more) m' more (replies ++ listed reply)
 goes_further meter meter' w m m' front taken replies reply steps on fed more =
     goes_call (MayChoose meter.store meter'.store) steps w ((front ++ taken) ++ more) m taken more replies reply m'
@@ -96,7 +96,7 @@ nothing_left [] h = refl
 nothing_left (x ∷ xs) h = absurd (omega (arith, h))
 
 pub fed_all : {P A : Type 0} {ghosts : Ghosts P} (old now : Option (List ℕ)) (start meter : Meter P A ghosts) (bytes rest : List ℕ) → length rest ≡ 0 → FedSoFar old now start meter bytes rest
-    → (honest : Bool) (w : World) → IsAt honest start w → Did honest old now w bytes Feed (Some meter)
+    → (honest : Bool) (w : MeterWorld) → IsAt honest start w → Did honest old now w bytes Feed (Some meter)
 fed_all old now start meter bytes rest none so_far honest w at =
     let here = so_far honest w at in
     let front : here.4 ≡ bytes = sym (append-nil here.4) ∙ ap (λ (t : List ℕ). here.4 ++ t) (sym (nothing_left rest none)) ∙ here.5 in
@@ -117,7 +117,7 @@ part_of_reply now new (Some bytes) part = (bytes, refl, subst (λ (t : List ℕ)
 
 pub fed_part : {P A : Type 0} {ghosts : Ghosts P} (old now new : Option (List ℕ)) (start meter meter' : Meter P A ghosts) (bytes rest taken left : List ℕ) (reply : Option (List ℕ))
     → taken ++ left ≡ rest → FedSoFar old now start meter bytes rest → Feeds meter taken reply meter' → AppendsPart now new (reply_lines (listed reply))
-    → (honest : Bool) (w : World) → IsAt honest start w → DidPart honest old new w bytes Feed (Some meter')
+    → (honest : Bool) (w : MeterWorld) → IsAt honest start w → DidPart honest old new w bytes Feed (Some meter')
 fed_part old now new start meter meter' bytes rest taken left reply cut so_far feeds part honest w at =
     let here = so_far honest w at in
     let call = feeds here.0 (stands_at honest meter here.0 here.2) in
@@ -142,7 +142,7 @@ fed_part old now new start meter meter' bytes rest taken left reply cut so_far f
 
 pub pulses_told : {P A : Type 0} {ghosts : Ghosts P} (old new : Option (List ℕ)) (meter meter' : Meter P A ghosts) (bytes : List ℕ) (channel count : ℕ) (outcome : Result (Unit {0}) AddFault)
     → Judges meter (PulseEvent channel count) outcome meter' → Appends old new (outcome_line outcome)
-    → (honest : Bool) (w : World) → IsAt honest meter w → Did honest old new w bytes (Pulses channel count) (Some meter')
+    → (honest : Bool) (w : MeterWorld) → IsAt honest meter w → Did honest old new w bytes (Pulses channel count) (Some meter')
 pulses_told old new meter meter' bytes channel count outcome judges appends honest w at =
     let call = judges w (stands_at honest meter w at) in
     record {
@@ -155,7 +155,7 @@ pulses_told old new meter meter' bytes channel count outcome judges appends hone
 
 pub moment_told : {P A : Type 0} {ghosts : Ghosts P} (old new : Option (List ℕ)) (meter meter' : Meter P A ghosts) (bytes : List ℕ) (second : ℕ) (outcome : Result (Unit {0}) AddFault)
     → Judges meter (MomentEvent second) outcome meter' → Appends old new (outcome_line outcome)
-    → (honest : Bool) (w : World) → IsAt honest meter w → Did honest old new w bytes (Moment second) (Some meter')
+    → (honest : Bool) (w : MeterWorld) → IsAt honest meter w → Did honest old new w bytes (Moment second) (Some meter')
 moment_told old new meter meter' bytes second outcome judges appends honest w at =
     let call = judges w (stands_at honest meter w at) in
     record {
@@ -168,8 +168,8 @@ moment_told old new meter meter' bytes second outcome judges appends honest w at
 
 -- an event that was judged, and of whose refusal or fault a part was written
 judged_part : {P A : Type 0} {ghosts : Ghosts P} (old new : Option (List ℕ)) (meter meter' : Meter P A ghosts) (bytes : List ℕ) (order : Order) (event : Event) (outcome : Result (Unit {0}) AddFault)
-    → ((honest : Bool) (w w' : World) → Tells w event w' (outcome_line outcome) → DoesPart honest w bytes order w' [] (outcome_line outcome)) → Judges meter event outcome meter' → AppendsPart old new (outcome_line outcome)
-    → (honest : Bool) (w : World) → IsAt honest meter w → DidPart honest old new w bytes order (Some meter')
+    → ((honest : Bool) (w w' : MeterWorld) → TellsOutcome w event w' (outcome_line outcome) → DoesPart honest w bytes order w' [] (outcome_line outcome)) → Judges meter event outcome meter' → AppendsPart old new (outcome_line outcome)
+    → (honest : Bool) (w : MeterWorld) → IsAt honest meter w → DidPart honest old new w bytes order (Some meter')
 judged_part old new meter meter' bytes order event outcome does judges part honest w at =
     let call = judges w (stands_at honest meter w at) in
     record {
@@ -185,31 +185,31 @@ judged_part old new meter meter' bytes order event outcome does judges part hone
 
 pub pulses_part : {P A : Type 0} {ghosts : Ghosts P} (old new : Option (List ℕ)) (meter meter' : Meter P A ghosts) (bytes : List ℕ) (channel count : ℕ) (outcome : Result (Unit {0}) AddFault)
     → Judges meter (PulseEvent channel count) outcome meter' → AppendsPart old new (outcome_line outcome)
-    → (honest : Bool) (w : World) → IsAt honest meter w → DidPart honest old new w bytes (Pulses channel count) (Some meter')
+    → (honest : Bool) (w : MeterWorld) → IsAt honest meter w → DidPart honest old new w bytes (Pulses channel count) (Some meter')
 pulses_part old new meter meter' bytes channel count outcome = judged_part old new meter meter' bytes (Pulses channel count) (PulseEvent channel count) outcome (λ honest w w' tells. (refl, tells))
 
 pub moment_part : {P A : Type 0} {ghosts : Ghosts P} (old new : Option (List ℕ)) (meter meter' : Meter P A ghosts) (bytes : List ℕ) (second : ℕ) (outcome : Result (Unit {0}) AddFault)
     → Judges meter (MomentEvent second) outcome meter' → AppendsPart old new (outcome_line outcome)
-    → (honest : Bool) (w : World) → IsAt honest meter w → DidPart honest old new w bytes (Moment second) (Some meter')
+    → (honest : Bool) (w : MeterWorld) → IsAt honest meter w → DidPart honest old new w bytes (Moment second) (Some meter')
 moment_part old new meter meter' bytes second outcome = judged_part old new meter meter' bytes (Moment second) (MomentEvent second) outcome (λ honest w w' tells. (refl, tells))
 
 -- ---- silence, and lines that leave the meter as it is
 
 -- the state that is told is that of the meter's events
-told_state : {P A : Type 0} {ghosts : Ghosts P} (honest : Bool) (meter : Meter P A ghosts) (w : World) (s : StateValue) → ((w : World) → Stands meter w → IsStateOf (events_of w) s) → IsAt honest meter w → state_line s ≡ state_line (state_of (events_of w))
+told_state : {P A : Type 0} {ghosts : Ghosts P} (honest : Bool) (meter : Meter P A ghosts) (w : MeterWorld) (s : StateValue) → ((w : MeterWorld) → Stands meter w → IsStateOf (events_of w) s) → IsAt honest meter w → state_line s ≡ state_line (state_of (events_of w))
 told_state honest meter w s is at = ap (λ (t : StateValue). state_line t) (is w (stands_at honest meter w at)).value
 
-pub show_told : {P A : Type 0} {ghosts : Ghosts P} (old new : Option (List ℕ)) (meter : Meter P A ghosts) (bytes : List ℕ) (s : StateValue) → ((w : World) → Stands meter w → IsStateOf (events_of w) s) → Appends old new (state_line s)
-    → (honest : Bool) (w : World) → IsAt honest meter w → Did honest old new w bytes Show (Some meter)
+pub show_told : {P A : Type 0} {ghosts : Ghosts P} (old new : Option (List ℕ)) (meter : Meter P A ghosts) (bytes : List ℕ) (s : StateValue) → ((w : MeterWorld) → Stands meter w → IsStateOf (events_of w) s) → Appends old new (state_line s)
+    → (honest : Bool) (w : MeterWorld) → IsAt honest meter w → Did honest old new w bytes Show (Some meter)
 show_told old new meter bytes s is appends honest w at = record { world = w; written = state_line s; does = (refl, told_state honest meter w s is at); left = at; appends = appends }
 
-pub show_part : {P A : Type 0} {ghosts : Ghosts P} (old new : Option (List ℕ)) (meter : Meter P A ghosts) (bytes : List ℕ) (s : StateValue) → ((w : World) → Stands meter w → IsStateOf (events_of w) s) → AppendsPart old new (state_line s)
-    → (honest : Bool) (w : World) → IsAt honest meter w → DidPart honest old new w bytes Show (Some meter)
+pub show_part : {P A : Type 0} {ghosts : Ghosts P} (old new : Option (List ℕ)) (meter : Meter P A ghosts) (bytes : List ℕ) (s : StateValue) → ((w : MeterWorld) → Stands meter w → IsStateOf (events_of w) s) → AppendsPart old new (state_line s)
+    → (honest : Bool) (w : MeterWorld) → IsAt honest meter w → DidPart honest old new w bytes Show (Some meter)
 show_part old new meter bytes s is part honest w at =
     record { world = w; before = []; told = state_line s; does = (refl, (refl, told_state honest meter w s is at)); left = at; mid = old; appends = appends_none old; breaks = part }
 
-pub silence_told : {P A : Type 0} {ghosts : Ghosts P} (contents : Option (List ℕ)) (meter meter' : Meter P A ghosts) (bytes : List ℕ) → ((w : World) → Stands meter w → Stands meter' (silent w)) → meter'.store ≡ meter.store
-    → (honest : Bool) (w : World) → IsAt honest meter w → Did honest contents contents w bytes Silence (Some meter')
+pub silence_told : {P A : Type 0} {ghosts : Ghosts P} (contents : Option (List ℕ)) (meter meter' : Meter P A ghosts) (bytes : List ℕ) → ((w : MeterWorld) → Stands meter w → Stands meter' (silent w)) → meter'.store ≡ meter.store
+    → (honest : Bool) (w : MeterWorld) → IsAt honest meter w → Did honest contents contents w bytes Silence (Some meter')
 silence_told contents meter meter' bytes quiet same honest w at =
     record {
       world = silent w;
@@ -227,7 +227,7 @@ opened_runs (InDoubt s p) now found h = h.1
 opened_runs (Rests events) now found h = h.1
 
 -- what a meter stands for that was closed and recovered: of a device that keeps the rules, what its store's world says
-abbrev pub IsFound : {P A : Type 0} → {ghosts : Ghosts P} → Bool → World → Meter P A ghosts → Type 0
+abbrev pub IsFound : {P A : Type 0} → {ghosts : Ghosts P} → Bool → MeterWorld → Meter P A ghosts → Type 0
 IsFound honest w meter = (found : List Event) × Finds honest w.store found × IsAt honest meter (recovered found)
 
 module _ {P A : Type 0} {ghosts : Ghosts P} (start : Meter P A ghosts) (device : P) where
@@ -238,7 +238,7 @@ module _ {P A : Type 0} {ghosts : Ghosts P} (start : Meter P A ghosts) (device :
   abbrev pub MayOpen : Meter P A ghosts → Type 0
   MayOpen meter = (before : StoreWorld) → DeviceFits (ghosts.view device) before → OpensAs before (ghosts.view device) meter.store
 
-  found_in : (meter : Meter P A ghosts) (w : World) (closed : StoreWorld) → Next w.store Closes closed ⊎ Next w.store ClosesInDoubt closed → DeviceFits (ghosts.view device) closed
+  found_in : (meter : Meter P A ghosts) (w : MeterWorld) (closed : StoreWorld) → Next w.store Closes closed ⊎ Next w.store ClosesInDoubt closed → DeviceFits (ghosts.view device) closed
       → MayOpen meter → ((events : List Event) → Remembers events [] meter.store → Stands meter (recovered events)) → IsFound true w meter
   found_in meter w closed next fits opens stands =
       let given = opens closed fits in
@@ -246,7 +246,7 @@ module _ {P A : Type 0} {ghosts : Ghosts P} (start : Meter P A ghosts) (device :
       let there : StoreFits meter.store (Runs given.found []) = subst (λ (x : StoreWorld). StoreFits meter.store x) runs given.fits in
       (given.found, (closed, next, subst (λ (x : StoreWorld). Next closed (Opens given.found) x) runs given.next), (stands given.found there.1, there))
 
-  pub reopened : (honest : Bool) (meter : Meter P A ghosts) (w : World) → IsClosed → MayOpen meter → (events : List Event) × Remembers events [] meter.store
+  pub reopened : (honest : Bool) (meter : Meter P A ghosts) (w : MeterWorld) → IsClosed → MayOpen meter → (events : List Event) × Remembers events [] meter.store
       → ((events : List Event) → Remembers events [] meter.store → Stands meter (recovered events)) → IsAt honest start w → IsFound honest w meter
   reopened false meter w closed opens opened stands at = (opened.0, tt, stands opened.0 opened.1)
   reopened true meter w closed opens opened stands at =
@@ -257,7 +257,7 @@ module _ {P A : Type 0} {ghosts : Ghosts P} (start : Meter P A ghosts) (device :
 
   pub open_told : (old new : Option (List ℕ)) (before : Option (Meter P A ghosts)) (meter : Meter P A ghosts) → before ≡ Some start → IsClosed → MayOpen meter
       → (events : List Event) × Remembers events [] meter.store → ((events : List Event) → Remembers events [] meter.store → Stands meter (recovered events))
-      → Appends old new open_line → (honest : Bool) (w : World) (bytes : List ℕ) → IsLeft honest before (Some w) → Did honest old new w bytes Open (Some meter)
+      → Appends old new open_line → (honest : Bool) (w : MeterWorld) (bytes : List ℕ) → IsLeft honest before (Some w) → Did honest old new w bytes Open (Some meter)
   open_told old new before meter is closed opens opened stands appends honest w bytes left =
       let at : IsAt honest start w = subst (λ (m : Option (Meter P A ghosts)). IsLeft honest m (Some w)) is left in
       let found = reopened honest meter w closed opens opened stands at in
@@ -265,13 +265,13 @@ module _ {P A : Type 0} {ghosts : Ghosts P} (start : Meter P A ghosts) (device :
 
   pub open_part : (old new : Option (List ℕ)) (before : Option (Meter P A ghosts)) (meter : Meter P A ghosts) → before ≡ Some start → IsClosed → MayOpen meter
       → (events : List Event) × Remembers events [] meter.store → ((events : List Event) → Remembers events [] meter.store → Stands meter (recovered events))
-      → AppendsPart old new open_line → (honest : Bool) (w : World) (bytes : List ℕ) → IsLeft honest before (Some w) → DidPart honest old new w bytes Open (Some meter)
+      → AppendsPart old new open_line → (honest : Bool) (w : MeterWorld) (bytes : List ℕ) → IsLeft honest before (Some w) → DidPart honest old new w bytes Open (Some meter)
   open_part old new before meter is closed opens opened stands part honest w bytes left =
       let at : IsAt honest start w = subst (λ (m : Option (Meter P A ghosts)). IsLeft honest m (Some w)) is left in
       let found = reopened honest meter w closed opens opened stands at in
       record { world = recovered found.0; before = []; told = open_line; does = (refl, (found.0, found.1, refl, refl)); left = found.2; mid = old; appends = appends_none old; breaks = part }
 
-  may_stay : (honest : Bool) (w : World) (fault : OpenFault) → IsClosed → ((before : StoreWorld) → DeviceFits (ghosts.view device) before → IsRefusal fault) → IsAt honest start w → MayStayClosed honest fault
+  may_stay : (honest : Bool) (w : MeterWorld) (fault : OpenFault) → IsClosed → ((before : StoreWorld) → DeviceFits (ghosts.view device) before → IsRefusal fault) → IsAt honest start w → MayStayClosed honest fault
   may_stay false w fault closed refuses at = tt
   may_stay true w fault closed refuses at =
       elim (closed w.store at.1) [
@@ -281,7 +281,7 @@ module _ {P A : Type 0} {ghosts : Ghosts P} (start : Meter P A ghosts) (device :
 
   pub gone_told : (Told : List ℕ → Type 0) (before after : Option (Meter P A ghosts)) (fault : OpenFault) (back : View) → before ≡ Some start → after ≡ None → IsClosed
       → ((world : StoreWorld) → DeviceFits (ghosts.view device) world → GivesBack world (ghosts.view device) back fault) → Told (open_fault_line fault)
-      → (honest : Bool) (w : World) → IsLeft honest before (Some w) → Gone honest Told Open after
+      → (honest : Bool) (w : MeterWorld) → IsLeft honest before (Some w) → Gone honest Told Open after
   gone_told Told before after fault back is none closed gives told honest w left =
       let at : IsAt honest start w = subst (λ (m : Option (Meter P A ghosts)). IsLeft honest m (Some w)) is left in
       record {
@@ -295,17 +295,17 @@ module _ {P A : Type 0} {ghosts : Ghosts P} (start : Meter P A ghosts) (device :
 -- ---- the lines of a text
 
 -- from the world m before line number, with this written since the start, the replay goes on as the whole does
-abbrev pub Goes : Bool → Option (List ℕ) → World → Option (List ℕ) → World → ℕ → List ℕ → Type 0
+abbrev pub Goes : Bool → Option (List ℕ) → MeterWorld → Option (List ℕ) → MeterWorld → ℕ → List ℕ → Type 0
 Goes honest None w rest m number written = ⊤
 Goes honest (Some text) w None m number written = ⊥
 Goes honest (Some text) w (Some rest) m number written =
-    (more : List ℕ) (end : End) (last : Option World) → Replays honest m number (lines_of rest) more end last → Replays honest w 1 (lines_of text) (written ++ more) end last
+    (more : List ℕ) (end : End) (last : Option MeterWorld) → Replays honest m number (lines_of rest) more end last → Replays honest w 1 (lines_of text) (written ++ more) end last
 
-goes_start : (honest : Bool) (text : Option (List ℕ)) (w : World) → Goes honest text w text w 1 []
+goes_start : (honest : Bool) (text : Option (List ℕ)) (w : MeterWorld) → Goes honest text w text w 1 []
 goes_start honest None w = tt
 goes_start honest (Some text) w = λ more end last h. h
 
-goes_line : (honest : Bool) (a b c : Option (List ℕ)) (w m m' : World) (written line bytes first : List ℕ) (order : Order) (number : ℕ)
+goes_line : (honest : Bool) (a b c : Option (List ℕ)) (w m m' : MeterWorld) (written line bytes first : List ℕ) (order : Order) (number : ℕ)
     → Goes honest a w b m number written → LosesLine b c line → length line ≤ 8192 → Spells line bytes order → Does honest m bytes order m' first
     → Goes honest a w c m' (number + 1) (written ++ first)
 goes_line honest None b c w m m' written line bytes first order number goes loses short spells does = tt
@@ -334,16 +334,16 @@ cut_line (Some text) (Some rest) None done line cut loses = absurd loses
 cut_line (Some text) (Some rest) (Some left) done line cut loses = cut ∙ ap (λ (ls : List (List ℕ)). done ++ ls) loses ∙ sym (append_assoc done (line ∷ []) (lines_of left))
 
 -- one line more
-done_line : (honest : Bool) (done : List (List ℕ)) (w m m' : World) (written line bytes first : List ℕ) (order : Order)
+done_line : (honest : Bool) (done : List (List ℕ)) (w m m' : MeterWorld) (written line bytes first : List ℕ) (order : Order)
     → AreDone honest w done m written → length line ≤ 8192 → Spells line bytes order → Does honest m bytes order m' first → AreDone honest w (done ++ line ∷ []) m' (written ++ first)
 done_line honest [] w m m' written line bytes first order are short spells does =
-    (short, bytes, order, m', first, [], spells, subst (λ (v : World). Does honest v bytes order m' first) are.0 does, (refl, refl), ap (λ (t : List ℕ). t ++ first) are.1 ∙ sym (append-nil first))
+    (short, bytes, order, m', first, [], spells, subst (λ (v : MeterWorld). Does honest v bytes order m' first) are.0 does, (refl, refl), ap (λ (t : List ℕ). t ++ first) are.1 ∙ sym (append-nil first))
 done_line honest (l ∷ done) w m m' written line bytes first order (short', bytes', order', v, first', rest, spells', does', are, joins) short spells does =
     (short', bytes', order', v, first', rest ++ first, spells', does', done_line honest done v m m' rest line bytes first order are short spells does, ap (λ (t : List ℕ). t ++ first) joins ∙ append_assoc first' rest first)
 
 -- what has been replayed so far
 abbrev pub ReplayedSoFar : {P A : Type 0} → {ghosts : Ghosts P} → Option (List ℕ) → Option (List ℕ) → Option (Meter P A ghosts) → Option (Meter P A ghosts) → Option (List ℕ) → Option (List ℕ) → ℕ → Type 0
-ReplayedSoFar old now start meter text rest number = (honest : Bool) (w : World) → IsLeft honest start (Some w) → (m : World) × (written : List ℕ) × IsLeft honest meter (Some m)
+ReplayedSoFar old now start meter text rest number = (honest : Bool) (w : MeterWorld) → IsLeft honest start (Some w) → (m : MeterWorld) × (written : List ℕ) × IsLeft honest meter (Some m)
     × Appends old now written × Goes honest text w rest m number written × (done : List (List ℕ)) × AreDone honest w done m written × CutAt text rest done × (length done + 1 ≡ number)
 
 pub replay_start : {P A : Type 0} {ghosts : Ghosts P} (contents : Option (List ℕ)) (meter : Option (Meter P A ghosts)) (text : Option (List ℕ)) → ReplayedSoFar contents contents meter meter text text 1
@@ -351,7 +351,7 @@ replay_start contents meter text = λ honest w at. (w, [], at, appends_none cont
 
 pub replay_line : {P A : Type 0} {ghosts : Ghosts P} (old now new : Option (List ℕ)) (start meter meter' : Option (Meter P A ghosts)) (text rest left : Option (List ℕ)) (line bytes : List ℕ) (order : Order) (number : ℕ)
     → ReplayedSoFar old now start meter text rest number → LosesLine rest left line → length line ≤ 8192 → Spells line bytes order
-    → ((honest : Bool) (w : World) → IsLeft honest meter (Some w) → Did honest now new w bytes order meter') → ReplayedSoFar old new start meter' text left (number + 1)
+    → ((honest : Bool) (w : MeterWorld) → IsLeft honest meter (Some w) → Did honest now new w bytes order meter') → ReplayedSoFar old new start meter' text left (number + 1)
 replay_line old now new start meter meter' text rest left line bytes order number so_far loses short spells does = λ honest w at.
     let here = so_far honest w at in
     let did = does honest here.0 here.2 in (
@@ -367,7 +367,7 @@ replay_line old now new start meter meter' text rest left line bytes order numbe
     )
 
 -- The end of the whole: from here the rest of the text writes this and comes to this end.
-wrote : {P A : Type 0} {ghosts : Ghosts P} (honest : Bool) (text rest : Option (List ℕ)) (w m : World) (written more : List ℕ) (number : ℕ) (end : End) (last : Option World) (old now new : Option (List ℕ)) (meter : Option (Meter P A ghosts))
+wrote : {P A : Type 0} {ghosts : Ghosts P} (honest : Bool) (text rest : Option (List ℕ)) (w m : MeterWorld) (written more : List ℕ) (number : ℕ) (end : End) (last : Option MeterWorld) (old now new : Option (List ℕ)) (meter : Option (Meter P A ghosts))
     → Goes honest text w rest m number written → Appends old now written → Appends now new more → IsLeft honest meter last
     → ((known : List ℕ) → rest ≡ Some known → Replays honest m number (lines_of known) more end last) → Ended honest old new w text end meter
 wrote honest None rest w m written more number end last old now new meter goes appends appends' left ends = tt
@@ -380,7 +380,7 @@ known_end None known at_end e = cc
 known_end (Some xs) known at_end e = let same : xs ≡ known = cc in sym same ∙ at_end
 
 pub replay_end : {P A : Type 0} {ghosts : Ghosts P} (old now : Option (List ℕ)) (start meter : Option (Meter P A ghosts)) (text rest : Option (List ℕ)) (number : ℕ)
-    → ReplayedSoFar old now start meter text rest number → IsAtEnd rest → (honest : Bool) (w : World) → IsLeft honest start (Some w) → Ended honest old now w text Whole meter
+    → ReplayedSoFar old now start meter text rest number → IsAtEnd rest → (honest : Bool) (w : MeterWorld) → IsLeft honest start (Some w) → Ended honest old now w text Whole meter
 replay_end old now start meter text rest number so_far at_end honest w at =
     let here = so_far honest w at in
     wrote honest text rest w here.0 here.1 [] number Whole (Some here.0) old now now meter here.4 here.3 (appends_none now) here.2
@@ -400,7 +400,7 @@ pub long_first : (rest : Option (List ℕ)) → HasLongLine rest 8192 → Begins
 long_first None long = tt
 long_first (Some rest) long = (long.0, long.1, long.2, inl long.3)
 
-bad_known : (honest : Bool) (m : World) (number : ℕ) (rest : Option (List ℕ)) → BeginsBad rest → (known : List ℕ) → rest ≡ Some known
+bad_known : (honest : Bool) (m : MeterWorld) (number : ℕ) (rest : Option (List ℕ)) → BeginsBad rest → (known : List ℕ) → rest ≡ Some known
     → Replays honest m number (lines_of known) [] (Bad number) (Some m)
 bad_known honest m number None bad known is = absurd (cc is)
 bad_known honest m number (Some rest) bad known is =
@@ -410,12 +410,12 @@ bad_known honest m number (Some rest) bad known is =
     (subst (λ (ls : List (List ℕ)). Replays honest m number ls [] (Bad number) (Some m)) (sym bad.2) here)
 
 pub replay_bad : {P A : Type 0} {ghosts : Ghosts P} (old now : Option (List ℕ)) (start meter : Option (Meter P A ghosts)) (text rest : Option (List ℕ)) (number : ℕ)
-    → ReplayedSoFar old now start meter text rest number → BeginsBad rest → (honest : Bool) (w : World) → IsLeft honest start (Some w) → Ended honest old now w text (Bad number) meter
+    → ReplayedSoFar old now start meter text rest number → BeginsBad rest → (honest : Bool) (w : MeterWorld) → IsLeft honest start (Some w) → Ended honest old now w text (Bad number) meter
 replay_bad old now start meter text rest number so_far bad honest w at =
     let here = so_far honest w at in
     wrote honest text rest w here.0 here.1 [] number (Bad number) (Some here.0) old now now meter here.4 here.3 (appends_none now) here.2 (bad_known honest here.0 number rest bad)
 
-gone_known : (honest : Bool) (m : World) (number : ℕ) (rest left : Option (List ℕ)) (line bytes : List ℕ) (fault : OpenFault) → LosesLine rest left line → Spells line bytes Open
+gone_known : (honest : Bool) (m : MeterWorld) (number : ℕ) (rest left : Option (List ℕ)) (line bytes : List ℕ) (fault : OpenFault) → LosesLine rest left line → Spells line bytes Open
     → MayStayClosed honest fault → (known : List ℕ) → rest ≡ Some known → Replays honest m number (lines_of known) (open_fault_line fault) Closed None
 gone_known honest m number None left line bytes fault loses spells may known is = absurd (cc is)
 gone_known honest m number (Some rest) None line bytes fault loses spells may known is = absurd loses
@@ -427,8 +427,8 @@ gone_known honest m number (Some rest) (Some left) line bytes fault loses spells
 
 pub replay_gone : {P A : Type 0} {ghosts : Ghosts P} (old now new : Option (List ℕ)) (start meter meter' : Option (Meter P A ghosts)) (text rest left : Option (List ℕ)) (line bytes : List ℕ) (order : Order) (number : ℕ)
     → ReplayedSoFar old now start meter text rest number → LosesLine rest left line → Spells line bytes order
-    → ((honest : Bool) (w : World) → IsLeft honest meter (Some w) → Gone honest (Appends now new) order meter')
-    → (honest : Bool) (w : World) → IsLeft honest start (Some w) → Ended honest old new w text Closed meter'
+    → ((honest : Bool) (w : MeterWorld) → IsLeft honest meter (Some w) → Gone honest (Appends now new) order meter')
+    → (honest : Bool) (w : MeterWorld) → IsLeft honest start (Some w) → Ended honest old new w text Closed meter'
 replay_gone old now new start meter meter' text rest left line bytes order number so_far loses spells gone honest w at =
     let here = so_far honest w at in
     let went = gone honest here.0 here.2 in
@@ -438,7 +438,7 @@ replay_gone old now new start meter meter' text rest left line bytes order numbe
 
 -- ---- a replay that is broken off
 
-read_part : {P A : Type 0} {ghosts : Ghosts P} (honest : Bool) (old now : Option (List ℕ)) (meter : Option (Meter P A ghosts)) (w m : World) (text rest left : Option (List ℕ)) (written part : List ℕ) (done : List (List ℕ))
+read_part : {P A : Type 0} {ghosts : Ghosts P} (honest : Bool) (old now : Option (List ℕ)) (meter : Option (Meter P A ghosts)) (w m : MeterWorld) (text rest left : Option (List ℕ)) (written part : List ℕ) (done : List (List ℕ))
     → IsLeft honest meter (Some m) → Appends old now written → AreDone honest w done m written → CutAt text rest done → LosesPart rest left part → IfKnown text left (λ text left. ReadNoMore honest old now w text left meter)
 read_part honest old now meter w m None rest left written part done at appends are cut loses = tt
 read_part honest old now meter w m (Some text) None left written part done at appends are cut loses = absurd cut
@@ -458,12 +458,12 @@ read_part honest old now meter w m (Some text) (Some rest) (Some left) written p
 -- the reader gave no more
 pub replay_cut : {P A : Type 0} {ghosts : Ghosts P} (old now : Option (List ℕ)) (start meter : Option (Meter P A ghosts)) (text rest left : Option (List ℕ)) (part : List ℕ) (number : ℕ)
     → ReplayedSoFar old now start meter text rest number → LosesPart rest left part
-    → (honest : Bool) (w : World) → IsLeft honest start (Some w) → IfKnown text left (λ text left. ReadNoMore honest old now w text left meter)
+    → (honest : Bool) (w : MeterWorld) → IsLeft honest start (Some w) → IfKnown text left (λ text left. ReadNoMore honest old now w text left meter)
 replay_cut old now start meter text rest left part number so_far loses honest w at =
     let here = so_far honest w at in
     read_part honest old now meter w here.0 text rest left here.1 part here.5 here.2 here.3 here.6 here.7 loses
 
-used_part : {P A : Type 0} {ghosts : Ghosts P} (honest : Bool) (old now : Option (List ℕ)) (meter : Option (Meter P A ghosts)) (w m : World) (text rest : Option (List ℕ)) (written : List ℕ) (done : List (List ℕ))
+used_part : {P A : Type 0} {ghosts : Ghosts P} (honest : Bool) (old now : Option (List ℕ)) (meter : Option (Meter P A ghosts)) (w m : MeterWorld) (text rest : Option (List ℕ)) (written : List ℕ) (done : List (List ℕ))
     → IsLeft honest meter (Some m) → Appends old now written → AreDone honest w done m written → CutAt text rest done → length done ≡ 2 ^ 32 - 1 → IfKnown text rest (λ text left. LinesUsedUp honest old now w text left meter)
 used_part honest old now meter w m None rest written done at appends are cut many = tt
 used_part honest old now meter w m (Some text) None written done at appends are cut many = absurd cut
@@ -476,12 +476,12 @@ used_part honest old now meter w m (Some text) (Some rest) written done at appen
 -- the lines were used up
 pub replay_used : {P A : Type 0} {ghosts : Ghosts P} (old now : Option (List ℕ)) (start meter : Option (Meter P A ghosts)) (text rest : Option (List ℕ)) (number : ℕ)
     → ReplayedSoFar old now start meter text rest number → number ≡ 2 ^ 32
-    → (honest : Bool) (w : World) → IsLeft honest start (Some w) → IfKnown text rest (λ text left. LinesUsedUp honest old now w text left meter)
+    → (honest : Bool) (w : MeterWorld) → IsLeft honest start (Some w) → IfKnown text rest (λ text left. LinesUsedUp honest old now w text left meter)
 replay_used old now start meter text rest number so_far last honest w at =
     let here = so_far honest w at in
     used_part honest old now meter w here.0 text rest here.1 here.5 here.2 here.3 here.6 here.7 (omega (arith, here.8, last))
 
-written_part : {P A : Type 0} {ghosts : Ghosts P} (honest : Bool) (old now new : Option (List ℕ)) (meter : Option (Meter P A ghosts)) (w m : World) (text rest left : Option (List ℕ)) (written line bytes : List ℕ) (order : Order) (done : List (List ℕ))
+written_part : {P A : Type 0} {ghosts : Ghosts P} (honest : Bool) (old now new : Option (List ℕ)) (meter : Option (Meter P A ghosts)) (w m : MeterWorld) (text rest left : Option (List ℕ)) (written line bytes : List ℕ) (order : Order) (done : List (List ℕ))
     → Appends old now written → AreDone honest w done m written → CutAt text rest done → LosesLine rest left line → length line ≤ 8192 → Spells line bytes order → Followed honest now new m bytes order (Err Io) meter
     → IfKnown text left (λ text left. WroteNoMore honest old new w text left meter)
 written_part honest old now new meter w m None rest left written line bytes order done appends are cut loses short spells breaks = tt
@@ -507,8 +507,8 @@ written_part honest old now new meter w m (Some text) (Some rest) (Some left) wr
 pub replay_fault : {P A : Type 0} {ghosts : Ghosts P} (reads reads' writes mid writes' : Option Calls) (old now new : Option (List ℕ)) (start meter meter' : Option (Meter P A ghosts)) (text rest left : Option (List ℕ)) (line bytes : List ℕ) (order : Order) (number : ℕ) (fault : ReplayFault)
     → Passes 0 reads reads' → Passes 0 writes mid → Told {T = Unit {0}} mid writes' (Err fault)
     → ReplayedSoFar old now start meter text rest number → LosesLine rest left line → length line ≤ 8192 → Spells line bytes order
-    → ((honest : Bool) (w : World) → IsLeft honest meter (Some w) → Followed honest now new w bytes order (Err fault) meter')
-    → (honest : Bool) (w : World) → IsLeft honest start (Some w) → WroteReplay honest reads reads' writes writes' old new w text left (Err fault) meter'
+    → ((honest : Bool) (w : MeterWorld) → IsLeft honest meter (Some w) → Followed honest now new w bytes order (Err fault) meter')
+    → (honest : Bool) (w : MeterWorld) → IsLeft honest start (Some w) → WroteReplay honest reads reads' writes writes' old new w text left (Err fault) meter'
 replay_fault reads reads' writes mid writes' old now new start meter meter' text rest left line bytes order number (Line n) read wrote told so_far loses short spells followed honest w at =
     let here = so_far honest w at in absurd (followed honest here.0 here.2)
 replay_fault reads reads' writes mid writes' old now new start meter meter' text rest left line bytes order number Io read wrote told so_far loses short spells followed honest w at =

@@ -6,7 +6,7 @@ use Rattle.dlms_program.specs.declared.orders.Order.TheVariants.{Skip, Feed, Pul
 use Rattle.dlms_store.specs.declared.fault.AddFault.{AddFault}
 use Rattle.dlms_store.specs.declared.fault.AddFault.TheVariants.{Refused}
 use Rattle.dlms_meter.specs.Alike.{IsAlike}
-use Rattle.dlms_meter.specs.Run.{World, FoundMemory, events_of}
+use Rattle.dlms_meter.specs.Run.{MeterWorld, FoundMemory, events_of}
 use Rattle.dlms_program.specs.Replay.{Does, End, Replays}
 
 -- an event was taken, or refused by the table of refusals
@@ -17,7 +17,7 @@ IsByTable _ = ⊥
 
 -- At each frame of a line, of which only bytes have any, memory was found; the device did not fail, and where it was closed and opened
 -- again every accepted event was found.
-abbrev pub LineFound : (honest : Bool) (w : World) (bytes : List ℕ) (order : Order) (w' : World) (written : List ℕ) → Does honest w bytes order w' written → Type 0
+abbrev pub LineFound : (honest : Bool) (w : MeterWorld) (bytes : List ℕ) (order : Order) (w' : MeterWorld) (written : List ℕ) → Does honest w bytes order w' written → Type 0
 LineFound honest w bytes Feed w' written (replies, comes, is) = FoundMemory comes.turns
 LineFound honest w bytes Skip w' written does = Unit {0}
 LineFound honest w bytes (Pulses channel count) w' written (outcome, step, judged, is) = IsByTable outcome
@@ -27,7 +27,7 @@ LineFound honest w bytes Open w' written (found, finds, leads, is) = found ≡ e
 LineFound honest w bytes Show w' written does = Unit {0}
 
 -- so it was in each line that was done
-abbrev pub AllFound : (honest : Bool) (w : World) (number : ℕ) (lines : List (List ℕ)) (written : List ℕ) (end : End) (last : Option World) → Replays honest w number lines written end last → Type 0
+abbrev pub AllFound : (honest : Bool) (w : MeterWorld) (number : ℕ) (lines : List (List ℕ)) (written : List ℕ) (end : End) (last : Option MeterWorld) → Replays honest w number lines written end last → Type 0
 AllFound honest w number [] written end last replays = Unit {0}
 AllFound honest w number (line ∷ lines) written end last (inl bad) = Unit {0}
 AllFound honest w number (line ∷ lines) written end last (inr (inl gone)) = ⊥
@@ -35,7 +35,7 @@ AllFound honest w number (line ∷ lines) written end last (inr (inr (short, byt
     LineFound honest w bytes order w' first does × AllFound honest w' (number + 1) lines rest end last replays
 
 -- two runs end at worlds that nobody tells apart, or both at none
-abbrev pub AlikeEnds : Option World → Option World → Type 0
+abbrev pub AlikeEnds : Option MeterWorld → Option MeterWorld → Type 0
 AlikeEnds (Some v) (Some w) = IsAlike v w
 AlikeEnds None None = Unit {0}
 AlikeEnds _ _ = ⊥

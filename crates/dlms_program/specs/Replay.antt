@@ -5,9 +5,9 @@ use Rattle.dlms_state.specs.declared.event.Event.{Event}
 use Rattle.dlms_state.specs.declared.event.Event.TheVariants.{Pulses as PulseEvent, Moment as MomentEvent}
 use Rattle.dlms_state.specs.StateValue.{state_of}
 use Rattle.dlms_pages.specs.declared.device.Pages.{Ghosts}
-use Rattle.dlms_store.specs.World.{World as StoreWorld, Step as StoreStep, Next}
-use Rattle.dlms_store.specs.World.World.{Runs}
-use Rattle.dlms_store.specs.World.Step.{Closes, ClosesInDoubt, Opens}
+use Rattle.dlms_store.specs.World.{StoreWorld, StoreStep, Next}
+use Rattle.dlms_store.specs.World.StoreWorld.{Runs}
+use Rattle.dlms_store.specs.World.StoreStep.{Closes, ClosesInDoubt, Opens}
 use Rattle.dlms_store.specs.Fitting.{StoreFits, IsRefusal}
 use Rattle.dlms_store.specs.declared.fault.OpenFault.{OpenFault}
 use Rattle.dlms_store.specs.declared.fault.AddFault.{AddFault}
@@ -22,7 +22,7 @@ use Rattle.dlms_meter.specs.declared.meter.Meter.{Meter}
 use Rattle.dlms_program.specs.Orders.{Spells}
 use Rattle.dlms_program.specs.Printed.{reply_line, reply_lines, refusal_line, fault_line, open_line, open_fault_line, state_line}
 use Rattle.dlms_program.specs.Written.{AppendsPart}
-use Rattle.dlms_meter.specs.Run.{World, Comes, Judged, events_of, recovered, silent, Stands}
+use Rattle.dlms_meter.specs.Run.{MeterWorld, Comes, Judged, events_of, recovered, silent, Stands}
 
 -- what is written of an event: nothing, why it was refused, or the number of the fault for which it was not taken
 abbrev pub outcome_line : Result (Unit {0}) AddFault → List ℕ
@@ -33,8 +33,8 @@ outcome_line (Err add.Stopped) = fault_line 3
 outcome_line (Err add.Exhausted) = fault_line 4
 
 -- an event is judged, and its refusal or fault written
-abbrev pub Tells : World → Event → World → List ℕ → Type 0
-Tells w event w' written = (outcome : Result (Unit {0}) AddFault) × (step : StoreStep) × Judged w event outcome step w' × (written ≡ outcome_line outcome)
+abbrev pub TellsOutcome : MeterWorld → Event → MeterWorld → List ℕ → Type 0
+TellsOutcome w event w' written = (outcome : Result (Unit {0}) AddFault) × (step : StoreStep) × Judged w event outcome step w' × (written ≡ outcome_line outcome)
 
 -- A store is closed, which settles what was pending; or that fails, since the device fails or failed earlier, or the generation is
 -- exhausted, and what was pending is in doubt. Then its device is opened, and these events are found.
@@ -48,11 +48,11 @@ Finds false before found = Unit {0}
 
 -- From one world an order, with the bytes that it brings, leads to another, and writes that. The flag tells whether the device keeps
 -- the rules.
-abbrev pub Does : Bool → World → List ℕ → Order → World → List ℕ → Type 0
+abbrev pub Does : Bool → MeterWorld → List ℕ → Order → MeterWorld → List ℕ → Type 0
 Does honest w bytes Skip w' written = (w' ≡ w) × (written ≡ [])
 Does honest w bytes Feed w' written = (replies : List (List ℕ)) × Comes w bytes replies w' × (written ≡ reply_lines replies)
-Does honest w bytes (Pulses channel count) w' written = Tells w (PulseEvent channel count) w' written
-Does honest w bytes (Moment second) w' written = Tells w (MomentEvent second) w' written
+Does honest w bytes (Pulses channel count) w' written = TellsOutcome w (PulseEvent channel count) w' written
+Does honest w bytes (Moment second) w' written = TellsOutcome w (MomentEvent second) w' written
 Does honest w bytes Silence w' written = (w' ≡ silent w) × (written ≡ [])
 Does honest w bytes Open w' written = (found : List Event) × Finds honest w.store found × (w' ≡ recovered found) × (written ≡ open_line)
 Does honest w bytes Show w' written = (w' ≡ w) × (written ≡ state_line (state_of (events_of w)))
@@ -65,19 +65,19 @@ MayStayClosed false fault = Unit {0}
 -- ---- what a meter stands for
 
 -- the meter stands for the world and, where its device keeps the rules, so does what the device holds
-abbrev pub IsAt : {P A : Type 0} → {ghosts : Ghosts P} → Bool → Meter P A ghosts → World → Type 0
+abbrev pub IsAt : {P A : Type 0} → {ghosts : Ghosts P} → Bool → Meter P A ghosts → MeterWorld → Type 0
 IsAt true meter w = Stands meter w × StoreFits meter.store w.store
 IsAt false meter w = Stands meter w
 
 -- a meter is there and stands for the world, or there is neither
-abbrev pub IsLeft : {P A : Type 0} → {ghosts : Ghosts P} → Bool → Option (Meter P A ghosts) → Option World → Type 0
+abbrev pub IsLeft : {P A : Type 0} → {ghosts : Ghosts P} → Bool → Option (Meter P A ghosts) → Option MeterWorld → Type 0
 IsLeft honest (Some meter) (Some w) = IsAt honest meter w
 IsLeft honest None None = Unit {0}
 IsLeft honest _ _ = ⊥
 
 -- an order was done on a meter: the world that it then stands for, and what was written
-pub record Did {P A : Type 0} {ghosts : Ghosts P} (honest : Bool) (old new : Option (List ℕ)) (w : World) (bytes : List ℕ) (order : Order) (meter : Option (Meter P A ghosts)) : Type 0 where
-  pub world : World
+pub record Did {P A : Type 0} {ghosts : Ghosts P} (honest : Bool) (old new : Option (List ℕ)) (w : MeterWorld) (bytes : List ℕ) (order : Order) (meter : Option (Meter P A ghosts)) : Type 0 where
+  pub world : MeterWorld
   pub written : List ℕ
   pub does : Does honest w bytes order world written
   pub left : IsLeft honest meter (Some world)
@@ -85,15 +85,15 @@ pub record Did {P A : Type 0} {ghosts : Ghosts P} (honest : Bool) (old new : Opt
 
 -- What an order does whose answer could not be written whole: before what is written in part, this was written. A piece of bytes
 -- is taken up to the frame whose reply that is.
-abbrev pub DoesPart : Bool → World → List ℕ → Order → World → (before told : List ℕ) → Type 0
+abbrev pub DoesPart : Bool → MeterWorld → List ℕ → Order → MeterWorld → (before told : List ℕ) → Type 0
 DoesPart honest w bytes Feed w' before told =
     (front : List ℕ) × (rest : List ℕ) × (front ++ rest ≡ bytes) × (replies : List (List ℕ)) × (reply : List ℕ)
     × Comes w front (replies ++ reply ∷ []) w' × (before ≡ reply_lines replies) × (told ≡ reply_line reply)
 DoesPart honest w bytes order w' before told = (before ≡ []) × Does honest w bytes order w' told
 
 -- so it was done on a meter
-pub record DidPart {P A : Type 0} {ghosts : Ghosts P} (honest : Bool) (old new : Option (List ℕ)) (w : World) (bytes : List ℕ) (order : Order) (meter : Option (Meter P A ghosts)) : Type 0 where
-  pub world : World
+pub record DidPart {P A : Type 0} {ghosts : Ghosts P} (honest : Bool) (old new : Option (List ℕ)) (w : MeterWorld) (bytes : List ℕ) (order : Order) (meter : Option (Meter P A ghosts)) : Type 0 where
+  pub world : MeterWorld
   pub before : List ℕ
   pub told : List ℕ
   pub does : DoesPart honest w bytes order world before told
@@ -103,7 +103,7 @@ pub record DidPart {P A : Type 0} {ghosts : Ghosts P} (honest : Bool) (old new :
   pub breaks : AppendsPart mid new told
 
 -- what came of an order on a meter that is there afterwards: the writer may have failed
-abbrev pub Obeyed : {P A : Type 0} → {ghosts : Ghosts P} → {T E : Type 0} → Bool → Option (List ℕ) → Option (List ℕ) → World → List ℕ → Order → Result T E → Option (Meter P A ghosts) → Type 0
+abbrev pub Obeyed : {P A : Type 0} → {ghosts : Ghosts P} → {T E : Type 0} → Bool → Option (List ℕ) → Option (List ℕ) → MeterWorld → List ℕ → Order → Result T E → Option (Meter P A ghosts) → Type 0
 Obeyed honest old new w bytes order result meter = MatchResult result (λ _. Did honest old new w bytes order meter) (λ _. DidPart honest old new w bytes order meter)
 
 -- the meter was closed and not recovered: it is gone, and this is left of writing why
@@ -115,7 +115,7 @@ pub record Gone {P A : Type 0} {ghosts : Ghosts P} (honest : Bool) (Told : List 
   pub told : Told (open_fault_line fault)
 
 -- what came of an order
-abbrev pub Followed : {P A : Type 0} → {ghosts : Ghosts P} → Bool → Option (List ℕ) → Option (List ℕ) → World → List ℕ → Order → Result (Unit {0}) ReplayFault → Option (Meter P A ghosts) → Type 0
+abbrev pub Followed : {P A : Type 0} → {ghosts : Ghosts P} → Bool → Option (List ℕ) → Option (List ℕ) → MeterWorld → List ℕ → Order → Result (Unit {0}) ReplayFault → Option (Meter P A ghosts) → Type 0
 Followed honest old new w bytes order (Ok done) meter = Did honest old new w bytes order meter
 Followed honest old new w bytes order (Err Recovery) meter = Gone honest (Appends old new) order meter
 Followed honest old new w bytes order (Err Io) meter = DidPart honest old new w bytes order meter ⊎ Gone honest (AppendsPart old new) order meter
@@ -134,47 +134,47 @@ pub data End : Type 0 where
   Closed : End
 
 -- From a world, the lines from that number on write this, up to such an end, and lead to that world, or to none where the meter is gone.
-abbrev pub Replays : Bool → World → ℕ → List (List ℕ) → List ℕ → End → Option World → Type 0
+abbrev pub Replays : Bool → MeterWorld → ℕ → List (List ℕ) → List ℕ → End → Option MeterWorld → Type 0
 Replays honest w number [] written end last = (written ≡ []) × (end ≡ Whole) × (last ≡ Some w)
 Replays honest w number (line ∷ lines) written end last =
     (IsBad line × (written ≡ []) × (end ≡ Bad number) × (last ≡ Some w))
     ⊎ ((bytes : List ℕ) × Spells line bytes Open × (fault : OpenFault) × MayStayClosed honest fault × (written ≡ open_fault_line fault) × (end ≡ Closed) × (last ≡ None))
-    ⊎ ((length line ≤ 8192) × (bytes : List ℕ) × (order : Order) × (w' : World) × (first : List ℕ) × (rest : List ℕ)
+    ⊎ ((length line ≤ 8192) × (bytes : List ℕ) × (order : Order) × (w' : MeterWorld) × (first : List ℕ) × (rest : List ℕ)
     × Spells line bytes order × Does honest w bytes order w' first × Replays honest w' (number + 1) lines rest end last × (written ≡ first ++ rest))
 
 -- a replay of a known text came to such an end: it wrote what the text says, and nothing else, and the meter stands for where it led
-abbrev pub Ended : {P A : Type 0} → {ghosts : Ghosts P} → Bool → Option (List ℕ) → Option (List ℕ) → World → Option (List ℕ) → End → Option (Meter P A ghosts) → Type 0
+abbrev pub Ended : {P A : Type 0} → {ghosts : Ghosts P} → Bool → Option (List ℕ) → Option (List ℕ) → MeterWorld → Option (List ℕ) → End → Option (Meter P A ghosts) → Type 0
 Ended honest old new w None end meter = ⊤
 Ended honest old new w (Some text) end meter =
-    (written : List ℕ) × (last : Option World) × Appends old new written × Replays honest w 1 (lines_of text) written end last × IsLeft honest meter last
+    (written : List ℕ) × (last : Option MeterWorld) × Appends old new written × Replays honest w 1 (lines_of text) written end last × IsLeft honest meter last
 
 -- ---- a replay that is broken off
 
 -- these lines are done one after another, and lead to that world and write this
-abbrev pub AreDone : Bool → World → List (List ℕ) → World → List ℕ → Type 0
+abbrev pub AreDone : Bool → MeterWorld → List (List ℕ) → MeterWorld → List ℕ → Type 0
 AreDone honest w [] m written = (m ≡ w) × (written ≡ [])
 AreDone honest w (line ∷ lines) m written =
-    (length line ≤ 8192) × (bytes : List ℕ) × (order : Order) × (w' : World) × (first : List ℕ) × (rest : List ℕ)
+    (length line ≤ 8192) × (bytes : List ℕ) × (order : Order) × (w' : MeterWorld) × (first : List ℕ) × (rest : List ℕ)
     × Spells line bytes order × Does honest w bytes order w' first × AreDone honest w' lines m rest × (written ≡ first ++ rest)
 
 -- The reader gave no more: lines were read and done, and of one more a part was read.
-pub record ReadNoMore {P A : Type 0} {ghosts : Ghosts P} (honest : Bool) (old new : Option (List ℕ)) (w : World) (text left : List ℕ) (meter : Option (Meter P A ghosts)) : Type 0 where
+pub record ReadNoMore {P A : Type 0} {ghosts : Ghosts P} (honest : Bool) (old new : Option (List ℕ)) (w : MeterWorld) (text left : List ℕ) (meter : Option (Meter P A ghosts)) : Type 0 where
   pub done : List (List ℕ)
   pub part : List ℕ
   pub cut : lines_of text ≡ done ++ lines_of (part ++ left)
   pub no_feed : HasNoFeed part
-  pub world : World
+  pub world : MeterWorld
   pub written : List ℕ
   pub are : AreDone honest w done world written
   pub left_is : IsLeft honest meter (Some world)
   pub appends : Appends old new written
 
 -- The writer took no more: lines were read and done, and one more was read, whose answer was written in part.
-pub record WroteNoMore {P A : Type 0} {ghosts : Ghosts P} (honest : Bool) (old new : Option (List ℕ)) (w : World) (text left : List ℕ) (meter : Option (Meter P A ghosts)) : Type 0 where
+pub record WroteNoMore {P A : Type 0} {ghosts : Ghosts P} (honest : Bool) (old new : Option (List ℕ)) (w : MeterWorld) (text left : List ℕ) (meter : Option (Meter P A ghosts)) : Type 0 where
   pub done : List (List ℕ)
   pub line : List ℕ
   pub cut : lines_of text ≡ done ++ line ∷ lines_of left
-  pub world : World
+  pub world : MeterWorld
   pub written : List ℕ
   pub are : AreDone honest w done world written
   pub mid : Option (List ℕ)
@@ -192,14 +192,14 @@ IfKnown (Some text) None Said = ⊥
 IfKnown (Some text) (Some left) Said = Said text left
 
 -- 2^32 - 1 lines were done, and none of the next one was read
-pub record LinesUsedUp {P A : Type 0} {ghosts : Ghosts P} (honest : Bool) (old new : Option (List ℕ)) (w : World) (text left : List ℕ) (meter : Option (Meter P A ghosts)) : Type 0 where
+pub record LinesUsedUp {P A : Type 0} {ghosts : Ghosts P} (honest : Bool) (old new : Option (List ℕ)) (w : MeterWorld) (text left : List ℕ) (meter : Option (Meter P A ghosts)) : Type 0 where
   pub read : ReadNoMore honest old new w text left meter
   pub none : read.part ≡ []
   pub many : length read.done ≡ 2 ^ 32 - 1
 
 -- A replay of a known text, of which this is left, by these calls of the reader and of the writer. `Io` is answered where the last
 -- call of one of them failed, or where 2^32 - 1 lines were done, by as many reads or more. In any other case no call failed.
-abbrev pub WroteReplay : {P A : Type 0} → {ghosts : Ghosts P} → Bool → (reads reads' writes writes' : Option Calls) → Option (List ℕ) → Option (List ℕ) → World → Option (List ℕ) → Option (List ℕ) → Result (Unit {0}) ReplayFault → Option (Meter P A ghosts) → Type 0
+abbrev pub WroteReplay : {P A : Type 0} → {ghosts : Ghosts P} → Bool → (reads reads' writes writes' : Option Calls) → Option (List ℕ) → Option (List ℕ) → MeterWorld → Option (List ℕ) → Option (List ℕ) → Result (Unit {0}) ReplayFault → Option (Meter P A ghosts) → Type 0
 WroteReplay honest reads reads' writes writes' old new w text left (Ok done) meter = Passes 0 reads reads' × Passes 0 writes writes' × Ended honest old new w text Whole meter
 WroteReplay honest reads reads' writes writes' old new w text left (Err (Line number)) meter = Passes 0 reads reads' × Passes 0 writes writes' × Ended honest old new w text (Bad number) meter
 WroteReplay honest reads reads' writes writes' old new w text left (Err Recovery) meter = Passes 0 reads reads' × Passes 0 writes writes' × Ended honest old new w text Closed meter

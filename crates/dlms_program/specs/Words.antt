@@ -1,8 +1,8 @@
 -- The program's words: its commands, and the job that a parse names.
 use Rattle.std.specs.Prelude.{◌≡◌, ◌<◌, ◌^◌, ℕ, pos, [], List, Option, Some, None, codes, option_map, unwrap_or, true}
 use Rattle.clap.specs.Words.{App, Row, Rule, Text, first_of, new_app, new_rule, with_rule, with_subcommand}
-use Rattle.dlms_program.specs.declared.work.Job.{Job}
-use Rattle.dlms_program.specs.declared.work.Job.TheVariants.{Format, Replay, Loopback}
+use Rattle.dlms_program.specs.declared.commands.Job.{Job}
+use Rattle.dlms_program.specs.declared.commands.Job.TheVariants.{Format, Replay, Loopback}
 use Rattle.dlms_program.specs.Numbers.{IsNumberOf}
 use Rattle.clap.specs.declared.builder.value_parser.ValueParser.TheVariants as parser
 

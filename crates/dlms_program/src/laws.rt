@@ -1,7 +1,7 @@
 //! Laws over whole texts. They make no call: the calls' own contracts cite the same definitions.
 
 ghost use Rattle.std.specs.Prelude.{◌≡◌, ℕ, Bool, List, Option};
-ghost use Rattle.dlms_meter.specs.Run.{World};
+ghost use Rattle.dlms_meter.specs.Run.{MeterWorld};
 ghost use Rattle.dlms_program.specs.Outcome.{AllFound, AlikeEnds};
 ghost use Rattle.dlms_program.specs.Replay.{End, Replays};
 
@@ -12,7 +12,7 @@ pub use dlms_world::laws::{
 /// Lines have one outcome, where memory is found, the device does not fail and each recovery finds every accepted event: what is
 /// written, how it ends, and the world that they lead to, but for which of its events are settled.
 pub fn one_outcome()
-    ensures { (honest : Bool) (lines : List (List ℕ)) (number : ℕ) (w : World) (s t : List ℕ) (end end' : End) (last last' : Option World)
+    ensures { (honest : Bool) (lines : List (List ℕ)) (number : ℕ) (w : MeterWorld) (s t : List ℕ) (end end' : End) (last last' : Option MeterWorld)
         → (a : Replays honest w number lines s end last) (b : Replays honest w number lines t end' last')
         → AllFound honest w number lines s end last a → AllFound honest w number lines t end' last' b → (s ≡ t) × (end ≡ end') × AlikeEnds last last' }
 {}

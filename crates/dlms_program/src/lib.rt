@@ -1,6 +1,7 @@
 //! What the program does: its words, and the replay of a transcript on a meter.
 #![tactic(auto)]
 
+mod commands;
 mod fault;
 pub mod laws;
 mod lines;
@@ -10,14 +11,10 @@ mod pairs;
 mod printing;
 mod replaying;
 mod streams;
-mod work;
-mod working;
+mod words;
 
+pub use commands::Job;
 pub use fault::ReplayFault;
 pub use replaying::replay;
 pub use streams::{Sink, Source};
-pub use work::Job;
-pub use working::job;
-
-#[cfg(test)]
-mod tests;
+pub use words::job;

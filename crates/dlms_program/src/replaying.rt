@@ -4,7 +4,7 @@ ghost use Rattle.dlms_state.specs.declared.event.Event.{Event};
 ghost use Rattle.dlms_program.specs.Calls.{Called, Told};
 ghost use Rattle.dlms_program.specs.Replay.{Followed, IsAt, IsLeft, Obeyed, WroteReplay, outcome_line};
 ghost use Rattle.dlms_program.specs.Written.{Writes};
-ghost use Rattle.dlms_meter.specs.Run.{World, Stands, Judges};
+ghost use Rattle.dlms_meter.specs.Run.{MeterWorld, Stands, Judges};
 
 use crate::fault::ReplayFault;
 use crate::lines::{Taken, take_line};
@@ -28,7 +28,7 @@ fn feed<W: Sink, P: Pages, A: Allocator + Copy>(
     bytes: &[u8],
     writer: &mut W,
 ) -> io::Result<()>
-    ensures lines { (honest : Bool) (w : World) → IsAt honest meter.old w → Obeyed honest (W.contents writer.old) (W.contents writer.new) w bytes.now Order.Feed result (Some meter.new) }
+    ensures lines { (honest : Bool) (w : MeterWorld) → IsAt honest meter.old w → Obeyed honest (W.contents writer.old) (W.contents writer.new) w bytes.now Order.Feed result (Some meter.new) }
     ensures calls { Called 0 (W.calls writer.old) (W.calls writer.new) result }
 {
     let mut rest = bytes;
@@ -79,7 +79,7 @@ fn reopen<W: Sink, P: Pages + Drop, A: Allocator + Copy>(
 ) -> Result<(), ReplayFault>
     requires { is_some meter.old ≡ true }
     ensures there { OnOk result (is_some meter.new ≡ true) }
-    ensures lines { (honest : Bool) (w : World) (bytes : List ℕ) → IsLeft honest meter.old (Some w) → Followed honest (W.contents writer.old) (W.contents writer.new) w bytes Order.Open result meter.new }
+    ensures lines { (honest : Bool) (w : MeterWorld) (bytes : List ℕ) → IsLeft honest meter.old (Some w) → Followed honest (W.contents writer.old) (W.contents writer.new) w bytes Order.Open result meter.new }
     ensures calls { Told (W.calls writer.old) (W.calls writer.new) result }
 {
     let Some(running) = meter.take() else {
@@ -106,7 +106,7 @@ fn obey<W: Sink, P: Pages, A: Allocator + Copy>(
     writer: &mut W,
 ) -> io::Result<()>
     requires { order ≢ Order.Open }
-    ensures lines { (honest : Bool) (w : World) → IsAt honest meter.old w → Obeyed honest (W.contents writer.old) (W.contents writer.new) w bytes.now order result (Some meter.new) }
+    ensures lines { (honest : Bool) (w : MeterWorld) → IsAt honest meter.old w → Obeyed honest (W.contents writer.old) (W.contents writer.new) w bytes.now order result (Some meter.new) }
     ensures calls { Called 0 (W.calls writer.old) (W.calls writer.new) result }
 {
     match order {
@@ -133,7 +133,7 @@ fn follow<W: Sink, P: Pages + Drop, A: Allocator + Copy>(
 ) -> Result<(), ReplayFault>
     requires { is_some meter.old ≡ true }
     ensures there { OnOk result (is_some meter.new ≡ true) }
-    ensures lines { (honest : Bool) (w : World) → IsLeft honest meter.old (Some w) → Followed honest (W.contents writer.old) (W.contents writer.new) w bytes.now order result meter.new }
+    ensures lines { (honest : Bool) (w : MeterWorld) → IsLeft honest meter.old (Some w) → Followed honest (W.contents writer.old) (W.contents writer.new) w bytes.now order result meter.new }
     ensures calls { Told (W.calls writer.old) (W.calls writer.new) result }
 {
     if order == Order::Open {
@@ -160,7 +160,7 @@ pub fn replay<R: Source, W: Sink, P: Pages + Drop, A: Allocator + Copy>(
     meter: &mut Option<Meter<P, A>>,
 ) -> Result<(), ReplayFault>
     requires { is_some meter.old ≡ true }
-    ensures { (honest : Bool) (w : World) → IsLeft honest meter.old (Some w) → WroteReplay honest (R.calls reader.old) (R.calls reader.new) (W.calls writer.old) (W.calls writer.new) (W.contents writer.old) (W.contents writer.new) w (R.remaining reader.old) (R.remaining reader.new) result meter.new }
+    ensures { (honest : Bool) (w : MeterWorld) → IsLeft honest meter.old (Some w) → WroteReplay honest (R.calls reader.old) (R.calls reader.new) (W.calls writer.old) (W.calls writer.new) (W.contents writer.old) (W.contents writer.new) w (R.remaining reader.old) (R.remaining reader.new) result meter.new }
 {
     let mut line = ArrayVec::new();
     let mut bytes = Pairs::new();

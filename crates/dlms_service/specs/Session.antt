@@ -11,6 +11,7 @@ use Rattle.dlms_state.specs.declared.event.Event.{Event}
 use Rattle.dlms_service.specs.declared.association.Association.{Association}
 use Rattle.dlms_service.specs.declared.served.Served.{Served}
 use Rattle.dlms_service.specs.declared.target.Target.{Target}
+use Rattle.dlms_acse.specs.declared.judging.TheConstants.{LEAST_SIZE, MOST_SIZE}
 
 pub record SessionValue : Type 0 where
   pub client : Client
@@ -63,7 +64,7 @@ action_service = 0x01
 -- the size of an association is one that a client may ask for
 abbrev pub HasSize : Option Association → Type 0
 HasSize None = Unit {0}
-HasSize (Some a) = (64 ≤ a.size) × (a.size ≤ 1024)
+HasSize (Some a) = (LEAST_SIZE ≤ a.size) × (a.size ≤ MOST_SIZE)
 
 -- What an APDU leads to: what is kept of the client, the APDU that answers it, and the event that is accepted, if any.
 pub record Outcome : Type 0 where

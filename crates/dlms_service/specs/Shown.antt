@@ -18,6 +18,7 @@ use Rattle.dlms_classes.specs.Choice.{Selection}
 use Rattle.dlms_service.specs.declared.association.Association.{Association}
 use Rattle.dlms_service.specs.Session.{SessionValue, Outcome, says, without_get, has, blocks_with_get, selective_access}
 use Rattle.dlms_blocks.specs.declared.block.TheConstants.{NO_LONG_GET}
+use Rattle.dlms_blocks.specs.declared.get_out.TheConstants.{GET_HEAD}
 
 -- a selector, as the objects see it
 abbrev pub selection : apdu.Selection → Selection
@@ -42,7 +43,7 @@ block_form invoke number (Err code) = get_block_result invoke number code
 -- the first block of an encoding
 abbrev pub in_blocks : SessionValue → Association → ℕ → List ℕ → Outcome
 in_blocks s a invoke encoding =
-    let transfer = beginning encoding (a.size - 12) in
+    let transfer = beginning encoding (a.size - GET_HEAD) in
     says (record s { getting = Some (after transfer 0) }) (block_form invoke 0 (answer transfer 0))
 
 -- An answer that fits the client's size goes whole; a longer one in blocks, where both ends have them.

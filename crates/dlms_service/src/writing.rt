@@ -8,6 +8,7 @@ ghost use Rattle.dlms_blocks.specs.BlockView.{view_of};
 ghost use Rattle.dlms_data.specs.Value.{Value};
 ghost use Rattle.dlms_data.specs.Writing.{canonical};
 ghost use Rattle.dlms_service.specs.Shown.{block_form};
+ghost use Rattle.dlms_service.specs.declared.writing.TheConstants.{MOST_BYTES};
 
 use arrayvec::ArrayVec;
 use dlms_apdu::{Response, write_response, write_short};
@@ -22,7 +23,7 @@ pub type Answer = ArrayVec<u8, MOST_BYTES>;
 
 /// An answer of these bytes.
 pub fn answer_of(bytes: &[u8]) -> Answer
-    requires { length bytes.now ≤ 1024 }
+    requires { length bytes.now ≤ MOST_BYTES }
     ensures { result.items ≡ bytes.now }
 {
     let mut answer = ArrayVec::new();

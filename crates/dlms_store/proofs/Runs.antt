@@ -4,9 +4,9 @@ use Rattle.std.proofs.lemmas.List.{append-nil, length-append}
 use Rattle.std.specs.List.{flat_map}
 use Rattle.dlms_state.specs.declared.event.Event.{Event}
 use Rattle.dlms_journal.specs.Record.{record_of}
-use Rattle.dlms_store.specs.World.{World, Step, IsBetween, Next, Run, accept, answer, accepted_after, answered_after, IsBeginning, IsQuiet, record_bytes}
-use Rattle.dlms_store.specs.World.World.{Runs, InDoubt, Rests}
-use Rattle.dlms_store.specs.World.Step.{Adds, AddsBehind, Settles, Refuses, Fails, Closes, ClosesInDoubt, Stops, Opens, OpenFails}
+use Rattle.dlms_store.specs.World.{StoreWorld, StoreStep, IsBetween, Next, StoreRun, accept, answer, accepted_after, answered_after, IsBeginning, IsQuiet, record_bytes}
+use Rattle.dlms_store.specs.World.StoreWorld.{Runs, InDoubt, Rests}
+use Rattle.dlms_store.specs.World.StoreStep.{Adds, AddsBehind, Settles, Refuses, Fails, Closes, ClosesInDoubt, Stops, Opens, OpenFails}
 
 pub record Found (found acc ans : List Event) : Type 0 where
   pub missing : List Event
@@ -19,7 +19,7 @@ pub record Kept (s p acc ans : List Event) : Type 0 where
   pub answered : IsBeginning ans s
   pub page : record_bytes p ≤ 496
 
-abbrev pub Good : World → List Event → List Event → Type 0
+abbrev pub Good : StoreWorld → List Event → List Event → Type 0
 Good (Runs s p) acc ans = Kept s p acc ans
 Good (InDoubt s p) acc ans = Kept s p acc ans
 Good (Rests e) acc ans = Found e acc ans
@@ -46,14 +46,14 @@ whole e = ([], append-nil e)
 opened : (e : List Event) → Kept e [] e e
 opened e = record { all = append-nil e; answered = whole e; page = omega arith }
 
-at : (mid now : World) (acc ans : List Event) → mid ≡ now → Good now acc ans → Good mid acc ans
+at : (mid now : StoreWorld) (acc ans : List Event) → mid ≡ now → Good now acc ans → Good mid acc ans
 at mid now acc ans same good = subst (λ w. Good w acc ans) (sym same) good
 
 settled : (s p acc ans : List Event) → Kept s p acc ans → Kept (s ++ p) [] acc acc
 settled s p acc ans k = record { all = append-nil (s ++ p) ∙ k.all; answered = ([], append-nil acc ∙ sym k.all); page = omega arith }
 
 -- each step keeps it
-pub keep : (before : World) (step : Step) (mid : World) (acc ans : List Event) → Next before step mid → Good before acc ans → Good mid (accept acc step) (answer ans acc step)
+pub keep : (before : StoreWorld) (step : StoreStep) (mid : StoreWorld) (acc ans : List Event) → Next before step mid → Good before acc ans → Good mid (accept acc step) (answer ans acc step)
 keep (Runs s p) (Adds e) mid acc ans next k =
     at mid (Runs s (p ++ e ∷ [])) (acc ++ e ∷ []) ans next.0 (record { all = sym (append_assoc s p (e ∷ [])) ∙ ap (λ (l : List Event). l ++ e ∷ []) k.all; answered = k.answered; page = next.1 })
 keep (Runs s p) (AddsBehind e) mid acc ans next k =
@@ -88,12 +88,12 @@ keep (Rests e) Fails mid acc ans none k = absurd none
 keep (Rests e) Closes mid acc ans none k = absurd none
 keep (Rests e) ClosesInDoubt mid acc ans none k = absurd none
 
-opens : (before mid : World) (found acc ans : List Event) → Next before (Opens found) mid → Good before acc ans → Found found acc ans
+opens : (before mid : StoreWorld) (found acc ans : List Event) → Next before (Opens found) mid → Good before acc ans → Found found acc ans
 opens (Runs s p) mid found acc ans none k = absurd none
 opens (InDoubt s p) mid found acc ans next k = between s p acc ans found k next.0
 opens (Rests e) mid found acc ans next k = subst (λ l. Found l acc ans) (sym next.0) k
 
-pub recovers : (steps : List Step) (before now : World) (found acc ans : List Event) → Good before acc ans → Run before (steps ++ Opens found ∷ []) now → Found found (accepted_after acc steps) (answered_after ans acc steps)
+pub recovers : (steps : List StoreStep) (before now : StoreWorld) (found acc ans : List Event) → Good before acc ans → StoreRun before (steps ++ Opens found ∷ []) now → Found found (accepted_after acc steps) (answered_after ans acc steps)
 recovers [] before now found acc ans good run = opens before run.0 found acc ans run.1 good
 recovers (step ∷ steps) before now found acc ans good run = recovers steps run.0 now found (accept acc step) (answer ans acc step) (keep before step run.0 acc ans run.1 good) run.2
 
@@ -101,17 +101,17 @@ pub at_start : Good (Runs [] []) [] []
 at_start = record { all = refl; answered = ([], refl); page = omega arith }
 
 -- a stop leaves a device at rest
-after_stop : (before mid : World) → Next before Stops mid → (events : List Event) × (mid ≡ Rests events)
+after_stop : (before mid : StoreWorld) → Next before Stops mid → (events : List Event) × (mid ≡ Rests events)
 after_stop (Runs s p) mid next = (next.0, next.2)
 after_stop (InDoubt s p) mid next = (next.0, next.2)
 after_stop (Rests e) mid next = (e, next)
 
-pub ends_at_rest : (steps : List Step) (before now : World) → Run before (steps ++ Stops ∷ []) now → (events : List Event) × (now ≡ Rests events)
+pub ends_at_rest : (steps : List StoreStep) (before now : StoreWorld) → StoreRun before (steps ++ Stops ∷ []) now → (events : List Event) × (now ≡ Rests events)
 ends_at_rest [] before now run = let rest = after_stop before run.0 run.1 in (rest.0, run.2 ∙ rest.1)
 ends_at_rest (step ∷ steps) before now run = ends_at_rest steps run.0 now run.2
 
 -- a world in which these events are settled, and no other is accepted
-abbrev pub Only : List Event → World → Type 0
+abbrev pub Only : List Event → StoreWorld → Type 0
 Only events (Runs s p) = (s ≡ events) × (p ≡ [])
 Only events (InDoubt s p) = (s ≡ events) × (p ≡ [])
 Only events (Rests e) = e ≡ events
@@ -127,15 +127,15 @@ only_between s p events found is none between =
 joined : (s p events : List Event) → s ≡ events → p ≡ [] → s ++ p ≡ events
 joined s p events is none = ap (λ (l : List Event). s ++ l) none ∙ append-nil s ∙ is
 
-at_world : (events : List Event) (mid now : World) → mid ≡ now → Only events now → Only events mid
+at_world : (events : List Event) (mid now : StoreWorld) → mid ≡ now → Only events now → Only events mid
 at_world events mid now same only = subst (Only events) (sym same) only
 
-abbrev pub Quiet : Step → Type 0
+abbrev pub Quiet : StoreStep → Type 0
 Quiet (Adds e) = ⊥
 Quiet (AddsBehind e) = ⊥
 Quiet _ = Unit {0}
 
-pub only_still : (events : List Event) (before : World) (step : Step) (mid : World) → Quiet step → Next before step mid → Only events before → Only events mid
+pub only_still : (events : List Event) (before : StoreWorld) (step : StoreStep) (mid : StoreWorld) → Quiet step → Next before step mid → Only events before → Only events mid
 only_still events before (Adds e) mid loud next is = absurd loud
 only_still events before (AddsBehind e) mid loud next is = absurd loud
 only_still events (Runs s p) Settles mid q next is = at_world events mid (Runs (s ++ p) []) next (joined s p events is.0 is.1, refl)
@@ -165,7 +165,7 @@ only_still events (Rests e) (Opens found) mid q next is = at_world events mid (R
 only_still events (Rests e) OpenFails mid q next is = at_world events mid (Rests e) next is
 
 -- one quiet step, and then quiet ones
-split_quiet : (step : Step) (steps : List Step) → IsQuiet (step ∷ steps) → Quiet step × IsQuiet steps
+split_quiet : (step : StoreStep) (steps : List StoreStep) → IsQuiet (step ∷ steps) → Quiet step × IsQuiet steps
 split_quiet (Adds e) steps q = absurd q
 split_quiet (AddsBehind e) steps q = absurd q
 split_quiet Settles steps q = (tt, q)
@@ -177,19 +177,19 @@ split_quiet Stops steps q = (tt, q)
 split_quiet (Opens e) steps q = (tt, q)
 split_quiet OpenFails steps q = (tt, q)
 
-found_only : (events : List Event) (before mid : World) (found : List Event) → Next before (Opens found) mid → Only events before → found ≡ events
+found_only : (events : List Event) (before mid : StoreWorld) (found : List Event) → Next before (Opens found) mid → Only events before → found ≡ events
 found_only events (Runs s p) mid found next is = absurd next
 found_only events (InDoubt s p) mid found next is = only_between s p events found is.0 is.1 next.0
 found_only events (Rests e) mid found next is = next.0 ∙ is
 
-pub stays_found : (quiet : List Step) (events found : List Event) (before now : World) → IsQuiet quiet → Only events before → Run before (quiet ++ Opens found ∷ []) now → found ≡ events
+pub stays_found : (quiet : List StoreStep) (events found : List Event) (before now : StoreWorld) → IsQuiet quiet → Only events before → StoreRun before (quiet ++ Opens found ∷ []) now → found ≡ events
 stays_found [] events found before now q is run = found_only events before run.0 found run.1 is
 stays_found (step ∷ steps) events found before now q is run =
     let split = split_quiet step steps q in
     stays_found steps events found run.0 now split.1 (only_still events before step run.0 split.0 run.1 is) run.2
 
 -- what an open found is all that there is
-pub after_open : (before mid : World) (found : List Event) → Next before (Opens found) mid → Only found mid
+pub after_open : (before mid : StoreWorld) (found : List Event) → Next before (Opens found) mid → Only found mid
 after_open (Runs s p) mid found next = absurd next
 after_open (InDoubt s p) mid found next = at_world found mid (Runs found []) next.1 (refl, refl)
 after_open (Rests e) mid found next = at_world found mid (Runs found []) next.1 (refl, refl)

@@ -10,6 +10,8 @@ use Rattle.dlms_journal.specs.Record.{Holds, record_of}
 use Rattle.dlms_store.specs.Layout.{other_of}
 use Rattle.dlms_store.specs.declared.store.Store.{Store}
 use Rattle.dlms_store.specs.declared.layout.TheConstants.{JOURNAL_PAGES, PAGES}
+use Rattle.dlms_journal.specs.declared.page.TheConstants.{MOST_PAYLOAD}
+use Rattle.dlms_store.specs.declared.layout.TheConstants.{LAST_GENERATION}
 
 -- what is known of its device
 abbrev pub view_of : {P A : Type 0} → {ghosts : Ghosts P} → Store P A ghosts → View
@@ -40,7 +42,7 @@ IsFull store = store.next ≡ JOURNAL_PAGES
 
 -- no further checkpoint can be made
 abbrev pub IsLast : {P A : Type 0} → {ghosts : Ghosts P} → Store P A ghosts → Type 0
-IsLast store = store.generation ≡ 18446744073709551615
+IsLast store = store.generation ≡ LAST_GENERATION
 
 -- why the event may not come next, or None
 abbrev pub refusal_in : {P A : Type 0} → {ghosts : Ghosts P} → Store P A ghosts → Event → Option Refused
@@ -48,7 +50,7 @@ refusal_in store event = refusal store.state.last store.state.offset event
 
 -- the event's record fits behind those that are pending
 abbrev pub HasRoom : {P A : Type 0} → {ghosts : Ghosts P} → Store P A ghosts → Event → Type 0
-HasRoom store event = length store.pending.items + length (record_of event) ≤ 496
+HasRoom store event = length store.pending.items + length (record_of event) ≤ MOST_PAYLOAD
 
 -- `add` puts the event behind those that are pending; else these are settled first, and it stands alone
 abbrev pub JoinsPending : {P A : Type 0} → {ghosts : Ghosts P} → Store P A ghosts → Event → Type 0

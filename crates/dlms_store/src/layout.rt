@@ -15,6 +15,9 @@ pub(crate) const JOURNAL: u16 = 2 * (1 + BODIES);
 /// How many bodies a slot has.
 pub(crate) const BODIES: u16 = 32;
 
+/// The last number that a checkpoint can have.
+pub(crate) const LAST_GENERATION: u64 = 18_446_744_073_709_551_615;
+
 /// One of the two places for a checkpoint.
 #[derive(Clone, Copy, Debug, PartialEq, Eq)]
 pub(crate) enum Slot {

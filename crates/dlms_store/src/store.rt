@@ -7,10 +7,12 @@ ghost use Rattle.dlms_journal.specs.Record.{record_of};
 ghost use Rattle.dlms_state.specs.StateValue.{IsStateOf, HasEvents};
 ghost use Rattle.dlms_state.specs.declared.event.Refused.{Refused};
 ghost use Rattle.dlms_store.specs.declared.layout.TheConstants.{PAGES, JOURNAL_PAGES};
+ghost use Rattle.dlms_journal.specs.declared.page.TheConstants.{MOST_PAYLOAD};
+ghost use Rattle.dlms_store.specs.declared.layout.TheConstants.{LAST_GENERATION};
 
 use crate::fault::{AddFault, OpenFault, StoreFault};
 use crate::format::{begin, clear};
-use crate::layout::{JOURNAL, JOURNAL_PAGES, PAGES, Slot};
+use crate::layout::{JOURNAL, JOURNAL_PAGES, LAST_GENERATION, PAGES, Slot};
 use crate::open::{Found, find, settle};
 use crate::put::put;
 use crate::slot::write_slot;
@@ -41,14 +43,14 @@ pub struct Store<P: Pages, A: Allocator = Global> {
 
 impl<P: Pages, A: Allocator + Copy> Store<P, A> {
     ghost use Rattle.dlms_store.specs.Store.{view_of, state_in, records_in, IsStopped, IsRunning, IsTooSmall, IsLast, refusal_in, HasRoom, JoinsPending, AddIsExhausted, CommitIsExhausted, Remembers, Settles, Joins, JoinsAlone, Fails, IsElsewhereSame, IsRenewed};
-    ghost use Rattle.dlms_store.specs.World.{World};
-    ghost use Rattle.dlms_store.specs.World.World.{Runs, Rests};
+    ghost use Rattle.dlms_store.specs.World.{StoreWorld};
+    ghost use Rattle.dlms_store.specs.World.StoreWorld.{Runs, Rests};
     ghost use Rattle.dlms_store.specs.Active.{HasMore, IsFound, IsFresh};
     ghost use Rattle.dlms_store.specs.Cause.{IsCause};
     ghost use Rattle.dlms_store.specs.Image.{Quiet, StandsFor, all_of};
     ghost use Rattle.dlms_store.specs.Steady.{Fixes, FixesNothing, HasCheckpoint, IsRenewable, StandsBetween, Steady};
     ghost use Rattle.dlms_store.specs.Fitting.{StoreFits, DeviceFits, IsOpened, IsRefusal, OpensAs, GivesBack, LeftBy, Moves, AddMoves, GivesUp, commit_step};
-    ghost use Rattle.dlms_store.specs.World.Step.{Adds, Closes, ClosesInDoubt};
+    ghost use Rattle.dlms_store.specs.World.StoreStep.{Adds, Closes, ClosesInDoubt};
 
     /// Makes a device empty: every page zeros, and the checkpoint of no events in the first slot.
     pub fn format(alloc: A, device: P) -> Result<Self, (P, OpenFault)>
@@ -86,7 +88,7 @@ impl<P: Pages, A: Allocator + Copy> Store<P, A> {
     /// Opens a device: syncs it, finds the newest checkpoint, and takes the journal's records up to the first page that
     /// does not fit. Where there were records, or that page is damaged, a checkpoint is made.
     pub fn open(alloc: A, device: P) -> Result<Self, (P, OpenFault)>
-        ensures opens { (before : World) → DeviceFits (P.view device) before
+        ensures opens { (before : StoreWorld) → DeviceFits (P.view device) before
             → MatchResult result (OpensAs before (P.view device)) (λ e. GivesBack before (P.view device) (P.view e.0) e.1) }
         ensures opened { IfOk result (λ store. (events : List EventOf) × Remembers events [] store) }
         ensures runs { IfOk result (λ store. IsStopped store → ⊥) }
@@ -127,7 +129,7 @@ impl<P: Pages, A: Allocator + Copy> Store<P, A> {
             → MatchResult result (λ store. Steady (base ++ all_of pages) (P.view device) (view_of store)) (λ e. Steady (base ++ all_of pages) (P.view device) (P.view e.0)) }
         ensures runs { IfOk result (λ store. IsStopped store → ⊥) }
         ensures device { IfErr result (λ e. e.1 ≡ OpenFault.Device → Rose (P.view device).faults (P.view e.0).faults) }
-        ensures exhausted { IfErr result (λ e. e.1 ≡ OpenFault.Exhausted → (found.generation ≡ 18446744073709551615) × HasMore found.journal) }
+        ensures exhausted { IfErr result (λ e. e.1 ≡ OpenFault.Exhausted → (found.generation ≡ LAST_GENERATION) × HasMore found.journal) }
         ensures faults { IfErr result (λ e. (e.1 ≡ OpenFault.Device) ⊎ (e.1 ≡ OpenFault.Exhausted)) }
     {
         let is_due = found.journal.pages > 0 || found.journal.torn;
@@ -152,7 +154,7 @@ impl<P: Pages, A: Allocator + Copy> Store<P, A> {
 
     /// Takes an event. Where its record does not fit behind those that are pending, these are committed first.
     pub fn add(&mut self, event: Event) -> Result<(), AddFault>
-        ensures run { (before : World) → StoreFits self.old before → AddMoves result event before self.old self.new }
+        ensures run { (before : StoreWorld) → StoreFits self.old before → AddMoves result event before self.old self.new }
         ensures joins { OnOk result (JoinsPending self.old event → Joins event self.old self.new) }
         ensures joins_alone { OnOk result ((JoinsPending self.old event → ⊥) → JoinsAlone event self.old self.new) }
         ensures runs { OnOk result (IsStopped self.new → ⊥) }
@@ -162,7 +164,7 @@ impl<P: Pages, A: Allocator + Copy> Store<P, A> {
         ensures answers { IsRunning self.old → refusal_in self.old event ≡ None → (Rose (view_of self.old).faults (view_of self.new).faults → ⊥) → (AddIsExhausted self.old event → ⊥) → IsOk result }
         ensures exhausted { (result ≡ Err AddFault.Exhausted) ↔ (IsRunning self.old × (refusal_in self.old event ≡ None) × AddIsExhausted self.old event) }
         ensures unchanged { OnErr result (result ≢ Err AddFault.Device → self.new ≡ self.old) }
-        ensures page { OnOk result (length (records_in self.new) ≤ 496) }
+        ensures page { OnOk result (length (records_in self.new) ≤ MOST_PAYLOAD) }
         ensures later { (view_of self.old).faults ≤ (view_of self.new).faults }
     {
         if self.stopped {
@@ -184,11 +186,11 @@ impl<P: Pages, A: Allocator + Copy> Store<P, A> {
         requires passes { refusal_in self.old event ≡ None }
         requires spelled { spelled.now ≡ record_of event }
         requires room { HasRoom self.old event }
-        ensures run { (before : World) → IsRunning self.old → StoreFits self.old before → Moves (Adds event) before self.old self.new }
+        ensures run { (before : StoreWorld) → IsRunning self.old → StoreFits self.old before → Moves (Adds event) before self.old self.new }
         ensures joins { Joins event self.old self.new }
         ensures stopped { self.new.stopped ≡ self.old.stopped }
         ensures device { self.new.device ≡ self.old.device }
-        ensures page { length (records_in self.new) ≤ 496 }
+        ensures page { length (records_in self.new) ≤ MOST_PAYLOAD }
     {
         self.join(event, spelled);
     }
@@ -200,7 +202,7 @@ impl<P: Pages, A: Allocator + Copy> Store<P, A> {
         requires room { HasRoom self.old event }
         ensures joins { Joins event self.old self.new }
         ensures same { IsElsewhereSame self.old self.new }
-        ensures page { length (records_in self.new) ≤ 496 }
+        ensures page { length (records_in self.new) ≤ MOST_PAYLOAD }
     {
         event.fits();
         let _fits = self.pending.try_extend_from_slice(spelled);
@@ -210,7 +212,7 @@ impl<P: Pages, A: Allocator + Copy> Store<P, A> {
     /// Settles what is pending: in the next journal page or, where all are used, in a checkpoint. With nothing pending it
     /// does nothing.
     pub fn commit(&mut self) -> Result<(), StoreFault>
-        ensures run { (before : World) → StoreFits self.old before → Moves (commit_step result) before self.old self.new }
+        ensures run { (before : StoreWorld) → StoreFits self.old before → Moves (commit_step result) before self.old self.new }
         ensures settles { OnOk result (Settles self.old self.new) }
         ensures runs { OnOk result (IsStopped self.new → ⊥) }
         ensures empty { OnOk result (records_in self.new ≡ []) }
@@ -249,7 +251,7 @@ impl<P: Pages, A: Allocator + Copy> Store<P, A> {
 
     /// Settles what is pending in a checkpoint: the other slot gets the state, and the journal begins again.
     pub fn checkpoint(&mut self) -> Result<(), StoreFault>
-        ensures run { (before : World) → StoreFits self.old before → Moves (commit_step result) before self.old self.new }
+        ensures run { (before : StoreWorld) → StoreFits self.old before → Moves (commit_step result) before self.old self.new }
         ensures settles { OnOk result (Settles self.old self.new) }
         ensures runs { OnOk result (IsStopped self.new → ⊥) }
         ensures empty { OnOk result (records_in self.new ≡ []) }
@@ -267,7 +269,7 @@ impl<P: Pages, A: Allocator + Copy> Store<P, A> {
         if self.stopped {
             return Err(StoreFault::Stopped);
         }
-        if self.generation == u64::MAX {
+        if self.generation == LAST_GENERATION {
             return Err(StoreFault::Exhausted);
         }
         let slot = self.slot.other();
@@ -294,16 +296,16 @@ impl<P: Pages, A: Allocator + Copy> Store<P, A> {
     /// How many bytes of records are not committed yet, at most 496.
     pub fn pending(&self) -> usize
         ensures bytes { result ≡ length (records_in self.now) }
-        ensures page { result ≤ 496 }
+        ensures page { result ≤ MOST_PAYLOAD }
     {
         self.pending.len()
     }
 
     /// Commits, and gives the device back. Where the commit fails, what was pending is in doubt.
     pub fn close(self) -> P
-        ensures run { (before : World) → StoreFits self before → GivesUp Closes before (view_of self) (P.view result) ⊎ GivesUp ClosesInDoubt before (view_of self) (P.view result) }
+        ensures run { (before : StoreWorld) → StoreFits self before → GivesUp Closes before (view_of self) (P.view result) ⊎ GivesUp ClosesInDoubt before (view_of self) (P.view result) }
         ensures settles { (IsStopped self → ⊥) → (Rose (view_of self).faults (P.view result).faults → ⊥) → (CommitIsExhausted self → ⊥)
-            → (before : World) → StoreFits self before → GivesUp Closes before (view_of self) (P.view result) }
+            → (before : StoreWorld) → StoreFits self before → GivesUp Closes before (view_of self) (P.view result) }
     {
         let mut store = self;
         let _in_doubt = store.commit();

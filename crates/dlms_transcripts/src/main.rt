@@ -3,6 +3,7 @@
 //! A case is `NNN.in` (what is read), `NNN.out` (what is printed, byte for byte), `NNN.status` (the status of the run), where
 //! something is said among the errors `NNN.err`, and where the program is not asked to `replay` on a new meter `NNN.words` (its
 //! words, one a line). The cases run in the order of their numbers, in one folder: a file that one makes is there for the next.
+//! From 601 on a case is a talk: each line is given when it is asked for, and only where each frame before it was answered.
 #![tactic(auto)]
 
 use anyhow::Result;
@@ -15,11 +16,18 @@ use std::net::Net;
 use std::process::ExitCode;
 use std::rt::Files;
 
+mod talk;
+
+use talk::{Asking, Hearing, Turns};
+
 /// The program's own name, its first word.
 const PROGRAM: &str = "dlms";
 
 /// The words of a case that names none.
 const WORDS: &str = "replay";
+
+/// The number of the first case that is a talk.
+const FIRST_TALK: u32 = 601;
 
 /// What a case differs in.
 #[derive(Clone, Copy, Debug, PartialEq, Eq)]
@@ -58,10 +66,30 @@ fn words_of(alloc: Global, lines: &str) -> std::result::Result<Vec<&str>, AllocE
     Ok(words)
 }
 
+/// Runs the program on an input that is there as a whole, or line by line, and gives its status and what it printed.
+fn printed<R: Net + Files<File = File> + AllocGlobal>(
+    rt: &R,
+    is_talk: bool,
+    words: &[&str],
+    input: &[u8],
+    errors: &mut Vec<u8>,
+) -> Result<(u8, Vec<u8>)> {
+    if is_talk {
+        let turns = Turns::new();
+        let mut output = Hearing::new(rt.alloc(), &turns);
+        let status = run(rt, words, Asking::new(input, &turns), &mut output, errors)?;
+        return Ok((status, output.into_heard()));
+    }
+    let mut output = Vec::new(rt.alloc());
+    let status = run(rt, words, input, &mut output, errors)?;
+    Ok((status, output))
+}
+
 /// Runs a case.
 fn verdict_of<R: Net + Files<File = File> + AllocGlobal>(
     rt: &R,
     name: &str,
+    is_talk: bool,
     input: &[u8],
 ) -> Result<Verdict> {
     let lines = match bytes_of(rt, name, "words")? {
@@ -69,8 +97,8 @@ fn verdict_of<R: Net + Files<File = File> + AllocGlobal>(
         None => format!(in rt.alloc(); "{WORDS}")?,
     };
     let words = words_of(rt.alloc(), lines.as_str())?;
-    let (mut output, mut errors) = (Vec::new(rt.alloc()), Vec::new(rt.alloc()));
-    let status = run(rt, words.as_slice(), input, &mut output, &mut errors)?;
+    let mut errors = Vec::new(rt.alloc());
+    let (status, output) = printed(rt, is_talk, words.as_slice(), input, &mut errors)?;
     let status = format!(in rt.alloc(); "{status}\n")?;
     let expected = bytes_of(rt, name, "out")?;
     let expected_status = bytes_of(rt, name, "status")?;
@@ -104,7 +132,8 @@ fn run_all<R: Net + Files<File = File> + Print + AllocGlobal>(rt: &R) -> Result<
         let Some(input) = bytes_of(rt, name.as_str(), "in")? else {
             continue;
         };
-        let verdict = verdict_of(rt, name.as_str(), input.as_slice())?;
+        let is_talk = number >= FIRST_TALK;
+        let verdict = verdict_of(rt, name.as_str(), is_talk, input.as_slice())?;
         cases = cases.saturating_add(1);
         if verdict != Verdict::AsExpected {
             differing = differing.saturating_add(1);

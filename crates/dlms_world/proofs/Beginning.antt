@@ -8,7 +8,7 @@ use Rattle.dlms_link.proofs.Rows.{row_of-snrm}
 use Rattle.dlms_service.specs.Serves.{FindsMemory}
 use Rattle.dlms_meter.specs.Run.{Served}
 use Rattle.dlms_service.specs.Session.{fresh}
-use Rattle.dlms_store.specs.World.World.{Runs}
+use Rattle.dlms_store.specs.World.StoreWorld.{Runs}
 use Rattle.dlms_world.specs.World.{World, first_world}
 use Rattle.dlms_world.specs.Turn.{Run, Stays, Goes, Begins, Arrives, Takes, silent}
 use Rattle.dlms_world.specs.Agree.{CanBegin}

@@ -20,11 +20,11 @@ use Rattle.dlms_headend.specs.declared.step.PollStep.{PollStep}
 use Rattle.dlms_headend.specs.declared.step.PollStep.TheVariants as step
 use Rattle.dlms_headend.proofs.Told.{stage_told}
 use Rattle.dlms_link.specs.Client.{ClientRecord, IsIdle, client_step, client_send, client_connect, client_disconnect, client_timeout, by_count}
-use Rattle.dlms_link.specs.World.{World as Link, happens, Connect, Give, Disconnect, ReachesClient, TimesOut as LineTimesOut, connects, gives as link_gives, disconnects, client_does, reaches_client, times_out, timed_out}
+use Rattle.dlms_link.specs.World.{LinkWorld as Link, happens, Connect, Give, Disconnect, ReachesClient, TimesOut as LineTimesOut, connects, gives as link_gives, disconnects, client_does, reaches_client, times_out, timed_out}
 use Rattle.dlms_link.specs.declared.out.ClientOut.{ClientOut}
 use Rattle.dlms_link.specs.declared.out.ClientOut.TheVariants as out
-use Rattle.dlms_link.specs.declared.out.Phase.{Phase}
-use Rattle.dlms_link.specs.declared.out.Phase.TheVariants.{Closed, Connecting, Open}
+use Rattle.dlms_link.specs.declared.phase.Phase.{Phase}
+use Rattle.dlms_link.specs.declared.phase.Phase.TheVariants.{Closed, Connecting, Open}
 use Rattle.dlms_world.specs.World.{World}
 use Rattle.dlms_world.specs.Turn.{Begins as BeginsTurn, GoesOn, AsksNext, Leaves, Ends, FailsAt, TimedOut, GivesUp, reached, gives, IsFree, IsOnItsOwn, Fails}
 use Rattle.dlms_world.specs.Calls.{IsPollerOf, IsUnderWay, taken_by, TurnsInto, NewIsFirst, NextIsTurn, OnIsTurn, TimeoutIsTurn}

@@ -3,12 +3,12 @@ use Rattle.std.proofs.Common.{◌≡◌, ℕ, ◌&&◌, Bool, true, false, List,
 use Rattle.std.proofs.lemmas.List.{append-nil, map-append}
 use Rattle.dlms_frame.specs.declared.client.Client.{Client}
 use Rattle.dlms_frame.specs.Frame.{Parts}
-use Rattle.dlms_link.specs.declared.out.Phase.{Phase}
-use Rattle.dlms_link.specs.declared.out.Phase.TheVariants.{Closed, Connecting}
+use Rattle.dlms_link.specs.declared.phase.Phase.{Phase}
+use Rattle.dlms_link.specs.declared.phase.Phase.TheVariants.{Closed, Connecting}
 use Rattle.dlms_link.specs.declared.out.LinkOut.{LinkOut}
 use Rattle.dlms_link.specs.declared.out.LinkOut.TheVariants.{Nothing, Reply, Apdu, Oversize, BadLlc, Up, Down}
 use Rattle.dlms_link.specs.Server.{ServerRecord}
-use Rattle.dlms_link.specs.World.{World as Link, connects, meter_does}
+use Rattle.dlms_link.specs.World.{LinkWorld as Link, connects, meter_does}
 use Rattle.dlms_meter.specs.Transfers.{Exchange, Asked, InTurn}
 use Rattle.dlms_meter.specs.Run.{Choice, Does}
 use Rattle.dlms_world.proofs.Clients.{by_link}

@@ -9,14 +9,14 @@ use Rattle.dlms_frame.specs.Frame.{Parts}
 use Rattle.dlms_headend.specs.Asking.{PlanValue}
 use Rattle.dlms_headend.specs.Poll.{Asks, HasReleased}
 use Rattle.dlms_headend.specs.declared.row.Row.{Row}
-use Rattle.dlms_link.specs.World.{World as Link, IsBeginningOf}
-use Rattle.dlms_link.specs.declared.out.Phase.{Phase}
-use Rattle.dlms_link.specs.declared.out.Phase.TheVariants.{Closed, Connecting, Open, Closing}
+use Rattle.dlms_link.specs.World.{LinkWorld as Link, IsBeginningOf}
+use Rattle.dlms_link.specs.declared.phase.Phase.{Phase}
+use Rattle.dlms_link.specs.declared.phase.Phase.TheVariants.{Closed, Connecting, Open, Closing}
 use Rattle.dlms_link.proofs.Sound.{Sound}
 use Rattle.dlms_link.proofs.Steps.{served_is, taken_is}
 use Rattle.dlms_meter.specs.Transfers.{Exchange, Asked, InTurn}
 use Rattle.dlms_service.specs.Session.{fresh}
-use Rattle.dlms_store.specs.World.{World as Store, IsBeginning}
+use Rattle.dlms_store.specs.World.{StoreWorld as Store, IsBeginning}
 use Rattle.dlms_service.specs.Stake.{is_success}
 use Rattle.dlms_world.specs.World.{World, settled_in}
 use Rattle.dlms_world.specs.Told.{Talks, IsTold, AnswersTell}

@@ -63,7 +63,7 @@ no_data o s form reads short is given = dataless form short (subst GivesDataBy (
 -- ---- what is wanted
 
 whole_range : (second : ℕ) (value : Value) (r : IsRange second value) → value ≡ range (octet_string r.from_first.octets) (octet_string r.to_last.octets)
-whole_range second value r = r.is ∙ ap (λ v. range v r.last) r.from_first.is ∙ ap (λ v. range (octet_string r.from_first.octets) v) r.to_last.is
+whole_range second value r = r.is ∙ ap (λ v. range v r.last) r.from_first.value ∙ ap (λ v. range (octet_string r.from_first.octets) v) r.to_last.value
 
 shows_range : (E : List Event) (first last : List ℕ) (v : Value) → length first ≡ 12 → length last ≡ 12 →
     IsShown (state_of E) Management buffer (wanted Management buffer (Some (record { number = 1; value = range (octet_string first) (octet_string last) }))) (Ok v) → ShownRange first last (buffer_after E) v

@@ -4,9 +4,9 @@ use Rattle.std.proofs.lemmas.List.{append-nil}
 use Rattle.dlms_state.specs.Refusal.{IsLegal}
 use Rattle.dlms_state.specs.declared.event.Event.{Event}
 use Rattle.dlms_state.proofs.Legal.{IsLegal-beginning, IsLegal-none}
-use Rattle.dlms_store.specs.World.{World as Store, Step, IsBetween, Next, IsBeginning}
-use Rattle.dlms_store.specs.World.World.{Runs, InDoubt, Rests}
-use Rattle.dlms_store.specs.World.Step.{Adds, AddsBehind, Settles, Refuses, Fails, Closes, ClosesInDoubt, Stops, Opens, OpenFails}
+use Rattle.dlms_store.specs.World.{StoreWorld as Store, StoreStep, IsBetween, Next, IsBeginning}
+use Rattle.dlms_store.specs.World.StoreWorld.{Runs, InDoubt, Rests}
+use Rattle.dlms_store.specs.World.StoreStep.{Adds, AddsBehind, Settles, Refuses, Fails, Closes, ClosesInDoubt, Stops, Opens, OpenFails}
 use Rattle.dlms_world.specs.World.{World, IsUsual}
 use Rattle.dlms_meter.specs.Run.{events_in}
 use Rattle.dlms_world.specs.Turn.{Turn, Begins, GoesOn, AsksNext, Leaves, Ends, FailsAt, TimedOut, GivesUp, TurnsTo, Merges, LosesUp, LosesDown, Arrives, Intruded, OtherSends, Happens, Works, StopsInside, Restarted}
@@ -30,7 +30,7 @@ between s p e is =
     (drop is.0 p, ap (λ (l : List Event). l ++ drop is.0 p) is.1 ∙ append_assoc s (take is.0 p) (drop is.0 p) ∙ ap (λ (l : List Event). s ++ l) (take-append-drop is.0 p))
 
 -- a stop, a close and a recovery find a beginning of what was held
-finds : (before : Store) (step : Step) (after : Store) → (IsUsual step → ⊥) → Next before step after → IsBeginning (events_in after) (events_in before)
+finds : (before : Store) (step : StoreStep) (after : Store) → (IsUsual step → ⊥) → Next before step after → IsBeginning (events_in after) (events_in before)
 finds before (Adds e) after unusual next = absurd (unusual tt)
 finds before (AddsBehind e) after unusual next = absurd (unusual tt)
 finds before Settles after unusual next = absurd (unusual tt)

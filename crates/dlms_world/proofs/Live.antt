@@ -3,21 +3,21 @@
 use Rattle.std.proofs.Common.{◌≡◌, ◌≤◌, ◌<◌, ℕ, ◌&&◌, Bool, true, false, List, [], ◌∷◌, ◌++◌, length, Option, None, Some, refl, ◌∙◌, ap, subst, nat_lt}
 use Rattle.dlms_frame.specs.declared.client.Client.{Client}
 use Rattle.dlms_frame.specs.Frame.{Parts}
-use Rattle.dlms_link.specs.declared.out.Answer.{Answer}
-use Rattle.dlms_link.specs.declared.out.Answer.TheVariants.{NoAnswer, WasReady, WasInformation}
-use Rattle.dlms_link.specs.declared.out.Phase.{Phase}
-use Rattle.dlms_link.specs.declared.out.Phase.TheVariants.{Closed, Connecting, Open, Closing}
+use Rattle.dlms_link.specs.declared.last_answer.Answer.{Answer}
+use Rattle.dlms_link.specs.declared.last_answer.Answer.TheVariants.{NoAnswer, WasReady, WasInformation}
+use Rattle.dlms_link.specs.declared.phase.Phase.{Phase}
+use Rattle.dlms_link.specs.declared.phase.Phase.TheVariants.{Closed, Connecting, Open, Closing}
 use Rattle.dlms_link.specs.declared.out.LinkOut.{LinkOut}
 use Rattle.dlms_link.specs.declared.out.LinkOut.TheVariants.{Nothing, Reply, Apdu, Oversize, BadLlc, Up, Down}
 use Rattle.dlms_link.specs.declared.out.ClientOut.{ClientOut}
 use Rattle.dlms_link.specs.declared.out.ClientOut.TheVariants.{Nothing as NothingTaken, Up as IsUp, Send, Apdu as ApduTaken, Down as IsDown}
-use Rattle.dlms_link.specs.declared.row.Row.{Row}
-use Rattle.dlms_link.specs.declared.row.Row.TheVariants.{Connects, Refuses, Disconnects, Keeps, HandsUp, Repeats, SendsNext, SaysReady, Ignores}
+use Rattle.dlms_link.specs.declared.server_row.ServerRow.{ServerRow}
+use Rattle.dlms_link.specs.declared.server_row.ServerRow.TheVariants.{Connects, Refuses, Disconnects, Keeps, HandsUp, Repeats, SendsNext, SaysReady, Ignores}
 use Rattle.dlms_link.specs.Octet.{information_octet}
 use Rattle.dlms_link.specs.Kept.{Kept, Fresh, Good, TooLong, BadStart, kept_after, from_client, is_more}
 use Rattle.dlms_link.specs.Server.{ServerRecord, server_on, by_row, row_of, told, again}
 use Rattle.dlms_link.specs.Client.{client_step, client_timeout, by_count}
-use Rattle.dlms_link.specs.World.{World, Event, Connect, Give, Disconnect, ReachesMeter, ReachesClient, LostUp, LostDown, TimesOut, Restarts, Intrudes, TakesOver, happens, gives, disconnects, meter_does, client_does, reaches_client, times_out, timed_out}
+use Rattle.dlms_link.specs.World.{LinkWorld, LinkEvent, Connect, Give, Disconnect, ReachesMeter, ReachesClient, LostUp, LostDown, TimesOut, Restarts, Intrudes, TakesOver, happens, gives, disconnects, meter_does, client_does, reaches_client, times_out, timed_out}
 use Rattle.dlms_link.proofs.Numbers.{next_lt, before-next, control_of-ua, control_of-dm}
 use Rattle.dlms_link.proofs.Joining.{Joins, IsFirst, kept_goes_on}
 use Rattle.dlms_link.proofs.Rows.{row_of-expected, row_of-repeated, row_of-goes_on, row_of-snrm, row_of-disc_up, row_of-disc_down, is_answer-to_client}
@@ -32,7 +32,7 @@ is_linked Closed down = false
 is_linked Closing down = false
 
 -- both ends are up, or the meter's is and its UA comes
-abbrev pub live : World → Bool
+abbrev pub live : LinkWorld → Bool
 live w = w.meter.up && is_linked w.client.phase w.down_line
 
 -- what the meter's end may give, by whether it is live
@@ -45,7 +45,7 @@ Allows live served BadLlc = ⊥
 Allows live served (Up f) = served ≡ []
 Allows live served (Down f) = Unit {0}
 
-abbrev pub AllowsAt : World → List Parts → Type 0
+abbrev pub AllowsAt : LinkWorld → List Parts → Type 0
 AllowsAt w [] = Unit {0}
 AllowsAt w (f ∷ rest) = Allows (live w) w.served (server_on w.meter f).1
 
@@ -62,7 +62,7 @@ module _ (who : Client) where
   asking_allowed s n size last took k had info (y ∷ u) apdu served hs hn j i short =
       rw (row_of-expected (server_at who n s last took k had [] size) info true s n hs hn refl refl refl) refl
 
-  pub allows : {w : World} → Sound who w → AllowsAt w w.up_line
+  pub allows : {w : LinkWorld} → Sound who w → AllowsAt w w.up_line
   allows (Away m x asked served answers taken ps pt) = tt
   allows (Calling true m t x) = rw (row_of-snrm (at who m)) refl
   allows (Calling false m t x) = tt
@@ -112,7 +112,7 @@ again_stands b NoAnswer = refl
 again_stands b (WasReady f) = refl
 again_stands b (WasInformation f) = refl
 
-row_stands : (r : ServerRecord) (f : Parts) (row : Row) → StandsUp r.up (by_row r f row).0.up (by_row r f row).1
+row_stands : (r : ServerRecord) (f : Parts) (row : ServerRow) → StandsUp r.up (by_row r f row).0.up (by_row r f row).1
 row_stands r f (Connects size) = tt
 row_stands r f Refuses = refl
 row_stands r f Disconnects = refl
@@ -135,7 +135,7 @@ nothing_true true h = cc
 nothing_true false h = cc
 
 -- it stays, or comes, as it was said to be
-pub still : (w : World) (m : ServerRecord) (rest : List Parts) (answer : List ℕ) (result : LinkOut) (ours : Bool) → StandsUp w.meter.up m.up result → Allows (live w) w.served result → (live w ≡ true → ours ≡ true) →
+pub still : (w : LinkWorld) (m : ServerRecord) (rest : List Parts) (answer : List ℕ) (result : LinkOut) (ours : Bool) → StandsUp w.meter.up m.up result → Allows (live w) w.served result → (live w ≡ true → ours ≡ true) →
     live (meter_does (record w { meter = m; up_line = rest }) answer result) ≡ true → still_ours ours result ≡ true
 still w m rest answer Nothing ours stands allowed was now = was (subst (λ (b : Bool). (b && is_linked w.client.phase w.down_line) ≡ true) stands now)
 still w m rest answer (Reply f) ours stands allowed was now = was allowed
@@ -148,7 +148,7 @@ still w m rest answer (Down f) ours stands allowed was now = absurd (off m.up (i
 -- ---- what does not reach the meter
 
 -- an event of the poller's side, or a loss
-abbrev pub IsAside : Event → Type 0
+abbrev pub IsAside : LinkEvent → Type 0
 IsAside (Give apdu short) = Unit {0}
 IsAside Disconnect = Unit {0}
 IsAside ReachesClient = Unit {0}
@@ -162,48 +162,48 @@ IsAside (Intrudes frame answer) = ⊥
 IsAside TakesOver = ⊥
 
 -- the meter's end is the same, and so is what it took and answered
-pub record IsSame (before after : World) : Type 0 where
+pub record IsSame (before after : LinkWorld) : Type 0 where
   pub meter : after.meter ≡ before.meter
   pub served : after.served ≡ before.served
   pub answers : after.answers ≡ before.answers
 
-same : (w : World) → IsSame w w
+same : (w : LinkWorld) → IsSame w w
 same w = record { meter = refl; served = refl; answers = refl }
 
-gives_same : (w : World) (apdu : List ℕ) (phase : Phase) (waits : Option Parts) → IsSame w (gives w apdu phase waits)
+gives_same : (w : LinkWorld) (apdu : List ℕ) (phase : Phase) (waits : Option Parts) → IsSame w (gives w apdu phase waits)
 gives_same w apdu Open None = record { meter = refl; served = refl; answers = refl }
 gives_same w apdu Open (Some f) = same w
 gives_same w apdu Closed waits = same w
 gives_same w apdu Connecting waits = same w
 gives_same w apdu Closing waits = same w
 
-disconnects_same : (w : World) (phase : Phase) (waits : Option Parts) → IsSame w (disconnects w phase waits)
+disconnects_same : (w : LinkWorld) (phase : Phase) (waits : Option Parts) → IsSame w (disconnects w phase waits)
 disconnects_same w Open None = record { meter = refl; served = refl; answers = refl }
 disconnects_same w Open (Some f) = same w
 disconnects_same w Closed waits = same w
 disconnects_same w Connecting waits = same w
 disconnects_same w Closing waits = same w
 
-client_does_same : (w : World) (result : ClientOut) → IsSame w (client_does w result)
+client_does_same : (w : LinkWorld) (result : ClientOut) → IsSame w (client_does w result)
 client_does_same w NothingTaken = same w
 client_does_same w IsUp = same w
 client_does_same w (Send f) = record { meter = refl; served = refl; answers = refl }
 client_does_same w ApduTaken = record { meter = refl; served = refl; answers = refl }
 client_does_same w IsDown = same w
 
-reaches_client_same : (w : World) (line : List Parts) → IsSame w (reaches_client w line)
+reaches_client_same : (w : LinkWorld) (line : List Parts) → IsSame w (reaches_client w line)
 reaches_client_same w [] = same w
 reaches_client_same w (g ∷ rest) =
     let is = client_does_same (record w { client = (client_step w.client g).0; down_line = rest }) (client_step w.client g).1 in
     record { meter = is.meter; served = is.served; answers = is.answers }
 
-times_out_same : (w : World) (waits : Option Parts) (up down : List Parts) → IsSame w (times_out w waits up down)
+times_out_same : (w : LinkWorld) (waits : Option Parts) (up down : List Parts) → IsSame w (times_out w waits up down)
 times_out_same w None up down = same w
 times_out_same w (Some f) [] [] = record { meter = refl; served = refl; answers = refl }
 times_out_same w (Some f) [] (g ∷ down) = same w
 times_out_same w (Some f) (g ∷ up) down = same w
 
-pub aside_same : (w : World) (e : Event) → IsAside e → IsSame w (happens w e)
+pub aside_same : (w : LinkWorld) (e : LinkEvent) → IsAside e → IsSame w (happens w e)
 aside_same w (Give apdu short) a = gives_same w apdu w.client.phase w.client.waits
 aside_same w Disconnect a = disconnects_same w w.client.phase w.client.waits
 aside_same w ReachesClient a = reaches_client_same w w.down_line
@@ -217,17 +217,17 @@ aside_same w (Intrudes frame answer) none = absurd none
 aside_same w TakesOver none = absurd none
 
 -- a meter's end that is down stays down
-lost : (w : World) (e : Event) → IsAside e → w.meter.up ≡ false → live (happens w e) ≡ true → live w ≡ true
+lost : (w : LinkWorld) (e : LinkEvent) → IsAside e → w.meter.up ≡ false → live (happens w e) ≡ true → live w ≡ true
 lost w e a down now =
     absurd (off (happens w e).meter.up (is_linked (happens w e).client.phase (happens w e).down_line) (ap (λ (m : ServerRecord). m.up) (aside_same w e a).meter ∙ down) now)
 
 module _ (who : Client) where
-  calling_late : (m : ServerRecord) (t : ℕ) (x : List ℕ) (b : Bool) → let w : World = record { meter = at who m; client = client_at who Connecting 0 0 (Some (Rattle.dlms_link.proofs.Sound.snrm who)) t Fresh x []; up_line = []; down_line = []; asked = []; served = []; answers = []; taken = [] } in
+  calling_late : (m : ServerRecord) (t : ℕ) (x : List ℕ) (b : Bool) → let w : LinkWorld = record { meter = at who m; client = client_at who Connecting 0 0 (Some (Rattle.dlms_link.proofs.Sound.snrm who)) t Fresh x []; up_line = []; down_line = []; asked = []; served = []; answers = []; taken = [] } in
       live (timed_out w (by_count w.client b)) ≡ true → ⊥
   calling_late m t x true h = nothing_true m.up h
   calling_late m t x false h = nothing_true m.up h
 
-  pub live_before : {w : World} (e : Event) → IsAside e → Sound who w → live (happens w e) ≡ true → live w ≡ true
+  pub live_before : {w : LinkWorld} (e : LinkEvent) → IsAside e → Sound who w → live (happens w e) ≡ true → live w ≡ true
   live_before e a (Called t x) h = refl
   live_before e a (Idle s n size last took had x given got hs hn hz) h = refl
   live_before e a (Asking sent s n size t last took k had x info u apdu given got hs hn hz j i short) h = refl
@@ -261,7 +261,7 @@ module _ (who : Client) where
   live_before TimesOut a (Leaving true m s n t k x u asked served answers taken ps pt) h = h
   live_before TimesOut a (Leaving false m s n t k x u asked served answers taken ps pt) h = leaving_late m s n t k x u asked served answers taken (nat_lt t 3) h
     where
-      leaving_late : (m : ServerRecord) (s n t : ℕ) (k : Kept) (x u : List ℕ) (asked served answers taken : List (List ℕ)) (b : Bool) → let w : World = record { meter = at who m; client = client_at who Closing s n (Some (disc who)) t k x u; up_line = []; down_line = []; asked = asked; served = served; answers = answers; taken = taken } in
+      leaving_late : (m : ServerRecord) (s n t : ℕ) (k : Kept) (x u : List ℕ) (asked served answers taken : List (List ℕ)) (b : Bool) → let w : LinkWorld = record { meter = at who m; client = client_at who Closing s n (Some (disc who)) t k x u; up_line = []; down_line = []; asked = asked; served = served; answers = answers; taken = taken } in
           live (timed_out w (by_count w.client b)) ≡ true → (m.up && false) ≡ true
       leaving_late m s n t k x u asked served answers taken true h = h
       leaving_late m s n t k x u asked served answers taken false h = h

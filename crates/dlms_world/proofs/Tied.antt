@@ -5,11 +5,11 @@ use Rattle.dlms_frame.specs.Frame.{Parts, spelling}
 use Rattle.dlms_frame.specs.declared.client.Client.{Client}
 use Rattle.dlms_frame.specs.declared.client.Client.TheVariants.{Public, Management}
 use Rattle.dlms_link.specs.Server.{ServerRecord, server_on}
-use Rattle.dlms_link.specs.World.{World as Link, happens, ReachesMeter, reaches_meter, meter_does}
+use Rattle.dlms_link.specs.World.{LinkWorld as Link, happens, ReachesMeter, reaches_meter, meter_does}
 use Rattle.dlms_link.specs.declared.out.LinkOut.{LinkOut}
 use Rattle.dlms_link.specs.declared.out.LinkOut.TheVariants.{Nothing, Reply, Apdu, Oversize, BadLlc, Up, Down}
 use Rattle.dlms_meter.specs.ClientRecord.{ClientRecord}
-use Rattle.dlms_meter.specs.Run.{World as MeterWorld, Turn as MeterTurn, Records, Choice, Served, DeviceFails, Does, ByLink, Handled, Handles, Answered, sends, replies, Takes as MeterTakes, IsTurn, IsTaking, IsSettling, IsUnsettling, StoredFor, Stored, Promised, pending_in, events_in, events_of, after_turn, grown, with_record, is_same, client_at, Stands, Feeds, Fed, Judges, Judged, with_store, IsRunningIn, IsStoppedIn, other_of}
+use Rattle.dlms_meter.specs.Run.{MeterWorld, Turn as MeterTurn, Records, Choice, Served, DeviceFails, Does, ByLink, Handled, Handles, Answered, sends, replies, Takes as MeterTakes, IsTurn, IsTaking, IsSettling, IsUnsettling, StoredFor, Stored, Promised, pending_in, events_in, events_of, after_turn, grown, with_record, is_same, client_at, Stands, Feeds, Fed, Judges, Judged, with_store, IsRunningIn, IsStoppedIn, other_of}
 use Rattle.dlms_meter.specs.declared.meter.Meter.{Meter}
 use Rattle.dlms_meter.proofs.Events.{turn_events, added_one}
 use Rattle.dlms_pages.specs.declared.device.Pages.{Ghosts}
@@ -18,9 +18,9 @@ use Rattle.dlms_service.specs.Stake.{is_success}
 use Rattle.dlms_state.specs.Refusal.{IsLegal, MayFollow}
 use Rattle.dlms_state.specs.declared.event.Event.{Event}
 use Rattle.dlms_store.specs.Going.{Knows, IsAdd}
-use Rattle.dlms_store.specs.World.{World as Store, Step as StoreStep, Next, Run as StoreRun}
-use Rattle.dlms_store.specs.World.World.{Runs, InDoubt, Rests}
-use Rattle.dlms_store.specs.World.Step.{Settles, Fails as Fault, Refuses}
+use Rattle.dlms_store.specs.World.{StoreWorld as Store, StoreStep, Next, StoreRun}
+use Rattle.dlms_store.specs.World.StoreWorld.{Runs, InDoubt, Rests}
+use Rattle.dlms_store.specs.World.StoreStep.{Settles, Fails as Fault, Refuses}
 use Rattle.dlms_store.specs.declared.fault.AddFault.{AddFault}
 use Rattle.dlms_store.specs.declared.fault.AddFault.TheVariants as add
 use Rattle.dlms_world.specs.World.{World, IsOn, IsUsual, AreUsual, Remembers}

@@ -12,7 +12,7 @@ use Rattle.dlms_link.specs.Server.{server_on}
 use Rattle.dlms_link.proofs.Steps.{sound}
 use Rattle.dlms_meter.specs.Transfers.{Exchange}
 use Rattle.dlms_service.specs.Session.{fresh}
-use Rattle.dlms_store.specs.World.{World as Store, IsBeginning}
+use Rattle.dlms_store.specs.World.{StoreWorld as Store, IsBeginning}
 use Rattle.dlms_world.specs.World.{World, settled_in, all_readings, rows_asked, first_world}
 use Rattle.dlms_meter.specs.Run.{events_in}
 use Rattle.dlms_world.specs.Turn.{Turn, Begins, GoesOn, AsksNext, Leaves, Ends, FailsAt, TimedOut, GivesUp, TurnsTo, Merges, LosesUp, LosesDown, Arrives, Intruded, OtherSends, Happens, Works, StopsInside, Restarted, Run, Stays, Goes, served_by}

@@ -2,7 +2,7 @@
 use Rattle.std.specs.Prelude.{◌≡◌, ◌⊎◌, ℕ, List, ◌∷◌, Option, None, Some, Bool, true, false, Result}
 use Rattle.dlms_frame.specs.Frame.{Parts}
 use Rattle.dlms_frame.specs.declared.client.Client.{Client}
-use Rattle.dlms_meter.specs.Run.{World as MeterWorld, client_at, is_same, Stands, Feeds, Judges, other_of}
+use Rattle.dlms_meter.specs.Run.{MeterWorld, client_at, is_same, Stands, Feeds, Judges, other_of}
 use Rattle.dlms_meter.specs.declared.meter.Meter.{Meter}
 use Rattle.dlms_pages.specs.declared.device.Pages.{Ghosts}
 use Rattle.dlms_state.specs.declared.event.Event.{Event}

@@ -13,12 +13,12 @@ use Rattle.dlms_headend.specs.declared.stage.Course.{Course}
 use Rattle.dlms_headend.specs.declared.stage.Course.TheVariants.{Ready, Running, Done, Failed}
 use Rattle.dlms_link.specs.Client.{client_step}
 use Rattle.dlms_link.specs.Server.{ServerRecord, server_on}
-use Rattle.dlms_link.specs.World.{World as Link, happens, Connect, Give, Disconnect, ReachesMeter, ReachesClient, LostUp, LostDown, TimesOut, Restarts, Intrudes, TakesOver}
+use Rattle.dlms_link.specs.World.{LinkWorld as Link, happens, Connect, Give, Disconnect, ReachesMeter, ReachesClient, LostUp, LostDown, TimesOut, Restarts, Intrudes, TakesOver}
 use Rattle.dlms_link.specs.declared.out.ClientOut.{ClientOut}
 use Rattle.dlms_link.specs.declared.out.ClientOut.TheVariants as out
 use Rattle.dlms_link.specs.declared.out.LinkOut.{LinkOut}
 use Rattle.dlms_link.specs.declared.out.LinkOut.TheVariants.{Nothing, Reply, Apdu, Oversize, BadLlc, Up, Down}
-use Rattle.dlms_link.specs.declared.out.Phase.TheVariants.{Closed}
+use Rattle.dlms_link.specs.declared.phase.Phase.TheVariants.{Closed}
 use Rattle.dlms_meter.specs.ClientRecord.{ClientRecord, fresh_record}
 use Rattle.dlms_meter.specs.Run.{Choice, Does, ByLink, Handled, Handles, client_at, replies, sends, other_of}
 use Rattle.dlms_meter.specs.Transfers.{Exchange}
@@ -26,8 +26,8 @@ use Rattle.dlms_service.specs.Stake.{is_success}
 use Rattle.dlms_service.specs.Session.{SessionValue, Outcome, fresh, not_possible, unknown_service}
 use Rattle.dlms_state.specs.Refusal.{MayFollow}
 use Rattle.dlms_state.specs.declared.event.Event.{Event}
-use Rattle.dlms_store.specs.World.{World as Store, Step as StoreStep, Next}
-use Rattle.dlms_store.specs.World.Step.{Stops}
+use Rattle.dlms_store.specs.World.{StoreWorld as Store, StoreStep, Next}
+use Rattle.dlms_store.specs.World.StoreStep.{Stops}
 use Rattle.dlms_world.specs.World.{World, IsOn, IsUsual, Remembers}
 use Rattle.dlms_meter.specs.Run.{events_in, pending_in}
 

@@ -7,7 +7,7 @@ use Rattle.dlms_headend.specs.Asking.{PlanValue, first_second}
 use Rattle.dlms_headend.specs.declared.row.Row.{Row}
 use Rattle.dlms_headend.specs.declared.stage.Course.{Course}
 use Rattle.dlms_headend.specs.declared.stage.Course.TheVariants.{Ready}
-use Rattle.dlms_link.specs.World.{World as Link, start as first_link}
+use Rattle.dlms_link.specs.World.{LinkWorld as Link, start as first_link}
 use Rattle.dlms_meter.specs.ClientRecord.{ClientRecord, fresh_record}
 use Rattle.dlms_meter.specs.Run.{events_in, other_of}
 use Rattle.dlms_meter.specs.Transfers.{Exchange}
@@ -17,9 +17,9 @@ use Rattle.dlms_service.specs.Session.{SessionValue, fresh}
 use Rattle.dlms_state.specs.Events.{captures, row_after, buffer_after}
 use Rattle.dlms_state.specs.Refusal.{IsLegal}
 use Rattle.dlms_state.specs.declared.event.Event.{Event}
-use Rattle.dlms_store.specs.World.{World as Memory, Step as StoreStep, Run as StoreRun}
-use Rattle.dlms_store.specs.World.World.{Runs, InDoubt, Rests}
-use Rattle.dlms_store.specs.World.Step.{Adds, AddsBehind, Settles, Refuses, Fails, Closes, ClosesInDoubt, Stops, Opens, OpenFails}
+use Rattle.dlms_store.specs.World.{StoreWorld as Memory, StoreStep, StoreRun}
+use Rattle.dlms_store.specs.World.StoreWorld.{Runs, InDoubt, Rests}
+use Rattle.dlms_store.specs.World.StoreStep.{Adds, AddsBehind, Settles, Refuses, Fails, Closes, ClosesInDoubt, Stops, Opens, OpenFails}
 use Rattle.dlms_data.specs.declared.date_time.TheConstants.{LAST_SECOND}
 
 pub record World : Type 0 where

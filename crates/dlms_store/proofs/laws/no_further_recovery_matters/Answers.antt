@@ -1,5 +1,5 @@
 use Rattle.std.proofs.Common.{refl, sym}
-use Rattle.dlms_store.specs.World.World.{Rests}
+use Rattle.dlms_store.specs.World.StoreWorld.{Rests}
 use Rattle.dlms_store.proofs.Runs.{after_open, stays_found}
 use Rattle.dlms_store.proofs.laws.no_further_recovery_matters.Goals as goal
 

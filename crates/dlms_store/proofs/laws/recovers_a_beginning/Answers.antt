@@ -1,5 +1,5 @@
 use Rattle.std.proofs.Common.{[]}
-use Rattle.dlms_store.specs.World.World.{Runs}
+use Rattle.dlms_store.specs.World.StoreWorld.{Runs}
 use Rattle.dlms_store.proofs.Runs.{recovers, at_start}
 use Rattle.dlms_store.proofs.laws.recovers_a_beginning.Goals as goal
 

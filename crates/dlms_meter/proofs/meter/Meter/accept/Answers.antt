@@ -20,7 +20,7 @@ returns g c w stands =
       refused = x.refused;
       exhausted = x.exhausted;
     } in
-    judged c.add.result c.args.event w old (record { alloc = old.alloc; deframer = old.deframer; anyone = old.anyone; manager = old.manager; store = c.add.new.self }) stands is refl
+    judged c.add.result c.args.event w old (record { alloc = old.alloc; deframer = old.deframer; public = old.public; management = old.management; store = c.add.new.self }) stands is refl
     (λ who. elim who [
       | Public ↦ refl
       | Management ↦ refl

@@ -1,7 +1,7 @@
 use Rattle.std.proofs.Common.{◌≡◌, ◌++◌, ℕ, List, false, [], ap, subst, sym, length, arith}
 use Rattle.dlms_journal.specs.Record.{record_of}
-use Rattle.dlms_store.specs.World.World.{Runs}
-use Rattle.dlms_store.specs.World.Step.{Adds, AddsBehind, Settles}
+use Rattle.dlms_store.specs.World.StoreWorld.{Runs}
+use Rattle.dlms_store.specs.World.StoreStep.{Adds, AddsBehind, Settles}
 use Rattle.dlms_store.specs.Fitting.{StoreFits, Moves}
 use Rattle.dlms_store.proofs.Adding.{behind}
 use Rattle.dlms_store.proofs.Keeping.{running, refuses}

@@ -11,7 +11,7 @@ use Rattle.dlms_journal.specs.Record.{Holds}
 use Rattle.dlms_state.specs.declared.event.Event.{Event}
 use Rattle.dlms_store.specs.Image.{Records}
 use Rattle.dlms_store.specs.Writing.{IsSettled}
-use Rattle.dlms_store.specs.World.Step.{Fails, Settles}
+use Rattle.dlms_store.specs.World.StoreStep.{Fails, Settles}
 use Rattle.dlms_store.proofs.Commit.{as_before, outcome, settles, settled_now, as_known, made_records, holds_none}
 use Rattle.dlms_store.proofs.Keeping.{running, refuses, settling, failing}
 use Rattle.dlms_store.proofs.store.Store.commit.Goals as goal

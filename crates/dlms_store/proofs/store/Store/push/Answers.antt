@@ -1,4 +1,4 @@
-use Rattle.dlms_store.specs.World.Step.{Adds}
+use Rattle.dlms_store.specs.World.StoreStep.{Adds}
 use Rattle.dlms_store.proofs.Adding.{adding, still_settled}
 use Rattle.dlms_store.proofs.Keeping.{running}
 use Rattle.dlms_store.proofs.store.Store.push.Goals as goal

@@ -1,0 +1,14 @@
+//! What the meter answered last, to be given again.
+
+use dlms_frame::Frame;
+
+/// The last answer that was given to an I frame or RR.
+#[derive(Drop)]
+pub enum Answer {
+    /// None since the link came up.
+    NoAnswer,
+    /// A receive-ready.
+    WasReady(Frame),
+    /// A segment of an answer.
+    WasInformation(Frame),
+}

@@ -1,0 +1,175 @@
+//! What the program's words ask for.
+ghost use Rattle.std.specs.Prelude.{◌≡◌, [], List, Some, option_map, OnOk, false, IfErr, IfOk, map};
+ghost use Rattle.clap.specs.Words.{app_of, fault_of, first_of, rule_of, Row, FailsBy, HasKind, subcommand_rows_of, subcommand_of};
+ghost use Rattle.clap.specs.declared.builder.command.Command.TheViews.{out-Command as fields_of};
+ghost use Rattle.dlms_program.specs.Words.{dlms, format_command, loopback_command, readings_rule, replay_command, stops_rule, Asks, SaysStops};
+
+use crate::commands::Job;
+use clap::{Arg, ArgMatches, Command, Error, value_parser};
+use std::alloc::{AllocError, Global};
+
+/// The program's version, as `--version` prints it.
+const VERSION: &str = "0.1.0";
+
+/// What the program is, for its help.
+const ABOUT: &str =
+    "A DLMS/COSEM electricity meter that reads bytes from the line, pulses and moments.
+
+Exit status: 0; 1 after a fault, named on standard error as in \"dlms: corrupt 1\"; 2 where the words ask for nothing that \
+the program does, and for this help.";
+
+/// What `format` does, for its help.
+const FORMAT_ABOUT: &str = "Makes a new meter in FILE. Whatever FILE holds is written over and lost.
+
+Reads nothing. Prints \"formatted N pages\". The last step is a sync: from then on the meter outlasts a stop of the power.
+
+Exit status: 0; 1 after a fault (dlms: io, with the file and the system's words on a second line; dlms: device; \
+dlms: memory); 2 for words that are not understood, and for this help.";
+
+/// What `replay` does, for its help.
+const REPLAY_ABOUT: &str =
+    "Replays standard input on the meter in FILE, and closes it at the end; without FILE on a new meter \
+in memory, which is gone then.
+
+Reads lines: \"> HEX\" brings bytes, \"P channel count\" pulses, \"M second\" the running second, \"I\" silence on the line, \
+\"O\" closes the meter and recovers it, \"S\" asks for the state. Empty lines and lines that begin with # are skipped.
+Prints \"< hex\" for each frame that goes out, \"refused k\" or \"fault n\" for an event that is not taken, \"open\" or \
+\"fault open n\" for O, and \"state r0 r1 r2 clock rows\" for S.
+
+Exit status: 0; 1 after a fault (dlms: line N for a line of no known form, or longer than 8192 bytes; dlms: io, with the file \
+and the system's words on a second line where it is FILE that fails; dlms: nocheckpoint or dlms: corrupt N for a FILE that \
+holds no meter, or a damaged one; dlms: device; dlms: exhausted; dlms: recovery; dlms: memory); 2 for words that are not \
+understood, and for this help.";
+
+/// What `loopback` does, for its help.
+const LOOPBACK_ABOUT: &str = "Polls a meter over a socket of this machine, and prints the readings.
+
+Makes a meter in memory, gives it 42 pulses on channel 0 and captures at 900 and 1800 seconds, polls it over TCP on a port of \
+127.0.0.1 that the system chooses, and prints a line \"clock,r0,r1,r2\" for each row. With --readings the rows of FILE come \
+first, an absent FILE has none, and FILE gets the new text after each poll: a stop at any moment leaves the old text or the new \
+one. With --stops the meter then loses its power N times, comes back, captures once more and is polled again.
+
+Exit status: 0; 1 after a fault (dlms: io, with FILE and the system's words on a second line where it is FILE that fails; \
+dlms: line N for a line of FILE that is none of readings; dlms: line, dlms: protocol, dlms: refused N or dlms: result N for a \
+poll; dlms: memory); 2 for words that are not understood, and for this help.";
+
+fn format_command<'a>(alloc: Global) -> Result<Command<'a>, AllocError>
+    ensures shape { IfOk result (λ c. app_of c ≡ format_command) }
+    ensures local { IfOk result (λ c. (fields_of c).has_globals ≡ false) }
+{
+    let file = Arg::new(alloc, "FILE")
+        .required(true)
+        .help("The file that the meter is to stand in");
+    Command::new(alloc, "format")
+        .about("Makes a new meter in FILE, over whatever FILE holds")
+        .long_about(FORMAT_ABOUT)
+        .arg(file)
+}
+
+fn replay_command<'a>(alloc: Global) -> Result<Command<'a>, AllocError>
+    ensures shape { IfOk result (λ c. app_of c ≡ replay_command) }
+    ensures local { IfOk result (λ c. (fields_of c).has_globals ≡ false) }
+{
+    let file = Arg::new(alloc, "FILE").help("The file that the meter stands in");
+    Command::new(alloc, "replay")
+        .about("Replays standard input on the meter in FILE, or on a new one in memory")
+        .long_about(REPLAY_ABOUT)
+        .arg(file)
+}
+
+/// The option that names a file of readings.
+fn readings_option<'a>(alloc: Global) -> Arg<'a>
+    ensures rule { rule_of result ≡ readings_rule }
+    ensures local { result.global ≡ false }
+{
+    Arg::new(alloc, "readings")
+        .long("readings")
+        .value_name("FILE")
+        .help("The file that the readings stand in")
+}
+
+/// The option that says so many stops.
+fn stops_option<'a>(alloc: Global) -> Arg<'a>
+    ensures rule { rule_of result ≡ stops_rule }
+    ensures local { result.global ≡ false }
+{
+    Arg::new(alloc, "stops")
+        .long("stops")
+        .value_name("N")
+        .value_parser(value_parser!(u8).range(0..=100))
+        .help("So many stops of the meter, 0 to 100")
+}
+
+fn loopback_command<'a>(alloc: Global) -> Result<Command<'a>, AllocError>
+    ensures shape { IfOk result (λ c. app_of c ≡ loopback_command) }
+    ensures local { IfOk result (λ c. (fields_of c).has_globals ≡ false) }
+{
+    Command::new(alloc, "loopback")
+        .about("Polls a meter in memory over a socket, and prints the readings")
+        .long_about(LOOPBACK_ABOUT)
+        .arg(readings_option(alloc))?
+        .arg(stops_option(alloc))
+}
+
+/// The commands of the program.
+fn program<'a>(alloc: Global) -> Result<Command<'a>, AllocError>
+    ensures { IfOk result (λ c. app_of c ≡ dlms) }
+{
+    let program = Command::new(alloc, "dlms")
+        .about(ABOUT)
+        .version(VERSION)
+        .subcommand(format_command(alloc)?)?
+        .subcommand(replay_command(alloc)?)?
+        .subcommand(loopback_command(alloc)?)?
+        .disable_help_subcommand(true)
+        .arg_required_else_help(true)
+        .subcommand_required(true);
+    Ok(program)
+}
+
+/// What was found for the words.
+fn parsed<'a>(alloc: Global, words: &'a [&'a str]) -> Result<ArgMatches<'a>, Error>
+    ensures kinds { FailsBy (fault_of dlms (map (λ word. word.now) words.entry.now)) result }
+    ensures matches { IfOk result (λ m. subcommand_rows_of m ≡ subcommand_of dlms (map (λ word. word.now) words.entry.now)) }
+{
+    program(alloc)?.try_get_matches_from(words)
+}
+
+/// What was found for one of a command's values, if it was.
+fn value_for<'a>(matches: &ArgMatches<'a>, command: &str, id: &str) -> Option<&'a str>
+    ensures { (rows : List Row) → subcommand_rows_of matches.now ≡ Some (command.now, rows) → option_map (λ value. value.now) result ≡ first_of id.now rows }
+{
+    matches.subcommand_matches(command)?.get_str(id)
+}
+
+/// The count of stops that was said.
+fn stops(said: Option<&str>) -> u8
+    ensures { SaysStops (option_map (λ text. text.now) said.entry) result }
+{
+    match said {
+        Some(text) => text.parse::<u8>().unwrap_or(0),
+        None => 0,
+    }
+}
+
+/// The job that the words name, the first of which is the program's own name: its command and its values are those that `clap`
+/// finds for them. A fault is `clap`'s, or want of memory; where `clap` finds none, it is want of memory.
+pub fn job<'a>(alloc: Global, words: &'a [&'a str]) -> Result<Job<'a>, Error>
+    ensures ok { IfOk result (Asks (subcommand_of dlms (map (λ word. word.now) words.entry.now))) }
+    ensures only_ok { OnOk result (fault_of dlms (map (λ word. word.now) words.entry.now) ≡ []) }
+    ensures fault { IfErr result (HasKind (fault_of dlms (map (λ word. word.now) words.entry.now))) }
+{
+    let matches = parsed(alloc, words)?;
+    if matches.subcommand_name() == Some("format") {
+        let file = value_for(&matches, "format", "FILE").unwrap_or("");
+        return Ok(Job::Format { file });
+    }
+    if matches.subcommand_name() == Some("replay") {
+        let file = value_for(&matches, "replay", "FILE");
+        return Ok(Job::Replay { file });
+    }
+    Ok(Job::Loopback {
+        readings: value_for(&matches, "loopback", "readings"),
+        stops: stops(value_for(&matches, "loopback", "stops")),
+    })
+}
