@@ -10,6 +10,7 @@ ghost use Rattle.dlms_acse.specs.Services.{AreBits, named};
 ghost use Rattle.dlms_acse.specs.Spelling.{IsAarq, IsAare, IsInitiate, IsSecret, answered, asked};
 ghost use Rattle.dlms_acse.specs.Verdict.{Request};
 ghost use Rattle.dlms_acse.specs.Writing.{aare_bytes, aarq_bytes};
+ghost use Rattle.dlms_acse.specs.declared.judging.TheConstants.{LEAST_SIZE, MOST_SIZE};
 
 use crate::conformance::Conformance;
 use bitflags::Flags;
@@ -65,4 +66,9 @@ pub fn names_are_bits()
         ∷ (Conformance.PARAMETERIZED_ACCESS, 18) ∷ (Conformance.GET, 19) ∷ (Conformance.SET, 20)
         ∷ (Conformance.SELECTIVE_ACCESS, 21) ∷ (Conformance.EVENT_NOTIFICATION, 22) ∷ (Conformance.ACTION, 23) ∷ []) }
     ensures table { ⟦<Conformance as Flags>⟧.table ≡ named }
+{}
+
+/// The sizes of APDUs that clauses and definitions cite by name, in bytes.
+pub fn the_numbers()
+    ensures { (LEAST_SIZE ≡ 64) × (MOST_SIZE ≡ 1024) }
 {}

@@ -2,6 +2,10 @@
 ghost use Rattle.std.specs.Prelude.{◌≡◌, ◌*◌, ◌<◌, ℕ, List, true, take};
 ghost use Rattle.dlms_blocks.specs.Block.{blocks_up_to, is_last};
 ghost use Rattle.dlms_blocks.specs.Calls.{IsCall, seen, GiveTheBlocks, JoinToTheValue, GiveEachInOrder};
+ghost use Rattle.dlms_blocks.specs.declared.block.TheConstants.{LEAST_SIZE, MOST_SIZE, MOST_BYTES, UNKNOWN_BLOCK, NO_LONG_GET, NO_LONG_SET, LONG_SET_ABORTED, TEMPORARY_FAILURE};
+ghost use Rattle.dlms_blocks.specs.declared.get_out.TheConstants.{GET_HEAD};
+ghost use Rattle.dlms_blocks.specs.declared.put_out.TheConstants.{PUT_HEAD};
+ghost use Rattle.dlms_blocks.specs.declared.put_in.TheConstants.{MOST_BYTES as MOST_VALUE};
 
 use crate::block::Block;
 use crate::get_out::GetOut;
@@ -36,3 +40,11 @@ pub fn put_is_a_call<A: Allocator>(set: &mut PutOut<A>, number: u32) -> Result<B
 {
     set.next(number)
 }
+
+/// The numbers that clauses and definitions cite by name: sizes in bytes, and data access results.
+pub fn the_numbers()
+    ensures sizes { (LEAST_SIZE ≡ 64) × (MOST_SIZE ≡ 1024) }
+    ensures heads { (GET_HEAD ≡ 12) × (PUT_HEAD ≡ 21) }
+    ensures most { (MOST_BYTES ≡ 1012) × (MOST_VALUE ≡ 1024) }
+    ensures results { (TEMPORARY_FAILURE ≡ 2) × (NO_LONG_GET ≡ 16) × (LONG_SET_ABORTED ≡ 17) × (NO_LONG_SET ≡ 18) × (UNKNOWN_BLOCK ≡ 19) }
+{}

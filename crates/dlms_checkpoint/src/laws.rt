@@ -23,3 +23,8 @@ pub fn bodies_join()
     ensures all { (bytes : List ℕ) (k : ℕ) → body_count bytes ≤ k → take (MOST_BODY * k) bytes ≡ bytes }
     ensures some { (bytes : List ℕ) (k : ℕ) → k < body_count bytes → 0 < length (body_at k bytes) }
 {}
+
+/// The numbers that clauses and definitions cite by name.
+pub fn the_numbers()
+    ensures { MOST_BODY ≡ 496 }
+{}

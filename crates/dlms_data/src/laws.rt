@@ -1,7 +1,7 @@
 //! What holds of all values and of all seconds. Nobody needs to call these functions: their contracts
 //! are the laws.
 
-ghost use Rattle.std.specs.Prelude.{◌≡◌, ◌≤◌, Some};
+ghost use Rattle.std.specs.Prelude.{◌≡◌, ◌≤◌, ◌+◌, ◌*◌, Some};
 ghost use Rattle.dlms_data.specs.Faults.{TellsFaults};
 ghost use Rattle.dlms_data.specs.Laws.{ReadsWhatIsSpelled, ReadsOneValue, ReadsWhatWasWritten};
 
@@ -35,3 +35,8 @@ pub fn reads_each_second(second: u32) -> Option<u32>
     let written = octets(second);
     secs(written.as_slice())
 }
+
+/// The last second of the year 2099, counted from 2000-01-01 00:00:00: 100 years of 365 days and 25 leap days.
+pub fn the_numbers()
+    ensures { LAST_SECOND + 1 ≡ (100 * 365 + 25) * 86400 }
+{}

@@ -3,6 +3,7 @@ ghost use Rattle.std.specs.Prelude.{◌≡◌, ◌+◌, ℕ, List, Bool, [], ◌
 ghost use Rattle.dlms_frame.specs.Check.{IsRemainder, dividend_of, line_bits, check_of, from_bits};
 ghost use Rattle.dlms_frame.specs.Frame.{Parts, FrameSpelling};
 ghost use Rattle.dlms_frame.specs.Stream.{FramesOf, Call, Feeds, Fits, bytes_of, frames_of};
+ghost use Rattle.dlms_frame.specs.declared.reading.TheConstants.{FLAG, FORMAT};
 
 /// The check is what the division by x^16 + x^12 + x^5 + 1 leaves, inverted.
 pub fn division()
@@ -26,4 +27,9 @@ pub fn one_list()
 pub fn any_pieces()
     ensures { (old new : List ℕ) (calls : List Call) → Fits old [] 0 → Feeds old calls new
         → FramesOf (bytes_of calls) 0 (frames_of calls) }
+{}
+
+/// The octets that clauses and definitions cite by name: the flag, and the format type in its half octet.
+pub fn the_numbers()
+    ensures { (FLAG ≡ 0x7E) × (FORMAT ≡ 0xA) }
 {}

@@ -4,6 +4,7 @@ ghost use Rattle.std.specs.Prelude.{◌≡◌, List, ℕ};
 ghost use Rattle.dlms_headend.specs.declared.row.Row.{Row};
 ghost use Rattle.dlms_headend.specs.Poll.{HasReleased};
 ghost use Rattle.dlms_headend.specs.PollRun.{CallsAreAPoll, DoneIsTold};
+ghost use Rattle.dlms_headend.specs.declared.answer.TheConstants.{EXCEPTION};
 
 /// The APDUs that a poll took tell its rows.
 pub fn rows_are_told()
@@ -15,4 +16,9 @@ pub fn rows_are_told()
 pub fn calls_are_a_poll()
     ensures run { CallsAreAPoll }
     ensures done { DoneIsTold }
+{}
+
+/// The number that clauses cite by name for an exception response.
+pub fn the_numbers()
+    ensures { EXCEPTION ≡ 250 }
 {}

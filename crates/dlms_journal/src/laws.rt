@@ -27,3 +27,8 @@ pub fn pages_are_read()
     ensures { (page : List ℕ) (kind : PageKind) (index generation : ℕ) (payload : List ℕ) → length payload ≤ MOST_PAYLOAD → IsPage page kind index generation payload
         → (kind_named (head_of page).kind ≡ Some kind) × (payload_at page ≡ Some payload) }
 {}
+
+/// The numbers that clauses and definitions cite by name.
+pub fn the_numbers()
+    ensures { MOST_PAYLOAD ≡ 496 }
+{}

@@ -14,6 +14,8 @@ ghost use Rattle.dlms_link.specs.Client.{ClientRecord, client_send, client_step,
 ghost use Rattle.dlms_link.specs.Line.{ApdusComeUp, LineIsSilent, OneFrameAtMost};
 ghost use Rattle.dlms_link.specs.World.{LinkEvent, run, start, IsBeginningOf};
 ghost use Rattle.dlms_link.specs.declared.segments.TheConstants.{MOST_BYTES};
+ghost use Rattle.dlms_link.specs.declared.kept.TheConstants.{DESTINATION, FROM_CLIENT, FROM_METER, QUALITY, MOST_APDU};
+ghost use Rattle.dlms_link.specs.declared.control.TheConstants.{SNRM, DISC, UA, DM};
 
 /// Over a line that loses any frames, and in which a time-out comes only where nothing is on the
 /// line, what each end gives up during a connection is a beginning of what the other was given to
@@ -76,4 +78,11 @@ pub fn segments_are_sent()
         → (rest : List ℕ) × IsUnderWay MOST_BYTES (llc from_client ++ apdu) ((client_send c apdu).1 ∷ sent) rest × (taken ≡ [] → now.unsent ≡ rest) }
     ensures read_again { (side size : ℕ) (apdu : List ℕ) (frames : List Parts) → 3 ≤ size → IsSegmented size (llc side ++ apdu) frames
         → kept_after_all side Fresh (map (λ f. f.info) frames) ≡ capped apdu }
+{}
+
+/// The numbers that clauses and definitions cite by name: control octets, the LLC's octets, and most bytes.
+pub fn the_numbers()
+    ensures control { (SNRM ≡ 0x93) × (DISC ≡ 0x53) × (UA ≡ 0x73) × (DM ≡ 0x1F) }
+    ensures llc { (DESTINATION ≡ 0xE6) × (FROM_CLIENT ≡ 0xE6) × (FROM_METER ≡ 0xE7) × (QUALITY ≡ 0) }
+    ensures most { (MOST_BYTES ≡ 128) × (MOST_APDU ≡ 1024) }
 {}

@@ -3,6 +3,7 @@ ghost use Rattle.std.specs.Prelude.{◌≡◌, ℕ, ◌<◌, List, [], ◌∷◌
 ghost use Rattle.circular_buffer.specs.Buffer.{keep_last};
 ghost use Rattle.dlms_profile.specs.declared.rows.Row.{Row};
 ghost use Rattle.dlms_profile.specs.Rows.{in_range, entries, row_at};
+ghost use Rattle.dlms_profile.specs.declared.rows.TheConstants.{CAPACITY};
 
 /// A range has its first and its last second.
 pub fn a_range_has_both_its_ends()
@@ -38,4 +39,9 @@ pub fn entries_one_to_none_are_all()
 /// Of four rows a buffer of three keeps the last three.
 pub fn the_oldest_row_goes_first()
     ensures { keep_last 3 (row_at 1 ∷ row_at 2 ∷ row_at 3 ∷ row_at 4 ∷ []) ≡ row_at 2 ∷ row_at 3 ∷ row_at 4 ∷ [] }
+{}
+
+/// The number that clauses and definitions cite by name: the buffer keeps 960 rows.
+pub fn the_numbers()
+    ensures { CAPACITY ≡ 960 }
 {}

@@ -2,6 +2,7 @@
 ghost use Rattle.std.specs.Prelude.{◌≡◌, ◌<◌, ◌≤◌, None};
 ghost use Rattle.arrayvec.specs.ArrayVec.{array_vec_len};
 ghost use Rattle.dlms_state.specs.Refusal.{refusal};
+ghost use Rattle.dlms_state.specs.declared.event.TheConstants.{LONGEST_PERIOD};
 
 use crate::clock::passes;
 use crate::state::State;
@@ -54,7 +55,7 @@ impl<A: Allocator + Copy> State<A> {
     }
 
     pub(super) fn set_period(&mut self, period: u32)
-        requires { period ≤ 86400 }
+        requires { period ≤ LONGEST_PERIOD }
         ensures { self.new ≡ step (Event.SetPeriod period) self.old }
     {
         self.period = period;

@@ -1,6 +1,6 @@
 //! What a state holds. Each reader's value is that of the definitions, for every list of events that leaves the state.
 ghost use Rattle.std.specs.Prelude.{◌≡◌, ◌<◌, ◌≤◌, List, All, length};
-ghost use Rattle.dlms_state.specs.declared.event.TheConstants.{LAST_SECOND};
+ghost use Rattle.dlms_state.specs.declared.event.TheConstants.{LAST_SECOND, LONGEST_PERIOD};
 ghost use Rattle.dlms_state.specs.Events.{clock_at, registers_after, clock_after, moment_after, offset_after, period_after, text_after, secret_after, buffer_after};
 
 use crate::state::State;
@@ -48,7 +48,7 @@ impl<A: Allocator + Copy> State<A> {
     pub fn period(&self) -> u32
         ensures value { result ≡ self.now.period }
         ensures after { (E : List Event) → IsStateOf E self.now → result ≡ period_after E }
-        ensures limit { result ≤ 86400 }
+        ensures limit { result ≤ LONGEST_PERIOD }
     {
         self.period
     }
