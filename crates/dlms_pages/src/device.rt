@@ -4,11 +4,14 @@ ghost use Rattle.dlms_pages.specs.Device.{View, Goes, Reads, Writes, Syncs, Rule
 
 use thiserror::Error;
 
+/// The bytes of a page.
+pub const PAGE_BYTES: usize = 512;
+
 /// What a page reads as.
 #[derive(Clone, Copy, Debug, PartialEq, Eq)]
 pub enum PageRead {
     /// The 512 bytes that were written there.
-    Content([u8; 512]),
+    Content([u8; PAGE_BYTES]),
     /// What stands there was never written: a write was torn, or nothing was written yet.
     Damaged,
 }
@@ -42,7 +45,7 @@ pub trait Pages {
             → Reads index (view self.old) (view self.new) result };
 
     /// Writes a page. A stop before the next sync may undo it, or tear the page.
-    fn write(&mut self, index: u16, bytes: &[u8; 512]) -> Result<(), DeviceFault>
+    fn write(&mut self, index: u16, bytes: &[u8; PAGE_BYTES]) -> Result<(), DeviceFault>
         requires { index < length (view self.old).seen }
         ensures goes { Goes (view self.old) (view self.new) result }
         ensures written { (view self.old).honest ≡ true

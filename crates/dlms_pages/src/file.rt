@@ -4,9 +4,9 @@ ghost use Rattle.dlms_pages.specs.Asked.{AsksAll, sync_calls, written_again};
 
 use crate::folder::sync_folder;
 use crate::lock::LockFile;
-use crate::seal::{SLOT, opened, sealed};
+use crate::seal::{SLOT_BYTES, opened, sealed};
 use crate::slot_file::SlotFile;
-use crate::{DeviceFault, PageRead, Pages};
+use crate::{DeviceFault, PAGE_BYTES, PageRead, Pages};
 use std::alloc::{AllocError, Allocator, Global};
 use std::fs::{File, Files, OpenFile, OpenOptions};
 use std::io;
@@ -28,7 +28,7 @@ use std::marker::Model;
 #[derive(Drop)]
 pub struct FilePages<F = File, A: Allocator = Global> {
     file: F,
-    unsynced: Vec<Option<[u8; 512]>, A>,
+    unsynced: Vec<Option<[u8; PAGE_BYTES]>, A>,
     behind: bool,
     faults: u64,
 }
@@ -70,7 +70,7 @@ impl<F: Read + Write + Seek + OpenFile + LockFile + Drop, A: Allocator> FilePage
         // What stands there is thrown away behind the lock alone.
         file.lock_alone()?;
         file.set_len(0)?;
-        file.set_len(u64::from(count) * SLOT as u64)?;
+        file.set_len(u64::from(count) * SLOT_BYTES as u64)?;
         file.sync_all()?;
         sync_folder(rt, path)?;
         Ok(FilePages::fresh(file, unsynced))
@@ -95,7 +95,7 @@ impl<F: SlotFile + Drop, A: Allocator> FilePages<F, A> {
     ghost use Rattle.dlms_pages.specs.File.{faults_after, GivesPage, KeepsPage, Settles};
 
     // Nothing is written yet, and nothing has failed.
-    fn fresh(file: F, unsynced: Vec<Option<[u8; 512]>, A>) -> FilePages<F, A>
+    fn fresh(file: F, unsynced: Vec<Option<[u8; PAGE_BYTES]>, A>) -> FilePages<F, A>
         requires { length unsynced.items < 2 ^ 16 }
         ensures { result ≡ record {
           file = file;
@@ -139,7 +139,7 @@ impl<F: SlotFile + Drop, A: Allocator> FilePages<F, A> {
         if let Some(content) = self.unsynced[index as usize] {
             return Ok(PageRead::Content(content));
         }
-        let mut slot = [0u8; 544];
+        let mut slot = [0u8; SLOT_BYTES];
         match self.file.read_slot(index, &mut slot) {
             Ok(true) => Ok(opened(index, &slot)),
             Ok(false) => Ok(PageRead::Damaged),
@@ -148,7 +148,7 @@ impl<F: SlotFile + Drop, A: Allocator> FilePages<F, A> {
     }
 
     // Writes a page, and keeps what was written.
-    fn write_page(&mut self, index: u16, bytes: &[u8; 512]) -> Result<(), DeviceFault>
+    fn write_page(&mut self, index: u16, bytes: &[u8; PAGE_BYTES]) -> Result<(), DeviceFault>
         requires { index < length self.old.unsynced }
         ensures { KeepsPage F.asked index bytes.now self.old self.new result }
     {
@@ -200,7 +200,7 @@ impl<F: SlotFile + Drop, A: Allocator> Pages for FilePages<F, A> {
         self.read_page(index)
     }
 
-    fn write(&mut self, index: u16, bytes: &[u8; 512]) -> Result<(), DeviceFault>
+    fn write(&mut self, index: u16, bytes: &[u8; PAGE_BYTES]) -> Result<(), DeviceFault>
         requires { index < length (file_view self.old).seen }
         ensures goes { Goes (file_view self.old) (file_view self.new) result }
         ensures written { (file_view self.old).honest ≡ true
@@ -221,7 +221,7 @@ impl<F: SlotFile + Drop, A: Allocator> Pages for FilePages<F, A> {
 }
 
 /// The room for what is written between two syncs.
-fn room<A: Allocator>(alloc: A, count: u16) -> Result<Vec<Option<[u8; 512]>, A>, AllocError>
+fn room<A: Allocator>(alloc: A, count: u16) -> Result<Vec<Option<[u8; PAGE_BYTES]>, A>, AllocError>
     ensures { IfOk result (λ pages. pages.items ≡ replicate count None) }
 {
     vec![in alloc; None; count as usize]
@@ -229,7 +229,11 @@ fn room<A: Allocator>(alloc: A, count: u16) -> Result<Vec<Option<[u8; 512]>, A>,
 
 /// Makes what the file holds outlast a stop. Where a write or a sync has failed, all is written again first, since a
 /// system may drop what a failed sync had before it, and call the next one a success.
-fn settle<F: SlotFile>(file: &mut F, pages: &[Option<[u8; 512]>], behind: bool) -> io::Result<()>
+fn settle<F: SlotFile>(
+    file: &mut F,
+    pages: &[Option<[u8; PAGE_BYTES]>],
+    behind: bool,
+) -> io::Result<()>
     requires { length pages.now < 2 ^ 16 }
     ensures { AsksAll (F.asked file.old) (F.asked file.new) (sync_calls behind pages.now) result }
 {
@@ -240,7 +244,7 @@ fn settle<F: SlotFile>(file: &mut F, pages: &[Option<[u8; 512]>], behind: bool) 
 }
 
 /// Writes again what was written.
-fn write_again<F: SlotFile>(file: &mut F, pages: &[Option<[u8; 512]>]) -> io::Result<()>
+fn write_again<F: SlotFile>(file: &mut F, pages: &[Option<[u8; PAGE_BYTES]>]) -> io::Result<()>
     requires { length pages.now < 2 ^ 16 }
     ensures { AsksAll (F.asked file.old) (F.asked file.new) (written_again 0 pages.now) result }
 {
@@ -253,11 +257,8 @@ fn write_again<F: SlotFile>(file: &mut F, pages: &[Option<[u8; 512]>]) -> io::Re
     Ok(())
 }
 
-fn forget(pages: &mut [Option<[u8; 512]>])
+fn forget(pages: &mut [Option<[u8; PAGE_BYTES]>])
     ensures { pages.new ≡ replicate (length pages.old) None }
 {
     pages.fill(None);
 }
-
-#[cfg(test)]
-mod tests;

@@ -1,8 +1,10 @@
 //! What holds of every run of device calls, as functions whose contracts are the laws. They make no call.
-ghost use Rattle.std.specs.Prelude.{◌≡◌, ◌<◌, ℕ, List, [], ◌∷◌, length};
+ghost use Rattle.std.specs.Prelude.{◌≡◌, ◌<◌, ◌+◌, ℕ, List, [], ◌∷◌, length};
 ghost use Rattle.dlms_pages.specs.declared.memory.Call.TheVariants.{Write, Sync};
 ghost use Rattle.dlms_pages.specs.Laws.{StopsKeepTheRules, StopsSinceKeepTheRules, SyncsLeaveOneImage, LeavesEachOutcome};
 ghost use Rattle.dlms_pages.specs.Memory.{Memory};
+ghost use Rattle.dlms_pages.specs.declared.device.TheConstants.{PAGE_BYTES};
+ghost use Rattle.dlms_pages.specs.declared.seal.TheConstants.{SLOT_BYTES};
 
 use crate::Pages;
 
@@ -24,4 +26,9 @@ pub fn each_outcome_may_be_left_and_no_other()
     ensures { (memory : Memory) (index : ℕ) (old new : List ℕ) → index < length memory.first
         → memory.calls ≡ Write index old ∷ Sync ∷ Write index new ∷ []
         → LeavesEachOutcome memory index old new }
+{}
+
+/// The sizes by which pages and slots are laid out, in bytes: a slot is a page and its seal, a SHA-256.
+pub fn the_numbers()
+    ensures { (PAGE_BYTES ≡ 512) × (SLOT_BYTES ≡ PAGE_BYTES + 32) }
 {}

@@ -14,13 +14,11 @@ mod plan;
 mod seal;
 mod slot_file;
 
-pub use device::{DeviceFault, PageRead, Pages};
+pub use device::{DeviceFault, PAGE_BYTES, PageRead, Pages};
 pub use file::FilePages;
 pub use folder::sync_folder;
 pub use lock::LockFile;
 pub use memory::{Call, MemoryPages};
 pub use pick::{Choice, Pick};
+pub use seal::SLOT_BYTES;
 pub use slot_file::SlotFile;
-
-#[cfg(test)]
-mod tests;

@@ -10,7 +10,7 @@ ghost use Rattle.dlms_pages.specs.Pick.{choice_at, page_left};
 use crate::history::{History, history_of};
 use crate::past::Past;
 use crate::plan::{Plan, next_of};
-use crate::{Choice, DeviceFault, PageRead, Pages, Pick};
+use crate::{Choice, DeviceFault, PAGE_BYTES, PageRead, Pages, Pick};
 use std::alloc::{AllocError, Allocator, Global};
 use std::marker::Model;
 use std::snapshot::Snapshot;
@@ -19,7 +19,7 @@ use std::snapshot::Snapshot;
 #[derive(Clone, Copy, Debug, PartialEq, Eq)]
 pub enum Call {
     /// These bytes were written to the page of this index.
-    Write { index: u16, bytes: [u8; 512] },
+    Write { index: u16, bytes: [u8; PAGE_BYTES] },
     /// A sync.
     Sync,
 }
@@ -64,7 +64,7 @@ impl<A: Allocator + Copy> MemoryPages<A> {
     pub fn new(alloc: A, count: u16) -> Result<Self, AllocError>
         ensures { IfOk result (IsNew count) }
     {
-        let page = PageRead::Content([0; 512]);
+        let page = PageRead::Content([0; PAGE_BYTES]);
         let synced = vec![in alloc; page; count as usize]?;
         let pages = vec![in alloc; page; count as usize]?;
         let first = Snapshot::of(&synced);
@@ -158,7 +158,7 @@ impl<A: Allocator + Copy> MemoryPages<A> {
     }
 
     // A write that is kept in the record.
-    fn record_write(&mut self, index: u16, bytes: &[u8; 512]) -> Result<(), DeviceFault>
+    fn record_write(&mut self, index: u16, bytes: &[u8; PAGE_BYTES]) -> Result<(), DeviceFault>
         requires { index < length (disk_of self.old).seen }
         ensures due { fails_at self.old.plan 0 ≡ true → IsErr result }
         ensures cause { OnErr result ((fails_at self.old.plan 0 ≡ true) ⊎ (self.old.room ≡ 0)) }
@@ -250,7 +250,7 @@ impl<A: Allocator + Copy> Pages for MemoryPages<A> {
         Ok(self.pages[index as usize])
     }
 
-    fn write(&mut self, index: u16, bytes: &[u8; 512]) -> Result<(), DeviceFault>
+    fn write(&mut self, index: u16, bytes: &[u8; PAGE_BYTES]) -> Result<(), DeviceFault>
         requires { index < length (view_of self.old).seen }
         ensures goes { Goes (view_of self.old) (view_of self.new) result }
         ensures written { (view_of self.old).honest ≡ true

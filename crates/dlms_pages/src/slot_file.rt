@@ -3,7 +3,7 @@ ghost use Rattle.std.specs.Prelude.{List, Option, None, [], ◌∷◌};
 ghost use Rattle.dlms_pages.specs.Asked.{Asked, Asks, came_of, passed};
 ghost use Rattle.dlms_pages.specs.Asked.Asked.{Reads, Writes, Syncs};
 
-use crate::seal::SLOT;
+use crate::seal::SLOT_BYTES;
 use std::fs::OpenFile;
 use std::io;
 use std::io::{ErrorKind, Read, Seek, SeekFrom, Write};
@@ -15,11 +15,11 @@ pub trait SlotFile {
     ghost asked: { Self → Option (List Asked) } = { λ _. None };
 
     /// Reads a slot, and says whether the file has all of it.
-    fn read_slot(&mut self, index: u16, slot: &mut [u8; 544]) -> io::Result<bool>
+    fn read_slot(&mut self, index: u16, slot: &mut [u8; SLOT_BYTES]) -> io::Result<bool>
         ensures { Asks (asked self.old) (asked self.new) (Reads index (came_of result slot.new) ∷ []) };
 
     /// Writes a slot.
-    fn write_slot(&mut self, index: u16, slot: &[u8; 544]) -> io::Result<()>
+    fn write_slot(&mut self, index: u16, slot: &[u8; SLOT_BYTES]) -> io::Result<()>
         ensures { Asks (asked self.old) (asked self.new) (Writes index slot.now (passed result) ∷ []) };
 
     /// Asks the system to make what was written outlast a stop.
@@ -28,8 +28,8 @@ pub trait SlotFile {
 }
 
 impl<F: Read + Write + Seek + OpenFile> SlotFile for F {
-    fn read_slot(&mut self, index: u16, slot: &mut [u8; 544]) -> io::Result<bool> {
-        self.seek(SeekFrom::Start(u64::from(index) * SLOT as u64))?;
+    fn read_slot(&mut self, index: u16, slot: &mut [u8; SLOT_BYTES]) -> io::Result<bool> {
+        self.seek(SeekFrom::Start(u64::from(index) * SLOT_BYTES as u64))?;
         match self.read_exact(slot) {
             Ok(()) => Ok(true),
             Err(e) if e.kind() == ErrorKind::UnexpectedEof => Ok(false),
@@ -37,8 +37,8 @@ impl<F: Read + Write + Seek + OpenFile> SlotFile for F {
         }
     }
 
-    fn write_slot(&mut self, index: u16, slot: &[u8; 544]) -> io::Result<()> {
-        self.seek(SeekFrom::Start(u64::from(index) * SLOT as u64))?;
+    fn write_slot(&mut self, index: u16, slot: &[u8; SLOT_BYTES]) -> io::Result<()> {
+        self.seek(SeekFrom::Start(u64::from(index) * SLOT_BYTES as u64))?;
         self.write_all(slot.as_slice())
     }
 

@@ -14,7 +14,7 @@ use crate::put::put;
 use crate::slot::put_bodies;
 use dlms_checkpoint::Checkpoint;
 use dlms_journal::{PageKind, page_of};
-use dlms_pages::{DeviceFault, Pages};
+use dlms_pages::{DeviceFault, PAGE_BYTES, Pages};
 
 /// Writes zeros to every page, and syncs.
 pub(crate) fn clear<P: Pages>(device: &mut P) -> Result<(), DeviceFault>
@@ -22,7 +22,7 @@ pub(crate) fn clear<P: Pages>(device: &mut P) -> Result<(), DeviceFault>
     ensures clear { (P.view device.old).honest ≡ true → OnOk result (Leaves (P.view device.new) IsClear) }
 {
     for index in 0..device.count() {
-        device.write(index, &[0; 512])?;
+        device.write(index, &[0; PAGE_BYTES])?;
     }
     device.sync()
 }

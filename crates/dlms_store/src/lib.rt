@@ -12,8 +12,6 @@ mod put;
 mod replay;
 mod slot;
 mod store;
-#[cfg(test)]
-mod tests;
 
 pub use fault::{AddFault, OpenFault, StoreFault};
 pub use layout::PAGES;

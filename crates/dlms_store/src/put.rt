@@ -3,13 +3,13 @@ ghost use Rattle.std.specs.Prelude.{◌≡◌, ◌<◌, length, true};
 ghost use Rattle.dlms_pages.specs.Device.{Goes};
 ghost use Rattle.dlms_store.specs.Writing.{Puts};
 
-use dlms_pages::{DeviceFault, Pages};
+use dlms_pages::{DeviceFault, PAGE_BYTES, Pages};
 
 /// Writes a page and syncs.
 pub(crate) fn put<P: Pages>(
     device: &mut P,
     index: u16,
-    bytes: &[u8; 512],
+    bytes: &[u8; PAGE_BYTES],
 ) -> Result<(), DeviceFault>
     requires { index < length (P.view device.old).seen }
     ensures goes { Goes (P.view device.old) (P.view device.new) result }

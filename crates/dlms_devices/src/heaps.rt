@@ -1,0 +1,141 @@
+//! Memory that is refused: the record of a device in memory, and the rows of a store, on heaps of rising sizes.
+
+use crate::asked::{Ask, Came, asked, get};
+use crate::report::Report;
+use anyhow::Result;
+use dlms_pages::{MemoryPages, Pages};
+use dlms_store::{OpenFault, PAGES, Store};
+use linked_list_allocator::LocalHeap;
+use std::alloc::{AllocError, Allocator};
+
+/// How many heaps there are.
+const HEAPS: usize = 128;
+
+/// How much larger each is than the one before, from 0 on.
+const STEP: usize = 64;
+
+/// What came of a write of page 0 and one of page 1, what the two hold then, and the faults.
+type Two = [Came; 5];
+
+/// The pages were refused, both writes, the second one, none.
+const ENDS: [Option<Two>; 4] = [
+    None,
+    Some([
+        Came::Fault,
+        Came::Fault,
+        Came::Full(0),
+        Came::Full(0),
+        Came::Number(2),
+    ]),
+    Some([
+        Came::Done,
+        Came::Fault,
+        Came::Full(1),
+        Came::Full(0),
+        Came::Number(1),
+    ]),
+    Some([
+        Came::Done,
+        Came::Done,
+        Came::Full(1),
+        Came::Full(2),
+        Came::Number(0),
+    ]),
+];
+
+/// Two writes with so much memory; None where there is none for the pages.
+fn two_writes<A: Allocator + Copy>(alloc: A) -> Option<Two> {
+    let Ok(mut device) = MemoryPages::new(alloc, 2) else {
+        return None;
+    };
+    let first = asked(&mut device, Ask::Put(0, 1));
+    let second = asked(&mut device, Ask::Put(1, 2));
+    Some([
+        first,
+        second,
+        get(&mut device, 0),
+        get(&mut device, 1),
+        Came::Number(device.faults()),
+    ])
+}
+
+/// Which of the ends it is.
+fn end_of(two: Option<Two>) -> Option<usize> {
+    ENDS.iter().position(|end| *end == two)
+}
+
+/// What the writes come to on a heap of this size, and what is left on it.
+fn on_heap(report: &Report<'_>, size: usize) -> Result<(Option<usize>, usize), AllocError> {
+    let heap = LocalHeap::new(report.alloc(), size)?;
+    let end = end_of(two_writes(&heap));
+    Ok((end, heap.used()))
+}
+
+/// On a heap of each size the pages are refused, or a write is refused as a fault and does nothing, or all passes; all memory
+/// is given back, and each of these comes.
+pub fn play_writes(report: &mut Report<'_>) -> Result<()> {
+    report.begin("refused writes");
+    let mut counts = [0u32; 4];
+    for heap in 0..HEAPS {
+        let size = heap.saturating_mul(STEP);
+        let (end, kept) = on_heap(report, size)?;
+        report.compare((size, "an end"), end.is_some(), true)?;
+        report.compare((size, "kept"), kept, 0)?;
+        if let Some(count) = end.and_then(|end| counts.get_mut(end)) {
+            *count = count.saturating_add(1);
+        }
+    }
+    let [no_pages, none, one, both] = counts;
+    report.compare(("pages refused", no_pages), 8 < no_pages, true)?;
+    let refused = none.saturating_add(one);
+    report.compare(("writes refused", refused), 2 < refused, true)?;
+    report.compare(("passed", both), 8 < both, true)?;
+    Ok(report.end()?)
+}
+
+/// A store's rows have room from 15 KiB on.
+const ROWS: [(usize, Option<OpenFault>); 4] = [
+    (0, Some(OpenFault::Memory)),
+    (14, Some(OpenFault::Memory)),
+    (15, None),
+    (24, None),
+];
+
+/// The device of a store, and why it was not opened.
+type Opened = (Option<OpenFault>, MemoryPages);
+
+/// The device of a new store, opened on a heap of so many KiB.
+fn opened_on_heap(report: &Report<'_>, kilobytes: usize) -> Result<Option<Opened>, AllocError> {
+    let heap = LocalHeap::new(report.alloc(), kilobytes.saturating_mul(1024))?;
+    let device = MemoryPages::new(report.alloc(), PAGES)?;
+    let Ok(store) = Store::format(report.alloc(), device) else {
+        return Ok(None);
+    };
+    match Store::open(&heap, store.close()) {
+        Ok(store) => Ok(Some((None, store.close()))),
+        Err((device, fault)) => Ok(Some((Some(fault), device))),
+    }
+}
+
+/// What is pending in the store of a device.
+fn pending_on(report: &Report<'_>, device: MemoryPages) -> Option<usize> {
+    match Store::open(report.alloc(), device) {
+        Ok(store) => Some(store.pending()),
+        Err(_) => None,
+    }
+}
+
+/// Room for the rows is asked for once, and refused where the heap is too small; the device comes back.
+pub fn play_recoveries(report: &mut Report<'_>) -> Result<()> {
+    report.begin("refused rows");
+    for (kilobytes, fault) in ROWS {
+        let Some((found, device)) = opened_on_heap(report, kilobytes)? else {
+            report.compare((kilobytes, "formatted"), false, true)?;
+            continue;
+        };
+        report.compare((kilobytes, "opened"), found, fault)?;
+        let pending = pending_on(report, device);
+        report.compare((kilobytes, "opened with room"), pending, Some(0))?;
+    }
+    Ok(report.end()?)
+}

@@ -1,0 +1,234 @@
+//! The power stops in each call of a scenario on a store, and again in each call of the recovery.
+
+use crate::report::Report;
+use crate::scripts::FORMATS;
+use crate::stores::MemoryStore;
+use anyhow::Result;
+use dlms_pages::{Choice, MemoryPages, Pick};
+use dlms_state::Event;
+use dlms_store::{PAGES, Store};
+use std::alloc::{AllocError, Global};
+
+/// An act of the scenario: so many pulses, each an event of its own, or a call that settles them.
+#[derive(Clone, Copy)]
+enum Act {
+    Pulses(u32),
+    Commit,
+    Checkpoint,
+}
+
+/// Its device is called 14 times, twice of them where the 83 records fill a page.
+const SCENARIO: [Act; 9] = [
+    Act::Pulses(3),
+    Act::Commit,
+    Act::Pulses(83),
+    Act::Commit,
+    Act::Pulses(2),
+    Act::Checkpoint,
+    Act::Pulses(5),
+    Act::Commit,
+    Act::Pulses(1),
+];
+
+/// More calls than the scenario makes.
+const CALLS: u64 = 18;
+
+/// More calls than a recovery makes.
+const RECOVERY: u64 = 16;
+
+/// What a stop leaves of the pages in flight.
+#[derive(Clone, Copy, Debug)]
+enum Left {
+    Old,
+    New,
+    Damaged,
+    /// The first page new, the second torn, all others old.
+    Each,
+}
+
+impl Left {
+    /// What is picked for each page.
+    fn pick(self) -> Pick<'static> {
+        match self {
+            Left::Old => Pick::AllOld,
+            Left::New => Pick::AllNew,
+            Left::Damaged => Pick::AllDamaged,
+            Left::Each => Pick::Each(&[Choice::New, Choice::Torn, Choice::Old]),
+        }
+    }
+}
+
+/// Each of them.
+const LEFT: [Left; 4] = [Left::Old, Left::New, Left::Damaged, Left::Each];
+
+/// How many pulses the store has, each an event that it accepted.
+fn accepted(store: &MemoryStore) -> u32 {
+    let [pulses, _, _] = store.state().registers();
+    pulses
+}
+
+/// What came of a part of the scenario: how many pulses were settled, and whether the device still works.
+#[derive(Clone, Copy)]
+struct Went {
+    settled: u32,
+    works: bool,
+}
+
+/// Adds so many pulses, of which some are settled on the way.
+fn add_pulses(store: &mut MemoryStore, count: u32, settled: u32) -> Went {
+    let mut settled = settled;
+    for _ in 0..count {
+        let (before, waiting) = (accepted(store), store.pending());
+        if store.add(Event::Pulses(0, 1)).is_err() {
+            return Went {
+                settled,
+                works: false,
+            };
+        }
+        if store.pending() <= waiting {
+            settled = before;
+        }
+    }
+    Went {
+        settled,
+        works: true,
+    }
+}
+
+/// What a call that settles all pulses came to.
+fn settles(store: &MemoryStore, works: bool, settled: u32) -> Went {
+    Went {
+        settled: if works { accepted(store) } else { settled },
+        works,
+    }
+}
+
+/// Plays an act, and says what came of it.
+fn play_act(store: &mut MemoryStore, act: Act, settled: u32) -> Went {
+    match act {
+        Act::Pulses(count) => add_pulses(store, count, settled),
+        Act::Commit => {
+            let works = store.commit().is_ok();
+            settles(store, works, settled)
+        }
+        Act::Checkpoint => {
+            let works = store.checkpoint().is_ok();
+            settles(store, works, settled)
+        }
+    }
+}
+
+/// Plays the scenario up to the first fault, and gives how many pulses were settled.
+fn settled_in(store: &mut MemoryStore) -> u32 {
+    let mut settled = 0;
+    for act in SCENARIO {
+        let went = play_act(store, act, settled);
+        settled = went.settled;
+        if !went.works {
+            return settled;
+        }
+    }
+    settled
+}
+
+/// A device on which the power stopped, with the least and the most pulses that it may stand for.
+#[derive(Drop)]
+struct Stopped {
+    device: MemoryPages,
+    settled: u32,
+    most: u32,
+}
+
+/// The device of a scenario whose power stopped behind so many calls of a formatted store.
+fn stopped_behind(alloc: Global, calls: u64, left: Left) -> Result<Option<Stopped>, AllocError> {
+    let mut device = MemoryPages::new(alloc, PAGES)?;
+    device.fuse(FORMATS.saturating_add(calls));
+    let Ok(mut store) = Store::format(alloc, device) else {
+        return Ok(None);
+    };
+    let settled = settled_in(&mut store);
+    let most = accepted(&store);
+    Ok(Some(Stopped {
+        device: store.close().cut(left.pick()),
+        settled,
+        most,
+    }))
+}
+
+/// How many pulses are found on a device.
+fn found_on(alloc: Global, device: MemoryPages) -> Option<u32> {
+    match Store::open(alloc, device) {
+        Ok(store) => Some(accepted(&store)),
+        Err(_) => None,
+    }
+}
+
+/// How many are found where the power stops again behind so many calls of the recovery.
+fn found_behind(alloc: Global, device: MemoryPages, calls: u64, left: Left) -> Option<u32> {
+    let mut device = device;
+    device.fuse(calls);
+    let device = match Store::open(alloc, device) {
+        Ok(store) => store.close(),
+        Err((device, _)) => device,
+    };
+    found_on(alloc, device.cut(left.pick()))
+}
+
+/// How many pulses are found behind one stop, and whether they are no fewer than were settled and no more than were accepted.
+fn found_after(alloc: Global, calls: u64, left: Left) -> Result<(Option<u32>, bool), AllocError> {
+    let Some(stopped) = stopped_behind(alloc, calls, left)? else {
+        return Ok((None, false));
+    };
+    let found = found_on(alloc, stopped.device);
+    let is_between = match found {
+        Some(found) => stopped.settled <= found && found <= stopped.most,
+        None => false,
+    };
+    Ok((found, is_between))
+}
+
+/// How many pulses are found behind a stop and a second one.
+fn found_again(
+    alloc: Global,
+    calls: u64,
+    left: Left,
+    again: u64,
+    second: Left,
+) -> Result<Option<u32>, AllocError> {
+    match stopped_behind(alloc, calls, left)? {
+        Some(stopped) => Ok(found_behind(alloc, stopped.device, again, second)),
+        None => Ok(None),
+    }
+}
+
+/// Stops the power again, wherever it can stop in the recovery: as much is found each time.
+fn play_second_stops(report: &mut Report<'_>, calls: u64, left: Left) -> Result<()> {
+    let (found, _) = found_after(report.alloc(), calls, left)?;
+    for second in LEFT {
+        for again in 0..RECOVERY {
+            let also = found_again(report.alloc(), calls, left, again, second)?;
+            report.compare((left, calls, second, again), also, found)?;
+        }
+    }
+    Ok(())
+}
+
+/// Wherever the power stops, and again wherever it stops in the recovery: what is found has every pulse that was settled,
+/// none that was not accepted, and is the same each time.
+pub fn play_stops(report: &mut Report<'_>) -> Result<()> {
+    report.begin("stops");
+    for left in LEFT {
+        for calls in 0..CALLS {
+            let (found, is_between) = found_after(report.alloc(), calls, left)?;
+            report.compare((left, calls, found), is_between, true)?;
+        }
+    }
+    report.end()?;
+    report.begin("second stops");
+    for left in LEFT {
+        for calls in 0..CALLS {
+            play_second_stops(report, calls, left)?;
+        }
+    }
+    Ok(report.end()?)
+}

@@ -1,0 +1,215 @@
+//! Stores: the scripts, and the texts of the faults.
+
+use crate::report::Report;
+use crate::scripts::{OnDevice, OnStore, SCRIPTS, Script, Step};
+use anyhow::Result;
+use dlms_pages::{MemoryPages, PageRead, Pages};
+use dlms_state::{Event, Refused};
+use dlms_store::{AddFault, OpenFault, Store};
+use std::io;
+
+/// A store over pages in memory.
+pub type MemoryStore = Store<MemoryPages>;
+
+/// Adds so many events of one pulse each, up to the first that is not taken. How many were taken.
+fn taken(store: &mut MemoryStore, count: u32) -> u32 {
+    for place in 0..count {
+        if store.add(Event::Pulses(0, 1)).is_err() {
+            return place;
+        }
+    }
+    count
+}
+
+/// Where a script stands: its name, and the number of the step.
+type Place = (&'static str, u32);
+
+/// Takes a step on a store.
+fn play_on_store(
+    report: &mut Report<'_>,
+    place: Place,
+    store: &mut MemoryStore,
+    step: OnStore,
+) -> io::Result<()> {
+    match step {
+        OnStore::Pulses(count) => report.compare(place, taken(store, count), count),
+        OnStore::Adds(channel, pulses, answer) => {
+            report.compare(place, store.add(Event::Pulses(channel, pulses)), answer)
+        }
+        OnStore::Commits(answer) => report.compare(place, store.commit(), answer),
+        OnStore::Checkpoints(answer) => report.compare(place, store.checkpoint(), answer),
+        OnStore::Pending(bytes) => report.compare(place, store.pending(), bytes),
+        OnStore::Registers(registers) => {
+            report.compare(place, store.state().registers(), registers)
+        }
+    }
+}
+
+/// What a page holds; None where it is damaged, or cannot be read.
+fn content_of(device: &mut MemoryPages, index: u16) -> Option<[u8; 512]> {
+    if device.count() <= index {
+        return None;
+    }
+    match device.read(index) {
+        Ok(PageRead::Content(bytes)) => Some(bytes),
+        _ => None,
+    }
+}
+
+/// Whether a page begins with these bytes.
+fn begins(device: &mut MemoryPages, index: u16, front: &[u8]) -> bool {
+    match content_of(device, index) {
+        Some(bytes) => bytes.starts_with(front),
+        None => false,
+    }
+}
+
+/// Whether a page has these bytes in front, and zeros behind them.
+fn holds(device: &mut MemoryPages, index: u16, front: &[u8]) -> bool {
+    match content_of(device, index) {
+        Some(bytes) => {
+            bytes.starts_with(front) && bytes.iter().skip(front.len()).all(|byte| *byte == 0)
+        }
+        None => false,
+    }
+}
+
+/// Fills a page with zeros, and says whether that passed.
+fn clears(device: &mut MemoryPages, index: u16) -> bool {
+    index < device.count() && device.write(index, &[0; 512]).is_ok()
+}
+
+/// Takes a step on a device.
+fn play_on_device(
+    report: &mut Report<'_>,
+    place: Place,
+    device: &mut MemoryPages,
+    step: OnDevice,
+) -> io::Result<()> {
+    match step {
+        OnDevice::Fails(calls) => {
+            device.fuse(calls);
+            Ok(())
+        }
+        OnDevice::Clears(index) => report.compare(place, clears(device, index), true),
+        OnDevice::Begins(index, front) => {
+            report.compare(place, begins(device, index, front), true)
+        }
+        OnDevice::Holds(index, front) => report.compare(place, holds(device, index, front), true),
+    }
+}
+
+/// What a script works on.
+#[derive(Drop)]
+enum Subject {
+    Nothing,
+    Device(MemoryPages),
+    Store(MemoryStore),
+}
+
+/// What came of a format or a recovery: the store, or the device and why there is none.
+fn play_made(
+    report: &mut Report<'_>,
+    place: Place,
+    made: std::result::Result<MemoryStore, (MemoryPages, OpenFault)>,
+    fault: Option<OpenFault>,
+) -> io::Result<Subject> {
+    match made {
+        Ok(store) => {
+            report.compare(place, None, fault)?;
+            Ok(Subject::Store(store))
+        }
+        Err((device, found)) => {
+            report.compare(place, Some(found), fault)?;
+            Ok(Subject::Device(device))
+        }
+    }
+}
+
+/// A step that finds nothing to work on comes out otherwise.
+fn play_nothing(report: &mut Report<'_>, place: Place) -> io::Result<Subject> {
+    report.compare(place, "nothing", "something")?;
+    Ok(Subject::Nothing)
+}
+
+/// A step on a device that no store has.
+fn play_with_device(
+    report: &mut Report<'_>,
+    place: Place,
+    device: MemoryPages,
+    step: Step,
+) -> io::Result<Subject> {
+    let alloc = report.alloc();
+    match step {
+        Step::Formats(fault) => play_made(report, place, Store::format(alloc, device), fault),
+        Step::Opens(fault) => play_made(report, place, Store::open(alloc, device), fault),
+        Step::Stops(pick) => Ok(Subject::Device(device.cut(pick))),
+        Step::At(step) => {
+            let mut device = device;
+            play_on_device(report, place, &mut device, step)?;
+            Ok(Subject::Device(device))
+        }
+        _ => play_nothing(report, place),
+    }
+}
+
+/// Takes a step, and gives what the next one works on.
+fn play_step(
+    report: &mut Report<'_>,
+    place: Place,
+    subject: Subject,
+    step: Step,
+) -> io::Result<Subject> {
+    match (subject, step) {
+        (_, Step::Device(pages)) => {
+            Ok(Subject::Device(MemoryPages::new(report.alloc(), pages)?))
+        }
+        (Subject::Store(store), Step::Closes) => Ok(Subject::Device(store.close())),
+        (Subject::Store(mut store), Step::Store(step)) => {
+            play_on_store(report, place, &mut store, step)?;
+            Ok(Subject::Store(store))
+        }
+        (Subject::Device(device), step) => play_with_device(report, place, device, step),
+        _ => play_nothing(report, place),
+    }
+}
+
+/// Takes the steps of a script, one after another.
+fn play_script(report: &mut Report<'_>, script: &Script) -> io::Result<()> {
+    let mut subject = Subject::Nothing;
+    let mut place = 0u32;
+    for step in script.steps {
+        subject = play_step(report, (script.name, place), subject, *step)?;
+        place = place.saturating_add(1);
+    }
+    Ok(())
+}
+
+/// The scripts.
+pub fn play_stores(report: &mut Report<'_>) -> Result<()> {
+    report.begin("stores");
+    for script in &SCRIPTS {
+        play_script(report, script)?;
+    }
+    Ok(report.end()?)
+}
+
+/// How a fault at an event is told.
+const TEXTS: [(AddFault, &str); 6] = [
+    (AddFault::Refused(Refused::MomentBack(900)), "refused 1"),
+    (AddFault::Refused(Refused::Range), "refused 2"),
+    (AddFault::Refused(Refused::Channel), "refused 3"),
+    (AddFault::Refused(Refused::Period), "refused 4"),
+    (AddFault::Refused(Refused::Length), "refused 5"),
+    (AddFault::Exhausted, "exhausted"),
+];
+
+/// Faults are told by name and number.
+pub fn play_texts(report: &mut Report<'_>) -> Result<()> {
+    report.begin("texts of faults");
+    for (fault, text) in TEXTS {
+        let told = format!(in report.alloc(); "{fault}")?;
+        report.compare(text, told.as_str() == text, true)?;
+    }
+    Ok(report.end()?)
+}
