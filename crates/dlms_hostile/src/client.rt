@@ -1,0 +1,75 @@
+//! A client's end of the line.
+
+use arrayvec::ArrayVec;
+use dlms_acse::{Conformance, write_aarq};
+use dlms_frame::{Client, Deframer, Frame};
+use dlms_link::{ClientLink, ClientOut};
+use dlms_meter::Meter;
+use dlms_pages::Pages;
+use std::alloc::Allocator;
+
+/// An APDU.
+pub type Apdu = ArrayVec<u8, 1024>;
+
+/// What the client proposes.
+const PROPOSED: Conformance = Conformance(0x7e_1f);
+
+/// The most bytes of an APDU that a client takes. The object list is longer than the public one's.
+fn size_of(client: Client) -> u16 {
+    match client {
+        Client::Public => 512,
+        Client::Management => 1024,
+    }
+}
+
+/// The meter's reply to a frame.
+pub fn answer_to<P: Pages, A: Allocator + Copy>(
+    meter: &mut Meter<P, A>,
+    frame: &Frame,
+) -> Option<Frame> {
+    let bytes = frame.put();
+    let (_, reply) = meter.feed(bytes.as_slice());
+    let reply = reply?;
+    Deframer::new().feed(reply.as_slice()).1
+}
+
+/// Sends an APDU, and takes its answer, in as many frames as it comes in.
+pub fn exchange<P: Pages, A: Allocator + Copy>(
+    meter: &mut Meter<P, A>,
+    link: &mut ClientLink,
+    apdu: &[u8],
+) -> Option<Apdu> {
+    if !link.is_idle() || apdu.len() > 1024 {
+        return None;
+    }
+    let mut frame = link.send(apdu);
+    'frames: for _ in 0..32u8 {
+        let reply = answer_to(meter, &frame)?;
+        match link.on(&reply) {
+            ClientOut::Send(next) => frame = next,
+            ClientOut::Apdu => {
+                let mut answer = ArrayVec::new();
+                let _fits = answer.try_extend_from_slice(link.apdu());
+                return Some(answer);
+            }
+            _ => return None,
+        }
+    }
+    None
+}
+
+/// A client's link, with an association.
+pub fn associated<P: Pages, A: Allocator + Copy>(
+    meter: &mut Meter<P, A>,
+    client: Client,
+) -> Option<ClientLink> {
+    let mut link = ClientLink::new(client);
+    let frame = link.connect();
+    let reply = answer_to(meter, &frame)?;
+    let ClientOut::Up = link.on(&reply) else {
+        return None;
+    };
+    let request = write_aarq(client, b"12345678", PROPOSED, size_of(client));
+    let answer = exchange(meter, &mut link, request.as_slice())?;
+    (answer.len() == 43).then_some(link)
+}

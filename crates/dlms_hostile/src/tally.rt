@@ -1,0 +1,49 @@
+//! How many cases there were, and what came of them.
+
+use std::io;
+
+/// What came of a case.
+#[derive(Clone, Copy, Debug, PartialEq, Eq)]
+pub struct Verdict {
+    /// What it is counted for beside.
+    pub is_noted: bool,
+    pub is_right: bool,
+}
+
+#[derive(Clone, Copy, Debug, PartialEq, Eq)]
+pub struct Tally {
+    pub cases: u32,
+    pub noted: u32,
+    pub differ: u32,
+}
+
+impl Tally {
+    pub fn new() -> Tally {
+        Tally {
+            cases: 0,
+            noted: 0,
+            differ: 0,
+        }
+    }
+
+    pub fn count(&mut self, verdict: Verdict) {
+        self.cases = self.cases.saturating_add(1);
+        if verdict.is_noted {
+            self.noted = self.noted.saturating_add(1);
+        }
+        if !verdict.is_right {
+            self.differ = self.differ.saturating_add(1);
+        }
+    }
+}
+
+/// Prints a group's line, and answers how many of its cases differ.
+pub fn report<R: Print>(rt: &R, what: &str, noted: &str, tally: Tally) -> io::Result<u32> {
+    let Tally {
+        cases,
+        noted: count,
+        differ,
+    } = tally;
+    println!(rt; "{what}: {cases} cases, {count} {noted}, {differ} differ")?;
+    Ok(differ)
+}
