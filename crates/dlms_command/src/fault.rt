@@ -1,4 +1,5 @@
 //! Why a run ended early, and what is said of it.
+use dlms_field::FieldFault;
 use dlms_loopback::LoopFault;
 use dlms_program::ReplayFault;
 use dlms_store::OpenFault;
@@ -9,21 +10,23 @@ use std::{fmt, io};
 /// Why a run ended early.
 #[derive(Drop)]
 pub enum Fault<'a> {
-    /// This file could not be made or opened, for which the system has these words.
+    /// This file could not be made or opened, or the line at this address failed, for which the system has these words.
     File(&'a str, String),
     /// The meter could not be made or recovered, or its device failed.
     Open(OpenFault),
     /// The replay ended early.
     Replay(ReplayFault),
-    /// The loopback ended early.
+    /// The loopback, the meter that serves or the poll ended early.
     Loop(LoopFault),
+    /// The secret in a file has more than 16 bytes.
+    Secret,
 }
 
 impl<'a> Fault<'a> {
     /// Want of memory.
     pub const MEMORY: Fault<'static> = Fault::Replay(ReplayFault::Memory);
 
-    /// The fault of a file that could not be made or opened.
+    /// The fault of a file that could not be made or opened, or of an address.
     pub fn of_file(alloc: Global, file: &'a str, error: &io::Error) -> Fault<'a> {
         if error.kind() == ErrorKind::OutOfMemory {
             return Fault::MEMORY;
@@ -31,6 +34,15 @@ impl<'a> Fault<'a> {
         match format!(in alloc; "{error}") {
             Ok(words) => Fault::File(file, words),
             Err(_) => Fault::MEMORY,
+        }
+    }
+
+    /// The fault of a tool of the field.
+    pub fn of_field(alloc: Global, fault: FieldFault<'a>) -> Fault<'a> {
+        match fault {
+            FieldFault::System(place, error) => Fault::of_file(alloc, place, &error),
+            FieldFault::Secret => Fault::Secret,
+            FieldFault::Other(fault) => Fault::Loop(fault),
         }
     }
 }
@@ -53,6 +65,7 @@ impl fmt::Display for Fault<'_> {
             Fault::Open(fault) => write!(f, "{fault}"),
             Fault::Replay(fault) => write!(f, "{fault}"),
             Fault::Loop(fault) => write!(f, "{fault}"),
+            Fault::Secret => f.write_str("secret"),
         }
     }
 }

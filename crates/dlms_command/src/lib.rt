@@ -6,6 +6,7 @@ ghost use Rattle.clap.specs.Words.{fault_of};
 ghost use Rattle.dlms_program.specs.Words.{dlms};
 
 use clap::error::ErrorKind;
+use dlms_field::{Polling, Serving, poll, serve};
 use dlms_loopback::loopback;
 use dlms_meter::Meter;
 use dlms_pages::{FilePages, MemoryPages, Pages};
@@ -18,6 +19,7 @@ use std::io;
 use std::io::{BufReader, BufWriter, Read, Write};
 use std::net::Net;
 use std::rt::Files;
+use std::time::Clock;
 
 mod fault;
 mod streams;
@@ -27,6 +29,9 @@ use streams::{Input, Output, flush};
 
 /// How many bytes are read or written at a time.
 const BUFFER: usize = 65_536;
+
+/// The address that a meter listens on where none is named.
+const LISTEN: &str = "127.0.0.1:4059";
 
 /// The status of a run that came to its end.
 pub const DONE: u8 = 0;
@@ -158,6 +163,46 @@ fn run_loopback<'a, H: Net + Files + AllocGlobal, W: Write>(
     }
 }
 
+/// Recovers the meter in a file, and serves it on a TCP port.
+fn run_serve<'a, H: Net + Files<File = File> + Clock + AllocGlobal, W: Write, E: Write>(
+    host: &H,
+    file: &'a str,
+    serving: &Serving<'a>,
+    output: &mut W,
+    errors: &mut E,
+) -> Result<(), Fault<'a>> {
+    let pages = match FilePages::open(host, file, PAGES) {
+        Ok(pages) => pages,
+        Err(error) => return Err(Fault::of_file(host.alloc(), file, &error)),
+    };
+    match Meter::recover(host.alloc(), pages) {
+        Ok(meter) => {
+            let mut meter = meter;
+            let second = meter.state().last();
+            let _said = writeln!(errors, "recovered {file} at second {second}");
+            let served = serve(host, &mut meter, serving, output, errors);
+            let _pages = meter.close();
+            match served {
+                Ok(()) => Ok(()),
+                Err(fault) => Err(Fault::of_field(host.alloc(), fault)),
+            }
+        }
+        Err((_, fault)) => Err(Fault::Open(fault)),
+    }
+}
+
+/// Polls the meter at an address once.
+fn run_poll<'a, H: Net + Files + Clock + AllocGlobal, W: Write>(
+    host: &H,
+    polling: &Polling<'a>,
+    output: &mut W,
+) -> Result<(), Fault<'a>> {
+    match poll(host, polling, output) {
+        Ok(()) => Ok(()),
+        Err(fault) => Err(Fault::of_field(host.alloc(), fault)),
+    }
+}
+
 /// The status of a run that has ended; a fault is named among the errors.
 pub fn finish<E: Write>(ended: Result<(), Fault<'_>>, errors: &mut E) -> io::Result<u8>
     ensures { IfOk result (λ status. MatchResult ended.entry (λ _. status ≡ DONE) (λ _. status ≡ FAULT)) }
@@ -174,7 +219,7 @@ pub fn finish<E: Write>(ended: Result<(), Fault<'_>>, errors: &mut E) -> io::Res
 /// Does the job that the words name, the first of which is the program's own name, and answers its status. What a replay
 /// reads is the input, what is printed goes to the output, a fault's name and the help go to the errors. An Err comes where
 /// the errors can't be written.
-pub fn run<H: Net + Files<File = File> + AllocGlobal, R: Read + Drop, W: Write, E: Write>(
+pub fn run<H: Net + Files<File = File> + Clock + AllocGlobal, R: Read + Drop, W: Write, E: Write>(
     host: &H,
     words: &[&str],
     input: R,
@@ -196,6 +241,27 @@ pub fn run<H: Net + Files<File = File> + AllocGlobal, R: Read + Drop, W: Write, 
         ),
         Ok(Job::Loopback { readings, stops }) => {
             finish(run_loopback(host, readings, stops, output), errors)
+        }
+        Ok(Job::Serve { file, listen, load }) => {
+            let address = listen.unwrap_or(LISTEN);
+            let served = run_serve(host, file, &Serving { address, load }, output, errors);
+            finish(served, errors)
+        }
+        Ok(
+            Job::Poll {
+                address,
+                readings,
+                secret_file,
+                public,
+            },
+        ) => {
+            let polling = Polling {
+                address,
+                readings,
+                secret_file,
+                public,
+            };
+            finish(run_poll(host, &polling, output), errors)
         }
         Err(error) if error.kind() == ErrorKind::OutOfMemory => {
             finish(Err(Fault::MEMORY), errors)

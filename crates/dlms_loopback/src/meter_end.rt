@@ -7,7 +7,7 @@ use std::io;
 use std::io::{Read, Write};
 
 /// Writes the meter's reply to each frame among the bytes, and says whether there was one.
-fn answer<W: Write, P: Pages, A: Allocator + Copy>(
+pub fn answer<W: Write, P: Pages, A: Allocator + Copy>(
     end: &mut W,
     meter: &mut Meter<P, A>,
     bytes: &[u8],

@@ -1,8 +1,9 @@
 -- The program's words: its commands, and the job that a parse names.
-use Rattle.std.specs.Prelude.{◌≡◌, ◌<◌, ◌^◌, ℕ, pos, [], List, Option, Some, None, codes, option_map, unwrap_or, true}
+use Rattle.std.specs.Prelude.{◌≡◌, ◌<◌, ◌↔◌, ◌^◌, ℕ, pos, [], List, Option, Some, None, codes, option_map, unwrap_or, Bool, true, IsTrue}
 use Rattle.clap.specs.Words.{App, Row, Rule, Text, first_of, new_app, new_rule, with_rule, with_subcommand}
+use Rattle.clap.specs.declared.builder.action.ArgAction.TheVariants.{SetTrue}
 use Rattle.dlms_program.specs.declared.commands.Job.{Job}
-use Rattle.dlms_program.specs.declared.commands.Job.TheVariants.{Format, Replay, Loopback}
+use Rattle.dlms_program.specs.declared.commands.Job.TheVariants.{Format, Replay, Loopback, Serve, Poll}
 use Rattle.dlms_program.specs.Numbers.{IsNumberOf}
 use Rattle.clap.specs.declared.builder.value_parser.ValueParser.TheVariants as parser
 
@@ -29,8 +30,37 @@ stops_rule = record (new_rule (codes "stops")) { long = Some (codes "stops"); va
 abbrev pub loopback_command : App
 loopback_command = with_rule (with_rule (new_app (codes "loopback")) readings_rule) stops_rule
 
+-- an address to listen on may be named, and a load in watts, from 0 to 1000000
+abbrev pub listen_rule : Rule
+listen_rule = record (new_rule (codes "listen")) { long = Some (codes "listen"); value_names = 1 }
+
+abbrev pub load_rule : Rule
+load_rule = record (new_rule (codes "load")) { long = Some (codes "load"); value_names = 1; parser = Some (parser.Signed (pos 0) (pos 1000000)) }
+
+abbrev pub serve_command : App
+serve_command = with_rule (with_rule (with_rule (new_app (codes "serve")) wanted_file_rule) listen_rule) load_rule
+
+-- an address has to be named, a file of the secret may be, and the public client asked for
+abbrev pub address_rule : Rule
+address_rule = record (new_rule (codes "ADDRESS:PORT")) { required = true }
+
+abbrev pub secret_rule : Rule
+secret_rule = record (new_rule (codes "secret-file")) { long = Some (codes "secret-file"); value_names = 1 }
+
+abbrev pub public_rule : Rule
+public_rule = record (new_rule (codes "public")) { long = Some (codes "public"); action = Some SetTrue }
+
+abbrev pub asking_command : App
+asking_command = with_rule (with_rule (new_app (codes "poll")) address_rule) readings_rule
+
+abbrev pub poll_command : App
+poll_command = with_rule (with_rule asking_command secret_rule) public_rule
+
+abbrev pub first_commands : App
+first_commands = with_subcommand (with_subcommand (with_subcommand (new_app (codes "dlms")) format_command.top) replay_command.top) loopback_command.top
+
 abbrev pub commands : App
-commands = with_subcommand (with_subcommand (with_subcommand (new_app (codes "dlms")) format_command.top) replay_command.top) loopback_command.top
+commands = with_subcommand (with_subcommand first_commands serve_command.top) poll_command.top
 
 -- the program's commands, of which one is wanted
 abbrev pub dlms : App
@@ -46,13 +76,29 @@ Met = Option (Text × List Row)
 abbrev pub file_in : List Row → Option Text
 file_in rows = first_of (codes "FILE") rows
 
--- so many stops, where none are said 0
+-- a number of so many bits, where none is said 0
+abbrev pub Says : ℕ → Option Text → ℕ → Type 0
+Says bits None number = number ≡ 0
+Says bits (Some text) number = (n : ℕ) → n < 2 ^ bits → IsNumberOf text n → number ≡ n
+
+-- so many stops, and so many watts
 abbrev pub SaysStops : Option Text → ℕ → Type 0
-SaysStops None stops = stops ≡ 0
-SaysStops (Some text) stops = (n : ℕ) → n < 2 ^ 8 → IsNumberOf text n → stops ≡ n
+SaysStops = Says 8
+
+abbrev pub SaysLoad : Option Text → ℕ → Type 0
+SaysLoad = Says 32
+
+-- a flag was given: clap finds the word `true` for it then, and else `false`
+abbrev pub IsSaid : Option Text → Bool → Type 0
+IsSaid found flag = IsTrue flag ↔ (found ≡ Some (codes "true"))
 
 -- the words ask for the job, with these values
 abbrev pub Asks : Met → Job → Type 0
 Asks met (Format file) = (rows : List Row) × (met ≡ Some (codes "format", rows)) × (file.now ≡ unwrap_or (file_in rows) [])
 Asks met (Replay file) = (rows : List Row) × (met ≡ Some (codes "replay", rows)) × (option_map (λ f. f.now) file ≡ file_in rows)
 Asks met (Loopback readings stops) = (rows : List Row) × (met ≡ Some (codes "loopback", rows)) × (option_map (λ f. f.now) readings ≡ first_of (codes "readings") rows) × SaysStops (first_of (codes "stops") rows) stops
+Asks met (Serve file listen load) = (rows : List Row) × (met ≡ Some (codes "serve", rows)) × (file.now ≡ unwrap_or (file_in rows) [])
+    × (option_map (λ a. a.now) listen ≡ first_of (codes "listen") rows) × SaysLoad (first_of (codes "load") rows) load
+Asks met (Poll address readings secret public) = (rows : List Row) × (met ≡ Some (codes "poll", rows)) × (address.now ≡ unwrap_or (first_of (codes "ADDRESS:PORT") rows) [])
+    × (option_map (λ f. f.now) readings ≡ first_of (codes "readings") rows) × (option_map (λ f. f.now) secret ≡ first_of (codes "secret-file") rows)
+    × IsSaid (first_of (codes "public") rows) public

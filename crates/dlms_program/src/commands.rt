@@ -17,4 +17,18 @@ pub enum Job<'a> {
         readings: Option<&'a str>,
         stops: u8,
     },
+    /// Serves the meter in this file on a TCP port, at this address where one is named; its load in watts gives pulses.
+    Serve {
+        file: &'a str,
+        listen: Option<&'a str>,
+        load: u32,
+    },
+    /// Polls the meter at this address once, into this file where one is named, by management with the secret in a file, or with
+    /// the first secret where none is named, or by the public client.
+    Poll {
+        address: &'a str,
+        readings: Option<&'a str>,
+        secret_file: Option<&'a str>,
+        public: bool,
+    },
 }

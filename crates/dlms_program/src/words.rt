@@ -1,19 +1,18 @@
 //! What the program's words ask for.
-ghost use Rattle.std.specs.Prelude.{◌≡◌, [], List, Some, option_map, OnOk, false, IfErr, IfOk, map};
+ghost use Rattle.std.specs.Prelude.{◌≡◌, [], List, Some, option_map, OnOk, false, true, IfErr, IfOk, codes, map};
 ghost use Rattle.clap.specs.Words.{app_of, fault_of, first_of, rule_of, Row, FailsBy, HasKind, subcommand_rows_of, subcommand_of};
 ghost use Rattle.clap.specs.declared.builder.command.Command.TheViews.{out-Command as fields_of};
-ghost use Rattle.dlms_program.specs.Words.{dlms, format_command, loopback_command, readings_rule, replay_command, stops_rule, Asks, SaysStops};
+ghost use Rattle.dlms_program.specs.Words.{asking_command, dlms, first_commands, format_command, listen_rule, load_rule, loopback_command, poll_command, public_rule, readings_rule, replay_command, secret_rule, serve_command, stops_rule, Asks, IsSaid, SaysLoad, SaysStops};
 
 use crate::commands::Job;
-use clap::{Arg, ArgMatches, Command, Error, value_parser};
+use clap::{Arg, ArgAction, ArgMatches, Command, Error, value_parser};
 use std::alloc::{AllocError, Global};
 
 /// The program's version, as `--version` prints it.
 const VERSION: &str = "0.1.0";
 
 /// What the program is, for its help.
-const ABOUT: &str =
-    "A DLMS/COSEM electricity meter that reads bytes from the line, pulses and moments.
+const ABOUT: &str = "A DLMS/COSEM electricity meter, and a head end that polls one.
 
 Exit status: 0; 1 after a fault, named on standard error as in \"dlms: corrupt 1\"; 2 where the words ask for nothing that \
 the program does, and for this help.";
@@ -52,6 +51,35 @@ one. With --stops the meter then loses its power N times, comes back, captures o
 Exit status: 0; 1 after a fault (dlms: io, with FILE and the system's words on a second line where it is FILE that fails; \
 dlms: line N for a line of FILE that is none of readings; dlms: line, dlms: protocol, dlms: refused N or dlms: result N for a \
 poll; dlms: memory); 2 for words that are not understood, and for this help.";
+
+/// What `serve` does, for its help.
+const SERVE_ABOUT: &str =
+    "Serves the meter in FILE on a TCP port, one client after another, until it is killed.
+
+Recovers the meter, listens on 127.0.0.1:4059 where no address is named, and prints \"listening on ADDRESS:PORT\"; of port 0 the \
+system chooses one. The meter's running second goes on from the last one that it recovered, a second of it each second of the \
+system's steady clock. With --load channel 0 gets a pulse a watt-hour. A line on standard error tells of the recovery, of each \
+connection, of its end, and of a second that the meter refuses. What was answered with success or data outlasts a kill; of the \
+seconds and pulses since then a kill takes 496 bytes of records at most. A connection on which no frame is answered for 120 \
+seconds is closed.
+
+Exit status: 1 after a fault (dlms: io, with FILE or the address and the system's words on a second line; dlms: nocheckpoint or \
+dlms: corrupt N for a FILE that holds no meter, or a damaged one; dlms: device or dlms: exhausted once FILE takes no more; \
+dlms: memory); 2 for words that are not understood, and for this help.";
+
+/// What `poll` does, for its help.
+const POLL_ABOUT: &str =
+    "Polls the load profile of the meter at ADDRESS:PORT once, over HDLC on TCP, and prints the rows that are new.
+
+Asks as management, with the secret that stands in the file of --secret-file (at most 16 bytes; one line feed at its end is none \
+of it), or with 12345678 where none is named; with --public as the public client, which has no secret. With --readings the rows \
+from the second of FILE's last row on are asked for, an absent FILE has none, and FILE gets the new text: a stop at any moment \
+leaves the old text or the new one. Prints a line \"clock,r0,r1,r2\" for each row that FILE did not have. A frame that is not \
+answered within two seconds goes out again, three times at most.
+
+Exit status: 0; 1 after a fault (dlms: io, with the file or ADDRESS:PORT and the system's words on a second line; dlms: line N \
+for a line of FILE that is none of readings; dlms: secret for one of more than 16 bytes; dlms: line, dlms: protocol, \
+dlms: refused N or dlms: result N for the poll; dlms: memory); 2 for words that are not understood, and for this help.";
 
 fn format_command<'a>(alloc: Global) -> Result<Command<'a>, AllocError>
     ensures shape { IfOk result (λ c. app_of c ≡ format_command) }
@@ -111,16 +139,110 @@ fn loopback_command<'a>(alloc: Global) -> Result<Command<'a>, AllocError>
         .arg(stops_option(alloc))
 }
 
-/// The commands of the program.
-fn program<'a>(alloc: Global) -> Result<Command<'a>, AllocError>
-    ensures { IfOk result (λ c. app_of c ≡ dlms) }
+/// The option that names an address to listen on.
+fn listen_option<'a>(alloc: Global) -> Arg<'a>
+    ensures rule { rule_of result ≡ listen_rule }
+    ensures local { result.global ≡ false }
+{
+    Arg::new(alloc, "listen")
+        .long("listen")
+        .value_name("ADDRESS:PORT")
+        .help("The address to listen on, 127.0.0.1:4059 at first")
+}
+
+/// The option that says a load.
+fn load_option<'a>(alloc: Global) -> Arg<'a>
+    ensures rule { rule_of result ≡ load_rule }
+    ensures local { result.global ≡ false }
+{
+    Arg::new(alloc, "load")
+        .long("load")
+        .value_name("WATTS")
+        .value_parser(value_parser!(u32).range(0..=1_000_000))
+        .help("So many watts give pulses on channel 0, 0 to 1000000")
+}
+
+fn serve_command<'a>(alloc: Global) -> Result<Command<'a>, AllocError>
+    ensures shape { IfOk result (λ c. app_of c ≡ serve_command) }
+    ensures local { IfOk result (λ c. (fields_of c).has_globals ≡ false) }
+{
+    let file = Arg::new(alloc, "FILE")
+        .required(true)
+        .help("The file that the meter stands in");
+    Command::new(alloc, "serve")
+        .about("Serves the meter in FILE on a TCP port")
+        .long_about(SERVE_ABOUT)
+        .arg(file)?
+        .arg(listen_option(alloc))?
+        .arg(load_option(alloc))
+}
+
+/// The option that names a file of the secret.
+fn secret_option<'a>(alloc: Global) -> Arg<'a>
+    ensures rule { rule_of result ≡ secret_rule }
+    ensures local { result.global ≡ false }
+{
+    Arg::new(alloc, "secret-file")
+        .long("secret-file")
+        .value_name("FILE")
+        .help("The file that management's secret stands in")
+}
+
+/// The flag that asks for the public client.
+fn public_flag<'a>(alloc: Global) -> Arg<'a>
+    ensures rule { rule_of result ≡ public_rule }
+    ensures local { result.global ≡ false }
+{
+    Arg::new(alloc, "public")
+        .long("public")
+        .action(ArgAction::SetTrue)
+        .help("Asks as the public client")
+}
+
+/// `poll`, whoever asks.
+fn asking_command<'a>(alloc: Global) -> Result<Command<'a>, AllocError>
+    ensures shape { IfOk result (λ c. app_of c ≡ asking_command) }
+    ensures local { IfOk result (λ c. (fields_of c).has_globals ≡ false) }
+{
+    let address = Arg::new(alloc, "ADDRESS:PORT")
+        .required(true)
+        .help("The address of the meter");
+    Command::new(alloc, "poll")
+        .about("Polls the meter at ADDRESS:PORT, and prints the rows that are new")
+        .long_about(POLL_ABOUT)
+        .arg(address)?
+        .arg(readings_option(alloc))
+}
+
+fn poll_command<'a>(alloc: Global) -> Result<Command<'a>, AllocError>
+    ensures shape { IfOk result (λ c. app_of c ≡ poll_command) }
+    ensures local { IfOk result (λ c. (fields_of c).has_globals ≡ false) }
+{
+    asking_command(alloc)?
+        .arg(secret_option(alloc))?
+        .arg(public_flag(alloc))
+}
+
+/// The commands of a meter in a file or in memory.
+fn first_commands<'a>(alloc: Global) -> Result<Command<'a>, AllocError>
+    ensures { IfOk result (λ c. app_of c ≡ record first_commands { top = record first_commands.top { has_version = true } }) }
 {
     let program = Command::new(alloc, "dlms")
         .about(ABOUT)
         .version(VERSION)
         .subcommand(format_command(alloc)?)?
         .subcommand(replay_command(alloc)?)?
-        .subcommand(loopback_command(alloc)?)?
+        .subcommand(loopback_command(alloc)?)?;
+    Ok(program)
+}
+
+/// The commands of the program.
+fn program<'a>(alloc: Global) -> Result<Command<'a>, AllocError>
+    ensures { IfOk result (λ c. app_of c ≡ dlms) }
+{
+    let program = first_commands(alloc)?
+        .subcommand(serve_command(alloc)?)?
+        .subcommand(poll_command(alloc)?)?
         .disable_help_subcommand(true)
         .arg_required_else_help(true)
         .subcommand_required(true);
@@ -152,6 +274,56 @@ fn stops(said: Option<&str>) -> u8
     }
 }
 
+/// The load in watts that was said.
+fn load(said: Option<&str>) -> u32
+    ensures { SaysLoad (option_map (λ text. text.now) said.entry) result }
+{
+    match said {
+        Some(text) => text.parse::<u32>().unwrap_or(0),
+        None => 0,
+    }
+}
+
+/// Whether a flag was given.
+fn is_given(said: Option<&str>) -> bool
+    ensures { IsSaid (option_map (λ text. text.now) said.entry) result }
+{
+    said == Some("true")
+}
+
+/// The values of `loopback`.
+fn loopback_job<'a>(matches: &ArgMatches<'a>) -> Job<'a>
+    ensures { (rows : List Row) → subcommand_rows_of matches.now ≡ Some (codes "loopback", rows) → Asks (Some (codes "loopback", rows)) result }
+{
+    Job::Loopback {
+        readings: value_for(matches, "loopback", "readings"),
+        stops: stops(value_for(matches, "loopback", "stops")),
+    }
+}
+
+/// The values of `serve`.
+fn serve_job<'a>(matches: &ArgMatches<'a>) -> Job<'a>
+    ensures { (rows : List Row) → subcommand_rows_of matches.now ≡ Some (codes "serve", rows) → Asks (Some (codes "serve", rows)) result }
+{
+    Job::Serve {
+        file: value_for(matches, "serve", "FILE").unwrap_or(""),
+        listen: value_for(matches, "serve", "listen"),
+        load: load(value_for(matches, "serve", "load")),
+    }
+}
+
+/// The values of `poll`.
+fn poll_job<'a>(matches: &ArgMatches<'a>) -> Job<'a>
+    ensures { (rows : List Row) → subcommand_rows_of matches.now ≡ Some (codes "poll", rows) → Asks (Some (codes "poll", rows)) result }
+{
+    Job::Poll {
+        address: value_for(matches, "poll", "ADDRESS:PORT").unwrap_or(""),
+        readings: value_for(matches, "poll", "readings"),
+        secret_file: value_for(matches, "poll", "secret-file"),
+        public: is_given(value_for(matches, "poll", "public")),
+    }
+}
+
 /// The job that the words name, the first of which is the program's own name: its command and its values are those that `clap`
 /// finds for them. A fault is `clap`'s, or want of memory; where `clap` finds none, it is want of memory.
 pub fn job<'a>(alloc: Global, words: &'a [&'a str]) -> Result<Job<'a>, Error>
@@ -168,8 +340,11 @@ pub fn job<'a>(alloc: Global, words: &'a [&'a str]) -> Result<Job<'a>, Error>
         let file = value_for(&matches, "replay", "FILE");
         return Ok(Job::Replay { file });
     }
-    Ok(Job::Loopback {
-        readings: value_for(&matches, "loopback", "readings"),
-        stops: stops(value_for(&matches, "loopback", "stops")),
-    })
+    if matches.subcommand_name() == Some("loopback") {
+        return Ok(loopback_job(&matches));
+    }
+    if matches.subcommand_name() == Some("serve") {
+        return Ok(serve_job(&matches));
+    }
+    Ok(poll_job(&matches))
 }

@@ -15,6 +15,7 @@ use std::io::ErrorKind;
 use std::net::Net;
 use std::process::ExitCode;
 use std::rt::Files;
+use std::time::Clock;
 
 mod talk;
 
@@ -67,7 +68,7 @@ fn words_of(alloc: Global, lines: &str) -> std::result::Result<Vec<&str>, AllocE
 }
 
 /// Runs the program on an input that is there as a whole, or line by line, and gives its status and what it printed.
-fn printed<R: Net + Files<File = File> + AllocGlobal>(
+fn printed<R: Net + Files<File = File> + Clock + AllocGlobal>(
     rt: &R,
     is_talk: bool,
     words: &[&str],
@@ -86,7 +87,7 @@ fn printed<R: Net + Files<File = File> + AllocGlobal>(
 }
 
 /// Runs a case.
-fn verdict_of<R: Net + Files<File = File> + AllocGlobal>(
+fn verdict_of<R: Net + Files<File = File> + Clock + AllocGlobal>(
     rt: &R,
     name: &str,
     is_talk: bool,
@@ -124,7 +125,7 @@ fn is_bytes(expected: &Option<Vec<u8>>, bytes: &[u8]) -> bool {
 }
 
 /// Runs the cases that are there, in the order of their numbers.
-fn run_all<R: Net + Files<File = File> + Print + AllocGlobal>(rt: &R) -> Result<u32> {
+fn run_all<R: Net + Files<File = File> + Clock + Print + AllocGlobal>(rt: &R) -> Result<u32> {
     let mut cases = 0u32;
     let mut differing = 0u32;
     for number in 1..1000u32 {

@@ -1,0 +1,4 @@
+pub mod Load
+pub mod Secret
+pub mod Telling
+pub mod Ticks

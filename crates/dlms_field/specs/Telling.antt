@@ -1,0 +1,49 @@
+-- A meter is told of seconds.
+use Rattle.std.specs.Prelude.{◌≡◌, ◌⊎◌, ◌<◌, ◌≤◌, ◌+◌, ◌^◌, ℕ, List, [], ◌∷◌, length, Result, Ok, Err, MatchResult}
+use Rattle.dlms_field.specs.Ticks.{AreNext}
+use Rattle.dlms_field.specs.declared.telling.TheConstants.{CATCH_UP}
+use Rattle.dlms_field.specs.declared.ticks.Second.{Second}
+use Rattle.dlms_field.specs.declared.ticks.Ticks.{Ticks}
+use Rattle.dlms_meter.specs.declared.meter.Meter.{Meter}
+use Rattle.dlms_meter.specs.Run.{Judges}
+use Rattle.dlms_pages.specs.declared.device.Pages.{Ghosts}
+use Rattle.dlms_state.specs.declared.event.Event.TheVariants.{Pulses, Moment}
+use Rattle.dlms_store.specs.declared.fault.AddFault.{AddFault}
+use Rattle.dlms_store.specs.declared.fault.AddFault.TheVariants.{Refused}
+
+-- The meter is told of the second's pulses on channel 0, and where they were taken of the second itself; where there are no
+-- pulses, of the second alone.
+abbrev pub Tells : {P A : Type 0} → {ghosts : Ghosts P} → Meter P A ghosts → Second → Result (Unit {0}) AddFault → Meter P A ghosts → Type 0
+Tells {P} {A} {ghosts} old second outcome new =
+    (second.pulses ≡ 0 → Judges old (Moment second.moment) outcome new)
+    × (0 < second.pulses → (counted : Result (Unit {0}) AddFault) × (between : Meter P A ghosts) × Judges old (Pulses 0 second.pulses) counted between
+    × MatchResult counted (λ _. Judges between (Moment second.moment) outcome new) (λ fault. (outcome ≡ Err fault) × (new ≡ between)))
+
+-- the meter is told of these seconds, one after another
+abbrev pub TellsEach : {P A : Type 0} → {ghosts : Ghosts P} → Meter P A ghosts → List Second → Meter P A ghosts → Type 0
+TellsEach old [] new = new ≡ old
+TellsEach {P} {A} {ghosts} old (second ∷ seconds) new =
+    (outcome : Result (Unit {0}) AddFault) × (between : Meter P A ghosts) × Tells old second outcome between × TellsEach between seconds new
+
+-- so many seconds came next, and the meter was told of each
+pub record Told {P A : Type 0} {ghosts : Ghosts P} (count : ℕ) (before : Ticks) (old : Meter P A ghosts) (after : Ticks) (new : Meter P A ghosts) : Type 0 where
+  pub seconds : List Second
+  pub counted : length seconds ≡ count
+  pub next : AreNext before seconds after
+  pub each : TellsEach old seconds new
+
+-- the store goes on: the last second was taken, or the table refused it
+abbrev pub GoesOn : Result (Unit {0}) AddFault → Type 0
+GoesOn (Ok done) = Unit {0}
+GoesOn (Err (Refused cause)) = Unit {0}
+GoesOn (Err fault) = ⊥
+
+-- the meter was told of every second that has gone by, or its running second is the last that there is
+abbrev pub IsUpToDate : ℕ → Ticks → Type 0
+IsUpToDate elapsed ticks = (elapsed ≤ ticks.told) ⊎ (ticks.first + ticks.told + 1 ≡ 2 ^ 32)
+
+-- A look at the clock: the meter is told of the next seconds, so many at most; of fewer only where it is up to date then, or its
+-- store does not go on.
+abbrev pub Looks : {P A : Type 0} → {ghosts : Ghosts P} → ℕ → Ticks → Meter P A ghosts → Result (Unit {0}) AddFault → Ticks → Meter P A ghosts → Type 0
+Looks elapsed before old outcome after new =
+    (count : ℕ) × Told count before old after new × (count ≤ CATCH_UP) × (GoesOn outcome → count < CATCH_UP → IsUpToDate elapsed after)

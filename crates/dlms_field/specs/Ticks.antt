@@ -1,0 +1,18 @@
+-- The seconds that a meter is told of, one after another.
+use Rattle.std.specs.Prelude.{◌≡◌, ◌+◌, List, [], ◌∷◌}
+use Rattle.dlms_field.specs.Load.{pulses_after}
+use Rattle.dlms_field.specs.declared.ticks.Ticks.{Ticks}
+use Rattle.dlms_field.specs.declared.ticks.Second.{Second}
+
+-- the meter is told of one second more: its running second, and the pulses that the load has given by then and not before
+pub record IsNext (old : Ticks) (second : Second) (new : Ticks) : Type 0 where
+  pub one : new.told ≡ old.told + 1
+  pub moment : second.moment ≡ old.first + new.told
+  pub pulses : pulses_after old.watts old.told + second.pulses ≡ pulses_after old.watts new.told
+  pub first : new.first ≡ old.first
+  pub watts : new.watts ≡ old.watts
+
+-- these seconds were told, one after another
+abbrev pub AreNext : Ticks → List Second → Ticks → Type 0
+AreNext old [] new = new ≡ old
+AreNext old (second ∷ seconds) new = (between : Ticks) × IsNext old second between × AreNext between seconds new

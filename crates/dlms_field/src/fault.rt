@@ -1,0 +1,25 @@
+//! Why a tool of the field ended early.
+ghost use Rattle.std.specs.Prelude.{◌≡◌};
+ghost use Rattle.dlms_field.specs.declared.fault.FieldFault.TheVariants.{Other as OtherOf};
+
+use dlms_loopback::LoopFault;
+use std::io;
+
+/// Why a tool of the field ended early.
+#[derive(Clone, Copy, Debug)]
+pub enum FieldFault<'a> {
+    /// At this file or address a call of the system failed, for which the system has these words.
+    System(&'a str, io::Error),
+    /// The secret has more than 16 bytes.
+    Secret,
+    /// Anything else.
+    Other(LoopFault),
+}
+
+impl<'a> From<LoopFault> for FieldFault<'a> {
+    ghost from_gives = { λ fault given. given ≡ OtherOf fault };
+
+    fn from(fault: LoopFault) -> FieldFault<'a> {
+        FieldFault::Other(fault)
+    }
+}

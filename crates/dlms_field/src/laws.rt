@@ -1,0 +1,15 @@
+//! What holds of all the seconds that a meter is told of.
+
+ghost use Rattle.std.specs.Prelude.{◌≡◌, ◌+◌, List, length, sum_by};
+ghost use Rattle.dlms_field.specs.Load.{pulses_after};
+ghost use Rattle.dlms_field.specs.Ticks.{AreNext};
+ghost use Rattle.dlms_field.specs.declared.ticks.Ticks.{Ticks as TicksOf};
+ghost use Rattle.dlms_field.specs.declared.ticks.Second.{Second as SecondOf};
+
+/// The pulses of the seconds that a meter is told of add up to those of the load in all that time: none is lost, none comes
+/// twice, and what is less than a pulse is kept for the next second. No second is left out.
+pub fn pulses_add_up()
+    ensures pulses { (old new : TicksOf) (seconds : List SecondOf) → AreNext old seconds new
+        → pulses_after old.watts old.told + sum_by (λ second. second.pulses) seconds ≡ pulses_after old.watts new.told }
+    ensures seconds { (old new : TicksOf) (seconds : List SecondOf) → AreNext old seconds new → new.told ≡ old.told + length seconds }
+{}

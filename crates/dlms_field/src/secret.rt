@@ -1,0 +1,52 @@
+//! Management's secret, from a file.
+
+ghost use Rattle.std.specs.Prelude.{◌≡◌, ◌<◌, ℕ, List, length, MatchOption};
+ghost use Rattle.dlms_field.specs.Secret.{IsWithoutLineFeed};
+
+use arrayvec::ArrayVec;
+use std::fs::Files;
+use std::io::Read;
+use std::{fs, io};
+
+/// The most bytes of a secret.
+const MOST_SECRET: usize = 16;
+
+/// The bytes that are read of a file: those of the longest secret, a line feed, and one that is too many.
+const MOST_READ: usize = 18;
+
+/// The bytes without one line feed at their end.
+fn without_line_feed(bytes: &[u8]) -> &[u8]
+    ensures { IsWithoutLineFeed bytes.now result.now }
+{
+    match bytes.split_last() {
+        Some((b'\n', rest)) => rest,
+        _ => bytes,
+    }
+}
+
+/// The secret in a file of these bytes: they, without one line feed at their end. None where it has more than 16 bytes.
+pub fn secret_in(bytes: &[u8]) -> Option<ArrayVec<u8, 16>>
+    ensures { (rest : List ℕ) → IsWithoutLineFeed bytes.now rest → MatchOption result (MOST_SECRET < length rest) (λ secret. secret.items ≡ rest) }
+{
+    let rest = without_line_feed(bytes);
+    if rest.len() > MOST_SECRET {
+        return None;
+    }
+    let mut secret = ArrayVec::new();
+    let _fits = secret.try_extend_from_slice(rest);
+    Some(secret)
+}
+
+/// The first bytes of a file, enough to tell its secret, or that it is too long.
+pub fn first_bytes<R: Files>(rt: &R, path: &str) -> io::Result<ArrayVec<u8, MOST_READ>> {
+    let mut file = fs::open(rt, path)?;
+    let mut bytes = ArrayVec::new();
+    let mut byte = [0u8];
+    for _ in 0..MOST_READ {
+        if file.read(&mut byte)? == 0 {
+            break;
+        }
+        let _room = bytes.try_push(byte[0]);
+    }
+    Ok(bytes)
+}
