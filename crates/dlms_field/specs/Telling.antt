@@ -19,24 +19,25 @@ Tells {P} {A} {ghosts} old second outcome new =
     × (0 < second.pulses → (counted : Result (Unit {0}) AddFault) × (between : Meter P A ghosts) × Judges old (Pulses 0 second.pulses) counted between
     × MatchResult counted (λ _. Judges between (Moment second.moment) outcome new) (λ fault. (outcome ≡ Err fault) × (new ≡ between)))
 
--- the meter is told of these seconds, one after another
-abbrev pub TellsEach : {P A : Type 0} → {ghosts : Ghosts P} → Meter P A ghosts → List Second → Meter P A ghosts → Type 0
-TellsEach old [] new = new ≡ old
-TellsEach {P} {A} {ghosts} old (second ∷ seconds) new =
-    (outcome : Result (Unit {0}) AddFault) × (between : Meter P A ghosts) × Tells old second outcome between × TellsEach between seconds new
-
--- so many seconds came next, and the meter was told of each
-pub record Told {P A : Type 0} {ghosts : Ghosts P} (count : ℕ) (before : Ticks) (old : Meter P A ghosts) (after : Ticks) (new : Meter P A ghosts) : Type 0 where
-  pub seconds : List Second
-  pub counted : length seconds ≡ count
-  pub next : AreNext before seconds after
-  pub each : TellsEach old seconds new
-
 -- the store goes on: the last second was taken, or the table refused it
 abbrev pub GoesOn : Result (Unit {0}) AddFault → Type 0
 GoesOn (Ok done) = Unit {0}
 GoesOn (Err (Refused cause)) = Unit {0}
 GoesOn (Err fault) = ⊥
+
+-- The meter is told of these seconds, one after another, each of them where its store goes on behind what was said before. What is
+-- said at last is the outcome: that of the last second, and where there is none what was said before.
+abbrev pub TellsEach : {P A : Type 0} → {ghosts : Ghosts P} → Meter P A ghosts → Result (Unit {0}) AddFault → List Second → Result (Unit {0}) AddFault → Meter P A ghosts → Type 0
+TellsEach old said [] outcome new = (new ≡ old) × (outcome ≡ said)
+TellsEach {P} {A} {ghosts} old said (second ∷ seconds) outcome new =
+    GoesOn said × (told : Result (Unit {0}) AddFault) × (between : Meter P A ghosts) × Tells old second told between × TellsEach between told seconds outcome new
+
+-- so many seconds came next, and the meter was told of each
+pub record Told {P A : Type 0} {ghosts : Ghosts P} (count : ℕ) (before : Ticks) (old : Meter P A ghosts) (outcome : Result (Unit {0}) AddFault) (after : Ticks) (new : Meter P A ghosts) : Type 0 where
+  pub seconds : List Second
+  pub counted : length seconds ≡ count
+  pub next : AreNext before seconds after
+  pub each : TellsEach old (Ok tt) seconds outcome new
 
 -- the meter was told of every second that has gone by, or its running second is the last that there is
 abbrev pub IsUpToDate : ℕ → Ticks → Type 0
@@ -46,4 +47,4 @@ IsUpToDate elapsed ticks = (elapsed ≤ ticks.told) ⊎ (ticks.first + ticks.tol
 -- store does not go on.
 abbrev pub Looks : {P A : Type 0} → {ghosts : Ghosts P} → ℕ → Ticks → Meter P A ghosts → Result (Unit {0}) AddFault → Ticks → Meter P A ghosts → Type 0
 Looks elapsed before old outcome after new =
-    (count : ℕ) × Told count before old after new × (count ≤ CATCH_UP) × (GoesOn outcome → count < CATCH_UP → IsUpToDate elapsed after)
+    (count : ℕ) × Told count before old outcome after new × (count ≤ CATCH_UP) × (GoesOn outcome → count < CATCH_UP → IsUpToDate elapsed after)
