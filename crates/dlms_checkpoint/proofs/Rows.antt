@@ -1,13 +1,14 @@
 -- Rows one after another.
-use Rattle.std.proofs.Common.{◌≡◌, ℕ, zero, suc, ◌+◌, ◌*◌, ◌/◌, ◌%◌, ◌<◌, ◌≤◌, ◌^◌, List, [], ◌∷◌, ◌++◌, length, take, drop, get_or, refl, sym, ap, ◌∙◌, subst, arith, append_assoc, All}
-use Rattle.std.proofs.lemmas.List.{drop_at, length-append, drop-drop, take-append-drop, length-drop}
+use Rattle.std.proofs.Common.{◌≡◌, ℕ, zero, suc, ◌+◌, ◌-◌, ◌*◌, ◌/◌, ◌%◌, ◌<◌, ◌≤◌, ◌^◌, List, [], ◌∷◌, ◌++◌, length, take, drop, get_or, refl, sym, ap, ◌∙◌, subst, arith, append_assoc, All}
+use Rattle.std.proofs.lemmas.List.{length-append, drop-drop, length-drop, drop-append-le, take-append-le}
 use Rattle.std.proofs.Math.Seq.{take-add}
 use Rattle.byteorder.specs.Endian.{big_from, big_bytes}
 use Rattle.dlms_profile.specs.declared.rows.Row.{Row}
 use Rattle.dlms_profile.specs.Rows.{IsRow}
-use Rattle.dlms_checkpoint.specs.Checkpoint.{registers_bytes, row_bytes, rows_bytes}
+use Rattle.dlms_checkpoint.specs.Checkpoint.{registers_bytes, row_bytes}
 use Rattle.dlms_checkpoint.specs.Reading.{registers_at, row_at, rows_at}
-use Rattle.dlms_checkpoint.proofs.Lists.{from_behind, number_here, from_drop}
+use Rattle.dlms_checkpoint.proofs.Lists.{from_behind, number_here, from_drop, drop_behind}
+use Rattle.byteorder.specs.Numbers.{big_from-take}
 
 abbrev pub AreOctets : List ℕ → Type 0
 AreOctets bytes = All (λ byte. byte < 2 ^ 8) bytes
@@ -21,10 +22,6 @@ length-registers registers = refl
 pub length-row : (row : Row) → length (row_bytes row) ≡ 16
 unfolding row_bytes
 length-row row = length-append (big_bytes 4 row.clock) (registers_bytes row.registers) ∙ ap (λ (n : ℕ). 4 + n) (length-registers row.registers)
-
-pub length-rows : (rows : List Row) → length (rows_bytes rows) ≡ 16 * length rows
-length-rows [] = refl
-length-rows (row ∷ rows) = omega (arith, length-append (row_bytes row) (rows_bytes rows), length-row row, length-rows rows)
 
 -- ---- written and read again
 
@@ -76,22 +73,6 @@ row_again row rest is =
     (ap (big_from 0 4) text ∙ number_here 4 row.clock (registers_bytes row.registers ++ rest) is.clock)
     (ap (registers_at 4) text ∙ sym (registers_drop 4 (A ++ (registers_bytes row.registers ++ rest))) ∙ registers_again row.registers rest is.count is.registers)
 
-pub first_is : (P : Row → Type 0) (row : Row) (rows : List Row) → All P (row ∷ rows) → P row
-first_is P row rows all = all 0 row (omega arith)
-
-pub others_are : (P : Row → Type 0) (row : Row) (rows : List Row) → All P (row ∷ rows) → All P rows
-others_are P row rows all k d low = all (suc k) d (omega (arith, low))
-
-pub rows_again : (rows : List Row) (rest : List ℕ) → All IsRow rows → rows_at (length rows) (rows_bytes rows ++ rest) ≡ rows
-rows_again [] rest all = refl
-rows_again (row ∷ rows) rest all =
-    let text : rows_bytes (row ∷ rows) ++ rest ≡ row_bytes row ++ (rows_bytes rows ++ rest) = append_assoc (row_bytes row) (rows_bytes rows) rest in
-    let behind : drop 16 (row_bytes row ++ (rows_bytes rows ++ rest)) ≡ rows_bytes rows ++ rest = drop_at (row_bytes row) (rows_bytes rows ++ rest) 16 (length-row row) in
-    ap (rows_at (suc (length rows))) text
-    ∙ ap (λ (r : Row). r ∷ rows_at (length rows) (drop 16 (row_bytes row ++ (rows_bytes rows ++ rest)))) (row_again row (rows_bytes rows ++ rest) (first_is IsRow row rows all))
-    ∙ ap (λ (l : List ℕ). row ∷ rows_at (length rows) l) behind
-    ∙ ap (λ (l : List Row). row ∷ l) (rows_again rows rest (others_are IsRow row rows all))
-
 -- ---- read and written again
 
 four_are : (w a x b y c z d : ℕ) → w ≡ a → x ≡ b → y ≡ c → z ≡ d → w ∷ x ∷ y ∷ z ∷ [] ≡ a ∷ b ∷ c ∷ d ∷ []
@@ -134,19 +115,11 @@ registers_back bytes long all =
     three_joined _ _ _ _ _ _ (word_back bytes (omega (arith, long)) all) (word_at 4 bytes (omega (arith, long)) all) (word_at 8 bytes (omega (arith, long)) all)
     ∙ sym (take-add 4 8 bytes ∙ ap (λ (l : List ℕ). take 4 bytes ++ l) (take-add 4 4 (drop 4 bytes) ∙ ap (λ (l : List ℕ). take 4 (drop 4 bytes) ++ take 4 l) (drop-drop 4 4 bytes)))
 
-row_back : (bytes : List ℕ) → 16 ≤ length bytes → AreOctets bytes → row_bytes (row_at 0 bytes) ≡ take 16 bytes
+pub row_back : (bytes : List ℕ) → 16 ≤ length bytes → AreOctets bytes → row_bytes (row_at 0 bytes) ≡ take 16 bytes
 unfolding row_bytes row_at
 row_back bytes long all =
     two_joined _ _ _ _ (word_back bytes (omega (arith, long)) all) (ap registers_bytes (sym (registers_drop 4 bytes)) ∙ registers_back (drop 4 bytes) (omega (arith, length-drop 4 bytes, long)) (octets_behind 4 bytes all))
     ∙ sym (take-add 4 12 bytes)
-
-pub rows_back : (n : ℕ) (bytes : List ℕ) → length bytes ≡ 16 * n → AreOctets bytes → rows_bytes (rows_at n bytes) ≡ bytes
-rows_back zero [] len all = refl
-rows_back zero (b ∷ bytes) len all = absurd (omega (arith, len))
-rows_back (suc n) bytes len all =
-    ap (λ (l : List ℕ). l ++ rows_bytes (rows_at n (drop 16 bytes))) (row_back bytes (omega (arith, len)) all)
-    ∙ ap (λ (l : List ℕ). take 16 bytes ++ l) (rows_back n (drop 16 bytes) (omega (arith, length-drop 16 bytes, len)) (octets_behind 16 bytes all))
-    ∙ take-append-drop 16 bytes
 
 -- ---- one by one
 
@@ -184,3 +157,26 @@ all_rows P n bytes each k d low =
 pub each_row : (P : Row → Type 0) (n : ℕ) (bytes : List ℕ) → All P (rows_at n bytes) → (k : ℕ) → k < n → P (row_at (16 * k) bytes)
 each_row P n bytes all k few =
     subst P (get-rows_at n bytes k (row_at 0 bytes) few) (all k (row_at 0 bytes) (omega (arith, length-rows_at n bytes, few)))
+
+-- rows from a later place on
+pub row_further : (skipped i : ℕ) (bytes : List ℕ) → row_at (16 * i) (drop (16 * skipped) bytes) ≡ row_at (16 * (skipped + i)) bytes
+row_further skipped i bytes =
+    let far : 16 * skipped + 16 * i ≡ 16 * (skipped + i) = omega arith in
+    sym (row_drop (16 * i) (drop (16 * skipped) bytes)) ∙ ap (row_at 0) (drop-drop (16 * i) (16 * skipped) bytes) ∙ row_drop (16 * skipped + 16 * i) bytes ∙ ap (λ (j : ℕ). row_at j bytes) far
+
+-- a row of two stretches, one behind the other
+row_of_front : (front back : List ℕ) → 16 ≤ length front → row_at 0 (front ++ back) ≡ row_at 0 front
+unfolding row_at registers_at
+row_of_front front back long =
+    let at : (k : ℕ) → k + 4 ≤ 16 → big_from k 4 (front ++ back) ≡ big_from k 4 front =
+    λ k fits. sym (big_from-take k 4 16 (front ++ back) fits) ∙ ap (big_from k 4) (take-append-le 16 front back long) ∙ big_from-take k 4 16 front fits in
+    row_is _ _ (at 0 (omega arith)) (three_are _ _ _ _ _ _ (at 4 (omega arith)) (at 8 (omega arith)) (at 12 (omega arith)))
+
+pub row_in_front : (front back : List ℕ) (i : ℕ) → 16 * (i + 1) ≤ length front → row_at (16 * i) (front ++ back) ≡ row_at (16 * i) front
+row_in_front front back i within =
+    sym (row_drop (16 * i) (front ++ back)) ∙ ap (row_at 0) (drop-append-le (16 * i) front back (omega (arith, within)))
+    ∙ row_of_front (drop (16 * i) front) back (omega (arith, within, length-drop (16 * i) front)) ∙ row_drop (16 * i) front
+
+pub row_in_back : (front back : List ℕ) (i k : ℕ) → length front ≡ 16 * k → k ≤ i → row_at (16 * i) (front ++ back) ≡ row_at (16 * (i - k)) back
+row_in_back front back i k long past =
+    sym (row_drop (16 * i) (front ++ back)) ∙ ap (row_at 0) (drop_behind front back (16 * (i - k)) (16 * i) (omega (arith, long, past))) ∙ row_drop (16 * (i - k)) back

@@ -1,10 +1,11 @@
 -- How the bytes of a checkpoint are cut into bodies, each the payload of a page, and what the first body must say.
-use Rattle.std.specs.Prelude.{ℕ, ◌+◌, ◌-◌, ◌*◌, ◌/◌, min, nat_lt, nat_le, nat_eq, ◌&&◌, if◌then◌else◌, List, length, take, drop, slice_index, Bool, Option, Some, None}
+use Rattle.std.specs.Prelude.{ℕ, ◌+◌, ◌-◌, ◌*◌, ◌/◌, ◌%◌, ◌^◌, min, nat_lt, nat_le, nat_eq, ◌&&◌, if◌then◌else◌, List, length, take, drop, slice_index, Bool, Option, Some, None}
 use Rattle.byteorder.specs.Endian.{big_from}
+use Rattle.dlms_checkpoint.specs.declared.fields.TheConstants.{HEAD_BYTES, ROW_BYTES}
 use Rattle.dlms_checkpoint.specs.declared.reading.BodyFault.{BodyFault}
 use Rattle.dlms_checkpoint.specs.declared.reading.BodyFault.TheVariants.{Length, Counts}
 use Rattle.dlms_profile.specs.declared.rows.TheConstants.{CAPACITY}
-use Rattle.dlms_checkpoint.specs.declared.writing.TheConstants.{MOST_BODY}
+use Rattle.dlms_checkpoint.specs.declared.writing.TheConstants.{MOST_BODY, RING_ROWS}
 
 -- the body at this place, counted from 0
 abbrev pub body_at : ℕ → List ℕ → List ℕ
@@ -21,16 +22,29 @@ secret_count bytes = slice_index bytes 28
 abbrev pub text_count : List ℕ → ℕ
 text_count bytes = slice_index bytes 45
 
-abbrev pub row_count : List ℕ → ℕ
-row_count bytes = big_from 286 2 bytes
+-- the numbers of the first row and after the last row, as they stand there
+abbrev pub first_field : List ℕ → ℕ
+first_field bytes = big_from 286 8 bytes
 
--- a secret of at most 16 bytes, a text of at most 240, at most CAPACITY rows
+abbrev pub next_field : List ℕ → ℕ
+next_field bytes = big_from 294 8 bytes
+
+-- the number after the last row: 0 stands for 2 ^ 64 where the first number is above 0
+abbrev pub next_said : List ℕ → ℕ
+next_said bytes = if nat_eq (next_field bytes) 0 && nat_lt 0 (first_field bytes) then 2 ^ 64 else next_field bytes
+
+-- the first number: 1 stands for 2 ^ 64 where that is the number after the last row
+abbrev pub first_said : List ℕ → ℕ
+first_said bytes = if nat_eq (next_said bytes) (2 ^ 64) && nat_eq (first_field bytes) 1 then 2 ^ 64 else first_field bytes
+
+-- a secret of at most 16 bytes, a text of at most 240, and at most CAPACITY rows, from the first number to the next one
 abbrev pub counts_fit : List ℕ → Bool
-counts_fit bytes = nat_le (secret_count bytes) 16 && (nat_le (text_count bytes) 240 && nat_le (row_count bytes) CAPACITY)
+counts_fit bytes =
+    nat_le (secret_count bytes) 16 && (nat_le (text_count bytes) 240 && (nat_le (first_said bytes) (next_said bytes) && nat_le (next_said bytes) (first_said bytes + CAPACITY)))
 
 -- how many bytes there are in all, as the first body says
 abbrev pub whole_length : List ℕ → ℕ
-whole_length bytes = 288 + 16 * row_count bytes
+whole_length bytes = HEAD_BYTES + ROW_BYTES * (next_said bytes % RING_ROWS)
 
 -- how long the next body is, where these bytes were taken; 0 where there is none
 abbrev pub awaited : List ℕ → ℕ
@@ -39,6 +53,6 @@ awaited bytes = min MOST_BODY (whole_length bytes - length bytes)
 -- why bytes are no first body, or None
 abbrev pub first_fault : List ℕ → Option BodyFault
 first_fault bytes =
-    if nat_lt (length bytes) 288 then Some Length
+    if nat_lt (length bytes) HEAD_BYTES then Some Length
     else if counts_fit bytes then (if nat_eq (length bytes) (min MOST_BODY (whole_length bytes)) then None else Some Length)
     else Some Counts

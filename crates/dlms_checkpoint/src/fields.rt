@@ -1,5 +1,5 @@
 //! The parts of a head and of a row, written.
-ghost use Rattle.std.specs.Prelude.{◌≡◌, ◌≤◌, ◌<◌, ◌+◌, ◌++◌, ◌-◌, ◌^◌, length, replicate};
+ghost use Rattle.std.specs.Prelude.{◌≡◌, ◌≤◌, ◌<◌, ◌+◌, ◌++◌, ◌-◌, ◌^◌, ℕ, length, replicate};
 ghost use Rattle.arrayvec.specs.ArrayVec.{array_vec_len};
 ghost use Rattle.dlms_state.specs.StateValue.{state_of_parts};
 ghost use Rattle.dlms_checkpoint.specs.Checkpoint.{field, registers_bytes, row_bytes, head_bytes};
@@ -9,10 +9,10 @@ use dlms_profile::Row;
 use dlms_state::Parts;
 
 /// The bytes before the rows.
-pub(crate) const HEAD_BYTES: usize = 288;
+pub(crate) const HEAD_BYTES: usize = 302;
 
-/// The bytes of a row.
-pub(crate) const ROW_BYTES: usize = 16;
+/// The bytes of a row: the clock and three registers, of four bytes each.
+pub const ROW_BYTES: usize = 16;
 
 /// Appends bytes for which there is room.
 pub(crate) fn append<const N: usize>(bytes: &mut ArrayVec<u8, N>, more: &[u8])
@@ -72,10 +72,10 @@ fn append_field<const N: usize, const ROOM: usize>(
     append(bytes, &padded::<ROOM>(held.as_slice()));
 }
 
-/// The bytes before so many rows.
+/// The bytes before the rows, with the numbers as they are written.
 #[tactic(auto, unfolding(crate::specs::Checkpoint::head_bytes))]
-pub(crate) fn head_of(parts: &Parts, rows: u16) -> ArrayVec<u8, HEAD_BYTES>
-    ensures items { result.items ≡ head_bytes (state_of_parts parts.now) rows }
+pub(crate) fn head_of(parts: &Parts, first: u64, next: u64) -> ArrayVec<u8, HEAD_BYTES>
+    ensures items { (n : ℕ) → result.items ≡ head_bytes (state_of_parts parts.now n) first next }
     ensures len { array_vec_len result ≡ HEAD_BYTES }
 {
     let mut head = ArrayVec::new();
@@ -85,6 +85,7 @@ pub(crate) fn head_of(parts: &Parts, rows: u16) -> ArrayVec<u8, HEAD_BYTES>
     append_registers(&mut head, parts.registers);
     append_field(&mut head, &parts.secret);
     append_field(&mut head, &parts.text);
-    append(&mut head, &rows.to_be_bytes());
+    append(&mut head, &first.to_be_bytes());
+    append(&mut head, &next.to_be_bytes());
     head
 }

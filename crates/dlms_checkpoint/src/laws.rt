@@ -2,19 +2,21 @@
 ghost use Rattle.std.specs.Prelude.{◌≡◌, ◌<◌, ◌≤◌, ◌*◌, ◌+◌, ◌++◌, ℕ, List, length, take, None};
 ghost use Rattle.dlms_state.specs.StateValue.{StateValue};
 ghost use Rattle.dlms_checkpoint.specs.Checkpoint.{IsCheckpointOf};
+ghost use Rattle.dlms_checkpoint.specs.Reading.{Filled, IsFilledBy};
 ghost use Rattle.dlms_checkpoint.specs.Bodies.{awaited, body_at, body_count, first_fault};
-ghost use Rattle.dlms_checkpoint.specs.declared.writing.TheConstants.{MOST_BODY};
+ghost use Rattle.dlms_checkpoint.specs.declared.fields.TheConstants.{ROW_BYTES};
+ghost use Rattle.dlms_checkpoint.specs.declared.writing.TheConstants.{MOST_BODY, RING_BYTES, RING_ROWS};
 
-/// Bytes are those of one state at most.
+/// Bodies and ring pages are those of one state at most.
 pub fn bytes_tell_one_state()
-    ensures { (bytes : List ℕ) (s t : StateValue) → IsCheckpointOf s bytes → IsCheckpointOf t bytes → s ≡ t }
+    ensures { (filled : Filled) (s t : StateValue) → IsFilledBy s filled → IsFilledBy t filled → s ≡ t }
 {}
 
 /// The bodies of a state's bytes are taken one after another, and none is awaited behind the last.
 pub fn bodies_are_taken()
     ensures first { (bytes : List ℕ) (s : StateValue) → IsCheckpointOf s bytes → first_fault (body_at 0 bytes) ≡ None }
     ensures further { (bytes : List ℕ) (s : StateValue) (k : ℕ) → IsCheckpointOf s bytes → 0 < k → awaited (take (MOST_BODY * k) bytes) ≡ length (body_at k bytes) }
-    ensures count { (bytes : List ℕ) (s : StateValue) → IsCheckpointOf s bytes → (0 < body_count bytes) × (body_count bytes ≤ 32) }
+    ensures count { (bytes : List ℕ) (s : StateValue) → IsCheckpointOf s bytes → (0 < body_count bytes) × (body_count bytes ≤ 2) }
 {}
 
 /// Bodies joined are the bytes, and each of them holds at least one byte.
@@ -26,5 +28,8 @@ pub fn bodies_join()
 
 /// The numbers that clauses and definitions cite by name.
 pub fn the_numbers()
-    ensures { MOST_BODY ≡ 496 }
+    ensures body { MOST_BODY ≡ 496 }
+    ensures rows { RING_ROWS ≡ 30 }
+    ensures row { ROW_BYTES ≡ 16 }
+    ensures bytes { RING_BYTES ≡ 480 }
 {}

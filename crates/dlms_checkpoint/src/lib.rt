@@ -6,5 +6,6 @@ pub mod laws;
 mod reading;
 mod writing;
 
-pub use reading::{BodyFault, RestoreFault, Restoring};
-pub use writing::{Checkpoint, MOST_BODY, checkpoint_of};
+pub use fields::ROW_BYTES;
+pub use reading::{BodyFault, Refilling, Restoring, RingFault};
+pub use writing::{Checkpoint, MOST_BODY, RING_BYTES, RING_ROWS, checkpoint_of, ring_page_of};

@@ -1,13 +1,13 @@
-//! A state as the bytes of a checkpoint.
-ghost use Rattle.std.specs.Prelude.{◌≡◌, ◌≤◌, ◌<◌, ◌*◌, ◌+◌, ◌++◌, length, take};
+//! A state as the bytes of a checkpoint: what stands in its bodies, and the ring pages that they name.
+ghost use Rattle.std.specs.Prelude.{◌≡◌, ◌≤◌, ◌<◌, ◌*◌, ◌+◌, ◌++◌, ◌^◌, length, take, nat_eq, if◌then◌else◌};
 ghost use Rattle.arrayvec.specs.ArrayVec.{array_vec_len};
-ghost use Rattle.dlms_profile.specs.Rows.{no_rows};
+ghost use Rattle.dlms_profile.specs.Rows.{none_before};
 ghost use Rattle.dlms_state.specs.StateValue.{state_of_parts};
-ghost use Rattle.dlms_checkpoint.specs.Checkpoint.{head_bytes, rows_bytes, checkpoint_bytes};
+ghost use Rattle.dlms_checkpoint.specs.Checkpoint.{AreBytes, HoldsRows, IsNamed, checkpoint_bytes, place_of, places_of};
 
-use crate::fields::{append, append_row, head_of};
+use crate::fields::{HEAD_BYTES, ROW_BYTES, append, append_row, head_of};
 use arrayvec::ArrayVec;
-use dlms_profile::{Row, Rows};
+use dlms_profile::Rows;
 use dlms_state::{Parts, State};
 use std::alloc::Allocator;
 use std::marker::Model;
@@ -15,10 +15,19 @@ use std::marker::Model;
 /// The most bytes of a body: those of a page's payload.
 pub const MOST_BODY: usize = 496;
 
-/// The most bytes of a checkpoint: its head and `CAPACITY` rows of 16 bytes.
-pub(crate) const MOST_BYTES: usize = 15648;
+/// How many rows a ring page holds.
+pub const RING_ROWS: usize = 30;
 
-/// The bytes of a state, which are read body by body. It stands in a fixed buffer of 15,648 bytes and takes no memory.
+/// The bytes of a ring page's rows.
+pub const RING_BYTES: usize = RING_ROWS * ROW_BYTES;
+
+/// The most bytes in bodies: the head, and the rows of a ring page that is not filled.
+pub(crate) const MOST_BYTES: usize = HEAD_BYTES + ROW_BYTES * (RING_ROWS - 1);
+
+/// One above the greatest number of a row.
+pub(crate) const NUMBERS_END: u128 = 18_446_744_073_709_551_616;
+
+/// The bytes of a state's bodies, which are read body by body. They stand in a fixed buffer of 766 bytes and take no memory.
 #[derive(Drop)]
 pub struct Checkpoint {
     bytes: ArrayVec<u8, MOST_BYTES>,
@@ -35,7 +44,7 @@ impl Model for Checkpoint {
 impl Checkpoint {
     ghost use Rattle.dlms_checkpoint.specs.Bodies.{body_at, body_count};
 
-    /// How many bodies there are, at least 1 and at most 32: none of them is empty.
+    /// How many bodies there are, 1 or 2: none of them is empty.
     pub fn body_count(&self) -> u16
         ensures { result ≡ body_count self.now }
     {
@@ -53,46 +62,100 @@ impl Checkpoint {
     }
 }
 
-/// The bytes of a state.
+/// The bytes of a state's bodies.
 #[tactic(auto, unfolding(crate::specs::Checkpoint::checkpoint_bytes))]
 pub fn checkpoint_of<A: Allocator + Copy>(state: &State<A>) -> Checkpoint
-    ensures { result ≡ checkpoint_bytes state.now }
+    ensures bytes { result ≡ checkpoint_bytes state.now }
+    ensures spelled { AreBytes state.now result }
 {
     let mut bytes = ArrayVec::new();
     let rows = state.rows();
-    append(
-        &mut bytes,
-        head_of(&parts_of(state), rows.len() as u16).as_slice(),
+    let next = rows.next_number();
+    let unfilled = next % RING_ROWS as u128;
+    let head = head_of(
+        &parts_of(state),
+        first_written(rows.first_number()),
+        next_written(next),
     );
-    append_rows(&mut bytes, rows);
+    append(&mut bytes, head.as_slice());
+    append_places(&mut bytes, rows, next - unfilled, unfilled as usize);
     Checkpoint { bytes }
 }
 
-/// Appends rows.
-fn append_slice(bytes: &mut ArrayVec<u8, MOST_BYTES>, rows: &[Row])
-    requires { array_vec_len bytes.old + 16 * length rows.now ≤ 15648 }
-    ensures items { bytes.new.items ≡ bytes.old.items ++ rows_bytes rows.now }
-    ensures len { array_vec_len bytes.new ≡ array_vec_len bytes.old + 16 * length rows.now }
+/// The rows of a ring page that the state's checkpoint names, 30 places: the caller must have seen that all of them were
+/// captured and that the last one is still kept.
+pub fn ring_page_of<A: Allocator + Copy>(state: &State<A>, page: u64) -> ArrayVec<u8, RING_BYTES>
+    requires { IsNamed state.now.rows page }
+    ensures places { result.items ≡ places_of state.now.rows (RING_ROWS * page) RING_ROWS }
+    ensures holds { HoldsRows state.now.rows (RING_ROWS * page) RING_ROWS result.items }
 {
-    for row in rows {
+    let mut places = ArrayVec::new();
+    let from = RING_ROWS as u128 * u128::from(page);
+    append_places(&mut places, state.rows(), from, RING_ROWS);
+    places
+}
+
+/// The number of the first row as it is written.
+pub(crate) fn first_written(first: u128) -> u64
+    requires { first ≤ 2 ^ 64 }
+    ensures { result ≡ if nat_eq first (2 ^ 64) then 1 else first }
+{
+    if first == NUMBERS_END {
+        1
+    } else {
+        first as u64
+    }
+}
+
+/// The number after the last row as it is written.
+pub(crate) fn next_written(next: u128) -> u64
+    requires { next ≤ 2 ^ 64 }
+    ensures { result ≡ if nat_eq next (2 ^ 64) then 0 else next }
+{
+    if next == NUMBERS_END { 0 } else { next as u64 }
+}
+
+/// Appends the place of a row that was captured: its bytes, or zeros where it is no longer kept.
+fn append_place<const N: usize, A: Allocator + Copy>(
+    bytes: &mut ArrayVec<u8, N>,
+    rows: &Rows<A>,
+    number: u128,
+)
+    requires room { array_vec_len bytes.old + ROW_BYTES ≤ N }
+    requires captured { number < rows.now.next }
+    ensures items { bytes.new.items ≡ bytes.old.items ++ place_of rows.now number }
+    ensures len { array_vec_len bytes.new ≡ array_vec_len bytes.old + ROW_BYTES }
+{
+    let first = rows.first_number();
+    let _order = rows.next_number();
+    if number < first {
+        append(bytes, &[0; ROW_BYTES]);
+    } else if let Some(row) = rows.get((number - first) as usize) {
         append_row(bytes, row);
     }
 }
 
-/// Appends every row of a buffer.
-fn append_rows<A: Allocator + Copy>(bytes: &mut ArrayVec<u8, MOST_BYTES>, rows: &Rows<A>)
-    requires { array_vec_len bytes.old ≤ 288 }
-    ensures { bytes.new.items ≡ bytes.old.items ++ rows_bytes rows.now.items }
+/// Appends so many places from that of this number on.
+fn append_places<const N: usize, A: Allocator + Copy>(
+    bytes: &mut ArrayVec<u8, N>,
+    rows: &Rows<A>,
+    from: u128,
+    count: usize,
+)
+    requires room { array_vec_len bytes.old + ROW_BYTES * count ≤ N }
+    requires captured { from + count ≤ rows.now.next }
+    ensures items { bytes.new.items ≡ bytes.old.items ++ places_of rows.now from count }
+    ensures len { array_vec_len bytes.new ≡ array_vec_len bytes.old + ROW_BYTES * count }
 {
-    let _at_most_the_capacity = rows.len();
-    let (front, back) = rows.as_slices();
-    append_slice(bytes, front);
-    append_slice(bytes, back);
+    let _last = rows.next_number();
+    for index in 0..count {
+        append_place(bytes, rows, from + index as u128);
+    }
 }
 
 /// A copy of what a state holds, but for its rows.
 fn parts_of<A: Allocator + Copy>(state: &State<A>) -> Parts
-    ensures { state_of_parts result ≡ record state.now { rows = no_rows } }
+    ensures { state_of_parts result state.now.rows.next ≡ record state.now { rows = none_before state.now.rows.next } }
 {
     let mut text = ArrayVec::new();
     append(&mut text, state.text());

@@ -8,7 +8,9 @@ mod faulty;
 mod files;
 mod heaps;
 mod memory;
+mod numbers;
 mod report;
+mod rows;
 mod scripts;
 mod stops;
 mod stores;
@@ -26,6 +28,8 @@ fn run(report: &mut Report<'_>) -> Result<()> {
     heaps::play_writes(report)?;
     files::play_files(report)?;
     stores::play_stores(report)?;
+    rows::play_rows(report)?;
+    numbers::play_last(report)?;
     stops::play_stops(report)?;
     heaps::play_recoveries(report)?;
     stores::play_texts(report)

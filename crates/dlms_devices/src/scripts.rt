@@ -1,15 +1,15 @@
 //! What is done with a store and its device, step by step, and what is to come of each step.
 //!
-//! A store has 82 pages: a gate and 32 bodies from page 0 on, the same from page 33 on, and 16 pages of the journal from page 66
-//! on. A page begins with its kind (1 an open gate, 4 of the journal), the version 0, its index (two bytes), the generation (eight
-//! bytes) and the length of its payload (two bytes).
+//! A store has 62 pages: a gate and two bodies from page 0 on, the same from page 3 on, 16 pages of the journal from page 6 on, and
+//! 40 ring pages from page 22 on. A page begins with its kind (1 an open gate, 3 a body, 4 of the journal, 5 of the ring), the
+//! version 1, its index (two bytes), the generation (eight bytes), the length of its payload (two bytes), and two zeros.
 
 use dlms_pages::Pick;
 use dlms_state::Refused;
 use dlms_store::{AddFault, OpenFault, PAGES, StoreFault};
 
-/// The calls of a format: the 82 pages and a sync; a body and a sync; a gate and a sync.
-pub const FORMATS: u64 = 87;
+/// The calls of a format: the 62 pages and a sync; a body and a sync; a gate and a sync.
+pub const FORMATS: u64 = 67;
 
 /// What is done with a store, or seen of it.
 #[derive(Clone, Copy)]
@@ -18,11 +18,17 @@ pub enum OnStore {
     Pulses(u32),
     /// An event of so many pulses on a channel.
     Adds(u8, u32, Result<(), AddFault>),
+    /// So many captures are taken.
+    Captures(u32),
+    /// The profile is emptied.
+    Empties,
     Commits(Result<(), StoreFault>),
     Checkpoints(Result<(), StoreFault>),
     /// So many bytes of records wait.
     Pending(usize),
     Registers([u32; 3]),
+    /// The number of the oldest row, and the one that the next row gets.
+    Numbers(u128, u128),
 }
 
 /// What is done with a device, or seen of it.
@@ -32,6 +38,10 @@ pub enum OnDevice {
     Fails(u64),
     /// A page is filled with zeros.
     Clears(u16),
+    /// A page gets these bytes in front, and zeros behind them.
+    Puts(u16, &'static [u8]),
+    /// A page has these bytes from this place on, and zeros behind them.
+    Ends(u16, usize, &'static [u8]),
     /// A page begins with these bytes.
     Begins(u16, &'static [u8]),
     /// A page has these bytes in front, and zeros behind them.
@@ -59,25 +69,58 @@ pub struct Script {
 }
 
 /// The open gate of the second slot, of generation 2.
-const GATE: [u8; 14] = [1, 0, 0, 1, 0, 0, 0, 0, 0, 0, 0, 2, 0, 0];
+const GATE: [u8; 14] = [1, 1, 0, 1, 0, 0, 0, 0, 0, 0, 0, 2, 0, 0];
 
 /// The first journal page of generation 1 where 82 records of six bytes fill it: 492 bytes.
-const FIRST_PAGE: [u8; 14] = [4, 0, 0, 0, 0, 0, 0, 0, 0, 0, 0, 1, 0x01, 0xec];
+const FIRST_PAGE: [u8; 14] = [4, 1, 0, 0, 0, 0, 0, 0, 0, 0, 0, 1, 0x01, 0xec];
 
 /// The last journal page, filled likewise.
-const LAST_PAGE: [u8; 14] = [4, 0, 0, 15, 0, 0, 0, 0, 0, 0, 0, 1, 0x01, 0xec];
+const LAST_PAGE: [u8; 14] = [4, 1, 0, 15, 0, 0, 0, 0, 0, 0, 0, 1, 0x01, 0xec];
 
 /// The first journal page of generation 2, with a record.
-const NEXT_PAGE: [u8; 14] = [4, 0, 0, 0, 0, 0, 0, 0, 0, 0, 0, 2, 0, 6];
+const NEXT_PAGE: [u8; 14] = [4, 1, 0, 0, 0, 0, 0, 0, 0, 0, 0, 2, 0, 6];
 
 /// The first journal page of generation 1, with the record of 42 pulses.
 const PAGE_OF_42: [u8; 22] = [
-    0x04, 0x00, 0x00, 0x00, 0x00, 0x00, 0x00, 0x00, 0x00, 0x00, 0x00, 0x01, 0x00, 0x06, 0x00, 0x00,
+    0x04, 0x01, 0x00, 0x00, 0x00, 0x00, 0x00, 0x00, 0x00, 0x00, 0x00, 0x01, 0x00, 0x06, 0x00, 0x00,
     0x01, 0x00, 0x00, 0x00, 0x00, 0x2a,
 ];
 
+/// The open gate of the first slot, of generation 3.
+const THIRD_GATE: [u8; 14] = [1, 1, 0, 0, 0, 0, 0, 0, 0, 0, 0, 3, 0, 0];
+
+/// The first body of generation 2, with no place of a row: 302 bytes.
+const BODY: [u8; 16] = [3, 1, 0, 0, 0, 0, 0, 0, 0, 0, 0, 2, 0x01, 0x2e, 0, 0];
+
+/// The first body of generation 3, with the place of one row: 318 bytes.
+const THIRD_BODY: [u8; 16] = [3, 1, 0, 0, 0, 0, 0, 0, 0, 0, 0, 3, 0x01, 0x3e, 0, 0];
+
+/// The numbers at the end of a body's head: of the first row 0, after the last row 240.
+const FROM_0_TO_240: [u8; 16] = [0, 0, 0, 0, 0, 0, 0, 0, 0, 0, 0, 0, 0, 0, 0, 240];
+
+/// Of no row behind 241 others.
+const FROM_241: [u8; 16] = [0, 0, 0, 0, 0, 0, 0, 241, 0, 0, 0, 0, 0, 0, 0, 241];
+
+/// Where these numbers stand in a body's page.
+const NUMBERS: usize = 302;
+
+/// The first ring page and the eighth: 480 bytes each.
+const RING_0: [u8; 16] = [5, 1, 0, 0, 0, 0, 0, 0, 0, 0, 0, 0, 0x01, 0xe0, 0, 0];
+
+const RING_7: [u8; 16] = [5, 1, 0, 7, 0, 0, 0, 0, 0, 0, 0, 7, 0x01, 0xe0, 0, 0];
+
+/// The second journal page of generation 1, with 41 captures.
+const ROWS_41: [u8; 57] = [
+    4, 1, 0, 1, 0, 0, 0, 0, 0, 0, 0, 1, 0, 41, 0, 0, 11, 11, 11, 11, 11, 11, 11, 11, 11, 11, 11,
+    11, 11, 11, 11, 11, 11, 11, 11, 11, 11, 11, 11, 11, 11, 11, 11, 11, 11, 11, 11, 11, 11, 11, 11,
+    11, 11, 11, 11, 11, 11,
+];
+
+/// The open gate of the first slot of version 0, of generation 1.
+const OLD_GATE: [u8; 14] = [1, 0, 0, 0, 0, 0, 0, 0, 0, 0, 0, 1, 0, 0];
+
 /// The scripts.
-pub const SCRIPTS: [Script; 13] = [
+pub const SCRIPTS: [Script; 20] = [
     Script {
         name: "a journal page",
         steps: &[
@@ -89,8 +132,8 @@ pub const SCRIPTS: [Script; 13] = [
             Step::Store(OnStore::Pending(0)),
             Step::Store(OnStore::Registers([42, 0, 0])),
             Step::Closes,
-            Step::At(OnDevice::Holds(66, &PAGE_OF_42)),
-            Step::At(OnDevice::Holds(67, &[])),
+            Step::At(OnDevice::Holds(6, &PAGE_OF_42)),
+            Step::At(OnDevice::Holds(7, &[])),
         ],
     },
     Script {
@@ -103,7 +146,7 @@ pub const SCRIPTS: [Script; 13] = [
             Step::Store(OnStore::Pending(492)),
             Step::Closes,
             Step::Stops(Pick::AllNew),
-            Step::At(OnDevice::Holds(66, &[])),
+            Step::At(OnDevice::Holds(6, &[])),
         ],
     },
     // A page is a write and a sync, a checkpoint three of each.
@@ -117,7 +160,7 @@ pub const SCRIPTS: [Script; 13] = [
             Step::Store(OnStore::Pending(6)),
             Step::Closes,
             Step::Stops(Pick::AllOld),
-            Step::At(OnDevice::Begins(66, &FIRST_PAGE)),
+            Step::At(OnDevice::Begins(6, &FIRST_PAGE)),
         ],
     },
     Script {
@@ -130,7 +173,7 @@ pub const SCRIPTS: [Script; 13] = [
             Step::Store(OnStore::Pending(6)),
             Step::Closes,
             Step::Stops(Pick::AllOld),
-            Step::At(OnDevice::Begins(81, &LAST_PAGE)),
+            Step::At(OnDevice::Begins(21, &LAST_PAGE)),
         ],
     },
     Script {
@@ -143,7 +186,7 @@ pub const SCRIPTS: [Script; 13] = [
             Step::Store(OnStore::Pending(6)),
             Step::Closes,
             Step::Stops(Pick::AllOld),
-            Step::At(OnDevice::Begins(33, &GATE)),
+            Step::At(OnDevice::Begins(3, &GATE)),
         ],
     },
     // Closing commits the last pulse into the journal of the new generation.
@@ -160,9 +203,9 @@ pub const SCRIPTS: [Script; 13] = [
             Step::Store(OnStore::Pending(6)),
             Step::Store(OnStore::Registers([1395, 0, 0])),
             Step::Closes,
-            Step::At(OnDevice::Begins(81, &LAST_PAGE)),
-            Step::At(OnDevice::Holds(33, &GATE)),
-            Step::At(OnDevice::Begins(66, &NEXT_PAGE)),
+            Step::At(OnDevice::Begins(21, &LAST_PAGE)),
+            Step::At(OnDevice::Holds(3, &GATE)),
+            Step::At(OnDevice::Begins(6, &NEXT_PAGE)),
         ],
     },
     // Opened again it writes nothing: a sync, two gates, a body and a journal page, and then every call fails.
@@ -177,13 +220,13 @@ pub const SCRIPTS: [Script; 13] = [
             Step::Store(OnStore::Pending(0)),
             Step::Store(OnStore::Registers([7, 0, 0])),
             Step::Closes,
-            Step::At(OnDevice::Holds(33, &GATE)),
+            Step::At(OnDevice::Holds(3, &GATE)),
             Step::At(OnDevice::Fails(5)),
             Step::Opens(None),
             Step::Store(OnStore::Registers([7, 0, 0])),
             Step::Closes,
             Step::Stops(Pick::AllOld),
-            Step::At(OnDevice::Holds(33, &GATE)),
+            Step::At(OnDevice::Holds(3, &GATE)),
         ],
     },
     Script {
@@ -193,12 +236,12 @@ pub const SCRIPTS: [Script; 13] = [
             Step::Formats(None),
             Step::Store(OnStore::Pulses(3)),
             Step::Closes,
-            Step::At(OnDevice::Clears(66)),
+            Step::At(OnDevice::Clears(6)),
             Step::Stops(Pick::AllDamaged),
             Step::Opens(None),
             Step::Store(OnStore::Registers([0, 0, 0])),
             Step::Closes,
-            Step::At(OnDevice::Holds(33, &GATE)),
+            Step::At(OnDevice::Holds(3, &GATE)),
         ],
     },
     Script {
@@ -247,6 +290,113 @@ pub const SCRIPTS: [Script; 13] = [
             Step::Stops(Pick::AllNew),
             Step::Opens(None),
             Step::Store(OnStore::Registers([0, 0, 0])),
+        ],
+    },
+    // The calls of the device end with the format.
+    Script {
+        name: "240 rows wait, and no ring page is written",
+        steps: &[
+            Step::Device(PAGES),
+            Step::At(OnDevice::Fails(FORMATS)),
+            Step::Formats(None),
+            Step::Store(OnStore::Captures(240)),
+            Step::Store(OnStore::Pending(240)),
+            Step::Store(OnStore::Numbers(0, 240)),
+            Step::Closes,
+            Step::Stops(Pick::AllNew),
+            Step::At(OnDevice::Holds(22, &[])),
+            Step::At(OnDevice::Holds(61, &[])),
+        ],
+    },
+    // A gate and a sync, eight ring pages and a sync, a body and a sync, a gate and a sync.
+    Script {
+        name: "a checkpoint before the 241st row",
+        steps: &[
+            Step::Device(PAGES),
+            Step::At(OnDevice::Fails(FORMATS + 15)),
+            Step::Formats(None),
+            Step::Store(OnStore::Captures(241)),
+            Step::Store(OnStore::Pending(1)),
+            Step::Store(OnStore::Numbers(0, 241)),
+            Step::Closes,
+            Step::Stops(Pick::AllOld),
+            Step::At(OnDevice::Holds(3, &GATE)),
+            Step::At(OnDevice::Begins(4, &BODY)),
+            Step::At(OnDevice::Ends(4, NUMBERS, &FROM_0_TO_240)),
+            Step::At(OnDevice::Holds(5, &[])),
+            Step::At(OnDevice::Holds(22, &RING_0)),
+            Step::At(OnDevice::Holds(29, &RING_7)),
+            Step::At(OnDevice::Holds(30, &[])),
+            Step::Opens(None),
+            Step::Store(OnStore::Numbers(0, 240)),
+        ],
+    },
+    Script {
+        name: "an emptied profile keeps its numbers",
+        steps: &[
+            Step::Device(PAGES),
+            Step::Formats(None),
+            Step::Store(OnStore::Captures(241)),
+            Step::Store(OnStore::Empties),
+            Step::Store(OnStore::Checkpoints(Ok(()))),
+            Step::Store(OnStore::Numbers(241, 241)),
+            Step::Closes,
+            Step::At(OnDevice::Holds(0, &THIRD_GATE)),
+            Step::At(OnDevice::Begins(1, &THIRD_BODY)),
+            Step::At(OnDevice::Ends(1, NUMBERS, &FROM_241)),
+            Step::Opens(None),
+            Step::Store(OnStore::Numbers(241, 241)),
+        ],
+    },
+    Script {
+        name: "the first ring page that does not fit is named",
+        steps: &[
+            Step::Device(PAGES),
+            Step::Formats(None),
+            Step::Store(OnStore::Captures(241)),
+            Step::Closes,
+            Step::At(OnDevice::Clears(27)),
+            Step::At(OnDevice::Clears(24)),
+            Step::Opens(Some(OpenFault::Corrupt(24))),
+            Step::At(OnDevice::Puts(24, &RING_7)),
+            Step::Opens(Some(OpenFault::Corrupt(24))),
+        ],
+    },
+    Script {
+        name: "a ring page that no row needs is not looked at",
+        steps: &[
+            Step::Device(PAGES),
+            Step::Formats(None),
+            Step::Store(OnStore::Captures(241)),
+            Step::Store(OnStore::Empties),
+            Step::Store(OnStore::Checkpoints(Ok(()))),
+            Step::Closes,
+            Step::At(OnDevice::Clears(27)),
+            Step::Opens(None),
+            Step::Store(OnStore::Numbers(241, 241)),
+        ],
+    },
+    Script {
+        name: "a journal page that does not fit into the ring ends the journal",
+        steps: &[
+            Step::Device(PAGES),
+            Step::Formats(None),
+            Step::Store(OnStore::Captures(200)),
+            Step::Store(OnStore::Commits(Ok(()))),
+            Step::Closes,
+            Step::At(OnDevice::Puts(7, &ROWS_41)),
+            Step::Opens(None),
+            Step::Store(OnStore::Numbers(0, 200)),
+            Step::Closes,
+            Step::At(OnDevice::Holds(3, &GATE)),
+        ],
+    },
+    Script {
+        name: "pages of version 0 are not known",
+        steps: &[
+            Step::Device(PAGES),
+            Step::At(OnDevice::Puts(0, &OLD_GATE)),
+            Step::Opens(Some(OpenFault::NoCheckpoint)),
         ],
     },
 ];

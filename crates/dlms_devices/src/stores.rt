@@ -21,6 +21,21 @@ fn taken(store: &mut MemoryStore, count: u32) -> u32 {
     count
 }
 
+/// Captures so many rows, up to the first that is not taken. How many were taken.
+fn captured(store: &mut MemoryStore, count: u32) -> u32 {
+    for place in 0..count {
+        if store.add(Event::Capture).is_err() {
+            return place;
+        }
+    }
+    count
+}
+
+/// The number of the oldest row, and the one that the next row gets.
+fn numbers(store: &MemoryStore) -> (u128, u128) {
+    (store.state().first_number(), store.state().next_number())
+}
+
 /// Where a script stands: its name, and the number of the step.
 type Place = (&'static str, u32);
 
@@ -36,12 +51,15 @@ fn play_on_store(
         OnStore::Adds(channel, pulses, answer) => {
             report.compare(place, store.add(Event::Pulses(channel, pulses)), answer)
         }
+        OnStore::Captures(count) => report.compare(place, captured(store, count), count),
+        OnStore::Empties => report.compare(place, store.add(Event::ResetProfile), Ok(())),
         OnStore::Commits(answer) => report.compare(place, store.commit(), answer),
         OnStore::Checkpoints(answer) => report.compare(place, store.checkpoint(), answer),
         OnStore::Pending(bytes) => report.compare(place, store.pending(), bytes),
         OnStore::Registers(registers) => {
             report.compare(place, store.state().registers(), registers)
         }
+        OnStore::Numbers(first, next) => report.compare(place, numbers(store), (first, next)),
     }
 }
 
@@ -64,19 +82,26 @@ fn begins(device: &mut MemoryPages, index: u16, front: &[u8]) -> bool {
     }
 }
 
-/// Whether a page has these bytes in front, and zeros behind them.
-fn holds(device: &mut MemoryPages, index: u16, front: &[u8]) -> bool {
-    match content_of(device, index) {
-        Some(bytes) => {
-            bytes.starts_with(front) && bytes.iter().skip(front.len()).all(|byte| *byte == 0)
+/// Whether a page has these bytes from this place on, and zeros behind them.
+fn ends(device: &mut MemoryPages, index: u16, place: usize, part: &[u8]) -> bool {
+    let Some(bytes) = content_of(device, index) else {
+        return false;
+    };
+    match bytes.get(place..) {
+        Some(rest) => {
+            rest.starts_with(part) && rest.iter().skip(part.len()).all(|byte| *byte == 0)
         }
         None => false,
     }
 }
 
-/// Fills a page with zeros, and says whether that passed.
-fn clears(device: &mut MemoryPages, index: u16) -> bool {
-    index < device.count() && device.write(index, &[0; 512]).is_ok()
+/// Writes a page with these bytes in front and zeros behind them, and says whether that passed.
+fn puts(device: &mut MemoryPages, index: u16, front: &[u8]) -> bool {
+    let mut content = [0; 512];
+    for (byte, value) in content.iter_mut().zip(front.iter()) {
+        *byte = *value;
+    }
+    index < device.count() && device.write(index, &content).is_ok()
 }
 
 /// Takes a step on a device.
@@ -91,11 +116,15 @@ fn play_on_device(
             device.fuse(calls);
             Ok(())
         }
-        OnDevice::Clears(index) => report.compare(place, clears(device, index), true),
+        OnDevice::Clears(index) => report.compare(place, puts(device, index, &[]), true),
+        OnDevice::Puts(index, front) => report.compare(place, puts(device, index, front), true),
         OnDevice::Begins(index, front) => {
             report.compare(place, begins(device, index, front), true)
         }
-        OnDevice::Holds(index, front) => report.compare(place, holds(device, index, front), true),
+        OnDevice::Ends(index, from, part) => {
+            report.compare(place, ends(device, index, from, part), true)
+        }
+        OnDevice::Holds(index, front) => report.compare(place, ends(device, index, 0, front), true),
     }
 }
 

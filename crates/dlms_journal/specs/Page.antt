@@ -4,7 +4,7 @@ use Rattle.std.specs.Prelude.{◌≡◌, ◌-◌, ◌==◌, ℕ, List, ◌∷◌
 use Rattle.byteorder.specs.Endian.{big_from}
 use Rattle.dlms_journal.specs.declared.kind.PageKind.{PageKind}
 use Rattle.dlms_journal.specs.declared.kind.PageKind.TheVariants.{Empty, OpenGate, ClosedGate, Body, Journal, Ring}
-use Rattle.dlms_journal.specs.declared.page.TheConstants.{MOST_PAYLOAD}
+use Rattle.dlms_journal.specs.declared.page.TheConstants.{MOST_PAYLOAD, VERSION}
 
 abbrev pub number_of : PageKind → ℕ
 number_of Empty = 0
@@ -50,5 +50,5 @@ payload_at page = if nat_le (head_of page).payload MOST_PAYLOAD then Some (take 
 -- A page as it is written: what its head says, zeros in the two bytes that mean nothing, the payload, and zeros behind it.
 pub record IsPage (page : List ℕ) (kind : PageKind) (index generation : ℕ) (payload : List ℕ) : Type 0 where
   pub bytes : length page ≡ 512
-  pub head : head_of page ≡ record { kind = number_of kind; version = 0; index = index; generation = generation; payload = length payload }
+  pub head : head_of page ≡ record { kind = number_of kind; version = VERSION; index = index; generation = generation; payload = length payload }
   pub behind : drop 14 page ≡ 0 ∷ 0 ∷ (payload ++ replicate (MOST_PAYLOAD - length payload) 0)

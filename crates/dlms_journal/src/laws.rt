@@ -5,7 +5,7 @@ ghost use Rattle.dlms_state.specs.Types.{FitsType};
 ghost use Rattle.dlms_journal.specs.declared.kind.PageKind.{PageKind};
 ghost use Rattle.dlms_journal.specs.Page.{IsPage, head_of, kind_named, payload_at};
 ghost use Rattle.dlms_journal.specs.Record.{Holds, record_of};
-ghost use Rattle.dlms_journal.specs.declared.page.TheConstants.{MOST_PAYLOAD};
+ghost use Rattle.dlms_journal.specs.declared.page.TheConstants.{MOST_PAYLOAD, VERSION};
 
 /// No record is the beginning of another: an event and what stands behind its record are told by the bytes.
 pub fn no_record_begins_another()
@@ -30,5 +30,6 @@ pub fn pages_are_read()
 
 /// The numbers that clauses and definitions cite by name.
 pub fn the_numbers()
-    ensures { MOST_PAYLOAD ≡ 496 }
+    ensures payload { MOST_PAYLOAD ≡ 496 }
+    ensures version { VERSION ≡ 1 }
 {}

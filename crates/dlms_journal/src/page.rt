@@ -2,7 +2,7 @@
 ghost use Rattle.std.specs.Prelude.{◌≡◌, ◌≤◌, ◌+◌, ◌-◌, ◌++◌, ◌∷◌, [], List, ℕ, length, drop, take, replicate, IfSome, option_map, slice_index};
 ghost use Rattle.byteorder.specs.Endian.{big_bytes, big_number};
 ghost use Rattle.dlms_journal.specs.Page.{IsPage, head_of, kind_named, number_of, payload_at};
-ghost use Rattle.dlms_journal.specs.declared.page.TheConstants.{MOST_PAYLOAD};
+ghost use Rattle.dlms_journal.specs.declared.page.TheConstants.{MOST_PAYLOAD, VERSION};
 
 use crate::kind::PageKind;
 use byteorder::{BigEndian, ByteOrder};
@@ -16,12 +16,12 @@ const HEAD_BYTES: usize = 16;
 /// The most bytes of payload.
 pub const MOST_PAYLOAD: usize = 496;
 
-/// The version of the layout that is written.
-pub const VERSION: u8 = 0;
+/// The version of the layout that is written and read.
+pub const VERSION: u8 = 1;
 
 /// The head of a page.
 fn head_bytes(kind: PageKind, index: u16, generation: u64, payload: u16) -> [u8; HEAD_BYTES]
-    ensures { result ≡ number_of kind ∷ 0 ∷ (big_bytes 2 index ++ (big_bytes 8 generation ++ (big_bytes 2 payload ++ 0 ∷ 0 ∷ []))) }
+    ensures { result ≡ number_of kind ∷ VERSION ∷ (big_bytes 2 index ++ (big_bytes 8 generation ++ (big_bytes 2 payload ++ 0 ∷ 0 ∷ []))) }
 {
     let [i0, i1] = index.to_be_bytes();
     let [g0, g1, g2, g3, g4, g5, g6, g7] = generation.to_be_bytes();

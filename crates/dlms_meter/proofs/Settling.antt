@@ -2,10 +2,8 @@
 use Rattle.std.proofs.Common.{arith, ◌≡◌, ◌≤◌, ◌∙◌, ◌⊎◌, sym, ap, subst, inl, inr, ℕ, length, None, Bool, true, false, List, [], ◌∷◌, refl, if◌then◌else◌, is_ok, Result, Ok, Err}
 use Rattle.dlms_pages.specs.declared.device.Pages.{Ghosts}
 use Rattle.dlms_pages.specs.Device.{Rose}
-use Rattle.dlms_state.specs.Types.{FitsType}
 use Rattle.dlms_state.specs.declared.event.Event.{Event}
-use Rattle.dlms_state.specs.declared.event.Event.TheVariants.{Pulses, Moment, SetTime, Shift, AdjustMinute, SetPeriod, SetText, SetSecret, ResetRegister, ResetProfile, Capture}
-use Rattle.dlms_store.specs.Store.{AddIsExhausted, CommitIsExhausted, IsStopped, JoinsPending, records_in, refusal_in, view_of}
+use Rattle.dlms_store.specs.Store.{AddIsExhausted, CommitIsExhausted, IsStopped, refusal_in, view_of}
 use Rattle.dlms_store.specs.World.{StoreWorld, StoreStep}
 use Rattle.dlms_store.specs.World.StoreStep.{Settles, Fails as Fault, Refuses}
 use Rattle.dlms_store.specs.Going.{Knows, Goes, AddGoes}
@@ -21,34 +19,13 @@ use Rattle.dlms_meter.specs.Settled.{Settled}
 
 -- ---- why the device may fail an answer
 
--- each event's record fits where nothing is pending
-joins_empty : {P A : Type 0} {ghosts : Ghosts P} (store : Store P A ghosts) (event : Event) → FitsType event → length (records_in store) ≡ 0 → JoinsPending store event
-joins_empty store (Pulses channel count) fits empty = omega (arith, empty)
-joins_empty store (Moment second) fits empty = omega (arith, empty)
-joins_empty store (SetTime second) fits empty = omega (arith, empty)
-joins_empty store (Shift by) fits empty = omega (arith, empty)
-joins_empty store AdjustMinute fits empty = omega (arith, empty)
-joins_empty store (SetPeriod seconds) fits empty = omega (arith, empty)
-joins_empty store (SetText text) fits empty = omega (arith, empty, fits)
-joins_empty store (SetSecret secret) fits empty = omega (arith, empty, fits)
-joins_empty store (ResetRegister channel) fits empty = omega (arith, empty)
-joins_empty store ResetProfile fits empty = omega (arith, empty)
-joins_empty store Capture fits empty = omega (arith, empty)
-
--- an event whose record does not fit finds others pending
-others_pending : {P A : Type 0} {ghosts : Ghosts P} (store : Store P A ghosts) (event : Event) → FitsType event → AddIsExhausted store event → CommitIsExhausted store
-others_pending store event fits (no_room, exhausted) = (
-  λ none. no_room (joins_empty store event fits (ap (λ (xs : List ℕ). length xs) none)),
-  exhausted,
-)
-
-pub add_may_fail : {P A : Type 0} {ghosts : Ghosts P} (fault : AddFault) (event : Event) (old new : Store P A ghosts) → FitsType event → refusal_in old event ≡ None → Added (Err fault) event old new → MayFail old new
-add_may_fail add.Device event old new fits passes is = inl (is.device refl).cause
-add_may_fail add.Stopped event old new fits passes is = inr (inl (is.stopped.0 refl))
-add_may_fail add.Exhausted event old new fits passes is =
+pub add_may_fail : {P A : Type 0} {ghosts : Ghosts P} (fault : AddFault) (event : Event) (old new : Store P A ghosts) → refusal_in old event ≡ None → Added (Err fault) event old new → MayFail old new
+add_may_fail add.Device event old new passes is = inl (is.device refl).cause
+add_may_fail add.Stopped event old new passes is = inr (inl (is.stopped.0 refl))
+add_may_fail add.Exhausted event old new passes is =
     let why = is.exhausted.0 refl in
-    inr (inr (subst (λ x. CommitIsExhausted x) (sym (is.unchanged (λ e. absurd (cc e)))) (others_pending old event fits why.2)))
-add_may_fail (add.Refused cause) event old new fits passes is = absurd (cc (sym passes ∙ ((is.refused cause).0 refl).1))
+    inr (inr (inr (event, subst (λ x. AddIsExhausted x event) (sym (is.unchanged (λ e. absurd (cc e)))) why.2)))
+add_may_fail (add.Refused cause) event old new passes is = absurd (cc (sym passes ∙ ((is.refused cause).0 refl).1))
 
 rose_later : (a b c : ℕ) → a ≤ b → Rose b c → Rose a c
 rose_later a b c le rose = omega (arith, le, rose)
@@ -60,7 +37,7 @@ commit_may_fail commit.Device old mid new before stopped is = inl (rose_later _ 
 commit_may_fail commit.Stopped old mid new before stopped is = inr (inl (stopped (is.stopped.0 refl)))
 commit_may_fail commit.Exhausted old mid new before stopped is =
     let why = is.exhausted.0 refl in
-    inr (inr (subst (λ x. CommitIsExhausted x) (sym (is.unchanged (λ e. absurd (cc e)))) why.1))
+    inr (inr (inl (subst (λ x. CommitIsExhausted x) (sym (is.unchanged (λ e. absurd (cc e)))) why.1)))
 
 -- ---- the step of a fault
 

@@ -275,10 +275,14 @@ pub record Stands {P A : Type 0} {ghosts : Ghosts P} (m : Meter P A ghosts) (w :
   pub own : (who : Client) → w.records who ≡ record_for m who
   pub store : Knows m.store w.store
 
--- Why the device may fail an answer: its faults rose in these calls, or the store was stopped before them, or something is still
--- pending that only a checkpoint could settle, and none can be made any more.
+-- no number of 64 bits is left for the event's row, or no checkpoint that it asks for can be made any more
+abbrev pub TakesNoMore : {P A : Type 0} → {ghosts : Ghosts P} → Store P A ghosts → Type 0
+TakesNoMore store = (event : Event) × AddIsExhausted store event
+
+-- Why the device may fail an answer: its faults rose in these calls, or the store was stopped before them, or it is exhausted:
+-- something is still pending that only a checkpoint could settle, and none can be made any more, or it takes an event no more.
 abbrev pub MayFail : {P A : Type 0} → {ghosts : Ghosts P} → Store P A ghosts → Store P A ghosts → Type 0
-MayFail old new = Rose (view_of old).faults (view_of new).faults ⊎ IsStopped old ⊎ CommitIsExhausted new
+MayFail old new = Rose (view_of old).faults (view_of new).faults ⊎ IsStopped old ⊎ CommitIsExhausted new ⊎ TakesNoMore new
 
 -- Want of memory may always be told; a failure of the device only for its cause.
 abbrev pub MayChoose : {P A : Type 0} → {ghosts : Ghosts P} → Store P A ghosts → Store P A ghosts → Choice → Type 0

@@ -26,8 +26,8 @@ use stops::{Fault, Left, after_stop, found_behind, found_on, stopped_everywhere}
 /// A meter over pages in memory.
 type MemoryMeter<A = Global> = Meter<MemoryPages, A>;
 
-/// The calls of a format: the 82 pages and a sync; a body and a sync; a gate and a sync.
-const FORMATS: u64 = 87;
+/// The calls of a format: the 62 pages and a sync; a body and a sync; a gate and a sync.
+const FORMATS: u64 = 67;
 
 /// A new meter.
 fn formatted(alloc: Global, device: MemoryPages) -> Option<MemoryMeter> {

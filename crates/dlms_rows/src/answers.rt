@@ -8,6 +8,11 @@ pub fn put_number(answer: &mut String, number: u64) -> Result<(), RowFault> {
     Ok(write!(answer, "{number}")?)
 }
 
+/// A number of more than eight bytes.
+pub fn put_wide(answer: &mut String, number: u128) -> Result<(), RowFault> {
+    Ok(write!(answer, "{number}")?)
+}
+
 /// A number with its sign.
 pub fn put_signed(answer: &mut String, number: i64) -> Result<(), RowFault> {
     Ok(write!(answer, "{number}")?)

@@ -5,7 +5,7 @@ use crate::bench::{Bench, Room};
 use crate::fault::RowFault;
 use crate::hexadecimal::put_hex;
 use crate::state::StateBench;
-use crate::words::{Words, client_of};
+use crate::words::{NUMBERS_END, Words, client_of};
 use dlms_classes::{AccessResult, get, plan_action, plan_set};
 use dlms_data::{Data, Descriptor, Selector, fits, read, write};
 use dlms_frame::Client;
@@ -116,10 +116,11 @@ fn put_taken<'h>(
     answer: &mut String,
 ) -> Result<(), RowFault> {
     match state.check(&event) {
-        Ok(()) => {
+        Ok(()) if state.next_number() < NUMBERS_END => {
             state.apply(event);
             Ok(answer.push_str("result 0")?)
         }
+        Ok(()) => Err(RowFault::Form),
         Err(_) => put_result(answer, AccessResult::OtherReason),
     }
 }

@@ -1,11 +1,11 @@
 //! Rows of `dlms_profile`.
 
-use crate::answers::{put_number, put_number_and, put_shown};
+use crate::answers::{put_number, put_number_and, put_shown, put_wide};
 use crate::bench::Bench;
 use crate::fault::RowFault;
 use crate::rows::{put_entries, put_range, put_row};
 use crate::state::row_of;
-use crate::words::Words;
+use crate::words::{NUMBERS_END, Words};
 use dlms_profile::{Row, Rows};
 use linked_list_allocator::LocalHeap;
 
@@ -16,15 +16,26 @@ pub struct ProfileBench<'h> {
     rows: Option<Rows<&'h LocalHeap>>,
 }
 
+/// Appends a row, where a number is left for it.
+fn push(rows: &mut Rows<&LocalHeap>, row: Row) -> Result<(), RowFault> {
+    if rows.next_number() >= NUMBERS_END {
+        return Err(RowFault::Form);
+    }
+    rows.push(row);
+    Ok(())
+}
+
 /// Rows with the clocks 900, 1800 .., the clock in the first register, 1 and 2 in the others.
-fn push_periods(rows: &mut Rows<&LocalHeap>, count: u32) {
+fn push_periods(rows: &mut Rows<&LocalHeap>, count: u32) -> Result<(), RowFault> {
     for period in 1..=count {
         let clock = period.saturating_mul(900);
-        rows.push(Row {
+        let row = Row {
             clock,
             registers: [clock, 1, 2],
-        });
+        };
+        push(rows, row)?;
     }
+    Ok(())
 }
 
 /// The clocks in place, oldest first.
@@ -46,9 +57,13 @@ impl<'h> ProfileBench<'h> {
         ProfileBench { heap, rows: None }
     }
 
-    fn begin(&mut self, answer: &mut String) -> Result<(), RowFault> {
+    /// An empty buffer, whose first row gets this number.
+    fn begin(&mut self, next: u128, answer: &mut String) -> Result<(), RowFault> {
         self.rows = None;
-        match Rows::new(self.heap) {
+        if next > NUMBERS_END {
+            return Err(RowFault::Form);
+        }
+        match Rows::new(self.heap, next) {
             Ok(rows) => {
                 self.rows = Some(rows);
                 Ok(())
@@ -70,12 +85,14 @@ impl<'h> ProfileBench<'h> {
         match call {
             "push" => {
                 let row = row_of(words)?;
-                self.rows_mut()?.push(row);
+                push(self.rows_mut()?, row)
             }
             "periods" => push_periods(self.rows_mut()?, words.number()?),
-            _ => self.rows_mut()?.clear(),
+            _ => {
+                self.rows_mut()?.clear();
+                Ok(())
+            }
         }
-        Ok(())
     }
 }
 
@@ -88,6 +105,8 @@ fn put_view(
 ) -> Result<(), RowFault> {
     match call {
         "len" => put_number(answer, rows.len() as u64),
+        "first" => put_wide(answer, rows.first_number()),
+        "next" => put_wide(answer, rows.next_number()),
         "is-empty" => put_shown(answer, &rows.is_empty()),
         "slices" => put_slices(rows, answer),
         "clocks" => put_clocks(rows, answer),
@@ -102,7 +121,8 @@ impl Bench for ProfileBench<'_> {
     fn step(&mut self, words: &mut Words<'_>, answer: &mut String) -> Result<(), RowFault> {
         let call = words.word()?;
         match call {
-            "rows" => self.begin(answer),
+            "rows" => self.begin(0, answer),
+            "rows-from" => self.begin(words.row_number()?, answer),
             "push" | "periods" | "clear" => self.change(call, words),
             _ => put_view(self.rows()?, call, words, answer),
         }

@@ -1,12 +1,12 @@
 //! Rows of `dlms_state`; other crates prepare their states by them.
 
-use crate::answers::{put_number, put_number_and, put_signed, put_text};
+use crate::answers::{put_number, put_number_and, put_signed, put_text, put_wide};
 use crate::bench::Bench;
 use crate::events::{event_of, in_place, put_refused};
 use crate::fault::RowFault;
 use crate::hexadecimal::put_hex;
 use crate::rows::{put_entries, put_range, put_row};
-use crate::words::Words;
+use crate::words::{NUMBERS_END, Words};
 use dlms_profile::{CAPACITY, Row};
 use dlms_state::{Event, LAST_SECOND, Outlook, Parts, PartsFault, State};
 use linked_list_allocator::LocalHeap;
@@ -39,25 +39,28 @@ fn parts_of(words: &mut Words<'_>) -> Result<Parts, RowFault> {
     })
 }
 
-/// Has a state take an event.
+/// Has a state take an event, where a number is left for a row.
 fn take(state: &mut State<&LocalHeap>, event: Event, answer: &mut String) -> Result<(), RowFault> {
     match state.check(&event) {
-        Ok(()) => {
+        Ok(()) if state.next_number() < NUMBERS_END => {
             state.apply(event);
             Ok(())
         }
+        Ok(()) => Err(RowFault::Form),
         Err(refused) => put_refused(answer, refused),
     }
 }
 
-/// Restores a row, where there is room.
+/// Restores a row, where there is room and a number is left for it.
 fn restore_row(state: &mut State<&LocalHeap>, row: Row) -> Result<(), RowFault> {
-    if state.rows().len() < CAPACITY && row.clock <= LAST_SECOND {
-        state.restore_row(row);
-        Ok(())
-    } else {
-        Err(RowFault::Form)
+    if state.rows().len() >= CAPACITY || state.next_number() >= NUMBERS_END {
+        return Err(RowFault::Form);
     }
+    if row.clock > LAST_SECOND {
+        return Err(RowFault::Form);
+    }
+    state.restore_row(row);
+    Ok(())
 }
 
 /// The three registers of a state.
@@ -69,7 +72,7 @@ fn put_registers(state: &State<&LocalHeap>, answer: &mut String) -> Result<(), R
 }
 
 /// The calls that show a state.
-const VIEWS: [&str; 11] = [
+const VIEWS: [&str; 13] = [
     "range",
     "entries",
     "row",
@@ -81,6 +84,8 @@ const VIEWS: [&str; 11] = [
     "offset",
     "period",
     "count",
+    "first",
+    "next",
 ];
 
 /// The numbers of a state.
@@ -95,6 +100,8 @@ fn put_view_number(
         "offset" => put_signed(answer, state.offset()),
         "period" => put_number(answer, u64::from(state.period())),
         "count" => put_number(answer, state.rows().len() as u64),
+        "first" => put_wide(answer, state.first_number()),
+        "next" => put_wide(answer, state.next_number()),
         _ => Err(RowFault::Form),
     }
 }
@@ -153,10 +160,18 @@ impl<'h> StateBench<'h> {
         }
     }
 
-    /// A state of its parts.
-    fn restore(&mut self, words: &mut Words<'_>, answer: &mut String) -> Result<(), RowFault> {
+    /// A state of its parts, whose first row gets this number.
+    fn restore(
+        &mut self,
+        first: u128,
+        words: &mut Words<'_>,
+        answer: &mut String,
+    ) -> Result<(), RowFault> {
         self.state = None;
-        match State::restore(self.heap, parts_of(words)?) {
+        if first > NUMBERS_END {
+            return Err(RowFault::Form);
+        }
+        match State::restore(self.heap, parts_of(words)?, first) {
             Ok(state) => {
                 self.state = Some(state);
                 Ok(())
@@ -245,7 +260,11 @@ impl<'h> StateBench<'h> {
     ) -> Result<(), RowFault> {
         match call {
             "state" => self.begin(answer),
-            "restore" => self.restore(words, answer),
+            "restore" => self.restore(0, words, answer),
+            "restore-from" => {
+                let first = words.row_number()?;
+                self.restore(first, words, answer)
+            }
             "restore-row" => {
                 let row = row_of(words)?;
                 restore_row(self.state_mut()?, row)

@@ -6,6 +6,9 @@ use dlms_frame::Client;
 use std::alloc::Global;
 use std::str::SplitWhitespace;
 
+/// One above the greatest number that a row can have.
+pub const NUMBERS_END: u128 = 18_446_744_073_709_551_616;
+
 /// What a line says of its call, word by word.
 #[derive(Drop)]
 pub struct Words<'t> {
@@ -56,6 +59,14 @@ impl<'t> Words<'t> {
     /// The next word, which is a number of eight bytes.
     pub fn long(&mut self) -> Result<u64, RowFault> {
         self.word()?.parse::<u64>().map_err(|_| RowFault::Form)
+    }
+
+    /// The next word, which is the number of a row, or one above the last.
+    pub fn row_number(&mut self) -> Result<u128, RowFault> {
+        match self.word()?.parse::<u128>() {
+            Ok(number) if number <= NUMBERS_END => Ok(number),
+            _ => Err(RowFault::Form),
+        }
     }
 
     /// The next word, which is a number with a sign.

@@ -1,8 +1,8 @@
 -- The captures of a list: the buffer is the end of their rows, and a longer list has them too.
-use Rattle.std.proofs.Common.{◌≡◌, ℕ, ◌-◌, Bool, cond, not, List, [], ◌∷◌, ◌++◌, map, length, take, drop, reverse, Some, refl, sym, ◌∙◌, ap, append_assoc}
+use Rattle.std.proofs.Common.{◌≡◌, ℕ, ◌+◌, ◌-◌, ◌≤◌, Bool, true, false, cond, not, List, [], ◌∷◌, ◌++◌, map, length, take, drop, reverse, Some, refl, sym, ◌∙◌, ap, arith, append_assoc}
 use Rattle.std.specs.Prelude.{filter}
 use Rattle.std.specs.List.{after_last, prefix_len}
-use Rattle.std.proofs.lemmas.List.{append-nil, map-append, take-append-drop}
+use Rattle.std.proofs.lemmas.List.{append-nil, map-append, take-append-drop, length-append, length-map}
 use Rattle.std.proofs.Math.Seq.{append_snoc}
 use Rattle.std.proofs.lemmas.List.Elements.{filter-append}
 use Rattle.dlms_profile.specs.declared.rows.Row.{Row}
@@ -40,3 +40,25 @@ captures_go_on E (e ∷ F) =
     let first : captures (E ++ e ∷ []) ≡ captures E ++ one = captures-more E e in
     let whole : captures (E ++ e ∷ F) ≡ captures (E ++ e ∷ []) ++ rest.0 = rw append_snoc at rest.1 in
     (one ++ rest.0, whole ∙ ap (λ cs. cs ++ rest.0) first ∙ append_assoc (captures E) one rest.0)
+
+-- how many rows one event captures
+pub count_captures-more : (E : List Event) (e : Event) → length (captures (E ++ e ∷ [])) ≡ length (captures E) + cond (captures_by (E ++ e ∷ []) (Some e)) 1 0
+unfolding captures ends_in_capture
+count_captures-more E e =
+    rw (beginnings-more E e, filter-append ends_in_capture (beginnings E) ((E ++ e ∷ []) ∷ []), length-append, latest-more E e)
+    (elim (captures_by (E ++ e ∷ []) (Some e)) as (λ b. length (filter ends_in_capture (beginnings E)) + length (cond b ((E ++ e ∷ []) ∷ []) []) ≡ length (filter ends_in_capture (beginnings E)) + cond b 1 0)
+    [ true ↦ refl | false ↦ refl ])
+
+-- a longer list has no fewer captures
+pub captures-le : (E F : List Event) → length (captures E) ≤ length (captures (E ++ F))
+captures-le E [] = rw (append-nil E) (omega arith)
+captures-le E (e ∷ F) =
+    let one : length (captures E) ≤ length (captures (E ++ e ∷ [])) = rw (count_captures-more E e) (omega arith) in
+    let rest : length (captures (E ++ e ∷ [])) ≤ length (captures (E ++ e ∷ F)) = rw append_snoc at (captures-le (E ++ e ∷ []) F) in
+    omega arith
+
+-- no more rows are kept than were captured
+pub buffer-le : (E : List Event) → length (buffer_after E) ≤ length (captures E)
+buffer-le E =
+    let end = buffer_is_the_end E in
+    omega (arith, length-map (captures E) row_after, ap length end.1, length-append end.0 (buffer_after E))

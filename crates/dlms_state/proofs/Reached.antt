@@ -1,6 +1,6 @@
 -- Each state within limits is the state of some legal list: moments, then for each row its clock and registers and a capture,
 -- and at last the clock and the registers of the state.
-use Rattle.std.proofs.Common.{◌≡◌, ℕ, suc, ◌+◌, ◌-◌, ◌%◌, ◌^◌, ◌<◌, ◌≤◌, min, true, false, List, [], ◌∷◌, ◌++◌, length, None, refl, arith, lit≤, lit<}
+use Rattle.std.proofs.Common.{◌≡◌, ℕ, zero, suc, ◌+◌, ◌-◌, ◌%◌, ◌^◌, ◌<◌, ◌≤◌, min, true, false, List, [], ◌∷◌, ◌++◌, length, None, refl, arith, lit≤, lit<}
 use Rattle.std.specs.Prelude.{All, ℤ, pos, ◌-ℤ◌, ◌+ℤ◌, ◌≤ℤ◌, int_le, nat_le, nat_lt}
 use Rattle.std.proofs.lemmas.Int.{ints}
 use Rattle.std.proofs.lemmas.Bool.Decides.{nat_tests}
@@ -9,12 +9,12 @@ use Rattle.std.proofs.Math.Seq.{append_snoc}
 use Rattle.circular_buffer.specs.Buffer.{keep_last}
 use Rattle.arrayvec.specs.ArrayVec.{ArrayVec}
 use Rattle.dlms_profile.specs.declared.rows.Row.{Row}
-use Rattle.dlms_profile.specs.Rows.{IsRow, no_rows}
+use Rattle.dlms_profile.specs.Rows.{IsRow, none_before}
 use Rattle.dlms_state.specs.declared.event.Event.{Event}
-use Rattle.dlms_state.specs.declared.event.Event.TheVariants.{Pulses, Moment, SetTime, SetPeriod, SetText, SetSecret, ResetRegister, Capture}
+use Rattle.dlms_state.specs.declared.event.Event.TheVariants.{Pulses, Moment, SetTime, SetPeriod, SetText, SetSecret, ResetRegister, ResetProfile, Capture}
 use Rattle.dlms_state.specs.declared.event.Refused.TheVariants.{Range}
 use Rattle.dlms_state.specs.Types.{FitsType, AreBytes}
-use Rattle.dlms_state.specs.Events.{clock_at, first_secret, register_after, moment_after, offset_after, period_after, text_after, secret_after, kept_after, ends_in_clearing, ends_in_capture}
+use Rattle.dlms_state.specs.Events.{clock_at, first_secret, register_after, moment_after, offset_after, period_after, text_after, secret_after, kept_after, captures, ends_in_clearing, ends_in_capture}
 use Rattle.dlms_state.specs.Refusal.{refusal, unless, clock_is_in_range}
 use Rattle.dlms_state.specs.StateValue.{StateValue, state_of, HasEvents, IsWithinLimits, FitsTypes}
 use Rattle.dlms_state.specs.Step.{step}
@@ -28,15 +28,23 @@ use Rattle.dlms_profile.specs.declared.rows.TheConstants.{CAPACITY}
 HasEvents-step : (s : StateValue) (e : Event) → FitsType e → refusal s.last s.offset e ≡ None → HasEvents s → HasEvents (step e s)
 HasEvents-step s e fits fine had = record { events = had.events ++ e ∷ []; state = IsStateOf-step s (step e s) e e refl fits fine refl had.events had.state }
 
-abbrev first_state : StateValue
-first_state = record { registers = 0 ∷ 0 ∷ 0 ∷ []; last = 0; offset = pos 0; period = 900; text = []; secret = first_secret; rows = no_rows }
+abbrev first_state : ℕ → StateValue
+first_state next = record { registers = 0 ∷ 0 ∷ 0 ∷ []; last = 0; offset = pos 0; period = 900; text = []; secret = first_secret; rows = none_before next }
 
-first_is : first_state ≡ state_of []
-unfolding register_after moment_after offset_after period_after text_after secret_after kept_after ends_in_clearing ends_in_capture
+first_is : first_state 0 ≡ state_of []
+unfolding register_after moment_after offset_after period_after text_after secret_after kept_after captures ends_in_clearing ends_in_capture
 first_is = refl
 
-HasEvents-first : HasEvents first_state
+HasEvents-first : HasEvents (first_state 0)
 HasEvents-first = record { events = []; state = record { legal = IsLegal-none; value = first_is } }
+
+-- so many rows captured, and none kept
+HasEvents-numbered : (next : ℕ) → HasEvents (first_state next)
+HasEvents-numbered zero = HasEvents-first
+HasEvents-numbered (suc n) =
+    let one : n + 1 ≡ suc n = omega arith in
+    let taken = HasEvents-step (first_state n) Capture tt refl (HasEvents-numbered n) in
+    rw one at (HasEvents-step _ ResetProfile tt refl taken)
 
 -- ---- events that pass
 
@@ -71,36 +79,36 @@ abbrev stop_at : ℕ → ℕ
 stop_at last = min last LAST_SECOND
 
 -- a state with no row, its registers at 0, its clock where the moments leave it
-abbrev settled : ℕ → ℕ → List ℕ → List ℕ → StateValue
-settled last period text secret = record { registers = 0 ∷ 0 ∷ 0 ∷ []; last = last; offset = pos 0 -ℤ pos (stop_at last); period = period; text = text; secret = secret; rows = no_rows }
+abbrev settled : ℕ → ℕ → ℕ → List ℕ → List ℕ → StateValue
+settled next last period text secret = record { registers = 0 ∷ 0 ∷ 0 ∷ []; last = last; offset = pos 0 -ℤ pos (stop_at last); period = period; text = text; secret = secret; rows = none_before next }
 
 abbrev bytes_of : List ℕ → ArrayVec ℕ
 bytes_of bytes = record { items = bytes }
 
-HasEvents-moments : (last : ℕ) → last < 2 ^ 32 → HasEvents (settled last 0 [] first_secret)
-HasEvents-moments last small =
+HasEvents-moments : (next last : ℕ) → last < 2 ^ 32 → HasEvents (settled next last 0 [] first_secret)
+HasEvents-moments next last small =
     let stop : ℕ = stop_at last in
     let low : stop ≤ last = omega arith in
     let high : stop ≤ LAST_SECOND = omega arith in
     let near : last ≤ stop + LAST_SECOND = omega arith in
-    let quiet = HasEvents-step first_state (SetPeriod 0) (lit< tt) refl HasEvents-first in
+    let quiet = HasEvents-step (first_state next) (SetPeriod 0) (lit< tt) refl (HasEvents-numbered next) in
     let stopped = HasEvents-step _ (Moment stop) (omega arith) (moment_passes 0 stop (pos 0) (omega arith) (omega (arith, ints)) (omega (arith, ints))) quiet in
     let set = HasEvents-step _ (SetTime 0) (lit< tt) (time_passes stop (pos 0) 0 (lit≤ tt)) stopped in
     HasEvents-step _ (Moment last) small (moment_passes stop last (pos 0 -ℤ pos stop) low (omega (arith, ints)) (omega (arith, ints))) set
 
-HasEvents-settled : (last period : ℕ) (text secret : List ℕ) → last < 2 ^ 32 → period ≤ 86400 → AreBytes 240 text → AreBytes 16 secret → 0 < length secret → HasEvents (settled last period text secret)
-HasEvents-settled last period text secret small day text_fits secret_fits some =
-    let timed = HasEvents-step (settled last 0 [] first_secret) (SetPeriod period) (omega arith) (period_passes last (pos 0 -ℤ pos (stop_at last)) period day) (HasEvents-moments last small) in
-    let texted = HasEvents-step (settled last period [] first_secret) (SetText (bytes_of text)) text_fits refl timed in
-    HasEvents-step (settled last period text first_secret) (SetSecret (bytes_of secret)) secret_fits (secret_passes last (pos 0 -ℤ pos (stop_at last)) (bytes_of secret) some) texted
+HasEvents-settled : (next last period : ℕ) (text secret : List ℕ) → last < 2 ^ 32 → period ≤ 86400 → AreBytes 240 text → AreBytes 16 secret → 0 < length secret → HasEvents (settled next last period text secret)
+HasEvents-settled next last period text secret small day text_fits secret_fits some =
+    let timed = HasEvents-step (settled next last 0 [] first_secret) (SetPeriod period) (omega arith) (period_passes last (pos 0 -ℤ pos (stop_at last)) period day) (HasEvents-moments next last small) in
+    let texted = HasEvents-step (settled next last period [] first_secret) (SetText (bytes_of text)) text_fits refl timed in
+    HasEvents-step (settled next last period text first_secret) (SetSecret (bytes_of secret)) secret_fits (secret_passes last (pos 0 -ℤ pos (stop_at last)) (bytes_of secret) some) texted
 
 -- ---- the clock and the registers
 
 abbrev with_values : StateValue → ℕ → ℕ → ℕ → ℤ → StateValue
 with_values s x y z offset = record s { registers = x ∷ y ∷ z ∷ []; offset = offset }
 
-abbrev with_rows : StateValue → List Row → StateValue
-with_rows s rows = record s { rows = record s.rows { items = rows } }
+abbrev with_rows : StateValue → List Row → ℕ → StateValue
+with_rows s rows next = record s { rows = record { items = rows; next = next } }
 
 -- events leave the state, with some clock and some registers
 record HasSome (s : StateValue) : Type 0 where
@@ -135,7 +143,7 @@ all_kept rows short =
     rw none refl
 
 HasSome-row : (s : StateValue) (clock : ℕ) (registers : List ℕ) → clock ≤ LAST_SECOND → length registers ≡ 3 → All (λ value. value < 2 ^ 32) registers → length s.rows.items < CAPACITY →
-    HasSome s → HasSome (with_rows s (s.rows.items ++ (record { clock = clock; registers = registers }) ∷ []))
+    HasSome s → HasSome (with_rows s (s.rows.items ++ (record { clock = clock; registers = registers }) ∷ []) (s.rows.next + 1))
 HasSome-row s clock [] high count fit room some = cc
 HasSome-row s clock (x ∷ []) high count fit room some = cc
 HasSome-row s clock (x ∷ y ∷ []) high count fit room some = cc
@@ -148,14 +156,17 @@ HasSome-row s clock (x ∷ y ∷ z ∷ []) high count fit room some =
     let short : length (s.rows.items ++ row ∷ []) ≤ CAPACITY = simp length-append (omega arith) in
     record { a = x; b = y; c = z; offset = o; events = rw (all_kept (s.rows.items ++ row ∷ []) short) at (rw (shown clock s.last) at taken) }
 
-HasSome-rows : (rows : List Row) (s : StateValue) → All IsRow rows → All (λ row. row.clock ≤ LAST_SECOND) rows → length s.rows.items + length rows ≤ CAPACITY → HasSome s → HasSome (with_rows s (s.rows.items ++ rows))
-HasSome-rows [] s fit clocks room some = rw (append-nil s.rows.items) some
+HasSome-rows : (rows : List Row) (s : StateValue) → All IsRow rows → All (λ row. row.clock ≤ LAST_SECOND) rows → length s.rows.items + length rows ≤ CAPACITY → HasSome s → HasSome (with_rows s (s.rows.items ++ rows) (s.rows.next + length rows))
+HasSome-rows [] s fit clocks room some =
+    let none : s.rows.next + 0 ≡ s.rows.next = omega arith in
+    rw (append-nil s.rows.items, none) some
 HasSome-rows (row ∷ rows) s fit clocks room some =
     let is : IsRow row = fit 0 row (omega arith) in
     let first = HasSome-row s row.clock row.registers (clocks 0 row (omega arith)) is.count is.registers (omega arith) some in
-    let next : StateValue = with_rows s (s.rows.items ++ row ∷ []) in
+    let next : StateValue = with_rows s (s.rows.items ++ row ∷ []) (s.rows.next + 1) in
     let count : length next.rows.items + length rows ≤ CAPACITY = simp length-append (omega arith) in
-    rw append_snoc at (HasSome-rows rows next (λ k d low. fit (suc k) d (omega arith)) (λ k d low. clocks (suc k) d (omega arith)) count first)
+    let number : (s.rows.next + 1) + length rows ≡ s.rows.next + suc (length rows) = omega arith in
+    rw (append_snoc, number) at (HasSome-rows rows next (λ k d low. fit (suc k) d (omega arith)) (λ k d low. clocks (suc k) d (omega arith)) count first)
 
 -- ---- the whole state
 
@@ -176,8 +187,10 @@ with_registers (x ∷ y ∷ z ∷ []) s count fit low high some =
 
 pub HasEvents-within : (s : StateValue) → IsWithinLimits s → FitsTypes s → HasEvents s
 HasEvents-within s limits types =
-    let start = HasEvents-settled s.last s.period s.text s.secret types.last limits.period types.text types.secret limits.secret in
-    let settings : StateValue = record s { rows = no_rows } in
+    let first : ℕ = s.rows.next - length s.rows.items in
+    let number : first + length s.rows.items ≡ s.rows.next = let order : length s.rows.items ≤ s.rows.next = types.order in omega arith in
+    let start = HasEvents-settled first s.last s.period s.text s.secret types.last limits.period types.text types.secret limits.secret in
+    let settings : StateValue = record s { rows = none_before first } in
     let some : HasSome settings = record { a = 0; b = 0; c = 0; offset = pos 0 -ℤ pos (stop_at s.last); events = start } in
-    let filled = HasSome-rows s.rows.items settings types.rows limits.rows (let room : length s.rows.items ≤ CAPACITY = types.room in omega arith) some in
+    let filled = rw number at (HasSome-rows s.rows.items settings types.rows limits.rows (let room : length s.rows.items ≤ CAPACITY = types.room in omega arith) some) in
     with_registers s.registers s types.count types.registers limits.not_before limits.not_after (record { a = filled.a; b = filled.b; c = filled.c; offset = filled.offset; events = filled.events })

@@ -14,6 +14,7 @@ use Rattle.dlms_state.specs.Refusal.{IsLegal}
 use Rattle.dlms_state.specs.StateValue.{StateValue, state_of, FitsTypes, row_of}
 use Rattle.dlms_state.specs.Step.{step, captured}
 use Rattle.dlms_state.proofs.Legal.{IsLegal-beginning}
+use Rattle.dlms_state.proofs.Captures.{buffer-le}
 use Rattle.dlms_state.proofs.StateLaw.{state_of-more, register_after-lt}
 use Rattle.dlms_state.proofs.Limits.{by_more, IsWithinLimits-legal}
 use Rattle.dlms_state.specs.declared.event.TheConstants.{LAST_SECOND}
@@ -98,5 +99,6 @@ FitsTypes-legal E legal =
       text = rest.text;
       secret = rest.secret;
       room = rest.room;
+      order = buffer-le E;
       rows = λ k d low. row_fits _ (clocks k d low) (rest.rows k d low);
     }

@@ -1,5 +1,5 @@
 -- Calls of a store, one after another.
-use Rattle.std.proofs.Common.{◌≡◌, inl, inr, ◌≤◌, ◌↔◌, ℕ, ◌+◌, Bool, true, false, List, [], ◌∷◌, ◌++◌, length, refl, sym, ap, subst, arith, Some, None, Result, Ok, Err, suc}
+use Rattle.std.proofs.Common.{◌≡◌, ◌⊎◌, inl, inr, ◌≤◌, ◌↔◌, ℕ, ◌+◌, Bool, true, false, List, [], ◌∷◌, ◌++◌, length, refl, sym, ap, subst, arith, Some, None, Result, Ok, Err, suc}
 use Rattle.std.specs.Prelude.{OnOk, OnErr, ◌≢◌}
 use Rattle.std.proofs.lemmas.Bool.{cases_lt}
 use Rattle.dlms_pages.specs.Device.{Image, Rules, View}
@@ -131,10 +131,16 @@ pub record Added {P A : Type 0} {ghosts : Ghosts P} (result : Result (Unit {0}) 
   pub refused : (cause : Refused) → (result ≡ Err (add.Refused cause)) ↔ (IsRunning old × (refusal_in old event ≡ Some cause))
   pub exhausted : (result ≡ Err add.Exhausted) ↔ (IsRunning old × (refusal_in old event ≡ None) × AddIsExhausted old event)
 
+-- the event joins those that are pending, or it does not
+joins_or_not : {P A : Type 0} {ghosts : Ghosts P} (store : Store P A ghosts) (event : Event) → JoinsPending store event ⊎ (JoinsPending store event → ⊥)
+joins_or_not store event = elim (cases_lt 496 (length store.pending.items + length (record_of event))) [
+  | inl full ↦ inr (λ joins. absurd (omega (arith, joins.0, full)))
+  | inr room ↦ elim (cases_lt store.captured 240) [ inl few ↦ inl (room, few) | inr many ↦ inr (λ joins. absurd (omega (arith, joins.1, many))) ]
+]
+
 joined : {P A : Type 0} {ghosts : Ghosts P} (event : Event) (before : StoreWorld) (old new : Store P A ghosts) → Knows old before → IsRunning old → Added (Ok tt) event old new → AddGoes (Ok tt) event before old new
-joined event (Runs s p) old new knows runs is = elim (cases_lt 496 (length old.pending.items + length (record_of event))) [
-  | inl full ↦
-      let none : JoinsPending old event → ⊥ = λ room. absurd (omega (arith, room, full)) in
+joined event (Runs s p) old new knows runs is = elim (joins_or_not old event) [
+  | inr none ↦
       let more = is.joins_alone none s p knows.1 in (
         AddsBehind event,
         Runs (s ++ p) (event ∷ []),
@@ -143,7 +149,7 @@ joined event (Runs s p) old new knows runs is = elim (cases_lt 496 (length old.p
             (refl, omega (arith, is.page, ap (λ (l : List ℕ). length l) more.records.text)) (not_true new.stopped is.runs, more)
             (λ fits. (let m = (is.run (Runs s p) fits).1 none in (m, m.next.0))),
       )
-  | inr room ↦
+  | inl room ↦
       let more = is.joins room s p knows.1 in (
         Adds event,
         Runs s (p ++ event ∷ []),

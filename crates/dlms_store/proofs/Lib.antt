@@ -2,14 +2,15 @@ pub mod Adding
 pub mod Causes
 pub mod Checkpoint
 pub mod Commit
+pub mod Counting
 pub mod Forms
+pub mod Fresh
 pub mod Going
 pub mod Images
 pub mod Journal
 pub mod Keeping
 pub mod Looking
 pub mod Opening
-pub mod Places
 pub mod Reopening
 pub mod Replays
 pub mod Ring

@@ -1,8 +1,9 @@
--- Where everything stands on a device: two slots, each of a gate and 32 bodies, and 16 journal pages. No public clause says so.
-use Rattle.std.specs.Prelude.{ℕ, ◌+◌}
+-- Where everything stands on a device: two slots, each of a gate and its bodies, then the journal pages and the ring pages. No
+-- public clause says so.
+use Rattle.std.specs.Prelude.{ℕ, ◌+◌, ◌%◌}
 use Rattle.dlms_store.specs.declared.layout.Slot.{Slot}
 use Rattle.dlms_store.specs.declared.layout.Slot.TheVariants.{First, Second}
-use Rattle.dlms_store.specs.declared.layout.TheConstants.{BODIES}
+use Rattle.dlms_store.specs.declared.layout.TheConstants.{BODIES, RING, RING_PAGES}
 
 abbrev pub index_of : Slot → ℕ
 index_of First = 0
@@ -16,3 +17,7 @@ gate_of Second = 1 + BODIES
 abbrev pub other_of : Slot → Slot
 other_of First = Second
 other_of Second = First
+
+-- the page where the k-th ring page stands
+abbrev pub ring_place : ℕ → ℕ
+ring_place k = RING + k % RING_PAGES

@@ -8,7 +8,6 @@ pub mod Image
 pub mod Layout
 pub mod Page
 pub mod Ring
-pub mod RingCause
 pub mod Steady
 pub mod Store
 pub mod Versions

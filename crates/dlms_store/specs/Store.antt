@@ -1,17 +1,17 @@
 -- What a store knows of events, whatever its device does.
-use Rattle.std.specs.Prelude.{◌≡◌, ◌≢◌, ◌≤◌, ◌<◌, ◌+◌, ℕ, true, false, List, [], ◌∷◌, ◌++◌, length, Option}
+use Rattle.std.specs.Prelude.{◌≡◌, ◌≢◌, ◌≤◌, ◌<◌, ◌+◌, ℕ, true, false, List, [], ◌∷◌, ◌++◌, ◌⊎◌, length, Option}
 use Rattle.dlms_pages.specs.Device.{View, Rose}
 use Rattle.dlms_pages.specs.declared.device.Pages.{Ghosts}
 use Rattle.dlms_state.specs.declared.event.Event.{Event}
 use Rattle.dlms_state.specs.declared.event.Refused.{Refused}
 use Rattle.dlms_state.specs.Refusal.{refusal}
-use Rattle.dlms_state.specs.StateValue.{StateValue, IsStateOf}
+use Rattle.dlms_state.specs.StateValue.{StateValue, IsStateOf, HasNumberFor}
 use Rattle.dlms_journal.specs.Record.{Holds, record_of}
 use Rattle.dlms_store.specs.Layout.{other_of}
 use Rattle.dlms_store.specs.declared.store.Store.{Store}
 use Rattle.dlms_store.specs.declared.layout.TheConstants.{JOURNAL_PAGES, PAGES}
 use Rattle.dlms_journal.specs.declared.page.TheConstants.{MOST_PAYLOAD}
-use Rattle.dlms_store.specs.declared.layout.TheConstants.{LAST_GENERATION}
+use Rattle.dlms_store.specs.declared.layout.TheConstants.{LAST_GENERATION, MOST_CAPTURED}
 
 -- what is known of its device
 abbrev pub view_of : {P A : Type 0} → {ghosts : Ghosts P} → Store P A ghosts → View
@@ -48,13 +48,18 @@ IsLast store = store.generation ≡ LAST_GENERATION
 abbrev pub refusal_in : {P A : Type 0} → {ghosts : Ghosts P} → Store P A ghosts → Event → Option Refused
 refusal_in store event = refusal store.state.last store.state.offset event
 
+-- the ring takes no further row before the next checkpoint
+abbrev pub IsRingFull : {P A : Type 0} → {ghosts : Ghosts P} → Store P A ghosts → Type 0
+IsRingFull store = store.captured ≡ MOST_CAPTURED
+
 -- the event's record fits behind those that are pending
 abbrev pub HasRoom : {P A : Type 0} → {ghosts : Ghosts P} → Store P A ghosts → Event → Type 0
 HasRoom store event = length store.pending.items + length (record_of event) ≤ MOST_PAYLOAD
 
--- `add` puts the event behind those that are pending; else these are settled first, and it stands alone
+-- `add` puts the event behind those that are pending; else these are settled first, and it stands alone. Where
+-- the ring is full, any event asks for a checkpoint.
 abbrev pub JoinsPending : {P A : Type 0} → {ghosts : Ghosts P} → Store P A ghosts → Event → Type 0
-JoinsPending store event = HasRoom store event
+JoinsPending store event = HasRoom store event × (store.captured < MOST_CAPTURED)
 
 -- no page of the journal is left, and no checkpoint can be made: what is pending stays so
 abbrev pub IsExhausted : {P A : Type 0} → {ghosts : Ghosts P} → Store P A ghosts → Type 0
@@ -64,9 +69,13 @@ IsExhausted store = IsFull store × IsLast store
 abbrev pub CommitIsExhausted : {P A : Type 0} → {ghosts : Ghosts P} → Store P A ghosts → Type 0
 CommitIsExhausted store = (records_in store ≢ []) × IsExhausted store
 
--- so does the commit that this event's `add` needs
+-- the event's `add` needs a checkpoint that can no longer be made
+abbrev pub RoomIsExhausted : {P A : Type 0} → {ghosts : Ghosts P} → Store P A ghosts → Event → Type 0
+RoomIsExhausted store event = (JoinsPending store event → ⊥) × (IsRingFull store ⊎ IsFull store) × IsLast store
+
+-- the event captures a row whose number would be past 64 bits, or its `add` needs a checkpoint that can no longer be made
 abbrev pub AddIsExhausted : {P A : Type 0} → {ghosts : Ghosts P} → Store P A ghosts → Event → Type 0
-AddIsExhausted store event = (JoinsPending store event → ⊥) × IsExhausted store
+AddIsExhausted store event = (HasNumberFor (state_in store) event → ⊥) ⊎ RoomIsExhausted store event
 
 -- These events are settled, and those are pending: the store has the state of them all, and the records of the pending ones.
 pub record Remembers {P A : Type 0} {ghosts : Ghosts P} (settled pending : List Event) (store : Store P A ghosts) : Type 0 where
@@ -95,7 +104,7 @@ pub record Fails {P A : Type 0} {ghosts : Ghosts P} (old new : Store P A ghosts)
   pub stopped : IsStopped new
   pub keeps : Keeps old new
 
--- The call changed nothing but what is held of events in memory.
+-- The call changed nothing but what is held of events in memory, and how many rows they captured.
 pub record IsElsewhereSame {P A : Type 0} {ghosts : Ghosts P} (old new : Store P A ghosts) : Type 0 where
   pub device : new.device ≡ old.device
   pub slot : new.slot ≡ old.slot
@@ -103,8 +112,9 @@ pub record IsElsewhereSame {P A : Type 0} {ghosts : Ghosts P} (old new : Store P
   pub next : new.next ≡ old.next
   pub stopped : new.stopped ≡ old.stopped
 
--- A checkpoint was made: the other slot is active, of the next generation, and the journal begins again.
+-- A checkpoint was made: the other slot is active, of the next generation, the journal begins again, and no row was captured since.
 pub record IsRenewed {P A : Type 0} {ghosts : Ghosts P} (old new : Store P A ghosts) : Type 0 where
   pub slot : new.slot ≡ other_of old.slot
   pub generation : new.generation ≡ old.generation + 1
   pub next : new.next ≡ 0
+  pub captured : new.captured ≡ 0

@@ -1,15 +1,18 @@
 -- What a stop leaves of a device: once calls are done, and while one of them writes a page, the bodies of a slot, or a slot.
-use Rattle.std.specs.Prelude.{◌≡◌, ℕ, List, Result, OnOk, slice_set, ◌<◌, ◌≤◌, ◌⊎◌, ◌+◌, ◌++◌, length, [], replicate, true, false}
+use Rattle.std.specs.Prelude.{◌≡◌, ◌≢◌, ℕ, List, Result, OnOk, slice_set, ◌<◌, ◌≤◌, ◌⊎◌, ◌+◌, ◌++◌, length, [], replicate, true, false}
 use Rattle.dlms_pages.specs.Device.{View, Image, Outcome, page_at}
 use Rattle.dlms_pages.specs.Stops.{LeavesOnly}
 use Rattle.dlms_pages.specs.declared.device.PageRead.TheVariants.{Content}
 use Rattle.dlms_pages.specs.declared.device.Pages.{Ghosts}
-use Rattle.dlms_store.specs.Image.{Spells, Stands, all_of}
+use Rattle.dlms_profile.specs.Rows.{RowsValue}
+use Rattle.dlms_state.specs.Events.{captures}
+use Rattle.dlms_store.specs.Image.{IsRingPage, Spells, Stands, all_of}
 use Rattle.dlms_store.specs.declared.layout.TheConstants.{BODIES}
 use Rattle.dlms_state.specs.declared.event.Event.{Event}
 use Rattle.dlms_store.specs.declared.layout.Slot.{Slot}
 use Rattle.dlms_store.specs.declared.store.Store.{Store}
-use Rattle.dlms_store.specs.Layout.{other_of}
+use Rattle.dlms_store.specs.Layout.{other_of, ring_place}
+use Rattle.dlms_store.specs.Store.{state_in}
 
 -- ---- between calls
 
@@ -22,13 +25,15 @@ pub record Leaves (v : View) (P : Image → Type 0) : Type 0 where
 abbrev pub IsClear : Image → Type 0
 IsClear image = (k : ℕ) → k < length image → page_at image k ≡ Content (replicate 512 0)
 
--- These events are settled: said of a store, which runs, and whose slot, generation and next page are those of each image.
+-- These events are settled: said of a store, which runs, and whose slot, generation, next page and rows captured since the
+-- checkpoint are those of each image.
 pub record IsSettled {P A : Type 0} {ghosts : Ghosts P} (store : Store P A ghosts) (settled : List Event) : Type 0 where
   pub runs : store.stopped ≡ false
   pub base : List Event
   pub pages : List (List Event)
   pub spelled : base ++ all_of pages ≡ settled
   pub next : store.next ≡ length pages
+  pub captured : length (captures base) + store.captured ≡ (state_in store).rows.next
   pub device : Leaves (ghosts.view store.device) (Stands store.slot store.generation base pages)
 
 -- ---- while a call writes
@@ -53,6 +58,21 @@ pub record Scribbled (gate : ℕ) (old : Image → Type 0) (image : Image) : Typ
 -- bodies: anything behind this gate, and at last those of these bytes
 abbrev pub PutsBodies : {T E : Type 0} → ℕ → ℕ → List ℕ → View → View → Result T E → Type 0
 PutsBodies gate generation bytes old new result = Brings (Scribbled gate old.may_leave) (Spells gate generation bytes) old new result
+
+-- so it is of each ring page from this one on, up to that one
+abbrev pub IsEachRingPage : (from to : ℕ) → (ℕ → Type 0) → Type 0
+IsEachRingPage from to P = (k : ℕ) → from ≤ k → k < to → P k
+
+-- an image of before, with anything where these ring pages stand
+pub record RingScribbled (from to : ℕ) (old : Image → Type 0) (image : Image) : Type 0 where
+  pub before : Image
+  pub was : old before
+  pub length_is : length image ≡ length before
+  pub elsewhere : (place : ℕ) → IsEachRingPage from to (λ k. place ≢ ring_place k) → page_at image place ≡ page_at before place
+
+-- ring pages: anything where they stand, and at last the rows of these
+abbrev pub PutsRing : {T E : Type 0} → (from to : ℕ) → RowsValue → View → View → Result T E → Type 0
+PutsRing from to rows old new result = Brings (RingScribbled from to old.may_leave) (λ image. IsEachRingPage from to (λ k. IsRingPage rows k (page_at image (ring_place k)))) old new result
 
 -- the slot of before is active, or the other one, of the next generation and with an empty journal
 abbrev pub IsEither : Slot → ℕ → List Event → List (List Event) → List Event → Image → Type 0

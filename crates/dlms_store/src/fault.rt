@@ -63,7 +63,7 @@ pub enum AddFault {
     /// The device failed in an earlier call. Open it again.
     #[error("stopped")]
     Stopped,
-    /// A checkpoint is due, and there is no further generation.
+    /// A checkpoint is due, and there is no further generation; or the event's row would have a number past 64 bits.
     #[error("exhausted")]
     Exhausted,
 }

@@ -1,19 +1,31 @@
-//! Where everything stands: two slots of a gate and 32 bodies, and 16 journal pages.
-ghost use Rattle.std.specs.Prelude.{◌≡◌, ◌≤◌, ◌+◌};
+//! Where everything stands: two slots of a gate and 2 bodies, 16 journal pages, and 40 ring pages.
+ghost use Rattle.std.specs.Prelude.{◌≡◌, ◌≤◌, ◌<◌, ◌+◌, ◌%◌};
 ghost use Rattle.dlms_store.specs.Layout.{gate_of, index_of, other_of};
-ghost use Rattle.dlms_store.specs.declared.layout.TheConstants.{BODIES};
+ghost use Rattle.dlms_store.specs.declared.layout.TheConstants.{BODIES, RING_PAGES};
 
-/// How many pages a store needs: 82.
-pub const PAGES: u16 = JOURNAL + JOURNAL_PAGES;
+/// How many pages a store needs: 62.
+pub const PAGES: u16 = RING + RING_PAGES;
 
 /// How many journal pages there are.
 pub(crate) const JOURNAL_PAGES: u16 = 16;
 
-/// Where the journal begins: 66.
+/// Where the journal begins: 6.
 pub(crate) const JOURNAL: u16 = 2 * (1 + BODIES);
 
 /// How many bodies a slot has.
-pub(crate) const BODIES: u16 = 32;
+pub(crate) const BODIES: u16 = 2;
+
+/// Where the ring pages begin: 22.
+pub(crate) const RING: u16 = JOURNAL + JOURNAL_PAGES;
+
+/// How many ring pages there are.
+pub(crate) const RING_PAGES: u16 = 40;
+
+/// The most ring pages that a checkpoint names.
+pub(crate) const MOST_NAMED: u16 = 32;
+
+/// The most rows that are captured between two checkpoints, so that no ring page that the active one names is written over.
+pub(crate) const MOST_CAPTURED: u16 = 240;
 
 /// The last number that a checkpoint can have.
 pub(crate) const LAST_GENERATION: u64 = 18_446_744_073_709_551_615;
@@ -55,4 +67,12 @@ impl Slot {
             Slot::Second => Slot::First,
         }
     }
+}
+
+/// Where a ring page stands among the ring pages.
+pub(crate) fn ring_index(page: u64) -> u16
+    ensures value { result ≡ page % RING_PAGES }
+    ensures within { result < RING_PAGES }
+{
+    (page % u64::from(RING_PAGES)) as u16
 }

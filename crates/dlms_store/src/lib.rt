@@ -6,10 +6,12 @@ mod format;
 pub mod laws;
 mod layout;
 mod look;
+mod numbers;
 mod open;
 mod page;
 mod put;
 mod replay;
+mod ring_pages;
 mod slot;
 mod store;
 

@@ -4,15 +4,16 @@ ghost use Rattle.dlms_pages.specs.Device.{Rose, Image};
 ghost use Rattle.dlms_pages.specs.Stops.{IsFixed};
 ghost use Rattle.dlms_state.specs.declared.event.Event.{Event as EventOf};
 ghost use Rattle.dlms_journal.specs.Record.{record_of};
-ghost use Rattle.dlms_state.specs.StateValue.{IsStateOf, HasEvents};
+ghost use Rattle.dlms_state.specs.StateValue.{IsStateOf, HasEvents, HasNumberFor};
 ghost use Rattle.dlms_state.specs.declared.event.Refused.{Refused};
 ghost use Rattle.dlms_store.specs.declared.layout.TheConstants.{PAGES, JOURNAL_PAGES};
 ghost use Rattle.dlms_journal.specs.declared.page.TheConstants.{MOST_PAYLOAD};
-ghost use Rattle.dlms_store.specs.declared.layout.TheConstants.{LAST_GENERATION};
+ghost use Rattle.dlms_store.specs.declared.layout.TheConstants.{LAST_GENERATION, MOST_CAPTURED};
 
 use crate::fault::{AddFault, OpenFault, StoreFault};
 use crate::format::{begin, clear};
-use crate::layout::{JOURNAL, JOURNAL_PAGES, LAST_GENERATION, PAGES, Slot};
+use crate::layout::{JOURNAL, JOURNAL_PAGES, LAST_GENERATION, MOST_CAPTURED, PAGES, Slot};
+use crate::numbers::{apply_counted, has_number_for};
 use crate::open::{Found, find, settle};
 use crate::put::put;
 use crate::slot::write_slot;
@@ -36,13 +37,17 @@ pub struct Store<P: Pages, A: Allocator = Global> {
     generation: u64,
     /// How many journal pages of this generation are written.
     next: u16,
+    /// How many rows were captured since the active checkpoint.
+    captured: u16,
     stopped: bool,
     ghost enough: { PAGES ≤ length (P.view device).seen },
     ghost few: { next ≤ JOURNAL_PAGES },
+    ghost kept: { captured ≤ MOST_CAPTURED },
+    ghost order: { captured ≤ state.rows.next },
 }
 
 impl<P: Pages, A: Allocator + Copy> Store<P, A> {
-    ghost use Rattle.dlms_store.specs.Store.{view_of, state_in, records_in, IsStopped, IsRunning, IsTooSmall, IsLast, refusal_in, HasRoom, JoinsPending, AddIsExhausted, CommitIsExhausted, Remembers, Settles, Joins, JoinsAlone, Fails, IsElsewhereSame, IsRenewed};
+    ghost use Rattle.dlms_store.specs.Store.{view_of, state_in, records_in, IsStopped, IsRunning, IsTooSmall, IsLast, refusal_in, HasRoom, JoinsPending, AddIsExhausted, CommitIsExhausted, RoomIsExhausted, Remembers, Settles, Joins, JoinsAlone, Fails, IsElsewhereSame, IsRenewed};
     ghost use Rattle.dlms_store.specs.World.{StoreWorld};
     ghost use Rattle.dlms_store.specs.World.StoreWorld.{Runs, Rests};
     ghost use Rattle.dlms_store.specs.Active.{HasMore, IsFound, IsFresh};
@@ -81,6 +86,7 @@ impl<P: Pages, A: Allocator + Copy> Store<P, A> {
             slot: Slot::First,
             generation: 1,
             next: 0,
+            captured: 0,
             stopped: false,
         })
     }
@@ -119,6 +125,8 @@ impl<P: Pages, A: Allocator + Copy> Store<P, A> {
     fn recovered(device: P, found: Found<A>) -> Result<Self, (P, OpenFault)>
         requires room { PAGES ≤ length (P.view device).seen }
         requires few { found.journal.pages ≤ JOURNAL_PAGES }
+        requires captured { found.journal.captured ≤ MOST_CAPTURED }
+        requires order { found.journal.captured ≤ found.state.rows.next }
         requires events { HasEvents found.state }
         ensures opens { (image : Image) (base : List EventOf) (pages : List (List EventOf)) (events : List EventOf) → IsFixed (P.view device) image → IsFound image base pages found → base ++ all_of pages ≡ events → Quiet found.generation (length pages) image
             → MatchResult result (OpensAs (Rests events) (P.view device)) (λ e. GivesBack (Rests events) (P.view device) (P.view e.0) e.1) }
@@ -140,6 +148,7 @@ impl<P: Pages, A: Allocator + Copy> Store<P, A> {
             slot: found.slot,
             generation: found.generation,
             next: found.journal.pages,
+            captured: found.journal.captured,
             stopped: false,
         };
         if !is_due {
@@ -152,7 +161,9 @@ impl<P: Pages, A: Allocator + Copy> Store<P, A> {
         }
     }
 
-    /// Takes an event. Where its record does not fit behind those that are pending, these are committed first.
+    /// Takes an event. Where its record does not fit behind those that are pending, these are committed first, and where
+    /// 240 rows were captured since the last checkpoint, one is made. Exhausted is told too where the event's row would have
+    /// a number past 64 bits.
     pub fn add(&mut self, event: Event) -> Result<(), AddFault>
         ensures run { (before : StoreWorld) → StoreFits self.old before → AddMoves result event before self.old self.new }
         ensures joins { OnOk result (JoinsPending self.old event → Joins event self.old self.new) }
@@ -173,19 +184,48 @@ impl<P: Pages, A: Allocator + Copy> Store<P, A> {
         if let Err(cause) = self.state.check(&event) {
             return Err(AddFault::Refused(cause));
         }
-        let record = record_of(&event);
-        if self.pending.len() + record.len() > MOST_PAYLOAD {
-            self.commit()?;
+        if !has_number_for(&self.state, &event) {
+            return Err(AddFault::Exhausted);
         }
+        let record = record_of(&event);
+        self.make_room(&event, record.len())?;
         self.push(event, record.as_slice());
         Ok(())
+    }
+
+    // Makes room for an event whose record has so many bytes: where it may not join what is pending, that is settled.
+    fn make_room(&mut self, event: &Event, bytes: usize) -> Result<(), StoreFault>
+        requires running { IsRunning self.old }
+        requires bytes { bytes ≡ length (record_of event.now) }
+        requires short { bytes ≤ MOST_PAYLOAD }
+        ensures kept { JoinsPending self.old event.now → (result ≡ Ok tt) × (self.new ≡ self.old) }
+        ensures run { (JoinsPending self.old event.now → ⊥) → (before : StoreWorld) → StoreFits self.old before → Moves (commit_step result) before self.old self.new }
+        ensures settles { OnOk result ((JoinsPending self.old event.now → ⊥) → Settles self.old self.new) }
+        ensures room { OnOk result (JoinsPending self.new event.now) }
+        ensures runs { OnOk result (IsRunning self.new) }
+        ensures state { state_in self.new ≡ state_in self.old }
+        ensures stopped { result ≢ Err StoreFault.Stopped }
+        ensures device { result ≡ Err StoreFault.Device → Fails self.old self.new }
+        ensures answers { (Rose (view_of self.old).faults (view_of self.new).faults → ⊥) → (RoomIsExhausted self.old event.now → ⊥) → IsOk result }
+        ensures exhausted { (result ≡ Err StoreFault.Exhausted) ↔ RoomIsExhausted self.old event.now }
+        ensures unchanged { OnErr result (result ≢ Err StoreFault.Device → self.new ≡ self.old) }
+        ensures later { (view_of self.old).faults ≤ (view_of self.new).faults }
+    {
+        if self.captured == MOST_CAPTURED {
+            return self.checkpoint();
+        }
+        if self.pending.len() + bytes <= MOST_PAYLOAD {
+            return Ok(());
+        }
+        self.settle_pending()
     }
 
     // Takes an event whose record fits, and tells what that is for the events and the device.
     fn push(&mut self, event: Event, spelled: &[u8])
         requires passes { refusal_in self.old event ≡ None }
         requires spelled { spelled.now ≡ record_of event }
-        requires room { HasRoom self.old event }
+        requires room { JoinsPending self.old event }
+        requires number { HasNumberFor (state_in self.old) event }
         ensures run { (before : StoreWorld) → IsRunning self.old → StoreFits self.old before → Moves (Adds event) before self.old self.new }
         ensures joins { Joins event self.old self.new }
         ensures stopped { self.new.stopped ≡ self.old.stopped }
@@ -199,14 +239,16 @@ impl<P: Pages, A: Allocator + Copy> Store<P, A> {
     fn join(&mut self, event: Event, spelled: &[u8])
         requires passes { refusal_in self.old event ≡ None }
         requires spelled { spelled.now ≡ record_of event }
-        requires room { HasRoom self.old event }
+        requires room { JoinsPending self.old event }
+        requires number { HasNumberFor (state_in self.old) event }
         ensures joins { Joins event self.old self.new }
         ensures same { IsElsewhereSame self.old self.new }
+        ensures captured { self.new.captured + (state_in self.old).rows.next ≡ self.old.captured + (state_in self.new).rows.next }
         ensures page { length (records_in self.new) ≤ MOST_PAYLOAD }
     {
         event.fits();
         let _fits = self.pending.try_extend_from_slice(spelled);
-        self.state.apply(event);
+        self.captured += apply_counted(&mut self.state, event);
     }
 
     /// Settles what is pending: in the next journal page or, where all are used, in a checkpoint. With nothing pending it
@@ -225,6 +267,25 @@ impl<P: Pages, A: Allocator + Copy> Store<P, A> {
         ensures nothing { IsRunning self.old → records_in self.old ≡ [] → (result ≡ Ok tt) × (self.new ≡ self.old) }
         ensures later { (view_of self.old).faults ≤ (view_of self.new).faults }
     {
+        self.settle_pending()
+    }
+
+    // What `commit` does. Once it is done, no more rows count as captured since the active checkpoint than before.
+    fn settle_pending(&mut self) -> Result<(), StoreFault>
+        ensures run { (before : StoreWorld) → StoreFits self.old before → Moves (commit_step result) before self.old self.new }
+        ensures settles { OnOk result (Settles self.old self.new) }
+        ensures runs { OnOk result (IsStopped self.new → ⊥) }
+        ensures empty { OnOk result (records_in self.new ≡ []) }
+        ensures captured { OnOk result (self.new.captured ≤ self.old.captured) }
+        ensures state { state_in self.new ≡ state_in self.old }
+        ensures stopped { (result ≡ Err StoreFault.Stopped) ↔ IsStopped self.old }
+        ensures device { result ≡ Err StoreFault.Device → Fails self.old self.new }
+        ensures answers { IsRunning self.old → (Rose (view_of self.old).faults (view_of self.new).faults → ⊥) → (CommitIsExhausted self.old → ⊥) → IsOk result }
+        ensures exhausted { (result ≡ Err StoreFault.Exhausted) ↔ (IsRunning self.old × CommitIsExhausted self.old) }
+        ensures unchanged { OnErr result (result ≢ Err StoreFault.Device → self.new ≡ self.old) }
+        ensures nothing { IsRunning self.old → records_in self.old ≡ [] → (result ≡ Ok tt) × (self.new ≡ self.old) }
+        ensures later { (view_of self.old).faults ≤ (view_of self.new).faults }
+    {
         if self.stopped {
             return Err(StoreFault::Stopped);
         }
@@ -234,6 +295,7 @@ impl<P: Pages, A: Allocator + Copy> Store<P, A> {
         if self.next == JOURNAL_PAGES {
             return self.checkpoint();
         }
+        let _numbers_fit = self.state.next_number();
         let page = page_of(
             PageKind::Journal,
             self.next,
@@ -273,14 +335,22 @@ impl<P: Pages, A: Allocator + Copy> Store<P, A> {
             return Err(StoreFault::Exhausted);
         }
         let slot = self.slot.other();
-        let bytes = checkpoint_of(&self.state);
-        if let Err(DeviceFault) = write_slot(&mut self.device, slot, self.generation + 1, &bytes) {
+        let checkpointed = self.state.next_number() - u128::from(self.captured);
+        let generation = self.generation + 1;
+        if let Err(DeviceFault) = write_slot(
+            &mut self.device,
+            slot,
+            generation,
+            &self.state,
+            checkpointed,
+        ) {
             self.stopped = true;
             return Err(StoreFault::Device);
         }
         self.slot = slot;
-        self.generation += 1;
+        self.generation = generation;
         self.next = 0;
+        self.captured = 0;
         self.pending.clear();
         Ok(())
     }

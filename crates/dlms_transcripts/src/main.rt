@@ -3,11 +3,13 @@
 //! A case is `NNN.in` (what is read), `NNN.out` (what is printed, byte for byte), `NNN.status` (the status of the run), where
 //! something is said among the errors `NNN.err`, and where the program is not asked to `replay` on a new meter `NNN.words` (its
 //! words, one a line). The cases run in the order of their numbers, in one folder: a file that one makes is there for the next.
+//! Where a case has `NNN.seal`, the file that its last word names must have this SHA-256 behind the run.
 //! From 601 on a case is a talk: each line is given when it is asked for, and only where each frame before it was answered.
 #![tactic(auto)]
 
 use anyhow::Result;
 use dlms_command::run;
+use sha2::{Digest, Sha256};
 use std::alloc::{AllocError, Global};
 use std::fs;
 use std::fs::File;
@@ -37,6 +39,7 @@ enum Verdict {
     OtherOutput,
     OtherStatus,
     OtherError,
+    OtherFile,
 }
 
 /// A file's bytes; none where it isn't there.
@@ -55,6 +58,17 @@ fn is_said(expected: &Option<Vec<u8>>, said: &[u8]) -> bool {
         Some(error) => error.as_slice() == said,
         None => said.is_empty(),
     }
+}
+
+/// The file that was left has the case's seal; where the case has none, any file is right.
+fn is_sealed<R: Files + AllocGlobal>(rt: &R, name: &str, path: &str) -> Result<bool> {
+    let Some(seal) = bytes_of(rt, name, "seal")? else {
+        return Ok(true);
+    };
+    let mut hasher = Sha256::new();
+    hasher.update(fs::read(rt, path)?.as_slice());
+    let digits = hex::encode(rt.alloc(), hasher.finalize())?;
+    Ok(seal.as_slice().trim_ascii() == digits.as_bytes())
 }
 
 /// The program's name, and the words behind it, one a line.
@@ -112,6 +126,9 @@ fn verdict_of<R: Net + Files<File = File> + Clock + AllocGlobal>(
     }
     if !is_said(&expected_error, errors.as_slice()) {
         return Ok(Verdict::OtherError);
+    }
+    if !is_sealed(rt, name, words.last().unwrap_or(&PROGRAM))? {
+        return Ok(Verdict::OtherFile);
     }
     Ok(Verdict::AsExpected)
 }

@@ -1,5 +1,5 @@
 //! What each event does to a state. `apply` calls one of these, and the proofs tie it to the list of events.
-ghost use Rattle.std.specs.Prelude.{◌≡◌, ◌<◌, ◌≤◌, None};
+ghost use Rattle.std.specs.Prelude.{◌≡◌, ◌<◌, ◌≤◌, ◌^◌, None};
 ghost use Rattle.arrayvec.specs.ArrayVec.{array_vec_len};
 ghost use Rattle.dlms_state.specs.Refusal.{refusal};
 ghost use Rattle.dlms_state.specs.declared.event.TheConstants.{LONGEST_PERIOD};
@@ -12,6 +12,7 @@ use std::alloc::Allocator;
 
 impl<A: Allocator + Copy> State<A> {
     ghost use Rattle.dlms_state.specs.declared.event.Event.{Event};
+    ghost use Rattle.dlms_state.specs.StateValue.{HasNumberFor};
     ghost use Rattle.dlms_state.specs.Step.{step};
 
     pub(super) fn count_pulses(&mut self, channel: u8, count: u32)
@@ -23,7 +24,8 @@ impl<A: Allocator + Copy> State<A> {
     }
 
     pub(super) fn pass_moment(&mut self, moment: u32)
-        requires { refusal self.old.last self.old.offset (Event.Moment moment) ≡ None }
+        requires passes { refusal self.old.last self.old.offset (Event.Moment moment) ≡ None }
+        requires number { HasNumberFor self.old (Event.Moment moment) }
         ensures { self.new ≡ step (Event.Moment moment) self.old }
     {
         let before = self.clock.second();
@@ -89,6 +91,7 @@ impl<A: Allocator + Copy> State<A> {
     }
 
     pub(super) fn capture(&mut self)
+        requires { self.old.rows.next < 2 ^ 64 }
         ensures { self.new ≡ step Event.Capture self.old }
     {
         let clock = self.clock.second();

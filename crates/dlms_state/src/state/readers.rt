@@ -1,7 +1,7 @@
 //! What a state holds. Each reader's value is that of the definitions, for every list of events that leaves the state.
-ghost use Rattle.std.specs.Prelude.{◌≡◌, ◌<◌, ◌≤◌, List, All, length};
+ghost use Rattle.std.specs.Prelude.{◌≡◌, ◌<◌, ◌≤◌, ◌-◌, ◌^◌, List, All, length};
 ghost use Rattle.dlms_state.specs.declared.event.TheConstants.{LAST_SECOND, LONGEST_PERIOD};
-ghost use Rattle.dlms_state.specs.Events.{clock_at, registers_after, clock_after, moment_after, offset_after, period_after, text_after, secret_after, buffer_after};
+ghost use Rattle.dlms_state.specs.Events.{clock_at, registers_after, clock_after, moment_after, offset_after, period_after, text_after, secret_after, buffer_after, captures};
 
 use crate::state::State;
 use dlms_profile::Rows;
@@ -10,6 +10,7 @@ use std::alloc::Allocator;
 impl<A: Allocator + Copy> State<A> {
     ghost use Rattle.dlms_state.specs.declared.event.Event.{Event};
     ghost use Rattle.dlms_state.specs.StateValue.{IsStateOf};
+    ghost use Rattle.dlms_profile.specs.Rows.{first_number};
 
     /// The three registers: Wh imported, Wh exported, varh.
     pub fn registers(&self) -> [u32; 3]
@@ -79,5 +80,22 @@ impl<A: Allocator + Copy> State<A> {
         ensures clocks { All (λ row. row.clock ≤ LAST_SECOND) self.now.rows.items }
     {
         &self.rows
+    }
+
+    /// The number of the oldest row in the buffer, or of the next one where it is empty.
+    pub fn first_number(&self) -> u128
+        ensures value { result ≡ first_number self.now.rows }
+        ensures after { (E : List Event) → IsStateOf E self.now → result ≡ length (captures E) - length (buffer_after E) }
+    {
+        self.rows.first_number()
+    }
+
+    /// The number that the next row gets: how many rows were captured. It is at most 2^64.
+    pub fn next_number(&self) -> u128
+        ensures value { result ≡ self.now.rows.next }
+        ensures after { (E : List Event) → IsStateOf E self.now → result ≡ length (captures E) }
+        ensures last { result ≤ 2 ^ 64 }
+    {
+        self.rows.next_number()
     }
 }

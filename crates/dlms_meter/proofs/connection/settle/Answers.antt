@@ -33,7 +33,7 @@ returns-in_err-add g c before knows =
     } in
     subst (λ r. Settled r before (listed c.args.event) store new) (sym p.1)
     (subst (λ (o : Option Event). Settled (Err p.0) before (listed o) store new) (sym c.in-Some.is)
-    (add_failed fault p.0 e before store new (add_goes (Err fault) e before store new knows added) (add_may_fail fault e store new c.fits.ensures passes added)))
+    (add_failed fault p.0 e before store new (add_goes (Err fault) e before store new knows added) (add_may_fail fault e store new passes added)))
 
 pub returns : goal.returns
 returns g c before knows =

@@ -1,18 +1,9 @@
-use Rattle.std.proofs.Common.{◌∙◌, ◌+◌, ℕ, ap, subst, sym, arith, inr, refl}
-use Rattle.dlms_checkpoint.proofs.Bodies.{all_bodies}
+use Rattle.std.proofs.Common.{◌∙◌, ◌+◌, ℕ, ap, sym, arith, inr, refl}
 use Rattle.dlms_pages.specs.Device.{page_at}
-use Rattle.dlms_journal.specs.declared.kind.PageKind.TheVariants.{Body}
-use Rattle.dlms_checkpoint.specs.Bodies.{body_at}
-use Rattle.dlms_store.specs.Page.{HasPage}
-use Rattle.dlms_store.proofs.Looking.{page_is, one_payload, all_taken, one_awaited, next_fits, next_taken, read_on, was_ok, when_ok, not_ok}
+use Rattle.dlms_store.proofs.Looking.{page_is, read_on, was_ok, when_ok, not_ok}
 use Rattle.dlms_store.proofs.Causes.{further_fits, none_fits, too_long}
 use Rattle.dlms_store.proofs.Spelled.{none_behind_all}
 use Rattle.dlms_store.proofs.look.look_at_further_bodies.Goals as goal
-
-pub returns-then-awaited-eq0-clause-spelled : goal.returns-then-awaited-eq0-clause-spelled
-returns-then-awaited-eq0-clause-spelled g c image gate bytes s place fixed is spells first =
-    let inv = c.loop-index.invariant in
-    all_taken bytes s is c.loop-index.index inv.some c.loop-index.restoring (inv.spelled image gate bytes s place fixed is spells first) (sym c.awaited.ensures ∙ c.if-awaited-eq0.true)
 
 pub returns-in_err-page-clause-looks : goal.returns-in_err-page-clause-looks
 returns-in_err-page-clause-looks g c image fixed =
@@ -31,35 +22,6 @@ returns-then-is_err-clause-looks g c image fixed =
     let view = g.P.Pages.view in
     let so_far = c.loop-index.invariant.looks image fixed in
     read_on (c.args.first + c.loop-index.index) _ (view c.loop-index.device) (view c.read.new.self) image c.read.result so_far (g.met.P.Pages.rules c.loop-index.device so_far.fixed.honest) c.read.ensures.goes (c.read.ensures.page so_far.fixed.honest)
-
-pub returns-in_default-clause-spelled : goal.returns-in_default-clause-spelled
-returns-in_default-clause-spelled g c image gate bytes s place fixed is spells first =
-    let inv = c.loop-index.invariant in
-    let k = c.loop-index.index in
-    let so_far = inv.looks image fixed in
-    let before = one_awaited bytes s is k inv.some c.loop-index.restoring (inv.spelled image gate bytes s place fixed is spells first) (λ none. c.if-awaited-eq0.false (c.awaited.ensures ∙ none)) in
-    let page = page_is (c.args.first + k) (g.P.Pages.view c.loop-index.device) image c.in_ok-page.page so_far.fixed (g.met.P.Pages.rules c.loop-index.device so_far.fixed.honest) (c.in_ok-page.ensures.page so_far.fixed.honest).page in
-    let same = page ∙ ap (λ (f : ℕ). page_at image (f + k)) place in
-    absurd (c.in_default.ensures (body_at k bytes) (subst (HasPage Body k c.args.generation (body_at k bytes)) (sym same) (spells.each k before)))
-
-pub returns-then-is_err-clause-spelled : goal.returns-then-is_err-clause-spelled
-returns-then-is_err-clause-spelled g c image gate bytes s place fixed is spells first =
-    let inv = c.loop-index.invariant in
-    let k = c.loop-index.index in
-    let so_far = inv.looks image fixed in
-    let taken = inv.spelled image gate bytes s place fixed is spells first in
-    let before = one_awaited bytes s is k inv.some c.loop-index.restoring taken (λ none. c.if-awaited-eq0.false (c.awaited.ensures ∙ none)) in
-    let page = page_is (c.args.first + k) (g.P.Pages.view c.loop-index.device) image c.in_ok-page.page so_far.fixed (g.met.P.Pages.rules c.loop-index.device so_far.fixed.honest) (c.in_ok-page.ensures.page so_far.fixed.honest).page in
-    let same = page ∙ ap (λ (f : ℕ). page_at image (f + k)) place in
-    let body = one_payload Body k c.args.generation c.in-Some.body.now (body_at k bytes) c.in_ok-page.page c.in-Some.ensures (subst (HasPage Body k c.args.generation (body_at k bytes)) (sym same) (spells.each k before)) in
-    let fits = next_fits bytes s is k inv.some c.loop-index.restoring taken c.in-Some.body.now body in
-    absurd (not_ok c.more.result c.if-is_err.ensures.value (c.more.ensures.when.1 fits))
-
-pub returns-clause-spelled : goal.returns-clause-spelled
-returns-clause-spelled g c image gate bytes s place fixed is spells first =
-    let inv = c.loop-index.invariant in
-    let taken = inv.spelled image gate bytes s place fixed is spells first in
-    taken ∙ all_bodies bytes c.loop-index.index (omega (arith, spells.few, c.loop-index-test.false))
 
 pub loop-index-preserved : goal.loop-index-preserved
 loop-index-preserved g c =
@@ -81,14 +43,6 @@ loop-index-preserved g c =
           let same = page ∙ ap (λ (f : ℕ). page_at image (f + k)) place in
           further_fits gate c.args.generation image k inv.some (omega (arith, c.loop-index-test.true)) c.loop-index.restoring (inv.fits image gate place fixed first) (λ none. c.if-awaited-eq0.false (c.awaited.ensures ∙ none)) c.in_ok-page.page same c.in-Some.body.now c.more.new.self c.in-Some.ensures
           (when_ok c.more.result c.if-is_err.ensures.value c.more.ensures.when.0) (was_ok c.more.result c.if-is_err.ensures.value c.more.ensures.ok);
-      spelled = λ image gate bytes s place fixed is spells first.
-          let so_far = inv.looks image fixed in
-          let taken = inv.spelled image gate bytes s place fixed is spells first in
-          let before = one_awaited bytes s is k inv.some c.loop-index.restoring taken (λ none. c.if-awaited-eq0.false (c.awaited.ensures ∙ none)) in
-          let page = page_is (c.args.first + k) (view c.loop-index.device) image c.in_ok-page.page so_far.fixed (g.met.P.Pages.rules c.loop-index.device so_far.fixed.honest) (c.in_ok-page.ensures.page so_far.fixed.honest).page in
-          let same = page ∙ ap (λ (f : ℕ). page_at image (f + k)) place in
-          let body = one_payload Body k c.args.generation c.in-Some.body.now (body_at k bytes) c.in_ok-page.page c.in-Some.ensures (subst (HasPage Body k c.args.generation (body_at k bytes)) (sym same) (spells.each k before)) in
-          next_taken bytes s is k inv.some c.loop-index.restoring taken c.in-Some.body.now c.more.new.self body (was_ok c.more.result c.if-is_err.ensures.value c.more.ensures.ok);
     }
 
 pub returns-then-awaited-eq0-clause-cause : goal.returns-then-awaited-eq0-clause-cause

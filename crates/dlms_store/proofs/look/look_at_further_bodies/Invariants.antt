@@ -1,10 +1,7 @@
-use Rattle.std.proofs.Common.{◌≡◌, ◌≤◌, ◌+◌, ◌*◌, ℕ, List, length, take}
+use Rattle.std.proofs.Common.{◌≡◌, ◌≤◌, ◌+◌, ℕ, length}
 use Rattle.dlms_pages.specs.Device.{Image}
 use Rattle.dlms_pages.specs.Stops.{IsFixed, Looks}
-use Rattle.dlms_state.specs.StateValue.{StateValue}
-use Rattle.dlms_checkpoint.specs.Checkpoint.{IsCheckpointOf}
 use Rattle.dlms_store.specs.Cause.{Fit}
-use Rattle.dlms_store.specs.Image.{Spells}
 use Rattle.dlms_store.proofs.look.look_at_further_bodies.Given as goal
 
 abbrev pub invariant-loop-index : goal.invariant-loop-index
@@ -17,6 +14,4 @@ invariant-loop-index g l =
       looks : (image : Image) → IsFixed (view l.fn.device) image → Looks (view l.fn.device) (view l.device) image;
       some : 1 ≤ l.index;
       fits : (image : Image) (gate : ℕ) → l.fn.first ≡ gate + 1 → IsFixed (view l.fn.device) image → Fit gate l.fn.generation image 1 l.fn.restoring → Fit gate l.fn.generation image l.index l.restoring;
-      spelled : (image : Image) (gate : ℕ) (bytes : List ℕ) (s : StateValue) → l.fn.first ≡ gate + 1 → IsFixed (view l.fn.device) image → IsCheckpointOf s bytes → Spells gate l.fn.generation bytes image → l.fn.restoring ≡ take 496 bytes
-          → l.restoring ≡ take (496 * l.index) bytes;
     }

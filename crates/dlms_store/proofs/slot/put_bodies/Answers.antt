@@ -7,6 +7,7 @@ use Rattle.dlms_pages.specs.declared.device.PageRead.TheVariants.{Content, Damag
 use Rattle.dlms_pages.proofs.Moments.{no_call, one_call, then_also}
 use Rattle.dlms_checkpoint.specs.Bodies.{body_at}
 use Rattle.dlms_journal.specs.declared.kind.PageKind.TheVariants.{Body}
+use Rattle.dlms_store.specs.declared.layout.TheConstants.{BODIES}
 use Rattle.dlms_store.specs.Page.{HasPage}
 use Rattle.dlms_store.specs.Image.{Spells}
 use Rattle.dlms_store.specs.Writing.{Scribbled}
@@ -40,7 +41,7 @@ loop-index-preserved g c =
     let i = c.loop-index.index in
     let place = gate + 1 + i in
     let from : gate < place = omega arith in
-    let to : place ≤ gate + 32 = omega (arith, c.loop-index-test.true, c.body_count-index-end.ensures, c.requires.few) in
+    let to : place ≤ gate + BODIES = omega (arith, c.loop-index-test.true, c.body_count-index-end.ensures, c.requires.few) in
     let bytes = c.page_of-page.result in
     let page = Content bytes in
     let made : HasPage Body i c.args.generation (body_at i c.args.bytes.now) page =
@@ -98,7 +99,7 @@ returns-in_err-write-clause-puts g c honest =
     let still = inv.honest ∙ honest in
     let place = gate + 1 + c.loop-index.index in
     let from : gate < place = omega arith in
-    let to : place ≤ gate + 32 = omega (arith, c.loop-index-test.true, c.body_count-index-end.ensures, c.requires.few) in
+    let to : place ≤ gate + BODIES = omega (arith, c.loop-index-test.true, c.body_count-index-end.ensures, c.requires.few) in
     let w = c.write.ensures.written still in
     let leaves = λ (image : Image) (left : new.may_leave image). scribbled_more gate old.may_leave place from to mid.may_leave _ (inv.leaves honest) image (w.crash image left) in
     record {

@@ -12,6 +12,7 @@ returns g c =
       text = search rules;
       secret = search rules;
       room = c.len-count.ensures.within;
+      order = c.next_number-next.ensures.order;
       rows = c.len-count.ensures.fit;
     }) in
     let limits : IsWithinLimits c.args.self.now = rw (← c.self.view_is) c.self.invariant in

@@ -1,0 +1,74 @@
+//! Rows go round the ring: a store that is closed and opened again after each hundred of them.
+
+use crate::report::Report;
+use crate::stores::MemoryStore;
+use anyhow::Result;
+use dlms_pages::MemoryPages;
+use dlms_state::Event;
+use dlms_store::{PAGES, Store};
+use std::alloc::Global;
+use std::io;
+
+/// How often a hundred rows are captured.
+const ROUNDS: u32 = 13;
+
+/// How many rows are kept.
+const KEPT: u32 = 960;
+
+/// Counts a pulse and captures a row, a hundred times: the row numbered n has n + 1 in its first register. Whether all were taken.
+fn round(store: &mut MemoryStore) -> bool {
+    for _ in 0..100 {
+        if store.add(Event::Pulses(0, 1)).is_err() || store.add(Event::Capture).is_err() {
+            return false;
+        }
+    }
+    true
+}
+
+/// Closes a store, and opens it again.
+fn reopened(alloc: Global, store: MemoryStore) -> Option<MemoryStore> {
+    Store::open(alloc, store.close()).ok()
+}
+
+/// The last rows are kept, each as it was captured.
+fn compare_rows(report: &mut Report<'_>, store: &MemoryStore, captured: u32) -> io::Result<()> {
+    let first = captured.saturating_sub(KEPT);
+    let state = store.state();
+    report.compare((captured, "first"), state.first_number(), u128::from(first))?;
+    report.compare(
+        (captured, "next"),
+        state.next_number(),
+        u128::from(captured),
+    )?;
+    let mut wanted = first;
+    let mut differing = 0u32;
+    for row in state.rows().iter() {
+        wanted = wanted.saturating_add(1);
+        if row.registers != [wanted, 0, 0] {
+            differing = differing.saturating_add(1);
+        }
+    }
+    report.compare((captured, "behind"), wanted, captured)?;
+    report.compare((captured, "rows"), differing, 0)
+}
+
+/// The rounds, each on the store that the last one left.
+pub fn play_rows(report: &mut Report<'_>) -> Result<()> {
+    let alloc = report.alloc();
+    report.begin("rounds of rows");
+    let mut store = Store::format(alloc, MemoryPages::new(alloc, PAGES)?).ok();
+    let mut captured = 0u32;
+    for _ in 0..ROUNDS {
+        let Some(mut here) = store else {
+            report.compare(captured, "no store", "a store")?;
+            return Ok(report.end()?);
+        };
+        captured = captured.saturating_add(100);
+        report.compare(captured, round(&mut here), true)?;
+        store = reopened(alloc, here);
+        if let Some(again) = &store {
+            compare_rows(report, again, captured)?;
+        }
+    }
+    Ok(report.end()?)
+}

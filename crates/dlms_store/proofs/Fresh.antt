@@ -1,0 +1,95 @@
+-- Which ring pages a checkpoint writes: those that the state after more events names and the one before them does not.
+use Rattle.std.proofs.Common.{◌≡◌, ◌≢◌, ◌<◌, ◌≤◌, ◌+◌, ◌*◌, ◌/◌, ◌^◌, max, ⊎_elim, ℕ, List, ◌++◌, map, length, get_or, sym, ◌∙◌, ap, arith, length-append}
+use Rattle.std.proofs.lemmas.List.{get_or-append_right, length-map, map-append}
+use Rattle.std.proofs.lemmas.Bool.{cases_lt}
+use Rattle.std.proofs.Math.ListN.{get_or-append}
+use Rattle.dlms_pages.specs.Device.{Image, page_at}
+use Rattle.dlms_pages.specs.declared.device.PageRead.{PageRead}
+use Rattle.dlms_profile.specs.declared.rows.Row.{Row}
+use Rattle.dlms_profile.specs.Rows.{first_number, row_at}
+use Rattle.dlms_state.specs.declared.event.Event.{Event}
+use Rattle.dlms_state.specs.Events.{buffer_after, captures, row_after}
+use Rattle.dlms_state.specs.StateValue.{StateValue, state_of}
+use Rattle.dlms_state.proofs.Captures.{buffer_is_the_end, captures_go_on}
+use Rattle.dlms_checkpoint.specs.Checkpoint.{AreBytes, IsNamed, row_bytes, row_numbered}
+use Rattle.dlms_checkpoint.specs.declared.writing.TheConstants.{RING_ROWS}
+use Rattle.dlms_store.specs.declared.layout.Slot.{Slot}
+use Rattle.dlms_store.specs.declared.layout.TheConstants.{MOST_CAPTURED}
+use Rattle.dlms_store.specs.Layout.{gate_of, ring_place}
+use Rattle.dlms_store.specs.Image.{AreRings, IsRingPage, IsWithinRing, Spells}
+use Rattle.dlms_store.specs.Writing.{IsEachRingPage}
+use Rattle.dlms_store.proofs.Ring.{follows, never_lost}
+
+-- the row of this number is the one that was captured at this place among all captures
+row_captured : (E : List Event) (n : ℕ) → first_number (state_of E).rows ≤ n → row_numbered (state_of E).rows n ≡ get_or (map row_after (captures E)) n (row_at 0)
+row_captured E n past =
+    let end = buffer_is_the_end E in
+    let long : length end.0 ≡ first_number (state_of E).rows = omega (arith, length-map (captures E) row_after, ap (λ (l : List Row). length l) end.1, length-append end.0 (buffer_after E)) in
+    sym (ap (λ (l : List Row). get_or l n (row_at 0)) end.1 ∙ get_or-append_right end.0 (buffer_after E) (first_number (state_of E).rows) n (row_at 0) long past)
+
+-- a row that is still kept after more events is the same
+row_kept : (E F : List Event) (n : ℕ) → first_number (state_of E).rows ≤ n → first_number (state_of (E ++ F)).rows ≤ n → n < length (captures E) → row_numbered (state_of E).rows n ≡ row_numbered (state_of (E ++ F)).rows n
+row_kept E F n here there less =
+    let go = captures_go_on E F in
+    let parted : map row_after (captures (E ++ F)) ≡ map row_after (captures E) ++ map row_after go.0 = ap (map row_after) go.1 ∙ map-append row_after (captures E) go.0 in
+    let same : get_or (map row_after (captures (E ++ F))) n (row_at 0) ≡ get_or (map row_after (captures E)) n (row_at 0) =
+    ap (λ (l : List Row). get_or l n (row_at 0)) parted ∙ get_or-append (map row_after (captures E)) (map row_after go.0) (row_at 0) n (omega (arith, less, length-map (captures E) row_after)) in
+    row_captured E n here ∙ sym same ∙ sym (row_captured (E ++ F) n there)
+
+-- The ring pages from this one on, up to that one, are those that the state after E and F names and the one after E does not.
+pub record AreFresh (E F : List Event) (from to : ℕ) : Type 0 where
+  pub from_is : from ≡ max (first_number (state_of (E ++ F)).rows) (length (captures E)) / RING_ROWS
+  pub to_is : to ≡ length (captures (E ++ F)) / RING_ROWS
+  pub within : IsWithinRing E F
+
+-- so they are where they are counted from a state and from how many rows were captured before
+pub made_fresh : (E F : List Event) (s : StateValue) (n from to : ℕ) → s ≡ state_of (E ++ F) → n ≡ length (captures E) → from ≡ max (first_number s.rows) n / RING_ROWS → to ≡ s.rows.next / RING_ROWS → s.rows.next ≤ n + MOST_CAPTURED → s.rows.next ≤ 2 ^ 64
+    → AreFresh E F from to
+made_fresh E F s n from to is counted first behind few numbers =
+    let next : s.rows.next ≡ length (captures (E ++ F)) = ap (λ (t : StateValue). t.rows.next) is in
+    record {
+      from_is = first ∙ ap (λ (t : StateValue). max (first_number t.rows) n / RING_ROWS) is ∙ ap (λ (m : ℕ). max (first_number (state_of (E ++ F)).rows) m / RING_ROWS) counted;
+      to_is = behind ∙ ap (λ (m : ℕ). m / RING_ROWS) next;
+      within = record { few = omega (arith, few, next, counted); numbers = omega (arith, numbers, next) };
+    }
+
+-- no ring page that the state of these events names stands where one of those does
+abbrev pub IsApart : List Event → (from to : ℕ) → Type 0
+IsApart E from to = (k j : ℕ) → IsNamed (state_of E).rows k → from ≤ j → j < to → ring_place k ≢ ring_place j
+
+module _ (E F : List Event) (from to : ℕ) (fresh : AreFresh E F from to) where
+  pub fresh_apart : IsApart E from to
+  fresh_apart k j named low high =
+      never_lost E F k j fresh.within named (record {
+        named = record { some = omega (arith, low, fresh.from_is); filled = omega (arith, high, fresh.to_is) };
+        fresh = λ other. omega (arith, other.filled, low, fresh.from_is);
+      })
+
+  -- a ring page that was named before still holds the rows that are kept
+  page_kept : (k : ℕ) (page : PageRead) → RING_ROWS * (k + 1) ≤ length (captures E) → IsRingPage (state_of E).rows k page → IsRingPage (state_of (E ++ F)).rows k page
+  page_kept k page filled is =
+      let gone = (follows E F fresh.within).gone in
+      record {
+        places = is.places;
+        is_page = is.is_page;
+        holds = record {
+          long = is.holds.long;
+          each = λ n past low high. (let before : first_number (state_of E).rows ≤ n = omega (arith, gone, past) in
+              is.holds.each n before low high ∙ ap row_bytes (row_kept E F n before past (omega (arith, high, filled))));
+        };
+      }
+
+  -- what the active slot names and what was written spell the state after more events
+  pub fresh_rings : (slot other : Slot) (g h : ℕ) (image : Image) (bytes : List ℕ) → AreRings slot g (state_of E) image → AreBytes (state_of (E ++ F)) bytes → Spells (gate_of other) h bytes image
+      → IsEachRingPage from to (λ k. IsRingPage (state_of (E ++ F)).rows k (page_at image (ring_place k))) → AreRings other h (state_of (E ++ F)) image
+  fresh_rings slot other g h image bytes rings are spells written = record {
+    bytes = bytes;
+    are = are;
+    bodies = spells;
+    ring = λ k named. ⊎_elim
+        (λ (old : k < from).
+        let filled : RING_ROWS * (k + 1) ≤ length (captures E) = omega (arith, old, named.some, fresh.from_is) in
+        page_kept k (page_at image (ring_place k)) filled (rings.ring k (record { some = omega (arith, named.some, (follows E F fresh.within).gone); filled = filled })))
+        (λ (new : from ≤ k). written k new (omega (arith, named.filled, fresh.to_is)))
+        (cases_lt k from);
+  }
