@@ -40,6 +40,8 @@ pub enum OnDevice {
     Clears(u16),
     /// A page gets these bytes in front, and zeros behind them.
     Puts(u16, &'static [u8]),
+    /// A byte of a page, at this place, becomes this one.
+    Changes(u16, usize, u8),
     /// A page has these bytes from this place on, and zeros behind them.
     Ends(u16, usize, &'static [u8]),
     /// A page begins with these bytes.
@@ -86,6 +88,9 @@ const PAGE_OF_42: [u8; 22] = [
     0x01, 0x00, 0x00, 0x00, 0x00, 0x2a,
 ];
 
+/// An open gate of generation 1.
+const FIRST_GATE: [u8; 14] = [1, 1, 0, 1, 0, 0, 0, 0, 0, 0, 0, 1, 0, 0];
+
 /// The open gate of the first slot, of generation 3.
 const THIRD_GATE: [u8; 14] = [1, 1, 0, 0, 0, 0, 0, 0, 0, 0, 0, 3, 0, 0];
 
@@ -120,7 +125,7 @@ const ROWS_41: [u8; 57] = [
 const OLD_GATE: [u8; 14] = [1, 0, 0, 0, 0, 0, 0, 0, 0, 0, 0, 1, 0, 0];
 
 /// The scripts.
-pub const SCRIPTS: [Script; 20] = [
+pub const SCRIPTS: [Script; 26] = [
     Script {
         name: "a journal page",
         steps: &[
@@ -149,7 +154,7 @@ pub const SCRIPTS: [Script; 20] = [
             Step::At(OnDevice::Holds(6, &[])),
         ],
     },
-    // A page is a write and a sync, a checkpoint three of each.
+    // A page is a write and a sync, a checkpoint of no row three of each.
     Script {
         name: "the first page before the 83rd record",
         steps: &[
@@ -360,6 +365,77 @@ pub const SCRIPTS: [Script; 20] = [
             Step::Opens(Some(OpenFault::Corrupt(24))),
             Step::At(OnDevice::Puts(24, &RING_7)),
             Step::Opens(Some(OpenFault::Corrupt(24))),
+        ],
+    },
+    // Its fourth row's clock begins with the byte that is changed.
+    Script {
+        name: "a ring page with a clock out of range is named",
+        steps: &[
+            Step::Device(PAGES),
+            Step::Formats(None),
+            Step::Store(OnStore::Captures(241)),
+            Step::Closes,
+            Step::At(OnDevice::Changes(25, 64, 0xff)),
+            Step::Opens(Some(OpenFault::Corrupt(25))),
+        ],
+    },
+    Script {
+        name: "a torn ring page is named",
+        steps: &[
+            Step::Device(PAGES),
+            Step::Formats(None),
+            Step::Store(OnStore::Captures(241)),
+            Step::Closes,
+            Step::At(OnDevice::Clears(29)),
+            Step::Stops(Pick::AllDamaged),
+            Step::Opens(Some(OpenFault::Corrupt(29))),
+        ],
+    },
+    Script {
+        name: "the first body that does not fit is named",
+        steps: &[
+            Step::Device(PAGES),
+            Step::Formats(None),
+            Step::Store(OnStore::Captures(29)),
+            Step::Store(OnStore::Checkpoints(Ok(()))),
+            Step::Closes,
+            Step::At(OnDevice::Clears(5)),
+            Step::Opens(Some(OpenFault::Corrupt(5))),
+            Step::At(OnDevice::Clears(4)),
+            Step::Opens(Some(OpenFault::Corrupt(4))),
+        ],
+    },
+    // The first byte of the last row's clock stands in the second body, and an unused byte of the secret in the first.
+    Script {
+        name: "bodies of no state name the first of them",
+        steps: &[
+            Step::Device(PAGES),
+            Step::Formats(None),
+            Step::Store(OnStore::Captures(29)),
+            Step::Store(OnStore::Checkpoints(Ok(()))),
+            Step::Closes,
+            Step::At(OnDevice::Changes(5, 270, 0xff)),
+            Step::Opens(Some(OpenFault::Corrupt(4))),
+        ],
+    },
+    Script {
+        name: "an unused byte that is not zero names the first body",
+        steps: &[
+            Step::Device(PAGES),
+            Step::Formats(None),
+            Step::Closes,
+            Step::At(OnDevice::Changes(1, 60, 1)),
+            Step::Opens(Some(OpenFault::Corrupt(1))),
+        ],
+    },
+    Script {
+        name: "of two open gates of one generation the second is named",
+        steps: &[
+            Step::Device(PAGES),
+            Step::Formats(None),
+            Step::Closes,
+            Step::At(OnDevice::Puts(3, &FIRST_GATE)),
+            Step::Opens(Some(OpenFault::Corrupt(3))),
         ],
     },
     Script {

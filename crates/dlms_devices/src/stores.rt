@@ -104,6 +104,18 @@ fn puts(device: &mut MemoryPages, index: u16, front: &[u8]) -> bool {
     index < device.count() && device.write(index, &content).is_ok()
 }
 
+/// Changes a byte of a page, and says whether that passed.
+fn changes(device: &mut MemoryPages, index: u16, place: usize, byte: u8) -> bool {
+    let Some(mut content) = content_of(device, index) else {
+        return false;
+    };
+    match content.get_mut(place) {
+        Some(old) => *old = byte,
+        None => return false,
+    }
+    index < device.count() && device.write(index, &content).is_ok()
+}
+
 /// Takes a step on a device.
 fn play_on_device(
     report: &mut Report<'_>,
@@ -120,6 +132,9 @@ fn play_on_device(
         OnDevice::Puts(index, front) => report.compare(place, puts(device, index, front), true),
         OnDevice::Begins(index, front) => {
             report.compare(place, begins(device, index, front), true)
+        }
+        OnDevice::Changes(index, at, byte) => {
+            report.compare(place, changes(device, index, at, byte), true)
         }
         OnDevice::Ends(index, from, part) => {
             report.compare(place, ends(device, index, from, part), true)

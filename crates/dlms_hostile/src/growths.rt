@@ -8,7 +8,7 @@ use dlms_meter::Meter;
 use dlms_pages::MemoryPages;
 use dlms_store::PAGES;
 use linked_list_allocator::LocalHeap;
-use std::alloc::{AllocError, Global};
+use std::alloc::{AllocError, Allocator, Global};
 
 /// The heap of the meter, ample for every request.
 const HEAP: usize = 1_048_576;
@@ -16,7 +16,7 @@ const HEAP: usize = 1_048_576;
 /// The seconds of a capture period, and the rows of a full buffer.
 const PERIOD: u32 = 900;
 
-const ROWS: u32 = 960;
+pub const ROWS: u32 = 960;
 
 /// A request, and what its answer is.
 pub struct Asked {
@@ -132,7 +132,7 @@ pub const UNKNOWN: Asked = Asked {
 };
 
 /// SET of the longest text.
-fn sets_longest_text(meter: &mut MemoryMeter<&LocalHeap>) -> bool {
+fn sets_longest_text<A: Allocator + Copy>(meter: &mut MemoryMeter<A>) -> bool {
     let mut request = [0x41u8; 256];
     let head = [
         0xc1, 0x01, 0xc1, 0, 1, 0, 0, 96, 1, 1, 255, 2, 0, 0x09, 0x81, 240,
@@ -149,15 +149,16 @@ fn sets_longest_text(meter: &mut MemoryMeter<&LocalHeap>) -> bool {
     }
 }
 
-/// A meter with a full buffer and the longest text; none where it can't be made.
-fn full<'h>(
+/// A meter with so many rows and the longest text, which takes its memory from a heap; none where it can't be made.
+pub fn filled<A: Allocator + Copy>(
     alloc: Global,
-    heap: &'h LocalHeap,
-) -> Result<Option<MemoryMeter<&'h LocalHeap>>, AllocError> {
+    heap: A,
+    rows: u32,
+) -> Result<Option<MemoryMeter<A>>, AllocError> {
     let Ok(mut meter) = Meter::format(heap, MemoryPages::new(alloc, PAGES)?) else {
         return Ok(None);
     };
-    for period in 1..=ROWS {
+    for period in 1..=rows {
         if meter.moment(period.saturating_mul(PERIOD)).is_err() {
             return Ok(None);
         }
@@ -168,13 +169,13 @@ fn full<'h>(
 
 /// What came of a request.
 #[derive(Clone, Copy, Debug, PartialEq, Eq)]
-enum Ended {
+pub enum Ended {
     Given,
     Refused,
     Otherwise,
 }
 
-fn ended_by(asked: &Asked, answer: &[u8]) -> Ended {
+pub fn ended_by(asked: &Asked, answer: &[u8]) -> Ended {
     if answer.starts_with(asked.given) {
         return Ended::Given;
     }
@@ -213,10 +214,10 @@ fn asked_with(
 }
 
 /// Whether it ended as it may: with little left it is refused, if it needs memory at all, and with most left it is given.
-fn is_right(asked: &Asked, case: usize, ended: Ended) -> bool {
+pub fn is_right(asked: &Asked, case: usize, cases: usize, ended: Ended) -> bool {
     match ended {
         Ended::Given => asked.refused.is_empty() || case > 0,
-        Ended::Refused => case.saturating_add(1) < asked.cases,
+        Ended::Refused => case.saturating_add(1) < cases,
         Ended::Otherwise => false,
     }
 }
@@ -225,7 +226,7 @@ fn is_right(asked: &Asked, case: usize, ended: Ended) -> bool {
 pub fn refused_in_turn(alloc: Global, asked: &Asked) -> Result<Tally, AllocError> {
     let mut tally = Tally::new();
     let heap = LocalHeap::new(alloc, HEAP)?;
-    let Some(mut meter) = full(alloc, &heap)? else {
+    let Some(mut meter) = filled(alloc, &heap, ROWS)? else {
         return Ok(tally);
     };
     let _link = associated(&mut meter, asked.client);
@@ -235,7 +236,7 @@ pub fn refused_in_turn(alloc: Global, asked: &Asked) -> Result<Tally, AllocError
         let is_up = associated(&mut meter, asked.client).is_some();
         tally.count(Verdict {
             is_noted: ended == Ended::Refused,
-            is_right: is_right(asked, case, ended) && is_up && heap.used() == used,
+            is_right: is_right(asked, case, asked.cases, ended) && is_up && heap.used() == used,
         });
     }
     Ok(tally)

@@ -2,6 +2,7 @@
 //! heap of a fixed size; and says how often what comes of it is other than it may be.
 #![tactic(auto)]
 
+mod arenas;
 mod client;
 mod garbled;
 mod growths;
@@ -15,9 +16,11 @@ mod tally;
 mod whole;
 
 use anyhow::Result;
+use arenas::refused_in_arenas;
 use garbled::{beginnings, changes};
 use growths::{
-    ALL_ROWS, Asked, COLUMNS, LIST, ONE_ROW, REGISTER, SET_TEXT, TEXT, UNKNOWN, refused_in_turn,
+    ALL_ROWS, Asked, COLUMNS, LIST, ONE_ROW, REGISTER, ROWS, SET_TEXT, TEXT, UNKNOWN,
+    refused_in_turn,
 };
 use mended::mended_changes;
 use polls::{files, polls};
@@ -68,6 +71,26 @@ fn run_requests<R: Print + AllocGlobal>(rt: &R) -> Result<u32> {
         ("an unknown object", &UNKNOWN),
     ] {
         differ = differ.saturating_add(run_request(rt, what, asked)?);
+    }
+    Ok(differ)
+}
+
+/// The same in arenas that take nothing back.
+fn run_arenas<R: Print + AllocGlobal>(rt: &R) -> Result<u32> {
+    println!(rt; "where nothing is given back:")?;
+    let mut differ = 0u32;
+    for (what, asked, rows, step, cases) in [
+        ("a register", &REGISTER, 0, 16, 16),
+        ("the object list", &LIST, 0, 32, 512),
+        ("the columns", &COLUMNS, 0, 16, 128),
+        ("the longest text", &TEXT, 0, 16, 48),
+        ("all of 960 rows", &ALL_ROWS, ROWS, 1024, 320),
+        ("one of 960 rows", &ONE_ROW, ROWS, 16, 96),
+        ("SET of a text", &SET_TEXT, 0, 16, 16),
+        ("an unknown object", &UNKNOWN, 0, 16, 16),
+    ] {
+        let tally = refused_in_arenas(rt.alloc(), asked, rows, step, cases)?;
+        differ = differ.saturating_add(report(rt, what, "refused", tally)?);
     }
     Ok(differ)
 }
@@ -123,11 +146,13 @@ fn main(rt: HostRuntime) -> Result<ExitCode> {
     let public = run_talk(&rt, "public", &PUBLIC)?;
     let management = run_talk(&rt, "management", &MANAGEMENT)?;
     let requests = run_requests(&rt)?;
+    let arenas = run_arenas(&rt)?;
     let others = run_others(&rt)?;
     let whole = run_whole(&rt)?;
     let differ = public
         .saturating_add(management)
         .saturating_add(requests)
+        .saturating_add(arenas)
         .saturating_add(others);
     if differ == 0 && whole {
         Ok(ExitCode::SUCCESS)

@@ -6,6 +6,8 @@ pub enum Act {
     /// So many events of one pulse each.
     Pulses(u32),
     Moment(u32),
+    /// A moment at the end of each period from the first to the last: a row each.
+    Periods(u32, u32),
     Asks(Asked),
 }
 
@@ -92,12 +94,22 @@ const CHECKPOINT: [Act; 2] = [Act::Pulses(1), Act::Asks(SET_B)];
 /// The 83rd pulse settles those before it, in a checkpoint where all pages are used. A page follows.
 const LAST: [Act; 2] = [Act::Pulses(84), Act::Asks(READ)];
 
+/// The 240th row since that checkpoint fills the ring, so the next event makes a checkpoint first, with eight ring pages. Each
+/// hundredth row settles those before it.
+const ROWS: [Act; 4] = [
+    Act::Periods(2, 242),
+    Act::Asks(READ),
+    Act::Pulses(1),
+    Act::Asks(SET_A),
+];
+
 /// The scenario: how often each of its parts comes. Its device is called 2 times for each page, and 6 times for each
-/// checkpoint: 78 times.
-pub const SCENARIO: [(u32, &[Act]); 5] = [
+/// checkpoint: 78 times. With its rows come four pages and a checkpoint with eight ring pages and a sync: 101 times.
+pub const SCENARIO: [(u32, &[Act]); 6] = [
     (1, &FIRST),
     (13, &PAGE),
     (1, &CHECKPOINT),
     (16, &PAGE),
     (1, &LAST),
+    (1, &ROWS),
 ];

@@ -7,6 +7,7 @@ mod client;
 mod heaps;
 mod play;
 mod replays;
+mod rounds;
 mod stops;
 
 use acts::SET_A;
@@ -18,7 +19,8 @@ use dlms_pages::MemoryPages;
 use dlms_store::PAGES;
 use heaps::{GET_LIST, GET_REGISTER, is_refused_in_turn, is_transfer_left};
 use play::Seen;
-use replays::replays;
+use replays::{is_refused_at_recovery, replays};
+use rounds::rounds;
 use std::alloc::{AllocError, Global};
 use std::process::ExitCode;
 use stops::{Fault, Left, after_stop, found_behind, found_on, stopped_everywhere};
@@ -128,9 +130,13 @@ fn run(rt: &HostRuntime) -> Result<()> {
     println!(rt; "a transfer left by a refusal: {is_left}")?;
     let (runs, differ) = replays(alloc)?;
     println!(rt; "replays: {runs} runs, {differ} differ")?;
+    let is_refused = is_refused_at_recovery(alloc)?;
+    println!(rt; "a recovery in a replay refused memory: {is_refused}")?;
     for (fault, pick) in RUNS {
         let (runs, differ) = stopped_everywhere(alloc, fault, pick)?;
         println!(rt; "{fault:?}, {pick:?}: {runs} runs, {differ} differ")?;
+        let (runs, differ) = rounds(alloc, fault, pick)?;
+        println!(rt; "{fault:?}, {pick:?}, rows replayed: {runs} runs, {differ} differ")?;
     }
     Ok(())
 }

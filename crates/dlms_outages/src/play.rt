@@ -84,6 +84,12 @@ fn act(
             played.judge(meter.moment(second));
             trace.push(seen_in(meter))?;
         }
+        Act::Periods(first, last) => {
+            for period in first..=last {
+                played.judge(meter.moment(period.saturating_mul(900)));
+                trace.push(seen_in(meter))?;
+            }
+        }
         Act::Asks(asked) => {
             match exchange(meter, link, asked.apdu) {
                 Some(answer) => played.hear(asked, answer.as_slice(), seen_in(meter)),

@@ -2,9 +2,11 @@
 
 use crate::stops::Fault;
 use crate::{FORMATS, formatted};
+use dlms_meter::Meter;
 use dlms_pages::MemoryPages;
 use dlms_program::{ReplayFault, replay};
 use dlms_store::PAGES;
+use linked_list_allocator::LocalHeap;
 use std::alloc::{AllocError, Global};
 use std::io;
 use std::io::{ErrorKind, Read, Write};
@@ -184,6 +186,38 @@ fn differs(alloc: Global, case: &Case, room: usize) -> Result<bool, AllocError> 
     let registers = meter.map(|meter| meter.state().registers());
     let printed = case.printed.get(..room).unwrap_or(case.printed);
     Ok(ended != case.ended || registers != case.registers || writer.taken.as_slice() != printed)
+}
+
+/// Whether a line `O` is refused its memory, on a heap of so many bytes, and what it prints then; None where anything else comes.
+fn refused_on(alloc: Global, size: usize) -> Result<Option<bool>, AllocError> {
+    let ample = LocalHeap::new(alloc, 65_536)?;
+    let small = LocalHeap::new(alloc, size)?;
+    let Ok(meter) = Meter::format(&ample, MemoryPages::new(alloc, PAGES)?) else {
+        return Ok(None);
+    };
+    let mut meter = Some(meter);
+    let mut reader: &[u8] = b"P 0 42\nO\nS\n";
+    let mut writer = Vec::new(alloc);
+    let ended = replay(&small, &mut reader, &mut writer, &mut meter);
+    let printed = writer.as_slice();
+    if ended.is_ok() && printed == b"open\nstate 42 0 0 0 0\n".as_slice() {
+        return Ok(Some(false));
+    }
+    if ended == Err(ReplayFault::Recovery) && printed == b"fault open 4\n".as_slice() {
+        return Ok(Some(true));
+    }
+    Ok(None)
+}
+
+/// Whether a line `O` is refused its memory on each heap that lacks the room of the rows, and on no larger one, a step apart.
+pub fn is_refused_at_recovery(alloc: Global) -> Result<bool, AllocError> {
+    for step in 0..40usize {
+        let size = step.saturating_mul(512);
+        if refused_on(alloc, size)? != Some(size < 15_360) {
+            return Ok(false);
+        }
+    }
+    Ok(true)
 }
 
 /// How many replays there were, and how many came out otherwise.

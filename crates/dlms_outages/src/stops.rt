@@ -36,7 +36,7 @@ struct Ended {
 }
 
 /// A new device that fails so, behind so many calls of a formatted meter.
-fn device_of(alloc: Global, fault: Fault, calls: u64) -> Result<MemoryPages, AllocError> {
+pub fn device_of(alloc: Global, fault: Fault, calls: u64) -> Result<MemoryPages, AllocError> {
     let mut device = MemoryPages::new(alloc, PAGES)?;
     let calls = FORMATS.saturating_add(calls);
     match fault {
@@ -90,7 +90,7 @@ pub fn after_stop(device: MemoryPages, left: Left) -> MemoryPages {
 /// What is found where the power stops in each call of the recovery in turn, until it ends.
 fn found_after_stops(alloc: Global, device: MemoryPages, pick: Left) -> Option<Seen> {
     let mut device = device;
-    for calls in 0..32u64 {
+    for calls in 0..RECOVERY {
         device.fuse(calls);
         match recovered(alloc, device) {
             Ok(meter) => return Some(seen_in(&meter)),
@@ -157,7 +157,10 @@ fn is_right(
 }
 
 /// How often the device is called in the scenario.
-const CALLS: u32 = 78;
+const CALLS: u32 = 101;
+
+/// More calls than a recovery makes: a sync, two gates, two bodies, eight ring pages and sixteen of the journal, and a checkpoint.
+const RECOVERY: u64 = 64;
 
 /// What is to be seen in the scenario, call by call, where the device never fails; None where a call answers otherwise.
 fn whole(alloc: Global) -> Result<Option<Vec<Seen>>, AllocError> {
