@@ -4,5 +4,6 @@ pub mod Heads
 pub mod Joins
 pub mod Lists
 pub mod Places
+pub mod Presents
 pub mod Rows
 pub mod Whole

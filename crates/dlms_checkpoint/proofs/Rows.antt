@@ -1,29 +1,29 @@
--- Rows one after another.
-use Rattle.std.proofs.Common.{◌≡◌, ℕ, zero, suc, ◌+◌, ◌-◌, ◌*◌, ◌/◌, ◌%◌, ◌<◌, ◌≤◌, ◌^◌, List, [], ◌∷◌, ◌++◌, length, take, drop, get_or, refl, sym, ap, ◌∙◌, subst, arith, append_assoc, All}
+-- Rows one after another, each of so many values.
+use Rattle.std.proofs.Common.{◌≡◌, ℕ, zero, suc, ◌+◌, ◌*◌, ◌/◌, ◌%◌, ◌<◌, ◌≤◌, ◌^◌, List, [], ◌∷◌, ◌++◌, length, take, drop, get_or, refl, sym, ap, ◌∙◌, subst, arith, append_assoc, All}
 use Rattle.std.proofs.lemmas.List.{length-append, drop-drop, length-drop, drop-append-le, take-append-le}
 use Rattle.std.proofs.Math.Seq.{take-add}
+use Rattle.std.specs.List.{flat_map}
 use Rattle.byteorder.specs.Endian.{big_from, big_bytes}
+use Rattle.byteorder.specs.Numbers.{big_from-take, big_from-lt}
 use Rattle.dlms_profile.specs.declared.rows.Row.{Row}
-use Rattle.dlms_profile.specs.Rows.{IsRow}
+use Rattle.dlms_profile.specs.Rows.{IsRow, row_of_values}
 use Rattle.dlms_checkpoint.specs.Checkpoint.{registers_bytes, row_bytes}
-use Rattle.dlms_checkpoint.specs.Reading.{registers_at, row_at, rows_at}
+use Rattle.dlms_checkpoint.specs.Reading.{registers_at, values_at, row_at, rows_at}
 use Rattle.dlms_checkpoint.proofs.Lists.{from_behind, number_here, from_drop, drop_behind}
-use Rattle.byteorder.specs.Numbers.{big_from-take}
 
 abbrev pub AreOctets : List ℕ → Type 0
 AreOctets bytes = All (λ byte. byte < 2 ^ 8) bytes
 
--- ---- how long they are
+pub octets_behind : (n : ℕ) (bytes : List ℕ) → AreOctets bytes → AreOctets (drop n bytes)
+octets_behind zero bytes all = all
+octets_behind (suc n) [] all = all
+octets_behind (suc n) (b ∷ bytes) all = octets_behind n bytes (λ k d low. all (suc k) d (omega (arith, low)))
+
+-- ---- registers
 
 pub length-registers : (registers : List ℕ) → length (registers_bytes registers) ≡ 12
 unfolding registers_bytes
 length-registers registers = refl
-
-pub length-row : (row : Row) → length (row_bytes row) ≡ 16
-unfolding row_bytes
-length-row row = length-append (big_bytes 4 row.clock) (registers_bytes row.registers) ∙ ap (λ (n : ℕ). 4 + n) (length-registers row.registers)
-
--- ---- written and read again
 
 three_are : (a b c x y z : ℕ) → x ≡ a → y ≡ b → z ≡ c → x ∷ y ∷ z ∷ [] ≡ a ∷ b ∷ c ∷ []
 three_are a b c x y z e f g = cc
@@ -44,11 +44,6 @@ registers_again (a ∷ b ∷ c ∷ []) rest count fit =
     (ap (big_from 4 4) text ∙ from_behind A (B ++ (C ++ rest)) 0 4 4 refl ∙ number_here 4 b (C ++ rest) (fit 1 0 (omega arith)))
     (ap (big_from 8 4) text ∙ from_behind A (B ++ (C ++ rest)) 4 4 8 refl ∙ from_behind B (C ++ rest) 0 4 4 refl ∙ number_here 4 c rest (fit 2 0 (omega arith)))
 
-row_is : (row other : Row) → other.clock ≡ row.clock → other.registers ≡ row.registers → other ≡ row
-row_is row other e f =
-    let made : ℕ → List ℕ → Row = λ c r. record { clock = c; registers = r } in
-    ap (λ (c : ℕ). made c other.registers) e ∙ ap (made row.clock) f
-
 -- places counted from further on
 pub registers_drop : (place : ℕ) (bytes : List ℕ) → registers_at 0 (drop place bytes) ≡ registers_at place bytes
 unfolding registers_at
@@ -58,20 +53,45 @@ registers_drop place bytes =
     further : (k : ℕ) → big_from (0 + k) 4 (drop place bytes) ≡ big_from (place + k) 4 bytes
     further k = sym (from_drop (0 + k) 4 (drop place bytes)) ∙ ap (big_from 0 4) (drop-drop (0 + k) place bytes ∙ ap (λ (j : ℕ). drop j bytes) (omega arith)) ∙ from_drop (place + k) 4 bytes
 
-pub row_drop : (place : ℕ) (bytes : List ℕ) → row_at 0 (drop place bytes) ≡ row_at place bytes
-unfolding row_at
-row_drop place bytes =
-    row_is _ _ (from_drop place 4 bytes)
-    (sym (registers_drop (0 + 4) (drop place bytes)) ∙ ap (registers_at 0) (drop-drop (0 + 4) place bytes ∙ ap (λ (j : ℕ). drop j bytes) (omega arith)) ∙ registers_drop (place + 4) bytes)
+-- ---- values
 
-pub row_again : (row : Row) (rest : List ℕ) → IsRow row → row_at 0 (row_bytes row ++ rest) ≡ row
-unfolding row_bytes row_at
-row_again row rest is =
-    let A = big_bytes 4 row.clock in
-    let text : row_bytes row ++ rest ≡ A ++ (registers_bytes row.registers ++ rest) = append_assoc A (registers_bytes row.registers) rest in
-    row_is row _
-    (ap (big_from 0 4) text ∙ number_here 4 row.clock (registers_bytes row.registers ++ rest) is.clock)
-    (ap (registers_at 4) text ∙ sym (registers_drop 4 (A ++ (registers_bytes row.registers ++ rest))) ∙ registers_again row.registers rest is.count is.registers)
+pub length-values_bytes : (values : List ℕ) → length (flat_map (big_bytes 4) values) ≡ 4 * length values
+length-values_bytes [] = refl
+length-values_bytes (v ∷ values) = length-append (big_bytes 4 v) (flat_map (big_bytes 4) values) ∙ omega (arith, length-values_bytes values)
+
+pub length-values_at : (n : ℕ) (bytes : List ℕ) → length (values_at n bytes) ≡ n
+length-values_at zero bytes = refl
+length-values_at (suc n) bytes = omega (arith, length-values_at n (drop 4 bytes))
+
+two_are : (a x : ℕ) (b y : List ℕ) → x ≡ a → y ≡ b → x ∷ y ≡ a ∷ b
+two_are a x b y e f = cc
+
+first_of : (P : ℕ → Type 0) (v : ℕ) (values : List ℕ) → All P (v ∷ values) → P v
+first_of P v values all = all 0 v (omega arith)
+
+others_of : (P : ℕ → Type 0) (v : ℕ) (values : List ℕ) → All P (v ∷ values) → All P values
+others_of P v values all k d low = all (suc k) d (omega (arith, low))
+
+pub values_again : (values rest : List ℕ) → All (λ value. value < 2 ^ 32) values → values_at (length values) (flat_map (big_bytes 4) values ++ rest) ≡ values
+values_again [] rest fit = refl
+values_again (v ∷ values) rest fit =
+    let A = big_bytes 4 v in
+    let B = flat_map (big_bytes 4) values in
+    let text : (A ++ B) ++ rest ≡ A ++ (B ++ rest) = append_assoc A B rest in
+    two_are _ _ _ _
+    (ap (big_from 0 4) text ∙ number_here 4 v (B ++ rest) (first_of (λ value. value < 2 ^ 32) v values fit))
+    (ap (λ (l : List ℕ). values_at (length values) (drop 4 l)) text ∙ ap (values_at (length values)) (drop_behind A (B ++ rest) 0 4 refl) ∙ values_again values rest (others_of (λ value. value < 2 ^ 32) v values fit))
+
+pub values_more : (n : ℕ) (bytes : List ℕ) → values_at (n + 1) bytes ≡ values_at n bytes ++ big_from (4 * n) 4 bytes ∷ []
+values_more n bytes = (let next : n + 1 ≡ suc n = omega arith in ap (λ (k : ℕ). values_at k bytes) next) ∙ more n bytes
+  where
+    more : (n : ℕ) (bytes : List ℕ) → values_at (suc n) bytes ≡ values_at n bytes ++ big_from (4 * n) 4 bytes ∷ []
+    more zero bytes = refl
+    more (suc n) bytes =
+        let place : 4 + 4 * n ≡ 4 * suc n = omega arith in
+        let last : big_from (4 * n) 4 (drop 4 bytes) ≡ big_from (4 * suc n) 4 bytes =
+        sym (from_drop (4 * n) 4 (drop 4 bytes)) ∙ ap (big_from 0 4) (drop-drop (4 * n) 4 bytes) ∙ from_drop (4 + 4 * n) 4 bytes ∙ ap (λ (k : ℕ). big_from k 4 bytes) place in
+        ap (λ (l : List ℕ). big_from 0 4 bytes ∷ l) (more n (drop 4 bytes) ∙ ap (λ (v : ℕ). values_at n (drop 4 bytes) ++ v ∷ []) last)
 
 -- ---- read and written again
 
@@ -94,89 +114,133 @@ word_back (a ∷ b ∷ c ∷ []) long all = absurd (omega (arith, long))
 word_back (a ∷ b ∷ c ∷ d ∷ more) long all =
     four_bytes a b c d (big_from 0 4 (a ∷ b ∷ c ∷ d ∷ more)) (all 0 0 (omega arith)) (all 1 0 (omega arith)) (all 2 0 (omega arith)) (all 3 0 (omega arith)) (omega arith)
 
-pub octets_behind : (n : ℕ) (bytes : List ℕ) → AreOctets bytes → AreOctets (drop n bytes)
-octets_behind zero bytes all = all
-octets_behind (suc n) [] all = all
-octets_behind (suc n) (b ∷ bytes) all = octets_behind n bytes (λ k d low. all (suc k) d (omega (arith, low)))
-
-word_at : (i : ℕ) (bytes : List ℕ) → i + 4 ≤ length bytes → AreOctets bytes → big_bytes 4 (big_from i 4 bytes) ≡ take 4 (drop i bytes)
-word_at i bytes long all =
-    ap (big_bytes 4) (sym (from_drop i 4 bytes)) ∙ word_back (drop i bytes) (omega (arith, length-drop i bytes, long)) (octets_behind i bytes all)
-
-three_joined : (a b c x y z : List ℕ) → a ≡ x → b ≡ y → c ≡ z → a ++ (b ++ c) ≡ x ++ (y ++ z)
-three_joined a b c x y z e f g = cc
-
 two_joined : (a b x y : List ℕ) → a ≡ x → b ≡ y → a ++ b ≡ x ++ y
 two_joined a b x y e f = cc
 
-registers_back : (bytes : List ℕ) → 12 ≤ length bytes → AreOctets bytes → registers_bytes (registers_at 0 bytes) ≡ take 12 bytes
-unfolding registers_bytes registers_at
-registers_back bytes long all =
-    three_joined _ _ _ _ _ _ (word_back bytes (omega (arith, long)) all) (word_at 4 bytes (omega (arith, long)) all) (word_at 8 bytes (omega (arith, long)) all)
-    ∙ sym (take-add 4 8 bytes ∙ ap (λ (l : List ℕ). take 4 bytes ++ l) (take-add 4 4 (drop 4 bytes) ∙ ap (λ (l : List ℕ). take 4 (drop 4 bytes) ++ take 4 l) (drop-drop 4 4 bytes)))
+pub values_back : (n : ℕ) (bytes : List ℕ) → 4 * n ≤ length bytes → AreOctets bytes → flat_map (big_bytes 4) (values_at n bytes) ≡ take (4 * n) bytes
+values_back zero bytes long all = refl
+values_back (suc n) bytes long all =
+    let parted : 4 * suc n ≡ 4 + 4 * n = omega arith in
+    two_joined _ _ _ _ (word_back bytes (omega (arith, long)) all) (values_back n (drop 4 bytes) (omega (arith, long, length-drop 4 bytes)) (octets_behind 4 bytes all))
+    ∙ sym (take-add 4 (4 * n) bytes) ∙ sym (ap (λ (k : ℕ). take k bytes) parted)
 
-pub row_back : (bytes : List ℕ) → 16 ≤ length bytes → AreOctets bytes → row_bytes (row_at 0 bytes) ≡ take 16 bytes
+-- ---- a row
+
+row_is : (row other : Row) → other.values.items ≡ row.values.items → other ≡ row
+row_is row other e = ap row_of_values e
+
+pub length-row : (row : Row) → length (row_bytes row) ≡ 4 * length row.values.items
+unfolding row_bytes
+length-row row = length-values_bytes row.values.items
+
+pub row_count : (width place : ℕ) (bytes : List ℕ) → length (row_at width place bytes).values.items ≡ width
+unfolding row_at
+row_count width place bytes = length-values_at width (drop place bytes)
+
+pub row_drop : (width place : ℕ) (bytes : List ℕ) → row_at width 0 (drop place bytes) ≡ row_at width place bytes
+unfolding row_at
+row_drop width place bytes = refl
+
+pub row_again : (width : ℕ) (row : Row) (rest : List ℕ) → IsRow row → length row.values.items ≡ width → row_at width 0 (row_bytes row ++ rest) ≡ row
 unfolding row_bytes row_at
-row_back bytes long all =
-    two_joined _ _ _ _ (word_back bytes (omega (arith, long)) all) (ap registers_bytes (sym (registers_drop 4 bytes)) ∙ registers_back (drop 4 bytes) (omega (arith, length-drop 4 bytes, long)) (octets_behind 4 bytes all))
-    ∙ sym (take-add 4 12 bytes)
+row_again width row rest is count =
+    row_is row _ (ap (λ (n : ℕ). values_at n (flat_map (big_bytes 4) row.values.items ++ rest)) (sym count) ∙ values_again row.values.items rest is.values)
+
+pub row_back : (width : ℕ) (bytes : List ℕ) → 4 * width ≤ length bytes → AreOctets bytes → row_bytes (row_at width 0 bytes) ≡ take (4 * width) bytes
+unfolding row_bytes row_at
+row_back width bytes long all = values_back width bytes long all
 
 -- ---- one by one
 
-pub length-rows_at : (n : ℕ) (bytes : List ℕ) → length (rows_at n bytes) ≡ n
-length-rows_at zero bytes = refl
-length-rows_at (suc n) bytes = omega (arith, length-rows_at n (drop 16 bytes))
+pub length-rows_at : (width n : ℕ) (bytes : List ℕ) → length (rows_at width n bytes) ≡ n
+length-rows_at width zero bytes = refl
+length-rows_at width (suc n) bytes = omega (arith, length-rows_at width n (drop (4 * width) bytes))
 
-moved : (k : ℕ) (bytes : List ℕ) → row_at (16 * k) (drop 16 bytes) ≡ row_at (16 * suc k) bytes
-moved k bytes =
-    let far : 16 + 16 * k ≡ 16 * suc k = omega arith in
-    sym (row_drop (16 * k) (drop 16 bytes)) ∙ ap (row_at 0) (drop-drop (16 * k) 16 bytes) ∙ row_drop (16 + 16 * k) bytes ∙ ap (λ (j : ℕ). row_at j bytes) far
+moved : (width k : ℕ) (bytes : List ℕ) → row_at width (4 * width * k) (drop (4 * width) bytes) ≡ row_at width (4 * width * suc k) bytes
+moved width k bytes =
+    let far : 4 * width + 4 * width * k ≡ 4 * width * suc k = omega arith in
+    sym (row_drop width (4 * width * k) (drop (4 * width) bytes)) ∙ ap (row_at width 0) (drop-drop (4 * width * k) (4 * width) bytes) ∙ row_drop width (4 * width + 4 * width * k) bytes ∙ ap (λ (j : ℕ). row_at width j bytes) far
 
-rows_at-suc : (n : ℕ) (bytes : List ℕ) → rows_at (suc n) bytes ≡ rows_at n bytes ++ row_at (16 * n) bytes ∷ []
-rows_at-suc zero bytes = refl
-rows_at-suc (suc n) bytes =
-    ap (λ (l : List Row). row_at 0 bytes ∷ l)
-    (rows_at-suc n (drop 16 bytes) ∙ ap (λ (r : Row). rows_at n (drop 16 bytes) ++ r ∷ []) (moved n bytes))
+here : (width : ℕ) (bytes : List ℕ) → row_at width 0 bytes ≡ row_at width (4 * width * 0) bytes
+here width bytes = let start : 0 ≡ 4 * width * 0 = omega arith in ap (λ (j : ℕ). row_at width j bytes) start
 
-pub get-rows_at : (n : ℕ) (bytes : List ℕ) (k : ℕ) (d : Row) → k < n → get_or (rows_at n bytes) k d ≡ row_at (16 * k) bytes
-get-rows_at zero bytes k d low = absurd (omega (arith, low))
-get-rows_at (suc n) bytes zero d low = refl
-get-rows_at (suc n) bytes (suc k) d low =
-    get-rows_at n (drop 16 bytes) k d (omega (arith, low)) ∙ moved k bytes
+rows_at-suc : (width n : ℕ) (bytes : List ℕ) → rows_at width (suc n) bytes ≡ rows_at width n bytes ++ row_at width (4 * width * n) bytes ∷ []
+rows_at-suc width zero bytes = ap (λ (r : Row). r ∷ []) (here width bytes)
+rows_at-suc width (suc n) bytes =
+    ap (λ (l : List Row). row_at width 0 bytes ∷ l)
+    (rows_at-suc width n (drop (4 * width) bytes) ∙ ap (λ (r : Row). rows_at width n (drop (4 * width) bytes) ++ r ∷ []) (moved width n bytes))
 
-pub rows_at-more : (n : ℕ) (bytes : List ℕ) → rows_at (n + 1) bytes ≡ rows_at n bytes ++ row_at (16 * n) bytes ∷ []
-rows_at-more n bytes =
+pub get-rows_at : (width n : ℕ) (bytes : List ℕ) (k : ℕ) (d : Row) → k < n → get_or (rows_at width n bytes) k d ≡ row_at width (4 * width * k) bytes
+get-rows_at width zero bytes k d low = absurd (omega (arith, low))
+get-rows_at width (suc n) bytes zero d low = here width bytes
+get-rows_at width (suc n) bytes (suc k) d low =
+    get-rows_at width n (drop (4 * width) bytes) k d (omega (arith, low)) ∙ moved width k bytes
+
+pub rows_at-more : (width n : ℕ) (bytes : List ℕ) → rows_at width (n + 1) bytes ≡ rows_at width n bytes ++ row_at width (4 * width * n) bytes ∷ []
+rows_at-more width n bytes =
     let next : n + 1 ≡ suc n = omega arith in
-    ap (λ (m : ℕ). rows_at m bytes) next ∙ rows_at-suc n bytes
+    ap (λ (m : ℕ). rows_at width m bytes) next ∙ rows_at-suc width n bytes
 
-pub all_rows : (P : Row → Type 0) (n : ℕ) (bytes : List ℕ) → ((k : ℕ) → k < n → P (row_at (16 * k) bytes)) → All P (rows_at n bytes)
-all_rows P n bytes each k d low =
-    let few : k < n = omega (arith, low, length-rows_at n bytes) in
-    subst P (sym (get-rows_at n bytes k d few)) (each k few)
+pub all_rows : (P : Row → Type 0) (width n : ℕ) (bytes : List ℕ) → ((k : ℕ) → k < n → P (row_at width (4 * width * k) bytes)) → All P (rows_at width n bytes)
+all_rows P width n bytes each k d low =
+    let few : k < n = omega (arith, low, length-rows_at width n bytes) in
+    subst P (sym (get-rows_at width n bytes k d few)) (each k few)
 
-pub each_row : (P : Row → Type 0) (n : ℕ) (bytes : List ℕ) → All P (rows_at n bytes) → (k : ℕ) → k < n → P (row_at (16 * k) bytes)
-each_row P n bytes all k few =
-    subst P (get-rows_at n bytes k (row_at 0 bytes) few) (all k (row_at 0 bytes) (omega (arith, length-rows_at n bytes, few)))
+pub each_row : (P : Row → Type 0) (width n : ℕ) (bytes : List ℕ) → All P (rows_at width n bytes) → (k : ℕ) → k < n → P (row_at width (4 * width * k) bytes)
+each_row P width n bytes all k few =
+    subst P (get-rows_at width n bytes k (row_at width 0 bytes) few) (all k (row_at width 0 bytes) (omega (arith, length-rows_at width n bytes, few)))
 
 -- rows from a later place on
-pub row_further : (skipped i : ℕ) (bytes : List ℕ) → row_at (16 * i) (drop (16 * skipped) bytes) ≡ row_at (16 * (skipped + i)) bytes
-row_further skipped i bytes =
-    let far : 16 * skipped + 16 * i ≡ 16 * (skipped + i) = omega arith in
-    sym (row_drop (16 * i) (drop (16 * skipped) bytes)) ∙ ap (row_at 0) (drop-drop (16 * i) (16 * skipped) bytes) ∙ row_drop (16 * skipped + 16 * i) bytes ∙ ap (λ (j : ℕ). row_at j bytes) far
+pub row_further : (width skipped i : ℕ) (bytes : List ℕ) → row_at width (4 * width * i) (drop (4 * width * skipped) bytes) ≡ row_at width (4 * width * (skipped + i)) bytes
+row_further width skipped i bytes =
+    let far : 4 * width * skipped + 4 * width * i ≡ 4 * width * (skipped + i) = omega arith in
+    sym (row_drop width (4 * width * i) (drop (4 * width * skipped) bytes)) ∙ ap (row_at width 0) (drop-drop (4 * width * i) (4 * width * skipped) bytes) ∙ row_drop width (4 * width * skipped + 4 * width * i) bytes ∙ ap (λ (j : ℕ). row_at width j bytes) far
 
 -- a row of two stretches, one behind the other
-row_of_front : (front back : List ℕ) → 16 ≤ length front → row_at 0 (front ++ back) ≡ row_at 0 front
-unfolding row_at registers_at
-row_of_front front back long =
-    let at : (k : ℕ) → k + 4 ≤ 16 → big_from k 4 (front ++ back) ≡ big_from k 4 front =
-    λ k fits. sym (big_from-take k 4 16 (front ++ back) fits) ∙ ap (big_from k 4) (take-append-le 16 front back long) ∙ big_from-take k 4 16 front fits in
-    row_is _ _ (at 0 (omega arith)) (three_are _ _ _ _ _ _ (at 4 (omega arith)) (at 8 (omega arith)) (at 12 (omega arith)))
+values_of_front : (n : ℕ) (front back : List ℕ) → 4 * n ≤ length front → values_at n (front ++ back) ≡ values_at n front
+values_of_front zero front back long = refl
+values_of_front (suc n) front back long =
+    let first : big_from 0 4 (front ++ back) ≡ big_from 0 4 front =
+    sym (big_from-take 0 4 4 (front ++ back) (omega arith)) ∙ ap (big_from 0 4) (take-append-le 4 front back (omega (arith, long))) ∙ big_from-take 0 4 4 front (omega arith) in
+    two_are _ _ _ _ first
+    (ap (values_at n) (drop-append-le 4 front back (omega (arith, long))) ∙ values_of_front n (drop 4 front) back (omega (arith, long, length-drop 4 front)))
 
-pub row_in_front : (front back : List ℕ) (i : ℕ) → 16 * (i + 1) ≤ length front → row_at (16 * i) (front ++ back) ≡ row_at (16 * i) front
-row_in_front front back i within =
-    sym (row_drop (16 * i) (front ++ back)) ∙ ap (row_at 0) (drop-append-le (16 * i) front back (omega (arith, within)))
-    ∙ row_of_front (drop (16 * i) front) back (omega (arith, within, length-drop (16 * i) front)) ∙ row_drop (16 * i) front
+row_of_front : (width : ℕ) (front back : List ℕ) → 4 * width ≤ length front → row_at width 0 (front ++ back) ≡ row_at width 0 front
+unfolding row_at
+row_of_front width front back long = row_is _ _ (values_of_front width front back long)
 
-pub row_in_back : (front back : List ℕ) (i k : ℕ) → length front ≡ 16 * k → k ≤ i → row_at (16 * i) (front ++ back) ≡ row_at (16 * (i - k)) back
-row_in_back front back i k long past =
-    sym (row_drop (16 * i) (front ++ back)) ∙ ap (row_at 0) (drop_behind front back (16 * (i - k)) (16 * i) (omega (arith, long, past))) ∙ row_drop (16 * (i - k)) back
+pub row_in_front : (width : ℕ) (front back : List ℕ) (i : ℕ) → 4 * width * (i + 1) ≤ length front → row_at width (4 * width * i) (front ++ back) ≡ row_at width (4 * width * i) front
+row_in_front width front back i within =
+    sym (row_drop width (4 * width * i) (front ++ back)) ∙ ap (row_at width 0) (drop-append-le (4 * width * i) front back (omega (arith, within)))
+    ∙ row_of_front width (drop (4 * width * i) front) back (omega (arith, within, length-drop (4 * width * i) front)) ∙ row_drop width (4 * width * i) front
+
+pub row_in_back : (width : ℕ) (front back : List ℕ) (i k : ℕ) → length front ≡ 4 * width * k → row_at width (4 * width * (k + i)) (front ++ back) ≡ row_at width (4 * width * i) back
+row_in_back width front back i k long =
+    sym (row_drop width (4 * width * (k + i)) (front ++ back)) ∙ ap (row_at width 0) (drop_behind front back (4 * width * i) (4 * width * (k + i)) (omega (arith, long))) ∙ row_drop width (4 * width * i) back
+
+-- ---- what is read is a row
+
+values_fit : (n : ℕ) (bytes : List ℕ) → AreOctets bytes → All (λ value. value < 2 ^ 32) (values_at n bytes)
+values_fit zero bytes octets k d low = absurd (omega (arith, low))
+values_fit (suc n) bytes octets zero d low = big_from-lt 0 4 bytes (octet_at bytes octets)
+  where
+    octet_at : (bytes : List ℕ) → AreOctets bytes → (k : ℕ) → get_or bytes k 0 < 256
+    octet_at [] octets k = omega arith
+    octet_at (b ∷ bytes) octets zero = octets 0 0 (omega arith)
+    octet_at (b ∷ bytes) octets (suc k) = octet_at bytes (λ j d low. octets (suc j) d (omega (arith, low))) k
+values_fit (suc n) bytes octets (suc k) d low = values_fit n (drop 4 bytes) (octets_behind 4 bytes octets) k d (omega (arith, low))
+
+pub is_row : (width place : ℕ) (bytes : List ℕ) → width ≤ 4 → AreOctets bytes → IsRow (row_at width place bytes)
+unfolding row_at
+is_row width place bytes few octets =
+    record { count = omega (arith, few, length-values_at width (drop place bytes)); values = values_fit width (drop place bytes) (octets_behind place bytes octets) }
+
+-- the bytes of a place are those of the row that is read there
+pub placed : (width : ℕ) (bytes : List ℕ) (i : ℕ) → 4 * width * (i + 1) ≤ length bytes → AreOctets bytes → take (4 * width) (drop (4 * width * i) bytes) ≡ row_bytes (row_at width (4 * width * i) bytes)
+placed width bytes i within octets =
+    sym (row_back width (drop (4 * width * i) bytes) (omega (arith, within, length-drop (4 * width * i) bytes)) (octets_behind (4 * width * i) bytes octets)) ∙ ap row_bytes (row_drop width (4 * width * i) bytes)
+
+-- rows of the same bytes are the same
+pub one_row : (width : ℕ) (row other : Row) → IsRow row → IsRow other → length row.values.items ≡ width → length other.values.items ≡ width → row_bytes row ≡ row_bytes other → row ≡ other
+one_row width row other is also count counts same =
+    sym (row_again width row [] is count) ∙ ap (λ (l : List ℕ). row_at width 0 (l ++ [])) same ∙ row_again width other [] also counts

@@ -1,12 +1,12 @@
 -- The bytes of a checkpoint: a whole state as it stands on the meter's medium, in bodies and in the ring pages that they name.
--- Numbers stand with their highest byte first.
+-- This is the present layout. Numbers stand with their highest byte first.
 use Rattle.std.specs.Prelude.{◌≡◌, ℕ, zero, suc, ◌+◌, ◌-◌, ◌*◌, ◌%◌, ◌<◌, ◌≤◌, ◌^◌, nat_eq, nat_lt, if◌then◌else◌, List, [], ◌∷◌, ◌++◌, length, take, drop, replicate, slice_index, slice_index_or}
 use Rattle.std.specs.Int.{cast_unsigned, w64}
+use Rattle.std.specs.List.{flat_map}
 use Rattle.byteorder.specs.Endian.{big_bytes}
 use Rattle.dlms_profile.specs.declared.rows.Row.{Row}
 use Rattle.dlms_profile.specs.Rows.{RowsValue, first_number, row_at}
 use Rattle.dlms_state.specs.StateValue.{StateValue, IsWithinLimits, FitsTypes}
-use Rattle.dlms_checkpoint.specs.declared.fields.TheConstants.{ROW_BYTES}
 use Rattle.dlms_checkpoint.specs.declared.writing.TheConstants.{RING_ROWS}
 
 -- bytes where there is room for so many: their count, the bytes, and zeros behind them
@@ -17,9 +17,13 @@ field room bytes = length bytes ∷ (bytes ++ replicate (room - length bytes) 0)
 unfoldable pub registers_bytes : List ℕ → List ℕ
 registers_bytes registers = big_bytes 4 (slice_index registers 0) ++ (big_bytes 4 (slice_index registers 1) ++ big_bytes 4 (slice_index registers 2))
 
--- a row: the second that the clock showed, and the registers
+-- a row: its values, of four bytes each
 unfoldable pub row_bytes : Row → List ℕ
-row_bytes row = big_bytes 4 row.clock ++ registers_bytes row.registers
+row_bytes row = flat_map (big_bytes 4) row.values.items
+
+-- how many bytes a row of these columns has
+abbrev pub row_width : (columns : List ℕ) → ℕ
+row_width columns = 4 * length columns
 
 -- Where the rows end at 2 ^ 64, the eight bytes of their end are zeros; with no row there, those of their beginning say 1.
 abbrev pub first_written : RowsValue → ℕ
@@ -29,8 +33,8 @@ abbrev pub next_written : RowsValue → ℕ
 next_written rows = if nat_eq rows.next (2 ^ 64) then 0 else rows.next
 
 -- What stands before the rows: the last moment (4 bytes), the offset (8, in two's complement), the capture period (4), the
--- registers (12), the secret (a count and 16), the text (a count and 240), the number of the first row (8), and the number
--- after the last row (8).
+-- registers (12), management's secret (a count and 16), the text (a count and 240), the ids of the columns (a count and 4), the
+-- reader's secret (a count and 16), the number of the first row (8), and the number after the last row (8).
 unfoldable pub head_bytes : StateValue → (first next : ℕ) → List ℕ
 head_bytes s first next =
     big_bytes 4 s.last
@@ -39,8 +43,10 @@ head_bytes s first next =
     ++ (registers_bytes s.registers
     ++ (field 16 s.secret
     ++ (field 240 s.text
+    ++ (field 4 s.columns
+    ++ (field 16 s.reader_secret
     ++ (big_bytes 8 first
-    ++ big_bytes 8 next))))))
+    ++ big_bytes 8 next))))))))
 
 -- ---- rows at places
 
@@ -48,10 +54,10 @@ head_bytes s first next =
 abbrev pub row_numbered : RowsValue → ℕ → Row
 row_numbered rows n = slice_index_or rows.items (n - first_number rows) (row_at 0)
 
--- The places hold the rows from the one numbered `from` on. A place below the first number is not looked at.
-pub record HoldsRows (rows : RowsValue) (from count : ℕ) (places : List ℕ) : Type 0 where
-  pub long : length places ≡ ROW_BYTES * count
-  pub each : (n : ℕ) → first_number rows ≤ n → from ≤ n → n < from + count → take ROW_BYTES (drop (ROW_BYTES * (n - from)) places) ≡ row_bytes (row_numbered rows n)
+-- The places hold the rows of these columns from the one numbered `from` on. A place below the first number is not looked at.
+pub record HoldsRows (columns : List ℕ) (rows : RowsValue) (from count : ℕ) (places : List ℕ) : Type 0 where
+  pub long : length places ≡ row_width columns * count
+  pub each : (n : ℕ) → first_number rows ≤ n → from ≤ n → n < from + count → take (row_width columns) (drop (row_width columns * (n - from)) places) ≡ row_bytes (row_numbered rows n)
 
 -- The k-th ring page has the places of the rows numbered 30 k to 30 k + 29. It belongs to a state where all of them were
 -- captured and the last one is still kept.
@@ -72,7 +78,7 @@ unfilled_from rows = rows.next - unfilled rows
 pub record AreBytes (s : StateValue) (bytes : List ℕ) : Type 0 where
   pub places : List ℕ
   pub joined : bytes ≡ head_bytes s (first_written s.rows) (next_written s.rows) ++ places
-  pub holds : HoldsRows s.rows (unfilled_from s.rows) (unfilled s.rows) places
+  pub holds : HoldsRows s.columns s.rows (unfilled_from s.rows) (unfilled s.rows) places
 
 -- a state that a legal list of events may leave, whose rows have numbers of 64 bits
 pub record IsLegalState (s : StateValue) : Type 0 where
@@ -80,22 +86,17 @@ pub record IsLegalState (s : StateValue) : Type 0 where
   pub fits : FitsTypes s
   pub numbers : s.rows.next ≤ 2 ^ 64
 
--- these are the bytes of this state, which is one that a legal list of events may leave
-pub record IsCheckpointOf (s : StateValue) (bytes : List ℕ) : Type 0 where
-  pub spelled : AreBytes s bytes
-  pub legal : IsLegalState s
-
 -- ---- as they are written
 
 -- a place as it is written: zeros below the first number
-abbrev pub place_of : RowsValue → ℕ → List ℕ
-place_of rows n = if nat_lt n (first_number rows) then replicate ROW_BYTES 0 else row_bytes (row_numbered rows n)
+abbrev pub place_of : (columns : List ℕ) → RowsValue → ℕ → List ℕ
+place_of columns rows n = if nat_lt n (first_number rows) then replicate (row_width columns) 0 else row_bytes (row_numbered rows n)
 
 -- so many places from that number on
-abbrev pub places_of : RowsValue → (from count : ℕ) → List ℕ
-places_of rows from zero = []
-places_of rows from (suc count) = places_of rows from count ++ place_of rows (from + count)
+abbrev pub places_of : (columns : List ℕ) → RowsValue → (from count : ℕ) → List ℕ
+places_of columns rows from zero = []
+places_of columns rows from (suc count) = places_of columns rows from count ++ place_of columns rows (from + count)
 
 -- the bytes of a state's bodies
 unfoldable pub checkpoint_bytes : StateValue → List ℕ
-checkpoint_bytes s = head_bytes s (first_written s.rows) (next_written s.rows) ++ places_of s.rows (unfilled_from s.rows) (unfilled s.rows)
+checkpoint_bytes s = head_bytes s (first_written s.rows) (next_written s.rows) ++ places_of s.columns s.rows (unfilled_from s.rows) (unfilled s.rows)

@@ -1,3 +1,4 @@
 pub mod Bodies
 pub mod Checkpoint
+pub mod Layouts
 pub mod Reading

@@ -1,15 +1,19 @@
--- Reading a checkpoint, by the places of its parts. No public clause speaks of `parts_at`, `row_at` and `rows_at`.
+-- Reading a checkpoint, by the places of its parts in the present layout. No public clause speaks of `parts_at`, `row_at` and
+-- `rows_at`.
 use Rattle.std.specs.Prelude.{◌≡◌, ℕ, zero, suc, ◌+◌, ◌-◌, ◌*◌, ◌/◌, ◌%◌, ◌<◌, ◌≤◌, List, [], ◌∷◌, length, take, drop, slice_range}
 use Rattle.std.specs.Int.{cast_signed, w64}
 use Rattle.byteorder.specs.Endian.{big_from}
 use Rattle.dlms_profile.specs.declared.rows.Row.{Row}
-use Rattle.dlms_profile.specs.Rows.{none_before}
+use Rattle.dlms_profile.specs.Rows.{none_before, row_of_values}
+use Rattle.dlms_state.specs.Columns.{IsRowOf}
 use Rattle.dlms_state.specs.StateValue.{StateValue}
-use Rattle.dlms_state.specs.declared.event.TheConstants.{LAST_SECOND}
-use Rattle.dlms_checkpoint.specs.Bodies.{secret_count, text_count, first_said, next_said, whole_length}
-use Rattle.dlms_checkpoint.specs.Checkpoint.{IsCheckpointOf, HoldsRows}
-use Rattle.dlms_checkpoint.specs.declared.fields.TheConstants.{HEAD_BYTES, ROW_BYTES}
-use Rattle.dlms_checkpoint.specs.declared.writing.TheConstants.{RING_BYTES, RING_ROWS}
+use Rattle.dlms_checkpoint.specs.Bodies.{secret_count, text_count, column_count, reader_secret_count, columns_said, first_said, next_said, whole_length}
+use Rattle.dlms_checkpoint.specs.Checkpoint.{HoldsRows, row_width}
+use Rattle.dlms_checkpoint.specs.Layouts.{IsCheckpointOf}
+use Rattle.dlms_checkpoint.specs.declared.fields.TheConstants.{HEAD_BYTES}
+use Rattle.dlms_checkpoint.specs.declared.version.Version.{Version}
+use Rattle.dlms_checkpoint.specs.declared.version.Version.TheVariants.{Columns}
+use Rattle.dlms_checkpoint.specs.declared.writing.TheConstants.{RING_ROWS}
 use Rattle.dlms_profile.specs.declared.rows.TheConstants.{CAPACITY}
 
 -- three registers from this place on
@@ -25,30 +29,44 @@ parts_at bytes next = record {
   period = big_from 12 4 bytes;
   text = slice_range bytes 46 (46 + text_count bytes);
   secret = slice_range bytes 29 (29 + secret_count bytes);
+  reader_secret = slice_range bytes 292 (292 + reader_secret_count bytes);
+  columns = columns_said bytes;
   rows = none_before next;
 }
 
--- the row from this place on
-unfoldable pub row_at : ℕ → List ℕ → Row
-row_at place bytes = record { clock = big_from place 4 bytes; registers = registers_at (place + 4) bytes }
+-- so many values, of four bytes each
+abbrev pub values_at : ℕ → List ℕ → List ℕ
+values_at zero bytes = []
+values_at (suc n) bytes = big_from 0 4 bytes ∷ values_at n (drop 4 bytes)
 
--- so many rows
-abbrev pub rows_at : ℕ → List ℕ → List Row
-rows_at zero bytes = []
-rows_at (suc n) bytes = row_at 0 bytes ∷ rows_at n (drop ROW_BYTES bytes)
+-- the row of so many values from this place on
+unfoldable pub row_at : (width place : ℕ) → List ℕ → Row
+row_at width place bytes = row_of_values (values_at width (drop place bytes))
+
+-- so many rows of so many values
+abbrev pub rows_at : (width count : ℕ) → List ℕ → List Row
+rows_at width zero bytes = []
+rows_at width (suc n) bytes = row_at width 0 bytes ∷ rows_at width n (drop (4 * width) bytes)
 
 -- a first body was taken, and no more than it says
 pub record HasHead (bytes : List ℕ) : Type 0 where
   pub long : HEAD_BYTES ≤ length bytes
   pub secret : secret_count bytes ≤ 16
   pub text : text_count bytes ≤ 240
+  pub columns : column_count bytes ≤ 4
+  pub reader_secret : reader_secret_count bytes ≤ 16
   pub order : first_said bytes ≤ next_said bytes
   pub few : next_said bytes ≤ first_said bytes + CAPACITY
   pub within : length bytes ≤ whole_length bytes
 
+-- the bodies of a version that were taken, joined, as they stand on the medium
+pub record Taken : Type 0 where
+  pub version : Version
+  pub bytes : List ℕ
+
 -- ---- ring pages
 
--- the bytes of all bodies, and the places of the ring pages that were taken, one page behind another
+-- the bytes of all bodies in the present layout, and the places of the ring pages that were taken, one page behind another
 pub record Filled : Type 0 where
   pub bytes : List ℕ
   pub ring : List ℕ
@@ -60,37 +78,41 @@ first_page bytes = first_said bytes / RING_ROWS
 abbrev pub open_page : List ℕ → ℕ
 open_page bytes = next_said bytes / RING_ROWS
 
+-- the bytes of a ring page's places
+abbrev pub page_length : List ℕ → ℕ
+page_length columns = row_width columns * RING_ROWS
+
 -- the page that is taken next, where any is
 abbrev pub awaited_page : Filled → ℕ
-awaited_page filled = first_page filled.bytes + length filled.ring / RING_BYTES
+awaited_page filled = first_page filled.bytes + length filled.ring / page_length (columns_said filled.bytes)
 
--- Of the places of rows whose numbers begin with `from`, each from the first number on has a clock in its range.
-abbrev pub ClocksFit : (first from : ℕ) → List ℕ → Type 0
-ClocksFit first from places = (i : ℕ) → first ≤ from + i → ROW_BYTES * (i + 1) ≤ length places → (row_at (ROW_BYTES * i) places).clock ≤ LAST_SECOND
+-- Of the places of rows whose numbers begin with `from`, each from the first number on holds a row of these columns.
+abbrev pub RowsFit : (columns : List ℕ) (first from : ℕ) → List ℕ → Type 0
+RowsFit columns first from places = (i : ℕ) → first ≤ from + i → row_width columns * (i + 1) ≤ length places → IsRowOf columns (row_at (length columns) (row_width columns * i) places)
 
--- these are places of the k-th ring page: 30 of them, with clocks in their range
-pub record ArePlaces (first k : ℕ) (places : List ℕ) : Type 0 where
-  pub long : length places ≡ RING_BYTES
-  pub clocks : ClocksFit first (RING_ROWS * k) places
+-- these are places of the k-th ring page: 30 of them, with clocks in their range where one of the columns is the clock
+pub record ArePlaces (columns : List ℕ) (first k : ℕ) (places : List ℕ) : Type 0 where
+  pub long : length places ≡ page_length columns
+  pub rows : RowsFit columns first (RING_ROWS * k) places
 
 -- the places of the k-th page among those taken
 abbrev pub page_taken : Filled → ℕ → List ℕ
-page_taken filled k = take RING_BYTES (drop (RING_BYTES * (k - first_page filled.bytes)) filled.ring)
+page_taken filled k = take (page_length (columns_said filled.bytes)) (drop (page_length (columns_said filled.bytes) * (k - first_page filled.bytes)) filled.ring)
 
 -- The bodies and the ring pages taken spell this state.
 pub record IsFilledBy (s : StateValue) (filled : Filled) : Type 0 where
-  pub bodies : IsCheckpointOf s filled.bytes
-  pub ring : (k : ℕ) → first_page filled.bytes ≤ k → k < open_page filled.bytes → HoldsRows s.rows (RING_ROWS * k) RING_ROWS (page_taken filled k)
+  pub bodies : IsCheckpointOf Columns s filled.bytes
+  pub ring : (k : ℕ) → first_page filled.bytes ≤ k → k < open_page filled.bytes → HoldsRows s.columns s.rows (RING_ROWS * k) RING_ROWS (page_taken filled k)
 
 -- all bodies were taken, and they are the bytes of some state
 pub record IsWhole (bytes : List ℕ) : Type 0 where
   pub head : HasHead bytes
   pub all : length bytes ≡ whole_length bytes
-  pub spelled : (s : StateValue) × IsCheckpointOf s bytes
+  pub spelled : (s : StateValue) × IsCheckpointOf Columns s bytes
 
--- Bodies of some state, and ring pages that they name: whole pages, no more of them than are named, with clocks in their range.
+-- Bodies of some state, and ring pages that they name: whole pages, no more of them than are named, with rows of the columns.
 pub record IsFilling (filled : Filled) : Type 0 where
   pub bodies : IsWhole filled.bytes
-  pub pages : length filled.ring % RING_BYTES ≡ 0
-  pub few : length filled.ring ≤ RING_BYTES * (open_page filled.bytes - first_page filled.bytes)
-  pub clocks : ClocksFit (first_said filled.bytes) (RING_ROWS * first_page filled.bytes) filled.ring
+  pub pages : length filled.ring % page_length (columns_said filled.bytes) ≡ 0
+  pub few : length filled.ring ≤ page_length (columns_said filled.bytes) * (open_page filled.bytes - first_page filled.bytes)
+  pub rows : RowsFit (columns_said filled.bytes) (first_said filled.bytes) (RING_ROWS * first_page filled.bytes) filled.ring

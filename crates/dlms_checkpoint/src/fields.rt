@@ -1,5 +1,5 @@
 //! The parts of a head and of a row, written.
-ghost use Rattle.std.specs.Prelude.{◌≡◌, ◌≤◌, ◌<◌, ◌+◌, ◌++◌, ◌-◌, ◌^◌, ℕ, length, replicate};
+ghost use Rattle.std.specs.Prelude.{◌≡◌, ◌≤◌, ◌<◌, ◌+◌, ◌*◌, ◌++◌, ◌-◌, ◌^◌, ℕ, length, replicate};
 ghost use Rattle.arrayvec.specs.ArrayVec.{array_vec_len};
 ghost use Rattle.dlms_state.specs.StateValue.{state_of_parts};
 ghost use Rattle.dlms_checkpoint.specs.Checkpoint.{field, registers_bytes, row_bytes, head_bytes};
@@ -9,10 +9,16 @@ use dlms_profile::Row;
 use dlms_state::Parts;
 
 /// The bytes before the rows.
-pub(crate) const HEAD_BYTES: usize = 302;
+pub(crate) const HEAD_BYTES: usize = 324;
 
-/// The bytes of a row: the clock and three registers, of four bytes each.
-pub const ROW_BYTES: usize = 16;
+/// Where the columns and the reader's secret stand in a head.
+pub(crate) const SETTINGS_PLACE: usize = 286;
+
+/// The bytes of the columns and the reader's secret.
+pub(crate) const SETTINGS_BYTES: usize = 22;
+
+/// The most bytes of a row: four values, of four bytes each.
+pub const MOST_ROW_BYTES: usize = 16;
 
 /// Appends bytes for which there is room.
 pub(crate) fn append<const N: usize>(bytes: &mut ArrayVec<u8, N>, more: &[u8])
@@ -38,12 +44,13 @@ fn append_registers<const N: usize>(bytes: &mut ArrayVec<u8, N>, registers: [u32
 /// Appends a row.
 #[tactic(auto, unfolding(crate::specs::Checkpoint::row_bytes))]
 pub(crate) fn append_row<const N: usize>(bytes: &mut ArrayVec<u8, N>, row: &Row)
-    requires { array_vec_len bytes.old + 16 ≤ N }
+    requires { array_vec_len bytes.old + 4 * length row.now.values.items ≤ N }
     ensures items { bytes.new.items ≡ bytes.old.items ++ row_bytes row.now }
-    ensures len { array_vec_len bytes.new ≡ array_vec_len bytes.old + 16 }
+    ensures len { array_vec_len bytes.new ≡ array_vec_len bytes.old + 4 * length row.now.values.items }
 {
-    append(bytes, &row.clock.to_be_bytes());
-    append_registers(bytes, row.registers);
+    for value in row.values.as_slice() {
+        append(bytes, &value.to_be_bytes());
+    }
 }
 
 /// These bytes in a room of `ROOM`, with zeros behind them.
@@ -85,6 +92,8 @@ pub(crate) fn head_of(parts: &Parts, first: u64, next: u64) -> ArrayVec<u8, HEAD
     append_registers(&mut head, parts.registers);
     append_field(&mut head, &parts.secret);
     append_field(&mut head, &parts.text);
+    append_field(&mut head, &parts.columns);
+    append_field(&mut head, &parts.reader_secret);
     append(&mut head, &first.to_be_bytes());
     append(&mut head, &next.to_be_bytes());
     head

@@ -4,18 +4,22 @@ ghost use Rattle.std.specs.Int.{cast_signed, w64};
 ghost use Rattle.byteorder.specs.Endian.{big_from};
 ghost use Rattle.dlms_profile.specs.Rows.{IsRow, none_before};
 ghost use Rattle.dlms_state.specs.StateValue.{StateValue, FitsTypes, state_of_parts, HasEvents};
-ghost use Rattle.dlms_checkpoint.specs.Checkpoint.{IsCheckpointOf};
-ghost use Rattle.dlms_checkpoint.specs.Bodies.{secret_count, text_count, first_field, next_field, first_said, next_said, counts_fit, whole_length, awaited, first_fault};
-ghost use Rattle.dlms_checkpoint.specs.Reading.{Filled, HasHead, ArePlaces, ClocksFit, IsFilledBy, awaited_page, first_page, open_page, parts_at, registers_at, row_at, rows_at};
+ghost use Rattle.dlms_state.specs.Columns.{first_columns};
+ghost use Rattle.dlms_checkpoint.specs.Bodies.{secret_count, text_count, column_count, reader_secret_count, columns_said, first_field, next_field, first_said, next_said, counts_fit, whole_length, awaited, first_fault};
+ghost use Rattle.dlms_checkpoint.specs.Layouts.{IsCheckpointOf, as_present, head_length, missing};
+ghost use Rattle.dlms_checkpoint.specs.Reading.{Filled, HasHead, ArePlaces, IsFilledBy, awaited_page, first_page, open_page, page_length, parts_at, registers_at};
+ghost use Rattle.dlms_checkpoint.specs.declared.version.Version.TheVariants.{Columns};
 
-use crate::fields::{HEAD_BYTES, ROW_BYTES, append, head_of};
+use crate::fields::{HEAD_BYTES, append, head_of};
+use crate::row_reading::{are_rows, with_rows, word_at};
+use crate::version::{Version, present_of};
 use crate::writing::{
     MOST_BODY, MOST_BYTES, NUMBERS_END, RING_BYTES, RING_ROWS, first_written, next_written,
 };
 use arrayvec::ArrayVec;
 use byteorder::{BigEndian, ByteOrder};
-use dlms_profile::{CAPACITY, Row};
-use dlms_state::{LAST_SECOND, Parts, State};
+use dlms_profile::CAPACITY;
+use dlms_state::{Parts, State};
 use std::alloc::{AllocError, Allocator};
 use std::marker::Model;
 
@@ -24,14 +28,14 @@ use std::marker::Model;
 pub enum BodyFault {
     /// It has another length than the counts of the first body ask for.
     Length,
-    /// The first body counts more bytes of the secret or of the text, or more rows, than a state may have.
+    /// The first body counts more bytes of a secret or of the text, more columns or more rows than a state may have.
     Counts,
 }
 
 /// Why the rows of a ring page are not those that the bodies name.
 #[derive(Clone, Copy, Debug, PartialEq, Eq)]
 pub enum RingFault {
-    /// They have another length than 30 rows.
+    /// They have another length than 30 rows of the columns that the bodies say.
     Length,
     /// A row that is kept has a clock past its range.
     Clock,
@@ -40,25 +44,27 @@ pub enum RingFault {
 /// The most bytes of the ring pages that a checkpoint names: 32 pages.
 const MOST_RING: usize = 32 * RING_BYTES;
 
-/// The bodies of a checkpoint taken so far, in their order. They stand in a fixed buffer of 766 bytes.
+/// The bodies of a checkpoint taken so far, in their order, as they stand on the medium. They stand in a fixed buffer of 788
+/// bytes.
 #[derive(Drop)]
 pub struct Restoring {
+    version: Version,
     bytes: ArrayVec<u8, MOST_BYTES>,
 }
 
 impl Model for Restoring {
-    ghost use Rattle.std.specs.Prelude.{List, ℕ};
-    ghost use Rattle.dlms_checkpoint.specs.Reading.{HasHead};
+    ghost use Rattle.dlms_checkpoint.specs.Layouts.{as_present};
+    ghost use Rattle.dlms_checkpoint.specs.Reading.{HasHead, Taken};
 
-    ghost Value = { List ℕ };
+    ghost Value = { Taken };
 
-    ghost view = { λ r. r.bytes.items };
+    ghost view = { λ r. record { version = r.version; bytes = r.bytes.items } };
 
-    ghost invariant = { λ r. HasHead r.bytes.items };
+    ghost invariant = { λ r. HasHead (as_present r.version r.bytes.items) };
 }
 
-/// All bodies of a checkpoint, and the ring pages that they name taken so far, in the order of their rows. They stand in
-/// fixed buffers of 766 and 15,360 bytes.
+/// All bodies of a checkpoint in the present layout, and the ring pages that they name taken so far, in the order of their
+/// rows. They stand in fixed buffers of 788 and 15,360 bytes.
 #[derive(Drop)]
 pub struct Refilling {
     bytes: ArrayVec<u8, MOST_BYTES>,
@@ -81,8 +87,8 @@ fn next_of(bytes: &[u8]) -> u128
     ensures value { result ≡ next_said bytes.now }
     ensures last { result ≤ 2 ^ 64 }
 {
-    let next = long_at(bytes, 294);
-    if next == 0 && long_at(bytes, 286) > 0 {
+    let next = long_at(bytes, 316);
+    if next == 0 && long_at(bytes, 308) > 0 {
         NUMBERS_END
     } else {
         u128::from(next)
@@ -95,7 +101,7 @@ fn first_of(bytes: &[u8]) -> u128
     ensures value { result ≡ first_said bytes.now }
     ensures last { result ≤ 2 ^ 64 }
 {
-    let first = long_at(bytes, 286);
+    let first = long_at(bytes, 308);
     if first == 1 && next_of(bytes) == NUMBERS_END {
         NUMBERS_END
     } else {
@@ -110,50 +116,80 @@ fn have_room(bytes: &[u8]) -> bool
 {
     let first = first_of(bytes);
     let next = next_of(bytes);
-    bytes[28] <= 16 && bytes[45] <= 240 && first <= next && next <= first + CAPACITY as u128
+    bytes[28] <= 16
+        && bytes[45] <= 240
+        && bytes[286] <= 4
+        && bytes[291] <= 16
+        && first <= next
+        && next <= first + CAPACITY as u128
 }
 
 /// How long all bodies are, as the first one says.
 fn whole_of(bytes: &[u8]) -> usize
-    requires { HEAD_BYTES ≤ length bytes.now }
+    requires long { HEAD_BYTES ≤ length bytes.now }
+    requires columns { column_count bytes.now ≤ 4 }
     ensures value { result ≡ whole_length bytes.now }
     ensures within { result ≤ MOST_BYTES }
 {
-    HEAD_BYTES + ROW_BYTES * (next_of(bytes) % RING_ROWS as u128) as usize
+    HEAD_BYTES + 4 * usize::from(bytes[286]) * (next_of(bytes) % RING_ROWS as u128) as usize
+}
+
+/// The columns, as a first body says them.
+fn columns_of(bytes: &[u8]) -> &[u8]
+    requires long { HEAD_BYTES ≤ length bytes.now }
+    requires columns { column_count bytes.now ≤ 4 }
+    ensures { result.now ≡ columns_said bytes.now }
+{
+    &bytes[287..287 + usize::from(bytes[286])]
+}
+
+/// Why bytes are no first body of this version.
+fn fault_of(version: Version, body: &[u8]) -> Option<BodyFault>
+    ensures { result ≡ first_fault version body.now }
+{
+    let head = version.head_length();
+    if body.len() < head {
+        return Some(BodyFault::Length);
+    }
+    let said = present_of(version, &body[..head]);
+    if !have_room(said.as_slice()) {
+        return Some(BodyFault::Counts);
+    }
+    let whole = whole_of(said.as_slice()) - version.missing();
+    if body.len() == whole.min(MOST_BODY) {
+        None
+    } else {
+        Some(BodyFault::Length)
+    }
 }
 
 impl Restoring {
-    /// Takes the first body. Of several faults the first of these is told: fewer bytes than a head has, counts past
-    /// their limits, another length than the counts ask for.
-    pub fn begin(body: &[u8]) -> Result<Restoring, BodyFault>
-        ensures { MatchResult result (λ taken. (first_fault body.now ≡ None) × (taken ≡ body.now)) (λ fault. first_fault body.now ≡ Some fault) }
+    /// Takes the first body of a version. Of several faults the first of these is told: fewer bytes than a head has, counts
+    /// past their limits, another length than the counts ask for.
+    pub fn begin(version: Version, body: &[u8]) -> Result<Restoring, BodyFault>
+        ensures { MatchResult result (λ taken. (first_fault version body.now ≡ None) × (taken ≡ record { version = version; bytes = body.now })) (λ fault. first_fault version body.now ≡ Some fault) }
     {
-        if body.len() < HEAD_BYTES {
-            return Err(BodyFault::Length);
-        }
-        if !have_room(body) {
-            return Err(BodyFault::Counts);
-        }
-        if body.len() != whole_of(body).min(MOST_BODY) {
-            return Err(BodyFault::Length);
+        if let Some(fault) = fault_of(version, body) {
+            return Err(fault);
         }
         let mut bytes = ArrayVec::new();
         append(&mut bytes, body);
-        Ok(Restoring { bytes })
+        Ok(Restoring { version, bytes })
     }
 
     /// How long the next body is; 0 where every body was taken.
     pub fn awaited(&self) -> usize
-        ensures { result ≡ awaited self.now }
+        ensures { result ≡ awaited (as_present self.now.version self.now.bytes) }
     {
-        let whole = whole_of(self.bytes.as_slice());
-        (whole - self.bytes.len()).min(MOST_BODY)
+        let present = present_of(self.version, self.bytes.as_slice());
+        let whole = whole_of(present.as_slice());
+        (whole - present.len()).min(MOST_BODY)
     }
 
     /// Takes the next body, which has exactly the awaited length. Another one changes nothing.
     pub fn more(&mut self, body: &[u8]) -> Result<(), BodyFault>
-        ensures when { IsOk result ↔ (length body.now ≡ awaited self.old) }
-        ensures ok { OnOk result (self.new ≡ self.old ++ body.now) }
+        ensures when { IsOk result ↔ (length body.now ≡ awaited (as_present self.old.version self.old.bytes)) }
+        ensures ok { OnOk result (self.new ≡ record { version = self.old.version; bytes = self.old.bytes ++ body.now }) }
         ensures length { IfErr result (λ fault. fault ≡ BodyFault.Length) }
         ensures err { OnErr result (self.new ≡ self.old) }
     {
@@ -166,26 +202,27 @@ impl Restoring {
 
     /// All bodies, where they are the bytes of a state, whatever rows the ring pages hold that they name; else nothing.
     pub fn joined(self) -> Option<Refilling>
-        requires { awaited self ≡ 0 }
-        ensures filled { IfSome result (λ refilling. refilling ≡ record { bytes = self; ring = [] }) }
-        ensures spelled { MatchOption result ((s : StateValue) → IsCheckpointOf s self → ⊥) (λ _. (s : StateValue) × IsCheckpointOf s self) }
+        requires { awaited (as_present self.version self.bytes) ≡ 0 }
+        ensures filled { IfSome result (λ refilling. refilling ≡ record { bytes = as_present self.version self.bytes; ring = [] }) }
+        ensures spelled { MatchOption result ((s : StateValue) → IsCheckpointOf self.version s self.bytes → ⊥) (λ _. (s : StateValue) × IsCheckpointOf self.version s self.bytes) }
     {
-        if !are_spelled(self.bytes.as_slice()) {
+        let bytes = present_of(self.version, self.bytes.as_slice());
+        if !are_spelled(bytes.as_slice()) {
             return None;
         }
         Some(Refilling {
-            bytes: self.bytes,
+            bytes,
             ring: ArrayVec::new(),
         })
     }
 }
 
-/// Whether all bodies are the bytes of a state.
+/// Whether all bodies, in the present layout, are the bytes of a state.
 fn are_spelled(bytes: &[u8]) -> bool
     requires head { HasHead bytes.now }
     requires all { length bytes.now ≡ whole_length bytes.now }
-    ensures yes { IsTrue result → (s : StateValue) × IsCheckpointOf s bytes.now }
-    ensures no { (s : StateValue) → IsCheckpointOf s bytes.now → IsTrue result }
+    ensures yes { IsTrue result → (s : StateValue) × IsCheckpointOf Columns s bytes.now }
+    ensures no { (s : StateValue) → IsCheckpointOf Columns s bytes.now → IsTrue result }
 {
     let (head, rows) = bytes.split_at(HEAD_BYTES);
     let first = first_of(head);
@@ -200,17 +237,46 @@ fn are_spelled(bytes: &[u8]) -> bool
     if !parts.are_within_limits() {
         return false;
     }
-    are_rows(rows, first, next - next % RING_ROWS as u128)
+    are_rows(
+        rows,
+        columns_of(head),
+        first,
+        next - next % RING_ROWS as u128,
+    )
 }
 
 impl Refilling {
+    /// Whether the bodies say the columns of a new meter: the clock and the three registers.
+    pub fn has_first_columns(&self) -> bool
+        ensures { IsTrue result ↔ (columns_said self.now.bytes ≡ first_columns) }
+    {
+        are_same(columns_of(self.bytes.as_slice()), &[0, 1, 2, 3])
+    }
+
+    /// How many bytes the rows of a ring page have.
+    fn page_length(&self) -> usize
+        ensures value { result ≡ page_length (columns_said self.now.bytes) }
+        ensures some { 0 < result }
+        ensures within { result ≤ RING_BYTES }
+    {
+        4 * columns_of(self.bytes.as_slice()).len() * RING_ROWS
+    }
+
+    /// The number of the ring page that is taken next.
+    fn next_page(&self) -> u128
+        ensures value { result ≡ awaited_page self.now }
+        ensures within { result < 2 ^ 66 }
+    {
+        let pages = self.ring.len() / self.page_length();
+        first_of(self.bytes.as_slice()) / RING_ROWS as u128 + pages as u128
+    }
+
     /// The ring page that is taken next, by its number among all ring pages ever filled; nothing where every one was taken.
     pub fn awaited_page(&self) -> Option<u64>
         ensures { MatchOption result (open_page self.now.bytes ≤ awaited_page self.now) (λ page. (page ≡ awaited_page self.now) × (page < open_page self.now.bytes)) }
     {
-        let bytes = self.bytes.as_slice();
-        let page = first_of(bytes) / RING_ROWS as u128 + (self.ring.len() / RING_BYTES) as u128;
-        if page < next_of(bytes) / RING_ROWS as u128 {
+        let page = self.next_page();
+        if page < next_of(self.bytes.as_slice()) / RING_ROWS as u128 {
             Some(page as u64)
         } else {
             None
@@ -218,20 +284,21 @@ impl Refilling {
     }
 
     /// Takes the rows of the awaited ring page. Rows that are no such page's change nothing: of another length, or with a
-    /// clock past its range in a row that is kept, of which the length is told first.
+    /// clock past its range in a row that is kept, of which the length is told first. Where no column is the clock, nothing
+    /// but the length is looked at.
     pub fn take(&mut self, places: &[u8]) -> Result<(), RingFault>
         requires { awaited_page self.old < open_page self.old.bytes }
-        ensures when { IsOk result ↔ ArePlaces (first_said self.old.bytes) (awaited_page self.old) places.now }
+        ensures when { IsOk result ↔ ArePlaces (columns_said self.old.bytes) (first_said self.old.bytes) (awaited_page self.old) places.now }
         ensures ok { OnOk result (self.new ≡ record { bytes = self.old.bytes; ring = self.old.ring ++ places.now }) }
-        ensures length { (result ≡ Err RingFault.Length) ↔ (length places.now ≢ RING_BYTES) }
+        ensures length { (result ≡ Err RingFault.Length) ↔ (length places.now ≢ page_length (columns_said self.old.bytes)) }
         ensures err { OnErr result (self.new ≡ self.old) }
     {
-        if places.len() != RING_BYTES {
+        if places.len() != self.page_length() {
             return Err(RingFault::Length);
         }
-        let first = first_of(self.bytes.as_slice());
-        let page = first / RING_ROWS as u128 + (self.ring.len() / RING_BYTES) as u128;
-        if !are_rows(places, first, page * RING_ROWS as u128) {
+        let from = self.next_page() * RING_ROWS as u128;
+        let bytes = self.bytes.as_slice();
+        if !are_rows(places, columns_of(bytes), first_of(bytes), from) {
             return Err(RingFault::Clock);
         }
         append(&mut self.ring, places);
@@ -299,14 +366,8 @@ fn parts_fit(parts: &Parts)
     let _last = parts.last;
     bytes_fit(parts.text.as_slice());
     bytes_fit(parts.secret.as_slice());
-}
-
-/// The number of four bytes from this place on.
-fn word_at(bytes: &[u8], place: usize) -> u32
-    requires { place + 4 ≤ length bytes.now }
-    ensures { result ≡ big_from place 4 bytes.now }
-{
-    BigEndian::read_u32(&bytes[place..])
+    bytes_fit(parts.reader_secret.as_slice());
+    bytes_fit(parts.columns.as_slice());
 }
 
 /// The number of eight bytes from this place on.
@@ -344,10 +405,13 @@ fn parts_of(head: &[u8]) -> Parts
     requires long { HEAD_BYTES ≤ length head.now }
     requires secret { secret_count head.now ≤ 16 }
     requires text { text_count head.now ≤ 240 }
+    requires columns { column_count head.now ≤ 4 }
+    requires reader_secret { reader_secret_count head.now ≤ 16 }
     ensures { (next : ℕ) → state_of_parts result next ≡ parts_at head.now next }
 {
     let secret = usize::from(head[28]);
     let text = usize::from(head[45]);
+    let reader_secret = usize::from(head[291]);
     Parts {
         registers: registers_at(head, 16),
         last: word_at(head, 0),
@@ -355,74 +419,7 @@ fn parts_of(head: &[u8]) -> Parts
         period: word_at(head, 12),
         text: held(&head[46..46 + text]),
         secret: held(&head[29..29 + secret]),
+        reader_secret: held(&head[292..292 + reader_secret]),
+        columns: held(columns_of(head)),
     }
-}
-
-/// The row at this place among rows.
-#[tactic(auto, unfolding(crate::specs::Reading::row_at))]
-fn row_of(rows: &[u8], index: usize) -> Row
-    requires { ROW_BYTES * index + ROW_BYTES ≤ length rows.now }
-    ensures value { result ≡ row_at (ROW_BYTES * index) rows.now }
-    ensures fits { IsRow result }
-{
-    let place = ROW_BYTES * index;
-    let row = Row {
-        clock: word_at(rows, place),
-        registers: registers_at(rows, place + 4),
-    };
-    row.fits();
-    row
-}
-
-/// Whether each row from the one numbered `first` on has a clock in its range, where the rows' numbers begin with `from`.
-fn are_rows(rows: &[u8], first: u128, from: u128) -> bool
-    ensures { IsTrue result ↔ ClocksFit first from rows.now }
-{
-    let skipped = first.saturating_sub(from);
-    for index in 0..rows.len() / ROW_BYTES {
-        if skipped <= index as u128 && row_of(rows, index).clock > LAST_SECOND {
-            return false;
-        }
-    }
-    true
-}
-
-/// The row at this place among those of two stretches, one behind the other.
-fn row_among(front: &[u8], back: &[u8], index: usize) -> Row
-    requires whole { length front.now % ROW_BYTES ≡ 0 }
-    requires within { ROW_BYTES * (index + 1) ≤ length front.now + length back.now }
-    ensures value { result ≡ row_at (ROW_BYTES * index) (front.now ++ back.now) }
-    ensures fits { IsRow result }
-{
-    let before = front.len() / ROW_BYTES;
-    if index < before {
-        row_of(front, index)
-    } else {
-        row_of(back, index - before)
-    }
-}
-
-/// The state with so many rows of two stretches, one behind the other, from this place on.
-fn with_rows<A: Allocator + Copy>(
-    state: State<A>,
-    front: &[u8],
-    back: &[u8],
-    skipped: usize,
-    count: usize,
-) -> State<A>
-    requires whole { length front.now % ROW_BYTES ≡ 0 }
-    requires within { ROW_BYTES * (skipped + count) ≤ length front.now + length back.now }
-    requires room { count ≤ CAPACITY }
-    requires none { state.rows.items ≡ [] }
-    requires numbers { state.rows.next + count ≤ 2 ^ 64 }
-    requires clocks { (i : ℕ) → i < count → (row_at (ROW_BYTES * i) (drop (ROW_BYTES * skipped) (front.now ++ back.now))).clock ≤ LAST_SECOND }
-    ensures value { result ≡ record state { rows = record { items = rows_at count (drop (ROW_BYTES * skipped) (front.now ++ back.now)); next = state.rows.next + count } } }
-    ensures events { HasEvents result }
-{
-    let mut state = state;
-    for index in 0..count {
-        state.restore_row(row_among(front, back, skipped + index));
-    }
-    state.has_events();
-    state
 }

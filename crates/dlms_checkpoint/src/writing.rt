@@ -1,14 +1,15 @@
 //! A state as the bytes of a checkpoint: what stands in its bodies, and the ring pages that they name.
-ghost use Rattle.std.specs.Prelude.{◌≡◌, ◌≤◌, ◌<◌, ◌*◌, ◌+◌, ◌++◌, ◌^◌, length, take, nat_eq, if◌then◌else◌};
+ghost use Rattle.std.specs.Prelude.{◌≡◌, ◌≤◌, ◌<◌, ◌*◌, ◌+◌, ◌++◌, ◌^◌, All, length, take, nat_eq, if◌then◌else◌};
 ghost use Rattle.arrayvec.specs.ArrayVec.{array_vec_len};
 ghost use Rattle.dlms_profile.specs.Rows.{none_before};
 ghost use Rattle.dlms_state.specs.StateValue.{state_of_parts};
-ghost use Rattle.dlms_checkpoint.specs.Checkpoint.{AreBytes, HoldsRows, IsNamed, checkpoint_bytes, place_of, places_of};
+ghost use Rattle.dlms_checkpoint.specs.Checkpoint.{AreBytes, HoldsRows, IsNamed, checkpoint_bytes, place_of, places_of, row_width};
+ghost use Rattle.dlms_state.specs.Columns.{IsRowOf};
 
-use crate::fields::{HEAD_BYTES, ROW_BYTES, append, append_row, head_of};
+use crate::fields::{HEAD_BYTES, MOST_ROW_BYTES, append, append_row, head_of};
 use arrayvec::ArrayVec;
 use dlms_profile::Rows;
-use dlms_state::{Parts, State};
+use dlms_state::{Parts, SecretOf, State};
 use std::alloc::Allocator;
 use std::marker::Model;
 
@@ -18,16 +19,16 @@ pub const MOST_BODY: usize = 496;
 /// How many rows a ring page holds.
 pub const RING_ROWS: usize = 30;
 
-/// The bytes of a ring page's rows.
-pub const RING_BYTES: usize = RING_ROWS * ROW_BYTES;
+/// The most bytes of a ring page's rows: with four columns.
+pub const RING_BYTES: usize = RING_ROWS * MOST_ROW_BYTES;
 
 /// The most bytes in bodies: the head, and the rows of a ring page that is not filled.
-pub(crate) const MOST_BYTES: usize = HEAD_BYTES + ROW_BYTES * (RING_ROWS - 1);
+pub(crate) const MOST_BYTES: usize = HEAD_BYTES + MOST_ROW_BYTES * (RING_ROWS - 1);
 
 /// One above the greatest number of a row.
 pub(crate) const NUMBERS_END: u128 = 18_446_744_073_709_551_616;
 
-/// The bytes of a state's bodies, which are read body by body. They stand in a fixed buffer of 766 bytes and take no memory.
+/// The bytes of a state's bodies, which are read body by body. They stand in a fixed buffer of 788 bytes and take no memory.
 #[derive(Drop)]
 pub struct Checkpoint {
     bytes: ArrayVec<u8, MOST_BYTES>,
@@ -62,7 +63,7 @@ impl Checkpoint {
     }
 }
 
-/// The bytes of a state's bodies.
+/// The bytes of a state's bodies, in the present layout.
 #[tactic(auto, unfolding(crate::specs::Checkpoint::checkpoint_bytes))]
 pub fn checkpoint_of<A: Allocator + Copy>(state: &State<A>) -> Checkpoint
     ensures bytes { result ≡ checkpoint_bytes state.now }
@@ -78,20 +79,28 @@ pub fn checkpoint_of<A: Allocator + Copy>(state: &State<A>) -> Checkpoint
         next_written(next),
     );
     append(&mut bytes, head.as_slice());
-    append_places(&mut bytes, rows, next - unfilled, unfilled as usize);
+    append_places(
+        &mut bytes,
+        state.columns(),
+        rows,
+        next - unfilled,
+        unfilled as usize,
+    );
     Checkpoint { bytes }
 }
 
-/// The rows of a ring page that the state's checkpoint names, 30 places: the caller must have seen that all of them were
+/// The rows of a ring page that the state's checkpoint names, 30 places of four bytes a column: the caller must have seen that all of them were
 /// captured and that the last one is still kept.
 pub fn ring_page_of<A: Allocator + Copy>(state: &State<A>, page: u64) -> ArrayVec<u8, RING_BYTES>
     requires { IsNamed state.now.rows page }
-    ensures places { result.items ≡ places_of state.now.rows (RING_ROWS * page) RING_ROWS }
-    ensures holds { HoldsRows state.now.rows (RING_ROWS * page) RING_ROWS result.items }
+    ensures places { result.items ≡ places_of state.now.columns state.now.rows (RING_ROWS * page) RING_ROWS }
+    ensures holds { HoldsRows state.now.columns state.now.rows (RING_ROWS * page) RING_ROWS result.items }
 {
     let mut places = ArrayVec::new();
+    let rows = state.rows();
+    let _order = rows.next_number();
     let from = RING_ROWS as u128 * u128::from(page);
-    append_places(&mut places, state.rows(), from, RING_ROWS);
+    append_places(&mut places, state.columns(), rows, from, RING_ROWS);
     places
 }
 
@@ -118,18 +127,21 @@ pub(crate) fn next_written(next: u128) -> u64
 /// Appends the place of a row that was captured: its bytes, or zeros where it is no longer kept.
 fn append_place<const N: usize, A: Allocator + Copy>(
     bytes: &mut ArrayVec<u8, N>,
+    columns: &[u8],
     rows: &Rows<A>,
     number: u128,
 )
-    requires room { array_vec_len bytes.old + ROW_BYTES ≤ N }
+    requires few { length columns.now ≤ 4 }
+    requires rows { All (IsRowOf columns.now) rows.now.items }
+    requires room { array_vec_len bytes.old + row_width columns.now ≤ N }
     requires captured { number < rows.now.next }
-    ensures items { bytes.new.items ≡ bytes.old.items ++ place_of rows.now number }
-    ensures len { array_vec_len bytes.new ≡ array_vec_len bytes.old + ROW_BYTES }
+    ensures items { bytes.new.items ≡ bytes.old.items ++ place_of columns.now rows.now number }
+    ensures len { array_vec_len bytes.new ≡ array_vec_len bytes.old + row_width columns.now }
 {
     let first = rows.first_number();
     let _order = rows.next_number();
     if number < first {
-        append(bytes, &[0; ROW_BYTES]);
+        append(bytes, &[0; MOST_ROW_BYTES][..4 * columns.len()]);
     } else if let Some(row) = rows.get((number - first) as usize) {
         append_row(bytes, row);
     }
@@ -138,18 +150,21 @@ fn append_place<const N: usize, A: Allocator + Copy>(
 /// Appends so many places from that of this number on.
 fn append_places<const N: usize, A: Allocator + Copy>(
     bytes: &mut ArrayVec<u8, N>,
+    columns: &[u8],
     rows: &Rows<A>,
     from: u128,
     count: usize,
 )
-    requires room { array_vec_len bytes.old + ROW_BYTES * count ≤ N }
+    requires few { length columns.now ≤ 4 }
+    requires rows { All (IsRowOf columns.now) rows.now.items }
+    requires room { array_vec_len bytes.old + row_width columns.now * count ≤ N }
     requires captured { from + count ≤ rows.now.next }
-    ensures items { bytes.new.items ≡ bytes.old.items ++ places_of rows.now from count }
-    ensures len { array_vec_len bytes.new ≡ array_vec_len bytes.old + ROW_BYTES * count }
+    ensures items { bytes.new.items ≡ bytes.old.items ++ places_of columns.now rows.now from count }
+    ensures len { array_vec_len bytes.new ≡ array_vec_len bytes.old + row_width columns.now * count }
 {
     let _last = rows.next_number();
     for index in 0..count {
-        append_place(bytes, rows, from + index as u128);
+        append_place(bytes, columns, rows, from + index as u128);
     }
 }
 
@@ -160,7 +175,11 @@ fn parts_of<A: Allocator + Copy>(state: &State<A>) -> Parts
     let mut text = ArrayVec::new();
     append(&mut text, state.text());
     let mut secret = ArrayVec::new();
-    append(&mut secret, state.secret());
+    append(&mut secret, state.secret(SecretOf::Management));
+    let mut columns = ArrayVec::new();
+    append(&mut columns, state.columns());
+    let mut reader_secret = ArrayVec::new();
+    append(&mut reader_secret, state.secret(SecretOf::Reader));
     Parts {
         registers: state.registers(),
         last: state.last(),
@@ -168,5 +187,7 @@ fn parts_of<A: Allocator + Copy>(state: &State<A>) -> Parts
         period: state.period(),
         text,
         secret,
+        reader_secret,
+        columns,
     }
 }

@@ -1,5 +1,5 @@
 -- The answer of GET, step by step.
-use Rattle.std.proofs.Common.{◌≡◌, ap, IsTrue, Option, Result, Ok, Err}
+use Rattle.std.proofs.Common.{◌≡◌, ap, subst, ℕ, List, IsTrue, Option, Result, Ok, Err}
 use Rattle.dlms_data.specs.declared.data.Data.{Data}
 use Rattle.dlms_data.specs.declared.descriptor.Descriptor.{Descriptor}
 use Rattle.dlms_data.specs.View.{value_of}
@@ -13,50 +13,53 @@ use Rattle.dlms_classes.specs.declared.table.Attribute.{Attribute}
 use Rattle.dlms_classes.specs.declared.table.Content.{Content}
 use Rattle.dlms_classes.specs.Access.{◌>>=◌, readable}
 use Rattle.dlms_classes.specs.Answer.{IsAnswer, IsShown, NeedsMemory, Wanted, wanted}
-use Rattle.dlms_classes.specs.Choice.{Selection, part_of, Picks, HasSeconds, IsChoice}
+use Rattle.dlms_classes.specs.Choice.{Selection, part_of, Picks, HasPart, IsProper, IsChoice}
 use Rattle.dlms_classes.specs.Shown.{Part, whole, between, cut, Shows, shown, takes_memory}
 
 abbrev err_of : {X : Type 0} → Result X AccessResult → AccessResult
 err_of (Ok x) = TemporaryFailure
 err_of (Err r) = r
 
--- a part that was picked has its seconds
-has_seconds : (p : Part) (choice : Choice) → Picks p choice → HasSeconds p
-has_seconds whole choice h = tt
-has_seconds (between first last) (Between from to) h = record { from = from; to = to; names_from = h.0; names_to = h.1 }
-has_seconds (between first last) Whole h = absurd h
-has_seconds (between first last) (Cut a b c d) h = absurd h
-has_seconds (cut first last first_col last_col) choice h = tt
+-- a part that was picked is there
+has_part : (columns : List ℕ) (p : Part) (choice : Choice) → Picks columns p choice → IsProper columns choice → HasPart columns p
+has_part columns whole choice h proper = tt
+has_part columns (between first last) (Between place from to) h proper = record { place = place; is_column = h.0; from = from; to = to; names_from = h.1; names_to = h.2 }
+has_part columns (between first last) Whole h proper = absurd h
+has_part columns (between first last) (Cut a b c d) h proper = absurd h
+has_part columns (cut first last first_col last_col) Whole h proper = absurd cc
+has_part columns (cut first last first_col last_col) (Between place from to) h proper = absurd cc
+has_part columns (cut first last first_col last_col) (Cut a b c d) h proper = (subst (IsProper columns) h proper).2
 
 abbrev pub told : Content → Result Part AccessResult → Result Wanted AccessResult
 told content parts = parts >>= λ p. Ok (record { content = content; part = p })
 
-refused_at : (s : StateValue) (client : Client) (d : Descriptor) (content : Content) (parts : Result Part AccessResult) (r : AccessResult) → IsChoice parts (Err r)
+refused_at : (s : StateValue) (client : Client) (d : Descriptor) (content : Content) (parts : Result Part AccessResult) (r : AccessResult) → IsChoice s.columns parts (Err r)
     → IsShown s client d (told content parts) (Err r)
 refused_at s client d content (Err q) r h = ap Err (ap err_of h)
 refused_at s client d content (Ok p) r h = h
 
-lacking_at : (content : Content) (parts : Result Part AccessResult) (choice : Choice) → IsChoice parts (Ok choice) → IsTrue (takes_memory content) → NeedsMemory (told content parts)
-lacking_at content (Err q) choice h takes = absurd cc
-lacking_at content (Ok p) choice h takes = (has_seconds p choice h, takes)
+lacking_at : (columns : List ℕ) (content : Content) (parts : Result Part AccessResult) (choice : Choice) → IsChoice columns parts (Ok choice) → IsProper columns choice
+    → IsTrue (takes_memory content) → NeedsMemory columns (told content parts)
+lacking_at columns content (Err q) choice h proper takes = absurd cc
+lacking_at columns content (Ok p) choice h proper takes = (has_part columns p choice h proper, takes)
 
-showing_at : {A : Type 0} (s : StateValue) (client : Client) (d : Descriptor) (content : Content) (parts : Result Part AccessResult) (choice : Choice) (v : Data A) → IsChoice parts (Ok choice)
-    → ((p : Part) → Picks p choice → Shows (shown s client d p content) (value_of v)) → IsAnswer s client d (told content parts) (Ok v)
-showing_at s client d content (Err q) choice v h shows = absurd cc
-showing_at s client d content (Ok p) choice v h shows = shows p h
+showing_at : {A : Type 0} (s : StateValue) (client : Client) (d : Descriptor) (content : Content) (parts : Result Part AccessResult) (choice : Choice) (v : Data A) → IsChoice s.columns parts (Ok choice)
+    → IsProper s.columns choice → ((p : Part) → Picks s.columns p choice → Shows (shown s client d p content) (value_of v)) → IsAnswer s client d (told content parts) (Ok v)
+showing_at s client d content (Err q) choice v h proper shows = absurd cc
+showing_at s client d content (Ok p) choice v h proper shows = (has_part s.columns p choice h proper, shows p h)
 
 -- refused for its selector
 pub refused : (s : StateValue) (client : Client) (d : Descriptor) (selection : Option Selection) (a : Attribute) (r : AccessResult) → Ok a ≡ readable client d
-    → IsChoice (part_of a.content selection) (Err r) → IsShown s client d (wanted client d selection) (Err r)
+    → IsChoice s.columns (part_of a.content selection) (Err r) → IsShown s client d (wanted client d selection) (Err r)
 refused s client d selection a r e h = rw (← e) (refused_at s client d a.content (part_of a.content selection) r h)
 
 -- refused for want of memory
-pub lacking : (client : Client) (d : Descriptor) (selection : Option Selection) (a : Attribute) (choice : Choice) → Ok a ≡ readable client d
-    → IsChoice (part_of a.content selection) (Ok choice) → IsTrue (takes_memory a.content) → NeedsMemory (wanted client d selection)
-lacking client d selection a choice e h takes = rw (← e) (lacking_at a.content (part_of a.content selection) choice h takes)
+pub lacking : (columns : List ℕ) (client : Client) (d : Descriptor) (selection : Option Selection) (a : Attribute) (choice : Choice) → Ok a ≡ readable client d
+    → IsChoice columns (part_of a.content selection) (Ok choice) → IsProper columns choice → IsTrue (takes_memory a.content) → NeedsMemory columns (wanted client d selection)
+lacking columns client d selection a choice e h proper takes = rw (← e) (lacking_at columns a.content (part_of a.content selection) choice h proper takes)
 
 -- answered by a value
 pub showing : {A : Type 0} (s : StateValue) (client : Client) (d : Descriptor) (selection : Option Selection) (a : Attribute) (choice : Choice) (v : Data A) → Ok a ≡ readable client d
-    → IsChoice (part_of a.content selection) (Ok choice) → ((p : Part) → Picks p choice → Shows (shown s client d p a.content) (value_of v))
+    → IsChoice s.columns (part_of a.content selection) (Ok choice) → IsProper s.columns choice → ((p : Part) → Picks s.columns p choice → Shows (shown s client d p a.content) (value_of v))
     → IsAnswer s client d (wanted client d selection) (Ok v)
-showing s client d selection a choice v e h shows = rw (← e) (showing_at s client d a.content (part_of a.content selection) choice v h shows)
+showing s client d selection a choice v e h proper shows = rw (← e) (showing_at s client d a.content (part_of a.content selection) choice v h proper shows)

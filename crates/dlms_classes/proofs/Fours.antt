@@ -4,7 +4,7 @@ use Rattle.dlms_data.specs.declared.data.Data.{Data}
 use Rattle.dlms_data.specs.Value.{structure}
 use Rattle.dlms_data.specs.View.{value_of, values_of}
 use Rattle.dlms_classes.specs.declared.access.AccessResult.TheVariants.{TypeUnmatched}
-use Rattle.dlms_classes.specs.Choice.{four_of}
+use Rattle.dlms_classes.specs.Column.{four_of}
 
 pub four_of_others : {A : Type 0} (ds : List (Data A)) → (length ds ≡ 4 → ⊥) → four_of (structure (values_of ds)) ≡ Err TypeUnmatched
 four_of_others [] n = refl

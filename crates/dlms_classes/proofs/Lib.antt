@@ -2,6 +2,7 @@ pub mod Answering
 pub mod Fours
 pub mod Listed
 pub mod Matching
+pub mod Naming
 pub mod OneValue
 pub mod ShownOnce
 pub mod Times

@@ -1,12 +1,12 @@
 -- What is shown, one value shows.
-use Rattle.std.proofs.Common.{◌≡◌, ℕ, List, [], ◌∷◌, map, refl, sym, ap, ap₂, ◌∙◌, unsigned_abs}
+use Rattle.std.proofs.Common.{◌≡◌, ℕ, List, [], ◌∷◌, map, refl, sym, ap, ap₂, ◌∙◌, unsigned_abs, Option, Some}
 use Rattle.dlms_data.specs.DateTime.{NamesSecond}
 use Rattle.dlms_data.specs.Value.{Value, Values, array, structure, octet_string, none, cons}
 use Rattle.dlms_profile.specs.Rows.{in_range}
 use Rattle.dlms_classes.specs.declared.rows.Cell.{Cell}
 use Rattle.dlms_classes.specs.declared.rows.Cell.TheVariants.{Second, Number}
 use Rattle.dlms_data.specs.Building.{IsTime}
-use Rattle.dlms_classes.specs.Shown.{as_value, as_time, as_table, as_range, IsCell, IsRow, IsTable, Match, Shows, cells}
+use Rattle.dlms_classes.specs.Shown.{as_value, as_time, as_table, as_range, IsCell, IsRow, IsTable, Match, Shows, cells, clock_place}
 use Rattle.dlms_classes.proofs.Times.{same_octets}
 
 abbrev IsSingle : {X : Type 0} → (X → Value → Type 0) → Type 0
@@ -51,11 +51,15 @@ one_table rows v w h k =
 one_second : (octets : List ℕ) (s t : ℕ) → NamesSecond octets s → NamesSecond octets t → s ≡ t
 one_second octets s t h k = ap unsigned_abs (h.value ∙ sym k.value)
 
+same_place : (found : Option ℕ) (a b : ℕ) → found ≡ Some a → found ≡ Some b → a ≡ b
+same_place found a b h k = cc
+
 pub one_value : IsSingle Shows
 one_value (as_value x) v w h k = h ∙ sym k
 one_value (as_time s) v w h k = one_time s v w h k
 one_value (as_table rows) v w h k = one_table rows v w h k
-one_value (as_range first last rows) v w h k =
+one_value (as_range columns first last rows) v w h k =
+    let place : h.place ≡ k.place = same_place (clock_place columns) h.place k.place h.is_column k.is_column in
     let from = one_second first h.from k.from h.names_from k.names_from in
     let to = one_second last h.to k.to h.names_to k.names_to in
-    one_table (map cells (in_range h.from h.to rows)) v w h.value (rw (from, to) k.value)
+    one_table (map (cells columns) (in_range h.place h.from h.to rows)) v w h.value (rw (place, from, to) k.value)

@@ -6,7 +6,7 @@ use Rattle.std.specs.Str.{bytes_eq}
 use Rattle.std.proofs.lemmas.Bool.{leb-true, ltb-true, eqb-true, and_parts}
 use Rattle.std.proofs.lemmas.List.Elements.{All-head, All-tail, All-filter, All-take, All-drop}
 use Rattle.std.proofs.lemmas.Slice.Eq.{bytes_eq-Decides}
-use Rattle.dlms_data.specs.Value.{Value, structure, octet_string, double_long_unsigned, integer, long_unsigned, enumerated, none, cons}
+use Rattle.dlms_data.specs.Value.{Value, array, structure, octet_string, double_long_unsigned, integer, long_unsigned, enumerated, none, cons}
 use Rattle.dlms_data.specs.Writing.{canonical, short_length}
 use Rattle.dlms_data.specs.Fitting.{fits_in}
 use Rattle.dlms_data.specs.View.{value_of}
@@ -32,10 +32,11 @@ use Rattle.dlms_classes.specs.declared.table.Content.TheVariants.{LogicalName, D
 use Rattle.dlms_classes.specs.Access.{◌>>=◌, object_named, numbered, object_of, attribute_of, readable}
 use Rattle.dlms_classes.specs.Answer.{Wanted, wanted, IsShown, IsAnswer, IsSendable, most_bytes}
 use Rattle.dlms_classes.specs.Choice.{Selection, part_of}
-use Rattle.dlms_classes.specs.Listing.{object_list}
-use Rattle.dlms_classes.specs.Shown.{Part, whole, between, cut, Shows, IsTable, shown, part_shown, cells, columns_between, last_column, two}
-use Rattle.dlms_classes.specs.Table.{Entry, objects, rights_of, may_read}
-use Rattle.dlms_classes.proofs.Sizes.{Small, ArePart, octets_small, time_small, number_small, table_small, whole_part, cut_part}
+use Rattle.dlms_classes.specs.Listing.{object_list, map_values}
+use Rattle.dlms_classes.specs.Shown.{Part, whole, between, cut, Shows, IsTable, shown, part_shown, cells, columns_between, last_column, column_value, two}
+use Rattle.dlms_classes.specs.Table.{Entry, objects, object_of_column, rights_of, may_read}
+use Rattle.dlms_classes.proofs.Sizes.{Small, ArePart, octets_small, time_small, number_small, table_small, columns_small, whole_part, cut_part}
+use Rattle.dlms_state.specs.Columns.{are_known, are_distinct}
 
 -- ---- the table
 
@@ -153,13 +154,19 @@ few_in_range test (row ∷ rows) = either_short (test row) row (filter test rows
 few_entries : (first last : ℕ) (rows : List Row) → length (entries first last rows) ≤ length rows
 few_entries first last rows = simp (length-take, length-drop) (omega arith)
 
-buffer_fits : (p : Part) (rows : List Row) (v : Value) → length rows ≤ CAPACITY → All FitsRow rows → Shows (part_shown p rows) v → IsSendable v
-buffer_fits whole rows v room fits h = table cells whole_part rows v room fits h
-buffer_fits (between first last) rows v room fits h =
-    table cells whole_part (in_range h.from h.to rows) v (omega (arith, few_in_range (is_between h.from h.to) rows)) (All-filter (is_between h.from h.to) FitsRow rows fits) h.value
-buffer_fits (cut first last first_column last_col) rows v room fits h =
-    table (λ row. columns_between first_column last_col (cells row)) (λ row fit. cut_part (first_column - 1) (last_column last_col) (cells row) (whole_part row fit)) (entries first last rows) v
+buffer_fits : (columns : List ℕ) (p : Part) (rows : List Row) (v : Value) → length columns ≤ 4 → are_distinct columns ≡ true → length rows ≤ CAPACITY → All FitsRow rows
+    → Shows (part_shown columns p rows) v → IsSendable v
+buffer_fits columns whole rows v few distinct room fits h = table (cells columns) (whole_part columns few distinct) rows v room fits h
+buffer_fits columns (between first last) rows v few distinct room fits h =
+    table (cells columns) (whole_part columns few distinct) (in_range h.place h.from h.to rows) v
+    (omega (arith, few_in_range (is_between h.place h.from h.to) rows)) (All-filter (is_between h.place h.from h.to) FitsRow rows fits) h.value
+buffer_fits columns (cut first last first_column last_col) rows v few distinct room fits h =
+    table (λ row. columns_between (length columns) first_column last_col (cells columns row))
+    (λ row fit. cut_part (first_column - 1) (last_column (length columns) last_col) (cells columns row) (whole_part columns few distinct row fit)) (entries first last rows) v
     (omega (arith, few_entries first last rows)) (All-take FitsRow _ _ (All-drop FitsRow _ rows fits)) h
+
+columns_fit : (columns : List ℕ) (v : Value) → length columns ≤ 4 → v ≡ array (map_values (λ id. column_value (object_of_column id)) columns) → IsSendable v
+columns_fit columns v few e = subst IsSendable (sym e) (sendable 2 84 _ (omega arith) (omega arith) (columns_small columns few))
 
 list_fits : (client : Client) (v : Value) → v ≡ object_list client → IsSendable v
 unfolding object_list short_length
@@ -171,45 +178,47 @@ unfolding short_length
 partners_fit Public v h = closed _ v refl h
 partners_fit Management v h = closed _ v refl h
 
-shown_fits : (s : StateValue) (client : Client) (d : Descriptor) (p : Part) (content : Content) (v : Value) → FitsTypes s → s.period < 2 ^ 32 → IsFound d content
+shown_fits : (s : StateValue) (client : Client) (d : Descriptor) (p : Part) (content : Content) (v : Value) → FitsTypes s → s.period < 2 ^ 32 → are_distinct s.columns ≡ true → IsFound d content
     → Shows (shown s client d p content) v → IsSendable v
 unfolding short_length
-shown_fits s client d p LogicalName v fits period found h = octets 6 d.name v (omega arith) (omega (arith, found.name)) h
-shown_fits s client d p DeviceName v fits period found h = closed _ v refl h
-shown_fits s client d p SerialNumber v fits period found h = closed _ v refl h
-shown_fits s client d p Text v fits period found h = octets 240 s.text v (omega arith) fits.text.count h
-shown_fits s client d p (Register channel) v fits period found h = number _ v (register_fits s.registers channel fits.registers) h
-shown_fits s client d p (ScalerUnit unit) v fits period found h = units unit v (ltb-true unit 256 found.unit) h
-shown_fits s client d p Time v fits period found h = sendable 0 14 v (omega arith) (omega arith) (time_small _ v h)
-shown_fits s client d p TimeZone v fits period found h = closed _ v refl h
-shown_fits s client d p ClockStatus v fits period found h = closed _ v refl h
-shown_fits s client d p DaylightTime v fits period found h = closed _ v refl h
-shown_fits s client d p DaylightDeviation v fits period found h = closed _ v refl h
-shown_fits s client d p DaylightEnabled v fits period found h = closed _ v refl h
-shown_fits s client d p ClockBase v fits period found h = closed _ v refl h
-shown_fits s client d p ObjectList v fits period found h = list_fits client v h
-shown_fits s client d p AssociatedPartners v fits period found h = partners_fit client v h
-shown_fits s client d p AssociationStatus v fits period found h = closed _ v refl h
-shown_fits s client d p Buffer v fits period found h = buffer_fits p s.rows.items v fits.room fits.rows h
-shown_fits s client d p CaptureObjects v fits period found h = closed _ v refl h
-shown_fits s client d p CapturePeriod v fits period found h = number s.period v period h
-shown_fits s client d p SortMethod v fits period found h = closed _ v refl h
-shown_fits s client d p SortObject v fits period found h = closed _ v refl h
-shown_fits s client d p EntriesInUse v fits period found h = number (length s.rows.items) v (omega (arith, fits.room)) h
-shown_fits s client d p ProfileEntries v fits period found h = number CAPACITY v (omega arith) h
-shown_fits s client d p Withheld v fits period found h = closed _ v refl h
-shown_fits s client d p Secret v fits period found h = closed _ v refl h
+shown_fits s client d p LogicalName v fits period distinct found h = octets 6 d.name v (omega arith) (omega (arith, found.name)) h
+shown_fits s client d p DeviceName v fits period distinct found h = closed _ v refl h
+shown_fits s client d p SerialNumber v fits period distinct found h = closed _ v refl h
+shown_fits s client d p Text v fits period distinct found h = octets 240 s.text v (omega arith) fits.text.count h
+shown_fits s client d p (Register channel) v fits period distinct found h = number _ v (register_fits s.registers channel fits.registers) h
+shown_fits s client d p (ScalerUnit unit) v fits period distinct found h = units unit v (ltb-true unit 256 found.unit) h
+shown_fits s client d p Time v fits period distinct found h = sendable 0 14 v (omega arith) (omega arith) (time_small _ v h)
+shown_fits s client d p TimeZone v fits period distinct found h = closed _ v refl h
+shown_fits s client d p ClockStatus v fits period distinct found h = closed _ v refl h
+shown_fits s client d p DaylightTime v fits period distinct found h = closed _ v refl h
+shown_fits s client d p DaylightDeviation v fits period distinct found h = closed _ v refl h
+shown_fits s client d p DaylightEnabled v fits period distinct found h = closed _ v refl h
+shown_fits s client d p ClockBase v fits period distinct found h = closed _ v refl h
+shown_fits s client d p ObjectList v fits period distinct found h = list_fits client v h
+shown_fits s client d p AssociatedPartners v fits period distinct found h = partners_fit client v h
+shown_fits s client d p AssociationStatus v fits period distinct found h = closed _ v refl h
+shown_fits s client d p Buffer v fits period distinct found h = buffer_fits s.columns p s.rows.items v fits.columns.count distinct fits.room fits.rows h
+shown_fits s client d p CaptureObjects v fits period distinct found h = columns_fit s.columns v fits.columns.count h
+shown_fits s client d p CapturePeriod v fits period distinct found h = number s.period v period h
+shown_fits s client d p SortMethod v fits period distinct found h = closed _ v refl h
+shown_fits s client d p SortObject v fits period distinct found h = closed _ v refl h
+shown_fits s client d p EntriesInUse v fits period distinct found h = number (length s.rows.items) v (omega (arith, fits.room)) h
+shown_fits s client d p ProfileEntries v fits period distinct found h = number CAPACITY v (omega arith) h
+shown_fits s client d p Withheld v fits period distinct found h = closed _ v refl h
+shown_fits s client d p Secret v fits period distinct found h = closed _ v refl h
 
-sent_for : (s : StateValue) (client : Client) (d : Descriptor) (want : Result Wanted AccessResult) (v : Value) → FitsTypes s → s.period < 2 ^ 32
+sent_for : (s : StateValue) (client : Client) (d : Descriptor) (want : Result Wanted AccessResult) (v : Value) → FitsTypes s → s.period < 2 ^ 32 → are_distinct s.columns ≡ true
     → ((w : Wanted) → want ≡ Ok w → IsFound d w.content) → IsShown s client d want (Ok v) → IsSendable v
-sent_for s client d (Err r) v fits period found h = absurd cc
-sent_for s client d (Ok w) v fits period found h = shown_fits s client d w.part w.content v fits period (found w refl) h
+sent_for s client d (Err r) v fits period distinct found h = absurd cc
+sent_for s client d (Ok w) v fits period distinct found h = shown_fits s client d w.part w.content v fits period distinct (found w refl) h.1
 
 of_state : (s : StateValue) (client : Client) (d : Descriptor) (selection : Option Selection) (v : Value) (E : List Event) → IsStateOf E s → IsShown s client d (wanted client d selection) (Ok v) → IsSendable v
 of_state s client d selection v E is h =
     let fits : FitsTypes s = subst FitsTypes (sym is.value) (FitsTypes-legal E is.legal) in
     let limits : IsWithinLimits s = subst IsWithinLimits (sym is.value) (IsWithinLimits-legal E is.legal) in
-    sent_for s client d (wanted client d selection) v fits (omega (arith, limits.period)) (wanted_found client d selection) h
+    let some = and_parts (nat_lt 0 (length s.columns)) (are_known s.columns && are_distinct s.columns) limits.columns in
+    let distinct = (and_parts (are_known s.columns) (are_distinct s.columns) some.1).1 in
+    sent_for s client d (wanted client d selection) v fits (omega (arith, limits.period)) distinct (wanted_found client d selection) h
 
 pub can_be_sent : (s : StateValue) (client : Client) (d : Descriptor) (selection : Option Selection) (v : Value) → HasEvents s → IsShown s client d (wanted client d selection) (Ok v) → IsSendable v
 can_be_sent s client d selection v has h = of_state s client d selection v has.events has.state h

@@ -1,7 +1,8 @@
 -- How many levels and bytes the values of rows have.
-use Rattle.std.proofs.Common.{◌≡◌, ℕ, zero, suc, ◌+◌, ◌-◌, ◌*◌, ◌^◌, ◌<◌, ◌≤◌, true, false, ltb, List, [], ◌∷◌, length, map, take, drop, slice_index, slice_range, refl, sym, subst, arith, inl, inr, length-take, length-drop}
-use Rattle.std.specs.Prelude.{All}
-use Rattle.std.proofs.lemmas.Bool.{cases_lt, lt-ltb, le-ltb}
+use Rattle.std.proofs.Common.{◌≡◌, ℕ, zero, suc, ◌+◌, ◌-◌, ◌*◌, ◌^◌, ◌<◌, ◌≤◌, true, false, ltb, List, [], ◌∷◌, length, map, take, drop, slice_range, refl, sym, subst, arith, inl, inr, length-take, length-drop}
+use Rattle.std.specs.Prelude.{All, Bool, not, ◌||◌, nat_eq}
+use Rattle.std.specs.List.{list_any}
+use Rattle.std.proofs.lemmas.Bool.{cases_lt, lt-ltb, le-ltb, and_parts}
 use Rattle.std.proofs.lemmas.List.{length-append}
 use Rattle.std.proofs.lemmas.List.Elements.{All-cons, All-nil, All-head, All-tail, All-take, All-drop}
 use Rattle.byteorder.specs.Numbers.{length-bytes_high_first}
@@ -12,7 +13,11 @@ use Rattle.dlms_profile.specs.Rows.{IsRow as FitsRow}
 use Rattle.dlms_classes.specs.declared.rows.Cell.{Cell}
 use Rattle.dlms_classes.specs.declared.rows.Cell.TheVariants.{Second, Number}
 use Rattle.dlms_data.specs.Building.{IsTime}
-use Rattle.dlms_classes.specs.Shown.{IsCell, IsRow, IsTable, Match, cells}
+use Rattle.dlms_classes.specs.Shown.{IsCell, IsRow, IsTable, Match, cells_of, cells, column_value}
+use Rattle.dlms_classes.specs.Listing.{map_values}
+use Rattle.dlms_classes.specs.Table.{object_of_column}
+use Rattle.dlms_classes.proofs.Matching.{few_cells}
+use Rattle.dlms_state.specs.Columns.{are_distinct}
 
 -- at most so many levels, numbers in their ranges, and a spelling of at most so many bytes
 pub record Small (levels bytes : ℕ) (v : Value) : Type 0 where
@@ -128,18 +133,79 @@ row_small cs (structure vs) part h =
     record { deep = one.deep; fits = one.fits; size = omega (arith, one.size, part.light) }
 row_small cs _ part h = absurd h
 
-pub whole_part : (row : Row) → FitsRow row → ArePart (cells row)
+either_false : (a b : Bool) → (a || b) ≡ false → b ≡ false
+either_false true b h = cc
+either_false false b h = h
+
+not_true : (b : Bool) → not b ≡ true → b ≡ false
+not_true true h = cc
+not_true false h = refl
+
+-- the fields of columns without the clock, and of columns that have it once
+light_others : (columns values : List ℕ) → list_any (nat_eq 0) columns ≡ false → weights (cells_of columns values) ≤ 5 * length columns
 unfolding weights
-whole_part row h =
-    let register : (n : ℕ) → Cell = λ n. Number (slice_index row.registers n) in
-    record {
-      few = omega arith;
-      light = omega arith;
-      fits = All-cons HasRange (Second row.clock) (register 0 ∷ register 1 ∷ register 2 ∷ []) tt
-          (All-cons HasRange (register 0) (register 1 ∷ register 2 ∷ []) (h.registers 0 0 (omega (arith, h.count)))
-          (All-cons HasRange (register 1) (register 2 ∷ []) (h.registers 1 0 (omega (arith, h.count)))
-          (All-cons HasRange (register 2) [] (h.registers 2 0 (omega (arith, h.count))) (All-nil HasRange))));
-    }
+light_others [] values h = omega arith
+light_others (id ∷ columns) [] h = omega arith
+light_others (zero ∷ columns) (value ∷ values) h = absurd cc
+light_others (suc id ∷ columns) (value ∷ values) h =
+    let rest = light_others columns values (either_false (nat_eq 0 (suc id)) (list_any (nat_eq 0) columns) h) in
+    omega (arith, rest)
+
+light_all : (columns values : List ℕ) → are_distinct columns ≡ true → weights (cells_of columns values) ≤ 9 + 5 * length columns
+unfolding weights
+light_all [] values h = omega arith
+light_all (id ∷ columns) [] h = omega arith
+light_all (zero ∷ columns) (value ∷ values) h =
+    let parts = and_parts (not (list_any (nat_eq 0) columns)) (are_distinct columns) h in
+    let rest = light_others columns values (not_true (list_any (nat_eq 0) columns) parts.0) in
+    omega (arith, rest)
+light_all (suc id ∷ columns) (value ∷ values) h =
+    let parts = and_parts (not (list_any (nat_eq (suc id)) columns)) (are_distinct columns) h in
+    let rest = light_all columns values parts.1 in
+    omega (arith, rest)
+
+ranges : (columns values : List ℕ) → All (λ value. value < 2 ^ 32) values → All HasRange (cells_of columns values)
+ranges [] values h = All-nil HasRange
+ranges (id ∷ columns) [] h = All-nil HasRange
+ranges (zero ∷ columns) (value ∷ values) h =
+    All-cons HasRange (Second value) (cells_of columns values) tt (ranges columns values (All-tail (λ (v : ℕ). v < 2 ^ 32) value values h))
+ranges (suc id ∷ columns) (value ∷ values) h =
+    All-cons HasRange (Number value) (cells_of columns values) (All-head (λ (v : ℕ). v < 2 ^ 32) value values h) (ranges columns values (All-tail (λ (v : ℕ). v < 2 ^ 32) value values h))
+
+pub whole_part : (columns : List ℕ) → length columns ≤ 4 → are_distinct columns ≡ true → (row : Row) → FitsRow row → ArePart (cells columns row)
+whole_part columns less distinct row h = record {
+  few = omega (arith, less, few_cells columns row.values.items);
+  light = omega (arith, less, light_all columns row.values.items distinct);
+  fits = ranges columns row.values.items h.values;
+}
+
+-- ---- columns
+
+column_small : (id : ℕ) → Small 1 20 (column_value (object_of_column id))
+unfolding short_length
+column_small zero = record { deep = omega arith; fits = (omega arith, (omega arith, (omega arith, (record { sfits = omega arith }, (omega arith, tt))))); size = omega arith }
+column_small (suc zero) = record { deep = omega arith; fits = (omega arith, (omega arith, (omega arith, (record { sfits = omega arith }, (omega arith, tt))))); size = omega arith }
+column_small (suc (suc zero)) = record { deep = omega arith; fits = (omega arith, (omega arith, (omega arith, (record { sfits = omega arith }, (omega arith, tt))))); size = omega arith }
+column_small (suc (suc (suc zero))) = record { deep = omega arith; fits = (omega arith, (omega arith, (omega arith, (record { sfits = omega arith }, (omega arith, tt))))); size = omega arith }
+column_small (suc (suc (suc (suc id)))) = record { deep = omega arith; fits = (omega arith, (omega arith, (omega arith, (record { sfits = omega arith }, (omega arith, tt))))); size = omega arith }
+
+count_columns : (columns : List ℕ) → count (map_values (λ id. column_value (object_of_column id)) columns) ≡ length columns
+count_columns [] = refl
+count_columns (id ∷ columns) = let rest = count_columns columns in omega (arith, rest)
+
+all_small : (columns : List ℕ) → AreSmall 1 (20 * length columns) (map_values (λ id. column_value (object_of_column id)) columns)
+all_small [] = none_small 1
+all_small (id ∷ columns) =
+    let all = cons_small 1 20 (20 * length columns) (column_value (object_of_column id)) (map_values (λ id. column_value (object_of_column id)) columns) (column_small id) (all_small columns) in
+    record { deep = all.deep; fits = all.fits; size = omega (arith, all.size) }
+
+pub columns_small : (columns : List ℕ) → length columns ≤ 4 → Small 2 84 (array (map_values (λ id. column_value (object_of_column id)) columns))
+columns_small columns less =
+    let number = count_columns columns in
+    let one = array_small 1 (20 * length columns) (map_values (λ id. column_value (object_of_column id)) columns) (omega (arith, less, number)) (all_small columns) in
+    record { deep = one.deep; fits = one.fits; size = omega (arith, one.size, less) }
+
+-- ---- some columns
 
 weights-take : (n : ℕ) (cs : List Cell) → weights (take n cs) ≤ weights cs
 unfolding weights

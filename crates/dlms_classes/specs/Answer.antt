@@ -13,7 +13,7 @@ use Rattle.dlms_classes.specs.declared.access.AccessResult.{AccessResult}
 use Rattle.dlms_classes.specs.declared.access.AccessResult.TheVariants.{TemporaryFailure, OtherReason}
 use Rattle.dlms_classes.specs.declared.table.Content.{Content}
 use Rattle.dlms_classes.specs.Access.{◌>>=◌, readable}
-use Rattle.dlms_classes.specs.Choice.{Selection, part_of, HasSeconds}
+use Rattle.dlms_classes.specs.Choice.{Selection, part_of, HasPart}
 use Rattle.dlms_classes.specs.Shown.{Part, Shows, shown, takes_memory}
 
 -- an attribute, and which part of it
@@ -29,26 +29,26 @@ wanted client d selection =
     part_of a.content selection >>= λ p.
     Ok (record { content = a.content; part = p })
 
--- What is wanted of a state is this: the value that shows it; or the refusal, which is for another reason where the octets that
--- bound a range name no second of the clock.
+-- What is wanted of a state is this: the value that shows it; or the refusal, which is for another reason where the state's
+-- columns have no such part.
 abbrev pub IsShown : StateValue → Client → Descriptor → Result Wanted AccessResult → Result Value AccessResult → Type 0
 IsShown s client d (Err r) result = result ≡ Err r
-IsShown s client d (Ok w) result = MatchResult result (Shows (shown s client d w.part w.content)) (λ r. (r ≡ OtherReason) × ¬ (HasSeconds w.part))
+IsShown s client d (Ok w) result = MatchResult result (λ v. HasPart s.columns w.part × Shows (shown s client d w.part w.content) v) (λ r. (r ≡ OtherReason) × ¬ (HasPart s.columns w.part))
 
--- nothing refuses it
-abbrev pub IsGranted : Result Wanted AccessResult → Type 0
-IsGranted (Err r) = ⊥
-IsGranted (Ok w) = HasSeconds w.part
+-- nothing refuses it in a state of these columns
+abbrev pub IsGranted : (columns : List ℕ) → Result Wanted AccessResult → Type 0
+IsGranted columns (Err r) = ⊥
+IsGranted columns (Ok w) = HasPart columns w.part
 
 -- and it takes memory to show it
-abbrev pub NeedsMemory : Result Wanted AccessResult → Type 0
-NeedsMemory (Err r) = ⊥
-NeedsMemory (Ok w) = HasSeconds w.part × IsTrue (takes_memory w.content)
+abbrev pub NeedsMemory : (columns : List ℕ) → Result Wanted AccessResult → Type 0
+NeedsMemory columns (Err r) = ⊥
+NeedsMemory columns (Ok w) = HasPart columns w.part × IsTrue (takes_memory w.content)
 
 -- what a call answers: what is shown, or want of memory where it takes memory to show it
 abbrev pub IsAnswer : {A : Type 0} → StateValue → Client → Descriptor → Result Wanted AccessResult → Result (Data A) AccessResult → Type 0
 IsAnswer s client d w result =
-    MatchResult result (λ v. IsShown s client d w (Ok (value_of v))) (λ r. IsShown s client d w (Err r) ⊎ (NeedsMemory w × (r ≡ TemporaryFailure)))
+    MatchResult result (λ v. IsShown s client d w (Ok (value_of v))) (λ r. IsShown s client d w (Err r) ⊎ (NeedsMemory s.columns w × (r ≡ TemporaryFailure)))
 
 -- the answer after a list of events: the state is that of the definitions of settings, registers, clock and buffer
 abbrev pub AnswersAfter : {A : Type 0} → List Event → Client → Descriptor → Option Selection → Result (Data A) AccessResult → Type 0

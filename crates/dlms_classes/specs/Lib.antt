@@ -1,5 +1,6 @@
 pub mod Table
 pub mod Access
+pub mod Column
 pub mod Plan
 pub mod Listing
 pub mod Shown

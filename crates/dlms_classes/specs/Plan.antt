@@ -1,5 +1,5 @@
 -- Which event a service asks for: the values that SET and ACTION take (IEC 62056-6-2: value of class Data, time of class
--- Clock, capture_period of class Profile generic, secret of class Association LN, and the methods).
+-- Clock, capture_objects and capture_period of class Profile generic, secret of class Association LN, and the methods).
 use Rattle.std.specs.Prelude.{◌≡◌, ℕ, ◌==◌, if◌then◌else◌, List, length, Option, Some, Result, Ok, Err, MatchResult}
 use Rattle.dlms_data.specs.Value.{Value, octet_string, visible_string, double_long_unsigned, long, date_time}
 use Rattle.dlms_data.specs.DateTime.{NamesSecond}
@@ -7,15 +7,17 @@ use Rattle.dlms_data.specs.declared.descriptor.Descriptor.{Descriptor}
 use Rattle.dlms_frame.specs.declared.client.Client.{Client}
 use Rattle.dlms_state.specs.declared.event.Event.{Event}
 use Rattle.dlms_state.specs.declared.event.Event.TheVariants as event
-use Rattle.dlms_state.specs.Events.{text_set, secret_set}
+use Rattle.dlms_state.specs.Events.{text_set, secret_set, columns_set}
+use Rattle.dlms_state.specs.declared.event.SecretOf.TheVariants.{Management}
 use Rattle.dlms_state.specs.Types.{FitsType}
 use Rattle.dlms_classes.specs.declared.access.AccessResult.{AccessResult}
 use Rattle.dlms_classes.specs.declared.access.AccessResult.TheVariants.{ReadWriteDenied, TypeUnmatched, OtherReason}
 use Rattle.dlms_classes.specs.declared.table.Content.{Content}
-use Rattle.dlms_classes.specs.declared.table.Content.TheVariants.{Text, Time, CapturePeriod, Secret}
+use Rattle.dlms_classes.specs.declared.table.Content.TheVariants.{Text, Time, CaptureObjects, CapturePeriod, Secret}
 use Rattle.dlms_classes.specs.declared.table.Call.{Call}
 use Rattle.dlms_classes.specs.declared.table.Call.TheVariants as call
 use Rattle.dlms_classes.specs.Access.{◌>>=◌, writable, callable}
+use Rattle.dlms_classes.specs.Column.{columns_of}
 
 -- what a value is to set
 pub data Setting : Type 0 where
@@ -23,6 +25,7 @@ pub data Setting : Type 0 where
   period_to : ℕ → Setting
   text_to : List ℕ → Setting
   secret_to : List ℕ → Setting
+  columns_to : List ℕ → Setting
 
 -- a text is an octet-string or a visible-string
 abbrev pub text_setting : Value → Result Setting AccessResult
@@ -47,10 +50,15 @@ abbrev pub secret_setting : Value → Result Setting AccessResult
 secret_setting (octet_string bytes) = Ok (secret_to bytes)
 secret_setting _ = Err TypeUnmatched
 
+-- an array of structures: the ids of the columns that they name
+abbrev pub columns_setting : Value → Result Setting AccessResult
+columns_setting v = columns_of v >>= λ ids. Ok (columns_to ids)
+
 -- what a value is to set in an attribute; in the others nothing can be set
 abbrev pub setting_of : Content → Value → Result Setting AccessResult
 setting_of Text v = text_setting v
 setting_of Time v = time_setting v
+setting_of CaptureObjects v = columns_setting v
 setting_of CapturePeriod v = period_setting v
 setting_of Secret v = secret_setting v
 setting_of _ v = Err TypeUnmatched
@@ -64,7 +72,8 @@ abbrev pub Does : Setting → Event → Type 0
 Does (clock_to octets) e = (second : ℕ) × NamesSecond octets second × (e ≡ event.SetTime second)
 Does (period_to seconds) e = e ≡ event.SetPeriod seconds
 Does (text_to bytes) e = text_set e ≡ Some bytes
-Does (secret_to bytes) e = secret_set e ≡ Some bytes
+Does (secret_to bytes) e = secret_set Management e ≡ Some bytes
+Does (columns_to ids) e = columns_set e ≡ Some ids
 
 -- the event that does what is asked, or the refusal: for another reason where the octets name no second, or where the bytes
 -- are more than any event holds

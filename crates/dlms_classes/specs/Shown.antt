@@ -1,6 +1,7 @@
 -- What an answer shows, and which value shows it: the attributes' values of IEC 62056-6-2 (Blue Book: Data 4.3.1, Register
 -- 4.3.2, Profile generic 4.3.6, Association LN 4.4.4, Clock 4.5.1). The constants are the meter's own.
-use Rattle.std.specs.Prelude.{◌≡◌, ℕ, ◌-◌, ◌==◌, ◌<◌, ◌≤◌, ◌^◌, All, ◌||◌, nat_lt, if◌then◌else◌, List, [], ◌∷◌, map, length, slice_index, slice_range, codes, replicate, pos, ⊤, Bool, true, false}
+use Rattle.std.specs.Prelude.{◌≡◌, ℕ, zero, suc, ◌-◌, ◌==◌, ◌≤◌, ◌||◌, nat_lt, if◌then◌else◌, List, [], ◌∷◌, map, length, slice_index, slice_range, codes, replicate, pos, ⊤, Bool, true, false, Option, Some}
+use Rattle.std.specs.List.{position_from}
 use Rattle.dlms_data.specs.Value.{Value, Values, null, array, structure, boolean, double_long_unsigned, octet_string, integer, long, unsigned, long_unsigned, enumerated, none, cons}
 use Rattle.dlms_data.specs.DateTime.{NamesSecond}
 use Rattle.dlms_data.specs.Building.{IsTime}
@@ -16,7 +17,7 @@ use Rattle.dlms_classes.specs.declared.rows.Cell.{Cell}
 use Rattle.dlms_classes.specs.declared.rows.Cell.TheVariants.{Second, Number}
 use Rattle.dlms_classes.specs.declared.table.Content.{Content}
 use Rattle.dlms_classes.specs.declared.table.Content.TheVariants.{LogicalName, DeviceName, SerialNumber, Text, Register, ScalerUnit, Time, TimeZone, ClockStatus, DaylightTime, DaylightDeviation, DaylightEnabled, ClockBase, ObjectList, AssociatedPartners, Withheld, Secret, AssociationStatus, Buffer, CaptureObjects, CapturePeriod, SortMethod, SortObject, EntriesInUse, ProfileEntries}
-use Rattle.dlms_classes.specs.Table.{Entry, columns, captured_attribute}
+use Rattle.dlms_classes.specs.Table.{Entry, object_of_column, captured_attribute}
 use Rattle.dlms_classes.specs.Listing.{object_list, map_values}
 use Rattle.dlms_data.specs.declared.date_time.TheConstants.{LAST_SECOND}
 
@@ -28,29 +29,43 @@ pub data Part : Type 0 where
   between : (first last : List ℕ) → Part
   cut : (first last first_column last_column : ℕ) → Part
 
--- A value, a second of the clock, rows, or the rows whose clock lies between two date-times.
+-- A value, a second of the clock, rows, or the rows of these columns whose clock lies between two date-times.
 pub data Shown : Type 0 where
   as_value : Value → Shown
   as_time : ℕ → Shown
   as_table : List (List Cell) → Shown
-  as_range : (first last : List ℕ) → List Row → Shown
+  as_range : (columns : List ℕ) → (first last : List ℕ) → List Row → Shown
 
--- the columns of a row: the clock, and the three registers
-abbrev pub cells : Row → List Cell
-cells row = Second row.clock ∷ Number (slice_index row.registers 0) ∷ Number (slice_index row.registers 1) ∷ Number (slice_index row.registers 2) ∷ []
+-- the field of a column: column 0 is the clock, and the others are registers
+abbrev pub cell_of : (id value : ℕ) → Cell
+cell_of zero value = Second value
+cell_of (suc register) value = Number value
 
--- the columns first to last, counted from 1; 0 or past the end is the last one
-abbrev pub last_column : ℕ → ℕ
-last_column last = if (last == 0) || nat_lt (length columns) last then length columns else last
+abbrev pub cells_of : (columns values : List ℕ) → List Cell
+cells_of [] values = []
+cells_of (id ∷ columns) [] = []
+cells_of (id ∷ columns) (value ∷ values) = cell_of id value ∷ cells_of columns values
 
-abbrev pub columns_between : ℕ → ℕ → List Cell → List Cell
-columns_between first last row = slice_range row (first - 1) (last_column last)
+-- the fields of a row: one a column, in their order
+abbrev pub cells : List ℕ → Row → List Cell
+cells columns row = cells_of columns row.values.items
 
-abbrev pub part_shown : Part → List Row → Shown
-part_shown whole rows = as_table (map cells rows)
-part_shown (between first last) rows = as_range first last rows
-part_shown (cut first last first_column last_column) rows =
-    as_table (map (λ row. columns_between first_column last_column (cells row)) (entries first last rows))
+-- the place of the clock among the columns, counted from 0, if it is one
+abbrev pub clock_place : List ℕ → Option ℕ
+clock_place columns = position_from (λ id. id == 0) 0 columns
+
+-- of so many columns those from first to last, counted from 1; 0 or past the end is the last one
+abbrev pub last_column : (count last : ℕ) → ℕ
+last_column count last = if (last == 0) || nat_lt count last then count else last
+
+abbrev pub columns_between : (count first last : ℕ) → List Cell → List Cell
+columns_between count first last row = slice_range row (first - 1) (last_column count last)
+
+abbrev pub part_shown : (columns : List ℕ) → Part → List Row → Shown
+part_shown columns whole rows = as_table (map (cells columns) rows)
+part_shown columns (between first last) rows = as_range columns first last rows
+part_shown columns (cut first last first_column last_column) rows =
+    as_table (map (λ row. columns_between (length columns) first_column last_column (cells columns row)) (entries first last rows))
 
 abbrev pub two : Value → Value → Values
 two a b = cons a (cons b none)
@@ -88,8 +103,8 @@ shown s client d p ClockBase = as_value (enumerated 1)
 shown s client d p ObjectList = as_value (object_list client)
 shown s client d p AssociatedPartners = as_value (structure (two (integer (pos (sap_of client))) (long_unsigned 1)))
 shown s client d p AssociationStatus = as_value (enumerated 2)
-shown s client d p Buffer = part_shown p s.rows.items
-shown s client d p CaptureObjects = as_value (array (map_values column_value columns))
+shown s client d p Buffer = part_shown s.columns p s.rows.items
+shown s client d p CaptureObjects = as_value (array (map_values (λ id. column_value (object_of_column id)) s.columns))
 shown s client d p CapturePeriod = as_value (double_long_unsigned s.period)
 shown s client d p SortMethod = as_value (enumerated 1)
 shown s client d p SortObject = as_value no_column
@@ -142,16 +157,19 @@ abbrev pub IsTable : List (List Cell) → Value → Type 0
 IsTable rows (array vs) = Match IsRow rows vs
 IsTable rows _ = ⊥
 
--- the rows whose clock lies between the seconds that two date-times name, both included
-pub record IsRange (first last : List ℕ) (rows : List Row) (v : Value) : Type 0 where
+-- the clock is one of the columns, and these are the rows whose clock lies between the seconds that two date-times name, both
+-- included
+pub record IsRange (columns : List ℕ) (first last : List ℕ) (rows : List Row) (v : Value) : Type 0 where
+  pub place : ℕ
+  pub is_column : clock_place columns ≡ Some place
   pub from : ℕ
   pub to : ℕ
   pub names_from : NamesSecond first from
   pub names_to : NamesSecond last to
-  pub value : IsTable (map cells (in_range from to rows)) v
+  pub value : IsTable (map (cells columns) (in_range place from to rows)) v
 
 abbrev pub Shows : Shown → Value → Type 0
 Shows (as_value v) w = w ≡ v
 Shows (as_time s) w = IsTime s w
 Shows (as_table rows) w = IsTable rows w
-Shows (as_range first last rows) w = IsRange first last rows w
+Shows (as_range columns first last rows) w = IsRange columns first last rows w

@@ -2,7 +2,9 @@
 -- and what each method does. Classes and their versions, attributes and methods are those of IEC 62056-6-2 (Blue Book:
 -- Data 4.3.1, Register 4.3.2, Profile generic 4.3.6, Association LN 4.4.4, Clock 4.5.1); the logical names are those of
 -- IEC 62056-6-1. Which objects there are, and the rights, are the meter's own.
-use Rattle.std.specs.Prelude.{ℕ, List, [], ◌∷◌, Bool, true, false}
+use Rattle.std.specs.Prelude.{ℕ, ◌==◌, ◌&&◌, List, [], ◌∷◌, get_or, Option, Bool, true, false}
+use Rattle.std.specs.List.{position_from}
+use Rattle.std.specs.Str.{bytes_eq}
 use Rattle.dlms_frame.specs.declared.client.Client.{Client}
 use Rattle.dlms_frame.specs.declared.client.Client.TheVariants.{Public, Management}
 use Rattle.dlms_classes.specs.declared.table.Content.{Content}
@@ -69,7 +71,7 @@ clock_entry name =
 abbrev pub profile_entry : List ℕ → Entry
 profile_entry name =
     entry 7 1 name
-    (shows LogicalName ∷ holds Buffer Nothing Read ∷ shows CaptureObjects ∷ sets CapturePeriod ∷ shows SortMethod ∷ shows SortObject
+    (shows LogicalName ∷ holds Buffer Nothing Read ∷ sets CaptureObjects ∷ sets CapturePeriod ∷ shows SortMethod ∷ shows SortObject
     ∷ shows EntriesInUse ∷ shows ProfileEntries ∷ [])
     (call.ResetProfile ∷ call.Capture ∷ [])
 
@@ -106,9 +108,17 @@ objects =
     ∷ profile_entry (1 ∷ 0 ∷ 99 ∷ 1 ∷ 0 ∷ 255 ∷ [])
     ∷ []
 
--- the objects of which an attribute is a column of the load profile, in the order of the columns
-abbrev pub columns : List Entry
-columns = clock ∷ energy_imported ∷ energy_exported ∷ reactive_energy ∷ []
+-- the objects of which an attribute can be a column of the load profile; the id of the column is the object's place here
+abbrev pub captured : List Entry
+captured = clock ∷ energy_imported ∷ energy_exported ∷ reactive_energy ∷ []
+
+-- the object that gives the column of an id
+abbrev pub object_of_column : ℕ → Entry
+object_of_column id = get_or captured id clock
+
+-- the id of the column that the object of this class and name gives
+abbrev pub id_of : (class : ℕ) (name : List ℕ) → Option ℕ
+id_of class name = position_from (λ o. (o.class == class) && bytes_eq o.name name) 0 captured
 
 -- the attribute of each of them that is captured: the time of the clock, the value of a register
 abbrev pub captured_attribute : ℕ

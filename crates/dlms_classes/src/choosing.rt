@@ -2,14 +2,14 @@
 
 ghost use Rattle.std.specs.Prelude.{◌≡◌, Ok, IfOk, option_map};
 ghost use Rattle.dlms_data.specs.View.{value_of};
-ghost use Rattle.dlms_classes.specs.Access.{IsToldAs};
-ghost use Rattle.dlms_classes.specs.Choice.{selection_of, four_of, long_unsigned_of, double_long_unsigned_of, octet_string_of, integer_of, is_empty_array as empty_array, is_clock_column as clock_column, range_of, cut_of, part_named, part_of, IsChoice, IsProper};
+ghost use Rattle.dlms_classes.specs.Choice.{selection_of, double_long_unsigned_of, is_empty_array as empty_array, range_of, cut_of, part_named, part_of, IsChoice, IsProper};
 ghost use Rattle.dlms_classes.specs.Listing.{is_selective as selective};
-ghost use Rattle.dlms_classes.specs.Shown.{last_column as last_of, between as between_times};
+ghost use Rattle.dlms_classes.specs.Shown.{last_column as last_of, clock_place as place_of_clock, between as between_times};
 
 use crate::access::AccessResult;
+use crate::column::{column_named, four, long_unsigned};
 use crate::planning::time_octets;
-use crate::table::{CAPTURED_ATTRIBUTE, CLOCK, COLUMNS, Content};
+use crate::table::Content;
 use dlms_data::{Data, Selector, secs};
 use std::alloc::Allocator;
 
@@ -18,15 +18,16 @@ pub const BY_RANGE: u8 = 1;
 
 pub const BY_ENTRY: u8 = 2;
 
-/// How many columns a row has.
-const COLUMN_COUNT: u16 = COLUMNS.len() as u16;
+/// The id of the clock's column.
+pub const CLOCK_ID: u8 = 0;
 
 /// The part of the buffer that is wanted.
 #[derive(Clone, Copy, Debug)]
 pub enum Choice {
     Whole,
-    /// The rows from a second of the clock to another, both included.
-    Between(u32, u32),
+    /// The rows from a second of the clock to another, both included, and before them the clock's place in a row, counted
+    /// from 0.
+    Between(usize, u32, u32),
     /// From one entry to another, and from one column to another, counted from 1; where 0 stands for the last one.
     Cut(u32, u32, u16, u16),
 }
@@ -38,55 +39,11 @@ pub fn is_selective(content: Content) -> bool
     matches!(content, Content::Buffer)
 }
 
-/// The values of a structure of four.
-#[tactic(auto, using(crate::proofs::Fours::four_of_others, crate::proofs::Fours::four_of_parts))]
-fn four<A: Allocator>(
-    value: &Data<A>,
-) -> Result<(&Data<A>, &Data<A>, &Data<A>, &Data<A>), AccessResult>
-    ensures { IsToldAs (λ x. (value_of x.0.now, value_of x.1.now, value_of x.2.now, value_of x.3.now)) result (four_of (value_of value.now)) }
-{
-    let Data::Structure(items) = value else {
-        return Err(AccessResult::TypeUnmatched);
-    };
-    let parts = items.as_slice();
-    if parts.len() != 4 {
-        return Err(AccessResult::TypeUnmatched);
-    }
-    Ok((&parts[0], &parts[1], &parts[2], &parts[3]))
-}
-
-fn long_unsigned<A: Allocator>(value: &Data<A>) -> Result<u16, AccessResult>
-    ensures { result ≡ long_unsigned_of (value_of value.now) }
-{
-    match value {
-        Data::LongUnsigned(number) => Ok(*number),
-        _ => Err(AccessResult::TypeUnmatched),
-    }
-}
-
 fn double_long_unsigned<A: Allocator>(value: &Data<A>) -> Result<u32, AccessResult>
     ensures { result ≡ double_long_unsigned_of (value_of value.now) }
 {
     match value {
         Data::DoubleLongUnsigned(number) => Ok(*number),
-        _ => Err(AccessResult::TypeUnmatched),
-    }
-}
-
-fn octet_string<A: Allocator>(value: &Data<A>) -> Result<&[u8], AccessResult>
-    ensures { IsToldAs (λ bytes. bytes.now) result (octet_string_of (value_of value.now)) }
-{
-    match value {
-        Data::OctetString(bytes) => Ok(bytes.as_slice()),
-        _ => Err(AccessResult::TypeUnmatched),
-    }
-}
-
-fn integer<A: Allocator>(value: &Data<A>) -> Result<i8, AccessResult>
-    ensures { result ≡ integer_of (value_of value.now) }
-{
-    match value {
-        Data::Integer(number) => Ok(*number),
         _ => Err(AccessResult::TypeUnmatched),
     }
 }
@@ -101,27 +58,22 @@ fn is_empty_array<A: Allocator>(value: &Data<A>) -> Result<bool, AccessResult>
     }
 }
 
-/// Whether a column's structure names the clock's time.
-fn is_clock_column<A: Allocator>(value: &Data<A>) -> Result<bool, AccessResult>
-    ensures { result ≡ clock_column (value_of value.now) }
+/// The place of the clock among the columns, counted from 0.
+fn clock_place(columns: &[u8]) -> Option<usize>
+    ensures { result ≡ place_of_clock columns.now }
 {
-    let (class, name, attribute, index) = four(value)?;
-    let class = long_unsigned(class)?;
-    let name = octet_string(name)?;
-    let attribute = integer(attribute)?;
-    let index = long_unsigned(index)?;
-    Ok(
-        class == CLOCK.class
-            && name == CLOCK.name.as_slice()
-            && attribute == CAPTURED_ATTRIBUTE
-            && index == 0,
-    )
+    for (place, id) in columns.iter().enumerate() {
+        if *id == CLOCK_ID {
+            return Some(place);
+        }
+    }
+    None
 }
 
 /// The choice of the rows between two date-times.
-fn between(first: &[u8], last: &[u8]) -> Result<Choice, AccessResult>
-    ensures choice { IsChoice (Ok (between_times first.now last.now)) result }
-    ensures proper { IfOk result IsProper }
+fn between(columns: &[u8], first: &[u8], last: &[u8]) -> Result<Choice, AccessResult>
+    ensures choice { IsChoice columns.now (Ok (between_times first.now last.now)) result }
+    ensures proper { IfOk result (IsProper columns.now) }
 {
     let Some(from) = secs(first) else {
         return Err(AccessResult::OtherReason);
@@ -129,71 +81,79 @@ fn between(first: &[u8], last: &[u8]) -> Result<Choice, AccessResult>
     let Some(to) = secs(last) else {
         return Err(AccessResult::OtherReason);
     };
-    Ok(Choice::Between(from, to))
+    let Some(place) = clock_place(columns) else {
+        return Err(AccessResult::OtherReason);
+    };
+    Ok(Choice::Between(place, from, to))
 }
 
 /// The choice by range.
-fn range<A: Allocator>(value: &Data<A>) -> Result<Choice, AccessResult>
-    ensures choice { IsChoice (range_of (value_of value.now)) result }
-    ensures proper { IfOk result IsProper }
+fn range<A: Allocator>(columns: &[u8], value: &Data<A>) -> Result<Choice, AccessResult>
+    ensures choice { IsChoice columns.now (range_of (value_of value.now)) result }
+    ensures proper { IfOk result (IsProper columns.now) }
 {
-    let (column, first, last, columns) = four(value)?;
-    let by_clock = is_clock_column(column)?;
+    let (column, first, last, selected) = four(value)?;
+    let column = column_named(column)?;
     let first = time_octets(first)?;
     let last = time_octets(last)?;
-    let all_columns = is_empty_array(columns)?;
-    if !(by_clock && all_columns) {
+    let all_columns = is_empty_array(selected)?;
+    if column != Some(CLOCK_ID) || !all_columns {
         return Err(AccessResult::OtherReason);
     }
-    between(first, last)
+    between(columns, first, last)
 }
 
-/// The last column, where 0 or past the end stands for it too.
-pub fn last_column(last: u16) -> u16
-    ensures { result ≡ last_of last }
+/// Of so many columns the last one, where 0 or past the end stands for it too.
+pub fn last_column(count: usize, last: u16) -> usize
+    ensures { result ≡ last_of count last }
 {
-    if last == 0 || COLUMN_COUNT < last {
-        COLUMN_COUNT
+    let last = usize::from(last);
+    if last == 0 || count < last {
+        count
     } else {
         last
     }
 }
 
 /// The choice by entry.
-fn cut<A: Allocator>(value: &Data<A>) -> Result<Choice, AccessResult>
-    ensures choice { IsChoice (cut_of (value_of value.now)) result }
-    ensures proper { IfOk result IsProper }
+fn cut<A: Allocator>(columns: &[u8], value: &Data<A>) -> Result<Choice, AccessResult>
+    ensures choice { IsChoice columns.now (cut_of (value_of value.now)) result }
+    ensures proper { IfOk result (IsProper columns.now) }
 {
     let (first, last, first_col, last_col) = four(value)?;
     let first = double_long_unsigned(first)?;
     let last = double_long_unsigned(last)?;
     let first_col = long_unsigned(first_col)?;
     let last_col = long_unsigned(last_col)?;
-    if first == 0 || first_col == 0 || last_column(last_col) < first_col {
+    if first == 0 || first_col == 0 {
+        return Err(AccessResult::OtherReason);
+    }
+    if last_column(columns.len(), last_col) < usize::from(first_col) {
         return Err(AccessResult::OtherReason);
     }
     Ok(Choice::Cut(first, last, first_col, last_col))
 }
 
 /// The choice of a selector.
-fn named<A: Allocator>(selector: &Selector<A>) -> Result<Choice, AccessResult>
-    ensures choice { IsChoice (part_named (selection_of selector.now)) result }
-    ensures proper { IfOk result IsProper }
+fn named<A: Allocator>(columns: &[u8], selector: &Selector<A>) -> Result<Choice, AccessResult>
+    ensures choice { IsChoice columns.now (part_named (selection_of selector.now)) result }
+    ensures proper { IfOk result (IsProper columns.now) }
 {
     match selector.number {
-        BY_RANGE => range(&selector.value),
-        BY_ENTRY => cut(&selector.value),
+        BY_RANGE => range(columns, &selector.value),
+        BY_ENTRY => cut(columns, &selector.value),
         _ => Err(AccessResult::ScopeOfAccessViolated),
     }
 }
 
-/// The part that is wanted of an attribute.
+/// The part that is wanted of an attribute, of a buffer with these columns.
 pub fn chosen<A: Allocator>(
+    columns: &[u8],
     content: Content,
     selector: Option<&Selector<A>>,
 ) -> Result<Choice, AccessResult>
-    ensures choice { IsChoice (part_of content (option_map (λ s. selection_of s.now) selector.entry)) result }
-    ensures proper { IfOk result IsProper }
+    ensures choice { IsChoice columns.now (part_of content (option_map (λ s. selection_of s.now) selector.entry)) result }
+    ensures proper { IfOk result (IsProper columns.now) }
 {
     let Some(selector) = selector else {
         return Ok(Choice::Whole);
@@ -201,5 +161,5 @@ pub fn chosen<A: Allocator>(
     if !is_selective(content) {
         return Err(AccessResult::ScopeOfAccessViolated);
     }
-    named(selector)
+    named(columns, selector)
 }

@@ -3,6 +3,7 @@
 
 mod access;
 mod choosing;
+mod column;
 pub mod laws;
 mod listing;
 mod lookup;

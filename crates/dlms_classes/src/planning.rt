@@ -3,15 +3,16 @@
 ghost use Rattle.std.specs.Prelude.{◌≡◌, option_map};
 ghost use Rattle.dlms_data.specs.View.{value_of};
 ghost use Rattle.dlms_classes.specs.Access.{IsToldAs};
-ghost use Rattle.dlms_classes.specs.Plan.{IsPlan, clock_to, text_to, secret_to, octets_of_time, text_setting, time_setting, period_setting, secret_setting, setting_asked, event_of, shift_asked, event_asked};
+ghost use Rattle.dlms_classes.specs.Plan.{IsPlan, clock_to, text_to, secret_to, octets_of_time, text_setting, time_setting, period_setting, columns_setting, secret_setting, setting_asked, event_of, shift_asked, event_asked};
 
 use crate::access::AccessResult;
+use crate::column::columns;
 use crate::lookup::{callable, writable};
 use crate::table::{Call, Content};
 use arrayvec::ArrayVec;
 use dlms_data::{Data, Descriptor, secs};
 use dlms_frame::Client;
-use dlms_state::Event;
+use dlms_state::{Event, SecretOf};
 use std::alloc::Allocator;
 
 /// The octets of a time.
@@ -66,6 +67,13 @@ fn plan_period<A: Allocator>(value: &Data<A>) -> Result<Event, AccessResult>
     }
 }
 
+/// The event that sets the columns of the load profile.
+fn plan_columns<A: Allocator>(value: &Data<A>) -> Result<Event, AccessResult>
+    ensures { IsPlan (columns_setting (value_of value.now)) result }
+{
+    Ok(Event::SetColumns(columns(value)?))
+}
+
 /// The event that sets management's secret.
 fn plan_secret<A: Allocator>(value: &Data<A>) -> Result<Event, AccessResult>
     ensures { IsPlan (secret_setting (value_of value.now)) result }
@@ -83,7 +91,7 @@ fn secret_event(bytes: &[u8]) -> Result<Event, AccessResult>
     if secret.try_extend_from_slice(bytes).is_err() {
         return Err(AccessResult::OtherReason);
     }
-    Ok(Event::SetSecret(secret))
+    Ok(Event::SetSecret(SecretOf::Management, secret))
 }
 
 /// The event that SET of an attribute asks for. Whether the state accepts it is not looked at: an event that its `check`
@@ -93,6 +101,7 @@ fn secret_event(bytes: &[u8]) -> Result<Event, AccessResult>
 /// |---|---|
 /// | a text | octet-string or visible-string, at most 240 bytes |
 /// | the clock's time | octet-string of twelve or date-time |
+/// | the capture objects | array of at most four structures of class, name, attribute 2 and data index 0, each that of the clock or of a register |
 /// | the capture period | double-long-unsigned |
 /// | the secret | octet-string, at most 16 bytes |
 pub fn plan_set<A: Allocator>(
@@ -106,6 +115,7 @@ pub fn plan_set<A: Allocator>(
     match attribute.content {
         Content::Text => plan_text(value),
         Content::Time => plan_time(value),
+        Content::CaptureObjects => plan_columns(value),
         Content::CapturePeriod => plan_period(value),
         Content::Secret => plan_secret(value),
         _ => Err(AccessResult::TypeUnmatched),

@@ -27,7 +27,7 @@ fn answer<A: Allocator + Copy>(
     ensures { IsAnswer state.now client descriptor (wanted client descriptor (option_map (λ s. selection_of s.now) selector.entry)) result }
 {
     let attribute = readable(client, descriptor)?;
-    let choice = chosen(attribute.content, selector)?;
+    let choice = chosen(state.columns(), attribute.content, selector)?;
     Ok(value(alloc, state, client, descriptor, choice, attribute.content)?)
 }
 
@@ -39,9 +39,9 @@ fn answer<A: Allocator + Copy>(
 /// strings of twelve or date-times) and an empty array; 2 by entry, a structure of first and last entry (double-long-unsigned)
 /// and first and last column (long-unsigned), counted from 1, where 0 as the last stands for the end. No attribute takes
 /// another selector (`ScopeOfAccessViolated`). All types are looked at before any value (`TypeUnmatched`). Refused for another
-/// reason (`OtherReason`) is by range another column than the clock's time, columns that are named, and octets that name no
-/// second; by entry a first entry or a first column of 0, a first column past the last of the row, and a last column below the
-/// first. It is borrowed, `Option<&Selector>`, since a request holds it and nothing keeps it.
+/// reason (`OtherReason`) is by range another column than the clock's time, columns that are named, octets that name no
+/// second, and each range where the clock is none of the state's columns; by entry a first entry or a first column of 0, a first
+/// column past the last of the state's columns, and a last column below the first. It is borrowed, `Option<&Selector>`, since a request holds it and nothing keeps it.
 ///
 /// A value that is answered has a spelling, of at most the 29,764 bytes of the full buffer.
 pub fn get<A: Allocator + Copy>(

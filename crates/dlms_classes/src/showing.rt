@@ -7,12 +7,12 @@ ghost use Rattle.dlms_frame.specs.Client.{sap_of};
 ghost use Rattle.dlms_classes.specs.Choice.{Picks, IsProper};
 ghost use Rattle.dlms_classes.specs.Listing.{map_values};
 ghost use Rattle.dlms_classes.specs.Shown.{Part, shown, Shows, takes_memory, column_value as column, no_column as no_object, two as pair};
-ghost use Rattle.dlms_classes.specs.Table.{columns, entry_of};
+ghost use Rattle.dlms_classes.specs.Table.{object_of_column as column_object, entry_of};
 
 use crate::choosing::Choice;
 use crate::listing::object_list;
 use crate::rows::buffer;
-use crate::table::{CAPTURED_ATTRIBUTE, COLUMNS, Content, Object};
+use crate::table::{CAPTURED_ATTRIBUTE, Content, Object, object_of_column};
 use dlms_data::{Data, Descriptor, four, octet_string_of, room, time_of, two};
 use dlms_frame::Client;
 use dlms_profile::CAPACITY;
@@ -36,12 +36,12 @@ fn column_of<A: Allocator + Copy>(alloc: A, object: Object) -> Result<Data<A>, A
 }
 
 /// The columns of the load profile.
-fn columns_of<A: Allocator + Copy>(alloc: A) -> Result<Data<A>, AllocError>
-    ensures { IfOk result (λ v. value_of v ≡ array (map_values column columns)) }
+fn columns_of<A: Allocator + Copy>(alloc: A, columns: &[u8]) -> Result<Data<A>, AllocError>
+    ensures { IfOk result (λ v. value_of v ≡ array (map_values (λ id. column (column_object id)) columns.now)) }
 {
-    let mut items = room(alloc, COLUMNS.len())?;
-    for object in COLUMNS {
-        items.push(column_of(alloc, object)?)?;
+    let mut items = room(alloc, columns.len())?;
+    for id in columns {
+        items.push(column_of(alloc, object_of_column(*id))?)?;
     }
     Ok(Data::Array(items))
 }
@@ -89,8 +89,8 @@ pub fn value<A: Allocator + Copy>(
     choice: Choice,
     content: Content,
 ) -> Result<Data<A>, AllocError>
-    requires { IsProper choice }
-    ensures shows { (p : Part) → Picks p choice → IfOk result (λ v. Shows (shown state.now client descriptor p content) (value_of v)) }
+    requires { IsProper state.now.columns choice }
+    ensures shows { (p : Part) → Picks state.now.columns p choice → IfOk result (λ v. Shows (shown state.now client descriptor p content) (value_of v)) }
     ensures lacks { OnErr result (IsTrue (takes_memory content)) }
 {
     match content {
@@ -110,8 +110,8 @@ pub fn value<A: Allocator + Copy>(
         Content::ObjectList => object_list(alloc, client),
         Content::AssociatedPartners => partners(alloc, client),
         Content::AssociationStatus => Ok(Data::Enum(2)),
-        Content::Buffer => buffer(alloc, state.rows(), choice),
-        Content::CaptureObjects => columns_of(alloc),
+        Content::Buffer => buffer(alloc, state.columns(), state.rows(), choice),
+        Content::CaptureObjects => columns_of(alloc, state.columns()),
         Content::CapturePeriod => Ok(Data::DoubleLongUnsigned(state.period())),
         Content::SortMethod => Ok(Data::Enum(1)),
         Content::SortObject => no_column(alloc),

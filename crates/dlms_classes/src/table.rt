@@ -1,5 +1,9 @@
 //! The objects: the one place that says which there are, what they hold, and who may read, write and call it.
 
+ghost use Rattle.std.specs.Prelude.{◌≡◌, ◌==◌, ◌&&◌};
+ghost use Rattle.std.specs.Str.{bytes_eq};
+ghost use Rattle.dlms_classes.specs.Table.{entry_of, object_of_column as column_object, id_of as column_id};
+
 /// Units, in the standard's numbering.
 const WATT_HOURS: u8 = 30;
 
@@ -131,8 +135,8 @@ const ASSOCIATION: Object = Object {
     ],
 };
 
-/// The first of the columns, and the object of a selection by range.
-pub const CLOCK: Object = Object {
+/// The object of a selection by range.
+const CLOCK: Object = Object {
     class: 8,
     version: 0,
     name: [0, 0, 1, 0, 0, 255],
@@ -216,7 +220,7 @@ const PROFILE: Object = Object {
     attributes: &[
         shows!(Content::LogicalName),
         holds!(Content::Buffer, Nothing, Read),
-        shows!(Content::CaptureObjects),
+        sets!(Content::CaptureObjects),
         sets!(Content::CapturePeriod),
         shows!(Content::SortMethod),
         shows!(Content::SortObject),
@@ -242,5 +246,36 @@ pub const OBJECTS: [Object; 9] = [
 /// The attribute of each object of `COLUMNS` that is captured.
 pub const CAPTURED_ATTRIBUTE: i8 = 2;
 
-/// The objects of which an attribute is a column of the load profile, in the order of the columns.
-pub const COLUMNS: [Object; 4] = [CLOCK, ENERGY_IMPORTED, ENERGY_EXPORTED, REACTIVE_ENERGY];
+/// The objects of which an attribute can be a column of the load profile. The id of the column is the object's place here.
+const COLUMNS: [Object; 4] = [CLOCK, ENERGY_IMPORTED, ENERGY_EXPORTED, REACTIVE_ENERGY];
+
+/// The object that gives the column of an id, 0 to 3.
+pub fn object_of_column(id: u8) -> Object
+    ensures { entry_of result ≡ column_object id }
+{
+    match id {
+        1 => ENERGY_IMPORTED,
+        2 => ENERGY_EXPORTED,
+        3 => REACTIVE_ENERGY,
+        _ => CLOCK,
+    }
+}
+
+/// Whether the object has this class and name.
+fn is_named(object: Object, class: u16, name: &[u8]) -> bool
+    ensures { result ≡ ((object.class == class) && bytes_eq object.name name.now) }
+{
+    object.class == class && object.name.as_slice() == name
+}
+
+/// The id of the column that the object of this class and name gives.
+pub fn id_of(class: u16, name: &[u8]) -> Option<u8>
+    ensures { result ≡ column_id class name.now }
+{
+    for (id, object) in COLUMNS.iter().enumerate() {
+        if is_named(*object, class, name) {
+            return Some(id as u8);
+        }
+    }
+    None
+}

@@ -93,12 +93,12 @@ pub fn play_writes(report: &mut Report<'_>) -> Result<()> {
     Ok(report.end()?)
 }
 
-/// A store's rows have room from 15 KiB on.
+/// A store's rows take 24 bytes each, 23,040 in all: they have room from 23 KiB on.
 const ROWS: [(usize, Option<OpenFault>); 4] = [
     (0, Some(OpenFault::Memory)),
-    (14, Some(OpenFault::Memory)),
-    (15, None),
-    (24, None),
+    (22, Some(OpenFault::Memory)),
+    (23, None),
+    (32, None),
 ];
 
 /// The device of a store, and why it was not opened.

@@ -3,17 +3,20 @@
 #![tactic(auto)]
 
 mod asked;
+mod columns;
 mod damages;
 mod faulty;
 mod files;
 mod heaps;
 mod memory;
+mod migration;
 mod numbers;
 mod report;
 mod rows;
 mod scripts;
 mod stops;
 mod stores;
+mod versions;
 
 use anyhow::Result;
 use report::Report;
@@ -31,6 +34,7 @@ fn run(report: &mut Report<'_>) -> Result<()> {
     rows::play_rows(report)?;
     numbers::play_last(report)?;
     stops::play_stops(report)?;
+    migration::play_images(report)?;
     heaps::play_recoveries(report)?;
     stores::play_texts(report)
 }

@@ -7,7 +7,7 @@ use arrayvec::ArrayVec;
 use dlms_checkpoint::checkpoint_of;
 use dlms_journal::{PageKind, page_of};
 use dlms_pages::{MemoryPages, Pages};
-use dlms_state::{Event, Parts, State};
+use dlms_state::{Event, Parts, SecretOf, State};
 use dlms_store::{AddFault, PAGES, Store};
 use std::alloc::{AllocError, Global};
 use std::io;
@@ -18,18 +18,25 @@ const LAST: u128 = 18_446_744_073_709_551_615;
 /// One above it.
 const END: u128 = LAST + 1;
 
+/// Bytes in place, which fit.
+fn held<const MOST: usize>(bytes: &[u8]) -> ArrayVec<u8, MOST> {
+    let mut held = ArrayVec::new();
+    let _fits = held.try_extend_from_slice(bytes);
+    held
+}
+
 /// A state of an empty profile whose first row gets the last number.
 fn at_the_end(alloc: Global) -> Option<State> {
     let new: State = State::new(alloc).ok()?;
-    let mut secret = ArrayVec::new();
-    let _fits = secret.try_extend_from_slice(new.secret());
     let parts = Parts {
         registers: [0, 0, 0],
         last: 0,
         offset: 0,
         period: 900,
         text: ArrayVec::new(),
-        secret,
+        secret: held(new.secret(SecretOf::Management)),
+        reader_secret: held(new.secret(SecretOf::Reader)),
+        columns: held(new.columns()),
     };
     State::restore(alloc, parts, LAST).ok()
 }

@@ -44,7 +44,7 @@ fn compare_rows(report: &mut Report<'_>, store: &MemoryStore, captured: u32) -> 
     let mut differing = 0u32;
     for row in state.rows().iter() {
         wanted = wanted.saturating_add(1);
-        if row.registers != [wanted, 0, 0] {
+        if row.values.as_slice().get(1..) != Some([wanted, 0, 0].as_slice()) {
             differing = differing.saturating_add(1);
         }
     }

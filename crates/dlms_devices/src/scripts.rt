@@ -2,7 +2,7 @@
 //!
 //! A store has 62 pages: a gate and two bodies from page 0 on, the same from page 3 on, 16 pages of the journal from page 6 on, and
 //! 40 ring pages from page 22 on. A page begins with its kind (1 an open gate, 3 a body, 4 of the journal, 5 of the ring), the
-//! version 1, its index (two bytes), the generation (eight bytes), the length of its payload (two bytes), and two zeros.
+//! version 2, its index (two bytes), the generation (eight bytes), the length of its payload (two bytes), and two zeros.
 
 use dlms_pages::Pick;
 use dlms_state::Refused;
@@ -29,6 +29,11 @@ pub enum OnStore {
     Registers([u32; 3]),
     /// The number of the oldest row, and the one that the next row gets.
     Numbers(u128, u128),
+    /// The columns are set.
+    SetsColumns(&'static [u8], Result<(), AddFault>),
+    Columns(&'static [u8]),
+    /// The values of the row at this index, counted from the oldest.
+    Row(usize, &'static [u32]),
 }
 
 /// What is done with a device, or seen of it.
@@ -40,6 +45,12 @@ pub enum OnDevice {
     Clears(u16),
     /// A page gets these bytes in front, and zeros behind them.
     Puts(u16, &'static [u8]),
+    /// A page becomes an open gate of a version and a generation.
+    Gate(u16, u8, u8),
+    /// A page becomes the first body of version 1 of a generation, with no row, and with these bytes in front.
+    Body(u16, u8, &'static [u8]),
+    /// The journal's first page becomes one of a version and a generation, with these records.
+    Journal(u8, u8, &'static [u8]),
     /// A byte of a page, at this place, becomes this one.
     Changes(u16, usize, u8),
     /// A page has these bytes from this place on, and zeros behind them.
@@ -71,34 +82,34 @@ pub struct Script {
 }
 
 /// The open gate of the second slot, of generation 2.
-const GATE: [u8; 14] = [1, 1, 0, 1, 0, 0, 0, 0, 0, 0, 0, 2, 0, 0];
+const GATE: [u8; 14] = [1, 2, 0, 1, 0, 0, 0, 0, 0, 0, 0, 2, 0, 0];
 
 /// The first journal page of generation 1 where 82 records of six bytes fill it: 492 bytes.
-const FIRST_PAGE: [u8; 14] = [4, 1, 0, 0, 0, 0, 0, 0, 0, 0, 0, 1, 0x01, 0xec];
+const FIRST_PAGE: [u8; 14] = [4, 2, 0, 0, 0, 0, 0, 0, 0, 0, 0, 1, 0x01, 0xec];
 
 /// The last journal page, filled likewise.
-const LAST_PAGE: [u8; 14] = [4, 1, 0, 15, 0, 0, 0, 0, 0, 0, 0, 1, 0x01, 0xec];
+const LAST_PAGE: [u8; 14] = [4, 2, 0, 15, 0, 0, 0, 0, 0, 0, 0, 1, 0x01, 0xec];
 
 /// The first journal page of generation 2, with a record.
-const NEXT_PAGE: [u8; 14] = [4, 1, 0, 0, 0, 0, 0, 0, 0, 0, 0, 2, 0, 6];
+const NEXT_PAGE: [u8; 14] = [4, 2, 0, 0, 0, 0, 0, 0, 0, 0, 0, 2, 0, 6];
 
 /// The first journal page of generation 1, with the record of 42 pulses.
 const PAGE_OF_42: [u8; 22] = [
-    0x04, 0x01, 0x00, 0x00, 0x00, 0x00, 0x00, 0x00, 0x00, 0x00, 0x00, 0x01, 0x00, 0x06, 0x00, 0x00,
+    0x04, 0x02, 0x00, 0x00, 0x00, 0x00, 0x00, 0x00, 0x00, 0x00, 0x00, 0x01, 0x00, 0x06, 0x00, 0x00,
     0x01, 0x00, 0x00, 0x00, 0x00, 0x2a,
 ];
 
 /// An open gate of generation 1.
-const FIRST_GATE: [u8; 14] = [1, 1, 0, 1, 0, 0, 0, 0, 0, 0, 0, 1, 0, 0];
+const FIRST_GATE: [u8; 14] = [1, 2, 0, 1, 0, 0, 0, 0, 0, 0, 0, 1, 0, 0];
 
 /// The open gate of the first slot, of generation 3.
-const THIRD_GATE: [u8; 14] = [1, 1, 0, 0, 0, 0, 0, 0, 0, 0, 0, 3, 0, 0];
+const THIRD_GATE: [u8; 14] = [1, 2, 0, 0, 0, 0, 0, 0, 0, 0, 0, 3, 0, 0];
 
-/// The first body of generation 2, with no place of a row: 302 bytes.
-const BODY: [u8; 16] = [3, 1, 0, 0, 0, 0, 0, 0, 0, 0, 0, 2, 0x01, 0x2e, 0, 0];
+/// The first body of generation 2, with no place of a row: 324 bytes.
+const BODY: [u8; 16] = [3, 2, 0, 0, 0, 0, 0, 0, 0, 0, 0, 2, 0x01, 0x44, 0, 0];
 
-/// The first body of generation 3, with the place of one row: 318 bytes.
-const THIRD_BODY: [u8; 16] = [3, 1, 0, 0, 0, 0, 0, 0, 0, 0, 0, 3, 0x01, 0x3e, 0, 0];
+/// The first body of generation 3, with the place of one row: 340 bytes.
+const THIRD_BODY: [u8; 16] = [3, 2, 0, 0, 0, 0, 0, 0, 0, 0, 0, 3, 0x01, 0x54, 0, 0];
 
 /// The numbers at the end of a body's head: of the first row 0, after the last row 240.
 const FROM_0_TO_240: [u8; 16] = [0, 0, 0, 0, 0, 0, 0, 0, 0, 0, 0, 0, 0, 0, 0, 240];
@@ -107,16 +118,16 @@ const FROM_0_TO_240: [u8; 16] = [0, 0, 0, 0, 0, 0, 0, 0, 0, 0, 0, 0, 0, 0, 0, 24
 const FROM_241: [u8; 16] = [0, 0, 0, 0, 0, 0, 0, 241, 0, 0, 0, 0, 0, 0, 0, 241];
 
 /// Where these numbers stand in a body's page.
-const NUMBERS: usize = 302;
+const NUMBERS: usize = 324;
 
 /// The first ring page and the eighth: 480 bytes each.
-const RING_0: [u8; 16] = [5, 1, 0, 0, 0, 0, 0, 0, 0, 0, 0, 0, 0x01, 0xe0, 0, 0];
+const RING_0: [u8; 16] = [5, 2, 0, 0, 0, 0, 0, 0, 0, 0, 0, 0, 0x01, 0xe0, 0, 0];
 
-const RING_7: [u8; 16] = [5, 1, 0, 7, 0, 0, 0, 0, 0, 0, 0, 7, 0x01, 0xe0, 0, 0];
+const RING_7: [u8; 16] = [5, 2, 0, 7, 0, 0, 0, 0, 0, 0, 0, 7, 0x01, 0xe0, 0, 0];
 
 /// The second journal page of generation 1, with 41 captures.
 const ROWS_41: [u8; 57] = [
-    4, 1, 0, 1, 0, 0, 0, 0, 0, 0, 0, 1, 0, 41, 0, 0, 11, 11, 11, 11, 11, 11, 11, 11, 11, 11, 11,
+    4, 2, 0, 1, 0, 0, 0, 0, 0, 0, 0, 1, 0, 41, 0, 0, 11, 11, 11, 11, 11, 11, 11, 11, 11, 11, 11,
     11, 11, 11, 11, 11, 11, 11, 11, 11, 11, 11, 11, 11, 11, 11, 11, 11, 11, 11, 11, 11, 11, 11, 11,
     11, 11, 11, 11, 11, 11,
 ];
@@ -414,7 +425,7 @@ pub const SCRIPTS: [Script; 26] = [
             Step::Store(OnStore::Captures(29)),
             Step::Store(OnStore::Checkpoints(Ok(()))),
             Step::Closes,
-            Step::At(OnDevice::Changes(5, 270, 0xff)),
+            Step::At(OnDevice::Changes(5, 292, 0xff)),
             Step::Opens(Some(OpenFault::Corrupt(4))),
         ],
     },

@@ -38,7 +38,7 @@ const RECOVERY: u64 = 16;
 
 /// What a stop leaves of the pages in flight.
 #[derive(Clone, Copy, Debug)]
-enum Left {
+pub enum Left {
     Old,
     New,
     Damaged,
@@ -48,7 +48,7 @@ enum Left {
 
 impl Left {
     /// What is picked for each page.
-    fn pick(self) -> Pick<'static> {
+    pub fn pick(self) -> Pick<'static> {
         match self {
             Left::Old => Pick::AllOld,
             Left::New => Pick::AllNew,
@@ -59,7 +59,7 @@ impl Left {
 }
 
 /// Each of them.
-const LEFT: [Left; 4] = [Left::Old, Left::New, Left::Damaged, Left::Each];
+pub const LEFT: [Left; 4] = [Left::Old, Left::New, Left::Damaged, Left::Each];
 
 /// How many pulses the store has, each an event that it accepted.
 fn accepted(store: &MemoryStore) -> u32 {

@@ -1,8 +1,11 @@
 //! Stores: the scripts, and the texts of the faults.
 
+use crate::columns::COLUMNS;
 use crate::report::Report;
 use crate::scripts::{OnDevice, OnStore, SCRIPTS, Script, Step};
+use crate::versions::VERSIONS;
 use anyhow::Result;
+use arrayvec::ArrayVec;
 use dlms_pages::{MemoryPages, PageRead, Pages};
 use dlms_state::{Event, Refused};
 use dlms_store::{AddFault, OpenFault, Store};
@@ -29,6 +32,21 @@ fn captured(store: &mut MemoryStore, count: u32) -> u32 {
         }
     }
     count
+}
+
+/// Sets the columns.
+fn sets_columns(store: &mut MemoryStore, columns: &[u8]) -> std::result::Result<(), AddFault> {
+    let mut ids = ArrayVec::new();
+    let _fits = ids.try_extend_from_slice(columns);
+    store.add(Event::SetColumns(ids))
+}
+
+/// Whether the row at an index has these values.
+fn has_row(store: &MemoryStore, index: usize, values: &[u32]) -> bool {
+    match store.state().rows().get(index) {
+        Some(row) => row.values.as_slice() == values,
+        None => false,
+    }
 }
 
 /// The number of the oldest row, and the one that the next row gets.
@@ -60,6 +78,11 @@ fn play_on_store(
             report.compare(place, store.state().registers(), registers)
         }
         OnStore::Numbers(first, next) => report.compare(place, numbers(store), (first, next)),
+        OnStore::SetsColumns(ids, answer) => {
+            report.compare(place, sets_columns(store, ids), answer)
+        }
+        OnStore::Columns(ids) => report.compare(place, store.state().columns() == ids, true),
+        OnStore::Row(index, values) => report.compare(place, has_row(store, index, values), true),
     }
 }
 
@@ -104,6 +127,32 @@ fn puts(device: &mut MemoryPages, index: u16, front: &[u8]) -> bool {
     index < device.count() && device.write(index, &content).is_ok()
 }
 
+/// What the head of a page with index 0 says.
+#[derive(Clone, Copy)]
+struct Head {
+    kind: u8,
+    version: u8,
+    generation: u8,
+    length: u16,
+}
+
+/// Writes a page of this head and payload, and says whether that passed.
+fn writes(device: &mut MemoryPages, index: u16, head: Head, payload: &[u8]) -> bool {
+    let [high, low] = head.length.to_be_bytes();
+    let front = [
+        [head.kind, head.version, 0, 0],
+        [0; 4],
+        [0, 0, 0, head.generation],
+        [high, low, 0, 0],
+    ];
+    let mut content = [0; 512];
+    let bytes = front.as_flattened().iter().chain(payload.iter());
+    for (byte, value) in content.iter_mut().zip(bytes) {
+        *byte = *value;
+    }
+    index < device.count() && device.write(index, &content).is_ok()
+}
+
 /// Changes a byte of a page, and says whether that passed.
 fn changes(device: &mut MemoryPages, index: u16, place: usize, byte: u8) -> bool {
     let Some(mut content) = content_of(device, index) else {
@@ -114,6 +163,32 @@ fn changes(device: &mut MemoryPages, index: u16, place: usize, byte: u8) -> bool
         None => return false,
     }
     index < device.count() && device.write(index, &content).is_ok()
+}
+
+/// Where the journal begins.
+const JOURNAL: u16 = 6;
+
+/// Writes a page of any version, and says whether that passed; nothing else is done.
+fn becomes(device: &mut MemoryPages, step: OnDevice) -> bool {
+    let (index, kind, version, generation, payload) = match step {
+        OnDevice::Gate(index, version, generation) => (index, 1, version, generation, &[][..]),
+        OnDevice::Body(index, generation, front) => (index, 3, 1, generation, front),
+        OnDevice::Journal(version, generation, records) => {
+            (JOURNAL, 4, version, generation, records)
+        }
+        _ => return false,
+    };
+    let length = match u16::try_from(payload.len()) {
+        Ok(length) if kind != 3 => length,
+        _ => 302,
+    };
+    let head = Head {
+        kind,
+        version,
+        generation,
+        length,
+    };
+    writes(device, index, head, payload)
 }
 
 /// Takes a step on a device.
@@ -140,6 +215,9 @@ fn play_on_device(
             report.compare(place, ends(device, index, from, part), true)
         }
         OnDevice::Holds(index, front) => report.compare(place, ends(device, index, 0, front), true),
+        OnDevice::Gate(..) | OnDevice::Body(..) | OnDevice::Journal(..) => {
+            report.compare(place, becomes(device, step), true)
+        }
     }
 }
 
@@ -229,22 +307,30 @@ fn play_script(report: &mut Report<'_>, script: &Script) -> io::Result<()> {
     Ok(())
 }
 
-/// The scripts.
-pub fn play_stores(report: &mut Report<'_>) -> Result<()> {
-    report.begin("stores");
-    for script in &SCRIPTS {
+/// The scripts of a group.
+fn play_group(report: &mut Report<'_>, group: &'static str, scripts: &[Script]) -> io::Result<()> {
+    report.begin(group);
+    for script in scripts {
         play_script(report, script)?;
     }
-    Ok(report.end()?)
+    report.end()
+}
+
+/// The scripts: of any store, of columns that are set, and of pages of several versions.
+pub fn play_stores(report: &mut Report<'_>) -> Result<()> {
+    play_group(report, "stores", &SCRIPTS)?;
+    play_group(report, "columns", &COLUMNS)?;
+    Ok(play_group(report, "versions", &VERSIONS)?)
 }
 
 /// How a fault at an event is told.
-const TEXTS: [(AddFault, &str); 6] = [
+const TEXTS: [(AddFault, &str); 7] = [
     (AddFault::Refused(Refused::MomentBack(900)), "refused 1"),
     (AddFault::Refused(Refused::Range), "refused 2"),
     (AddFault::Refused(Refused::Channel), "refused 3"),
     (AddFault::Refused(Refused::Period), "refused 4"),
     (AddFault::Refused(Refused::Length), "refused 5"),
+    (AddFault::Refused(Refused::Columns), "refused 6"),
     (AddFault::Exhausted, "exhausted"),
 ];
 

@@ -31,7 +31,7 @@ use tally::report;
 use whole::{suffices, suffices_with_pages};
 
 /// The heaps on which the whole meter is run: without its pages, and with them.
-const HEAP: usize = 311_296;
+const HEAP: usize = 324_608;
 
 const HEAP_WITH_PAGES: usize = 460_800;
 
@@ -84,7 +84,7 @@ fn run_arenas<R: Print + AllocGlobal>(rt: &R) -> Result<u32> {
         ("the object list", &LIST, 0, 32, 512),
         ("the columns", &COLUMNS, 0, 16, 128),
         ("the longest text", &TEXT, 0, 16, 48),
-        ("all of 960 rows", &ALL_ROWS, ROWS, 1024, 320),
+        ("all of 960 rows", &ALL_ROWS, ROWS, 1024, 336),
         ("one of 960 rows", &ONE_ROW, ROWS, 16, 96),
         ("SET of a text", &SET_TEXT, 0, 16, 16),
         ("an unknown object", &UNKNOWN, 0, 16, 16),

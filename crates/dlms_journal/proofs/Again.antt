@@ -8,9 +8,11 @@ use Rattle.std.specs.Int.RustNames.{FitsSigned}
 use Rattle.byteorder.specs.Endian.{big_number, big_bytes}
 use Rattle.byteorder.specs.Numbers.{big_number-reads_back, length-bytes_high_first}
 use Rattle.dlms_state.specs.declared.event.Event.{Event}
-use Rattle.dlms_state.specs.declared.event.Event.TheVariants.{Pulses, Moment, SetTime, Shift, AdjustMinute, SetPeriod, SetText, SetSecret, ResetRegister, ResetProfile, Capture}
+use Rattle.dlms_state.specs.declared.event.Event.TheVariants.{Pulses, Moment, SetTime, Shift, AdjustMinute, SetPeriod, SetText, SetSecret, ResetRegister, ResetProfile, Capture, SetColumns}
+use Rattle.dlms_state.specs.declared.event.SecretOf.{SecretOf}
+use Rattle.dlms_state.specs.declared.event.SecretOf.TheVariants.{Management, Reader}
 use Rattle.dlms_state.specs.Types.{FitsType}
-use Rattle.dlms_journal.specs.Record.{record_of}
+use Rattle.dlms_journal.specs.Record.{owner_number, record_of}
 use Rattle.dlms_journal.specs.Reading.{taken_at, number_at, counted_at, pulses_at, secret_at, register_at, event_at}
 
 taken_again : (n : ℕ) (text rest : List ℕ) → length text ≡ n → taken_at n (text ++ rest) ≡ Some (text, rest)
@@ -47,9 +49,10 @@ pulses_again : (channel count : ℕ) (rest : List ℕ) → count < 2 ^ 32 → pu
 unfolding pulses_at
 pulses_again channel count rest fits = rw (number_again 4 count rest fits) refl
 
-secret_again : (secret rest : List ℕ) → length secret ≤ 16 → secret_at (1 ∷ length secret ∷ (secret ++ rest)) ≡ Some (SetSecret (record { items = secret }), rest)
+secret_again : (whose : SecretOf) (secret rest : List ℕ) → length secret ≤ 16 → secret_at (owner_number whose ∷ length secret ∷ (secret ++ rest)) ≡ Some (SetSecret whose (record { items = secret }), rest)
 unfolding secret_at
-secret_again secret rest few = rw (counted_again 16 secret rest few) refl
+secret_again Management secret rest few = rw (counted_again 16 secret rest few) refl
+secret_again Reader secret rest few = rw (counted_again 16 secret rest few) refl
 
 register_again : (channel : ℕ) (rest : List ℕ) → register_at (channel ∷ rest) ≡ Some (ResetRegister channel, rest)
 unfolding register_at
@@ -66,7 +69,8 @@ read_again (Shift by) rest h =
 read_again AdjustMinute rest h = refl
 read_again (SetPeriod seconds) rest h = rw (number_again 4 seconds rest h) refl
 read_again (SetText text) rest h = rw (counted_again 240 text.items rest h.count) refl
-read_again (SetSecret secret) rest h = secret_again secret.items rest h.count
+read_again (SetSecret whose secret) rest h = secret_again whose secret.items rest h.count
 read_again (ResetRegister channel) rest h = register_again channel rest
 read_again ResetProfile rest h = refl
 read_again Capture rest h = refl
+read_again (SetColumns ids) rest h = rw (counted_again 4 ids.items rest h.count) refl

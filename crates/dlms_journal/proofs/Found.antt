@@ -7,8 +7,10 @@ use Rattle.std.proofs.lemmas.Int.{of_z-to_z}
 use Rattle.std.specs.Int.{cast_signed, cast_unsigned, w16}
 use Rattle.byteorder.specs.Endian.{big_number, big_bytes}
 use Rattle.dlms_state.specs.declared.event.Event.{Event}
-use Rattle.dlms_state.specs.declared.event.Event.TheVariants.{Pulses, Moment, SetTime, Shift, AdjustMinute, SetPeriod, SetText, SetSecret, ResetRegister, ResetProfile, Capture}
-use Rattle.dlms_journal.specs.Record.{record_of}
+use Rattle.dlms_state.specs.declared.event.Event.TheVariants.{Pulses, Moment, SetTime, Shift, AdjustMinute, SetPeriod, SetText, SetSecret, ResetRegister, ResetProfile, Capture, SetColumns}
+use Rattle.dlms_state.specs.declared.event.SecretOf.{SecretOf}
+use Rattle.dlms_state.specs.declared.event.SecretOf.TheVariants.{Management, Reader}
+use Rattle.dlms_journal.specs.Record.{owner_number, record_of}
 use Rattle.dlms_journal.specs.Reading.{on_some, as_event, taken_at, number_at, counted_at, pulses_at, secret_at, register_at, event_at}
 
 abbrev pub AreOctets : List ℕ → Type 0
@@ -158,14 +160,28 @@ text_found bytes x e =
     let t = bind_some (counted_at 240 bytes) (as_event (λ text. SetText (record { items = text }))) x e in
     subst (Stands (7 ∷ bytes)) (some_is t.2) (ap (λ (w : List ℕ). 7 ∷ w) (counted_takes 240 bytes t.0 t.1))
 
+secret_of_found : (whose : SecretOf) (number : ℕ) (rest : List ℕ) (x : Event × List ℕ) → number ≡ owner_number whose
+    → on_some (counted_at 16 rest) (as_event (λ secret. SetSecret whose (record { items = secret }))) ≡ Some x → Stands (8 ∷ number ∷ rest) x
+secret_of_found whose number rest x is e =
+    let t = bind_some (counted_at 16 rest) (as_event (λ secret. SetSecret whose (record { items = secret }))) x e in
+    subst (Stands (8 ∷ number ∷ rest)) (some_is t.2)
+    (ap (λ (k : ℕ). 8 ∷ k ∷ rest) is ∙ ap (λ (w : List ℕ). 8 ∷ owner_number whose ∷ w) (counted_takes 16 rest t.0 t.1))
+
 secret_found : (bytes : List ℕ) (x : Event × List ℕ) → secret_at bytes ≡ Some x → Stands (8 ∷ bytes) x
 unfolding secret_at
 secret_found [] x e = absurd (none_is e)
 secret_found (whose ∷ rest) x e =
-    let g = tested (whose == 1) (on_some (counted_at 16 rest) (as_event (λ secret. SetSecret (record { items = secret })))) x e in
-    let t = bind_some (counted_at 16 rest) (as_event (λ secret. SetSecret (record { items = secret }))) x g.1 in
-    subst (Stands (8 ∷ whose ∷ rest)) (some_is t.2)
-    (ap (λ (k : ℕ). 8 ∷ k ∷ rest) (is_equal whose 1 g.0) ∙ ap (λ (w : List ℕ). 8 ∷ 1 ∷ w) (counted_takes 16 rest t.0 t.1))
+    elim (chosen (whose == 1) _ _ _ e) [
+      | inl h ↦ secret_of_found Management whose rest x (is_equal whose 1 h.0) h.1
+      | inr h ↦
+          let g = tested (whose == 2) (on_some (counted_at 16 rest) (as_event (λ secret. SetSecret Reader (record { items = secret })))) x h.1 in
+          secret_of_found Reader whose rest x (is_equal whose 2 g.0) g.1
+    ]
+
+columns_found : (bytes : List ℕ) (x : Event × List ℕ) → on_some (counted_at 4 bytes) (as_event (λ ids. SetColumns (record { items = ids }))) ≡ Some x → Stands (12 ∷ bytes) x
+columns_found bytes x e =
+    let t = bind_some (counted_at 4 bytes) (as_event (λ ids. SetColumns (record { items = ids }))) x e in
+    subst (Stands (12 ∷ bytes)) (some_is t.2) (ap (λ (w : List ℕ). 12 ∷ w) (counted_takes 4 bytes t.0 t.1))
 
 register_found : (bytes : List ℕ) (x : Event × List ℕ) → register_at bytes ≡ Some x → Stands (9 ∷ bytes) x
 unfolding register_at
@@ -216,7 +232,9 @@ found (kind ∷ rest) x all e =
                                                             | inr e ↦
                                                                 elim (chosen (kind == 11) _ _ _ e.1) [
                                                                   | inl h ↦ of_kind kind 11 rest x h.0 (alone 11 Capture rest x refl h.1)
-                                                                  | inr e ↦ absurd (none_is e.1)
+                                                                  | inr e ↦
+                                                                      let g = tested (kind == 12) (on_some (counted_at 4 rest) (as_event (λ ids. SetColumns (record { items = ids })))) x e.1 in
+                                                                      of_kind kind 12 rest x g.0 (columns_found rest x g.1)
                                                                 ]
                                                           ]
                                                     ]
@@ -242,10 +260,11 @@ has_byte (Shift by) = omega arith
 has_byte AdjustMinute = omega arith
 has_byte (SetPeriod seconds) = omega arith
 has_byte (SetText text) = omega arith
-has_byte (SetSecret secret) = omega arith
+has_byte (SetSecret whose secret) = omega arith
 has_byte (ResetRegister channel) = omega arith
 has_byte ResetProfile = omega arith
 has_byte Capture = omega arith
+has_byte (SetColumns ids) = omega arith
 
 pub told_shorter : {B : Type 0} (now : B → List ℕ) (bytes : List ℕ) (r : Option (Event × B)) → option_map (λ x. (x.0, now x.1)) r ≡ event_at bytes → AreOctets bytes → IfSome r (λ x. length (now x.1) < length bytes)
 told_shorter now bytes (Some x) e all =

@@ -3,7 +3,8 @@ use Rattle.std.specs.Prelude.{ℕ, zero, suc, ◌==◌, nat_lt, nat_le, if◌the
 use Rattle.std.specs.Int.{cast_signed, w16}
 use Rattle.byteorder.specs.Endian.{big_number}
 use Rattle.dlms_state.specs.declared.event.Event.{Event}
-use Rattle.dlms_state.specs.declared.event.Event.TheVariants.{Pulses, Moment, SetTime, Shift, AdjustMinute, SetPeriod, SetText, SetSecret, ResetRegister, ResetProfile, Capture}
+use Rattle.dlms_state.specs.declared.event.Event.TheVariants.{Pulses, Moment, SetTime, Shift, AdjustMinute, SetPeriod, SetText, SetSecret, ResetRegister, ResetProfile, Capture, SetColumns}
+use Rattle.dlms_state.specs.declared.event.SecretOf.TheVariants.{Management, Reader}
 
 abbrev pub on_some : {A B : Type 0} → Option A → (A → Option B) → Option B
 on_some None f = None
@@ -33,7 +34,9 @@ pulses_at (channel ∷ rest) = on_some (number_at 4 rest) (as_event (Pulses chan
 unfoldable pub secret_at : List ℕ → Option (Event × List ℕ)
 secret_at [] = None
 secret_at (whose ∷ rest) =
-    if whose == 1 then on_some (counted_at 16 rest) (as_event (λ bytes. SetSecret (record { items = bytes }))) else None
+    if whose == 1 then on_some (counted_at 16 rest) (as_event (λ bytes. SetSecret Management (record { items = bytes })))
+    else if whose == 2 then on_some (counted_at 16 rest) (as_event (λ bytes. SetSecret Reader (record { items = bytes })))
+    else None
 
 unfoldable pub register_at : List ℕ → Option (Event × List ℕ)
 register_at [] = None
@@ -54,6 +57,7 @@ event_at (kind ∷ rest) =
     else if kind == 9 then register_at rest
     else if kind == 10 then Some (ResetProfile, rest)
     else if kind == 11 then Some (Capture, rest)
+    else if kind == 12 then on_some (counted_at 4 rest) (as_event (λ ids. SetColumns (record { items = ids })))
     else None
 
 -- the events that stand at the front, at most so many

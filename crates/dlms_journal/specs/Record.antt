@@ -4,12 +4,19 @@ use Rattle.std.specs.List.{flat_map}
 use Rattle.std.specs.Int.{cast_unsigned, w16}
 use Rattle.byteorder.specs.Endian.{big_bytes}
 use Rattle.dlms_state.specs.declared.event.Event.{Event}
-use Rattle.dlms_state.specs.declared.event.Event.TheVariants.{Pulses, Moment, SetTime, Shift, AdjustMinute, SetPeriod, SetText, SetSecret, ResetRegister, ResetProfile, Capture}
+use Rattle.dlms_state.specs.declared.event.Event.TheVariants.{Pulses, Moment, SetTime, Shift, AdjustMinute, SetPeriod, SetText, SetSecret, ResetRegister, ResetProfile, Capture, SetColumns}
+use Rattle.dlms_state.specs.declared.event.SecretOf.{SecretOf}
+use Rattle.dlms_state.specs.declared.event.SecretOf.TheVariants.{Management, Reader}
 use Rattle.dlms_state.specs.Types.{FitsType}
 
+-- whose secret a record carries
+abbrev pub owner_number : SecretOf → ℕ
+owner_number Management = 1
+owner_number Reader = 2
+
 -- A record: a number for what happened, in the order of the table of events, and what the event carries. Numbers stand with
--- their highest byte first, a shift in two's complement; bytes stand behind their count; 1 says that the secret is that of
--- the management client.
+-- their highest byte first, a shift in two's complement; bytes and ids of columns stand behind their count, a secret also behind
+-- the number of the client whose it is.
 abbrev pub record_of : Event → List ℕ
 record_of (Pulses channel count) = 1 ∷ channel ∷ big_bytes 4 count
 record_of (Moment second) = 2 ∷ big_bytes 4 second
@@ -18,10 +25,11 @@ record_of (Shift by) = 4 ∷ big_bytes 2 (cast_unsigned w16 by)
 record_of AdjustMinute = 5 ∷ []
 record_of (SetPeriod seconds) = 6 ∷ big_bytes 4 seconds
 record_of (SetText text) = 7 ∷ length text.items ∷ text.items
-record_of (SetSecret secret) = 8 ∷ 1 ∷ length secret.items ∷ secret.items
+record_of (SetSecret of secret) = 8 ∷ owner_number of ∷ length secret.items ∷ secret.items
 record_of (ResetRegister channel) = 9 ∷ channel ∷ []
 record_of ResetProfile = 10 ∷ []
 record_of Capture = 11 ∷ []
+record_of (SetColumns ids) = 12 ∷ length ids.items ∷ ids.items
 
 -- these events, each as its type admits, stand here one after another, and nothing else does
 pub record Holds (bytes : List ℕ) (events : List Event) : Type 0 where

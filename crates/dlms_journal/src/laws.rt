@@ -31,5 +31,5 @@ pub fn pages_are_read()
 /// The numbers that clauses and definitions cite by name.
 pub fn the_numbers()
     ensures payload { MOST_PAYLOAD ≡ 496 }
-    ensures version { VERSION ≡ 1 }
+    ensures version { VERSION ≡ 2 }
 {}

@@ -16,8 +16,8 @@ const HEAD_BYTES: usize = 16;
 /// The most bytes of payload.
 pub const MOST_PAYLOAD: usize = 496;
 
-/// The version of the layout that is written and read.
-pub const VERSION: u8 = 1;
+/// The version of the layout that is written.
+pub const VERSION: u8 = 2;
 
 /// The head of a page.
 fn head_bytes(kind: PageKind, index: u16, generation: u64, payload: u16) -> [u8; HEAD_BYTES]

@@ -8,7 +8,7 @@ ghost use Rattle.dlms_journal.specs.Reading.{on_some, as_event, taken_at, number
 
 use arrayvec::ArrayVec;
 use byteorder::{BigEndian, ByteOrder};
-use dlms_state::Event;
+use dlms_state::{Event, SecretOf};
 
 /// The first `n` bytes, and those behind them.
 #[tactic(auto, unfolding(crate::specs::Reading::taken_at))]
@@ -74,7 +74,7 @@ fn pulses(bytes: &[u8]) -> Option<(Event, &[u8])>
     }
 }
 
-/// The management client's secret.
+/// A client's secret.
 #[tactic(auto, unfolding(crate::specs::Reading::secret_at))]
 fn secret(bytes: &[u8]) -> Option<(Event, &[u8])>
     ensures { option_map (λ x. (x.0, x.1.now)) result ≡ secret_at bytes.now }
@@ -82,7 +82,11 @@ fn secret(bytes: &[u8]) -> Option<(Event, &[u8])>
     match bytes {
         [1, rest @ ..] => {
             let (secret, rest) = counted(rest)?;
-            Some((Event::SetSecret(secret), rest))
+            Some((Event::SetSecret(SecretOf::Management, secret), rest))
+        }
+        [2, rest @ ..] => {
+            let (secret, rest) = counted(rest)?;
+            Some((Event::SetSecret(SecretOf::Reader, secret), rest))
         }
         _ => None,
     }
@@ -137,6 +141,14 @@ fn text(bytes: &[u8]) -> Option<(Event, &[u8])>
     Some((Event::SetText(text), rest))
 }
 
+/// Columns that were set.
+fn columns(bytes: &[u8]) -> Option<(Event, &[u8])>
+    ensures { option_map (λ x. (x.0, x.1.now)) result ≡ on_some (counted_at 4 bytes.now) (as_event (λ ids. EventOf.SetColumns (record { items = ids }))) }
+{
+    let (ids, rest) = counted(bytes)?;
+    Some((Event::SetColumns(ids), rest))
+}
+
 /// What a record of this kind holds.
 #[tactic(auto, unfolding(crate::specs::Reading::event_at))]
 fn held(kind: u8, rest: &[u8]) -> Option<(Event, &[u8])>
@@ -154,6 +166,7 @@ fn held(kind: u8, rest: &[u8]) -> Option<(Event, &[u8])>
         9 => register(rest),
         10 => Some((Event::ResetProfile, rest)),
         11 => Some((Event::Capture, rest)),
+        12 => columns(rest),
         _ => None,
     }
 }

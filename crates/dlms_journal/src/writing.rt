@@ -2,12 +2,12 @@
 ghost use Rattle.std.specs.Prelude.{◌≡◌, ◌≤◌, ◌++◌, ◌∷◌, length};
 ghost use Rattle.std.specs.Int.{cast_unsigned, w16};
 ghost use Rattle.byteorder.specs.Endian.{big_bytes};
-ghost use Rattle.dlms_journal.specs.Record.{record_of};
+ghost use Rattle.dlms_journal.specs.Record.{owner_number, record_of};
 ghost use Rattle.dlms_journal.specs.declared.page.TheConstants.{MOST_PAYLOAD};
 
 use crate::page::MOST_PAYLOAD;
 use arrayvec::ArrayVec;
-use dlms_state::Event;
+use dlms_state::{Event, SecretOf};
 
 /// The bytes of a record: at most those of a page's payload.
 pub type Record = ArrayVec<u8, MOST_PAYLOAD>;
@@ -56,13 +56,33 @@ fn text(text: &[u8]) -> Record
     record
 }
 
-/// The record of the management client's secret.
-fn secret(secret: &[u8]) -> Record
-    requires { length secret.now ≤ 16 }
-    ensures { result.items ≡ 8 ∷ 1 ∷ length secret.now ∷ secret.now }
+/// The number that says whose secret a record carries.
+fn owner_number(of: SecretOf) -> u8
+    ensures { result ≡ owner_number of }
 {
-    let mut record = record(&[8, 1, secret.len() as u8]);
+    match of {
+        SecretOf::Management => 1,
+        SecretOf::Reader => 2,
+    }
+}
+
+/// The record of a client's secret.
+fn secret(of: SecretOf, secret: &[u8]) -> Record
+    requires { length secret.now ≤ 16 }
+    ensures { result.items ≡ 8 ∷ owner_number of ∷ length secret.now ∷ secret.now }
+{
+    let mut record = record(&[8, owner_number(of), secret.len() as u8]);
     let _fits = record.try_extend_from_slice(secret);
+    record
+}
+
+/// The record of columns.
+fn columns(ids: &[u8]) -> Record
+    requires { length ids.now ≤ 4 }
+    ensures { result.items ≡ 12 ∷ length ids.now ∷ ids.now }
+{
+    let mut record = record(&[12, ids.len() as u8]);
+    let _fits = record.try_extend_from_slice(ids);
     record
 }
 
@@ -78,9 +98,10 @@ pub fn record_of(event: &Event) -> Record
         Event::AdjustMinute => record(&[5]),
         Event::SetPeriod(seconds) => numbered(6, *seconds),
         Event::SetText(bytes) => text(bytes.as_slice()),
-        Event::SetSecret(bytes) => secret(bytes.as_slice()),
+        Event::SetSecret(of, bytes) => secret(*of, bytes.as_slice()),
         Event::ResetRegister(channel) => record(&[9, *channel]),
         Event::ResetProfile => record(&[10]),
         Event::Capture => record(&[11]),
+        Event::SetColumns(ids) => columns(ids.as_slice()),
     }
 }

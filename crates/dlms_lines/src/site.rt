@@ -69,7 +69,11 @@ fn has_captures(meter: &MemoryMeter, rows: u32) -> bool {
     let mut period = rows.saturating_sub(KEPT);
     for row in meter.state().rows().iter() {
         period = period.saturating_add(1);
-        if !is_capture(period, row.clock, row.registers) {
+        let is_as_captured = match row.values.as_slice() {
+            [clock, first, second, third] => is_capture(period, *clock, [*first, *second, *third]),
+            _ => false,
+        };
+        if !is_as_captured {
             return false;
         }
     }

@@ -24,6 +24,7 @@ use Rattle.dlms_data.specs.declared.descriptor.Descriptor.{Descriptor}
 use Rattle.dlms_frame.specs.declared.client.Client.{Client}
 use Rattle.dlms_state.specs.StateValue.{state_of}
 use Rattle.dlms_state.specs.Events.{secret_after}
+use Rattle.dlms_state.specs.declared.event.SecretOf.TheVariants as owner
 use Rattle.dlms_state.specs.declared.event.Event.{Event}
 use Rattle.dlms_classes.specs.Access.{number_of}
 use Rattle.dlms_classes.specs.declared.access.AccessResult.{AccessResult}
@@ -236,7 +237,7 @@ judged_is E request s secret (Ok r) o e = quiet E request s o (associated s secr
 judged_is E request s secret (Err fault) o e = quiet E request s o (associated s secret (Err fault)) e refl refl (inl refl)
 
 associated_or : (b : Bool) (choice : Choice) (E : List Event) (s : SessionValue) (bytes : List ℕ) (o : Outcome) → Associated choice E s bytes b o → Moved E (request_at bytes) s o
-associated_or true choice E s bytes o h = judged_is E (request_at bytes) s (secret_after E) (aarq_at bytes) o h
+associated_or true choice E s bytes o h = judged_is E (request_at bytes) s (secret_after owner.Management E) (aarq_at bytes) o h
 associated_or false choice E s bytes o h = released_or (begins_with 0x62 bytes) choice E s bytes o h
 
 -- a device that failed

@@ -1,5 +1,5 @@
 -- What is made of an answer before it goes out.
-use Rattle.std.proofs.Common.{arith, ◌≡◌, ◌≤◌, ◌∙◌, ◌⊎◌, sym, ap, subst, inl, inr, ℕ, length, None, Bool, true, false, List, [], ◌∷◌, refl, if◌then◌else◌, is_ok, Result, Ok, Err}
+use Rattle.std.proofs.Common.{arith, ◌≡◌, ◌≤◌, ◌∙◌, ◌⊎◌, sym, subst, inl, inr, ℕ, None, Bool, true, false, List, [], ◌∷◌, refl, if◌then◌else◌, is_ok, Result, Ok, Err}
 use Rattle.dlms_pages.specs.declared.device.Pages.{Ghosts}
 use Rattle.dlms_pages.specs.Device.{Rose}
 use Rattle.dlms_state.specs.declared.event.Event.{Event}

@@ -19,7 +19,7 @@ pub const GET_LIST: [u8; 13] = [0xc0, 0x01, 0xc1, 0, 15, 0, 0, 40, 0, 0, 255, 2,
 const GET_SECOND: [u8; 7] = [0xc0, 0x02, 0xc1, 0, 0, 0, 1];
 
 /// The first heap has room for a meter's rows, and for little more.
-const LEAST: usize = 15_360;
+const LEAST: usize = 23_040;
 
 /// How many heaps there are.
 const HEAPS: usize = 128;

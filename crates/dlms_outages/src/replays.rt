@@ -211,9 +211,9 @@ fn refused_on(alloc: Global, size: usize) -> Result<Option<bool>, AllocError> {
 
 /// Whether a line `O` is refused its memory on each heap that lacks the room of the rows, and on no larger one, a step apart.
 pub fn is_refused_at_recovery(alloc: Global) -> Result<bool, AllocError> {
-    for step in 0..40usize {
+    for step in 0..60usize {
         let size = step.saturating_mul(512);
-        if refused_on(alloc, size)? != Some(size < 15_360) {
+        if refused_on(alloc, size)? != Some(size < 23_040) {
             return Ok(false);
         }
     }

@@ -42,8 +42,10 @@ fn lives(meter: &mut MemoryMeter, from: u32, to: u32) {
 fn text_of(meter: &MemoryMeter, alloc: Global) -> Result<String> {
     let mut text = String::new(alloc);
     for row in meter.state().rows().iter() {
-        let [first, second, third] = row.registers;
-        text.push_str(format!(in alloc; "{},{first},{second},{third}\n", row.clock)?.as_str())?;
+        let [clock, first, second, third] = row.values.as_slice() else {
+            return Ok(String::new(alloc));
+        };
+        text.push_str(format!(in alloc; "{clock},{first},{second},{third}\n")?.as_str())?;
     }
     Ok(text)
 }

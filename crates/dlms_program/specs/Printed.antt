@@ -8,7 +8,7 @@ use Rattle.dlms_state.specs.StateValue.{StateValue}
 use Rattle.dlms_state.specs.declared.event.Refused.{Refused}
 use Rattle.dlms_store.specs.declared.fault.OpenFault.{OpenFault}
 use Rattle.dlms_store.specs.declared.fault.OpenFault.TheVariants as opening
-use Rattle.dlms_state.specs.declared.event.Refused.TheVariants.{MomentBack, Range, Channel, Period, Length}
+use Rattle.dlms_state.specs.declared.event.Refused.TheVariants.{MomentBack, Range, Channel, Period, Length, Columns}
 
 -- a reply frame, in pairs of hexadecimal digits of lower case
 abbrev pub reply_line : List ℕ → List ℕ
@@ -24,6 +24,7 @@ refusal_line Range = codes "refused 2\n"
 refusal_line Channel = codes "refused 3\n"
 refusal_line Period = codes "refused 4\n"
 refusal_line Length = codes "refused 5\n"
+refusal_line Columns = codes "refused 6\n"
 
 -- by which number of the faults an event was not taken
 abbrev pub fault_line : ℕ → List ℕ

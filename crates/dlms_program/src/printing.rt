@@ -127,6 +127,7 @@ pub fn refusal_text(refused: Refused) -> Line
         Refused::Channel => line.push_str("refused 3\n"),
         Refused::Period => line.push_str("refused 4\n"),
         Refused::Length => line.push_str("refused 5\n"),
+        Refused::Columns => line.push_str("refused 6\n"),
     }
     line
 }

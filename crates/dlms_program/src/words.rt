@@ -78,8 +78,9 @@ leaves the old text or the new one. Prints a line \"clock,r0,r1,r2\" for each ro
 answered within two seconds goes out again, three times at most.
 
 Exit status: 0; 1 after a fault (dlms: io, with the file or ADDRESS:PORT and the system's words on a second line; dlms: line N \
-for a line of FILE that is none of readings; dlms: secret for one of more than 16 bytes; dlms: line, dlms: protocol, \
-dlms: refused N or dlms: result N for the poll; dlms: memory); 2 for words that are not understood, and for this help.";
+for a line of FILE that is none of readings; dlms: secret for one of more than 16 bytes; dlms: line, dlms: protocol (also for \
+rows of other columns than the clock and the three registers), dlms: refused N or dlms: result N for the poll; dlms: memory); \
+2 for words that are not understood, and for this help.";
 
 fn format_command<'a>(alloc: Global) -> Result<Command<'a>, AllocError>
     ensures shape { IfOk result (λ c. app_of c ≡ format_command) }

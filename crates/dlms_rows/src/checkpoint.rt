@@ -8,7 +8,9 @@ use crate::fault::RowFault;
 use crate::hexadecimal::put_hex;
 use crate::state::StateBench;
 use crate::words::Words;
-use dlms_checkpoint::{Checkpoint, RING_ROWS, Refilling, Restoring, checkpoint_of, ring_page_of};
+use dlms_checkpoint::{
+    Checkpoint, RING_ROWS, Refilling, Restoring, Version, checkpoint_of, ring_page_of,
+};
 use dlms_state::State;
 use linked_list_allocator::LocalHeap;
 
@@ -58,7 +60,7 @@ fn put_ring(state: &State<&LocalHeap>, page: u64, answer: &mut String) -> Result
 
 /// All bodies of a checkpoint, taken one after another.
 fn taken(checkpoint: &Checkpoint) -> Result<Restoring, RowFault> {
-    let Ok(mut restoring) = Restoring::begin(checkpoint.body(0)) else {
+    let Ok(mut restoring) = Restoring::begin(Version::Columns, checkpoint.body(0)) else {
         return Err(RowFault::Missing);
     };
     for index in 1..checkpoint.body_count() {
@@ -96,11 +98,15 @@ impl<'h> CheckpointBench<'h> {
         }
     }
 
-    /// Begins with a first body.
-    fn begin(&mut self, body: &[u8], answer: &mut String) -> Result<(), RowFault> {
+    /// Begins with a first body of a version.
+    fn begin(&mut self, words: &mut Words<'_>, answer: &mut String) -> Result<(), RowFault> {
+        let Some(version) = Version::of_number(words.byte()?) else {
+            return Err(RowFault::Form);
+        };
+        let body = words.bytes()?;
         self.restoring = None;
         self.refilling = None;
-        match Restoring::begin(body) {
+        match Restoring::begin(version, &body) {
             Ok(restoring) => {
                 self.restoring = Some(restoring);
                 Ok(())
@@ -195,7 +201,7 @@ impl Bench for CheckpointBench<'_> {
             }
             "ring" => put_ring(self.state.state()?, words.long()?, answer),
             "take-all" => self.take_all(),
-            "begin" => self.begin(&words.bytes()?, answer),
+            "begin" => self.begin(words, answer),
             "more" => self.more(&words.bytes()?, answer),
             "join" => self.join(answer),
             "take-ring" => self.ring(&words.bytes()?, answer),

@@ -4,7 +4,7 @@ use crate::answers::put_with_number;
 use crate::fault::RowFault;
 use crate::words::Words;
 use arrayvec::ArrayVec;
-use dlms_state::{Event, Refused};
+use dlms_state::{Event, Refused, SecretOf};
 
 /// Bytes in place; not understood where there are more than fit.
 pub fn in_place<const MOST: usize>(bytes: &[u8]) -> Result<ArrayVec<u8, MOST>, RowFault> {
@@ -23,11 +23,18 @@ fn shift_of(words: &mut Words<'_>) -> Result<Event, RowFault> {
     }
 }
 
+/// A client's new secret.
+fn secret_of(of: SecretOf, words: &mut Words<'_>) -> Result<Event, RowFault> {
+    Ok(Event::SetSecret(of, in_place(&words.bytes()?)?))
+}
+
 /// The events that hold bytes, or nothing.
 fn other_event(call: &str, words: &mut Words<'_>) -> Result<Event, RowFault> {
     match call {
         "set-text" => Ok(Event::SetText(in_place(&words.bytes()?)?)),
-        "set-secret" => Ok(Event::SetSecret(in_place(&words.bytes()?)?)),
+        "set-secret" => secret_of(SecretOf::Management, words),
+        "set-reader-secret" => secret_of(SecretOf::Reader, words),
+        "set-columns" => Ok(Event::SetColumns(in_place(&words.bytes()?)?)),
         "adjust" => Ok(Event::AdjustMinute),
         "reset-profile" => Ok(Event::ResetProfile),
         "capture" => Ok(Event::Capture),

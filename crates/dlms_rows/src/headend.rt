@@ -8,7 +8,7 @@ use crate::bench::{Bench, Room};
 use crate::events::in_place;
 use crate::fault::RowFault;
 use crate::frame::{frame_of, put_frame};
-use crate::rows::put_row_parts;
+use crate::rows::put_values;
 use crate::words::{Words, client_of, put_truth};
 use dlms_data::LAST_SECOND;
 use dlms_frame::Frame;
@@ -42,7 +42,8 @@ fn put_readings_fault(answer: &mut String, fault: ReadingsFault) -> Result<(), R
 
 /// A row: `clock,register,register,register`.
 fn put_row(answer: &mut String, row: &Row) -> Result<(), RowFault> {
-    put_row_parts(answer, row.clock, row.registers)
+    let [first, second, third] = row.registers;
+    put_values(answer, &[row.clock, first, second, third])
 }
 
 /// How many rows there are, and the rows.

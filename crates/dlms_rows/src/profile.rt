@@ -4,7 +4,7 @@ use crate::answers::{put_number, put_number_and, put_shown, put_wide};
 use crate::bench::Bench;
 use crate::fault::RowFault;
 use crate::rows::{put_entries, put_range, put_row};
-use crate::state::row_of;
+use crate::state::{row_of, row_with};
 use crate::words::{NUMBERS_END, Words};
 use dlms_profile::{Row, Rows};
 use linked_list_allocator::LocalHeap;
@@ -25,23 +25,21 @@ fn push(rows: &mut Rows<&LocalHeap>, row: Row) -> Result<(), RowFault> {
     Ok(())
 }
 
-/// Rows with the clocks 900, 1800 .., the clock in the first register, 1 and 2 in the others.
+/// Rows of four values: 900, 1800 .., the same once more, 1 and 2.
 fn push_periods(rows: &mut Rows<&LocalHeap>, count: u32) -> Result<(), RowFault> {
     for period in 1..=count {
         let clock = period.saturating_mul(900);
-        let row = Row {
-            clock,
-            registers: [clock, 1, 2],
-        };
-        push(rows, row)?;
+        push(rows, row_with(&[clock, clock, 1, 2]))?;
     }
     Ok(())
 }
 
-/// The clocks in place, oldest first.
+/// The first value of each row, oldest first.
 fn put_clocks(rows: &Rows<&LocalHeap>, answer: &mut String) -> Result<(), RowFault> {
     for row in rows.iter() {
-        put_number_and(answer, u64::from(row.clock), ',')?;
+        if let Some(clock) = row.values.first() {
+            put_number_and(answer, u64::from(*clock), ',')?;
+        }
     }
     Ok(())
 }
@@ -110,7 +108,11 @@ fn put_view(
         "is-empty" => put_shown(answer, &rows.is_empty()),
         "slices" => put_slices(rows, answer),
         "clocks" => put_clocks(rows, answer),
-        "range" => put_range(rows, words, answer),
+        "range" => put_range(rows, 0, words, answer),
+        "range-at" => {
+            let place = words.number()?;
+            put_range(rows, place as usize, words, answer)
+        }
         "entries" => put_entries(rows, words, answer),
         "row" => put_row(rows, words.number()?, answer),
         _ => Err(RowFault::Form),

@@ -9,17 +9,18 @@ use linked_list_allocator::LocalHeap;
 /// The most rows that are shown whole.
 const MOST: usize = 4;
 
-/// A row of a clock and registers: `clock,register,register,register`.
-pub fn put_row_parts(answer: &mut String, clock: u32, registers: [u32; 3]) -> Result<(), RowFault> {
-    let [first, second, third] = registers;
-    put_with_number(answer, " ", u64::from(clock))?;
-    put_with_number(answer, ",", u64::from(first))?;
-    put_with_number(answer, ",", u64::from(second))?;
-    put_with_number(answer, ",", u64::from(third))
+/// The values of a row: `value,value,value,value`.
+pub fn put_values(answer: &mut String, values: &[u32]) -> Result<(), RowFault> {
+    let mut before = " ";
+    for value in values {
+        put_with_number(answer, before, u64::from(*value))?;
+        before = ",";
+    }
+    Ok(())
 }
 
 fn put_one(answer: &mut String, row: &Row) -> Result<(), RowFault> {
-    put_row_parts(answer, row.clock, row.registers)
+    put_values(answer, row.values.as_slice())
 }
 
 /// How many rows there are, and the rows; of more than four the first and the last.
@@ -39,14 +40,15 @@ pub fn put_rows(answer: &mut String, rows: &[Row]) -> Result<(), RowFault> {
     }
 }
 
-/// The rows of a range of seconds.
+/// The rows whose value at a place, counted from 0, is of a range.
 pub fn put_range(
     rows: &Rows<&LocalHeap>,
+    place: usize,
     words: &mut Words<'_>,
     answer: &mut String,
 ) -> Result<(), RowFault> {
     let first = words.number()?;
-    match rows.by_range(first, words.number()?) {
+    match rows.by_range(place, first, words.number()?) {
         Ok(found) => put_rows(answer, &found),
         Err(_) => Ok(answer.push_str("memory")?),
     }
@@ -72,7 +74,7 @@ pub fn put_entries(
 /// The row of an index.
 pub fn put_row(rows: &Rows<&LocalHeap>, index: u32, answer: &mut String) -> Result<(), RowFault> {
     match rows.get(index as usize) {
-        Some(row) => put_rows(answer, &[*row]),
+        Some(row) => put_rows(answer, &[row.copy()]),
         None => Ok(answer.push_str("no")?),
     }
 }

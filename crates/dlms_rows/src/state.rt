@@ -1,5 +1,8 @@
 //! Rows of `dlms_state`; other crates prepare their states by them.
 
+ghost use Rattle.std.specs.Prelude.{IsTrue};
+ghost use Rattle.dlms_state.specs.Columns.{IsRowOf};
+
 use crate::answers::{put_number, put_number_and, put_signed, put_text, put_wide};
 use crate::bench::Bench;
 use crate::events::{event_of, in_place, put_refused};
@@ -7,8 +10,9 @@ use crate::fault::RowFault;
 use crate::hexadecimal::put_hex;
 use crate::rows::{put_entries, put_range, put_row};
 use crate::words::{NUMBERS_END, Words};
-use dlms_profile::{CAPACITY, Row};
-use dlms_state::{Event, LAST_SECOND, Outlook, Parts, PartsFault, State};
+use arrayvec::ArrayVec;
+use dlms_profile::{CAPACITY, MOST_VALUES, Row};
+use dlms_state::{Event, LAST_SECOND, Outlook, Parts, PartsFault, SecretOf, State};
 use linked_list_allocator::LocalHeap;
 
 /// A state that takes its memory from a heap, and what an outlook on it comes to.
@@ -19,15 +23,39 @@ pub struct StateBench<'h> {
     outlook: Option<Outlook>,
 }
 
-/// A row: its clock and its registers.
-pub fn row_of(words: &mut Words<'_>) -> Result<Row, RowFault> {
-    Ok(Row {
-        clock: words.number()?,
-        registers: [words.number()?, words.number()?, words.number()?],
-    })
+/// A row of these values, of which the first four are taken.
+pub fn row_with(numbers: &[u32]) -> Row {
+    let mut values = ArrayVec::new();
+    for number in numbers.iter().take(MOST_VALUES) {
+        let _fits = values.try_push(*number);
+    }
+    Row { values }
 }
 
-/// Registers, last moment, offset, period, text, secret.
+/// A row: its values, up to the end of the line.
+pub fn row_of(words: &mut Words<'_>) -> Result<Row, RowFault> {
+    let mut values = ArrayVec::new();
+    for _ in 0..MOST_VALUES {
+        if !words.is_empty() {
+            let _fits = values.try_push(words.number()?);
+        }
+    }
+    Ok(Row { values })
+}
+
+/// The bytes of the next word; these where no word is left.
+fn bytes_or<const MOST: usize>(
+    words: &mut Words<'_>,
+    first: &[u8],
+) -> Result<ArrayVec<u8, MOST>, RowFault> {
+    if words.is_empty() {
+        return in_place(first);
+    }
+    in_place(&words.bytes()?)
+}
+
+/// Registers, last moment, offset, period, text, secret, and behind them the reader's secret and the columns; a new state's
+/// where they are not there.
 fn parts_of(words: &mut Words<'_>) -> Result<Parts, RowFault> {
     Ok(Parts {
         registers: [words.number()?, words.number()?, words.number()?],
@@ -36,6 +64,8 @@ fn parts_of(words: &mut Words<'_>) -> Result<Parts, RowFault> {
         period: words.number()?,
         text: in_place(&words.bytes()?)?,
         secret: in_place(&words.bytes()?)?,
+        reader_secret: bytes_or(words, b"23456789")?,
+        columns: bytes_or(words, &[0, 1, 2, 3])?,
     })
 }
 
@@ -51,12 +81,28 @@ fn take(state: &mut State<&LocalHeap>, event: Event, answer: &mut String) -> Res
     }
 }
 
-/// Restores a row, where there is room and a number is left for it.
+/// Whether a row has a value a column, and the clock's in its range.
+fn is_row_of(columns: &[u8], row: &Row) -> bool
+    ensures { IsTrue result → IsRowOf columns.now row.now }
+{
+    let values = row.values.as_slice();
+    if values.len() != columns.len() {
+        return false;
+    }
+    for nth in 0..columns.len() {
+        if columns[nth] == 0 && values[nth] > LAST_SECOND {
+            return false;
+        }
+    }
+    true
+}
+
+/// Restores a row, where it is one of the state's columns, there is room and a number is left for it.
 fn restore_row(state: &mut State<&LocalHeap>, row: Row) -> Result<(), RowFault> {
     if state.rows().len() >= CAPACITY || state.next_number() >= NUMBERS_END {
         return Err(RowFault::Form);
     }
-    if row.clock > LAST_SECOND {
+    if !is_row_of(state.columns(), &row) {
         return Err(RowFault::Form);
     }
     state.restore_row(row);
@@ -72,13 +118,15 @@ fn put_registers(state: &State<&LocalHeap>, answer: &mut String) -> Result<(), R
 }
 
 /// The calls that show a state.
-const VIEWS: [&str; 13] = [
+const VIEWS: [&str; 15] = [
     "range",
     "entries",
     "row",
     "registers",
     "text",
     "secret",
+    "reader-secret",
+    "columns",
     "clock",
     "last",
     "offset",
@@ -114,14 +162,26 @@ fn put_view(
     answer: &mut String,
 ) -> Result<(), RowFault> {
     match call {
-        "range" => put_range(state.rows(), words, answer),
+        "range" => put_range(state.rows(), 0, words, answer),
         "entries" => put_entries(state.rows(), words, answer),
         "row" => put_row(state.rows(), words.number()?, answer),
         "registers" => put_registers(state, answer),
         "text" => put_hex(answer, state.text()),
-        "secret" => put_hex(answer, state.secret()),
+        "secret" => put_hex(answer, state.secret(SecretOf::Management)),
+        "reader-secret" => put_hex(answer, state.secret(SecretOf::Reader)),
+        "columns" => put_hex(answer, state.columns()),
         _ => put_view_number(state, call, answer),
     }
+}
+
+/// The row of a clock and of the registers 1, 2, 3.
+fn numbered(columns: &[u8], clock: u32) -> Row {
+    let mut values = ArrayVec::new();
+    for id in columns {
+        let value = if *id == 0 { clock } else { u32::from(*id) };
+        let _fits = values.try_push(value);
+    }
+    Row { values }
 }
 
 impl<'h> StateBench<'h> {
@@ -201,14 +261,11 @@ impl<'h> StateBench<'h> {
         Ok(())
     }
 
-    /// So many restored rows, with the clocks 0, 1, 2 .. and the registers 1, 2, 3.
+    /// So many restored rows, with the clocks 0, 1, 2 .. and the registers 1, 2, 3, in the order of the columns.
     fn restore_rows(&mut self, count: u32) -> Result<(), RowFault> {
         let state = self.state_mut()?;
         for clock in 0..count {
-            let row = Row {
-                clock,
-                registers: [1, 2, 3],
-            };
+            let row = numbered(state.columns(), clock);
             restore_row(state, row)?;
         }
         Ok(())

@@ -8,14 +8,15 @@ use Rattle.dlms_data.specs.declared.descriptor.Descriptor.{Descriptor}
 use Rattle.dlms_data.proofs.WholeLaws.{reads_one_value}
 use Rattle.dlms_frame.specs.declared.client.Client.{Client}
 use Rattle.dlms_state.specs.declared.event.Event.{Event}
-use Rattle.dlms_state.specs.declared.event.Event.TheVariants.{SetTime, SetText, SetSecret}
-use Rattle.dlms_state.specs.Events.{text_set, secret_set}
+use Rattle.dlms_state.specs.declared.event.Event.TheVariants.{SetTime, SetText, SetSecret, SetColumns}
+use Rattle.dlms_state.specs.declared.event.SecretOf.TheVariants.{Management, Reader}
+use Rattle.dlms_state.specs.Events.{text_set, secret_set, columns_set}
 use Rattle.dlms_state.specs.StateValue.{state_of}
 use Rattle.dlms_apdu.specs.Forms.{RequestForm, get_normal, get_next, set_normal, set_first, set_block, action_normal, action_first, action_block, set_result, action_result}
 use Rattle.dlms_apdu.specs.Forms as apdu
 use Rattle.dlms_apdu.specs.Reading.{request_at}
 use Rattle.dlms_apdu.specs.declared.fault.Refusal.{Refusal}
-use Rattle.dlms_classes.specs.Plan.{Setting, clock_to, period_to, text_to, secret_to, IsPlan, Does}
+use Rattle.dlms_classes.specs.Plan.{Setting, clock_to, period_to, text_to, secret_to, columns_to, IsPlan, Does}
 use Rattle.dlms_classes.specs.declared.access.AccessResult.{AccessResult}
 use Rattle.dlms_classes.proofs.ShownOnce.{shown_once}
 use Rattle.dlms_service.specs.declared.association.Association.{Association}
@@ -56,15 +57,21 @@ is_text : (e : Event) (bytes : List ℕ) → text_set e ≡ Some bytes → e ≡
 is_text (SetText b) bytes h = ap (λ (xs : List ℕ). SetText (record { items = xs })) (some_is h)
 is_text _ bytes h = none_is h
 
-is_secret : (e : Event) (bytes : List ℕ) → secret_set e ≡ Some bytes → e ≡ SetSecret (record { items = bytes })
-is_secret (SetSecret b) bytes h = ap (λ (xs : List ℕ). SetSecret (record { items = xs })) (some_is h)
+is_secret : (e : Event) (bytes : List ℕ) → secret_set Management e ≡ Some bytes → e ≡ SetSecret Management (record { items = bytes })
+is_secret (SetSecret Management b) bytes h = ap (λ (xs : List ℕ). SetSecret Management (record { items = xs })) (some_is h)
+is_secret (SetSecret Reader b) bytes h = none_is h
 is_secret _ bytes h = none_is h
+
+is_columns : (e : Event) (ids : List ℕ) → columns_set e ≡ Some ids → e ≡ SetColumns (record { items = ids })
+is_columns (SetColumns b) ids h = ap (λ (xs : List ℕ). SetColumns (record { items = xs })) (some_is h)
+is_columns _ ids h = none_is h
 
 does_once : (setting : Setting) (e f : Event) → Does setting e → Does setting f → e ≡ f
 does_once (clock_to octets) e f (s, names, is) (t, names', is') = is ∙ ap SetTime (ap unsigned_abs (names.value ∙ sym names'.value)) ∙ sym is'
 does_once (period_to seconds) e f h k = h ∙ sym k
 does_once (text_to bytes) e f h k = is_text e bytes h ∙ sym (is_text f bytes k)
 does_once (secret_to bytes) e f h k = is_secret e bytes h ∙ sym (is_secret f bytes k)
+does_once (columns_to ids) e f h k = is_columns e ids h ∙ sym (is_columns f ids k)
 
 plan_once : (setting : Result Setting AccessResult) (x y : Result Event AccessResult) → IsPlan setting x → IsTyped x → IsPlan setting y → IsTyped y → x ≡ y
 plan_once (Err r) x y h typed k typed' = h ∙ sym k

@@ -11,7 +11,8 @@ use Rattle.dlms_apdu.specs.Forms.{RequestForm, get_normal, get_next, set_normal,
 use Rattle.dlms_apdu.specs.Reading.{request_at, HoldsValue}
 use Rattle.dlms_apdu.specs.declared.fault.Refusal.{Refusal}
 use Rattle.dlms_state.specs.declared.event.Event.{Event}
-use Rattle.dlms_state.specs.Events.{secret_after}
+use Rattle.dlms_state.specs.Events.{secret_after, columns_after}
+use Rattle.dlms_state.specs.declared.event.SecretOf.TheVariants.{Management}
 use Rattle.dlms_classes.specs.declared.access.AccessResult.{AccessResult}
 use Rattle.dlms_classes.specs.declared.access.AccessResult.TheVariants.{TemporaryFailure}
 use Rattle.dlms_classes.specs.Access.{number_of}
@@ -107,7 +108,7 @@ LacksToRead s form o = (HoldsValue form ⊎ BringsValue s form) × (o ≡ not_po
 -- Want of memory for the answer: in place of what GET would show, and of the next block.
 abbrev pub LacksToAnswer : List Event → SessionValue → Association → RequestForm → Outcome → Type 0
 LacksToAnswer E s a (get_normal invoke d selector) o =
-    IsGranted (asked s.client a d selector) × (o ≡ says (without_get s) (get_result invoke (number_of TemporaryFailure)))
+    IsGranted (columns_after E) (asked s.client a d selector) × (o ≡ says (without_get s) (get_result invoke (number_of TemporaryFailure)))
 LacksToAnswer E s a (get_next invoke number) o = IsOk (next_answer s.getting number) × (o ≡ not_possible s)
 LacksToAnswer E s a _ o = ⊥
 
@@ -136,7 +137,7 @@ Released choice E s apdu true o = o ≡ released s
 Released choice E s apdu false o = Within choice E s apdu s.opened o
 
 abbrev pub Associated : Choice → List Event → SessionValue → List ℕ → Bool → Outcome → Type 0
-Associated choice E s apdu true o = o ≡ associated s (secret_after E) (aarq_at apdu)
+Associated choice E s apdu true o = o ≡ associated s (secret_after Management E) (aarq_at apdu)
 Associated choice E s apdu false o = Released choice E s apdu (begins_with 0x62 apdu) o
 
 abbrev pub Serves : Choice → List Event → SessionValue → List ℕ → Outcome → Type 0

@@ -11,13 +11,17 @@ use Rattle.arrayvec.specs.ArrayVec.{ArrayVec}
 use Rattle.dlms_profile.specs.declared.rows.Row.{Row}
 use Rattle.dlms_profile.specs.Rows.{IsRow, none_before}
 use Rattle.dlms_state.specs.declared.event.Event.{Event}
-use Rattle.dlms_state.specs.declared.event.Event.TheVariants.{Pulses, Moment, SetTime, SetPeriod, SetText, SetSecret, ResetRegister, ResetProfile, Capture}
+use Rattle.dlms_state.specs.declared.event.Event.TheVariants.{Pulses, Moment, SetTime, SetPeriod, SetText, SetSecret, ResetRegister, ResetProfile, Capture, SetColumns}
+use Rattle.dlms_state.specs.declared.event.SecretOf.{SecretOf}
+use Rattle.dlms_state.specs.declared.event.SecretOf.TheVariants.{Management, Reader}
 use Rattle.dlms_state.specs.declared.event.Refused.TheVariants.{Range}
 use Rattle.dlms_state.specs.Types.{FitsType, AreBytes}
-use Rattle.dlms_state.specs.Events.{clock_at, first_secret, register_after, moment_after, offset_after, period_after, text_after, secret_after, kept_after, captures, ends_in_clearing, ends_in_capture}
+use Rattle.dlms_state.specs.Events.{clock_at, first_secret, register_after, moment_after, offset_after, period_after, text_after, secret_after, columns_after, kept_after, captures, ends_in_clearing, ends_in_capture}
 use Rattle.dlms_state.specs.Refusal.{refusal, unless, clock_is_in_range}
 use Rattle.dlms_state.specs.StateValue.{StateValue, state_of, HasEvents, IsWithinLimits, FitsTypes}
+use Rattle.dlms_state.specs.Columns.{fits_columns, first_columns, IsRowOf}
 use Rattle.dlms_state.specs.Step.{step}
+use Rattle.dlms_state.proofs.ColumnValues.{looked_up, looked_up-lt, looked_up-clock, values_given_back}
 use Rattle.dlms_state.proofs.Legal.{IsLegal-none}
 use Rattle.dlms_state.proofs.StateLaw.{IsStateOf-step}
 use Rattle.dlms_state.specs.declared.event.TheConstants.{LAST_SECOND}
@@ -29,10 +33,10 @@ HasEvents-step : (s : StateValue) (e : Event) → FitsType e → refusal s.last 
 HasEvents-step s e fits fine had = record { events = had.events ++ e ∷ []; state = IsStateOf-step s (step e s) e e refl fits fine refl had.events had.state }
 
 abbrev first_state : ℕ → StateValue
-first_state next = record { registers = 0 ∷ 0 ∷ 0 ∷ []; last = 0; offset = pos 0; period = 900; text = []; secret = first_secret; rows = none_before next }
+first_state next = record { registers = 0 ∷ 0 ∷ 0 ∷ []; last = 0; offset = pos 0; period = 900; text = []; secret = first_secret Management; reader_secret = first_secret Reader; columns = first_columns; rows = none_before next }
 
 first_is : first_state 0 ≡ state_of []
-unfolding register_after moment_after offset_after period_after text_after secret_after kept_after captures ends_in_clearing ends_in_capture
+unfolding register_after moment_after offset_after period_after text_after secret_after columns_after kept_after captures ends_in_clearing ends_in_capture
 first_is = refl
 
 HasEvents-first : HasEvents (first_state 0)
@@ -67,10 +71,13 @@ period_passes last offset p high =
     let fits : nat_le p 86400 ≡ true = grind (arith, nat_tests) in
     rw fits refl
 
-secret_passes : (last : ℕ) (offset : ℤ) (b : ArrayVec ℕ) → 0 < length b.items → refusal last offset (SetSecret b) ≡ None
-secret_passes last offset b some =
+secret_passes : (last : ℕ) (offset : ℤ) (of : SecretOf) (b : ArrayVec ℕ) → 0 < length b.items → refusal last offset (SetSecret of b) ≡ None
+secret_passes last offset of b some =
     let fits : nat_lt 0 (length b.items) ≡ true = grind (arith, nat_tests) in
     rw fits refl
+
+columns_pass : (last : ℕ) (offset : ℤ) (ids : ArrayVec ℕ) → fits_columns ids.items ≡ true → refusal last offset (SetColumns ids) ≡ None
+columns_pass last offset ids fits = rw fits refl
 
 -- ---- the moment, the period, the text and the secret, with no row
 
@@ -78,14 +85,25 @@ secret_passes last offset b some =
 abbrev stop_at : ℕ → ℕ
 stop_at last = min last LAST_SECOND
 
+-- what is set of a state but for its clock
+record Settings : Type 0 where
+  period : ℕ
+  text : List ℕ
+  secret : List ℕ
+  reader_secret : List ℕ
+  columns : List ℕ
+
 -- a state with no row, its registers at 0, its clock where the moments leave it
-abbrev settled : ℕ → ℕ → ℕ → List ℕ → List ℕ → StateValue
-settled next last period text secret = record { registers = 0 ∷ 0 ∷ 0 ∷ []; last = last; offset = pos 0 -ℤ pos (stop_at last); period = period; text = text; secret = secret; rows = none_before next }
+abbrev settled : ℕ → ℕ → Settings → StateValue
+settled next last set = record { registers = 0 ∷ 0 ∷ 0 ∷ []; last = last; offset = pos 0 -ℤ pos (stop_at last); period = set.period; text = set.text; secret = set.secret; reader_secret = set.reader_secret; columns = set.columns; rows = none_before next }
+
+abbrev first_settings : Settings
+first_settings = record { period = 0; text = []; secret = first_secret Management; reader_secret = first_secret Reader; columns = first_columns }
 
 abbrev bytes_of : List ℕ → ArrayVec ℕ
 bytes_of bytes = record { items = bytes }
 
-HasEvents-moments : (next last : ℕ) → last < 2 ^ 32 → HasEvents (settled next last 0 [] first_secret)
+HasEvents-moments : (next last : ℕ) → last < 2 ^ 32 → HasEvents (settled next last first_settings)
 HasEvents-moments next last small =
     let stop : ℕ = stop_at last in
     let low : stop ≤ last = omega arith in
@@ -96,11 +114,26 @@ HasEvents-moments next last small =
     let set = HasEvents-step _ (SetTime 0) (lit< tt) (time_passes stop (pos 0) 0 (lit≤ tt)) stopped in
     HasEvents-step _ (Moment last) small (moment_passes stop last (pos 0 -ℤ pos stop) low (omega (arith, ints)) (omega (arith, ints))) set
 
-HasEvents-settled : (next last period : ℕ) (text secret : List ℕ) → last < 2 ^ 32 → period ≤ 86400 → AreBytes 240 text → AreBytes 16 secret → 0 < length secret → HasEvents (settled next last period text secret)
-HasEvents-settled next last period text secret small day text_fits secret_fits some =
-    let timed = HasEvents-step (settled next last 0 [] first_secret) (SetPeriod period) (omega arith) (period_passes last (pos 0 -ℤ pos (stop_at last)) period day) (HasEvents-moments next last small) in
-    let texted = HasEvents-step (settled next last period [] first_secret) (SetText (bytes_of text)) text_fits refl timed in
-    HasEvents-step (settled next last period text first_secret) (SetSecret (bytes_of secret)) secret_fits (secret_passes last (pos 0 -ℤ pos (stop_at last)) (bytes_of secret) some) texted
+-- what settings are possible
+record AreSettings (set : Settings) : Type 0 where
+  day : set.period ≤ 86400
+  text : AreBytes 240 set.text
+  secret : AreBytes 16 set.secret
+  some : 0 < length set.secret
+  reader_secret : AreBytes 16 set.reader_secret
+  reader_some : 0 < length set.reader_secret
+  columns : AreBytes 4 set.columns
+  fit : fits_columns set.columns ≡ true
+
+HasEvents-settled : (next last : ℕ) (set : Settings) → last < 2 ^ 32 → AreSettings set → HasEvents (settled next last set)
+HasEvents-settled next last set small can =
+    let o : ℤ = pos 0 -ℤ pos (stop_at last) in
+    let day : set.period ≤ 86400 = can.day in
+    let timed = HasEvents-step (settled next last first_settings) (SetPeriod set.period) (omega arith) (period_passes last o set.period day) (HasEvents-moments next last small) in
+    let texted = HasEvents-step (settled next last (record first_settings { period = set.period })) (SetText (bytes_of set.text)) can.text refl timed in
+    let managed = HasEvents-step (settled next last (record first_settings { period = set.period; text = set.text })) (SetSecret Management (bytes_of set.secret)) can.secret (secret_passes last o Management (bytes_of set.secret) can.some) texted in
+    let read = HasEvents-step (settled next last (record first_settings { period = set.period; text = set.text; secret = set.secret })) (SetSecret Reader (bytes_of set.reader_secret)) can.reader_secret (secret_passes last o Reader (bytes_of set.reader_secret) can.reader_some) managed in
+    HasEvents-step (settled next last (record set { columns = first_columns })) (SetColumns (bytes_of set.columns)) can.columns (columns_pass last o (bytes_of set.columns) can.fit) read
 
 -- ---- the clock and the registers
 
@@ -142,31 +175,31 @@ all_kept rows short =
     let none : length rows - CAPACITY ≡ 0 = omega arith in
     rw none refl
 
-HasSome-row : (s : StateValue) (clock : ℕ) (registers : List ℕ) → clock ≤ LAST_SECOND → length registers ≡ 3 → All (λ value. value < 2 ^ 32) registers → length s.rows.items < CAPACITY →
-    HasSome s → HasSome (with_rows s (s.rows.items ++ (record { clock = clock; registers = registers }) ∷ []) (s.rows.next + 1))
-HasSome-row s clock [] high count fit room some = cc
-HasSome-row s clock (x ∷ []) high count fit room some = cc
-HasSome-row s clock (x ∷ y ∷ []) high count fit room some = cc
-HasSome-row s clock (x ∷ y ∷ z ∷ w ∷ more) high count fit room some = cc
-HasSome-row s clock (x ∷ y ∷ z ∷ []) high count fit room some =
-    let row : Row = record { clock = clock; registers = x ∷ y ∷ z ∷ [] } in
+HasSome-row : (s : StateValue) (row : Row) → IsRow row → IsRowOf s.columns row → fits_columns s.columns ≡ true → length s.rows.items < CAPACITY →
+    HasSome s → HasSome (with_rows s (s.rows.items ++ row ∷ []) (s.rows.next + 1))
+HasSome-row s row fit of columns room some =
+    let values : List ℕ = row.values.items in
+    let clock : ℕ = looked_up s.columns values 0 in
+    let x : ℕ = looked_up s.columns values 1 in
+    let y : ℕ = looked_up s.columns values 2 in
+    let z : ℕ = looked_up s.columns values 3 in
     let o : ℤ = pos clock -ℤ pos s.last in
-    let set = HasEvents-values s x y z clock (fit 0 0 (lit< tt)) (fit 1 0 (lit< tt)) (fit 2 0 (lit< tt)) high some in
+    let set = HasEvents-values s x y z clock (looked_up-lt s.columns values 1 fit.values) (looked_up-lt s.columns values 2 fit.values) (looked_up-lt s.columns values 3 fit.values) (looked_up-clock s.columns values of.clock) some in
     let taken = HasEvents-step (with_values s x y z o) Capture tt refl set in
     let short : length (s.rows.items ++ row ∷ []) ≤ CAPACITY = simp length-append (omega arith) in
-    record { a = x; b = y; c = z; offset = o; events = rw (all_kept (s.rows.items ++ row ∷ []) short) at (rw (shown clock s.last) at taken) }
+    let back = values_given_back s.columns values columns of.count in
+    record { a = x; b = y; c = z; offset = o; events = rw (all_kept (s.rows.items ++ row ∷ []) short) at (rw back at (rw (shown clock s.last) at taken)) }
 
-HasSome-rows : (rows : List Row) (s : StateValue) → All IsRow rows → All (λ row. row.clock ≤ LAST_SECOND) rows → length s.rows.items + length rows ≤ CAPACITY → HasSome s → HasSome (with_rows s (s.rows.items ++ rows) (s.rows.next + length rows))
-HasSome-rows [] s fit clocks room some =
+HasSome-rows : (rows : List Row) (s : StateValue) → All IsRow rows → All (IsRowOf s.columns) rows → fits_columns s.columns ≡ true → length s.rows.items + length rows ≤ CAPACITY → HasSome s → HasSome (with_rows s (s.rows.items ++ rows) (s.rows.next + length rows))
+HasSome-rows [] s fit of columns room some =
     let none : s.rows.next + 0 ≡ s.rows.next = omega arith in
     rw (append-nil s.rows.items, none) some
-HasSome-rows (row ∷ rows) s fit clocks room some =
-    let is : IsRow row = fit 0 row (omega arith) in
-    let first = HasSome-row s row.clock row.registers (clocks 0 row (omega arith)) is.count is.registers (omega arith) some in
+HasSome-rows (row ∷ rows) s fit of columns room some =
+    let first = HasSome-row s row (fit 0 row (omega arith)) (of 0 row (omega arith)) columns (omega arith) some in
     let next : StateValue = with_rows s (s.rows.items ++ row ∷ []) (s.rows.next + 1) in
     let count : length next.rows.items + length rows ≤ CAPACITY = simp length-append (omega arith) in
     let number : (s.rows.next + 1) + length rows ≡ s.rows.next + suc (length rows) = omega arith in
-    rw (append_snoc, number) at (HasSome-rows rows next (λ k d low. fit (suc k) d (omega arith)) (λ k d low. clocks (suc k) d (omega arith)) count first)
+    rw (append_snoc, number) at (HasSome-rows rows next (λ k d low. fit (suc k) d (omega arith)) (λ k d low. of (suc k) d (omega arith)) columns count first)
 
 -- ---- the whole state
 
@@ -189,8 +222,10 @@ pub HasEvents-within : (s : StateValue) → IsWithinLimits s → FitsTypes s →
 HasEvents-within s limits types =
     let first : ℕ = s.rows.next - length s.rows.items in
     let number : first + length s.rows.items ≡ s.rows.next = let order : length s.rows.items ≤ s.rows.next = types.order in omega arith in
-    let start = HasEvents-settled first s.last s.period s.text s.secret types.last limits.period types.text types.secret limits.secret in
+    let set : Settings = record { period = s.period; text = s.text; secret = s.secret; reader_secret = s.reader_secret; columns = s.columns } in
+    let can : AreSettings set = record { day = limits.period; text = types.text; secret = types.secret; some = limits.secret; reader_secret = types.reader_secret; reader_some = limits.reader_secret; columns = types.columns; fit = limits.columns } in
+    let start = HasEvents-settled first s.last set types.last can in
     let settings : StateValue = record s { rows = none_before first } in
     let some : HasSome settings = record { a = 0; b = 0; c = 0; offset = pos 0 -ℤ pos (stop_at s.last); events = start } in
-    let filled = rw number at (HasSome-rows s.rows.items settings types.rows limits.rows (let room : length s.rows.items ≤ CAPACITY = types.room in omega arith) some) in
+    let filled = rw number at (HasSome-rows s.rows.items settings types.rows limits.rows limits.columns (let room : length s.rows.items ≤ CAPACITY = types.room in omega arith) some) in
     with_registers s.registers s types.count types.registers limits.not_before limits.not_after (record { a = filled.a; b = filled.b; c = filled.c; offset = filled.offset; events = filled.events })

@@ -1,7 +1,7 @@
--- What the types of the events admit: numbers of 8, 16 and 32 bits, a text of at most 240 bytes, a secret of at most 16.
+-- What the types of the events admit: numbers of 8, 16 and 32 bits, a text of at most 240 bytes, a secret of at most 16, at most four columns.
 use Rattle.std.specs.Prelude.{ℕ, ◌<◌, ◌≤◌, ◌^◌, pos, negsuc, ◌≤ℤ◌, List, All, length, ⊤}
 use Rattle.dlms_state.specs.declared.event.Event.{Event}
-use Rattle.dlms_state.specs.declared.event.Event.TheVariants.{Pulses, Moment, SetTime, Shift, AdjustMinute, SetPeriod, SetText, SetSecret, ResetRegister, ResetProfile, Capture}
+use Rattle.dlms_state.specs.declared.event.Event.TheVariants.{Pulses, Moment, SetTime, Shift, AdjustMinute, SetPeriod, SetText, SetSecret, ResetRegister, ResetProfile, Capture, SetColumns}
 
 -- bytes, at most so many
 pub record AreBytes (longest : ℕ) (bytes : List ℕ) : Type 0 where
@@ -16,7 +16,8 @@ FitsType (Shift s) = (negsuc 32767 ≤ℤ s) × (s ≤ℤ pos 32767)
 FitsType AdjustMinute = ⊤
 FitsType (SetPeriod p) = p < 2 ^ 32
 FitsType (SetText b) = AreBytes 240 b.items
-FitsType (SetSecret b) = AreBytes 16 b.items
+FitsType (SetSecret of b) = AreBytes 16 b.items
 FitsType (ResetRegister c) = c < 2 ^ 8
 FitsType ResetProfile = ⊤
 FitsType Capture = ⊤
+FitsType (SetColumns ids) = AreBytes 4 ids.items

@@ -3,7 +3,8 @@ use Rattle.std.proofs.Common.{◌≡◌, ℕ, ◌+◌, ◌-◌, ◌^◌, ◌<◌
 use Rattle.std.specs.Prelude.{nat_lt, if◌then◌else◌}
 use Rattle.std.proofs.lemmas.Bool.Decides.{nat_tests}
 use Rattle.dlms_state.specs.declared.event.Event.{Event}
-use Rattle.dlms_state.specs.declared.event.Event.TheVariants.{Pulses, Moment, SetTime, Shift, AdjustMinute, SetPeriod, SetText, SetSecret, ResetRegister, ResetProfile, Capture}
+use Rattle.dlms_state.specs.declared.event.Event.TheVariants.{Pulses, Moment, SetTime, Shift, AdjustMinute, SetPeriod, SetText, SetSecret, ResetRegister, ResetProfile, Capture, SetColumns}
+use Rattle.dlms_state.specs.declared.event.SecretOf.TheVariants.{Management, Reader}
 use Rattle.dlms_state.specs.Events.{captures, clock_at, passes}
 use Rattle.dlms_state.specs.Step.{step, captured, clocked}
 use Rattle.dlms_state.specs.StateValue.{StateValue, IsStateOf, HasNumberFor, captures_a_row}
@@ -34,7 +35,9 @@ next_after (Shift by) s = same_next s.rows.next
 next_after AdjustMinute s = same_next s.rows.next
 next_after (SetPeriod p) s = same_next s.rows.next
 next_after (SetText b) s = same_next s.rows.next
-next_after (SetSecret b) s = same_next s.rows.next
+next_after (SetSecret Management b) s = same_next s.rows.next
+next_after (SetSecret Reader b) s = same_next s.rows.next
+next_after (SetColumns ids) s = same_next s.rows.next
 next_after (ResetRegister c) s = same_next s.rows.next
 next_after ResetProfile s = same_next s.rows.next
 next_after Capture s = refl

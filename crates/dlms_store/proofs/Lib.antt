@@ -3,7 +3,6 @@ pub mod Causes
 pub mod Checkpoint
 pub mod Commit
 pub mod Counting
-pub mod Forms
 pub mod Fresh
 pub mod Going
 pub mod Images
@@ -11,6 +10,7 @@ pub mod Journal
 pub mod Keeping
 pub mod Looking
 pub mod Opening
+pub mod Recovering
 pub mod Reopening
 pub mod Replays
 pub mod Ring
@@ -19,4 +19,3 @@ pub mod Scribbles
 pub mod Slots
 pub mod Spelled
 pub mod Starting
-pub mod Versions

@@ -1,5 +1,5 @@
 -- What a page that was read is of the one image, and what bytes of a state await.
-use Rattle.std.proofs.Common.{◌≡◌, ◌∙◌, ◌*◌, ℕ, List, [], ◌++◌, length, drop, ap, sym, subst, arith, refl, Some, Result, Ok, Err, OnOk, IsOk, is_err, true, false, IsErr, IsErrAnd, MatchResult}
+use Rattle.std.proofs.Common.{◌≡◌, ◌∙◌, ◌*◌, ℕ, List, [], ◌++◌, length, drop, ap, sym, subst, arith, refl, Some, Result, Ok, Err, OnOk, IsOk, is_err, true, false, IsErr, IsErrAnd, MatchResult, Option, None, MatchOption}
 use Rattle.std.proofs.lemmas.List.{length-take, length-drop, append-nil}
 use Rattle.dlms_pages.specs.Device.{View, Image, Rules, Goes, Reads, page_at}
 use Rattle.dlms_pages.specs.Stops.{IsFixed, Looks}
@@ -15,9 +15,12 @@ use Rattle.dlms_state.specs.StateValue.{StateValue, state_of}
 use Rattle.dlms_state.proofs.Limits.{IsWithinLimits-legal}
 use Rattle.dlms_state.proofs.Types.{FitsTypes-legal}
 use Rattle.dlms_state.proofs.Captures.{captures-le}
-use Rattle.dlms_checkpoint.specs.Checkpoint.{IsCheckpointOf, IsLegalState}
+use Rattle.dlms_checkpoint.specs.Checkpoint.{IsLegalState}
+use Rattle.dlms_checkpoint.specs.Layouts.{IsCheckpointOf, as_present}
+use Rattle.dlms_checkpoint.specs.declared.version.Version.{Version}
 use Rattle.dlms_checkpoint.specs.Bodies.{awaited, body_at}
 use Rattle.dlms_checkpoint.proofs.Bodies.{further_is_taken, all_bodies, some_bodies}
+use Rattle.dlms_store.specs.declared.page.Edition.{Edition}
 use Rattle.dlms_store.specs.Image.{IsWithinRing}
 use Rattle.dlms_store.specs.Page.{HasPage}
 
@@ -31,9 +34,18 @@ page_there index place v image page fixed rules read same = page_is index v imag
 some_inj : {A : Type 0} (x y : A) → Some x ≡ Some y → x ≡ y
 some_inj x y e = cc
 
-pub one_payload : (kind : PageKind) (index generation : ℕ) (a b : List ℕ) (page : PageRead) → HasPage kind index generation a page → HasPage kind index generation b page → a ≡ b
-one_payload kind index generation a b Damaged is also = absurd is
-one_payload kind index generation a b (Content bytes) is also = some_inj a b (sym is.payload_is ∙ also.payload_is)
+pub one_payload : (kind : PageKind) (index : ℕ) (g h : Edition) (a b : List ℕ) (page : PageRead) → HasPage kind index g a page → HasPage kind index h b page → a ≡ b
+one_payload kind index g h a b Damaged is also = absurd is
+one_payload kind index g h a b (Content bytes) is also = some_inj a b (sym is.payload_is ∙ also.payload_is)
+
+-- what is known of an option, told otherwise
+pub match_more : {A : Type 0} (r : Option A) (N M : Type 0) (S T : A → Type 0) → (N → M) → ((x : A) → S x → T x) → MatchOption r N S → MatchOption r M T
+match_more None N M S T f g is = f is
+match_more (Some x) N M S T f g is = g x is
+
+pub was_none : {A : Type 0} (r : Option A) (N : Type 0) (S : A → Type 0) → r ≡ None → MatchOption r N S → N
+was_none None N S none is = is
+was_none (Some x) N S none is = absurd (cc none)
 
 -- one read more
 pub read_on : (index : ℕ) (old mid new : View) (image : Image) (result : Result PageRead DeviceFault) → Looks old mid image → Rules mid → Goes mid new result → Reads index mid new result → Looks old new image
@@ -52,11 +64,11 @@ not_ok (Ok x) some ok = absurd cc
 not_ok (Err e) some ok = absurd cc
 
 -- behind all bytes of a state none is awaited
-pub none_awaited : (bytes : List ℕ) (s : StateValue) → IsCheckpointOf s bytes → awaited bytes ≡ 0
-none_awaited bytes s is =
-    let few = (some_bodies bytes s is).1 in
+pub none_awaited : (version : Version) (bytes : List ℕ) (s : StateValue) → IsCheckpointOf version s bytes → awaited (as_present version bytes) ≡ 0
+none_awaited version bytes s is =
+    let few = (some_bodies version bytes s is).1 in
     let nothing : length (body_at 2 bytes) ≡ 0 = omega (arith, few, length-take 496 (drop (496 * 2) bytes), length-drop (496 * 2) bytes) in
-    ap (λ (b : List ℕ). awaited b) (sym (all_bodies bytes 2 few)) ∙ further_is_taken bytes s 2 is (omega arith) ∙ nothing
+    ap (λ (b : List ℕ). awaited (as_present version b)) (sym (all_bodies bytes 2 few)) ∙ further_is_taken version bytes s 2 is (omega arith) ∙ nothing
 
 -- a fault carried on is that fault
 pub carried : {T E : Type 0} (r : Result T E) (e : E) (Q : T → Type 0) (P : E → Type 0) → IsErr r × IsErrAnd r (λ f. f ≡ e) → P e → MatchResult r Q P

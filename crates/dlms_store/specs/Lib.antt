@@ -2,7 +2,6 @@ pub mod Active
 pub mod Cause
 pub mod Fault
 pub mod Fitting
-pub mod Form
 pub mod Going
 pub mod Image
 pub mod Layout
@@ -10,6 +9,5 @@ pub mod Page
 pub mod Ring
 pub mod Steady
 pub mod Store
-pub mod Versions
 pub mod World
 pub mod Writing

@@ -2,15 +2,20 @@
 use Rattle.std.specs.Prelude.{◌≡◌, ◌≢◌, ℕ, List, Result, OnOk, slice_set, ◌<◌, ◌≤◌, ◌⊎◌, ◌+◌, ◌++◌, length, [], replicate, true, false}
 use Rattle.dlms_pages.specs.Device.{View, Image, Outcome, page_at}
 use Rattle.dlms_pages.specs.Stops.{LeavesOnly}
-use Rattle.dlms_pages.specs.declared.device.PageRead.TheVariants.{Content}
+use Rattle.dlms_pages.specs.declared.device.PageRead.TheVariants.{Content, Damaged}
+use Rattle.dlms_pages.specs.declared.device.PageRead.{PageRead}
+use Rattle.dlms_journal.specs.declared.kind.PageKind.TheVariants.{Journal}
 use Rattle.dlms_pages.specs.declared.device.Pages.{Ghosts}
-use Rattle.dlms_profile.specs.Rows.{RowsValue}
+use Rattle.dlms_state.specs.StateValue.{StateValue}
 use Rattle.dlms_state.specs.Events.{captures}
 use Rattle.dlms_store.specs.Image.{IsRingPage, Spells, Stands, all_of}
-use Rattle.dlms_store.specs.declared.layout.TheConstants.{BODIES}
+use Rattle.dlms_store.specs.declared.layout.TheConstants.{BODIES, JOURNAL}
 use Rattle.dlms_state.specs.declared.event.Event.{Event}
 use Rattle.dlms_store.specs.declared.layout.Slot.{Slot}
 use Rattle.dlms_store.specs.declared.store.Store.{Store}
+use Rattle.dlms_store.specs.Page.{IsOf, next_of, present}
+use Rattle.dlms_store.specs.declared.page.Edition.{Edition}
+use Rattle.dlms_checkpoint.specs.declared.version.Version.TheVariants.{Columns, Rings}
 use Rattle.dlms_store.specs.Layout.{other_of, ring_place}
 use Rattle.dlms_store.specs.Store.{state_in}
 
@@ -34,7 +39,7 @@ pub record IsSettled {P A : Type 0} {ghosts : Ghosts P} (store : Store P A ghost
   pub spelled : base ++ all_of pages ≡ settled
   pub next : store.next ≡ length pages
   pub captured : length (captures base) + store.captured ≡ (state_in store).rows.next
-  pub device : Leaves (ghosts.view store.device) (Stands store.slot store.generation base pages)
+  pub device : Leaves (ghosts.view store.device) (Stands store.slot (present store.generation) base pages)
 
 -- ---- while a call writes
 
@@ -56,8 +61,8 @@ pub record Scribbled (gate : ℕ) (old : Image → Type 0) (image : Image) : Typ
   pub elsewhere : (k : ℕ) → (k ≤ gate) ⊎ (gate + BODIES < k) → page_at image k ≡ page_at before k
 
 -- bodies: anything behind this gate, and at last those of these bytes
-abbrev pub PutsBodies : {T E : Type 0} → ℕ → ℕ → List ℕ → View → View → Result T E → Type 0
-PutsBodies gate generation bytes old new result = Brings (Scribbled gate old.may_leave) (Spells gate generation bytes) old new result
+abbrev pub PutsBodies : {T E : Type 0} → ℕ → Edition → List ℕ → View → View → Result T E → Type 0
+PutsBodies gate edition bytes old new result = Brings (Scribbled gate old.may_leave) (Spells gate edition bytes) old new result
 
 -- so it is of each ring page from this one on, up to that one
 abbrev pub IsEachRingPage : (from to : ℕ) → (ℕ → Type 0) → Type 0
@@ -70,14 +75,37 @@ pub record RingScribbled (from to : ℕ) (old : Image → Type 0) (image : Image
   pub length_is : length image ≡ length before
   pub elsewhere : (place : ℕ) → IsEachRingPage from to (λ k. place ≢ ring_place k) → page_at image place ≡ page_at before place
 
--- ring pages: anything where they stand, and at last the rows of these
-abbrev pub PutsRing : {T E : Type 0} → (from to : ℕ) → RowsValue → View → View → Result T E → Type 0
-PutsRing from to rows old new result = Brings (RingScribbled from to old.may_leave) (λ image. IsEachRingPage from to (λ k. IsRingPage rows k (page_at image (ring_place k)))) old new result
+-- ring pages: anything where they stand, and at last the rows of this state
+abbrev pub PutsRing : {T E : Type 0} → (from to : ℕ) → StateValue → View → View → Result T E → Type 0
+PutsRing from to s old new result = Brings (RingScribbled from to old.may_leave) (λ image. IsEachRingPage from to (λ k. IsRingPage Columns s k (page_at image (ring_place k)))) old new result
 
--- the slot of before is active, or the other one, of the next generation and with an empty journal
-abbrev pub IsEither : Slot → ℕ → List Event → List (List Event) → List Event → Image → Type 0
-IsEither slot generation base pages events image = Stands slot generation base pages image ⊎ Stands (other_of slot) (generation + 1) events [] image
+-- the slot of before is active, or the other one, of the next edition and with an empty journal
+abbrev pub IsEither : Slot → Edition → List Event → List (List Event) → List Event → Image → Type 0
+IsEither slot edition base pages events image = Stands slot edition base pages image ⊎ Stands (other_of slot) (next_of edition) events [] image
 
 -- a slot: either is active, and at last the other one
-abbrev pub WritesSlot : {T E : Type 0} → Slot → ℕ → List Event → List (List Event) → List Event → View → View → Result T E → Type 0
-WritesSlot slot generation base pages events old new result = Brings (IsEither slot generation base pages events) (Stands (other_of slot) (generation + 1) events []) old new result
+abbrev pub WritesSlot : {T E : Type 0} → Slot → Edition → List Event → List (List Event) → List Event → View → View → Result T E → Type 0
+WritesSlot slot edition base pages events old new result = Brings (IsEither slot edition base pages events) (Stands (other_of slot) (next_of edition) events []) old new result
+
+-- ---- while a recovery clears the journal's first page
+
+-- a page that holds nothing: zeros, or damaged
+abbrev pub IsBare : PageRead → Type 0
+IsBare page = (page ≡ Content (replicate 512 0)) ⊎ (page ≡ Damaged)
+
+-- The image as it was, or, where the journal's first page is of the edition that comes next, with nothing there.
+abbrev pub IsBlanked : Edition → Image → Image → Type 0
+IsBlanked next old image = (image ≡ old) ⊎ (IsOf Journal 0 next (page_at old JOURNAL) × ((page : PageRead) × IsBare page × (image ≡ slice_set old JOURNAL page)))
+
+-- so that no page of that edition is left there
+pub record IsBlank (next : Edition) (old image : Image) : Type 0 where
+  pub blanked : IsBlanked next old image
+  pub none : IsOf Journal 0 next (page_at image JOURNAL) → ⊥
+
+-- what is of version 1 is cleared so before the next edition comes; what is of version 2 stays
+abbrev pub IsCleared : Edition → Image → Image → Type 0
+IsCleared edition old image = (image ≡ old) ⊎ ((edition.version ≡ Rings) × IsBlanked (next_of edition) old image)
+
+pub record IsClearOf (edition : Edition) (old image : Image) : Type 0 where
+  pub cleared : IsCleared edition old image
+  pub none : edition.version ≡ Rings → IsOf Journal 0 (next_of edition) (page_at image JOURNAL) → ⊥

@@ -10,6 +10,7 @@ mod numbers;
 mod open;
 mod page;
 mod put;
+mod renew;
 mod replay;
 mod ring_pages;
 mod slot;

@@ -10,7 +10,7 @@ ghost use Rattle.dlms_store.specs.declared.layout.TheConstants.{MOST_CAPTURED};
 
 use crate::layout::MOST_CAPTURED;
 use crate::numbers::{NUMBERS_END, has_number_for};
-use crate::page::payload_in;
+use crate::page::{Edition, payload_in};
 use dlms_journal::{PageKind, records_of};
 use dlms_pages::PageRead;
 use dlms_state::{Event, State};
@@ -71,23 +71,23 @@ fn take_all<A: Allocator + Copy>(state: &mut State<A>, bytes: &[u8])
     }
 }
 
-/// Takes the records of the journal page with this index and generation, behind a checkpoint before which so many rows were
+/// Takes the records of the journal page with this index and of this edition, behind a checkpoint before which so many rows were
 /// captured. A page that does not fit changes nothing.
 pub(crate) fn replay<A: Allocator + Copy>(
     state: &mut State<A>,
     page: &PageRead,
     index: u16,
-    generation: u64,
+    edition: Edition,
     checkpointed: u128,
 ) -> bool
     requires { checkpointed ≤ state.old.rows.next }
     ensures captured { IsTrue result → (state.old.rows.next ≤ state.new.rows.next) × (state.new.rows.next ≤ checkpointed + MOST_CAPTURED) }
     ensures events { HasEvents state.old → HasEvents state.new }
-    ensures taken { IsTrue result → (E : List EventOf) → IsStateOf E state.old → (F : List EventOf) × Records generation index F page.now × HasRing checkpointed (E ++ F) × IsStateOf (E ++ F) state.new }
-    ensures none { IsFalse result → (E F : List EventOf) → IsStateOf E state.old → Records generation index F page.now → IsLegal (E ++ F) → HasRing checkpointed (E ++ F) → ⊥ }
+    ensures taken { IsTrue result → (E : List EventOf) → IsStateOf E state.old → (F : List EventOf) × Records edition index F page.now × HasRing checkpointed (E ++ F) × IsStateOf (E ++ F) state.new }
+    ensures none { IsFalse result → (E F : List EventOf) → IsStateOf E state.old → Records edition index F page.now → IsLegal (E ++ F) → HasRing checkpointed (E ++ F) → ⊥ }
     ensures kept { IsFalse result → state.new ≡ state.old }
 {
-    let Some(bytes) = payload_in(page, PageKind::Journal, index, generation) else {
+    let Some(bytes) = payload_in(page, PageKind::Journal, index, edition) else {
         return false;
     };
     if !are_legal(state, bytes, checkpointed) {

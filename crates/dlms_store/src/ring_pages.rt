@@ -39,7 +39,7 @@ pub(crate) fn put_rings<P: Pages, A: Allocator + Copy>(
     requires room { PAGES ≤ length (P.view device.old).seen }
     requires named { IsEachRingPage first behind (IsNamed state.now.rows) }
     ensures goes { Goes (P.view device.old) (P.view device.new) result }
-    ensures puts { (P.view device.old).honest ≡ true → PutsRing first behind state.now.rows (P.view device.old) (P.view device.new) result }
+    ensures puts { (P.view device.old).honest ≡ true → PutsRing first behind state.now (P.view device.old) (P.view device.new) result }
 {
     if first >= behind {
         return Ok(());

@@ -16,6 +16,7 @@ use crate::layout::{JOURNAL, JOURNAL_PAGES, LAST_GENERATION, MOST_CAPTURED, PAGE
 use crate::numbers::{apply_counted, has_number_for};
 use crate::open::{Found, find, settle};
 use crate::put::put;
+use crate::renew::renew;
 use crate::slot::write_slot;
 use arrayvec::ArrayVec;
 use dlms_checkpoint::checkpoint_of;
@@ -50,7 +51,7 @@ impl<P: Pages, A: Allocator + Copy> Store<P, A> {
     ghost use Rattle.dlms_store.specs.Store.{view_of, state_in, records_in, IsStopped, IsRunning, IsTooSmall, IsLast, refusal_in, HasRoom, JoinsPending, AddIsExhausted, CommitIsExhausted, RoomIsExhausted, Remembers, Settles, Joins, JoinsAlone, Fails, IsElsewhereSame, IsRenewed};
     ghost use Rattle.dlms_store.specs.World.{StoreWorld};
     ghost use Rattle.dlms_store.specs.World.StoreWorld.{Runs, Rests};
-    ghost use Rattle.dlms_store.specs.Active.{HasMore, IsFound, IsFresh};
+    ghost use Rattle.dlms_store.specs.Active.{IsFound, IsFresh, IsStale};
     ghost use Rattle.dlms_store.specs.Cause.{IsCause};
     ghost use Rattle.dlms_store.specs.Image.{Quiet, StandsFor, all_of};
     ghost use Rattle.dlms_store.specs.Steady.{Fixes, FixesNothing, HasCheckpoint, IsRenewable, StandsBetween, Steady};
@@ -92,7 +93,8 @@ impl<P: Pages, A: Allocator + Copy> Store<P, A> {
     }
 
     /// Opens a device: syncs it, finds the newest checkpoint, and takes the journal's records up to the first page that
-    /// does not fit. Where there were records, or that page is damaged, a checkpoint is made.
+    /// does not fit. Where there were records, where that page is damaged, or where the pages are of an
+    /// older version, a checkpoint is made.
     pub fn open(alloc: A, device: P) -> Result<Self, (P, OpenFault)>
         ensures opens { (before : StoreWorld) → DeviceFits (P.view device) before
             → MatchResult result (OpensAs before (P.view device)) (λ e. GivesBack before (P.view device) (P.view e.0) e.1) }
@@ -128,7 +130,7 @@ impl<P: Pages, A: Allocator + Copy> Store<P, A> {
         requires captured { found.journal.captured ≤ MOST_CAPTURED }
         requires order { found.journal.captured ≤ found.state.rows.next }
         requires events { HasEvents found.state }
-        ensures opens { (image : Image) (base : List EventOf) (pages : List (List EventOf)) (events : List EventOf) → IsFixed (P.view device) image → IsFound image base pages found → base ++ all_of pages ≡ events → Quiet found.generation (length pages) image
+        ensures opens { (image : Image) (base : List EventOf) (pages : List (List EventOf)) (events : List EventOf) → IsFixed (P.view device) image → IsFound image base pages found → base ++ all_of pages ≡ events → Quiet found.edition.generation (length pages) image
             → MatchResult result (OpensAs (Rests events) (P.view device)) (λ e. GivesBack (Rests events) (P.view device) (P.view e.0) e.1) }
         ensures remembers { (events : List EventOf) → IsStateOf events found.state → IfOk result (Remembers events []) }
         ensures fresh { IfOk result (IsFresh found) }
@@ -137,27 +139,44 @@ impl<P: Pages, A: Allocator + Copy> Store<P, A> {
             → MatchResult result (λ store. Steady (base ++ all_of pages) (P.view device) (view_of store)) (λ e. Steady (base ++ all_of pages) (P.view device) (P.view e.0)) }
         ensures runs { IfOk result (λ store. IsStopped store → ⊥) }
         ensures device { IfErr result (λ e. e.1 ≡ OpenFault.Device → Rose (P.view device).faults (P.view e.0).faults) }
-        ensures exhausted { IfErr result (λ e. e.1 ≡ OpenFault.Exhausted → (found.generation ≡ LAST_GENERATION) × HasMore found.journal) }
+        ensures exhausted { IfErr result (λ e. e.1 ≡ OpenFault.Exhausted → (found.edition.generation ≡ LAST_GENERATION) × IsStale found) }
         ensures faults { IfErr result (λ e. (e.1 ≡ OpenFault.Device) ⊎ (e.1 ≡ OpenFault.Exhausted)) }
     {
-        let is_due = found.journal.pages > 0 || found.journal.torn;
-        let mut store = Store {
-            device,
-            state: found.state,
-            pending: ArrayVec::new(),
-            slot: found.slot,
-            generation: found.generation,
-            next: found.journal.pages,
-            captured: found.journal.captured,
-            stopped: false,
-        };
-        if !is_due {
-            return Ok(store);
+        let mut device = device;
+        if !found.is_due() {
+            return Ok(Store::at(device, found.slot, found.edition.generation, found.state));
         }
-        match store.checkpoint() {
-            Ok(()) => Ok(store),
-            Err(StoreFault::Exhausted) => Err((store.device, OpenFault::Exhausted)),
-            Err(_) => Err((store.device, OpenFault::Device)),
+        match renew(&mut device, &found) {
+            Ok(()) => {
+                let slot = found.slot.other();
+                let generation = found.edition.generation + 1;
+                Ok(Store::at(device, slot, generation, found.state))
+            }
+            Err(fault) => Err((device, fault)),
+        }
+    }
+
+    // A running store with nothing pending and an empty journal.
+    fn at(device: P, slot: Slot, generation: u64, state: State<A>) -> Self
+        requires { PAGES ≤ length (P.view device).seen }
+        ensures device { result.device ≡ device }
+        ensures state { state_in result ≡ state }
+        ensures slot { result.slot ≡ slot }
+        ensures generation { result.generation ≡ generation }
+        ensures runs { result.stopped ≡ false }
+        ensures empty { records_in result ≡ [] }
+        ensures next { result.next ≡ 0 }
+        ensures captured { result.captured ≡ 0 }
+    {
+        Store {
+            device,
+            state,
+            pending: ArrayVec::new(),
+            slot,
+            generation,
+            next: 0,
+            captured: 0,
+            stopped: false,
         }
     }
 

@@ -7,7 +7,7 @@ use Rattle.dlms_apdu.specs.declared.fault.Refusal.{Refusal}
 use Rattle.dlms_apdu.specs.Writing.{response_bytes, IsShort}
 use Rattle.dlms_apdu.proofs.WholeLaws.{reads_written_requests, reads_written_responses}
 use Rattle.dlms_classes.specs.Access.{object_named, number_of}
-use Rattle.dlms_classes.specs.Shown.{IsTable, cells, IsRange as ShownRange}
+use Rattle.dlms_classes.specs.Shown.{IsTable, cells, clock_place, IsRange as ShownRange}
 use Rattle.dlms_classes.specs.declared.access.AccessResult.{AccessResult}
 use Rattle.dlms_classes.specs.declared.access.AccessResult.TheVariants.{TemporaryFailure}
 use Rattle.dlms_data.specs.Value.{Value, octet_string}
@@ -21,12 +21,12 @@ use Rattle.dlms_service.specs.Session.{SessionValue, Outcome, says, without_get,
 use Rattle.dlms_classes.specs.Answer.{IsShown, IsSendable, wanted}
 use Rattle.dlms_service.specs.Shown.{Gives, sent, no_selection, asked}
 use Rattle.dlms_service.specs.declared.association.Association.{Association}
-use Rattle.dlms_state.specs.Events.{buffer_after}
+use Rattle.dlms_state.specs.Events.{buffer_after, columns_after}
 use Rattle.dlms_state.specs.StateValue.{state_of}
 use Rattle.dlms_state.specs.declared.event.Event.{Event}
 use Rattle.dlms_service.specs.Stake.{stake_of, fails, failing}
 use Rattle.dlms_meter.specs.Run.{Choice, Served, DeviceFails, Does}
-use Rattle.dlms_world.specs.World.{GivesData, GivesDataBy}
+use Rattle.dlms_world.specs.World.{GivesData, GivesDataBy, rows_between}
 use Rattle.dlms_world.proofs.Tables.{one_second}
 use Rattle.dlms_data.specs.declared.date_time.TheConstants.{LAST_SECOND}
 
@@ -66,13 +66,13 @@ whole_range : (second : ℕ) (value : Value) (r : IsRange second value) → valu
 whole_range second value r = r.is ∙ ap (λ v. range v r.last) r.from_first.value ∙ ap (λ v. range (octet_string r.from_first.octets) v) r.to_last.value
 
 shows_range : (E : List Event) (first last : List ℕ) (v : Value) → length first ≡ 12 → length last ≡ 12 →
-    IsShown (state_of E) Management buffer (wanted Management buffer (Some (record { number = 1; value = range (octet_string first) (octet_string last) }))) (Ok v) → ShownRange first last (buffer_after E) v
+    IsShown (state_of E) Management buffer (wanted Management buffer (Some (record { number = 1; value = range (octet_string first) (octet_string last) }))) (Ok v) → ShownRange (columns_after E) first last (buffer_after E) v
 unfolding object_named
-shows_range E first last v size_first size_last shown = rw (size_first, size_last) at shown
+shows_range E first last v size_first size_last shown = (rw (size_first, size_last) at shown).1
 
 -- the meter shows the buffer's rows between the two seconds
 wants : (E : List Event) (client : Client) (b : Bool) (second : ℕ) (value v : Value) → IsRange second value → IsShown (state_of E) client buffer (wanted client buffer (if b then Some (record { number = 1; value = value }) else Some no_selection)) (Ok v) →
-    IsTable (map cells (in_range second LAST_SECOND (buffer_after E))) v
+    IsTable (map (cells (columns_after E)) (rows_between (clock_place (columns_after E)) second LAST_SECOND (buffer_after E))) v
 unfolding object_named
 wants E Public true second value v r shown = cc
 wants E Public false second value v r shown = cc
@@ -80,12 +80,14 @@ wants E Management false second value v r shown = cc
 wants E Management true second value v r shown =
     let one : List ℕ = r.from_first.octets in
     let two : List ℕ = r.to_last.octets in
-    let is : ShownRange one two (buffer_after E) v =
+    let columns : List ℕ = columns_after E in
+    let is : ShownRange columns one two (buffer_after E) v =
     shows_range E one two v r.from_first.names.size r.to_last.names.size
     (subst (λ x. IsShown (state_of E) Management buffer (wanted Management buffer (Some (record { number = 1; value = x }))) (Ok v)) (whole_range second value r) shown) in
     let from : is.from ≡ second = one_second one is.from second is.names_from r.from_first.names in
     let to : is.to ≡ LAST_SECOND = one_second two is.to LAST_SECOND is.names_to r.to_last.names in
-    subst (λ a. IsTable (map cells (in_range a LAST_SECOND (buffer_after E))) v) from (subst (λ b. IsTable (map cells (in_range is.from b (buffer_after E))) v) to is.value)
+    subst (λ p. IsTable (map (cells columns) (rows_between p second LAST_SECOND (buffer_after E))) v) (sym is.is_column)
+    (subst (λ a. IsTable (map (cells columns) (in_range is.place a LAST_SECOND (buffer_after E))) v) from (subst (λ b. IsTable (map (cells columns) (in_range is.place is.from b (buffer_after E))) v) to is.value))
 
 -- ---- the whole GET
 
@@ -113,7 +115,7 @@ pub record GaveTable (second : ℕ) (E : List Event) (s : SessionValue) (o : Out
   pub v : Value
   pub sendable : IsSendable v
   pub outcome : o ≡ sent (without_get s) a invoke v
-  pub table : IsTable (map cells (in_range second LAST_SECOND (buffer_after E))) v
+  pub table : IsTable (map (cells (columns_after E)) (rows_between (clock_place (columns_after E)) second LAST_SECOND (buffer_after E))) v
 
 pub read_result : (r : ℕ) → response_at (response_bytes (get_result invoke r)) ≡ Ok (get_result invoke r)
 read_result r = reads_written_responses (get_result invoke r) tt tt

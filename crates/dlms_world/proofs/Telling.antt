@@ -18,16 +18,16 @@ use Rattle.dlms_headend.specs.Poll.{Accepts, Asks, associates, gets, goes_on as 
 use Rattle.dlms_headend.specs.Rows.{IsProfile, IsEncoded}
 use Rattle.dlms_headend.specs.declared.row.Row.{Row}
 use Rattle.dlms_meter.specs.Transfers.{Exchange, Asked, InTurn}
-use Rattle.dlms_profile.specs.Rows.{in_range}
 use Rattle.dlms_meter.specs.Run.{Does}
 use Rattle.dlms_service.specs.Stake.{is_success}
 use Rattle.dlms_service.specs.Session.{SessionValue, Outcome, HasSize, says, without_get, has, blocks_with_get, fresh}
 use Rattle.dlms_service.specs.Shown.{in_blocks}
-use Rattle.dlms_state.specs.Events.{buffer_after}
+use Rattle.dlms_state.specs.Events.{buffer_after, columns_after}
 use Rattle.dlms_state.specs.declared.event.Event.{Event}
-use Rattle.dlms_world.specs.World.{GivesData, rows_asked}
+use Rattle.dlms_world.specs.World.{GivesData, rows_asked, rows_between}
+use Rattle.dlms_classes.specs.Shown.{clock_place}
 use Rattle.dlms_world.specs.Told.{Talks, IsTold, AnswersTell}
-use Rattle.dlms_world.proofs.Tables.{table_is_profile, range_has_three}
+use Rattle.dlms_world.proofs.Tables.{table_is_profile, range_has}
 use Rattle.dlms_world.proofs.Gets.{GaveTable, gets_tell, no_data, read_result}
 use Rattle.dlms_world.proofs.Sized.{association_sized}
 use Rattle.dlms_world.proofs.Following.{IsSent, follow, block_read, given_blocks, spells_data, more_data, not_both, has_count, blocks_append}
@@ -36,7 +36,7 @@ use Rattle.dlms_data.specs.declared.date_time.TheConstants.{LAST_SECOND}
 -- a value that shows the rows, and is what the poll read
 told_value : (plan : PlanValue) (E : List Event) (s : SessionValue) (o : Outcome) (g : GaveTable (first_second plan.after) E s o) (rows : List Row) → IsProfile g.v rows → rows ≡ rows_asked plan E
 told_value plan E s o g rows is =
-    table_is_profile (in_range (first_second plan.after) LAST_SECOND (buffer_after E)) g.v rows (range_has_three (first_second plan.after) LAST_SECOND E) g.table is
+    table_is_profile (columns_after E) (rows_between (clock_place (columns_after E)) (first_second plan.after) LAST_SECOND (buffer_after E)) g.v rows (range_has (clock_place (columns_after E)) (first_second plan.after) LAST_SECOND E) g.table is
 
 told_encoding : (plan : PlanValue) (E : List Event) (s : SessionValue) (o : Outcome) (g : GaveTable (first_second plan.after) E s o) (rows : List Row) → IsEncoded (canonical g.v) rows → rows ≡ rows_asked plan E
 told_encoding plan E s o g rows is =

@@ -1,5 +1,5 @@
 -- The whole world: a meter over its store, a poller, the line between them, and the readings file.
-use Rattle.std.specs.Prelude.{◌≡◌, ℕ, false, List, [], ◌∷◌, ◌++◌, map, filter, nat_le, Bool, Result, Ok}
+use Rattle.std.specs.Prelude.{◌≡◌, ℕ, false, List, [], ◌∷◌, ◌++◌, map, filter, nat_le, drop, slice_index, Bool, Option, Some, None, Result, Ok}
 use Rattle.dlms_apdu.specs.Forms.{ResponseForm, get_data, get_block}
 use Rattle.dlms_apdu.specs.Reading.{response_at}
 use Rattle.dlms_apdu.specs.declared.fault.Refusal.{Refusal}
@@ -14,7 +14,8 @@ use Rattle.dlms_meter.specs.Transfers.{Exchange}
 use Rattle.dlms_profile.specs.Rows.{in_range}
 use Rattle.dlms_profile.specs.declared.rows.Row.{Row as Captured}
 use Rattle.dlms_service.specs.Session.{SessionValue, fresh}
-use Rattle.dlms_state.specs.Events.{captures, row_after, buffer_after}
+use Rattle.dlms_classes.specs.Shown.{clock_place}
+use Rattle.dlms_state.specs.Events.{captures, columns_after, row_after, buffer_after}
 use Rattle.dlms_state.specs.Refusal.{IsLegal}
 use Rattle.dlms_state.specs.declared.event.Event.{Event}
 use Rattle.dlms_store.specs.World.{StoreWorld as Memory, StoreStep, StoreRun}
@@ -93,21 +94,32 @@ GivesData apdu = GivesDataBy (response_at apdu)
 
 -- ---- rows
 
--- a capture, as the readings have it
+-- a capture, as the readings have it: its first value is the clock, and the others are the registers. Of rows of other columns than
+-- the clock and three registers the poll reads none.
 abbrev pub reading_of : Captured → Row
-reading_of row = record { clock = row.clock; registers = row.registers }
+reading_of row = record { clock = slice_index row.values.items 0; registers = drop 1 row.values.items }
 
 -- the readings of all captures of these events
 abbrev pub all_readings : List Event → List Row
 all_readings E = map reading_of (map row_after (captures E))
 
+-- the rows whose clock lies between two seconds, where the clock stands at this place; none where it is no column
+abbrev pub rows_between : Option ℕ → (first last : ℕ) → List Captured → List Captured
+rows_between None first last rows = []
+rows_between (Some place) first last rows = in_range place first last rows
+
+-- the rows whose clock is at least this second
+abbrev pub rows_since : Option ℕ → (first : ℕ) → List Captured → List Captured
+rows_since None first rows = []
+rows_since (Some place) first rows = filter (λ row. nat_le first (slice_index row.values.items place)) rows
+
 -- the buffer's rows from this second on, to the last of the clock
 abbrev pub rows_from : ℕ → List Event → List Row
-rows_from second E = map reading_of (in_range second LAST_SECOND (buffer_after E))
+rows_from second E = map reading_of (rows_between (clock_place (columns_after E)) second LAST_SECOND (buffer_after E))
 
 -- all of its rows from this second on
 abbrev pub all_rows_from : ℕ → List Event → List Row
-all_rows_from second E = map reading_of (filter (λ row. nat_le second row.clock) (buffer_after E))
+all_rows_from second E = map reading_of (rows_since (clock_place (columns_after E)) second (buffer_after E))
 
 -- what a poll by this plan asks for, where the meter takes its GET after these events
 abbrev pub rows_asked : PlanValue → List Event → List Row

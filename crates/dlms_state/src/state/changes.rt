@@ -1,13 +1,15 @@
 //! What each event does to a state. `apply` calls one of these, and the proofs tie it to the list of events.
-ghost use Rattle.std.specs.Prelude.{◌≡◌, ◌<◌, ◌≤◌, ◌^◌, None};
+ghost use Rattle.std.specs.Prelude.{◌≡◌, ◌<◌, ◌≤◌, ◌^◌, None, true};
 ghost use Rattle.arrayvec.specs.ArrayVec.{array_vec_len};
 ghost use Rattle.dlms_state.specs.Refusal.{refusal};
+ghost use Rattle.dlms_state.specs.Columns.{fits_columns};
 ghost use Rattle.dlms_state.specs.declared.event.TheConstants.{LONGEST_PERIOD};
 
 use crate::clock::passes;
+use crate::columns::row_of;
+use crate::event::{MOST_COLUMNS, SecretOf};
 use crate::state::State;
 use arrayvec::ArrayVec;
-use dlms_profile::Row;
 use std::alloc::Allocator;
 
 impl<A: Allocator + Copy> State<A> {
@@ -70,11 +72,22 @@ impl<A: Allocator + Copy> State<A> {
         self.text = text;
     }
 
-    pub(super) fn set_secret(&mut self, secret: ArrayVec<u8, 16>)
+    pub(super) fn set_secret(&mut self, of: SecretOf, secret: ArrayVec<u8, 16>)
         requires { 0 < array_vec_len secret }
-        ensures { self.new ≡ step (Event.SetSecret secret) self.old }
+        ensures { self.new ≡ step (Event.SetSecret of secret) self.old }
     {
-        self.secret = secret;
+        match of {
+            SecretOf::Management => self.secret = secret,
+            SecretOf::Reader => self.reader_secret = secret,
+        }
+    }
+
+    pub(super) fn set_columns(&mut self, ids: ArrayVec<u8, MOST_COLUMNS>)
+        requires { fits_columns ids.items ≡ true }
+        ensures { self.new ≡ step (Event.SetColumns ids) self.old }
+    {
+        self.columns = ids;
+        self.rows.clear();
     }
 
     pub(super) fn reset_register(&mut self, channel: u8)
@@ -95,7 +108,7 @@ impl<A: Allocator + Copy> State<A> {
         ensures { self.new ≡ step Event.Capture self.old }
     {
         let clock = self.clock.second();
-        let registers = self.registers;
-        self.rows.push(Row { clock, registers });
+        let row = row_of(self.columns.as_slice(), clock, self.registers);
+        self.rows.push(row);
     }
 }

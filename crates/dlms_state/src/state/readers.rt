@@ -1,15 +1,17 @@
 //! What a state holds. Each reader's value is that of the definitions, for every list of events that leaves the state.
-ghost use Rattle.std.specs.Prelude.{◌≡◌, ◌<◌, ◌≤◌, ◌-◌, ◌^◌, List, All, length};
-ghost use Rattle.dlms_state.specs.declared.event.TheConstants.{LAST_SECOND, LONGEST_PERIOD};
-ghost use Rattle.dlms_state.specs.Events.{clock_at, registers_after, clock_after, moment_after, offset_after, period_after, text_after, secret_after, buffer_after, captures};
+ghost use Rattle.std.specs.Prelude.{◌≡◌, ◌<◌, ◌≤◌, ◌-◌, ◌^◌, List, All, length, true};
+ghost use Rattle.dlms_state.specs.declared.event.TheConstants.{LAST_SECOND, LONGEST_PERIOD, MOST_COLUMNS};
+ghost use Rattle.dlms_state.specs.Events.{clock_at, registers_after, clock_after, moment_after, offset_after, period_after, text_after, secret_after, columns_after, buffer_after, captures};
 
+use crate::event::SecretOf;
 use crate::state::State;
 use dlms_profile::Rows;
 use std::alloc::Allocator;
 
 impl<A: Allocator + Copy> State<A> {
     ghost use Rattle.dlms_state.specs.declared.event.Event.{Event};
-    ghost use Rattle.dlms_state.specs.StateValue.{IsStateOf};
+    ghost use Rattle.dlms_state.specs.StateValue.{IsStateOf, secret_of};
+    ghost use Rattle.dlms_state.specs.Columns.{fits_columns, IsRowOf};
     ghost use Rattle.dlms_profile.specs.Rows.{first_number};
 
     /// The three registers: Wh imported, Wh exported, varh.
@@ -63,21 +65,34 @@ impl<A: Allocator + Copy> State<A> {
         self.text.as_slice()
     }
 
-    /// Management's secret, 1 to 16 bytes.
-    pub fn secret(&self) -> &[u8]
-        ensures value { result.now ≡ self.now.secret }
-        ensures after { (E : List Event) → IsStateOf E self.now → result.now ≡ secret_after E }
-        ensures not_empty { 0 < length self.now.secret }
-        ensures limit { length self.now.secret ≤ 16 }
+    /// A client's secret, 1 to 16 bytes.
+    pub fn secret(&self, of: SecretOf) -> &[u8]
+        ensures value { result.now ≡ secret_of of self.now }
+        ensures after { (E : List Event) → IsStateOf E self.now → result.now ≡ secret_after of E }
+        ensures not_empty { 0 < length result.now }
+        ensures limit { length result.now ≤ 16 }
     {
-        self.secret.as_slice()
+        match of {
+            SecretOf::Management => self.secret.as_slice(),
+            SecretOf::Reader => self.reader_secret.as_slice(),
+        }
+    }
+
+    /// The columns of a row, in their order: 0 is the clock, 1 to 3 are the registers 0 to 2. One to four of them, none twice.
+    pub fn columns(&self) -> &[u8]
+        ensures value { result.now ≡ self.now.columns }
+        ensures after { (E : List Event) → IsStateOf E self.now → result.now ≡ columns_after E }
+        ensures fit { fits_columns result.now ≡ true }
+        ensures limit { length result.now ≤ MOST_COLUMNS }
+    {
+        self.columns.as_slice()
     }
 
     /// The load profile's buffer.
     pub fn rows(&self) -> &Rows<A>
         ensures value { result.now ≡ self.now.rows }
         ensures after { (E : List Event) → IsStateOf E self.now → result.now.items ≡ buffer_after E }
-        ensures clocks { All (λ row. row.clock ≤ LAST_SECOND) self.now.rows.items }
+        ensures columns { All (IsRowOf self.now.columns) self.now.rows.items }
     {
         &self.rows
     }

@@ -1,5 +1,12 @@
-use Rattle.dlms_classes.proofs.Matching.{clocks_in_range}
+use Rattle.std.proofs.Common.{◌∙◌}
+use Rattle.dlms_profile.specs.Rows.{in_range}
+use Rattle.dlms_classes.proofs.Matching.{rows_in_range, all_of_found}
 use Rattle.dlms_classes.proofs.rows.between.Goals as goal
 
-pub table_of-requires-clause-older_clocks : goal.table_of-requires-clause-older_clocks
-table_of-requires-clause-older_clocks g c = rw (c.as_slice.ensures.value, c.in_ok-found.ensures) (clocks_in_range c.args.from c.args.to c.args.rows.now.items c.requires)
+pub table_of-requires-clause-older : goal.table_of-requires-clause-older
+table_of-requires-clause-older g c =
+    rw (c.as_slice.ensures.value, c.in_ok-found.ensures) (rows_in_range c.args.columns.now c.args.place c.args.from c.args.to c.args.rows.now.items c.requires.rows)
+
+pub returns : goal.returns
+returns g c =
+    rw (← all_of_found c.args.columns.now c.as_slice.result.now (in_range c.args.place c.args.from c.args.to c.args.rows.now.items) (c.as_slice.ensures.value ∙ c.in_ok-found.ensures)) c.table_of.ensures

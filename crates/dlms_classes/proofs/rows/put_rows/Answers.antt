@@ -5,4 +5,5 @@ use Rattle.dlms_classes.proofs.rows.put_rows.Goals as goal
 
 pub loop-row-preserved : goal.loop-row-preserved
 loop-row-preserved g c = λ done h.
-    rows_more IsRow (λ row. slice_range (cells row) c.args.first c.args.end) c.args.rows.now c.loop-row.row-index _ done c.loop-row.items c.push.new.self _ c.loop-row-test.true c.in_ok-push.ensures.ok (c.loop-row.invariant done h) c.in_ok-row_of.ensures
+    rows_more IsRow (λ row. slice_range (cells c.args.columns.now row) c.args.first c.args.end) c.args.rows.now c.loop-row.row-index c.row-item.result done c.loop-row.items c.push.new.self _ c.loop-row-test.true
+    c.in_ok-push.ensures.ok (c.loop-row.invariant done h) (rw (← c.row-item.is) c.in_ok-row_of.ensures)

@@ -6,4 +6,4 @@ use Rattle.dlms_classes.proofs.rows.table_of.Goals as goal
 pub returns : goal.returns
 returns g c =
     let one = c.in_ok-put_rows.ensures [] (rw c.in_ok-items.ensures tt) in
-    rw map-append (c.in_ok-put_rows-2.ensures (map (λ row. slice_range (cells row) c.args.first c.args.end) c.args.older.now) one)
+    rw map-append (c.in_ok-put_rows-2.ensures (map (λ row. slice_range (cells c.args.columns.now row) c.args.first c.args.end) c.args.older.now) one)

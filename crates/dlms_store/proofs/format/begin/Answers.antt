@@ -6,7 +6,11 @@ use Rattle.dlms_store.specs.Image.{Spells, Stands}
 use Rattle.dlms_state.specs.StateValue.{state_of}
 use Rattle.dlms_checkpoint.specs.Checkpoint.{checkpoint_bytes}
 use Rattle.dlms_checkpoint.proofs.Places.{bytes_are}
+use Rattle.dlms_state.proofs.Legal.{IsLegal-none}
+use Rattle.dlms_state.proofs.Limits.{IsWithinLimits-legal}
+use Rattle.dlms_state.proofs.Types.{FitsTypes-legal}
 use Rattle.dlms_store.specs.declared.layout.TheConstants.{PAGES}
+use Rattle.dlms_store.specs.Page.{present}
 use Rattle.dlms_store.specs.Writing.{Scribbled}
 use Rattle.dlms_store.proofs.Images.{made_gate}
 use Rattle.dlms_store.proofs.Starting.{started}
@@ -24,6 +28,6 @@ returns-clause-starts g c spelled clear =
     let page = Content c.page_of-open.result in
     let room : PAGES ≤ length v1.seen = omega (arith, c.in_ok-put_bodies.ensures.goes.count, c.requires.room) in
     let scribbled = subst (λ (k : ℕ). Scribbled k v0.may_leave v1.seen) gate_is (p1.after v1.seen r1.seen) in
-    let spells = subst (λ (k : ℕ). Spells k 1 (checkpoint_bytes (state_of [])) v1.seen) gate_is (subst (λ (b : List ℕ). Spells c.gate-gate.result 1 b v1.seen) spelled (p1.at_last v1.seen r1.seen)) in
-    let new = started v0.may_leave v1.seen page (checkpoint_bytes (state_of [])) clear.each room scribbled (made_gate c.page_of-open.result _ 1 c.page_of-open.ensures) (bytes_are (state_of [])) spells in
-    on_ok_weaker c.put.result (λ d. record { honest = c.put.ensures.goes.honest ∙ h1; each = λ image left. subst (Stands First 1 [] []) (sym (d image left ∙ ap (λ (k : ℕ). set v1.seen k page) gate_is)) new }) (c.put.ensures.puts h1).at_last
+    let spells = subst (λ (k : ℕ). Spells k (present 1) (checkpoint_bytes (state_of [])) v1.seen) gate_is (subst (λ (b : List ℕ). Spells c.gate-gate.result (present 1) b v1.seen) spelled (p1.at_last v1.seen r1.seen)) in
+    let new = started v0.may_leave v1.seen page (checkpoint_bytes (state_of [])) clear.each room scribbled (made_gate c.page_of-open.result _ 1 c.page_of-open.ensures) (bytes_are (state_of []) (IsWithinLimits-legal [] IsLegal-none).rows (FitsTypes-legal [] IsLegal-none).order) spells in
+    on_ok_weaker c.put.result (λ d. record { honest = c.put.ensures.goes.honest ∙ h1; each = λ image left. subst (Stands First (present 1) [] []) (sym (d image left ∙ ap (λ (k : ℕ). set v1.seen k page) gate_is)) new }) (c.put.ensures.puts h1).at_last

@@ -1,8 +1,11 @@
 use Rattle.std.proofs.Common.{◌∙◌, ◌+◌, ◌≡◌, None, Some, inl, inr, ℕ, List, ap, subst, sym, arith, refl}
 use Rattle.dlms_pages.proofs.Moments.{looks_read, looks_on}
 use Rattle.dlms_journal.specs.declared.kind.PageKind.TheVariants.{Body}
-use Rattle.dlms_checkpoint.specs.Bodies.{first_fault}
-use Rattle.dlms_checkpoint.specs.Reading.{Filled}
+use Rattle.dlms_state.specs.StateValue.{StateValue}
+use Rattle.dlms_checkpoint.specs.Bodies.{awaited, first_fault}
+use Rattle.dlms_checkpoint.specs.Layouts.{IsCheckpointOf, as_present}
+use Rattle.dlms_checkpoint.specs.Reading.{Filled, Taken}
+use Rattle.dlms_checkpoint.specs.declared.version.Version.{Version}
 use Rattle.dlms_store.specs.Cause.{AllFit, IsBodyFault, IsUnfit}
 use Rattle.dlms_store.specs.Layout.{gate_of}
 use Rattle.dlms_store.proofs.Causes.{IsOfPage, first_fits, first_unfit, no_state, of_page, unended}
@@ -53,7 +56,7 @@ returns-in_default-clause-cause g c image fixed =
     let place : c.gate-first.result + 1 ≡ gate + 1 = ap (λ (k : ℕ). k + 1) c.gate-first.ensures.value in
     let page = c.in_ok-page.page in
     let same = page_there (c.gate-first.result + 1) (gate + 1 + 0) (g.P.Pages.view c.args.device.now) image page fixed (g.met.P.Pages.rules c.args.device.now fixed.honest) (c.in_ok-page.ensures.page fixed.honest).page (omega (arith, place)) in
-    inr (c.gate-first.result + 1, refl, inl (first_unfit gate c.args.generation image 0 (c.gate-first.result + 1) page same (omega (arith, place)) (λ body has _. c.in_default.ensures body has)))
+    inr (c.gate-first.result + 1, refl, inl (first_unfit gate c.args.edition image 0 (c.gate-first.result + 1) page same (omega (arith, place)) (λ body has _. c.in_default.ensures body has)))
 
 pub returns-in_default-begin-clause-cause : goal.returns-in_default-begin-clause-cause
 returns-in_default-begin-clause-cause g c image fixed =
@@ -64,10 +67,10 @@ returns-in_default-begin-clause-cause g c image fixed =
     inr (
       c.gate-first.result + 1,
       refl,
-      inl (first_unfit gate c.args.generation image 0 (c.gate-first.result + 1) page same (omega (arith, place))
+      inl (first_unfit gate c.args.edition image 0 (c.gate-first.result + 1) page same (omega (arith, place))
           (λ body has first.
-          let other = one_payload Body 0 c.args.generation c.in-Some.body.now body page c.in-Some.ensures has in
-          some_none c.in_default-begin.field-0 (sym (subst (λ (b : List ℕ). first_fault b ≡ None) (sym other) first) ∙ c.in_default-begin.ensures))),
+          let other = one_payload Body 0 c.args.edition c.args.edition c.in-Some.body.now body page c.in-Some.ensures has in
+          some_none c.in_default-begin.field-0 (sym (subst (λ (b : List ℕ). first_fault c.args.edition.version b ≡ None) (sym other) first) ∙ c.in_default-begin.ensures))),
     )
 
 pub returns-in_err-look_at_further_bodies-clause-cause : goal.returns-in_err-look_at_further_bodies-clause-cause
@@ -79,11 +82,11 @@ returns-in_err-look_at_further_bodies-clause-cause g c image fixed =
     let place : c.gate-first.result + 1 ≡ gate + 1 = ap (λ (k : ℕ). k + 1) c.gate-first.ensures.value in
     let page = c.in_ok-page.page in
     let same = page_there (c.gate-first.result + 1) (gate + 1 + 0) (g.P.Pages.view c.args.device.now) image page fixed (g.met.P.Pages.rules c.args.device.now fixed.honest) (c.in_ok-page.ensures.page fixed.honest).page (omega (arith, place)) in
-    let first = first_fits gate c.args.generation image page c.in-Some.body.now c.in-Ok.restoring same c.in-Some.ensures c.in-Ok.ensures.0 c.in-Ok.ensures.1 in
+    let first = first_fits gate c.args.edition image page c.in-Some.body.now c.in-Ok.restoring.bytes same c.in-Some.ensures c.in-Ok.ensures.0 (ap (λ (t : Taken). t.bytes) c.in-Ok.ensures.1) in
     let fault = c.in_err-look_at_further_bodies.field-0.0 in
     let told = c.in_err-look_at_further_bodies.ensures.cause image gate place one.fixed first in
-    carried c.from_residual-in_err-look_at_further_bodies.result fault (λ refilling. AllFit gate c.args.generation refilling.bytes image) (IsOfPage (IsBodyFault gate c.args.generation image)) c.from_residual-in_err-look_at_further_bodies.ensures
-    (of_page fault (IsUnfit gate c.args.generation image) (IsBodyFault gate c.args.generation image) (λ _ unfit. inl unfit) told)
+    carried c.from_residual-in_err-look_at_further_bodies.result fault (λ refilling. (bytes : List ℕ) × (refilling.bytes ≡ as_present c.args.edition.version bytes) × AllFit gate c.args.edition bytes image) (IsOfPage (IsBodyFault gate c.args.edition image)) c.from_residual-in_err-look_at_further_bodies.ensures
+    (of_page fault (IsUnfit gate c.args.edition image) (IsBodyFault gate c.args.edition image) (λ _ unfit. inl unfit) told)
 
 pub returns-then-awaited-ne0-clause-cause : goal.returns-then-awaited-ne0-clause-cause
 returns-then-awaited-ne0-clause-cause g c image fixed =
@@ -94,9 +97,9 @@ returns-then-awaited-ne0-clause-cause g c image fixed =
     let place : c.gate-first.result + 1 ≡ gate + 1 = ap (λ (k : ℕ). k + 1) c.gate-first.ensures.value in
     let page = c.in_ok-page.page in
     let same = page_there (c.gate-first.result + 1) (gate + 1 + 0) (g.P.Pages.view c.args.device.now) image page fixed (g.met.P.Pages.rules c.args.device.now fixed.honest) (c.in_ok-page.ensures.page fixed.honest).page (omega (arith, place)) in
-    let first = first_fits gate c.args.generation image page c.in-Some.body.now c.in-Ok.restoring same c.in-Some.ensures c.in-Ok.ensures.0 c.in-Ok.ensures.1 in
+    let first = first_fits gate c.args.edition image page c.in-Some.body.now c.in-Ok.restoring.bytes same c.in-Some.ensures c.in-Ok.ensures.0 (ap (λ (t : Taken). t.bytes) c.in-Ok.ensures.1) in
     let all = c.in_ok-look_at_further_bodies.ensures.cause image gate place one.fixed first in
-    inr (c.gate-first.result + 1, refl, inr (no_state gate c.args.generation image (c.gate-first.result + 1) _ all place (unended _ (λ none. c.if-awaited-ne0.true (c.awaited.ensures ∙ none)))))
+    inr (c.gate-first.result + 1, refl, inr (no_state gate c.args.edition image (c.gate-first.result + 1) _ all place (unended c.args.edition.version _ (λ none. c.if-awaited-ne0.true (c.awaited.ensures ∙ ap (λ (v : Version). awaited (as_present v c.look_at_further_bodies.new.restoring.bytes)) c.look_at_further_bodies.ensures.version ∙ none)))))
 
 pub returns-in-Some-joined-clause-cause : goal.returns-in-Some-joined-clause-cause
 returns-in-Some-joined-clause-cause g c image fixed =
@@ -107,9 +110,9 @@ returns-in-Some-joined-clause-cause g c image fixed =
     let place : c.gate-first.result + 1 ≡ gate + 1 = ap (λ (k : ℕ). k + 1) c.gate-first.ensures.value in
     let page = c.in_ok-page.page in
     let same = page_there (c.gate-first.result + 1) (gate + 1 + 0) (g.P.Pages.view c.args.device.now) image page fixed (g.met.P.Pages.rules c.args.device.now fixed.honest) (c.in_ok-page.ensures.page fixed.honest).page (omega (arith, place)) in
-    let first = first_fits gate c.args.generation image page c.in-Some.body.now c.in-Ok.restoring same c.in-Some.ensures c.in-Ok.ensures.0 c.in-Ok.ensures.1 in
+    let first = first_fits gate c.args.edition image page c.in-Some.body.now c.in-Ok.restoring.bytes same c.in-Some.ensures c.in-Ok.ensures.0 (ap (λ (t : Taken). t.bytes) c.in-Ok.ensures.1) in
     let all = c.in_ok-look_at_further_bodies.ensures.cause image gate place one.fixed first in
-    subst (λ (filled : Filled). AllFit gate c.args.generation filled.bytes image) (sym c.in-Some-joined.ensures.filled) all
+    (c.look_at_further_bodies.new.restoring.bytes, ap (λ (filled : Filled). filled.bytes) c.in-Some-joined.ensures.filled ∙ ap (λ (v : Version). as_present v c.look_at_further_bodies.new.restoring.bytes) c.look_at_further_bodies.ensures.version, all)
 
 pub returns-in-None-clause-cause : goal.returns-in-None-clause-cause
 returns-in-None-clause-cause g c image fixed =
@@ -120,6 +123,6 @@ returns-in-None-clause-cause g c image fixed =
     let place : c.gate-first.result + 1 ≡ gate + 1 = ap (λ (k : ℕ). k + 1) c.gate-first.ensures.value in
     let page = c.in_ok-page.page in
     let same = page_there (c.gate-first.result + 1) (gate + 1 + 0) (g.P.Pages.view c.args.device.now) image page fixed (g.met.P.Pages.rules c.args.device.now fixed.honest) (c.in_ok-page.ensures.page fixed.honest).page (omega (arith, place)) in
-    let first = first_fits gate c.args.generation image page c.in-Some.body.now c.in-Ok.restoring same c.in-Some.ensures c.in-Ok.ensures.0 c.in-Ok.ensures.1 in
+    let first = first_fits gate c.args.edition image page c.in-Some.body.now c.in-Ok.restoring.bytes same c.in-Some.ensures c.in-Ok.ensures.0 (ap (λ (t : Taken). t.bytes) c.in-Ok.ensures.1) in
     let all = c.in_ok-look_at_further_bodies.ensures.cause image gate place one.fixed first in
-    inr (c.gate-first.result + 1, refl, inr (no_state gate c.args.generation image (c.gate-first.result + 1) _ all place c.in-None.ensures.spelled))
+    inr (c.gate-first.result + 1, refl, inr (no_state gate c.args.edition image (c.gate-first.result + 1) _ all place (subst (λ (v : Version). (s : StateValue) → IsCheckpointOf v s c.look_at_further_bodies.new.restoring.bytes → ⊥) c.look_at_further_bodies.ensures.version c.in-None.ensures.spelled)))

@@ -13,5 +13,6 @@ invariant-loop-index g l =
       later : (view l.fn.device).faults ≤ (view l.device).faults;
       looks : (image : Image) → IsFixed (view l.fn.device) image → Looks (view l.fn.device) (view l.device) image;
       some : 1 ≤ l.index;
-      fits : (image : Image) (gate : ℕ) → l.fn.first ≡ gate + 1 → IsFixed (view l.fn.device) image → Fit gate l.fn.generation image 1 l.fn.restoring → Fit gate l.fn.generation image l.index l.restoring;
+      version : l.restoring.version ≡ l.fn.edition.version;
+      fits : (image : Image) (gate : ℕ) → l.fn.first ≡ gate + 1 → IsFixed (view l.fn.device) image → Fit gate l.fn.edition image 1 l.fn.restoring.bytes → Fit gate l.fn.edition image l.index l.restoring.bytes;
     }

@@ -11,7 +11,7 @@ pub returns-clause-taken : goal.returns-clause-taken
 returns-clause-taken g c fits E is =
     let judged = c.if-not-are_legal.ensures.yes fits E is in
     let F = judged.0 in
-    let records : Records c.args.generation c.args.index F c.args.page.now = record { payload = c.in-Some.bytes.now; is_page = c.in-Some.ensures; holds = judged.1; some = judged.2 } in
+    let records : Records c.args.edition c.args.index F c.args.page.now = record { payload = c.in-Some.bytes.now; is_page = c.in-Some.ensures; holds = judged.1; some = judged.2 } in
     (F, records, judged.4, c.take_all.ensures.all E F is judged.1 judged.3 judged.4.numbers)
 
 pub returns-clause-captured : goal.returns-clause-captured

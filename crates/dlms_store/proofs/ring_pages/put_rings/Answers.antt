@@ -1,4 +1,4 @@
-use Rattle.std.proofs.Common.{◌≡◌, ◌≢◌, ◌∙◌, ◌<◌, ◌≤◌, ◌+◌, ⊎_elim, ap, sym, subst, arith, ℕ, List, length, set, rules}
+use Rattle.std.proofs.Common.{◌≡◌, ◌≢◌, ◌∙◌, ◌<◌, ◌≤◌, ◌+◌, ⊎_elim, ap, refl, sym, subst, arith, ℕ, List, length, set, rules}
 use Rattle.std.proofs.lemmas.List.{get_or-set_same, get_or-set_other}
 use Rattle.std.proofs.lemmas.Bool.{cases_eq}
 use Rattle.std.proofs.lemmas.Result.{on_ok_weaker}
@@ -11,7 +11,8 @@ use Rattle.dlms_state.specs.StateValue.{HasEvents, StateValue}
 use Rattle.dlms_profile.specs.declared.rows.TheConstants.{CAPACITY}
 use Rattle.dlms_store.specs.declared.layout.TheConstants.{RING}
 use Rattle.dlms_store.specs.Layout.{ring_place}
-use Rattle.dlms_store.specs.Page.{HasPage}
+use Rattle.dlms_store.specs.Page.{HasPage, present}
+use Rattle.dlms_checkpoint.specs.declared.version.Version.TheVariants.{Columns}
 use Rattle.dlms_store.specs.Image.{IsRingPage}
 use Rattle.dlms_store.specs.Writing.{IsEachRingPage, RingScribbled}
 use Rattle.dlms_store.proofs.Images.{made_page}
@@ -38,7 +39,8 @@ loop-number-preserved g c =
     let mid = view c.loop-number.device in
     let first = c.args.first in
     let behind = c.args.behind in
-    let rows = c.args.state.now.rows in
+    let state = c.args.state.now in
+    let rows = state.rows in
     let Q = RingScribbled first behind old.may_leave in
     let new = view c.write.new.self in
     let goes = c.in_ok-write.ensures.goes in
@@ -52,10 +54,12 @@ loop-number-preserved g c =
     let places = c.ring_page_of-places.result.items in
     let payload : c.as_slice.result.now ≡ places = c.as_slice.ensures.value in
     let holds = c.ring_page_of-places.ensures.holds in
-    let made : HasPage Ring c.ring_index-index.result n c.as_slice.result.now page = made_page bytes Ring c.ring_index-index.result n c.as_slice.result.now (omega (arith, ap (λ (l : List ℕ). length l) payload, holds.long)) c.page_of-page.ensures in
-    let is : IsRingPage rows n page = record {
+    let made : HasPage Ring c.ring_index-index.result (present n) c.as_slice.result.now page = made_page bytes Ring c.ring_index-index.result n c.as_slice.result.now (omega (arith, ap (λ (l : List ℕ). length l) payload, holds.long)) c.page_of-page.ensures in
+    let is : IsRingPage Columns state n page = record {
       places = places;
-      is_page = subst (λ (i : ℕ). HasPage Ring i n places page) c.ring_index-index.ensures.value (subst (λ (p : List ℕ). HasPage Ring c.ring_index-index.result n p page) payload made);
+      own = Columns;
+      serves = refl;
+      is_page = subst (λ (i : ℕ). HasPage Ring i (present n) places page) c.ring_index-index.ensures.value (subst (λ (p : List ℕ). HasPage Ring c.ring_index-index.result (present n) p page) payload made);
       holds = holds;
     } in
     let more = ring_scribbled_more first behind old.may_leave n low high place there mid.may_leave bytes in
@@ -73,12 +77,12 @@ loop-number-preserved g c =
           ⊎_elim
           (λ (same : k ≡ n).
           let here : page_at new.seen (ring_place n) ≡ page = subst (λ (j : ℕ). page_at new.seen j ≡ page) there (new_there mid.seen new.seen place page w.written (omega (arith, inv.count, c.requires.room, c.ring_index-index.ensures.within))) in
-          subst (λ (j : ℕ). IsRingPage rows j (page_at new.seen (ring_place j))) (sym same) (subst (IsRingPage rows n) (sym here) is))
+          subst (λ (j : ℕ). IsRingPage Columns state j (page_at new.seen (ring_place j))) (sym same) (subst (IsRingPage Columns state n) (sym here) is))
           (λ (off : k ≢ n).
           let before : k < n = omega (arith, off, less) in
           let few : length rows.items ≤ CAPACITY = few_rows c.has_events.ensures in
           let other : ring_place k ≢ place = λ e. off (apart rows k n few (c.requires.named k from (omega (arith, before, high))) (c.requires.named n low high) (e ∙ there)) in
-          subst (IsRingPage rows k) (sym (old_elsewhere mid.seen new.seen place (ring_place k) page w.written other)) (inv.written honest k from before))
+          subst (IsRingPage Columns state k) (sym (old_elsewhere mid.seen new.seen place (ring_place k) page w.written other)) (inv.written honest k from before))
           (cases_eq k n);
     }
 
@@ -90,9 +94,10 @@ returns-clause-puts g c honest =
     let mid = view c.loop-number.device in
     let first = c.args.first in
     let behind = c.args.behind in
-    let rows = c.args.state.now.rows in
+    let state = c.args.state.now in
+    let rows = state.rows in
     let Q = RingScribbled first behind old.may_leave in
-    let AtLast = λ (image : Image). IsEachRingPage first behind (λ k. IsRingPage rows k (page_at image (ring_place k))) in
+    let AtLast = λ (image : Image). IsEachRingPage first behind (λ k. IsRingPage Columns state k (page_at image (ring_place k))) in
     let new = view c.sync.new.self in
     let still = inv.honest ∙ honest in
     let s = c.sync.ensures.synced still in

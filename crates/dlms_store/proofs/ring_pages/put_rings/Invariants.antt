@@ -2,6 +2,7 @@ use Rattle.std.proofs.Common.{◌≡◌, ◌≤◌, length, true}
 use Rattle.dlms_pages.specs.Device.{Image, page_at}
 use Rattle.dlms_pages.specs.Stops.{LeavesOnly}
 use Rattle.dlms_store.specs.Image.{IsRingPage}
+use Rattle.dlms_checkpoint.specs.declared.version.Version.TheVariants.{Columns}
 use Rattle.dlms_store.specs.Layout.{ring_place}
 use Rattle.dlms_store.specs.Writing.{IsEachRingPage, RingScribbled}
 use Rattle.dlms_store.proofs.ring_pages.put_rings.Given as goal
@@ -17,5 +18,5 @@ invariant-loop-number g l =
       later : old.faults ≤ now.faults;
       leaves : old.honest ≡ true → (c : Image) → now.may_leave c → RingScribbled l.fn.first l.fn.behind old.may_leave c;
       moments : old.honest ≡ true → LeavesOnly old now (RingScribbled l.fn.first l.fn.behind old.may_leave);
-      written : old.honest ≡ true → IsEachRingPage l.fn.first l.number (λ k. IsRingPage l.state.rows k (page_at now.seen (ring_place k)));
+      written : old.honest ≡ true → IsEachRingPage l.fn.first l.number (λ k. IsRingPage Columns l.state k (page_at now.seen (ring_place k)));
     }

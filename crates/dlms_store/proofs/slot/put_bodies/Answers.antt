@@ -8,7 +8,7 @@ use Rattle.dlms_pages.proofs.Moments.{no_call, one_call, then_also}
 use Rattle.dlms_checkpoint.specs.Bodies.{body_at}
 use Rattle.dlms_journal.specs.declared.kind.PageKind.TheVariants.{Body}
 use Rattle.dlms_store.specs.declared.layout.TheConstants.{BODIES}
-use Rattle.dlms_store.specs.Page.{HasPage}
+use Rattle.dlms_store.specs.Page.{HasPage, present}
 use Rattle.dlms_store.specs.Image.{Spells}
 use Rattle.dlms_store.specs.Writing.{Scribbled}
 use Rattle.dlms_store.proofs.Images.{made_page}
@@ -44,8 +44,8 @@ loop-index-preserved g c =
     let to : place ≤ gate + BODIES = omega (arith, c.loop-index-test.true, c.body_count-index-end.ensures, c.requires.few) in
     let bytes = c.page_of-page.result in
     let page = Content bytes in
-    let made : HasPage Body i c.args.generation (body_at i c.args.bytes.now) page =
-    subst (λ payload. HasPage Body i c.args.generation payload page) c.body.ensures.bytes
+    let made : HasPage Body i (present c.args.generation) (body_at i c.args.bytes.now) page =
+    subst (λ payload. HasPage Body i (present c.args.generation) payload page) c.body.ensures.bytes
     (made_page bytes Body i c.args.generation c.body.result.now c.body.ensures.fits c.page_of-page.ensures) in
     record {
       count = goes.count ∙ inv.count;
@@ -61,10 +61,10 @@ loop-index-preserved g c =
           ⊎_elim
           (λ (same : k ≡ i).
           let here : page_at new.seen place ≡ page = ap (λ (l : Image). page_at l place) w.written ∙ get_or-set_same mid.seen place page Damaged (omega (arith, to, inv.count, c.requires.room, c.requires.place)) in
-          subst (λ (j : ℕ). HasPage Body j c.args.generation (body_at j c.args.bytes.now) (page_at new.seen (gate + 1 + j))) (sym same) (subst (HasPage Body i c.args.generation (body_at i c.args.bytes.now)) (sym here) made))
+          subst (λ (j : ℕ). HasPage Body j (present c.args.generation) (body_at j c.args.bytes.now) (page_at new.seen (gate + 1 + j))) (sym same) (subst (HasPage Body i (present c.args.generation) (body_at i c.args.bytes.now)) (sym here) made))
           (λ (off : k ≢ i).
           let there : page_at new.seen (gate + 1 + k) ≡ page_at mid.seen (gate + 1 + k) = ap (λ (l : Image). page_at l (gate + 1 + k)) w.written ∙ get_or-set_other mid.seen place (gate + 1 + k) page Damaged (λ e. off (omega arith)) in
-          subst (HasPage Body k c.args.generation (body_at k c.args.bytes.now)) (sym there) (inv.written honest k (omega arith)))
+          subst (HasPage Body k (present c.args.generation) (body_at k c.args.bytes.now)) (sym there) (inv.written honest k (omega arith)))
           (cases_eq k i);
     }
 
@@ -80,11 +80,11 @@ returns-clause-puts g c honest =
     let still = inv.honest ∙ honest in
     let s = c.sync.ensures.synced still in
     let leaves = λ (image : Image) (left : new.may_leave image). inv.leaves honest image (s.crash image left) in
-    let spells : Spells gate c.args.generation c.args.bytes.now mid.seen = record { few = c.requires.few; each = λ k small. inv.written honest k (omega (arith, small, c.loop-index-test.false, c.body_count-index-end.ensures)) } in
+    let spells : Spells gate (present c.args.generation) c.args.bytes.now mid.seen = record { few = c.requires.few; each = λ k small. inv.written honest k (omega (arith, small, c.loop-index-test.false, c.body_count-index-end.ensures)) } in
     record {
       any_moment = then_also old mid new Q (inv.moments honest) (one_call mid new Q (inv.leaves honest) (g.met.P.Pages.rules c.loop-index.device still) s.time leaves);
       after = leaves;
-      at_last = on_ok_weaker c.sync.result (λ d. λ image left. subst (Spells gate c.args.generation c.args.bytes.now) (sym (d image left)) spells) s.durable;
+      at_last = on_ok_weaker c.sync.result (λ d. λ image left. subst (Spells gate (present c.args.generation) c.args.bytes.now) (sym (d image left)) spells) s.durable;
     }
 
 pub returns-in_err-write-clause-puts : goal.returns-in_err-write-clause-puts

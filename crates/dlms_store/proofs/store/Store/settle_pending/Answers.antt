@@ -11,6 +11,7 @@ use Rattle.dlms_journal.specs.Record.{Holds}
 use Rattle.dlms_state.specs.declared.event.Event.{Event}
 use Rattle.dlms_store.specs.Image.{Records}
 use Rattle.dlms_store.specs.declared.layout.TheConstants.{JOURNAL_PAGES}
+use Rattle.dlms_store.specs.Page.{present}
 use Rattle.dlms_store.specs.Writing.{IsSettled}
 use Rattle.dlms_store.specs.World.StoreStep.{Fails, Settles}
 use Rattle.dlms_store.proofs.Commit.{as_before, outcome, settles, settled_now, as_known, made_records, holds_none, no_more}
@@ -27,7 +28,7 @@ something : (items : List ℕ) (b : Bool) → b ≡ (length items == 0) → b �
 something items b is none = grind (arith, nat_tests, common_steps)
 
 -- the page that is written
-page_made : (page : List ℕ) (index generation : ℕ) (payload records : List ℕ) (events : List Event) → payload ≡ records → length payload ≤ 496 → IsPage page Journal index generation payload → Holds records events → 0 < length records → Records generation index events (Content page)
+page_made : (page : List ℕ) (index generation : ℕ) (payload records : List ℕ) (events : List Event) → payload ≡ records → length payload ≤ 496 → IsPage page Journal index generation payload → Holds records events → 0 < length records → Records (present generation) index events (Content page)
 page_made page index generation payload records events same few is holds some =
     made_records page index generation payload events few is (subst (λ (b : List ℕ). Holds b events) (sym same) holds) (omega (arith, some, ap length same))
 
