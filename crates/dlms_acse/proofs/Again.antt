@@ -1,15 +1,17 @@
 -- What is written is read again.
-use Rattle.std.proofs.Common.{◌≡◌, ℕ, ◌+◌, ◌*◌, ◌/◌, ◌%◌, ◌≤◌, ◌<◌, true, false, ltb, eqb, eq-eqb, lit<, subst, List, [], ◌∷◌, ◌++◌, length, Ok, Some, None, refl, sym, ap, ◌∙◌, arith}
+use Rattle.std.proofs.Common.{◌≡◌, ℕ, ◌+◌, ◌*◌, ◌/◌, ◌%◌, ◌≤◌, ◌<◌, Bool, true, false, if◌then◌else◌, ltb, eqb, eq-eqb, lit<, subst, List, [], ◌∷◌, ◌++◌, length, Ok, Some, None, refl, sym, ap, ◌∙◌, arith}
 use Rattle.std.proofs.lemmas.Bool.{le-ltb}
 use Rattle.std.proofs.lemmas.List.{append-nil, length-append}
 use Rattle.dlms_frame.specs.declared.client.Client.{Client}
-use Rattle.dlms_frame.specs.declared.client.Client.TheVariants.{Public, Management}
+use Rattle.dlms_frame.specs.Client.{has_secret}
+use Rattle.dlms_acse.specs.Verdict.{Request}
+use Rattle.dlms_acse.specs.declared.aarq.Mechanism.TheVariants.{Absent, Low}
 use Rattle.dlms_acse.specs.declared.outcome.Verdict.{Verdict}
 use Rattle.dlms_acse.specs.declared.outcome.Verdict.TheVariants.{Accepted, Refused}
 use Rattle.dlms_acse.specs.Reading.{octets_at, inner_at, secret_at, key_at, option_at, block_at, proposal_at, request_at, initiate_at, response_at, error_at, request_from, verdict_from}
 use Rattle.dlms_acse.specs.Spelling.{Field, SpellFields, Counts, IsAarq, IsAare, value_of, asked, answered}
 use Rattle.dlms_acse.specs.Services.{lower}
-use Rattle.dlms_acse.specs.Writing.{field, logical_names, mechanism_name, initiate_request, initiate_response, aarq_bytes, aare_bytes}
+use Rattle.dlms_acse.specs.Writing.{field, logical_names, mechanism_name, credentials, initiate_request, initiate_response, aarq_bytes, aare_bytes}
 use Rattle.dlms_acse.specs.Reading.{aarq_at, aare_at}
 use Rattle.dlms_acse.proofs.Takes.{octets_again}
 use Rattle.dlms_acse.proofs.Apdus.{aarq_only, aare_only}
@@ -46,18 +48,31 @@ initiate_again bits size = rw (inner_again 0x04 (initiate_request bits size) (li
 abbrev field_of : ℕ → List ℕ → Field
 field_of tag value = record { tag = tag; value = value }
 
-public_again : (secret : List ℕ) (bits size : ℕ) → IsAarq (aarq_bytes Public secret bits size) (asked Public secret bits size)
-public_again secret bits size =
+-- the bytes, and what they say, of a client with a secret or without one
+abbrev request_bytes : Bool → List ℕ → ℕ → ℕ → List ℕ
+request_bytes needs secret bits size =
+    field 0x60 (field 0xA1 logical_names ++ (if needs then credentials secret else []) ++ field 0xBE (field 0x04 (initiate_request bits size)))
+
+abbrev says_of : Bool → List ℕ → ℕ → ℕ → Request
+says_of needs secret bits size = record {
+  context = true;
+  mechanism = if needs then Low else Absent;
+  secret = if needs then Some secret else None;
+  initiate = Some (record { version = 6; conformance = record { 0 = lower bits }; size = size });
+}
+
+open_again : (secret : List ℕ) (bits size : ℕ) → IsAarq (request_bytes false secret bits size) (says_of false secret bits size)
+open_again secret bits size =
     let v : List ℕ = field 0x04 (initiate_request bits size) in
     let body : List ℕ = field 0xA1 logical_names ++ field 0xBE v in
     let fs : List Field = field_of 0xA1 logical_names ∷ field_of 0xBE v ∷ [] in
     let last : SpellFields (field 0xBE v) (field_of 0xBE v ∷ []) = (length v ∷ v, [], refl, short 2 v (lit< tt), refl) in
     let spelled : SpellFields body fs = (length logical_names ∷ logical_names, field 0xBE v, refl, short 2 logical_names (lit< tt), last) in
-    let says : request_from (λ tag. value_of tag fs) ≡ asked Public secret bits size = rw (initiate_again bits size) refl in
-    (fs, (length body ∷ body, body, refl, short 2 body (lit< tt), spelled, (refl, (refl, tt))), says_request (λ tag. value_of tag fs) (asked Public secret bits size) says)
+    let says : request_from (λ tag. value_of tag fs) ≡ says_of false secret bits size = rw (initiate_again bits size) refl in
+    (fs, (length body ∷ body, body, refl, short 2 body (lit< tt), spelled, (refl, (refl, tt))), says_request (λ tag. value_of tag fs) (says_of false secret bits size) says)
 
-management_again : (secret : List ℕ) (bits size : ℕ) → length secret ≤ 16 → IsAarq (aarq_bytes Management secret bits size) (asked Management secret bits size)
-management_again secret bits size few =
+known_again : (secret : List ℕ) (bits size : ℕ) → length secret ≤ 16 → IsAarq (request_bytes true secret bits size) (says_of true secret bits size)
+known_again secret bits size few =
     let v : List ℕ = field 0x04 (initiate_request bits size) in
     let needs : List ℕ = 0x07 ∷ 0x80 ∷ [] in
     let name : List ℕ = mechanism_name 1 in
@@ -74,12 +89,16 @@ management_again secret bits size few =
     let c : SpellFields third (field_of 0x8B name ∷ field_of 0xAC s ∷ field_of 0xBE v ∷ []) = (length name ∷ name, fourth, refl, short 2 name (lit< tt), d) in
     let b : SpellFields second (field_of 0x8A needs ∷ field_of 0x8B name ∷ field_of 0xAC s ∷ field_of 0xBE v ∷ []) = (length needs ∷ needs, third, refl, short 2 needs (lit< tt), c) in
     let spelled : SpellFields body fs = (length logical_names ∷ logical_names, second, refl, short 2 logical_names (lit< tt), b) in
-    let says : request_from (λ tag. value_of tag fs) ≡ asked Management secret bits size = rw (initiate_again bits size, secret_again secret few) refl in
-    (fs, (length body ∷ body, body, refl, short 2 body size_of_body, spelled, (refl, (refl, (refl, (refl, (refl, tt)))))), says_request (λ tag. value_of tag fs) (asked Management secret bits size) says)
+    let says : request_from (λ tag. value_of tag fs) ≡ says_of true secret bits size = rw (initiate_again bits size, secret_again secret few) refl in
+    (fs, (length body ∷ body, body, refl, short 2 body size_of_body, spelled, (refl, (refl, (refl, (refl, (refl, tt)))))), says_request (λ tag. value_of tag fs) (says_of true secret bits size) says)
+
+-- of any client, by whether it has a secret
+either_again : (needs : Bool) (secret : List ℕ) (bits size : ℕ) → length secret ≤ 16 → IsAarq (request_bytes needs secret bits size) (says_of needs secret bits size)
+either_again false secret bits size few = open_again secret bits size
+either_again true secret bits size few = known_again secret bits size few
 
 pub aarq_again : (client : Client) (bytes secret : List ℕ) (bits size : ℕ) → bytes ≡ aarq_bytes client secret bits size → length secret ≤ 16 → IsAarq bytes (asked client secret bits size)
-aarq_again Public bytes secret bits size e few = subst (λ (w : List ℕ). IsAarq w (asked Public secret bits size)) (sym e) (public_again secret bits size)
-aarq_again Management bytes secret bits size e few = subst (λ (w : List ℕ). IsAarq w (asked Management secret bits size)) (sym e) (management_again secret bits size few)
+aarq_again client bytes secret bits size e few = subst (λ (w : List ℕ). IsAarq w (asked client secret bits size)) (sym e) (either_again (has_secret client) secret bits size few)
 
 -- ---- the response
 

@@ -1,11 +1,10 @@
 -- A length and what it counts are read here as dlms_data reads them, where the length has no more bytes than may be.
-use Rattle.std.proofs.Common.{◌≡◌, ℕ, ◌-◌, ◌+◌, ◌≤◌, Bool, true, false, cond, ltb, ◌||◌, List, [], ◌∷◌, length, take, drop, Result, Ok, Err, refl, sym, ap, ◌∙◌, arith, IfOk, Bor}
-use Rattle.std.proofs.lemmas.Bool.{ltb-false, le-ltb, ltb-true, lt-ltb}
+use Rattle.std.proofs.Common.{◌≡◌, ℕ, ◌-◌, ◌≤◌, Bool, true, false, cond, ltb, ◌||◌, List, [], ◌∷◌, length, take, drop, Result, Ok, Err, refl, ap, ◌∙◌, arith}
+use Rattle.std.proofs.lemmas.Bool.{ltb-false, le-ltb, ltb-true}
 use Rattle.byteorder.specs.Endian.{big_number}
 use Rattle.dlms_acse.specs.declared.fault.AcseFault.{AcseFault}
 use Rattle.dlms_acse.specs.declared.fault.AcseFault.TheVariants.{Short, Length}
-use Rattle.dlms_acse.specs.Reading.{◌>>=◌, Tells, is_longer, told, taken_at, length_at, number_at, octets_at}
-use Rattle.dlms_acse.proofs.Takes.{octets_within}
+use Rattle.dlms_acse.specs.Reading.{◌>>=◌, is_longer, told, taken_at, length_at, number_at, octets_at}
 use Rattle.dlms_data.specs.declared.fault.DataFault.{DataFault}
 use Rattle.dlms_data.specs.declared.fault.DataFault.TheVariants as fault
 use Rattle.dlms_data.specs.Reading as xdr

@@ -3,7 +3,7 @@
 use Rattle.std.specs.Prelude.{◌≡◌, ◌≢◌, ℕ, ◌<◌, ◌≤◌, ◌+◌, ◌*◌, ◌⊎◌, ◌==◌, if◌then◌else◌, Bool, true, false, List, [], ◌∷◌, ◌++◌, length, Option, Some, None}
 use Rattle.byteorder.specs.Endian.{big_number}
 use Rattle.dlms_frame.specs.declared.client.Client.{Client}
-use Rattle.dlms_frame.specs.declared.client.Client.TheVariants.{Public, Management}
+use Rattle.dlms_frame.specs.Client.{has_secret}
 use Rattle.dlms_acse.specs.declared.aarq.Initiate.{Initiate}
 use Rattle.dlms_acse.specs.declared.aarq.Mechanism.{Mechanism}
 use Rattle.dlms_acse.specs.declared.aarq.Mechanism.TheVariants.{Absent, Lowest, Low, Other}
@@ -167,16 +167,10 @@ IsAare bytes v = (fs : List Field) × IsApdu 0x61 bytes fs × SaysVerdict (λ ta
 
 -- what a written request says: version 6, the lower 24 bits, and of management the low-level secret
 abbrev pub asked : Client → List ℕ → ℕ → ℕ → Request
-asked Public secret bits size = record {
+asked client secret bits size = record {
   context = true;
-  mechanism = Absent;
-  secret = None;
-  initiate = Some (record { version = 6; conformance = record { 0 = lower bits }; size = size });
-}
-asked Management secret bits size = record {
-  context = true;
-  mechanism = Low;
-  secret = Some secret;
+  mechanism = if has_secret client then Low else Absent;
+  secret = if has_secret client then Some secret else None;
   initiate = Some (record { version = 6; conformance = record { 0 = lower bits }; size = size });
 }
 

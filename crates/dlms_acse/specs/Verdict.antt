@@ -3,7 +3,7 @@
 use Rattle.std.specs.Prelude.{ℕ, Bool, true, false, not, ◌&&◌, ◌==◌, if◌then◌else◌, nat_lt, min, bit_and, List, [], ◌∷◌, ◌++◌, Option, Some, None, option_map, unwrap_or}
 use Rattle.std.specs.Str.{bytes_eq}
 use Rattle.dlms_frame.specs.declared.client.Client.{Client}
-use Rattle.dlms_frame.specs.declared.client.Client.TheVariants.{Public, Management}
+use Rattle.dlms_frame.specs.Client.{has_secret}
 use Rattle.dlms_acse.specs.declared.aarq.Aarq.{Aarq}
 use Rattle.dlms_acse.specs.declared.aarq.Initiate.{Initiate}
 use Rattle.dlms_acse.specs.declared.aarq.Mechanism.{Mechanism}
@@ -21,10 +21,6 @@ pub record Request : Type 0 where
 
 abbrev pub request_of : Aarq → Request
 request_of a = record { context = a.context; mechanism = a.mechanism; secret = option_map (λ s. s.items) a.secret; initiate = a.initiate }
-
-abbrev pub is_public : Client → Bool
-is_public Public = true
-is_public Management = false
 
 abbrev pub is_absent : Mechanism → Bool
 is_absent Absent = true
@@ -81,11 +77,11 @@ first_fit (row ∷ rows) = if row.0 then Some row.1 else first_fit rows
 -- the client may not be who it says
 abbrev pub doubts : Request → Client → List ℕ → List (Bool × Verdict)
 doubts r client secret =
-    (is_public client && not (is_absent r.mechanism) && not (is_lowest r.mechanism), refused 11)
-    ∷ (not (is_public client) && is_absent r.mechanism, refused 14)
-    ∷ (not (is_public client) && is_lowest r.mechanism, refused 14)
-    ∷ (not (is_public client) && not (is_low r.mechanism), refused 11)
-    ∷ (not (is_public client) && not (is_secret secret r.secret), refused 13)
+    (not (has_secret client) && not (is_absent r.mechanism) && not (is_lowest r.mechanism), refused 11)
+    ∷ (has_secret client && is_absent r.mechanism, refused 14)
+    ∷ (has_secret client && is_lowest r.mechanism, refused 14)
+    ∷ (has_secret client && not (is_low r.mechanism), refused 11)
+    ∷ (has_secret client && not (is_secret secret r.secret), refused 13)
     ∷ []
 
 -- what it proposes can't be met

@@ -1,8 +1,8 @@
 -- The bytes of an association: the request, the response and the release, as they are written (IEC 62056-5-3, the
 -- encoding of ACSE APDUs in BER, with the initiate request and response in A-XDR).
-use Rattle.std.specs.Prelude.{ℕ, ◌/◌, ◌%◌, List, [], ◌∷◌, ◌++◌, length, Option, Some, None}
+use Rattle.std.specs.Prelude.{ℕ, if◌then◌else◌, ◌/◌, ◌%◌, List, [], ◌∷◌, ◌++◌, length, Option, Some, None}
 use Rattle.dlms_frame.specs.declared.client.Client.{Client}
-use Rattle.dlms_frame.specs.declared.client.Client.TheVariants.{Public, Management}
+use Rattle.dlms_frame.specs.Client.{has_secret}
 use Rattle.dlms_acse.specs.declared.outcome.Verdict.{Verdict}
 use Rattle.dlms_acse.specs.declared.outcome.Verdict.TheVariants.{Accepted, Refused}
 use Rattle.dlms_acse.specs.declared.judging.TheConstants.{MOST_SIZE}
@@ -40,11 +40,13 @@ abbrev pub initiate_response : ℕ → ℕ → List ℕ
 initiate_response conformance size =
     0x08 ∷ 0x00 ∷ 0x06 ∷ (conformance_head ++ three_bytes conformance ++ two_bytes size ++ 0x00 ∷ 0x07 ∷ [])
 
--- who the client is: nothing of the public one; management's requirements, mechanism and secret
+-- the requirements, the low-level mechanism, and the secret
+abbrev pub credentials : List ℕ → List ℕ
+credentials secret = field 0x8A (0x07 ∷ 0x80 ∷ []) ++ field 0x8B (mechanism_name 1) ++ field 0xAC (field 0x80 secret)
+
+-- who the client is: nothing of one without a secret
 abbrev pub authentication : Client → List ℕ → List ℕ
-authentication Public secret = []
-authentication Management secret =
-    field 0x8A (0x07 ∷ 0x80 ∷ []) ++ field 0x8B (mechanism_name 1) ++ field 0xAC (field 0x80 secret)
+authentication client secret = if has_secret client then credentials secret else []
 
 abbrev pub aarq_bytes : Client → List ℕ → ℕ → ℕ → List ℕ
 aarq_bytes client secret conformance size =

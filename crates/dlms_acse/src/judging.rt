@@ -65,12 +65,12 @@ fn initiate_error(error: u8) -> Verdict
 fn doubt(aarq: &Aarq, client: Client, secret: &[u8]) -> Option<Verdict>
     ensures { result ≡ first_fit (doubts (request_of aarq.now) client secret.now) }
 {
-    match (client, aarq.mechanism) {
-        (Client::Public, Mechanism::Absent | Mechanism::Lowest) => None,
-        (Client::Public, _) => Some(refused(11)),
-        (Client::Management, Mechanism::Absent | Mechanism::Lowest) => Some(refused(14)),
-        (Client::Management, Mechanism::Other) => Some(refused(11)),
-        (Client::Management, Mechanism::Low) => {
+    match (client.has_secret(), aarq.mechanism) {
+        (false, Mechanism::Absent | Mechanism::Lowest) => None,
+        (false, _) => Some(refused(11)),
+        (true, Mechanism::Absent | Mechanism::Lowest) => Some(refused(14)),
+        (true, Mechanism::Other) => Some(refused(11)),
+        (true, Mechanism::Low) => {
             if is_right(&aarq.secret, secret) {
                 None
             } else {
@@ -104,15 +104,15 @@ fn services(initiate: Initiate) -> Verdict
 }
 
 /// What the meter answers to this request of this client, whose secret at the meter is the one given: the first of these
-/// cases that fits.
+/// cases that fits. Of a client without a secret the one given is not looked at.
 ///
 /// | Case | Diagnostic | Initiate error |
 /// |---|---|---|
 /// | no or another application context | 2 | |
-/// | the public client with a mechanism that is not the lowest | 11 | |
-/// | management with no mechanism or the lowest | 14 | |
-/// | management with a mechanism that is not low-level | 11 | |
-/// | management with no secret or another | 13 | |
+/// | a client without a secret, with a mechanism that is not the lowest | 11 | |
+/// | a client with a secret, with no mechanism or the lowest | 14 | |
+/// | a client with a secret, with a mechanism that is not low-level | 11 | |
+/// | a client with a secret, which gives none or another | 13 | |
 /// | no initiate request that can be read | 1 | |
 /// | a version below 6 | 1 | 1 |
 /// | the services of both ends have no get | 1 | 2 |

@@ -15,7 +15,7 @@ const CONTEXT: [u8; 11] = [
     0xa1, 0x09, 0x06, 0x07, 0x60, 0x85, 0x74, 0x05, 0x08, 0x01, 0x01,
 ];
 
-/// What stands in front of management's secret: the requirements, the mechanism.
+/// What stands in front of a client's secret: the requirements, the mechanism.
 const LOW_LEVEL: [u8; 13] = [
     0x8a, 0x02, 0x07, 0x80, 0x8b, 0x07, 0x60, 0x85, 0x74, 0x05, 0x08, 0x02, 0x01,
 ];
@@ -56,7 +56,7 @@ fn append_authentication(text: &mut ArrayVec<u8, 128>, client: Client, secret: &
     requires room { array_vec_len text.old + 33 ≤ 128 }
     ensures { text.new.items ≡ text.old.items ++ authentication client secret.now }
 {
-    if client == Client::Management {
+    if client.has_secret() {
         let len = secret.len() as u8;
         append(text, LOW_LEVEL.as_slice());
         append(text, &[0xac, len + 2, 0x80, len]);
@@ -101,7 +101,7 @@ fn request_text(
     requires { length secret.now ≤ 16 }
     ensures { result.items ≡ aarq_bytes client secret.now conformance.0 size }
 {
-    let rest = if client == Client::Management {
+    let rest = if client.has_secret() {
         46 + secret.len() as u8
     } else {
         29
@@ -116,7 +116,7 @@ fn request_text(
 }
 
 /// The association request of a client that proposes these services and receives APDUs of this size in bytes; 0 stands for no limit.
-/// The secret, of at most 16 bytes, is not written for the public client. Of the services the lower 24 bits are written.
+/// The secret, of at most 16 bytes, is not written for a client without one. Of the services the lower 24 bits are written.
 pub fn write_aarq(
     client: Client,
     secret: &[u8],

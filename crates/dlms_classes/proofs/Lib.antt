@@ -8,3 +8,4 @@ pub mod ShownOnce
 pub mod Times
 pub mod Sizes
 pub mod Sendable
+pub mod Readers

@@ -14,7 +14,7 @@ use Rattle.dlms_data.specs.declared.data.Data.{Data}
 use Rattle.dlms_data.proofs.Fitted.{fits_where}
 use Rattle.dlms_data.specs.declared.descriptor.Descriptor.{Descriptor}
 use Rattle.dlms_frame.specs.declared.client.Client.{Client}
-use Rattle.dlms_frame.specs.declared.client.Client.TheVariants.{Public, Management}
+use Rattle.dlms_frame.specs.declared.client.Client.TheVariants.{Public, Management, Reader}
 use Rattle.dlms_profile.specs.declared.rows.Row.{Row}
 use Rattle.dlms_profile.specs.declared.rows.TheConstants.{CAPACITY}
 use Rattle.dlms_profile.specs.Rows.{IsRow as FitsRow, in_range, is_between, entries}
@@ -172,11 +172,13 @@ list_fits : (client : Client) (v : Value) → v ≡ object_list client → IsSen
 unfolding object_list short_length
 list_fits Public v h = closed (object_list Public) v refl h
 list_fits Management v h = closed (object_list Management) v refl h
+list_fits Reader v h = closed (object_list Reader) v refl h
 
 partners_fit : (client : Client) (v : Value) → v ≡ structure (two (integer (pos (sap_of client))) (long_unsigned 1)) → IsSendable v
 unfolding short_length
 partners_fit Public v h = closed _ v refl h
 partners_fit Management v h = closed _ v refl h
+partners_fit Reader v h = closed _ v refl h
 
 shown_fits : (s : StateValue) (client : Client) (d : Descriptor) (p : Part) (content : Content) (v : Value) → FitsTypes s → s.period < 2 ^ 32 → are_distinct s.columns ≡ true → IsFound d content
     → Shows (shown s client d p content) v → IsSendable v

@@ -1,4 +1,5 @@
 pub mod Table
+pub mod Secrets
 pub mod Access
 pub mod Column
 pub mod Plan

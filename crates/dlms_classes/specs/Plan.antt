@@ -8,7 +8,7 @@ use Rattle.dlms_frame.specs.declared.client.Client.{Client}
 use Rattle.dlms_state.specs.declared.event.Event.{Event}
 use Rattle.dlms_state.specs.declared.event.Event.TheVariants as event
 use Rattle.dlms_state.specs.Events.{text_set, secret_set, columns_set}
-use Rattle.dlms_state.specs.declared.event.SecretOf.TheVariants.{Management}
+use Rattle.dlms_state.specs.declared.event.SecretOf.{SecretOf}
 use Rattle.dlms_state.specs.Types.{FitsType}
 use Rattle.dlms_classes.specs.declared.access.AccessResult.{AccessResult}
 use Rattle.dlms_classes.specs.declared.access.AccessResult.TheVariants.{ReadWriteDenied, TypeUnmatched, OtherReason}
@@ -18,13 +18,15 @@ use Rattle.dlms_classes.specs.declared.table.Call.{Call}
 use Rattle.dlms_classes.specs.declared.table.Call.TheVariants as call
 use Rattle.dlms_classes.specs.Access.{◌>>=◌, writable, callable}
 use Rattle.dlms_classes.specs.Column.{columns_of}
+use Rattle.dlms_classes.specs.Secrets.{secret_of}
 
 -- what a value is to set
 pub data Setting : Type 0 where
   clock_to : List ℕ → Setting
   period_to : ℕ → Setting
   text_to : List ℕ → Setting
-  secret_to : List ℕ → Setting
+  -- whose it is
+  secret_to : SecretOf → List ℕ → Setting
   columns_to : List ℕ → Setting
 
 -- a text is an octet-string or a visible-string
@@ -46,33 +48,34 @@ abbrev pub period_setting : Value → Result Setting AccessResult
 period_setting (double_long_unsigned seconds) = Ok (period_to seconds)
 period_setting _ = Err TypeUnmatched
 
-abbrev pub secret_setting : Value → Result Setting AccessResult
-secret_setting (octet_string bytes) = Ok (secret_to bytes)
-secret_setting _ = Err TypeUnmatched
+-- the secret that is set is the client's own, if it has one
+abbrev pub secret_setting : Value → Option SecretOf → Result Setting AccessResult
+secret_setting (octet_string bytes) (Some whose) = Ok (secret_to whose bytes)
+secret_setting _ _ = Err TypeUnmatched
 
 -- an array of structures: the ids of the columns that they name
 abbrev pub columns_setting : Value → Result Setting AccessResult
 columns_setting v = columns_of v >>= λ ids. Ok (columns_to ids)
 
--- what a value is to set in an attribute; in the others nothing can be set
-abbrev pub setting_of : Content → Value → Result Setting AccessResult
-setting_of Text v = text_setting v
-setting_of Time v = time_setting v
-setting_of CaptureObjects v = columns_setting v
-setting_of CapturePeriod v = period_setting v
-setting_of Secret v = secret_setting v
-setting_of _ v = Err TypeUnmatched
+-- what a client's value is to set in an attribute; in the others nothing can be set
+abbrev pub setting_of : Client → Content → Value → Result Setting AccessResult
+setting_of client Text v = text_setting v
+setting_of client Time v = time_setting v
+setting_of client CaptureObjects v = columns_setting v
+setting_of client CapturePeriod v = period_setting v
+setting_of client Secret v = secret_setting v (secret_of client)
+setting_of client _ v = Err TypeUnmatched
 
 -- what SET of a value asks for
 abbrev pub setting_asked : Client → Descriptor → Value → Result Setting AccessResult
-setting_asked client d v = writable client d >>= λ a. setting_of a.content v
+setting_asked client d v = writable client d >>= λ a. setting_of client a.content v
 
 -- the event does it
 abbrev pub Does : Setting → Event → Type 0
 Does (clock_to octets) e = (second : ℕ) × NamesSecond octets second × (e ≡ event.SetTime second)
 Does (period_to seconds) e = e ≡ event.SetPeriod seconds
 Does (text_to bytes) e = text_set e ≡ Some bytes
-Does (secret_to bytes) e = secret_set Management e ≡ Some bytes
+Does (secret_to whose bytes) e = secret_set whose e ≡ Some bytes
 Does (columns_to ids) e = columns_set e ≡ Some ids
 
 -- the event that does what is asked, or the refusal: for another reason where the octets name no second, or where the bytes

@@ -2,11 +2,11 @@
 -- and what each method does. Classes and their versions, attributes and methods are those of IEC 62056-6-2 (Blue Book:
 -- Data 4.3.1, Register 4.3.2, Profile generic 4.3.6, Association LN 4.4.4, Clock 4.5.1); the logical names are those of
 -- IEC 62056-6-1. Which objects there are, and the rights, are the meter's own.
-use Rattle.std.specs.Prelude.{ℕ, ◌==◌, ◌&&◌, List, [], ◌∷◌, get_or, Option, Bool, true, false}
+use Rattle.std.specs.Prelude.{ℕ, ◌==◌, ◌&&◌, if◌then◌else◌, List, [], ◌∷◌, get_or, Option, Bool, true, false}
 use Rattle.std.specs.List.{position_from}
 use Rattle.std.specs.Str.{bytes_eq}
 use Rattle.dlms_frame.specs.declared.client.Client.{Client}
-use Rattle.dlms_frame.specs.declared.client.Client.TheVariants.{Public, Management}
+use Rattle.dlms_frame.specs.declared.client.Client.TheVariants.{Public, Management, Reader}
 use Rattle.dlms_classes.specs.declared.table.Content.{Content}
 use Rattle.dlms_classes.specs.declared.table.Content.TheVariants.{LogicalName, DeviceName, SerialNumber, Text, Register, ScalerUnit, Time, TimeZone, ClockStatus, DaylightTime, DaylightDeviation, DaylightEnabled, ClockBase, ObjectList, AssociatedPartners, Withheld, Secret, AssociationStatus, Buffer, CaptureObjects, CapturePeriod, SortMethod, SortObject, EntriesInUse, ProfileEntries}
 use Rattle.dlms_classes.specs.declared.table.Rights.{Rights}
@@ -28,11 +28,11 @@ pub record Entry : Type 0 where
 abbrev pub holds : Content → Rights → Rights → Attribute
 holds content public management = record { content = content; public = public; management = management }
 
--- both clients may read it
+-- every client may read it
 abbrev pub shows : Content → Attribute
 shows content = holds content Read Read
 
--- both clients may read it, and management may set it
+-- every client may read it, and management may set it
 abbrev pub sets : Content → Attribute
 sets content = holds content Read ReadWrite
 
@@ -128,10 +128,6 @@ captured_attribute = 2
 abbrev pub entry_of : Object → Entry
 entry_of o = entry o.class o.version o.name o.attributes.now o.methods.now
 
-abbrev pub rights_of : Client → Attribute → Rights
-rights_of Public a = a.public
-rights_of Management a = a.management
-
 abbrev pub may_read : Rights → Bool
 may_read Read = true
 may_read ReadWrite = true
@@ -142,8 +138,25 @@ may_write Write = true
 may_write ReadWrite = true
 may_write _ = false
 
--- management may call each method that is not withheld, and the public client none
+-- of some rights those to read
+abbrev pub reading : Rights → Rights
+reading rights = if may_read rights then Read else Nothing
+
+-- Of management's rights those of a client that changes nothing but its own secret: all of those over a secret, which is the
+-- client's own, and of the others those to read.
+abbrev pub but_own_secret : Content → Rights → Rights
+but_own_secret Secret rights = rights
+but_own_secret _ rights = reading rights
+
+-- what a client may do with an attribute: a row for each client
+abbrev pub rights_of : Client → Attribute → Rights
+rights_of Public a = a.public
+rights_of Management a = a.management
+rights_of Reader a = but_own_secret a.content a.management
+
+-- management may call each method that is not withheld, and the others none: a row for each client
 abbrev pub may_call : Client → Call → Bool
 may_call Public method = false
 may_call Management call.Withheld = false
 may_call Management _ = true
+may_call Reader method = false

@@ -5,20 +5,26 @@ ghost use Rattle.dlms_data.specs.declared.descriptor.Descriptor.{Descriptor};
 ghost use Rattle.dlms_data.specs.Value.{Value, null, array, none, cons, push_value};
 ghost use Rattle.dlms_data.specs.Writing.{canonical};
 ghost use Rattle.dlms_frame.specs.declared.client.Client.{Client};
-ghost use Rattle.dlms_frame.specs.declared.client.Client.TheVariants.{Public, Management};
+ghost use Rattle.dlms_frame.specs.declared.client.Client.TheVariants.{Public, Management, Reader};
 ghost use Rattle.dlms_profile.specs.declared.rows.Row.{Row};
 ghost use Rattle.dlms_profile.specs.Rows.{row_of_values};
 ghost use Rattle.dlms_state.specs.Columns.{are_known};
 ghost use Rattle.dlms_state.specs.declared.event.TheConstants.{MOST_COLUMNS};
 ghost use Rattle.dlms_state.specs.StateValue.{StateValue, HasEvents};
+ghost use Rattle.dlms_state.specs.declared.event.SecretOf.TheVariants as owner;
+ghost use Rattle.dlms_classes.specs.Access.{readable, writable, callable};
 ghost use Rattle.dlms_classes.specs.Answer.{IsSendable, IsShown, wanted};
 ghost use Rattle.dlms_classes.specs.Choice.{Selection, HasPart};
 ghost use Rattle.dlms_classes.specs.Column.{columns_of};
 ghost use Rattle.dlms_classes.specs.Listing.{object_list, map_values};
-ghost use Rattle.dlms_classes.specs.Shown.{Shown, Shows, part_shown, whole, between, cut, as_table, column_value, no_column};
+ghost use Rattle.dlms_classes.specs.Plan.{Setting, secret_to, setting_of};
+ghost use Rattle.dlms_classes.specs.Shown.{Part, Shown, Shows, shown, part_shown, whole, between, cut, as_table, column_value, no_column};
 ghost use Rattle.dlms_classes.specs.Table.{object_of_column};
 ghost use Rattle.dlms_classes.specs.declared.access.AccessResult.TheVariants.{TypeUnmatched, OtherReason};
 ghost use Rattle.dlms_classes.specs.declared.rows.Cell.TheVariants as Cell;
+ghost use Rattle.dlms_classes.specs.declared.table.Attribute.{Attribute};
+ghost use Rattle.dlms_classes.specs.declared.table.Call.{Call};
+ghost use Rattle.dlms_classes.specs.declared.table.Content.TheVariants.{AssociatedPartners, Secret};
 
 /// What an answer shows is shown by one value: a second of the clock has one date-time, and two date-times name one range. So
 /// two answers of the same state to the same question are equal, want of memory aside.
@@ -38,12 +44,27 @@ pub fn a_cut_may_be_all()
 {}
 
 /// The object list begins with nine elements, and the first is that of the device's name: class 1, version 0, 0.0.42.0.0.255, its
-/// two attributes to be read by both clients, no method.
+/// two attributes to be read by every client, no method.
 pub fn the_list_begins_with_the_device_name()
     ensures public { take 37 (canonical (object_list Public))
         ≡ 1 ∷ 9 ∷ 2 ∷ 4 ∷ 18 ∷ 0 ∷ 1 ∷ 17 ∷ 0 ∷ 9 ∷ 6 ∷ 0 ∷ 0 ∷ 42 ∷ 0 ∷ 0 ∷ 255 ∷ 2 ∷ 2 ∷ 1 ∷ 2 ∷ 2 ∷ 3 ∷ 15 ∷ 1 ∷ 22 ∷ 1 ∷ 0 ∷ 2 ∷ 3 ∷ 15 ∷ 2 ∷ 22 ∷ 1 ∷ 0 ∷ 1 ∷ 0 ∷ [] }
     ensures management { take 37 (canonical (object_list Management))
         ≡ 1 ∷ 9 ∷ 2 ∷ 4 ∷ 18 ∷ 0 ∷ 1 ∷ 17 ∷ 0 ∷ 9 ∷ 6 ∷ 0 ∷ 0 ∷ 42 ∷ 0 ∷ 0 ∷ 255 ∷ 2 ∷ 2 ∷ 1 ∷ 2 ∷ 2 ∷ 3 ∷ 15 ∷ 1 ∷ 22 ∷ 1 ∷ 0 ∷ 2 ∷ 3 ∷ 15 ∷ 2 ∷ 22 ∷ 1 ∷ 0 ∷ 1 ∷ 0 ∷ [] }
+    ensures reader { take 37 (canonical (object_list Reader))
+        ≡ 1 ∷ 9 ∷ 2 ∷ 4 ∷ 18 ∷ 0 ∷ 1 ∷ 17 ∷ 0 ∷ 9 ∷ 6 ∷ 0 ∷ 0 ∷ 42 ∷ 0 ∷ 0 ∷ 255 ∷ 2 ∷ 2 ∷ 1 ∷ 2 ∷ 2 ∷ 3 ∷ 15 ∷ 1 ∷ 22 ∷ 1 ∷ 0 ∷ 2 ∷ 3 ∷ 15 ∷ 2 ∷ 22 ∷ 1 ∷ 0 ∷ 1 ∷ 0 ∷ [] }
+{}
+
+/// The reader reads what management reads, sets nothing but a secret, which is its own, and calls no method.
+pub fn the_reader_changes_only_its_secret()
+    ensures reads { (d : Descriptor) → readable Reader d ≡ readable Management d }
+    ensures writes { (d : Descriptor) (a : Attribute) → writable Reader d ≡ Ok a → a.content ≡ Secret }
+    ensures own { (v : Value) (setting : Setting) → setting_of Reader Secret v ≡ Ok setting → (bytes : List ℕ) × (setting ≡ secret_to owner.Reader bytes) }
+    ensures calls { (d : Descriptor) (method : Call) → ¬ (callable Reader d ≡ Ok method) }
+{}
+
+/// The associated partners are a client's own service access point and the one logical device, 1.
+pub fn the_partners_of_the_reader()
+    ensures { (s : StateValue) (d : Descriptor) (p : Part) (v : Value) → Shows (shown s Reader d p AssociatedPartners) v → canonical v ≡ 2 ∷ 2 ∷ 15 ∷ 2 ∷ 18 ∷ 0 ∷ 1 ∷ [] }
 {}
 
 /// The capture objects can be set as they are read, and the columns are then the same.

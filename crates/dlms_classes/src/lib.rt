@@ -10,9 +10,11 @@ mod lookup;
 mod planning;
 mod reading;
 mod rows;
+mod secrets;
 mod showing;
 mod table;
 
 pub use access::AccessResult;
 pub use planning::{plan_action, plan_set};
 pub use reading::get;
+pub use secrets::secret_of;

@@ -1,11 +1,11 @@
 //! What a descriptor names, and whether the client may use it so.
 
 ghost use Rattle.std.specs.Prelude.{◌≡◌, option_map};
-ghost use Rattle.dlms_classes.specs.Table.{entry_of, rights_of, may_read as reads, may_write as writes, may_call as calls};
+ghost use Rattle.dlms_classes.specs.Table.{entry_of, rights_of, but_own_secret as rights_but_own_secret, may_read as reads, may_write as writes, may_call as calls};
 ghost use Rattle.dlms_classes.specs.Access.{IsToldAs, object_named, object_of, numbered as nth, attribute_of, method_of, readable as read_of, writable as write_of, callable as call_of};
 
 use crate::access::AccessResult;
-use crate::table::{Attribute, Call, OBJECTS, Object, Rights};
+use crate::table::{Attribute, Call, Content, OBJECTS, Object, Rights};
 use dlms_data::Descriptor;
 use dlms_frame::Client;
 
@@ -68,6 +68,18 @@ pub fn rights(client: Client, attribute: Attribute) -> Rights
     match client {
         Client::Public => attribute.public,
         Client::Management => attribute.management,
+        Client::Reader => but_own_secret(attribute.content, attribute.management),
+    }
+}
+
+/// Of management's rights those of a client that changes nothing but its own secret.
+fn but_own_secret(content: Content, rights: Rights) -> Rights
+    ensures { result ≡ rights_but_own_secret content rights }
+{
+    match content {
+        Content::Secret => rights,
+        _ if may_read(rights) => Rights::Read,
+        _ => Rights::Nothing,
     }
 }
 
@@ -88,7 +100,7 @@ pub fn may_call(client: Client, method: Call) -> bool
     ensures { result ≡ calls client method }
 {
     match (client, method) {
-        (Client::Public, _) | (Client::Management, Call::Withheld) => false,
+        (Client::Public | Client::Reader, _) | (Client::Management, Call::Withheld) => false,
         (Client::Management, _) => true,
     }
 }

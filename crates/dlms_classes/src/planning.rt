@@ -3,11 +3,13 @@
 ghost use Rattle.std.specs.Prelude.{◌≡◌, option_map};
 ghost use Rattle.dlms_data.specs.View.{value_of};
 ghost use Rattle.dlms_classes.specs.Access.{IsToldAs};
+ghost use Rattle.dlms_classes.specs.Secrets.{secret_of as own_secret};
 ghost use Rattle.dlms_classes.specs.Plan.{IsPlan, clock_to, text_to, secret_to, octets_of_time, text_setting, time_setting, period_setting, columns_setting, secret_setting, setting_asked, event_of, shift_asked, event_asked};
 
 use crate::access::AccessResult;
 use crate::column::columns;
 use crate::lookup::{callable, writable};
+use crate::secrets::secret_of;
 use crate::table::{Call, Content};
 use arrayvec::ArrayVec;
 use dlms_data::{Data, Descriptor, secs};
@@ -74,24 +76,24 @@ fn plan_columns<A: Allocator>(value: &Data<A>) -> Result<Event, AccessResult>
     Ok(Event::SetColumns(columns(value)?))
 }
 
-/// The event that sets management's secret.
-fn plan_secret<A: Allocator>(value: &Data<A>) -> Result<Event, AccessResult>
-    ensures { IsPlan (secret_setting (value_of value.now)) result }
+/// The event that sets the client's own secret.
+fn plan_secret<A: Allocator>(client: Client, value: &Data<A>) -> Result<Event, AccessResult>
+    ensures { IsPlan (secret_setting (value_of value.now) (own_secret client)) result }
 {
-    match value {
-        Data::OctetString(bytes) => secret_event(bytes.as_slice()),
+    match (value, secret_of(client)) {
+        (Data::OctetString(bytes), Some(whose)) => secret_event(whose, bytes.as_slice()),
         _ => Err(AccessResult::TypeUnmatched),
     }
 }
 
-fn secret_event(bytes: &[u8]) -> Result<Event, AccessResult>
-    ensures { IsPlan (Ok (secret_to bytes.now)) result }
+fn secret_event(whose: SecretOf, bytes: &[u8]) -> Result<Event, AccessResult>
+    ensures { IsPlan (Ok (secret_to whose bytes.now)) result }
 {
     let mut secret = ArrayVec::new();
     if secret.try_extend_from_slice(bytes).is_err() {
         return Err(AccessResult::OtherReason);
     }
-    Ok(Event::SetSecret(SecretOf::Management, secret))
+    Ok(Event::SetSecret(whose, secret))
 }
 
 /// The event that SET of an attribute asks for. Whether the state accepts it is not looked at: an event that its `check`
@@ -103,7 +105,7 @@ fn secret_event(bytes: &[u8]) -> Result<Event, AccessResult>
 /// | the clock's time | octet-string of twelve or date-time |
 /// | the capture objects | array of at most four structures of class, name, attribute 2 and data index 0, each that of the clock or of a register |
 /// | the capture period | double-long-unsigned |
-/// | the secret | octet-string, at most 16 bytes |
+/// | the secret, which is the client's own | octet-string, at most 16 bytes |
 pub fn plan_set<A: Allocator>(
     client: Client,
     descriptor: Descriptor,
@@ -117,7 +119,7 @@ pub fn plan_set<A: Allocator>(
         Content::Time => plan_time(value),
         Content::CaptureObjects => plan_columns(value),
         Content::CapturePeriod => plan_period(value),
-        Content::Secret => plan_secret(value),
+        Content::Secret => plan_secret(client, value),
         _ => Err(AccessResult::TypeUnmatched),
     }
 }

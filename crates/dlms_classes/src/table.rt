@@ -80,7 +80,7 @@ pub struct Object {
     pub methods: &'static [Call],
 }
 
-/// An attribute with the rights of the public client and of management.
+/// An attribute with the rights of the public client and of management. Those of the reader are made of management's.
 macro_rules! holds {
     ($content:expr, $public:ident, $management:ident) => {
         Attribute {
@@ -91,14 +91,14 @@ macro_rules! holds {
     };
 }
 
-/// An attribute that both clients may read.
+/// An attribute that every client may read.
 macro_rules! shows {
     ($content:expr) => {
         holds!($content, Read, Read)
     };
 }
 
-/// An attribute that both clients may read, and management may set.
+/// An attribute that every client may read, and management may set.
 macro_rules! sets {
     ($content:expr) => {
         holds!($content, Read, ReadWrite)

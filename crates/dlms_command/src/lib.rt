@@ -252,14 +252,14 @@ pub fn run<H: Net + Files<File = File> + Clock + AllocGlobal, R: Read + Drop, W:
                 address,
                 readings,
                 secret_file,
-                public,
+                client,
             },
         ) => {
             let polling = Polling {
                 address,
                 readings,
                 secret_file,
-                public,
+                client,
             };
             finish(run_poll(host, &polling, output), errors)
         }

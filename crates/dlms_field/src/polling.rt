@@ -17,9 +17,6 @@ use std::io::{ErrorKind, Read, Write};
 use std::net::{Net, OpenStream, TcpStream, ToSocketAddrs};
 use std::time::{Clock, Duration};
 
-/// Management's first secret.
-const SECRET: &[u8] = b"12345678";
-
 /// For how many seconds a connection is waited for.
 const CONNECT_SECONDS: u64 = 8;
 
@@ -33,10 +30,10 @@ pub struct Polling<'a> {
     pub address: &'a str,
     /// The file that the readings stand in.
     pub readings: Option<&'a str>,
-    /// The file of management's secret; the first secret where there is none.
+    /// The file of the client's secret; its first secret where there is none.
     pub secret_file: Option<&'a str>,
-    /// Whether the public client asks, which has no secret.
-    pub public: bool,
+    /// Who asks. Of a client without a secret no file is read.
+    pub client: Client,
 }
 
 /// The outcome of a call of the system at this file or address.
@@ -47,16 +44,25 @@ fn at<'a, T: Drop>(place: &'a str, outcome: io::Result<T>) -> Result<T, FieldFau
     }
 }
 
+/// The secret that a new meter knows of a client; none where it has none.
+fn first_secret(client: Client) -> &'static [u8] {
+    match client {
+        Client::Public => &[],
+        Client::Management => b"12345678",
+        Client::Reader => b"23456789",
+    }
+}
+
 /// The secret that is sent.
 fn secret<'a, R: Files>(rt: &R, polling: &Polling<'a>) -> Result<ArrayVec<u8, 16>, FieldFault<'a>> {
-    if polling.public {
+    if !polling.client.has_secret() {
         return Ok(ArrayVec::new());
     }
     let bytes = match polling.secret_file {
         Some(file) => at(file, first_bytes(rt, file))?,
         None => {
             let mut first = ArrayVec::new();
-            let _fits = first.try_extend_from_slice(SECRET);
+            let _fits = first.try_extend_from_slice(first_secret(polling.client));
             first
         }
     };
@@ -107,14 +113,9 @@ fn connected<R: Net>(rt: &R, address: &str) -> io::Result<R::Stream> {
 }
 
 /// A poll by this client, from the last row's second on.
-fn poller(alloc: Global, public: bool, secret: ArrayVec<u8, 16>, after: Option<u32>) -> Poller
+fn poller(alloc: Global, client: Client, secret: ArrayVec<u8, 16>, after: Option<u32>) -> Poller
     requires { IfSome after (λ second. second ≤ LAST_SECOND) }
 {
-    let client = if public {
-        Client::Public
-    } else {
-        Client::Management
-    };
     let plan = Plan {
         client,
         secret,
@@ -178,7 +179,7 @@ pub fn poll<'a, R: Net + Files + Clock + AllocGlobal, W: Write>(
     let secret = secret(rt, polling)?;
     let mut readings = opened(rt, polling.readings)?;
     let before = text_of(&readings)?.len();
-    let poller = poller(rt.alloc(), polling.public, secret, readings.last());
+    let poller = poller(rt.alloc(), polling.client, secret, readings.last());
     let stream = at(polling.address, connected(rt, polling.address))?;
     let poller = polled(rt, polling.address, stream, poller)?;
     if readings.merge(poller.rows()).is_err() {

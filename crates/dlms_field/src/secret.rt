@@ -1,4 +1,4 @@
-//! Management's secret, from a file.
+//! A client's secret, from a file.
 
 ghost use Rattle.std.specs.Prelude.{◌≡◌, ◌<◌, ℕ, List, length, MatchOption};
 ghost use Rattle.dlms_field.specs.Secret.{IsWithoutLineFeed};

@@ -18,7 +18,7 @@ const PROPOSED: Conformance = Conformance(0x7e_1f);
 fn size_of(client: Client) -> u16 {
     match client {
         Client::Public => 512,
-        Client::Management => 1024,
+        Client::Management | Client::Reader => 1024,
     }
 }
 

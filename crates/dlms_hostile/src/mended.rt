@@ -10,7 +10,7 @@ use std::alloc::{AllocError, Global};
 /// The bytes of the meter's address in each of its forms, and those of the clients.
 const METER: [&[u8]; 3] = [&[0x03], &[0x02, 0x23], &[0x00, 0x02, 0x00, 0x23]];
 
-const CLIENTS: [&[u8]; 2] = [&[0x21], &[0x03]];
+const CLIENTS: [&[u8]; 3] = [&[0x21], &[0x03], &[0x05]];
 
 /// The poll bit of a control byte.
 const POLL: u8 = 0x10;

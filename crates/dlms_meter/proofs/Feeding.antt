@@ -1,10 +1,10 @@
 -- A call of feed.
-use Rattle.std.proofs.Common.{length, ◌≤◌, ◌≡◌, inl, inr, refl, sym, ◌∙◌, ap, subst, ℕ, Bool, true, false, List, [], ◌∷◌, ◌++◌, Option, Some, None}
-use Rattle.std.specs.Prelude.{IfSome}
+use Rattle.std.proofs.Common.{length, ◌≤◌, ◌≡◌, inl, inr, refl, sym, ◌∙◌, ap, subst, ℕ, Bool, true, false, if◌then◌else◌, List, [], ◌∷◌, ◌++◌, Option, Some, None}
+use Rattle.std.specs.Prelude.{IfSome, ◌≢◌}
 use Rattle.dlms_frame.specs.Frame.{Parts}
 use Rattle.dlms_frame.specs.Stream.{Fits, Takes as TakesBytes}
 use Rattle.dlms_frame.specs.declared.client.Client.{Client}
-use Rattle.dlms_frame.specs.declared.client.Client.TheVariants.{Public, Management}
+use Rattle.dlms_frame.specs.declared.client.Client.TheVariants.{Public, Management, Reader}
 use Rattle.dlms_link.specs.Server.{ServerRecord, server_on}
 use Rattle.dlms_link.specs.declared.out.LinkOut.{LinkOut}
 use Rattle.dlms_link.specs.declared.out.LinkOut.TheVariants.{Nothing, Reply, Apdu, Oversize, BadLlc, Up, Down}
@@ -23,7 +23,8 @@ use Rattle.dlms_store.specs.Going.{Goes}
 use Rattle.dlms_store.proofs.Going.{none}
 use Rattle.dlms_meter.specs.ClientRecord.{ClientRecord}
 use Rattle.dlms_meter.specs.declared.meter.Meter.{Meter}
-use Rattle.dlms_meter.specs.Run.{MeterWorld, Records, Turn, Choice, Served, DeviceFails, Handled, Handles, Answered, Takes, IsSettling, StoredFor, Stored, pending_in, Feeds, Stands, Handling, Replies, MayChoose, client_at, other_of, record_for, with_record, after_turn, grown, events_of}
+use Rattle.dlms_meter.specs.Run.{MeterWorld, Records, Turn, Choice, Served, DeviceFails, Handled, Handles, Answered, Takes, IsSettling, StoredFor, Stored, pending_in, Feeds, Stands, Handling, Replies, MayChoose, client_at, is_same, record_for, with_record, after_turn, grown, events_of}
+use Rattle.dlms_meter.proofs.Apart.{same-is, not_same}
 use Rattle.dlms_meter.proofs.RunLemmas.{none_ended}
 
 -- ---- an answer of success leaves nothing pending
@@ -93,12 +94,13 @@ promised_by own f reply w old new own' h =
     h.stored h.goes.run
 
 -- each client's record, where one of them changed
-own_records : {P A : Type 0} {ghosts : Ghosts P} (who : Client) (w : MeterWorld) (old new : Meter P A ghosts) → Stands old w → record_for new (other_of who) ≡ record_for old (other_of who)
+own_records : {P A : Type 0} {ghosts : Ghosts P} (who : Client) (w : MeterWorld) (old new : Meter P A ghosts) → Stands old w → ((other : Client) → other ≢ who → record_for new other ≡ record_for old other)
     → (c : Client) → with_record w.records who (record_for new who) c ≡ record_for new c
-own_records Public w old new stands other Public = refl
-own_records Public w old new stands other Management = stands.own Management ∙ sym other
-own_records Management w old new stands other Public = stands.own Public ∙ sym other
-own_records Management w old new stands other Management = refl
+own_records who w old new stands others c = by_test (is_same who c) refl
+  where
+    by_test : (b : Bool) → is_same who c ≡ b → (if b then record_for new who else w.records c) ≡ record_for new c
+    by_test true e = ap (λ (x : Client). record_for new x) (same-is who c e)
+    by_test false e = stands.own c ∙ sym (others c (not_same who c e))
 
 led : {P A : Type 0} {ghosts : Ghosts P} (who : Option Client) (w : MeterWorld) (f : Parts) (reply : Option (List ℕ)) (old new : Meter P A ghosts) → ((ghosts.view old.store.device).honest ≡ true → Rules (ghosts.view old.store.device))
     → Stands old w → Replies old f reply new who → Led w f reply old new who
@@ -118,7 +120,7 @@ led None w f reply old new rules stands (same, silent) = record {
   goes = subst (λ m. Goes w.store [] w.store old.store m.store) (sym same) (none w.store old.store rules stands.store);
   short = tt;
 }
-led (Some who) w f reply old new rules stands (handling, kept, other) =
+led (Some who) w f reply old new rules stands (handling, kept, others) =
     let h = handling w.store stands.store in
     let own : ClientRecord = record_for new who in
     record {
@@ -132,7 +134,7 @@ led (Some who) w f reply old new rules stands (handling, kept, other) =
       stored = h.stored;
       promise = promised_by (record_for old who) f reply w old new own h;
       may = h.may;
-      own = own_records who w old new stands other;
+      own = own_records who w old new stands others;
       kept = kept;
       goes = h.goes;
       short = h.short;
@@ -141,7 +143,13 @@ led (Some who) w f reply old new rules stands (handling, kept, other) =
 -- ---- calls
 
 abbrev with_kept : {P A : Type 0} → {ghosts : Ghosts P} → Meter P A ghosts → List ℕ → Meter P A ghosts
-with_kept m kept = record { alloc = m.alloc; deframer = kept; public = m.public; management = m.management; store = m.store }
+with_kept m kept = record { alloc = m.alloc; deframer = kept; public = m.public; management = m.management; reader = m.reader; store = m.store }
+
+-- no client's record changes by what is kept of the line
+same_records : {P A : Type 0} {ghosts : Ghosts P} (m : Meter P A ghosts) (kept : List ℕ) (c : Client) → record_for m c ≡ record_for (with_kept m kept) c
+same_records m kept Public = refl
+same_records m kept Management = refl
+same_records m kept Reader = refl
 
 -- one that ended no frame
 pub fed_none : {P A : Type 0} {ghosts : Ghosts P} (old : Meter P A ghosts) (taken kept : List ℕ) → ((ghosts.view old.store.device).honest ≡ true → Rules (ghosts.view old.store.device))
@@ -151,13 +159,9 @@ fed_none old taken kept rules takes = λ w stands.
       grown w taken,
       [],
       inl (none_ended kept (w.stretch ++ taken) w.place fits, refl, refl, refl),
-      record { line = fits; own = by_client w stands; store = stands.store },
+      record { line = fits; own = λ c. stands.own c ∙ same_records old kept c; store = stands.store },
       none w.store old.store rules stands.store,
     )
-  where
-    by_client : (w : MeterWorld) → Stands old w → (c : Client) → w.records c ≡ record_for (with_kept old kept) c
-    by_client w stands Public = stands.own Public
-    by_client w stands Management = stands.own Management
 
 -- one that ended a frame
 pub fed_one : {P A : Type 0} {ghosts : Ghosts P} (old : Meter P A ghosts) (taken kept : List ℕ) (f : Parts) (reply : Option (List ℕ)) (new : Meter P A ghosts)
@@ -166,7 +170,7 @@ pub fed_one : {P A : Type 0} {ghosts : Ghosts P} (old : Meter P A ghosts) (taken
 fed_one old taken kept f reply new rules takes replies = λ w stands.
     let found = takes w.stretch w.place stands.line in
     let at : MeterWorld = record { stretch = w.stretch ++ taken; place = found.1; records = w.records; store = w.store } in
-    let mid : Stands (with_kept old kept) at = record { line = found.4; own = by_client w stands; store = stands.store } in
+    let mid : Stands (with_kept old kept) at = record { line = found.4; own = λ c. stands.own c ∙ same_records old kept c; store = stands.store } in
     let leads = led (client_at f.src) at f reply (with_kept old kept) new rules mid replies in
     let turn : Turn = record { from = found.0; to = found.1; frame = f; choice = leads.choice; records = leads.records; reply = reply; answer = leads.answer; accepted = leads.accepted; steps = leads.steps; store = leads.now } in (
       after_turn (grown w taken) turn,
@@ -175,7 +179,3 @@ fed_one old taken kept f reply new rules takes replies = λ w stands.
       record { line = subst (λ (k : List ℕ). Fits k (w.stretch ++ taken) found.1) (sym leads.kept) found.4; own = leads.own; store = leads.goes.knows },
       leads.goes,
     )
-  where
-    by_client : (w : MeterWorld) → Stands old w → (c : Client) → w.records c ≡ record_for (with_kept old kept) c
-    by_client w stands Public = stands.own Public
-    by_client w stands Management = stands.own Management

@@ -23,8 +23,6 @@ use Rattle.dlms_data.specs.Writing.{canonical}
 use Rattle.dlms_data.specs.declared.descriptor.Descriptor.{Descriptor}
 use Rattle.dlms_frame.specs.declared.client.Client.{Client}
 use Rattle.dlms_state.specs.StateValue.{state_of}
-use Rattle.dlms_state.specs.Events.{secret_after}
-use Rattle.dlms_state.specs.declared.event.SecretOf.TheVariants as owner
 use Rattle.dlms_state.specs.declared.event.Event.{Event}
 use Rattle.dlms_classes.specs.Access.{number_of}
 use Rattle.dlms_classes.specs.declared.access.AccessResult.{AccessResult}
@@ -39,7 +37,7 @@ use Rattle.dlms_service.specs.Stake.{failing, stake_of}
 use Rattle.dlms_classes.specs.Answer.{IsShown}
 use Rattle.dlms_service.specs.Shown.{asked, Gives, block_form, in_blocks, goes_on}
 use Rattle.dlms_service.specs.Blocks.{Steps, ContinuesFor, open_for, taken_form, ended_form, code_for}
-use Rattle.dlms_service.specs.Serves.{Choice, FindsMemory, LacksMemoryToRead, LacksMemoryToAnswer, Asks, LacksToAnswer, Permitted, Requested, Read, Within, Released, Associated, associated, permits, begins_with}
+use Rattle.dlms_service.specs.Serves.{Choice, FindsMemory, LacksMemoryToRead, LacksMemoryToAnswer, Asks, LacksToAnswer, Permitted, Requested, Read, Within, Released, Associated, secret_for, associated, permits, begins_with}
 use Rattle.dlms_meter.specs.Run.{Choice as Chosen, Served, DeviceFails, Does}
 use Rattle.dlms_meter.specs.Transfers.{Own, Cleared, Asked, Exchange, InTurn, own_of, is_get_normal, is_block, begins, NoneBegins, blocks_in, Block, spelled, joined, has_last, GoesOut, BlocksJoin, NoBlockUnasked}
 use Rattle.dlms_meter.proofs.InTurn.{in_turn}
@@ -237,7 +235,7 @@ judged_is E request s secret (Ok r) o e = quiet E request s o (associated s secr
 judged_is E request s secret (Err fault) o e = quiet E request s o (associated s secret (Err fault)) e refl refl (inl refl)
 
 associated_or : (b : Bool) (choice : Choice) (E : List Event) (s : SessionValue) (bytes : List ℕ) (o : Outcome) → Associated choice E s bytes b o → Moved E (request_at bytes) s o
-associated_or true choice E s bytes o h = judged_is E (request_at bytes) s (secret_after owner.Management E) (aarq_at bytes) o h
+associated_or true choice E s bytes o h = judged_is E (request_at bytes) s (secret_for s.client E) (aarq_at bytes) o h
 associated_or false choice E s bytes o h = released_or (begins_with 0x62 bytes) choice E s bytes o h
 
 -- a device that failed

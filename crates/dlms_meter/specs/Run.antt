@@ -1,12 +1,14 @@
 -- A run of the meter: what comes in over the line and by its own pulses and moments, what it replies, and the events that
 -- it accepts. The line is that of IEC 62056-46, what is served above it that of IEC 62056-5-3.
-use Rattle.std.specs.Prelude.{◌≡◌, ◌⊎◌, ℕ, ◌+◌, ◌≤◌, List, [], ◌∷◌, ◌++◌, length, Bool, true, false, Option, Some, None, IfSome, Result, Ok, Err, if◌then◌else◌}
+use Rattle.std.specs.Prelude.{◌≡◌, ◌≢◌, ◌==◌, ◌⊎◌, ℕ, ◌+◌, ◌≤◌, List, [], ◌∷◌, ◌++◌, length, Bool, true, false, Option, Some, None, IfSome, Result, Ok, Err, if◌then◌else◌}
 use Rattle.dlms_frame.specs.declared.client.Client.{Client}
-use Rattle.dlms_frame.specs.declared.client.Client.TheVariants.{Public, Management}
+use Rattle.dlms_frame.specs.declared.client.Client.TheVariants.{Public, Management, Reader}
+use Rattle.dlms_frame.specs.Client.{sap_of, client_of}
 use Rattle.dlms_frame.specs.declared.frame.Address.{Address}
+use Rattle.dlms_frame.specs.declared.frame.Address.TheVariants.{One}
 use Rattle.dlms_frame.specs.Frame.{Parts, spelling}
 use Rattle.dlms_frame.specs.Stream.{FrameAt, IsNext, Fits}
-use Rattle.dlms_link.specs.Server.{ServerRecord, is_client, server_on, server_send}
+use Rattle.dlms_link.specs.Server.{ServerRecord, server_on, server_send}
 use Rattle.dlms_link.specs.declared.out.LinkOut.{LinkOut}
 use Rattle.dlms_link.specs.declared.out.LinkOut.TheVariants.{Nothing, Reply, Apdu, Oversize, BadLlc, Up, Down}
 use Rattle.dlms_service.specs.Session.{SessionValue, Outcome, fresh, not_possible, unknown_service}
@@ -105,16 +107,9 @@ Handles choice E own frame h = Answered choice E (server_on own.link frame).0 ow
 
 -- ---- a frame of anyone
 
+-- no two clients have one service access point
 abbrev pub is_same : Client → Client → Bool
-is_same Public Public = true
-is_same Public Management = false
-is_same Management Public = false
-is_same Management Management = true
-
--- the other client
-abbrev pub other_of : Client → Client
-other_of Public = Management
-other_of Management = Public
+is_same who other = sap_of who == sap_of other
 
 -- the records with this client's changed
 abbrev pub with_record : Records → Client → ClientRecord → Records
@@ -122,7 +117,8 @@ with_record records who own other = if is_same who other then own else records o
 
 -- the client that a frame from this address is of, if any
 abbrev pub client_at : Address → Option Client
-client_at address = if is_client Public address then Some Public else if is_client Management address then Some Management else None
+client_at (One sap) = client_of sap
+client_at _ = None
 
 -- A frame in its turn: where it stands in the stretch, the choice that was taken at it, what it led to, and what the store did.
 pub record Turn : Type 0 where
@@ -269,6 +265,7 @@ recovered events = record { stretch = []; place = 0; records = fresh_record; sto
 abbrev pub record_for : {P A : Type 0} → {ghosts : Ghosts P} → Meter P A ghosts → Client → ClientRecord
 record_for m Public = m.public
 record_for m Management = m.management
+record_for m Reader = m.reader
 
 pub record Stands {P A : Type 0} {ghosts : Ghosts P} (m : Meter P A ghosts) (w : MeterWorld) : Type 0 where
   pub line : Fits m.deframer w.stretch w.place
@@ -307,7 +304,7 @@ abbrev pub Replies : {P A : Type 0} → {ghosts : Ghosts P} → Meter P A ghosts
 Replies old frame reply new None = (new ≡ old) × (reply ≡ None)
 Replies old frame reply new (Some who) =
     ((before : StoreWorld) → Knows old.store before → Handling (record_for old who) frame reply (record_for new who) before old.store new.store)
-    × (new.deframer ≡ old.deframer) × (record_for new (other_of who) ≡ record_for old (other_of who))
+    × (new.deframer ≡ old.deframer) × ((other : Client) → other ≢ who → record_for new other ≡ record_for old other)
 
 -- with these bytes the next frame of the stretch ends
 abbrev pub EndsFrame : MeterWorld → List ℕ → Type 0

@@ -149,7 +149,7 @@ pub record GoesOut (who : Client) (s : SessionValue) (before : List Own) (x : Ex
 -- In every run, where a GET of a client was answered by a block, and no other GET of it that was answered so came behind it:
 -- the raw bytes of the blocks that it was given, joined, are so many blocks of the encoding, at its request, of what the
 -- attribute showed then, and all of it once the last is given. Whatever else came between: other APDUs, want of memory, a
--- device that fails, a link that goes down and comes up, frames of the other client, pulses and moments.
+-- device that fails, a link that goes down and comes up, frames of other clients, pulses and moments.
 abbrev pub BlocksJoin : Type 0
 BlocksJoin =
     (who : Client) (w w' : MeterWorld) (steps : List Step) (run : Run w steps w') (before behind : List Own) (x : Exchange) → (w.records who).session.client ≡ who

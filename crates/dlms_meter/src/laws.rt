@@ -42,7 +42,7 @@ pub fn stores_in_turn()
 {}
 
 /// The clients are independent: a client's replies come of its own frames, its own record and the events accepted before each
-/// of them, and of nothing else. Pieces, silences, the other client's frames, pulses and moments between them matter by these
+/// of them, and of nothing else. Pieces, silences, other clients' frames, pulses and moments between them matter by these
 /// alone.
 pub fn independence()
     ensures alone { IsAlone }

@@ -21,14 +21,15 @@ use dlms_state::{Event, State};
 use dlms_store::{AddFault, OpenFault, Store};
 use std::alloc::{Allocator, Global};
 
-/// A meter with its registers, its clock and its load profile, which two clients read and set over one line. What an answer of
-/// success, or with data, speaks of outlasts a stop of the power.
+/// A meter with its registers, its clock and its load profile, which its clients read and set over one line, each with a link,
+/// an association and transfers of its own. What an answer of success, or with data, speaks of outlasts a stop of the power.
 #[derive(Drop)]
 pub struct Meter<P: Pages, A: Allocator + Copy = Global> {
     alloc: A,
     deframer: Deframer,
     public: Connection<A>,
     management: Connection<A>,
+    reader: Connection<A>,
     store: Store<P, A>,
 }
 
@@ -37,8 +38,7 @@ fn client_at(address: Address) -> Option<Client>
     ensures { result ≡ client_at address }
 {
     match address {
-        Address::One(sap) if sap == Client::Public.sap() => Some(Client::Public),
-        Address::One(sap) if sap == Client::Management.sap() => Some(Client::Management),
+        Address::One(sap) => Client::of_sap(sap),
         _ => None,
     }
 }
@@ -77,6 +77,7 @@ impl<P: Pages, A: Allocator + Copy> Meter<P, A> {
             deframer: Deframer::new(),
             public: Connection::new(Client::Public),
             management: Connection::new(Client::Management),
+            reader: Connection::new(Client::Reader),
             store,
         }
     }
@@ -149,6 +150,7 @@ impl<P: Pages, A: Allocator + Copy> Meter<P, A> {
         match client_at(frame.src) {
             Some(Client::Public) => self.public.answer(self.alloc, &mut self.store, frame),
             Some(Client::Management) => self.management.answer(self.alloc, &mut self.store, frame),
+            Some(Client::Reader) => self.reader.answer(self.alloc, &mut self.store, frame),
             None => None,
         }
     }

@@ -1,10 +1,12 @@
 -- The program's words: its commands, and the job that a parse names.
-use Rattle.std.specs.Prelude.{◌≡◌, ◌<◌, ◌↔◌, ◌^◌, ℕ, pos, [], List, Option, Some, None, codes, option_map, unwrap_or, Bool, true, IsTrue}
+use Rattle.std.specs.Prelude.{◌≡◌, ◌<◌, ◌↔◌, ◌^◌, ℕ, pos, [], List, Option, Some, None, codes, option_map, unwrap_or, Bool, true, false, IsTrue}
 use Rattle.clap.specs.Words.{App, Row, Rule, Text, first_of, new_app, new_rule, with_rule, with_subcommand}
 use Rattle.clap.specs.declared.builder.action.ArgAction.TheVariants.{SetTrue}
 use Rattle.dlms_program.specs.declared.commands.Job.{Job}
 use Rattle.dlms_program.specs.declared.commands.Job.TheVariants.{Format, Replay, Loopback, Serve, Poll}
 use Rattle.dlms_program.specs.Numbers.{IsNumberOf}
+use Rattle.dlms_frame.specs.declared.client.Client.{Client}
+use Rattle.dlms_frame.specs.declared.client.Client.TheVariants.{Public, Management, Reader}
 use Rattle.clap.specs.declared.builder.value_parser.ValueParser.TheVariants as parser
 
 -- a file may be named, or has to be
@@ -40,7 +42,7 @@ load_rule = record (new_rule (codes "load")) { long = Some (codes "load"); value
 abbrev pub serve_command : App
 serve_command = with_rule (with_rule (with_rule (new_app (codes "serve")) wanted_file_rule) listen_rule) load_rule
 
--- an address has to be named, a file of the secret may be, and the public client asked for
+-- an address has to be named, a file of the secret may be, and another client than management asked for
 abbrev pub address_rule : Rule
 address_rule = record (new_rule (codes "ADDRESS:PORT")) { required = true }
 
@@ -53,8 +55,14 @@ public_rule = record (new_rule (codes "public")) { long = Some (codes "public");
 abbrev pub asking_command : App
 asking_command = with_rule (with_rule (new_app (codes "poll")) address_rule) readings_rule
 
+abbrev pub open_command : App
+open_command = with_rule (with_rule asking_command secret_rule) public_rule
+
+abbrev pub reader_rule : Rule
+reader_rule = record (new_rule (codes "reader")) { long = Some (codes "reader"); action = Some SetTrue }
+
 abbrev pub poll_command : App
-poll_command = with_rule (with_rule asking_command secret_rule) public_rule
+poll_command = with_rule open_command reader_rule
 
 abbrev pub first_commands : App
 first_commands = with_subcommand (with_subcommand (with_subcommand (new_app (codes "dlms")) format_command.top) replay_command.top) loopback_command.top
@@ -92,6 +100,15 @@ SaysLoad = Says 32
 abbrev pub IsSaid : Option Text → Bool → Type 0
 IsSaid found flag = IsTrue flag ↔ (found ≡ Some (codes "true"))
 
+-- who asks: the public client where its flag was given, else the reader where its was, else management
+abbrev pub asker : (public reader : Bool) → Client
+asker true reader = Public
+asker false true = Reader
+asker false false = Management
+
+abbrev pub IsAsker : List Row → Client → Type 0
+IsAsker rows client = (public : Bool) × (reader : Bool) × IsSaid (first_of (codes "public") rows) public × IsSaid (first_of (codes "reader") rows) reader × (client ≡ asker public reader)
+
 -- the words ask for the job, with these values
 abbrev pub Asks : Met → Job → Type 0
 Asks met (Format file) = (rows : List Row) × (met ≡ Some (codes "format", rows)) × (file.now ≡ unwrap_or (file_in rows) [])
@@ -99,6 +116,6 @@ Asks met (Replay file) = (rows : List Row) × (met ≡ Some (codes "replay", row
 Asks met (Loopback readings stops) = (rows : List Row) × (met ≡ Some (codes "loopback", rows)) × (option_map (λ f. f.now) readings ≡ first_of (codes "readings") rows) × SaysStops (first_of (codes "stops") rows) stops
 Asks met (Serve file listen load) = (rows : List Row) × (met ≡ Some (codes "serve", rows)) × (file.now ≡ unwrap_or (file_in rows) [])
     × (option_map (λ a. a.now) listen ≡ first_of (codes "listen") rows) × SaysLoad (first_of (codes "load") rows) load
-Asks met (Poll address readings secret public) = (rows : List Row) × (met ≡ Some (codes "poll", rows)) × (address.now ≡ unwrap_or (first_of (codes "ADDRESS:PORT") rows) [])
+Asks met (Poll address readings secret client) = (rows : List Row) × (met ≡ Some (codes "poll", rows)) × (address.now ≡ unwrap_or (first_of (codes "ADDRESS:PORT") rows) [])
     × (option_map (λ f. f.now) readings ≡ first_of (codes "readings") rows) × (option_map (λ f. f.now) secret ≡ first_of (codes "secret-file") rows)
-    × IsSaid (first_of (codes "public") rows) public
+    × IsAsker rows client

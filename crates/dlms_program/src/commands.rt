@@ -1,5 +1,7 @@
 //! What the program can be asked to do.
 
+use dlms_frame::Client;
+
 /// The work that the program is asked to do.
 #[derive(Clone, Copy, Debug, PartialEq, Eq)]
 pub enum Job<'a> {
@@ -23,12 +25,12 @@ pub enum Job<'a> {
         listen: Option<&'a str>,
         load: u32,
     },
-    /// Polls the meter at this address once, into this file where one is named, by management with the secret in a file, or with
-    /// the first secret where none is named, or by the public client.
+    /// Polls the meter at this address once, into this file where one is named, by this client, with the secret in a file, or
+    /// with its first secret where none is named and it has to know one.
     Poll {
         address: &'a str,
         readings: Option<&'a str>,
         secret_file: Option<&'a str>,
-        public: bool,
+        client: Client,
     },
 }

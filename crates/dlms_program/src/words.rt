@@ -2,10 +2,11 @@
 ghost use Rattle.std.specs.Prelude.{◌≡◌, [], List, Some, option_map, OnOk, false, true, IfErr, IfOk, codes, map};
 ghost use Rattle.clap.specs.Words.{app_of, fault_of, first_of, rule_of, Row, FailsBy, HasKind, subcommand_rows_of, subcommand_of};
 ghost use Rattle.clap.specs.declared.builder.command.Command.TheViews.{out-Command as fields_of};
-ghost use Rattle.dlms_program.specs.Words.{asking_command, dlms, first_commands, format_command, listen_rule, load_rule, loopback_command, poll_command, public_rule, readings_rule, replay_command, secret_rule, serve_command, stops_rule, Asks, IsSaid, SaysLoad, SaysStops};
+ghost use Rattle.dlms_program.specs.Words.{asking_command, dlms, first_commands, format_command, listen_rule, load_rule, loopback_command, open_command, poll_command, public_rule, reader_rule, asker as client_by, readings_rule, replay_command, secret_rule, serve_command, stops_rule, Asks, IsSaid, SaysLoad, SaysStops};
 
 use crate::commands::Job;
 use clap::{Arg, ArgAction, ArgMatches, Command, Error, value_parser};
+use dlms_frame::Client;
 use std::alloc::{AllocError, Global};
 
 /// The program's version, as `--version` prints it.
@@ -72,7 +73,8 @@ const POLL_ABOUT: &str =
     "Polls the load profile of the meter at ADDRESS:PORT once, over HDLC on TCP, and prints the rows that are new.
 
 Asks as management, with the secret that stands in the file of --secret-file (at most 16 bytes; one line feed at its end is none \
-of it), or with 12345678 where none is named; with --public as the public client, which has no secret. With --readings the rows \
+of it), or with 12345678 where none is named; with --reader as the reader, with that secret or with 23456789; with --public as \
+the public client, which has no secret, whatever else is given. With --readings the rows \
 from the second of FILE's last row on are asked for, an absent FILE has none, and FILE gets the new text: a stop at any moment \
 leaves the old text or the new one. Prints a line \"clock,r0,r1,r2\" for each row that FILE did not have. A frame that is not \
 answered within two seconds goes out again, three times at most.
@@ -186,7 +188,7 @@ fn secret_option<'a>(alloc: Global) -> Arg<'a>
     Arg::new(alloc, "secret-file")
         .long("secret-file")
         .value_name("FILE")
-        .help("The file that management's secret stands in")
+        .help("The file that the client's secret stands in")
 }
 
 /// The flag that asks for the public client.
@@ -198,6 +200,17 @@ fn public_flag<'a>(alloc: Global) -> Arg<'a>
         .long("public")
         .action(ArgAction::SetTrue)
         .help("Asks as the public client")
+}
+
+/// The flag that asks for the reader.
+fn reader_flag<'a>(alloc: Global) -> Arg<'a>
+    ensures rule { rule_of result ≡ reader_rule }
+    ensures local { result.global ≡ false }
+{
+    Arg::new(alloc, "reader")
+        .long("reader")
+        .action(ArgAction::SetTrue)
+        .help("Asks as the reader")
 }
 
 /// `poll`, whoever asks.
@@ -215,13 +228,21 @@ fn asking_command<'a>(alloc: Global) -> Result<Command<'a>, AllocError>
         .arg(readings_option(alloc))
 }
 
-fn poll_command<'a>(alloc: Global) -> Result<Command<'a>, AllocError>
-    ensures shape { IfOk result (λ c. app_of c ≡ poll_command) }
+/// `poll`, by a client with a secret or by the public one.
+fn open_command<'a>(alloc: Global) -> Result<Command<'a>, AllocError>
+    ensures shape { IfOk result (λ c. app_of c ≡ open_command) }
     ensures local { IfOk result (λ c. (fields_of c).has_globals ≡ false) }
 {
     asking_command(alloc)?
         .arg(secret_option(alloc))?
         .arg(public_flag(alloc))
+}
+
+fn poll_command<'a>(alloc: Global) -> Result<Command<'a>, AllocError>
+    ensures shape { IfOk result (λ c. app_of c ≡ poll_command) }
+    ensures local { IfOk result (λ c. (fields_of c).has_globals ≡ false) }
+{
+    open_command(alloc)?.arg(reader_flag(alloc))
 }
 
 /// The commands of a meter in a file or in memory.
@@ -313,15 +334,30 @@ fn serve_job<'a>(matches: &ArgMatches<'a>) -> Job<'a>
     }
 }
 
+/// Who asks, by the flags that were given.
+fn asker(public: bool, reader: bool) -> Client
+    ensures { result ≡ client_by public reader }
+{
+    if public {
+        Client::Public
+    } else if reader {
+        Client::Reader
+    } else {
+        Client::Management
+    }
+}
+
 /// The values of `poll`.
 fn poll_job<'a>(matches: &ArgMatches<'a>) -> Job<'a>
     ensures { (rows : List Row) → subcommand_rows_of matches.now ≡ Some (codes "poll", rows) → Asks (Some (codes "poll", rows)) result }
 {
+    let public = is_given(value_for(matches, "poll", "public"));
+    let reader = is_given(value_for(matches, "poll", "reader"));
     Job::Poll {
         address: value_for(matches, "poll", "ADDRESS:PORT").unwrap_or(""),
         readings: value_for(matches, "poll", "readings"),
         secret_file: value_for(matches, "poll", "secret-file"),
-        public: is_given(value_for(matches, "poll", "public")),
+        client: asker(public, reader),
     }
 }
 

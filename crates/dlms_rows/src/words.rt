@@ -86,6 +86,7 @@ pub fn client_of(word: &str) -> Result<Client, RowFault> {
     match word {
         "public" => Ok(Client::Public),
         "management" => Ok(Client::Management),
+        "reader" => Ok(Client::Reader),
         _ => Err(RowFault::Form),
     }
 }

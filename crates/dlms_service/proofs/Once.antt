@@ -9,6 +9,7 @@ use Rattle.dlms_data.proofs.WholeLaws.{reads_one_value}
 use Rattle.dlms_frame.specs.declared.client.Client.{Client}
 use Rattle.dlms_state.specs.declared.event.Event.{Event}
 use Rattle.dlms_state.specs.declared.event.Event.TheVariants.{SetTime, SetText, SetSecret, SetColumns}
+use Rattle.dlms_state.specs.declared.event.SecretOf.{SecretOf}
 use Rattle.dlms_state.specs.declared.event.SecretOf.TheVariants.{Management, Reader}
 use Rattle.dlms_state.specs.Events.{text_set, secret_set, columns_set}
 use Rattle.dlms_state.specs.StateValue.{state_of}
@@ -57,10 +58,13 @@ is_text : (e : Event) (bytes : List ℕ) → text_set e ≡ Some bytes → e ≡
 is_text (SetText b) bytes h = ap (λ (xs : List ℕ). SetText (record { items = xs })) (some_is h)
 is_text _ bytes h = none_is h
 
-is_secret : (e : Event) (bytes : List ℕ) → secret_set Management e ≡ Some bytes → e ≡ SetSecret Management (record { items = bytes })
-is_secret (SetSecret Management b) bytes h = ap (λ (xs : List ℕ). SetSecret Management (record { items = xs })) (some_is h)
-is_secret (SetSecret Reader b) bytes h = none_is h
-is_secret _ bytes h = none_is h
+is_secret : (whose : SecretOf) (e : Event) (bytes : List ℕ) → secret_set whose e ≡ Some bytes → e ≡ SetSecret whose (record { items = bytes })
+is_secret Management (SetSecret Management b) bytes h = ap (λ (xs : List ℕ). SetSecret Management (record { items = xs })) (some_is h)
+is_secret Reader (SetSecret Reader b) bytes h = ap (λ (xs : List ℕ). SetSecret Reader (record { items = xs })) (some_is h)
+is_secret Management (SetSecret Reader b) bytes h = none_is h
+is_secret Reader (SetSecret Management b) bytes h = none_is h
+is_secret Management _ bytes h = none_is h
+is_secret Reader _ bytes h = none_is h
 
 is_columns : (e : Event) (ids : List ℕ) → columns_set e ≡ Some ids → e ≡ SetColumns (record { items = ids })
 is_columns (SetColumns b) ids h = ap (λ (xs : List ℕ). SetColumns (record { items = xs })) (some_is h)
@@ -70,7 +74,7 @@ does_once : (setting : Setting) (e f : Event) → Does setting e → Does settin
 does_once (clock_to octets) e f (s, names, is) (t, names', is') = is ∙ ap SetTime (ap unsigned_abs (names.value ∙ sym names'.value)) ∙ sym is'
 does_once (period_to seconds) e f h k = h ∙ sym k
 does_once (text_to bytes) e f h k = is_text e bytes h ∙ sym (is_text f bytes k)
-does_once (secret_to bytes) e f h k = is_secret e bytes h ∙ sym (is_secret f bytes k)
+does_once (secret_to whose bytes) e f h k = is_secret whose e bytes h ∙ sym (is_secret whose f bytes k)
 does_once (columns_to ids) e f h k = is_columns e ids h ∙ sym (is_columns f ids k)
 
 plan_once : (setting : Result Setting AccessResult) (x y : Result Event AccessResult) → IsPlan setting x → IsTyped x → IsPlan setting y → IsTyped y → x ≡ y

@@ -4,7 +4,7 @@ use Rattle.std.specs.Prelude.{◌&&◌, not, is_ok}
 use Rattle.dlms_data.specs.Value.{Value, null}
 use Rattle.dlms_data.specs.declared.descriptor.Descriptor.{Descriptor}
 use Rattle.dlms_frame.specs.declared.client.Client.{Client}
-use Rattle.dlms_frame.specs.declared.client.Client.TheVariants.{Public, Management}
+use Rattle.dlms_frame.specs.declared.client.Client.TheVariants.{Public, Management, Reader}
 use Rattle.dlms_state.specs.declared.event.Event.{Event}
 use Rattle.dlms_classes.specs.declared.access.AccessResult.{AccessResult}
 use Rattle.dlms_classes.specs.declared.access.AccessResult.TheVariants.{ReadWriteDenied, ObjectUndefined, ObjectClassInconsistent, TypeUnmatched, ScopeOfAccessViolated}
@@ -62,16 +62,16 @@ writable_matched client d =
     (λ a. of_right (may_write (rights_of client a)) a)
 
 -- What the plan of a null tells: the first refusal before the value, or that the type does not match.
-null_told : (w : Result Attribute AccessResult) (plan : Result Event AccessResult) → IsPlan (w >>= λ a. setting_of a.content null) plan → plan ≡ (w >>= λ a. Err TypeUnmatched)
-null_told (Ok a) plan h = of_content a.content plan h
+null_told : (client : Client) (w : Result Attribute AccessResult) (plan : Result Event AccessResult) → IsPlan (w >>= λ a. setting_of client a.content null) plan → plan ≡ (w >>= λ a. Err TypeUnmatched)
+null_told client (Ok a) plan h = of_content a.content plan h
   where
-    of_content : (content : Content) (plan : Result Event AccessResult) → IsPlan (setting_of content null) plan → plan ≡ Err TypeUnmatched
+    of_content : (content : Content) (plan : Result Event AccessResult) → IsPlan (setting_of client content null) plan → plan ≡ Err TypeUnmatched
     of_content Text plan h = h
     of_content Time plan h = h
     of_content CapturePeriod plan h = h
     of_content Secret plan h = h
     of_content _ plan h = h
-null_told (Err r) plan h = h
+null_told client (Err r) plan h = h
 
 -- why nothing is set, by the plan of a null
 abbrev pub why : Bool → Result Event AccessResult → AccessResult
@@ -96,7 +96,7 @@ told (Err r) h selected = ap Err (sym (by_selection selected r (λ e. h (ap Err 
 pub unset : (client : Client) (d : Descriptor) (selected : Bool) (plan : Result Event AccessResult) → IsPlan (setting_asked client d null) plan
     → set_asked client d selected None ≡ Err (why selected plan)
 unset client d selected plan h =
-    told (writable client d) (writable_matched client d) selected ∙ ap (λ p. Err (why selected p)) (sym (null_told (writable client d) plan h))
+    told (writable client d) (writable_matched client d) selected ∙ ap (λ p. Err (why selected p)) (sym (null_told client (writable client d) plan h))
 
 -- with no value, the type does not match
 abbrev pub unmatched : Result Event AccessResult → Result Event AccessResult
@@ -108,6 +108,7 @@ no_parameter Public method h = absurd (grind arith)
 no_parameter Management call.Withheld h = absurd (grind arith)
 no_parameter Management call.ShiftTime h = refl
 no_parameter Management _ h = refl
+no_parameter Reader method h = absurd (grind arith)
 
 allowed : (client : Client) (method : Call) (b : Bool) → may_call client method ≡ b
     → ((if b then Ok method else Err ReadWriteDenied) >>= λ m. no_event TypeUnmatched) ≡ unmatched ((if b then Ok method else Err ReadWriteDenied) >>= λ m. event_of m None)
@@ -163,12 +164,12 @@ pub reached : (client : Client) (t : Target) (plan : Result Event AccessResult) 
 reached client t plan h = reached_for t.service client t plan h
 
 -- what is refused before its value is refused so whatever the value is
-unset_unread : (w : Result Attribute AccessResult) (selected : Bool) (v : Value) (plan : Result Event AccessResult) → (is_ok w && not selected) ≡ false
+unset_unread : (client : Client) (w : Result Attribute AccessResult) (selected : Bool) (v : Value) (plan : Result Event AccessResult) → (is_ok w && not selected) ≡ false
     → IsPlan (w >>= λ a. (if selected then Err ScopeOfAccessViolated else no_setting TypeUnmatched)) plan
-    → IsPlan (w >>= λ a. (if selected then Err ScopeOfAccessViolated else setting_of a.content v)) plan
-unset_unread (Ok a) true v plan e h = h
-unset_unread (Ok a) false v plan e h = absurd cc
-unset_unread (Err r) selected v plan e h = h
+    → IsPlan (w >>= λ a. (if selected then Err ScopeOfAccessViolated else setting_of client a.content v)) plan
+unset_unread client (Ok a) true v plan e h = h
+unset_unread client (Ok a) false v plan e h = absurd cc
+unset_unread client (Err r) selected v plan e h = h
 
 uncalled_unread : (w : Result Call AccessResult) (v : Value) (plan : Result Event AccessResult) → is_ok w ≡ false
     → plan ≡ (w >>= λ method. Err TypeUnmatched) → plan ≡ (w >>= λ method. event_of method (Some v))
@@ -177,5 +178,5 @@ uncalled_unread (Err r) v plan e h = h
 
 pub unread : (service : Service) (client : Client) (t : Target) (v : Value) (plan : Result Event AccessResult) → reaches_for service client t ≡ false
     → IsPlanFor service client t None plan → IsPlanFor service client t (Some v) plan
-unread Set client t v plan e h = unset_unread (writable client t.descriptor) t.selected v plan e h
+unread Set client t v plan e h = unset_unread client (writable client t.descriptor) t.selected v plan e h
 unread Action client t v plan e h = uncalled_unread (callable client t.descriptor) v plan e h

@@ -27,13 +27,13 @@ IsValue bytes (Some v) = IsSpelling bytes v
 IsValue bytes None = (v : Value) → ¬ (IsSpelling bytes v)
 
 -- what a value is to set; where the bytes were no value, the type does not match
-abbrev pub setting_from : Content → Option Value → Result Setting AccessResult
-setting_from content None = Err TypeUnmatched
-setting_from content (Some v) = setting_of content v
+abbrev pub setting_from : Client → Content → Option Value → Result Setting AccessResult
+setting_from client content None = Err TypeUnmatched
+setting_from client content (Some v) = setting_of client content v
 
 -- what SET asks for: no attribute that can be set takes a selector
 abbrev pub set_asked : Client → Descriptor → Bool → Option Value → Result Setting AccessResult
-set_asked client d selected value = writable client d >>= λ a. (if selected then Err ScopeOfAccessViolated else setting_from a.content value)
+set_asked client d selected value = writable client d >>= λ a. (if selected then Err ScopeOfAccessViolated else setting_from client a.content value)
 
 -- what ACTION asks for whose parameter came in blocks
 abbrev pub call_asked : Client → Descriptor → Option Value → Result Event AccessResult

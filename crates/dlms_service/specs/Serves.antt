@@ -12,12 +12,14 @@ use Rattle.dlms_apdu.specs.Reading.{request_at, HoldsValue}
 use Rattle.dlms_apdu.specs.declared.fault.Refusal.{Refusal}
 use Rattle.dlms_state.specs.declared.event.Event.{Event}
 use Rattle.dlms_state.specs.Events.{secret_after, columns_after}
-use Rattle.dlms_state.specs.declared.event.SecretOf.TheVariants.{Management}
+use Rattle.dlms_state.specs.declared.event.SecretOf.{SecretOf}
 use Rattle.dlms_classes.specs.declared.access.AccessResult.{AccessResult}
 use Rattle.dlms_classes.specs.declared.access.AccessResult.TheVariants.{TemporaryFailure}
 use Rattle.dlms_classes.specs.Access.{number_of}
 use Rattle.dlms_classes.specs.Answer.{IsGranted}
 use Rattle.dlms_classes.specs.Plan.{event_asked}
+use Rattle.dlms_classes.specs.Secrets.{secret_of}
+use Rattle.dlms_frame.specs.declared.client.Client.{Client}
 use Rattle.dlms_service.specs.declared.association.Association.{Association}
 use Rattle.dlms_service.specs.declared.target.Service.TheVariants.{Set, Action}
 use Rattle.dlms_service.specs.Session.{SessionValue, Outcome, fresh, without_get, without_put, has, get_service, set_service, action_service, blocks_with_set, blocks_with_action, says, not_associated, not_supported, unknown_service, not_possible}
@@ -136,8 +138,16 @@ abbrev pub Released : Choice → List Event → SessionValue → List ℕ → Bo
 Released choice E s apdu true o = o ≡ released s
 Released choice E s apdu false o = Within choice E s apdu s.opened o
 
+-- the secret that a client has to know after these events: its own, if it has one
+abbrev pub own_secret : Option SecretOf → List Event → List ℕ
+own_secret (Some whose) E = secret_after whose E
+own_secret None E = []
+
+abbrev pub secret_for : Client → List Event → List ℕ
+secret_for client E = own_secret (secret_of client) E
+
 abbrev pub Associated : Choice → List Event → SessionValue → List ℕ → Bool → Outcome → Type 0
-Associated choice E s apdu true o = o ≡ associated s (secret_after Management E) (aarq_at apdu)
+Associated choice E s apdu true o = o ≡ associated s (secret_for s.client E) (aarq_at apdu)
 Associated choice E s apdu false o = Released choice E s apdu (begins_with 0x62 apdu) o
 
 abbrev pub Serves : Choice → List Event → SessionValue → List ℕ → Outcome → Type 0

@@ -5,6 +5,7 @@ pub mod Fitting
 pub mod Going
 pub mod Image
 pub mod Layout
+pub mod Migration
 pub mod Page
 pub mod Ring
 pub mod Steady

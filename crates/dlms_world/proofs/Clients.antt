@@ -19,15 +19,13 @@ use Rattle.dlms_link.specs.Server.{ServerRecord}
 use Rattle.dlms_link.specs.declared.out.LinkOut.{LinkOut}
 use Rattle.dlms_link.specs.declared.out.LinkOut.TheVariants.{Nothing, Reply, Apdu, Oversize, BadLlc, Up, Down}
 use Rattle.dlms_service.specs.Blocks.{Steps, ContinuesFor, open_for}
-use Rattle.dlms_service.specs.Serves.{Choice as Memory, FindsMemory, LacksMemoryToRead, LacksMemoryToAnswer, Asks, LacksToAnswer, Permitted, Requested, Read, Within, Released, Associated, Serves, associated, permits, begins_with}
+use Rattle.dlms_service.specs.Serves.{Choice as Memory, FindsMemory, LacksMemoryToRead, LacksMemoryToAnswer, Asks, LacksToAnswer, Permitted, Requested, Read, Within, Released, Associated, Serves, secret_for, associated, permits, begins_with}
 use Rattle.dlms_service.specs.Session.{SessionValue, Outcome, says, has, blocks_with_get}
 use Rattle.dlms_service.specs.Shown.{Gives, sent, in_blocks}
 use Rattle.dlms_service.specs.declared.association.Association.{Association}
 use Rattle.dlms_service.specs.declared.target.Service.{Service}
 use Rattle.dlms_service.specs.declared.target.Service.TheVariants.{Set, Action}
 use Rattle.dlms_service.specs.declared.target.Target.{Target}
-use Rattle.dlms_state.specs.Events.{secret_after}
-use Rattle.dlms_state.specs.declared.event.SecretOf.TheVariants as owner
 use Rattle.dlms_state.specs.declared.event.Event.{Event}
 use Rattle.dlms_service.specs.Stake.{Fails, fails, failing, stake_of}
 use Rattle.dlms_service.specs.declared.stake.Stake.{Stake}
@@ -111,7 +109,7 @@ judged_stays s secret (Ok r) = refl
 judged_stays s secret (Err e) = refl
 
 associated_stays : (choice : Memory) (E : List Event) (s : SessionValue) (apdu : List ℕ) (b : Bool) (o : Outcome) → Associated choice E s apdu b o → Stays s o
-associated_stays choice E s apdu true o is = by o (associated s (secret_after owner.Management E) (aarq_at apdu)) is ∙ judged_stays s (secret_after owner.Management E) (aarq_at apdu)
+associated_stays choice E s apdu true o is = by o (associated s (secret_for s.client E) (aarq_at apdu)) is ∙ judged_stays s (secret_for s.client E) (aarq_at apdu)
 associated_stays choice E s apdu false o is = released_stays choice E s apdu (begins_with 0x62 apdu) o is
 
 pub serves_stays : (choice : Memory) (E : List Event) (s : SessionValue) (apdu : List ℕ) (o : Outcome) → Serves choice E s apdu o → o.own.client ≡ s.client

@@ -13,7 +13,7 @@ use Rattle.dlms_classes.specs.declared.access.AccessResult.TheVariants.{Temporar
 use Rattle.dlms_data.specs.Value.{Value, octet_string}
 use Rattle.dlms_data.specs.Writing.{Fits}
 use Rattle.dlms_frame.specs.declared.client.Client.{Client}
-use Rattle.dlms_frame.specs.declared.client.Client.TheVariants.{Public, Management}
+use Rattle.dlms_frame.specs.declared.client.Client.TheVariants.{Public, Management, Reader}
 use Rattle.dlms_headend.specs.Asking.{buffer, buffer_bytes, invoke, range, IsRange}
 use Rattle.dlms_profile.specs.Rows.{in_range}
 use Rattle.dlms_service.specs.Serves.{Choice as Memory, FindsMemory, LacksMemoryToRead, LacksMemoryToAnswer, Requested, Permitted, Read, Within, Serves, permits}
@@ -65,10 +65,34 @@ no_data o s form reads short is given = dataless form short (subst GivesDataBy (
 whole_range : (second : ℕ) (value : Value) (r : IsRange second value) → value ≡ range (octet_string r.from_first.octets) (octet_string r.to_last.octets)
 whole_range second value r = r.is ∙ ap (λ v. range v r.last) r.from_first.value ∙ ap (λ v. range (octet_string r.from_first.octets) v) r.to_last.value
 
-shows_range : (E : List Event) (first last : List ℕ) (v : Value) → length first ≡ 12 → length last ≡ 12 →
-    IsShown (state_of E) Management buffer (wanted Management buffer (Some (record { number = 1; value = range (octet_string first) (octet_string last) }))) (Ok v) → ShownRange (columns_after E) first last (buffer_after E) v
+-- a client is shown the rows between two date-times
+abbrev SeesRange : List Event → Client → Value → Type 0
+SeesRange E client v =
+    (first last : List ℕ) → length first ≡ 12 → length last ≡ 12
+    → IsShown (state_of E) client buffer (wanted client buffer (Some (record { number = 1; value = range (octet_string first) (octet_string last) }))) (Ok v) → ShownRange (columns_after E) first last (buffer_after E) v
+
+management_sees : (E : List Event) (v : Value) → SeesRange E Management v
 unfolding object_named
-shows_range E first last v size_first size_last shown = (rw (size_first, size_last) at shown).1
+management_sees E v first last size_first size_last shown = (rw (size_first, size_last) at shown).1
+
+reader_sees : (E : List Event) (v : Value) → SeesRange E Reader v
+unfolding object_named
+reader_sees E v first last size_first size_last shown = (rw (size_first, size_last) at shown).1
+
+-- those between the two seconds that its range names
+sees_rows : (E : List Event) (client : Client) (second : ℕ) (value v : Value) → SeesRange E client v → IsRange second value → IsShown (state_of E) client buffer (wanted client buffer (Some (record { number = 1; value = value }))) (Ok v) →
+    IsTable (map (cells (columns_after E)) (rows_between (clock_place (columns_after E)) second LAST_SECOND (buffer_after E))) v
+sees_rows E client second value v sees r shown =
+    let one : List ℕ = r.from_first.octets in
+    let two : List ℕ = r.to_last.octets in
+    let columns : List ℕ = columns_after E in
+    let is : ShownRange columns one two (buffer_after E) v =
+    sees one two r.from_first.names.size r.to_last.names.size
+    (subst (λ x. IsShown (state_of E) client buffer (wanted client buffer (Some (record { number = 1; value = x }))) (Ok v)) (whole_range second value r) shown) in
+    let from : is.from ≡ second = one_second one is.from second is.names_from r.from_first.names in
+    let to : is.to ≡ LAST_SECOND = one_second two is.to LAST_SECOND is.names_to r.to_last.names in
+    subst (λ p. IsTable (map (cells columns) (rows_between p second LAST_SECOND (buffer_after E))) v) (sym is.is_column)
+    (subst (λ a. IsTable (map (cells columns) (in_range is.place a LAST_SECOND (buffer_after E))) v) from (subst (λ b. IsTable (map (cells columns) (in_range is.place is.from b (buffer_after E))) v) to is.value))
 
 -- the meter shows the buffer's rows between the two seconds
 wants : (E : List Event) (client : Client) (b : Bool) (second : ℕ) (value v : Value) → IsRange second value → IsShown (state_of E) client buffer (wanted client buffer (if b then Some (record { number = 1; value = value }) else Some no_selection)) (Ok v) →
@@ -77,17 +101,9 @@ unfolding object_named
 wants E Public true second value v r shown = cc
 wants E Public false second value v r shown = cc
 wants E Management false second value v r shown = cc
-wants E Management true second value v r shown =
-    let one : List ℕ = r.from_first.octets in
-    let two : List ℕ = r.to_last.octets in
-    let columns : List ℕ = columns_after E in
-    let is : ShownRange columns one two (buffer_after E) v =
-    shows_range E one two v r.from_first.names.size r.to_last.names.size
-    (subst (λ x. IsShown (state_of E) Management buffer (wanted Management buffer (Some (record { number = 1; value = x }))) (Ok v)) (whole_range second value r) shown) in
-    let from : is.from ≡ second = one_second one is.from second is.names_from r.from_first.names in
-    let to : is.to ≡ LAST_SECOND = one_second two is.to LAST_SECOND is.names_to r.to_last.names in
-    subst (λ p. IsTable (map (cells columns) (rows_between p second LAST_SECOND (buffer_after E))) v) (sym is.is_column)
-    (subst (λ a. IsTable (map (cells columns) (in_range is.place a LAST_SECOND (buffer_after E))) v) from (subst (λ b. IsTable (map (cells columns) (in_range is.place is.from b (buffer_after E))) v) to is.value))
+wants E Management true second value v r shown = sees_rows E Management second value v (management_sees E v) r shown
+wants E Reader false second value v r shown = cc
+wants E Reader true second value v r shown = sees_rows E Reader second value v (reader_sees E v) r shown
 
 -- ---- the whole GET
 

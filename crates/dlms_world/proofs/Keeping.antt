@@ -63,7 +63,7 @@ settles_on (LosesUp w) = same_events (settled_in w.memory)
 settles_on (LosesDown w) = same_events (settled_in w.memory)
 settles_on (Arrives w frame rest choice o memory line takes) = remembered w.memory o.accepted memory takes.remembers
 settles_on (Intruded w frame choice o memory between closed takes) = remembered w.memory o.accepted memory takes.remembers
-settles_on (OtherSends w frame choice own reply answer accepted memory on of handles remembers) = remembered w.memory accepted memory remembers
+settles_on (OtherSends w other frame choice own reply answer accepted memory on differs of handles remembers) = remembered w.memory accepted memory remembers
 settles_on (Happens w event memory on follows remembers) = remembered w.memory (event ∷ []) memory remembers
 settles_on (Works w memory on remembers) = remembered w.memory [] memory remembers
 settles_on (StopsInside w accepted mid memory on remembers stops) =
@@ -100,7 +100,7 @@ linked who (Intruded w frame choice o memory between closed takes) l = record {
   plan = l.plan;
   session = answers_stay choice (events_in w.memory) (server_on w.link.meter frame).0 w.session (server_on w.link.meter frame).1 o takes.answers ∙ l.session;
 }
-linked who (OtherSends w frame choice own reply answer accepted memory on of handles remembers) l = record { sound = l.sound; plan = l.plan; session = l.session }
+linked who (OtherSends w other frame choice own reply answer accepted memory on differs of handles remembers) l = record { sound = l.sound; plan = l.plan; session = l.session }
 linked who (Happens w event memory on follows remembers) l = record { sound = l.sound; plan = l.plan; session = l.session }
 linked who (Works w memory on remembers) l = record { sound = l.sound; plan = l.plan; session = l.session }
 linked who (StopsInside w accepted mid memory on remembers stops) l = record { sound = link_keeps who Restarts (link_keeps who LostUp l.sound); plan = l.plan; session = l.session }
@@ -187,7 +187,7 @@ stands who (LosesUp w) l s = same_stands w.course w.plan w.link (happens w.link 
 stands who (LosesDown w) l s = same_stands w.course w.plan w.link (happens w.link LostDown) (record { client = refl; asked = refl; taken = refl }) s
 stands who (Arrives w frame rest choice o memory line takes) l s = same_stands w.course w.plan w.link (happens w.link (ReachesMeter o.answer takes.short)) (asking.meter_there w.link o.answer w.link.up_line) s
 stands who (Intruded w frame choice o memory between closed takes) l s = same_stands w.course w.plan w.link (happens w.link (Intrudes frame o.answer)) (asking.intrudes_there w.link frame o.answer w.link.client.phase) s
-stands who (OtherSends w frame choice own reply answer accepted memory on of handles remembers) l s = s
+stands who (OtherSends w other frame choice own reply answer accepted memory on differs of handles remembers) l s = s
 stands who (Happens w event memory on follows remembers) l s = s
 stands who (Works w memory on remembers) l s = s
 stands who (StopsInside w accepted mid memory on remembers stops) l s = same_stands w.course w.plan w.link (happens (happens w.link LostUp) Restarts) (record { client = refl; asked = refl; taken = refl }) s
@@ -261,7 +261,7 @@ chained who (Arrives w frame rest choice o memory line takes) l s c =
 chained who (Intruded w frame choice o memory between closed takes) l s c =
     let same = intrudes_served w.link frame o.answer w.link.client.phase in
     chain.broken who w.link (happens w.link (Intrudes frame o.answer)) w.ours w.session o.own w.served c same.0 same.1 (intrudes_dead w.link frame o.answer w.link.client.phase refl closed)
-chained who (OtherSends w frame choice own reply answer accepted memory on of handles remembers) l s c = c
+chained who (OtherSends w other frame choice own reply answer accepted memory on differs of handles remembers) l s c = c
 chained who (Happens w event memory on follows remembers) l s c = c
 chained who (Works w memory on remembers) l s c = c
 chained who (StopsInside w accepted mid memory on remembers stops) l s c =
@@ -314,7 +314,7 @@ data_settled (Arrives w frame rest choice o memory line takes) d =
     let done = server_on w.link.meter frame in
     more_settled memory w.served choice (events_in w.memory) done.0 done.1 o (still_settled w.memory memory w.served (remembered w.memory o.accepted memory takes.remembers) d) (promised w frame choice o memory takes)
 data_settled (Intruded w frame choice o memory between closed takes) d = still_settled w.memory memory w.served (remembered w.memory o.accepted memory takes.remembers) d
-data_settled (OtherSends w frame choice own reply answer accepted memory on of handles remembers) d = still_settled w.memory memory w.served (remembered w.memory accepted memory remembers) d
+data_settled (OtherSends w other frame choice own reply answer accepted memory on differs of handles remembers) d = still_settled w.memory memory w.served (remembered w.memory accepted memory remembers) d
 data_settled (Happens w event memory on follows remembers) d = still_settled w.memory memory w.served (remembered w.memory (event ∷ []) memory remembers) d
 data_settled (Works w memory on remembers) d = still_settled w.memory memory w.served (remembered w.memory [] memory remembers) d
 data_settled (StopsInside w accepted mid memory on remembers stops) d =

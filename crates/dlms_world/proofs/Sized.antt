@@ -10,14 +10,12 @@ use Rattle.dlms_acse.specs.declared.outcome.Verdict.{Verdict}
 use Rattle.dlms_acse.specs.declared.outcome.Verdict.TheVariants.{Accepted, Refused}
 use Rattle.dlms_frame.specs.declared.client.Client.{Client}
 use Rattle.dlms_headend.specs.Asking.{PlanValue, association_bytes}
-use Rattle.dlms_service.specs.Serves.{Choice as Memory, Serves, associated, opened_by}
+use Rattle.dlms_service.specs.Serves.{Choice as Memory, Serves, secret_for, associated, opened_by}
 use Rattle.dlms_service.specs.Stake.{fails, stake_of}
 use Rattle.dlms_service.specs.declared.stake.Stake.{Stake}
 use Rattle.dlms_service.specs.declared.stake.Stake.TheVariants as stake
 use Rattle.dlms_meter.specs.Run.{Choice, Served, DeviceFails, Does}
 use Rattle.dlms_service.specs.Session.{SessionValue, Outcome, HasSize}
-use Rattle.dlms_state.specs.Events.{secret_after}
-use Rattle.dlms_state.specs.declared.event.SecretOf.TheVariants as owner
 use Rattle.dlms_state.specs.declared.event.Event.{Event}
 
 abbrev Refuses : Verdict → Type 0
@@ -78,7 +76,7 @@ judged_sized s secret (Ok r) = verdict_sized r s.client secret
 judged_sized s secret (Err e) = tt
 
 by_service : (choice : Memory) (E : List Event) (plan : PlanValue) (s : SessionValue) (o : Outcome) → Serves choice E s (association_bytes plan) o → HasSize o.own.opened
-by_service choice E plan s o serves = subst (λ (x : Outcome). HasSize x.own.opened) (sym serves) (judged_sized s (secret_after owner.Management E) (aarq_at (association_bytes plan)))
+by_service choice E plan s o serves = subst (λ (x : Outcome). HasSize x.own.opened) (sym serves) (judged_sized s (secret_for s.client E) (aarq_at (association_bytes plan)))
 
 -- where the device failed, the association is as it was
 failed_as_was : (s : SessionValue) (x : Stake) → (fails s x).own.opened ≡ s.opened

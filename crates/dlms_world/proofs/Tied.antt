@@ -1,16 +1,16 @@
 -- The calls of a meter are steps of the world.
 use Rattle.std.proofs.Common.{arith, ◌≡◌, ◌⊎◌, ◌≤◌, inl, inr, ℕ, Bool, true, false, List, [], ◌∷◌, ◌++◌, length, Option, None, Some, Result, Ok, Err, refl, sym, subst, ap, ◌∙◌, append-nil}
-use Rattle.std.specs.Prelude.{IfSome}
+use Rattle.std.specs.Prelude.{IfSome, ◌≢◌, if◌then◌else◌}
 use Rattle.dlms_frame.specs.Frame.{Parts, spelling}
 use Rattle.dlms_frame.specs.declared.client.Client.{Client}
-use Rattle.dlms_frame.specs.declared.client.Client.TheVariants.{Public, Management}
 use Rattle.dlms_link.specs.Server.{ServerRecord, server_on}
 use Rattle.dlms_link.specs.World.{LinkWorld as Link, happens, ReachesMeter, reaches_meter, meter_does}
 use Rattle.dlms_link.specs.declared.out.LinkOut.{LinkOut}
 use Rattle.dlms_link.specs.declared.out.LinkOut.TheVariants.{Nothing, Reply, Apdu, Oversize, BadLlc, Up, Down}
 use Rattle.dlms_meter.specs.ClientRecord.{ClientRecord}
-use Rattle.dlms_meter.specs.Run.{MeterWorld, Turn as MeterTurn, Records, Choice, Served, DeviceFails, Does, ByLink, Handled, Handles, Answered, sends, replies, Takes as MeterTakes, IsTurn, IsTaking, IsSettling, IsUnsettling, StoredFor, Stored, Promised, pending_in, events_in, events_of, after_turn, grown, with_record, is_same, client_at, Stands, Feeds, Fed, Judges, Judged, with_store, IsRunningIn, IsStoppedIn, other_of}
+use Rattle.dlms_meter.specs.Run.{MeterWorld, Turn as MeterTurn, Records, Choice, Served, DeviceFails, Does, ByLink, Handled, Handles, Answered, sends, replies, Takes as MeterTakes, IsTurn, IsTaking, IsSettling, IsUnsettling, StoredFor, Stored, Promised, pending_in, events_in, events_of, after_turn, grown, with_record, is_same, client_at, Stands, Feeds, Fed, Judges, Judged, with_store, IsRunningIn, IsStoppedIn}
 use Rattle.dlms_meter.specs.declared.meter.Meter.{Meter}
+use Rattle.dlms_meter.proofs.Apart.{same-is, is_itself, not_same, differing}
 use Rattle.dlms_meter.proofs.Events.{turn_events, added_one}
 use Rattle.dlms_pages.specs.declared.device.Pages.{Ghosts}
 use Rattle.dlms_service.specs.Session.{SessionValue, Outcome, fresh, not_possible, unknown_service}
@@ -125,42 +125,12 @@ promised_by : (answer : Option (List ℕ)) (bytes : List ℕ) (memory : Store) �
 promised_by answer bytes memory (inl none) promise says = absurd (not_said (ap is_success (sym none) ∙ says))
 promised_by answer bytes memory (inr is) promise says = subst (λ (a : Option (List ℕ)). IfSome a (λ b. is_success b ≡ true → pending_in memory ≡ [])) is promise says
 
--- a client is itself, and not the other one
-is_itself : (who : Client) → is_same who who ≡ true
-is_itself Public = refl
-is_itself Management = refl
-
-is_not_other : (who : Client) → is_same who (other_of who) ≡ false
-is_not_other Public = refl
-is_not_other Management = refl
-
-others_other : (who : Client) → is_same (other_of who) who ≡ false
-others_other Public = refl
-others_other Management = refl
-
-same_client : (who other : Client) → is_same who other ≡ true → other ≡ who
-same_client Public Public e = refl
-same_client Public Management e = cc
-same_client Management Public e = cc
-same_client Management Management e = refl
-
-other_client : (who other : Client) → is_same who other ≡ false → other ≡ other_of who
-other_client Public Public e = cc
-other_client Public Management e = refl
-other_client Management Public e = refl
-other_client Management Management e = cc
-
+-- the client whose record changed, and the others
 own_record : (records : Records) (who : Client) (own : ClientRecord) → with_record records who own who ≡ own
-own_record records Public own = refl
-own_record records Management own = refl
+own_record records who own = ap (λ (b : Bool). if b then own else records who) (is_itself who)
 
-others_record : (records : Records) (who : Client) (own : ClientRecord) → with_record records who own (other_of who) ≡ records (other_of who)
-others_record records Public own = refl
-others_record records Management own = refl
-
-back : (who : Client) → other_of (other_of who) ≡ who
-back Public = refl
-back Management = refl
+others_record : (records : Records) (who : Client) (own : ClientRecord) (other : Client) → other ≢ who → with_record records who own other ≡ records other
+others_record records who own other differs = ap (λ (b : Bool). if b then own else records other) (differing who other differs)
 
 arrives : (m : MeterWorld) (turn : MeterTurn) (w : World) (rest : List Parts) (own : ClientRecord) → IsMeterOf m w → IsOn w.memory → IsTurn m turn → Promised turn → IsLegal (events_in turn.store) → w.link.up_line ≡ turn.frame ∷ rest
     → Handles turn.choice (events_of m) (m.records w.plan.client) turn.frame (record { own = own; reply = turn.reply; answer = turn.answer; accepted = turn.accepted }) → turn.records ≡ with_record m.records w.plan.client own
@@ -186,27 +156,26 @@ arrives m turn w rest own at on is promise legal line handles same =
         own = ap (λ (r : Records). r w.plan.client) same ∙ own_record m.records w.plan.client own
             ∙ ap (λ (l : ServerRecord). (let r : ClientRecord = record { link = l; session = own.session } in r)) (x.link (record w.link { up_line = rest }) ∙ ap (λ l. (reaches_meter w.link x.o.answer l).meter) (sym line))
             ∙ ap (λ (s : SessionValue). (let r : ClientRecord = record { link = (happens w.link (ReachesMeter x.o.answer takes.short)).meter; session = s } in r)) x.session;
-        other = ap (λ (r : Records). r (other_of w.plan.client)) same ∙ others_record m.records w.plan.client own ∙ at.other;
+        others = λ c differs. ap (λ (r : Records). r c) same ∙ others_record m.records w.plan.client own c differs ∙ at.others c differs;
         store = refl;
       },
     )
 
--- ---- a frame of the other client
+-- ---- a frame of another client
 
-other_sends : (m : MeterWorld) (turn : MeterTurn) (w : World) (own : ClientRecord) → IsMeterOf m w → IsOn w.memory → IsTurn m turn → IsLegal (events_in turn.store) → client_at turn.frame.src ≡ Some (other_of w.plan.client)
-    → Handles turn.choice (events_of m) (m.records (other_of w.plan.client)) turn.frame (record { own = own; reply = turn.reply; answer = turn.answer; accepted = turn.accepted })
-    → turn.records ≡ with_record m.records (other_of w.plan.client) own → StepsTo w (after_turn m turn)
-other_sends m turn w own at on is legal from handles same =
+other_sends : (m : MeterWorld) (turn : MeterTurn) (w : World) (who : Client) (own : ClientRecord) → IsMeterOf m w → IsOn w.memory → IsTurn m turn → IsLegal (events_in turn.store) → who ≢ w.plan.client → client_at turn.frame.src ≡ Some who
+    → Handles turn.choice (events_of m) (m.records who) turn.frame (record { own = own; reply = turn.reply; answer = turn.answer; accepted = turn.accepted })
+    → turn.records ≡ with_record m.records who own → StepsTo w (after_turn m turn)
+other_sends m turn w who own at on is legal differs from handles same =
     let h : Handled = record { own = own; reply = turn.reply; answer = turn.answer; accepted = turn.accepted } in
-    let here : Handles turn.choice (events_in w.memory) w.other turn.frame h =
-    subst (λ (E : Store). Handles turn.choice (events_in E) w.other turn.frame h) at.store (subst (λ (r : ClientRecord). Handles turn.choice (events_of m) r turn.frame h) at.other handles) in
+    let here : Handles turn.choice (events_in w.memory) (w.others who) turn.frame h =
+    subst (λ (E : Store). Handles turn.choice (events_in E) (w.others who) turn.frame h) at.store (subst (λ (r : ClientRecord). Handles turn.choice (events_of m) r turn.frame h) (at.others who differs) handles) in
     let remembers : Remembers w.memory turn.accepted turn.store = subst (λ (s : Store). Remembers s turn.accepted turn.store) at.store (remembered m turn is legal) in (
       _,
-      OtherSends w turn.frame turn.choice own turn.reply turn.answer turn.accepted turn.store on from here remembers,
+      OtherSends w who turn.frame turn.choice own turn.reply turn.answer turn.accepted turn.store on differs from here remembers,
       record {
-        own = ap (λ (r : Records). r w.plan.client) same ∙ ap (λ (who : Client). with_record m.records (other_of w.plan.client) own who) (sym (back w.plan.client))
-            ∙ others_record m.records (other_of w.plan.client) own ∙ ap m.records (back w.plan.client) ∙ at.own;
-        other = ap (λ (r : Records). r (other_of w.plan.client)) same ∙ own_record m.records (other_of w.plan.client) own;
+        own = ap (λ (r : Records). r w.plan.client) same ∙ others_record m.records who own w.plan.client (λ e. differs (sym e)) ∙ at.own;
+        others = λ c apart. ap (λ (r : Records). r c) same ∙ ap (λ (kept : ClientRecord). if is_same who c then own else kept) (at.others c apart);
         store = refl;
       },
     )
@@ -216,22 +185,19 @@ other_sends m turn w own at on is legal from handles same =
 still_its : (m m' : MeterWorld) (w : World) → IsMeterOf m w → m'.records ≡ m.records → m'.store ≡ m.store → IsMeterOf m' w
 still_its m m' w at records store = record {
   own = ap (λ (r : Records). r w.plan.client) records ∙ at.own;
-  other = ap (λ (r : Records). r (other_of w.plan.client)) records ∙ at.other;
+  others = λ c differs. ap (λ (r : Records). r c) records ∙ at.others c differs;
   store = store ∙ at.store;
 }
 
 of_client : (b : Bool) (m : MeterWorld) (turn : MeterTurn) (w : World) (who : Client) → is_same w.plan.client who ≡ b → IsMeterOf m w → IsOn w.memory → IsTurn m turn → Promised turn → IsLegal (events_in turn.store)
     → client_at turn.frame.src ≡ Some who → MeterTakes (events_of m) m.records turn (Some who) → StepsFrom b w turn.frame (after_turn m turn)
 of_client true m turn w who same at on is promise legal from (own, handles, records) = λ rest line.
-    let it : who ≡ w.plan.client = same_client w.plan.client who same in
+    let it : who ≡ w.plan.client = sym (same-is w.plan.client who same) in
     arrives m turn w rest own at on is promise legal line
     (subst (λ (c : Client). Handles turn.choice (events_of m) (m.records c) turn.frame (record { own = own; reply = turn.reply; answer = turn.answer; accepted = turn.accepted })) it handles)
     (subst (λ (c : Client). turn.records ≡ with_record m.records c own) it records)
 of_client false m turn w who same at on is promise legal from (own, handles, records) =
-    let it : who ≡ other_of w.plan.client = other_client w.plan.client who same in
-    other_sends m turn w own at on is legal (from ∙ ap (λ (c : Client). (let o : Option Client = Some c in o)) it)
-    (subst (λ (c : Client). Handles turn.choice (events_of m) (m.records c) turn.frame (record { own = own; reply = turn.reply; answer = turn.answer; accepted = turn.accepted })) it handles)
-    (subst (λ (c : Client). turn.records ≡ with_record m.records c own) it records)
+    other_sends m turn w who own at on is legal (not_same w.plan.client who same) from handles records
 
 unstored : (choice : Choice) (answer : Option (List ℕ)) (events : List Event) (steps : List StoreStep) (before now : Store) → answer ≡ None → Stored choice answer events steps → StoreRun before steps now → now ≡ before
 unstored choice None events steps before now none (nothing, is) run = subst (λ (xs : List StoreStep). StoreRun before xs now) is run
@@ -254,7 +220,7 @@ feeds_are_turns old new taken reply m w feeds stands at =
     by_fed m' steps (inl (free, none, no_steps, is)) knows on = inl (still_its m m' w at (ap (λ (x : MeterWorld). x.records) is) (ap (λ (x : MeterWorld). x.store) is))
     by_fed m' steps (inr (turn, is_turn, may, promise, ends, told, same_steps, is)) knows on =
         let legal : IsLegal (events_in turn.store) = subst (λ (x : MeterWorld). IsLegal (events_in x.store)) is (known_legal new m'.store knows) in
-        let grew : IsMeterOf (grown m taken) w = record { own = at.own; other = at.other; store = at.store } in
+        let grew : IsMeterOf (grown m taken) w = record { own = at.own; others = at.others; store = at.store } in
         inr (turn.frame, subst (λ (x : MeterWorld). StepsAt (client_at turn.frame.src) w turn.frame x) (sym is) (at_client (client_at turn.frame.src) (grown m taken) turn w refl grew on is_turn promise legal is_turn.takes))
 
 -- ---- pulses and moments
@@ -286,7 +252,7 @@ failed before now next legal = record {
 }
 
 with_its : (m : MeterWorld) (w : World) (now : Store) → IsMeterOf m w → IsMeterOf (with_store m now) (record w { memory = now })
-with_its m w now at = record { own = at.own; other = at.other; store = refl }
+with_its m w now at = record { own = at.own; others = at.others; store = refl }
 
 judged : (m : MeterWorld) (w : World) (event : Event) (outcome : Result (Unit {0}) AddFault) (step : StoreStep) (m' : MeterWorld) → IsMeterOf m w → IsOn w.memory → IsLegal (events_in m'.store) → Judged m event outcome step m'
     → IsMeterOf m' w ⊎ StepsTo w m'

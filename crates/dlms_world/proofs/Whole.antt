@@ -89,7 +89,7 @@ done_after tell who (Arrives w frame rest choice o memory line takes) g =
     let done = server_on w.link.meter frame in
     done_still w.course w.plan w.served (served_by choice (events_in w.memory) done.0 done.1 o) w.memory memory w.rows (settles_on (Arrives w frame rest choice o memory line takes)) g.done
 done_after tell who (Intruded w frame choice o memory between closed takes) g = done_on w.course w.plan w.served w.memory memory w.rows (settles_on (Intruded w frame choice o memory between closed takes)) g.done
-done_after tell who (OtherSends w frame choice own reply answer accepted memory on of handles remembers) g = done_on w.course w.plan w.served w.memory memory w.rows (settles_on (OtherSends w frame choice own reply answer accepted memory on of handles remembers)) g.done
+done_after tell who (OtherSends w other frame choice own reply answer accepted memory on differs of handles remembers) g = done_on w.course w.plan w.served w.memory memory w.rows (settles_on (OtherSends w other frame choice own reply answer accepted memory on differs of handles remembers)) g.done
 done_after tell who (Happens w event memory on follows remembers) g = done_on w.course w.plan w.served w.memory memory w.rows (settles_on (Happens w event memory on follows remembers)) g.done
 done_after tell who (Works w memory on remembers) g = done_on w.course w.plan w.served w.memory memory w.rows (settles_on (Works w memory on remembers)) g.done
 done_after tell who (StopsInside w accepted mid memory on remembers stops) g = done_on w.course w.plan w.served w.memory memory w.rows (settles_on (StopsInside w accepted mid memory on remembers stops)) g.done
@@ -114,7 +114,7 @@ file_after (LosesUp w) = inl refl
 file_after (LosesDown w) = inl refl
 file_after (Arrives w frame rest choice o memory line takes) = inl refl
 file_after (Intruded w frame choice o memory between closed takes) = inl refl
-file_after (OtherSends w frame choice own reply answer accepted memory on of handles remembers) = inl refl
+file_after (OtherSends w other frame choice own reply answer accepted memory on differs of handles remembers) = inl refl
 file_after (Happens w event memory on follows remembers) = inl refl
 file_after (Works w memory on remembers) = inl refl
 file_after (StopsInside w accepted mid memory on remembers stops) = inl refl

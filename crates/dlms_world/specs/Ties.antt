@@ -1,8 +1,8 @@
 -- What the calls of a meter are in the world.
-use Rattle.std.specs.Prelude.{◌≡◌, ◌⊎◌, ℕ, List, ◌∷◌, Option, None, Some, Bool, true, false, Result}
+use Rattle.std.specs.Prelude.{◌≡◌, ◌≢◌, ◌⊎◌, ℕ, List, ◌∷◌, Option, None, Some, Bool, true, false, Result}
 use Rattle.dlms_frame.specs.Frame.{Parts}
 use Rattle.dlms_frame.specs.declared.client.Client.{Client}
-use Rattle.dlms_meter.specs.Run.{MeterWorld, client_at, is_same, Stands, Feeds, Judges, other_of}
+use Rattle.dlms_meter.specs.Run.{MeterWorld, client_at, is_same, Stands, Feeds, Judges}
 use Rattle.dlms_meter.specs.declared.meter.Meter.{Meter}
 use Rattle.dlms_pages.specs.declared.device.Pages.{Ghosts}
 use Rattle.dlms_state.specs.declared.event.Event.{Event}
@@ -13,14 +13,14 @@ use Rattle.dlms_world.specs.Turn.{Turn}
 -- the meter is the one that the world speaks of
 pub record IsMeterOf (m : MeterWorld) (w : World) : Type 0 where
   pub own : m.records w.plan.client ≡ record { link = w.link.meter; session = w.session }
-  pub other : m.records (other_of w.plan.client) ≡ w.other
+  pub others : (other : Client) → other ≢ w.plan.client → m.records other ≡ w.others other
   pub store : m.store ≡ w.memory
 
 -- a step of the world, after which this is its meter
 abbrev pub StepsTo : World → MeterWorld → Type 0
 StepsTo w m = (now : World) × Turn w now × IsMeterOf m now
 
--- A frame that a call of feed took: one of the poller's client that is the oldest on the way, and one of the other client, is a
+-- A frame that a call of feed took: one of the poller's client that is the oldest on the way, and one of another client, is a
 -- step of the world; a frame of anyone else is none.
 abbrev pub StepsFrom : Bool → World → Parts → MeterWorld → Type 0
 StepsFrom true w frame m = (rest : List Parts) → w.link.up_line ≡ frame ∷ rest → StepsTo w m

@@ -1,6 +1,7 @@
 -- What may happen next in the world.
 use Rattle.std.specs.Prelude.{◌≡◌, ◌≢◌, ◌⊎◌, ◌≤◌, ℕ, Bool, true, false, List, [], ◌∷◌, ◌++◌, length, Option, Some, None}
 use Rattle.dlms_frame.specs.Frame.{Parts, spelling}
+use Rattle.dlms_frame.specs.declared.client.Client.{Client}
 use Rattle.dlms_headend.specs.Asking.{PlanValue}
 use Rattle.dlms_headend.specs.Merged.{merged}
 use Rattle.dlms_headend.specs.Poll.{HasReleased, Asks}
@@ -20,7 +21,7 @@ use Rattle.dlms_link.specs.declared.out.LinkOut.{LinkOut}
 use Rattle.dlms_link.specs.declared.out.LinkOut.TheVariants.{Nothing, Reply, Apdu, Oversize, BadLlc, Up, Down}
 use Rattle.dlms_link.specs.declared.phase.Phase.TheVariants.{Closed}
 use Rattle.dlms_meter.specs.ClientRecord.{ClientRecord, fresh_record}
-use Rattle.dlms_meter.specs.Run.{Choice, Does, ByLink, Handled, Handles, client_at, replies, sends, other_of}
+use Rattle.dlms_meter.specs.Run.{Choice, Does, ByLink, Handled, Handles, client_at, replies, sends, with_record}
 use Rattle.dlms_meter.specs.Transfers.{Exchange}
 use Rattle.dlms_service.specs.Stake.{is_success}
 use Rattle.dlms_service.specs.Session.{SessionValue, Outcome, fresh, not_possible, unknown_service}
@@ -86,10 +87,10 @@ pub record Takes (w : World) (frame : Parts) (choice : Choice) (o : Outcome) (me
   pub remembers : Remembers w.memory o.accepted memory
   pub promise : is_success o.answer ≡ true → pending_in memory ≡ []
 
--- ---- the meter comes back: both clients' links are down, and no association or transfer is open
+-- ---- the meter comes back: all clients' links are down, and no association or transfer is open
 
 abbrev pub restarted : World → Store → World
-restarted w memory = record w { link = happens w.link Restarts; ours = false; session = fresh w.session.client; other = fresh_record (other_of w.session.client); memory = memory }
+restarted w memory = record w { link = happens w.link Restarts; ours = false; session = fresh w.session.client; others = fresh_record; memory = memory }
 
 -- ---- the poller takes a frame
 
@@ -172,9 +173,9 @@ pub data Turn : World → World → Type 0 where
   -- between two polls another hand sends a frame of the poller's client
   Intruded : (w : World) (frame : Parts) (choice : Choice) (o : Outcome) (memory : Store) → w.course ≢ Running → w.link.client.phase ≡ Closed → Takes w frame choice o memory →
       Turn w (record w { link = happens w.link (Intrudes frame o.answer); ours = false; session = o.own; memory = memory })
-  -- at any time the other client sends one
-  OtherSends : (w : World) (frame : Parts) (choice : Choice) (own : ClientRecord) (reply answer : Option (List ℕ)) (accepted : List Event) (memory : Store) → IsOn w.memory → client_at frame.src ≡ Some (other_of w.plan.client) →
-      Handles choice (events_in w.memory) w.other frame (record { own = own; reply = reply; answer = answer; accepted = accepted }) → Remembers w.memory accepted memory → Turn w (record w { other = own; memory = memory })
+  -- at any time another client sends one
+  OtherSends : (w : World) (who : Client) (frame : Parts) (choice : Choice) (own : ClientRecord) (reply answer : Option (List ℕ)) (accepted : List Event) (memory : Store) → IsOn w.memory → who ≢ w.plan.client → client_at frame.src ≡ Some who →
+      Handles choice (events_in w.memory) (w.others who) frame (record { own = own; reply = reply; answer = answer; accepted = accepted }) → Remembers w.memory accepted memory → Turn w (record w { others = with_record w.others who own; memory = memory })
   -- a pulse or a moment
   Happens : (w : World) (event : Event) (memory : Store) → IsOn w.memory → MayFollow (events_in w.memory) event → Remembers w.memory (event ∷ []) memory → Turn w (record w { memory = memory })
   -- the store settles what is pending, refuses, or fails by itself

@@ -8,8 +8,8 @@ use Rattle.dlms_headend.specs.declared.row.Row.{Row}
 use Rattle.dlms_headend.specs.declared.stage.Course.{Course}
 use Rattle.dlms_headend.specs.declared.stage.Course.TheVariants.{Ready}
 use Rattle.dlms_link.specs.World.{LinkWorld as Link, start as first_link}
-use Rattle.dlms_meter.specs.ClientRecord.{ClientRecord, fresh_record}
-use Rattle.dlms_meter.specs.Run.{events_in, other_of}
+use Rattle.dlms_meter.specs.ClientRecord.{fresh_record}
+use Rattle.dlms_meter.specs.Run.{Records, events_in}
 use Rattle.dlms_meter.specs.Transfers.{Exchange}
 use Rattle.dlms_profile.specs.Rows.{in_range}
 use Rattle.dlms_profile.specs.declared.rows.Row.{Row as Captured}
@@ -28,9 +28,10 @@ pub record World : Type 0 where
   pub link : Link
   -- whether the meter's end came up in this connection, and has been up since
   pub ours : Bool
-  -- what the meter keeps of the poller's client above its link, and of the other client
+  -- what the meter keeps of the poller's client above its link, and of each other client; what stands here of the poller's own
+  -- is not looked at
   pub session : SessionValue
-  pub other : ClientRecord
+  pub others : Records
   -- the APDUs that the meter served in this connection, each with the events that it then held
   pub served : List Exchange
   -- the events that the meter's store holds
@@ -137,7 +138,7 @@ first_world plan = record {
   link = first_link plan.client;
   ours = false;
   session = fresh plan.client;
-  other = fresh_record (other_of plan.client);
+  others = fresh_record;
   served = [];
   memory = Runs [] [];
   plan = plan;

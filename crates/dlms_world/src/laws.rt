@@ -63,7 +63,7 @@ pub fn calls_are_turns()
 {}
 
 /// The calls of a meter are steps of the world, whatever its device does: a call of `feed` is none, where it ended no frame or one
-/// of nobody; or it is the step that a frame of the poller's client or of the other client is. A call of `pulses` or `moment` is one
+/// of nobody; or it is the step that a frame of the poller's client or of another client is. A call of `pulses` or `moment` is one
 /// where it accepted the event or the device failed, and else none.
 pub fn calls_of_a_meter_are_turns<P: Pages, A: Allocator + Copy>(
     old: &Meter<P, A>,

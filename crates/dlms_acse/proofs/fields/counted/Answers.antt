@@ -1,4 +1,4 @@
-use Rattle.std.proofs.Common.{◌≡◌, false, true, sym, ◌∙◌, ap, Err}
+use Rattle.std.proofs.Common.{◌≡◌, false, sym, ◌∙◌, ap, Err}
 use Rattle.dlms_acse.specs.Reading.{is_longer}
 use Rattle.dlms_acse.proofs.Takes.{octets_within}
 use Rattle.dlms_acse.proofs.Shared.{ok_here, err_here, longer_here}

@@ -10,3 +10,7 @@ returns-clause-public c = refl
 pub returns-clause-management : goal.returns-clause-management
 unfolding object_list short_length
 returns-clause-management c = refl
+
+pub returns-clause-reader : goal.returns-clause-reader
+unfolding object_list short_length
+returns-clause-reader c = refl

@@ -6,11 +6,17 @@ use Rattle.dlms_program.proofs.words.poll_job.Goals as goal
 
 pub returns : goal.returns
 returns c = λ rows met.
-    let address = c.value_for.ensures rows met in (
+    let address = c.value_for-3.ensures rows met in (
       rows,
       refl,
       search rules,
-      c.value_for-2.ensures rows met,
-      c.value_for-3.ensures rows met,
-      subst (λ (said : Option Text). IsSaid said c.is_given.result) (c.value_for-4.ensures rows met) c.is_given.ensures,
+      c.value_for-4.ensures rows met,
+      c.value_for-5.ensures rows met,
+      (
+        c.is_given-public.result,
+        c.is_given-reader.result,
+        subst (λ (said : Option Text). IsSaid said c.is_given-public.result) (c.value_for.ensures rows met) c.is_given-public.ensures,
+        subst (λ (said : Option Text). IsSaid said c.is_given-reader.result) (c.value_for-2.ensures rows met) c.is_given-reader.ensures,
+        c.asker.ensures,
+      ),
     )

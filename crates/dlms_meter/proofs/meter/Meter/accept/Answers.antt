@@ -1,6 +1,6 @@
 use Rattle.std.proofs.Common.{refl}
 use Rattle.dlms_store.proofs.Going.{Added}
-use Rattle.dlms_frame.specs.declared.client.Client.TheVariants.{Public, Management}
+use Rattle.dlms_frame.specs.declared.client.Client.TheVariants.{Public, Management, Reader}
 use Rattle.dlms_meter.proofs.Judging.{judged}
 use Rattle.dlms_meter.proofs.meter.Meter.accept.Goals as goal
 
@@ -20,8 +20,9 @@ returns g c w stands =
       refused = x.refused;
       exhausted = x.exhausted;
     } in
-    judged c.add.result c.args.event w old (record { alloc = old.alloc; deframer = old.deframer; public = old.public; management = old.management; store = c.add.new.self }) stands is refl
+    judged c.add.result c.args.event w old (record { alloc = old.alloc; deframer = old.deframer; public = old.public; management = old.management; reader = old.reader; store = c.add.new.self }) stands is refl
     (λ who. elim who [
       | Public ↦ refl
       | Management ↦ refl
+      | Reader ↦ refl
     ])
