@@ -108,6 +108,13 @@ impl<A: Allocator + Copy> Readings<A> {
         lines::text(*self.rows.allocator(), &self.rows)
     }
 
+    /// The rows, in the order of their lines.
+    pub fn rows(&self) -> &[Row]
+        ensures { result.now ≡ self.now }
+    {
+        self.rows.as_slice()
+    }
+
     /// The clock of the last row: a second that a plan may name.
     pub fn last(&self) -> Option<u32>
         ensures last { result ≡ last_clock self.now }

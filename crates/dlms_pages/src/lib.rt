@@ -20,5 +20,5 @@ pub use folder::sync_folder;
 pub use lock::LockFile;
 pub use memory::{Call, MemoryPages};
 pub use pick::{Choice, Pick};
-pub use seal::SLOT_BYTES;
+pub use seal::{SLOT_BYTES, opened};
 pub use slot_file::SlotFile;

@@ -6,7 +6,7 @@ pub mod Counting
 pub mod Fresh
 pub mod Going
 pub mod Images
-pub mod Journal
+pub mod JournalPages
 pub mod Keeping
 pub mod Looking
 pub mod Opening

@@ -1,5 +1,5 @@
 -- Where everything stands on a device: two slots, each of a gate and its bodies, then the journal pages and the ring pages. No
--- public clause says so.
+-- clause of a store's own calls says so.
 use Rattle.std.specs.Prelude.{ℕ, ◌+◌, ◌%◌}
 use Rattle.dlms_store.specs.declared.layout.Slot.{Slot}
 use Rattle.dlms_store.specs.declared.layout.Slot.TheVariants.{First, Second}

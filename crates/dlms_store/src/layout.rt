@@ -7,19 +7,19 @@ ghost use Rattle.dlms_store.specs.declared.layout.TheConstants.{BODIES, RING_PAG
 pub const PAGES: u16 = RING + RING_PAGES;
 
 /// How many journal pages there are.
-pub(crate) const JOURNAL_PAGES: u16 = 16;
+pub const JOURNAL_PAGES: u16 = 16;
 
 /// Where the journal begins: 6.
-pub(crate) const JOURNAL: u16 = 2 * (1 + BODIES);
+pub const JOURNAL: u16 = 2 * (1 + BODIES);
 
 /// How many bodies a slot has.
-pub(crate) const BODIES: u16 = 2;
+pub const BODIES: u16 = 2;
 
 /// Where the ring pages begin: 22.
-pub(crate) const RING: u16 = JOURNAL + JOURNAL_PAGES;
+pub const RING: u16 = JOURNAL + JOURNAL_PAGES;
 
 /// How many ring pages there are.
-pub(crate) const RING_PAGES: u16 = 40;
+pub const RING_PAGES: u16 = 40;
 
 /// The most ring pages that a checkpoint names.
 pub(crate) const MOST_NAMED: u16 = 32;
@@ -32,14 +32,14 @@ pub(crate) const LAST_GENERATION: u64 = 18_446_744_073_709_551_615;
 
 /// One of the two places for a checkpoint.
 #[derive(Clone, Copy, Debug, PartialEq, Eq)]
-pub(crate) enum Slot {
+pub enum Slot {
     First,
     Second,
 }
 
 impl Slot {
     /// The slot's number, which its gate has as index.
-    pub(crate) fn index(self) -> u16
+    pub fn index(self) -> u16
         ensures { result ≡ index_of self }
     {
         match self {
@@ -48,8 +48,8 @@ impl Slot {
         }
     }
 
-    /// The page of its gate. The bodies follow.
-    pub(crate) fn gate(self) -> u16
+    /// The page of its gate, which its bodies follow.
+    pub fn gate(self) -> u16
         ensures value { result ≡ gate_of self }
         ensures within { result ≤ 1 + BODIES }
     {
@@ -59,7 +59,8 @@ impl Slot {
         }
     }
 
-    pub(crate) fn other(self) -> Slot
+    /// The slot that the next checkpoint is written into, where this one counts.
+    pub fn other(self) -> Slot
         ensures { result ≡ other_of self }
     {
         match self {

@@ -17,5 +17,8 @@ mod slot;
 mod store;
 
 pub use fault::{AddFault, OpenFault, StoreFault};
-pub use layout::PAGES;
+pub use layout::{BODIES, JOURNAL, JOURNAL_PAGES, PAGES, RING, RING_PAGES, Slot};
+pub use look::{Journal, active};
+pub use open::{Found, find};
+pub use page::{Edition, open_edition};
 pub use store::Store;

@@ -22,9 +22,11 @@ pub(crate) fn is_damaged(page: &PageRead) -> bool
 
 /// By which layout pages were written, and to which checkpoint they belong.
 #[derive(Clone, Copy, Debug, PartialEq, Eq)]
-pub(crate) struct Edition {
-    pub(crate) version: Version,
-    pub(crate) generation: u64,
+pub struct Edition {
+    /// The layout's version.
+    pub version: Version,
+    /// The checkpoint's number.
+    pub generation: u64,
 }
 
 /// Pages of this generation as they are written now.
@@ -37,8 +39,8 @@ pub(crate) fn present(generation: u64) -> Edition
     }
 }
 
-/// The edition of a whole, open gate of a known version.
-pub(crate) fn open_edition(page: &PageRead) -> Option<Edition>
+/// The edition of a page that is a whole, open gate of a known version. Its index and payload are not looked at.
+pub fn open_edition(page: &PageRead) -> Option<Edition>
     ensures { MatchOption result ((e : EditionOf) → IsNot (IsOpen e page.now)) (λ e. IsOpen e page.now) }
 {
     let PageRead::Content(bytes) = page else {

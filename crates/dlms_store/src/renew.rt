@@ -22,8 +22,8 @@ use dlms_pages::{DeviceFault, PAGE_BYTES, Pages};
 use std::alloc::Allocator;
 
 impl<A: Allocator + Copy> Found<A> {
-    /// Whether a checkpoint is due.
-    pub(crate) fn is_due(&self) -> bool
+    /// Whether `Store::open` makes a checkpoint of it, into the other slot and with the next generation.
+    pub fn is_due(&self) -> bool
         ensures { IsTrue result ↔ IsStale self.now }
     {
         self.journal.pages > 0 || self.journal.torn || self.edition.version == Version::Rings
