@@ -1,6 +1,7 @@
 //! Why a run ended early, and what is said of it.
 use dlms_field::FieldFault;
 use dlms_loopback::LoopFault;
+use dlms_plot::PlotFault;
 use dlms_program::ReplayFault;
 use dlms_store::OpenFault;
 use std::alloc::Global;
@@ -20,6 +21,8 @@ pub enum Fault<'a> {
     Loop(LoopFault),
     /// The secret in a file has more than 16 bytes.
     Secret,
+    /// The load profile of a readings file was not plotted.
+    Plot(PlotFault),
 }
 
 impl<'a> Fault<'a> {
@@ -66,6 +69,7 @@ impl fmt::Display for Fault<'_> {
             Fault::Replay(fault) => write!(f, "{fault}"),
             Fault::Loop(fault) => write!(f, "{fault}"),
             Fault::Secret => f.write_str("secret"),
+            Fault::Plot(fault) => write!(f, "{fault}"),
         }
     }
 }

@@ -6,20 +6,23 @@ ghost use Rattle.clap.specs.Words.{fault_of};
 ghost use Rattle.dlms_program.specs.Words.{dlms};
 
 use clap::error::ErrorKind;
+use dlms_explain::{ExplainFault, explain};
 use dlms_field::{Polling, Serving, poll, serve};
 use dlms_loopback::loopback;
 use dlms_meter::Meter;
 use dlms_pages::{FilePages, MemoryPages, Pages};
+use dlms_plot::{Form, plot_readings};
 use dlms_program::{Job, ReplayFault, Sink, Source, job, replay};
+use dlms_show::{Curve, ShowFault, show_file};
 use dlms_store::{OpenFault, PAGES};
 use std::alloc::Global;
 use std::cell::RefCell;
 use std::fs::File;
-use std::io;
 use std::io::{BufReader, BufWriter, Read, Write};
 use std::net::Net;
 use std::rt::Files;
 use std::time::Clock;
+use std::{fs, io};
 
 mod fault;
 mod streams;
@@ -86,9 +89,9 @@ fn run_on<'f, H: AllocGlobal, R: Source, W: Sink, P: Pages + Drop>(
     Ok(())
 }
 
-/// The end of a replay, and that of its output.
-fn ended<'a>(replayed: Result<(), Fault<'a>>, flushed: io::Result<()>) -> Result<(), Fault<'a>> {
-    replayed?;
+/// The end of a run, and that of its output.
+fn ended<'a>(run: Result<(), Fault<'a>>, flushed: io::Result<()>) -> Result<(), Fault<'a>> {
+    run?;
     match flushed {
         Ok(()) => Ok(()),
         Err(_) => Err(Fault::Replay(ReplayFault::Io)),
@@ -99,6 +102,14 @@ fn ended<'a>(replayed: Result<(), Fault<'a>>, flushed: io::Result<()>) -> Result
 fn buffered<R: Read + Drop>(alloc: Global, input: R) -> Result<BufReader<R>, Fault<'static>> {
     match BufReader::with_capacity(alloc, BUFFER, input) {
         Ok(reader) => Ok(reader),
+        Err(_) => Err(Fault::MEMORY),
+    }
+}
+
+/// The output, through a buffer.
+fn written<W: Write + Drop>(alloc: Global, output: W) -> Result<BufWriter<W>, Fault<'static>> {
+    match BufWriter::with_capacity(alloc, BUFFER, output) {
+        Ok(writer) => Ok(writer),
         Err(_) => Err(Fault::MEMORY),
     }
 }
@@ -131,9 +142,7 @@ fn run_replay_memory<H: AllocGlobal, R: Read + Drop, W: Write + Drop>(
     output: W,
 ) -> Result<(), Fault<'static>> {
     let reader = buffered(host.alloc(), input)?;
-    let Ok(writer) = BufWriter::with_capacity(host.alloc(), BUFFER, output) else {
-        return Err(Fault::MEMORY);
-    };
+    let writer = written(host.alloc(), output)?;
     let output = RefCell::new(writer);
     let Ok(pages) = MemoryPages::new(host.alloc(), PAGES) else {
         return Err(Fault::MEMORY);
@@ -203,6 +212,59 @@ fn run_poll<'a, H: Net + Files + Clock + AllocGlobal, W: Write>(
     }
 }
 
+/// Explains the frames that stand on the input. What is told of a line goes out before the next one is waited for.
+fn run_explain<H: AllocGlobal, R: Read + Drop, W: Write>(
+    host: &H,
+    input: R,
+    output: &mut W,
+) -> Result<(), Fault<'static>> {
+    let mut reader = buffered(host.alloc(), input)?;
+    let explained = match explain(host.alloc(), &mut reader, output) {
+        Ok(()) => Ok(()),
+        Err(ExplainFault::Memory) => Err(Fault::MEMORY),
+        Err(ExplainFault::Input | ExplainFault::Output) => Err(Fault::Replay(ReplayFault::Io)),
+    };
+    ended(explained, output.flush())
+}
+
+/// Shows what stands in a meter's file, and the curve of its load profile where it is asked for.
+fn run_show<'a, H: Files<File = File> + AllocGlobal, W: Write + Drop>(
+    host: &H,
+    file: &'a str,
+    plot: bool,
+    output: W,
+) -> Result<(), Fault<'a>> {
+    let mut writer = written(host.alloc(), output)?;
+    let curve = if plot { Curve::Text } else { Curve::None };
+    let shown = match show_file(host, file, curve, &mut writer) {
+        Ok(()) => Ok(()),
+        Err(ShowFault::File(error)) => Err(Fault::of_file(host.alloc(), file, &error)),
+        Err(ShowFault::Memory) => Err(Fault::MEMORY),
+        Err(ShowFault::Output) => Err(Fault::Replay(ReplayFault::Io)),
+    };
+    ended(shown, writer.flush())
+}
+
+/// Plots the load profile of a readings file.
+fn run_plot<'a, H: Files + AllocGlobal, W: Write + Drop>(
+    host: &H,
+    readings: &'a str,
+    svg: bool,
+    output: W,
+) -> Result<(), Fault<'a>> {
+    let text = match fs::read_to_string(host, readings) {
+        Ok(text) => text,
+        Err(error) => return Err(Fault::of_file(host.alloc(), readings, &error)),
+    };
+    let mut writer = written(host.alloc(), output)?;
+    let form = if svg { Form::Svg } else { Form::Text };
+    let plotted = match plot_readings(host.alloc(), text.as_str(), form, &mut writer) {
+        Ok(()) => Ok(()),
+        Err(fault) => Err(Fault::Plot(fault)),
+    };
+    ended(plotted, writer.flush())
+}
+
 /// The status of a run that has ended; a fault is named among the errors.
 pub fn finish<E: Write>(ended: Result<(), Fault<'_>>, errors: &mut E) -> io::Result<u8>
     ensures { IfOk result (λ status. MatchResult ended.entry (λ _. status ≡ DONE) (λ _. status ≡ FAULT)) }
@@ -213,6 +275,43 @@ pub fn finish<E: Write>(ended: Result<(), Fault<'_>>, errors: &mut E) -> io::Res
             writeln!(errors, "dlms: {fault}")?;
             Ok(FAULT)
         }
+    }
+}
+
+/// Does a job.
+fn run_job<
+    'a,
+    H: Net + Files<File = File> + Clock + AllocGlobal,
+    R: Read + Drop,
+    W: Write,
+    E: Write,
+>(host: &H, job: Job<'a>, input: R, output: &mut W, errors: &mut E) -> Result<(), Fault<'a>> {
+    match job {
+        Job::Format { file } => run_format(host, file, output),
+        Job::Replay { file: Some(file) } => run_replay_file(host, file, input, output),
+        Job::Replay { file: None } => run_replay_memory(host, input, output),
+        Job::Loopback { readings, stops } => run_loopback(host, readings, stops, output),
+        Job::Serve { file, listen, load } => {
+            let address = listen.unwrap_or(LISTEN);
+            run_serve(host, file, &Serving { address, load }, output, errors)
+        }
+        Job::Poll {
+            address,
+            readings,
+            secret_file,
+            client,
+        } => {
+            let polling = Polling {
+                address,
+                readings,
+                secret_file,
+                client,
+            };
+            run_poll(host, &polling, output)
+        }
+        Job::Explain => run_explain(host, input, output),
+        Job::Show { file, plot } => run_show(host, file, plot, output),
+        Job::Plot { readings, svg } => run_plot(host, readings, svg, output),
     }
 }
 
@@ -231,38 +330,7 @@ pub fn run<H: Net + Files<File = File> + Clock + AllocGlobal, R: Read + Drop, W:
     ensures usage { IfOk result (λ status. status ≡ USAGE → fault_of dlms (map (λ word. word.now) words.now) ≢ []) }
 {
     match job(host.alloc(), words) {
-        Ok(Job::Format { file }) => finish(run_format(host, file, output), errors),
-        Ok(Job::Replay { file: Some(file) }) => {
-            finish(run_replay_file(host, file, input, output), errors)
-        }
-        Ok(Job::Replay { file: None }) => finish(
-            run_replay_memory(host, input, &mut *output),
-            errors,
-        ),
-        Ok(Job::Loopback { readings, stops }) => {
-            finish(run_loopback(host, readings, stops, output), errors)
-        }
-        Ok(Job::Serve { file, listen, load }) => {
-            let address = listen.unwrap_or(LISTEN);
-            let served = run_serve(host, file, &Serving { address, load }, output, errors);
-            finish(served, errors)
-        }
-        Ok(
-            Job::Poll {
-                address,
-                readings,
-                secret_file,
-                client,
-            },
-        ) => {
-            let polling = Polling {
-                address,
-                readings,
-                secret_file,
-                client,
-            };
-            finish(run_poll(host, &polling, output), errors)
-        }
+        Ok(job) => finish(run_job(host, job, input, output, errors), errors),
         Err(error) if error.kind() == ErrorKind::OutOfMemory => {
             finish(Err(Fault::MEMORY), errors)
         }

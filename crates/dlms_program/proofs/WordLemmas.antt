@@ -1,6 +1,6 @@
 -- What the program's words come to.
-use Rattle.std.proofs.Common.{◌≡◌, ◌∙◌, ◌&&◌, ◌||◌, ℕ, refl, ap, subst, inl, inr, Bool, true, false, not, List, [], ◌∷◌, Option, Some, None, codes, slice_index_or}
-use Rattle.std.specs.Prelude.{◌⊎◌, cond, is_some, option_map}
+use Rattle.std.proofs.Common.{◌≡◌, ◌∙◌, ◌&&◌, ◌||◌, ℕ, refl, ap, subst, inl, inr, Bool, true, false, not, List, [], ◌∷◌, Option, Some, None, codes}
+use Rattle.std.specs.Prelude.{◌⊎◌, cond, find, is_some, option_map}
 use Rattle.std.specs.List.{list_any}
 use Rattle.clap.specs.Words.{App, HasMatchesOf, Row, Shape, Text, built, fault_of, subcommand_of, subcommand_rows_of}
 use Rattle.clap.specs.declared.parser.matches.ArgMatches.{ArgMatches}
@@ -34,64 +34,77 @@ level_wants s names h words has below needs e =
     wanted has (s.arg_required_else_help && not (list_any (λ r. explicit_source r.source) (finished s.rules end))) s.subcommand_required
     (not (s.subcommand_negates_reqs && has) && list_any (λ a. a.required && not (is_given a.id (finished s.rules end))) s.rules) needs none
 
--- the command of these five that a word names, with its rows
-abbrev pub IsOneOf : Shape → Shape → Shape → Shape → Shape → Option (Text × List Row) → Type 0
-IsOneOf u v x y z met = (rows : List Row) × ((met ≡ Some (u.name, rows)) ⊎ ((met ≡ Some (v.name, rows)) ⊎ ((met ≡ Some (x.name, rows)) ⊎ ((met ≡ Some (y.name, rows)) ⊎ (met ≡ Some (z.name, rows))))))
+-- one of these commands is met, with its rows
+abbrev pub IsOneOf : List Shape → Option (Text × List Row) → Type 0
+IsOneOf [] met = ⊥
+IsOneOf (s ∷ shapes) met = ((rows : List Row) × (met ≡ Some (s.name, rows))) ⊎ IsOneOf shapes met
 
-one_of_five : (a b c d e : Bool) (u v x y z : Shape) (words : List Text)
-    → is_some (option_map (λ s. rows_at s words) (cond a (Some u) (cond b (Some v) (cond c (Some x) (cond d (Some y) (cond e (Some z) None)))))) ≡ true
-    → IsOneOf u v x y z (option_map (λ s. rows_at s words) (cond a (Some u) (cond b (Some v) (cond c (Some x) (cond d (Some y) (cond e (Some z) None))))))
-one_of_five true b c d e u v x y z words h = ((rows_at u words).1, inl refl)
-one_of_five false true c d e u v x y z words h = ((rows_at v words).1, inr (inl refl))
-one_of_five false false true d e u v x y z words h = ((rows_at x words).1, inr (inr (inl refl)))
-one_of_five false false false true e u v x y z words h = ((rows_at y words).1, inr (inr (inr (inl refl))))
-one_of_five false false false false true u v x y z words h = ((rows_at z words).1, inr (inr (inr (inr refl))))
-one_of_five false false false false false u v x y z words h = absurd (cc h)
+one_tested : (b : Bool) (test : Shape → Bool) (s : Shape) (shapes : List Shape) (words : List Text)
+    → (is_some (option_map (λ s. rows_at s words) (find test shapes)) ≡ true → IsOneOf shapes (option_map (λ s. rows_at s words) (find test shapes)))
+    → is_some (option_map (λ s. rows_at s words) (cond b (Some s) (find test shapes))) ≡ true
+    → IsOneOf (s ∷ shapes) (option_map (λ s. rows_at s words) (cond b (Some s) (find test shapes)))
+one_tested true test s shapes words rest h = inl ((rows_at s words).1, refl)
+one_tested false test s shapes words rest h = inr (rest h)
 
-one_entered : (top u v x y z : Shape) (stop : Option (Text × List Text)) → is_some (entered (record { top = top; subs = u ∷ v ∷ x ∷ y ∷ z ∷ [] }) stop) ≡ true
-    → IsOneOf u v x y z (entered (record { top = top; subs = u ∷ v ∷ x ∷ y ∷ z ∷ [] }) stop)
-one_entered top u v x y z None h = absurd (cc h)
-one_entered top u v x y z (Some p) h =
-    one_of_five (answers_to p.0 (label_of u)) (answers_to p.0 (label_of v)) (answers_to p.0 (label_of x)) (answers_to p.0 (label_of y)) (answers_to p.0 (label_of z)) u v x y z p.1 h
+one_found : (test : Shape → Bool) (shapes : List Shape) (words : List Text) → is_some (option_map (λ s. rows_at s words) (find test shapes)) ≡ true
+    → IsOneOf shapes (option_map (λ s. rows_at s words) (find test shapes))
+one_found test [] words h = absurd (cc h)
+one_found test (s ∷ shapes) words h = one_tested (test s) test s shapes words (one_found test shapes words) h
+
+one_entered : (a : App) (stop : Option (Text × List Text)) → is_some (entered a stop) ≡ true → IsOneOf a.subs (entered a stop)
+one_entered a None h = absurd (cc h)
+one_entered a (Some p) h = one_found (λ s. answers_to p.0 (label_of s)) a.subs p.1 h
 
 abbrev made : App
 made = built dlms
 
-abbrev command_at : ℕ → Shape
-command_at place = slice_index_or made.subs place made.top
-
--- the command that was met, where no fault was
-abbrev pub IsMet : Option (Text × List Row) → List Row → Type 0
-IsMet met rows = (met ≡ Some (codes "format", rows)) ⊎ ((met ≡ Some (codes "replay", rows)) ⊎ ((met ≡ Some (codes "loopback", rows)) ⊎ ((met ≡ Some (codes "serve", rows)) ⊎ (met ≡ Some (codes "poll", rows)))))
-
-pub command_met : (words : List Text) → fault_of dlms words ≡ [] → (rows : List Row) × IsMet (subcommand_of dlms words) rows
+-- where no fault was met, one of the program's commands was
+pub command_met : (words : List Text) → fault_of dlms words ≡ [] → IsOneOf made.subs (subcommand_of dlms words)
 command_met words h =
     let args : List Text = argument_words made words in
     let stop : Option (Text × List Text) = (walk made.top.rules (names_of made) nothing_held args).stopped in
-    one_entered made.top (command_at 0) (command_at 1) (command_at 2) (command_at 3) (command_at 4) stop
-    (level_wants made.top (names_of made) nothing_held args (is_some (entered made stop)) (entered_fault made stop) refl h)
+    one_entered made stop (level_wants made.top (names_of made) nothing_held args (is_some (entered made stop)) (entered_fault made stop) refl h)
 
 -- ---- what was met for a command
 
 pub same_some : {A : Type 0} {a b : A} → Some a ≡ Some b → a ≡ b
 same_some e = cc
 
+-- what was met has another name
+abbrev pub IsNot : Text → Option (Text × List Row) → Type 0
+IsNot name met = option_map (λ p. p.0) met ≡ Some name → ⊥
+
+other_name : (name : Text) (met found : Option (Text × List Row)) → met ≡ found → IsNot name met → ((rows : List Row) × (found ≡ Some (name, rows))) → ⊥
+other_name name met found is not_it has = not_it (ap (option_map (λ p. p.0)) (is ∙ has.1))
+
 -- the words of a job whose name is none of the others
 pub polls_else : (words : List Text) (met : Option (Text × List Row)) → fault_of dlms words ≡ [] → met ≡ subcommand_of dlms words
-    → (option_map (λ p. p.0) met ≡ Some (codes "format") → ⊥) → (option_map (λ p. p.0) met ≡ Some (codes "replay") → ⊥)
-    → (option_map (λ p. p.0) met ≡ Some (codes "loopback") → ⊥) → (option_map (λ p. p.0) met ≡ Some (codes "serve") → ⊥)
+    → IsNot (codes "format") met → IsNot (codes "replay") met → IsNot (codes "loopback") met → IsNot (codes "serve") met
+    → IsNot (codes "explain") met → IsNot (codes "show") met → IsNot (codes "plot") met
     → (rows : List Row) × (subcommand_of dlms words ≡ Some (codes "poll", rows))
-polls_else words met none is first second third fourth =
-    let found = command_met words none in
-    elim found.1 [
-      | inl formats ↦ absurd (first (ap (option_map (λ p. p.0)) (is ∙ formats)))
+polls_else words met none is formats replays loops serves explains shows plots =
+    let found = subcommand_of dlms words in
+    elim (command_met words none) [
+      | inl has ↦ absurd (other_name _ met found is formats has)
       | inr rest ↦ elim rest [
-        | inl replays ↦ absurd (second (ap (option_map (λ p. p.0)) (is ∙ replays)))
+        | inl has ↦ absurd (other_name _ met found is replays has)
         | inr rest ↦ elim rest [
-          | inl loops ↦ absurd (third (ap (option_map (λ p. p.0)) (is ∙ loops)))
+          | inl has ↦ absurd (other_name _ met found is loops has)
           | inr rest ↦ elim rest [
-            | inl serves ↦ absurd (fourth (ap (option_map (λ p. p.0)) (is ∙ serves)))
-            | inr polls ↦ (found.0, polls)
+            | inl has ↦ absurd (other_name _ met found is serves has)
+            | inr rest ↦ elim rest [
+              | inl has ↦ has
+              | inr rest ↦ elim rest [
+                | inl has ↦ absurd (other_name _ met found is explains has)
+                | inr rest ↦ elim rest [
+                  | inl has ↦ absurd (other_name _ met found is shows has)
+                  | inr rest ↦ elim rest [
+                    | inl has ↦ absurd (other_name _ met found is plots has)
+                    | inr no_more ↦ absurd no_more
+                  ]
+                ]
+              ]
+            ]
           ]
         ]
       ]

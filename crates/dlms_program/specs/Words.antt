@@ -3,7 +3,7 @@ use Rattle.std.specs.Prelude.{◌≡◌, ◌<◌, ◌↔◌, ◌^◌, ℕ, pos, 
 use Rattle.clap.specs.Words.{App, Row, Rule, Text, first_of, new_app, new_rule, with_rule, with_subcommand}
 use Rattle.clap.specs.declared.builder.action.ArgAction.TheVariants.{SetTrue}
 use Rattle.dlms_program.specs.declared.commands.Job.{Job}
-use Rattle.dlms_program.specs.declared.commands.Job.TheVariants.{Format, Replay, Loopback, Serve, Poll}
+use Rattle.dlms_program.specs.declared.commands.Job.TheVariants.{Format, Replay, Loopback, Serve, Poll, Explain, Show, Plot}
 use Rattle.dlms_program.specs.Numbers.{IsNumberOf}
 use Rattle.dlms_frame.specs.declared.client.Client.{Client}
 use Rattle.dlms_frame.specs.declared.client.Client.TheVariants.{Public, Management, Reader}
@@ -67,8 +67,32 @@ poll_command = with_rule open_command reader_rule
 abbrev pub first_commands : App
 first_commands = with_subcommand (with_subcommand (with_subcommand (new_app (codes "dlms")) format_command.top) replay_command.top) loopback_command.top
 
+abbrev pub field_commands : App
+field_commands = with_subcommand (with_subcommand first_commands serve_command.top) poll_command.top
+
+-- frames are explained with no more words
+abbrev pub explain_command : App
+explain_command = new_app (codes "explain")
+
+-- a meter's file has to be named, and its curve may be asked for
+abbrev pub plot_rule : Rule
+plot_rule = record (new_rule (codes "plot")) { long = Some (codes "plot"); action = Some SetTrue }
+
+abbrev pub show_command : App
+show_command = with_rule (with_rule (new_app (codes "show")) wanted_file_rule) plot_rule
+
+-- a file of readings has to be named, and an SVG may be asked for
+abbrev pub wanted_readings_rule : Rule
+wanted_readings_rule = record (new_rule (codes "READINGS")) { required = true }
+
+abbrev pub svg_rule : Rule
+svg_rule = record (new_rule (codes "svg")) { long = Some (codes "svg"); action = Some SetTrue }
+
+abbrev pub plot_command : App
+plot_command = with_rule (with_rule (new_app (codes "plot")) wanted_readings_rule) svg_rule
+
 abbrev pub commands : App
-commands = with_subcommand (with_subcommand first_commands serve_command.top) poll_command.top
+commands = with_subcommand (with_subcommand (with_subcommand field_commands explain_command.top) show_command.top) plot_command.top
 
 -- the program's commands, of which one is wanted
 abbrev pub dlms : App
@@ -119,3 +143,7 @@ Asks met (Serve file listen load) = (rows : List Row) × (met ≡ Some (codes "s
 Asks met (Poll address readings secret client) = (rows : List Row) × (met ≡ Some (codes "poll", rows)) × (address.now ≡ unwrap_or (first_of (codes "ADDRESS:PORT") rows) [])
     × (option_map (λ f. f.now) readings ≡ first_of (codes "readings") rows) × (option_map (λ f. f.now) secret ≡ first_of (codes "secret-file") rows)
     × IsAsker rows client
+Asks met Explain = (rows : List Row) × (met ≡ Some (codes "explain", rows))
+Asks met (Show file plot) = (rows : List Row) × (met ≡ Some (codes "show", rows)) × (file.now ≡ unwrap_or (file_in rows) []) × IsSaid (first_of (codes "plot") rows) plot
+Asks met (Plot readings svg) = (rows : List Row) × (met ≡ Some (codes "plot", rows)) × (readings.now ≡ unwrap_or (first_of (codes "READINGS") rows) [])
+    × IsSaid (first_of (codes "svg") rows) svg

@@ -33,4 +33,16 @@ pub enum Job<'a> {
         secret_file: Option<&'a str>,
         client: Client,
     },
+    /// Explains the frames that stand on standard input.
+    Explain,
+    /// Shows what stands in a meter's file, and the curve of its load profile where `plot` asks for it.
+    Show {
+        file: &'a str,
+        plot: bool,
+    },
+    /// Plots the load profile of a readings file, as text or as an SVG.
+    Plot {
+        readings: &'a str,
+        svg: bool,
+    },
 }

@@ -2,7 +2,7 @@
 ghost use Rattle.std.specs.Prelude.{◌≡◌, [], List, Some, option_map, OnOk, false, true, IfErr, IfOk, codes, map};
 ghost use Rattle.clap.specs.Words.{app_of, fault_of, first_of, rule_of, Row, FailsBy, HasKind, subcommand_rows_of, subcommand_of};
 ghost use Rattle.clap.specs.declared.builder.command.Command.TheViews.{out-Command as fields_of};
-ghost use Rattle.dlms_program.specs.Words.{asking_command, dlms, first_commands, format_command, listen_rule, load_rule, loopback_command, open_command, poll_command, public_rule, reader_rule, asker as client_by, readings_rule, replay_command, secret_rule, serve_command, stops_rule, Asks, IsSaid, SaysLoad, SaysStops};
+ghost use Rattle.dlms_program.specs.Words.{asking_command, dlms, explain_command, field_commands, first_commands, format_command, listen_rule, load_rule, loopback_command, open_command, plot_command, plot_rule, poll_command, public_rule, reader_rule, asker as client_by, readings_rule, replay_command, secret_rule, serve_command, show_command, stops_rule, svg_rule, Asks, IsSaid, SaysLoad, SaysStops};
 
 use crate::commands::Job;
 use clap::{Arg, ArgAction, ArgMatches, Command, Error, value_parser};
@@ -83,6 +83,39 @@ Exit status: 0; 1 after a fault (dlms: io, with the file or ADDRESS:PORT and the
 for a line of FILE that is none of readings; dlms: secret for one of more than 16 bytes; dlms: line, dlms: protocol (also for \
 rows of other columns than the clock and the three registers), dlms: refused N or dlms: result N for the poll; dlms: memory); \
 2 for words that are not understood, and for this help.";
+
+/// What `explain` does, for its help.
+const EXPLAIN_ABOUT: &str =
+    "Explains the HDLC frames that stand on standard input in hexadecimal digits, and what they carry.
+
+Reads lines: \"> HEX\" for bytes to a meter and \"< HEX\" for bytes from it, as the transcript of a replay has them, or digits \
+alone. Prints each frame's direction, addresses and control, and of the APDU in it the parts by their names. Of a secret no byte \
+is printed.
+
+Exit status: 0; 1 after a fault (dlms: io; dlms: memory); 2 for words that are not understood, and for this help.";
+
+/// What `show` does, for its help.
+const SHOW_ABOUT: &str = "Shows what stands in the meter's file FILE, and changes nothing in it.
+
+Prints a line for each page (its place, what it says, and whether a recovery counts it, or why not), which slot counts, the \
+journal's events, what a recovery would do, and the state and the rows that it would find. With --plot the load profile is plotted \
+too, as text of at most 100 columns. Of a secret no byte is printed.
+
+Exit status: 0, for a damaged FILE too; 1 after a fault (dlms: io, with FILE and the system's words on a second line, also where \
+another program uses FILE; dlms: memory); 2 for words that are not understood, and for this help.";
+
+/// What `plot` does, for its help.
+const PLOT_ABOUT: &str =
+    "Plots the load profile of the readings file READINGS as a curve of steps, broken where captures are missing.
+
+Reads the lines \"clock,r0,r1,r2\" that loopback and poll leave in their --readings. Plots the first register whose first and \
+last rows differ, as the power between neighboring captures: plain text of at most 100 columns, each of them its greatest power. \
+With --svg an SVG that stands alone. The usual period is the step of the clock that stands most often between two captures; \
+where two stand further apart, captures are missing.
+
+Exit status: 0; 1 after a fault (dlms: io, with READINGS and the system's words on a second line where the system has any; \
+dlms: line N for a line of READINGS that is none of readings; dlms: memory); 2 for words that are not understood, and for this \
+help.";
 
 fn format_command<'a>(alloc: Global) -> Result<Command<'a>, AllocError>
     ensures shape { IfOk result (λ c. app_of c ≡ format_command) }
@@ -258,13 +291,83 @@ fn first_commands<'a>(alloc: Global) -> Result<Command<'a>, AllocError>
     Ok(program)
 }
 
+/// These, and the commands of a meter on a port.
+fn field_commands<'a>(alloc: Global) -> Result<Command<'a>, AllocError>
+    ensures { IfOk result (λ c. app_of c ≡ record field_commands { top = record field_commands.top { has_version = true } }) }
+{
+    let program = first_commands(alloc)?
+        .subcommand(serve_command(alloc)?)?
+        .subcommand(poll_command(alloc)?)?;
+    Ok(program)
+}
+
+fn explain_command<'a>(alloc: Global) -> Command<'a>
+    ensures shape { app_of result ≡ explain_command }
+    ensures local { (fields_of result).has_globals ≡ false }
+{
+    Command::new(alloc, "explain")
+        .about("Explains the frames that stand on standard input, and what they carry")
+        .long_about(EXPLAIN_ABOUT)
+}
+
+/// The flag that asks for the curve of a meter's load profile.
+fn plot_flag<'a>(alloc: Global) -> Arg<'a>
+    ensures rule { rule_of result ≡ plot_rule }
+    ensures local { result.global ≡ false }
+{
+    Arg::new(alloc, "plot")
+        .long("plot")
+        .action(ArgAction::SetTrue)
+        .help("Plots the load profile too")
+}
+
+fn show_command<'a>(alloc: Global) -> Result<Command<'a>, AllocError>
+    ensures shape { IfOk result (λ c. app_of c ≡ show_command) }
+    ensures local { IfOk result (λ c. (fields_of c).has_globals ≡ false) }
+{
+    let file = Arg::new(alloc, "FILE")
+        .required(true)
+        .help("The file that the meter stands in");
+    Command::new(alloc, "show")
+        .about("Shows what stands in the meter's file FILE, damaged or not")
+        .long_about(SHOW_ABOUT)
+        .arg(file)?
+        .arg(plot_flag(alloc))
+}
+
+/// The flag that asks for an SVG.
+fn svg_flag<'a>(alloc: Global) -> Arg<'a>
+    ensures rule { rule_of result ≡ svg_rule }
+    ensures local { result.global ≡ false }
+{
+    Arg::new(alloc, "svg")
+        .long("svg")
+        .action(ArgAction::SetTrue)
+        .help("Prints an SVG in place of plain text")
+}
+
+fn plot_command<'a>(alloc: Global) -> Result<Command<'a>, AllocError>
+    ensures shape { IfOk result (λ c. app_of c ≡ plot_command) }
+    ensures local { IfOk result (λ c. (fields_of c).has_globals ≡ false) }
+{
+    let readings = Arg::new(alloc, "READINGS")
+        .required(true)
+        .help("The file that the readings stand in");
+    Command::new(alloc, "plot")
+        .about("Plots the load profile of the readings file READINGS")
+        .long_about(PLOT_ABOUT)
+        .arg(readings)?
+        .arg(svg_flag(alloc))
+}
+
 /// The commands of the program.
 fn program<'a>(alloc: Global) -> Result<Command<'a>, AllocError>
     ensures { IfOk result (λ c. app_of c ≡ dlms) }
 {
-    let program = first_commands(alloc)?
-        .subcommand(serve_command(alloc)?)?
-        .subcommand(poll_command(alloc)?)?
+    let program = field_commands(alloc)?
+        .subcommand(explain_command(alloc))?
+        .subcommand(show_command(alloc)?)?
+        .subcommand(plot_command(alloc)?)?
         .disable_help_subcommand(true)
         .arg_required_else_help(true)
         .subcommand_required(true);
@@ -361,6 +464,28 @@ fn poll_job<'a>(matches: &ArgMatches<'a>) -> Job<'a>
     }
 }
 
+/// The values of `show`.
+fn show_job<'a>(matches: &ArgMatches<'a>) -> Job<'a>
+    ensures { (rows : List Row) → subcommand_rows_of matches.now ≡ Some (codes "show", rows) → Asks (Some (codes "show", rows)) result }
+{
+    let plot = is_given(value_for(matches, "show", "plot"));
+    Job::Show {
+        file: value_for(matches, "show", "FILE").unwrap_or(""),
+        plot,
+    }
+}
+
+/// The values of `plot`.
+fn plot_job<'a>(matches: &ArgMatches<'a>) -> Job<'a>
+    ensures { (rows : List Row) → subcommand_rows_of matches.now ≡ Some (codes "plot", rows) → Asks (Some (codes "plot", rows)) result }
+{
+    let svg = is_given(value_for(matches, "plot", "svg"));
+    Job::Plot {
+        readings: value_for(matches, "plot", "READINGS").unwrap_or(""),
+        svg,
+    }
+}
+
 /// The job that the words name, the first of which is the program's own name: its command and its values are those that `clap`
 /// finds for them. A fault is `clap`'s, or want of memory; where `clap` finds none, it is want of memory.
 pub fn job<'a>(alloc: Global, words: &'a [&'a str]) -> Result<Job<'a>, Error>
@@ -382,6 +507,15 @@ pub fn job<'a>(alloc: Global, words: &'a [&'a str]) -> Result<Job<'a>, Error>
     }
     if matches.subcommand_name() == Some("serve") {
         return Ok(serve_job(&matches));
+    }
+    if matches.subcommand_name() == Some("explain") {
+        return Ok(Job::Explain);
+    }
+    if matches.subcommand_name() == Some("show") {
+        return Ok(show_job(&matches));
+    }
+    if matches.subcommand_name() == Some("plot") {
+        return Ok(plot_job(&matches));
     }
     Ok(poll_job(&matches))
 }

@@ -4,7 +4,7 @@
 //! something is said among the errors `NNN.err`, and where the program is not asked to `replay` on a new meter `NNN.words` (its
 //! words, one a line). The cases run in the order of their numbers, in one folder: a file that one makes is there for the next.
 //! Where a case has `NNN.seal`, the file that its last word names must have this SHA-256 behind the run.
-//! From 601 on a case is a talk: each line is given when it is asked for, and only where each frame before it was answered.
+//! From 601 to 609 a case is a talk: each line is given when it is asked for, and only where each frame before it was answered.
 #![tactic(auto)]
 
 use anyhow::Result;
@@ -31,6 +31,9 @@ const WORDS: &str = "replay";
 
 /// The number of the first case that is a talk.
 const FIRST_TALK: u32 = 601;
+
+/// The last number that a talk may have.
+const LAST_TALK: u32 = 609;
 
 /// What a case differs in.
 #[derive(Clone, Copy, Debug, PartialEq, Eq)]
@@ -150,7 +153,7 @@ fn run_all<R: Net + Files<File = File> + Clock + Print + AllocGlobal>(rt: &R) ->
         let Some(input) = bytes_of(rt, name.as_str(), "in")? else {
             continue;
         };
-        let is_talk = number >= FIRST_TALK;
+        let is_talk = FIRST_TALK <= number && number <= LAST_TALK;
         let verdict = verdict_of(rt, name.as_str(), is_talk, input.as_slice())?;
         cases = cases.saturating_add(1);
         if verdict != Verdict::AsExpected {

@@ -1,0 +1,235 @@
+//! Values as an indented tree.
+
+use crate::date_text::{write_date, write_date_time, write_time};
+use crate::names_text::write_code;
+use crate::words::{begin, end, number, octets, signed};
+use dlms_data::{Bits, Data, secs};
+use dlms_names::code_name;
+use std::alloc::{AllocError, Allocator};
+
+/// How many levels of arrays and structures a value has at most.
+const MOST_LEVELS: u8 = 8;
+
+/// Whether the bytes are text that can be shown between quotes.
+fn is_plain_text(bytes: &[u8]) -> bool {
+    for byte in bytes {
+        if *byte < b' ' || *byte > b'~' || *byte == b'"' {
+            return false;
+        }
+    }
+    !bytes.is_empty()
+}
+
+/// Bytes that are text between quotes, others in hexadecimal digits.
+fn write_string<A: Allocator>(text: &mut String<A>, bytes: &[u8]) -> Result<(), AllocError> {
+    if !is_plain_text(bytes) {
+        return octets(text, bytes);
+    }
+    text.push_str("\"")?;
+    for byte in bytes {
+        text.push(char::from(*byte))?;
+    }
+    text.push_str("\"")
+}
+
+/// The twelve octets of a second of the clock.
+fn date_time_in(bytes: &[u8]) -> Option<[u8; 12]> {
+    secs(bytes)?;
+    let mut octets = [0; 12];
+    if bytes.len() != 12 {
+        return None;
+    }
+    octets.copy_from_slice(bytes);
+    Some(octets)
+}
+
+/// The six octets of a name that is known.
+fn code_in(bytes: &[u8]) -> Option<[u8; 6]> {
+    if bytes.len() != 6 {
+        return None;
+    }
+    let mut code = [0; 6];
+    code.copy_from_slice(bytes);
+    code_name(code)?;
+    Some(code)
+}
+
+/// The octets, and behind them the date-time, the OBIS code or the text that they are.
+fn write_octets<A: Allocator>(text: &mut String<A>, bytes: &[u8]) -> Result<(), AllocError> {
+    octets(text, bytes)?;
+    if let Some(octets) = date_time_in(bytes) {
+        text.push_str(" ")?;
+        return write_date_time(text, octets);
+    }
+    if let Some(code) = code_in(bytes) {
+        text.push_str(" ")?;
+        return write_code(text, code);
+    }
+    if is_plain_text(bytes) {
+        text.push_str(" ")?;
+        write_string(text, bytes)?;
+    }
+    Ok(())
+}
+
+/// Bits, the first one first.
+fn write_bits<A: Allocator>(text: &mut String<A>, bits: &Bits<A>) -> Result<(), AllocError> {
+    let mut left = bits.len();
+    for byte in bits.as_bytes() {
+        let mut weight = 128u8;
+        for _ in 0..8u8 {
+            if left == 0 || weight == 0 {
+                break;
+            }
+            text.push_str(if *byte & weight != 0 { "1" } else { "0" })?;
+            weight /= 2;
+            left -= 1;
+        }
+    }
+    Ok(())
+}
+
+/// A type with a number.
+fn write_unsigned<A: Allocator>(
+    text: &mut String<A>,
+    kind: &str,
+    value: u64,
+) -> Result<(), AllocError> {
+    text.push_str(kind)?;
+    number(text, value)
+}
+
+/// A type with a number that may be below 0.
+fn write_signed<A: Allocator>(
+    text: &mut String<A>,
+    kind: &str,
+    value: i64,
+) -> Result<(), AllocError> {
+    text.push_str(kind)?;
+    signed(text, value)
+}
+
+/// The line of a number, or of a value without a part; nothing of the others.
+fn write_number<A: Allocator>(text: &mut String<A>, value: &Data<A>) -> Result<(), AllocError> {
+    match value {
+        Data::Null => text.push_str("null-data"),
+        Data::Boolean(true) => text.push_str("boolean true"),
+        Data::Boolean(false) => text.push_str("boolean false"),
+        Data::DoubleLong(z) => write_signed(text, "double-long ", i64::from(*z)),
+        Data::DoubleLongUnsigned(n) => {
+            write_unsigned(text, "double-long-unsigned ", u64::from(*n))
+        }
+        Data::Bcd(n) => {
+            text.push_str("bcd ")?;
+            octets(text, &[*n])
+        }
+        Data::Integer(z) => write_signed(text, "integer ", i64::from(*z)),
+        Data::Long(z) => write_signed(text, "long ", i64::from(*z)),
+        Data::Unsigned(n) => write_unsigned(text, "unsigned ", u64::from(*n)),
+        Data::LongUnsigned(n) => write_unsigned(text, "long-unsigned ", u64::from(*n)),
+        Data::Long64(z) => write_signed(text, "long64 ", *z),
+        Data::Long64Unsigned(n) => write_unsigned(text, "long64-unsigned ", *n),
+        Data::Enum(n) => write_unsigned(text, "enum ", u64::from(*n)),
+        _ => Ok(()),
+    }
+}
+
+/// The line of a value that holds no other values.
+fn write_plain<A: Allocator>(text: &mut String<A>, value: &Data<A>) -> Result<(), AllocError> {
+    match value {
+        Data::BitString(bits) => {
+            text.push_str("bit-string ")?;
+            write_bits(text, bits)
+        }
+        Data::OctetString(bytes) => {
+            text.push_str("octet-string ")?;
+            write_octets(text, bytes.as_slice())
+        }
+        Data::VisibleString(bytes) => {
+            text.push_str("visible-string ")?;
+            write_string(text, bytes.as_slice())
+        }
+        Data::Utf8String(bytes) => {
+            text.push_str("utf8-string ")?;
+            write_string(text, bytes.as_slice())
+        }
+        Data::DateTime(octets) => {
+            text.push_str("date-time ")?;
+            write_date_time(text, *octets)
+        }
+        Data::Date(octets) => {
+            text.push_str("date ")?;
+            write_date(text, *octets)
+        }
+        Data::Time(octets) => {
+            text.push_str("time ")?;
+            write_time(text, *octets)
+        }
+        other => write_number(text, other),
+    }
+}
+
+/// The line of an array or a structure, with how many values it holds, and these below it.
+#[cycle(tree)]
+fn write_items<A: Allocator>(
+    text: &mut String<A>,
+    depth: u8,
+    room: u8,
+    kind: &str,
+    items: &[Data<A>],
+) -> Result<(), AllocError> {
+    begin(text, depth)?;
+    text.push_str(kind)?;
+    number(text, items.len() as u64)?;
+    end(text)?;
+    if room == 0 {
+        return Ok(());
+    }
+    for item in items {
+        write_tree(text, depth.saturating_add(1), room - 1, item)?;
+    }
+    Ok(())
+}
+
+/// The lines of a value with so many levels.
+#[cycle(tree)]
+fn write_tree<A: Allocator>(
+    text: &mut String<A>,
+    depth: u8,
+    room: u8,
+    value: &Data<A>,
+) -> Result<(), AllocError> {
+    match value {
+        Data::Array(items) => write_items(text, depth, room, "array of ", items.as_slice()),
+        Data::Structure(items) => write_items(text, depth, room, "structure of ", items.as_slice()),
+        plain => {
+            begin(text, depth)?;
+            write_plain(text, plain)?;
+            end(text)
+        }
+    }
+}
+
+/// The lines of a value that was read: the first one stands so deep, and what it holds a level deeper.
+pub fn write_value<A: Allocator>(
+    text: &mut String<A>,
+    depth: u8,
+    value: &Data<A>,
+) -> Result<(), AllocError> {
+    write_tree(text, depth, MOST_LEVELS, value)
+}
+
+/// A value within a line: of a time its date, of an array or a structure how many it holds.
+pub fn write_inline<A: Allocator>(text: &mut String<A>, value: &Data<A>) -> Result<(), AllocError> {
+    match value {
+        Data::Array(items) => write_unsigned(text, "array of ", items.len() as u64),
+        Data::Structure(items) => write_unsigned(text, "structure of ", items.len() as u64),
+        Data::OctetString(bytes) => match date_time_in(bytes.as_slice()) {
+            Some(octets) => write_date_time(text, octets),
+            None => write_octets(text, bytes.as_slice()),
+        },
+        Data::DoubleLongUnsigned(n) => number(text, u64::from(*n)),
+        Data::LongUnsigned(n) => number(text, u64::from(*n)),
+        plain => write_plain(text, plain),
+    }
+}

@@ -1,0 +1,402 @@
+//! Lines, explained: the octets of each line go to the readers of `dlms_talks`, and what these tell goes to the text functions,
+//! which see no octet.
+
+use crate::association_text;
+use crate::frame_text::{write_came, write_frame, write_information, write_no_llc, write_stray};
+use crate::service_text::{write_fault, write_joined, write_said, write_whole};
+use crate::words::line;
+use arrayvec::ArrayVec;
+use dlms_apdu::{Request, Response};
+use dlms_frame::Frame;
+use dlms_names::apdu_name;
+use dlms_talks::{
+    Apdu, Came, Control, Found, Joined, Line, Numbers, Services, Side, Stretch, Talk, Talks,
+    asked_by, asks_secret, behind_llc, first_pair, first_piece, has_poll, heading_of, line_of,
+    parameters_of, parties_of, read, read_apdu, request_said, response_said, side_of, whole_of,
+    without_secret,
+};
+use std::alloc::{AllocError, Allocator, Global};
+use std::str;
+
+/// Explains lines: those of a transcript (`> HEX` from the client, `< HEX` from the meter), or bare pairs of hexadecimal digits.
+///
+/// It keeps a stretch of bytes for each direction, what is under way of eight talks, and no more.
+#[derive(Drop)]
+pub struct Explainer<A: Allocator = Global> {
+    alloc: A,
+    client: Stretch<A>,
+    meter: Stretch<A>,
+    bare: Stretch<A>,
+    talks: Talks<A>,
+}
+
+/// The most bytes of a line that are looked at at once.
+const MOST_PIECE: usize = 256;
+
+/// What the blocks of a value that is set, or of a parameter, join to behind this request.
+fn join_put<A: Allocator + Copy>(
+    services: &mut Services<A>,
+    request: &Request<'_, A>,
+) -> Option<Joined> {
+    match request {
+        Request::SetFirst {
+            last,
+            number,
+            raw,
+            ..
+        }
+        | Request::ActionFirst {
+            last,
+            number,
+            raw,
+            ..
+        } => Some(services.transfers.put_first(*last, *number, raw)),
+        Request::SetBlock {
+            last,
+            number,
+            raw,
+            ..
+        }
+        | Request::ActionBlock {
+            last,
+            number,
+            raw,
+            ..
+        } => Some(services.transfers.put_more(*last, *number, raw)),
+        _ => None,
+    }
+}
+
+/// The lines of what a block joins to with those before it, whose octets are `joined_octets`.
+fn explain_joined<A: Allocator + Copy>(
+    text: &mut String<A>,
+    alloc: A,
+    joined: Joined,
+    joined_octets: &[u8],
+    secret: bool,
+) -> Result<(), AllocError> {
+    if joined != Joined::Whole {
+        return write_joined(text, joined);
+    }
+    let whole = whole_of(alloc, secret, joined_octets)?;
+    write_whole(text, joined_octets.len(), &whole)
+}
+
+/// The lines of a request, and of what its blocks join to.
+fn explain_request<A: Allocator + Copy>(
+    text: &mut String<A>,
+    alloc: A,
+    services: &mut Services<A>,
+    request: &Request<'_, A>,
+) -> Result<(), AllocError> {
+    if let Some(asked) = asked_by(request) {
+        services.asked = Some(asked);
+    }
+    write_said(text, "", &request_said(request))?;
+    let Some(joined) = join_put(services, request) else {
+        return Ok(());
+    };
+    let secret = asks_secret(services.asked);
+    explain_joined(text, alloc, joined, services.transfers.put(), secret)
+}
+
+/// The lines of a response, and of what its blocks join to.
+fn explain_response<A: Allocator + Copy>(
+    text: &mut String<A>,
+    alloc: A,
+    services: &mut Services<A>,
+    response: &Response<'_, A>,
+) -> Result<(), AllocError> {
+    write_said(text, "of ", &response_said(response, services.asked))?;
+    let Response::GetBlock {
+        last,
+        number,
+        raw,
+        ..
+    } = response
+    else {
+        return Ok(());
+    };
+    let joined = services.transfers.get(alloc, *last, *number, raw)?;
+    let secret = asks_secret(services.asked);
+    explain_joined(text, alloc, joined, services.transfers.got(), secret)
+}
+
+/// The lines of an APDU.
+fn explain_apdu<A: Allocator + Copy>(
+    text: &mut String<A>,
+    alloc: A,
+    side: Option<Side>,
+    services: &mut Services<A>,
+    bytes: &[u8],
+) -> Result<(), AllocError> {
+    match read_apdu(alloc, side, bytes)? {
+        Apdu::AssociationRequest(request) => {
+            association_text::write_request(text, without_secret(&request))
+        }
+        Apdu::AssociationResponse(response) => association_text::write_response(text, response),
+        Apdu::ReleaseRequest(reason) => association_text::write_release_request(text, reason),
+        Apdu::ReleaseResponse(reason) => association_text::write_release_response(text, reason),
+        Apdu::Request(request) => explain_request(text, alloc, services, &request),
+        Apdu::Response(response) => explain_response(text, alloc, services, &response),
+        Apdu::Unreadable(fault) => {
+            let name = bytes.first().and_then(|octet| apdu_name(*octet));
+            write_fault(text, name, fault)
+        }
+    }
+}
+
+/// The lines of the APDU that the last information frame of this side was the end of.
+fn explain_whole<A: Allocator + Copy>(
+    text: &mut String<A>,
+    alloc: A,
+    side: Option<Side>,
+    talk: &mut Talk<A>,
+) -> Result<(), AllocError> {
+    match side {
+        Some(Side::Meter) => {
+            explain_apdu(text, alloc, side, &mut talk.services, talk.meter.apdu())
+        }
+        _ => explain_apdu(text, alloc, side, &mut talk.services, talk.client.apdu()),
+    }
+}
+
+/// The lines of an APDU that stands by itself, as in a frame that is not taken: of what came before it nothing is known, and
+/// it changes nothing.
+fn explain_alone<A: Allocator + Copy>(
+    text: &mut String<A>,
+    alloc: A,
+    side: Option<Side>,
+    info: &[u8],
+) -> Result<(), AllocError> {
+    match behind_llc(side, info) {
+        Some(apdu) => explain_apdu(text, alloc, side, &mut Services::new(alloc), apdu),
+        None => write_no_llc(text),
+    }
+}
+
+/// The lines of an information frame.
+fn explain_information<A: Allocator + Copy>(
+    text: &mut String<A>,
+    alloc: A,
+    side: Option<Side>,
+    talk: &mut Talk<A>,
+    numbers: Numbers,
+    frame: &Frame,
+) -> Result<(), AllocError> {
+    let info = frame.info.as_slice();
+    let came = talk.take(side, numbers, frame.segmented, info)?;
+    write_came(text, came)?;
+    match came {
+        Came::Apart => explain_alone(text, alloc, side, info),
+        Came::NoPoll if !frame.segmented => explain_alone(text, alloc, side, info),
+        Came::Whole(_) => explain_whole(text, alloc, side, talk),
+        _ => Ok(()),
+    }
+}
+
+/// The lines of the parameters of an SNRM or a UA, where it has any.
+fn explain_parameters<A: Allocator>(text: &mut String<A>, info: &[u8]) -> Result<(), AllocError> {
+    if info.is_empty() {
+        return Ok(());
+    }
+    write_information(text, parameters_of(info))
+}
+
+/// The lines of what a frame holds.
+fn explain_content<A: Allocator + Copy>(
+    text: &mut String<A>,
+    alloc: A,
+    side: Option<Side>,
+    talk: &mut Talk<A>,
+    frame: &Frame,
+) -> Result<(), AllocError> {
+    match read(frame.control) {
+        Control::Snrm => {
+            talk.forget(alloc);
+            explain_parameters(text, frame.info.as_slice())
+        }
+        Control::Ua => {
+            talk.open();
+            explain_parameters(text, frame.info.as_slice())
+        }
+        Control::Disc | Control::Dm => {
+            talk.forget(alloc);
+            Ok(())
+        }
+        Control::Information { send, receive } => {
+            let poll = has_poll(frame.control);
+            let numbers = Numbers {
+                send,
+                receive,
+                poll,
+            };
+            explain_information(text, alloc, side, talk, numbers, frame)
+        }
+        Control::Ready { receive } | Control::NotReady { receive } => {
+            talk.expect(side, receive);
+            Ok(())
+        }
+        Control::Ui => explain_alone(text, alloc, side, frame.info.as_slice()),
+        _ => Ok(()),
+    }
+}
+
+/// The lines of a frame.
+fn explain_frame<A: Allocator + Copy>(
+    text: &mut String<A>,
+    alloc: A,
+    said: Option<Side>,
+    talks: &mut Talks<A>,
+    frame: &Frame,
+) -> Result<(), AllocError> {
+    let side = side_of(said, frame);
+    write_frame(text, side, heading_of(frame))?;
+    let mut talk = talks.take(alloc, parties_of(side, frame));
+    let explained = explain_content(text, alloc, side, &mut talk, frame);
+    talks.put(talk)?;
+    explained
+}
+
+/// The lines of the first bytes of a stretch, which belong to no frame.
+fn explain_stray<A: Allocator>(
+    text: &mut String<A>,
+    said: Option<Side>,
+    stretch: &Stretch<A>,
+    before: usize,
+) -> Result<(), AllocError> {
+    let (place, bytes) = stretch.stray(before);
+    let mut place = place;
+    let mut rest = bytes;
+    'pieces: while !rest.is_empty() {
+        let piece = first_piece(rest);
+        write_stray(text, said, place, piece)?;
+        place = place.saturating_add(piece.len as u64);
+        rest = &rest[piece.len..];
+    }
+    Ok(())
+}
+
+/// The lines of the bytes of a stretch.
+fn explain_bytes<A: Allocator + Copy>(
+    text: &mut String<A>,
+    alloc: A,
+    said: Option<Side>,
+    stretch: &mut Stretch<A>,
+    talks: &mut Talks<A>,
+    bytes: &[u8],
+) -> Result<(), AllocError> {
+    let mut rest = bytes;
+    'frames: while !rest.is_empty() {
+        let (taken, found) = stretch.feed(rest)?;
+        if let Some(Found { frame, before }) = found {
+            explain_stray(text, said, stretch, before)?;
+            stretch.pass_frame();
+            explain_frame(text, alloc, said, talks, &frame)?;
+        }
+        rest = &rest[taken..];
+    }
+    let old = stretch.old();
+    if old > 0 {
+        explain_stray(text, said, stretch, old)?;
+        stretch.drop_front(old);
+    }
+    Ok(())
+}
+
+/// A line that holds no bytes of a frame, as it is.
+fn pass<A: Allocator>(text: &mut String<A>, bytes: &[u8]) -> Result<(), AllocError> {
+    match str::from_utf8(bytes) {
+        Ok(words) => line(text, 0, words),
+        Err(_) => line(text, 0, "(a line that is no text)"),
+    }
+}
+
+impl<A: Allocator + Copy> Explainer<A> {
+    /// Before the first line. No memory is taken here.
+    pub fn new(alloc: A) -> Self {
+        Explainer {
+            alloc,
+            client: Stretch::new(alloc),
+            meter: Stretch::new(alloc),
+            bare: Stretch::new(alloc),
+            talks: Talks::new(alloc),
+        }
+    }
+
+    /// Bytes of this direction.
+    fn octets(
+        &mut self,
+        said: Option<Side>,
+        bytes: &[u8],
+        text: &mut String<A>,
+    ) -> Result<(), AllocError> {
+        let alloc = self.alloc;
+        match said {
+            Some(Side::Client) => {
+                explain_bytes(text, alloc, said, &mut self.client, &mut self.talks, bytes)
+            }
+            Some(Side::Meter) => {
+                explain_bytes(text, alloc, said, &mut self.meter, &mut self.talks, bytes)
+            }
+            None => explain_bytes(text, alloc, said, &mut self.bare, &mut self.talks, bytes),
+        }
+    }
+
+    /// The bytes of a line's pairs.
+    fn pairs(
+        &mut self,
+        said: Option<Side>,
+        digits: &[u8],
+        text: &mut String<A>,
+    ) -> Result<(), AllocError> {
+        let mut bytes: ArrayVec<u8, MOST_PIECE> = ArrayVec::new();
+        let mut rest = digits;
+        'pairs: while let Some((byte, behind)) = first_pair(rest) {
+            if bytes.is_full() {
+                self.octets(said, bytes.as_slice(), text)?;
+                bytes.clear();
+            }
+            let _room = bytes.try_push(byte);
+            rest = behind;
+        }
+        self.octets(said, bytes.as_slice(), text)
+    }
+
+    /// What is left of the client's bytes is no frame, and a new stretch begins.
+    fn end_client(&mut self, text: &mut String<A>) -> Result<(), AllocError> {
+        explain_stray(text, Some(Side::Client), &self.client, self.client.len())?;
+        self.client.reset();
+        Ok(())
+    }
+
+    /// Appends to the text what is told of a line, which is given without its line feed: of bytes the frames that end in them,
+    /// with what stood before each and is none. A line without bytes is passed on as it is. Where memory is refused the text
+    /// may end within a line.
+    pub fn line(&mut self, line: &[u8], text: &mut String<A>) -> Result<(), AllocError> {
+        match line_of(line) {
+            Line::Pairs(said, digits) => self.pairs(said, digits, text),
+            Line::NoPairs => pass(text, b"(no pairs of hexadecimal digits)"),
+            Line::Silence => {
+                self.end_client(text)?;
+                pass(text, line)
+            }
+            Line::Stop => {
+                self.end_client(text)?;
+                self.talks.reset();
+                pass(text, line)
+            }
+            Line::Other => pass(text, line),
+        }
+    }
+
+    /// Appends to the text what is told of the bytes behind the last frames, which are none. New stretches begin.
+    pub fn end(&mut self, text: &mut String<A>) -> Result<(), AllocError> {
+        self.end_client(text)?;
+        explain_stray(text, Some(Side::Meter), &self.meter, self.meter.len())?;
+        self.meter.reset();
+        explain_stray(text, None, &self.bare, self.bare.len())?;
+        self.bare.reset();
+        Ok(())
+    }
+}

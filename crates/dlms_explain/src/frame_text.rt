@@ -1,0 +1,249 @@
+//! The line of a frame, and the lines of what is no frame.
+
+use crate::words::{begin, end, line, number};
+use dlms_frame::{Address, Client};
+use dlms_talks::{
+    Came, Control, Damage, Heading, Parameters, Piece, Side, has_poll, lower, name_of, read, upper,
+};
+use std::alloc::{AllocError, Allocator};
+
+/// The sign of a side at the front of a line, as in a transcript; `-` where it is not known.
+fn sign(side: Option<Side>) -> &'static str {
+    match side {
+        Some(Side::Client) => "> ",
+        Some(Side::Meter) => "< ",
+        None => "- ",
+    }
+}
+
+/// The name of a client.
+fn client_name(address: Address) -> &'static str {
+    let Address::One(sap) = address else {
+        return "client";
+    };
+    match Client::of_sap(sap) {
+        Some(Client::Public) => "public client",
+        Some(Client::Management) => "management client",
+        Some(Client::Reader) => "reader",
+        None => "client",
+    }
+}
+
+/// An end with its address, as `meter (1, 17)`.
+fn write_end<A: Allocator>(
+    text: &mut String<A>,
+    name: &str,
+    address: Address,
+) -> Result<(), AllocError> {
+    text.push_str(name)?;
+    text.push_str(" (")?;
+    number(text, u64::from(upper(address)))?;
+    if let Some(lower) = lower(address) {
+        text.push_str(", ")?;
+        number(text, u64::from(lower))?;
+    }
+    text.push_str(")")
+}
+
+/// Who sends the frame, and to whom.
+fn write_ends<A: Allocator>(
+    text: &mut String<A>,
+    side: Option<Side>,
+    heading: Heading,
+) -> Result<(), AllocError> {
+    let (src, dest) = match side {
+        Some(Side::Client) => (client_name(heading.src), "meter"),
+        Some(Side::Meter) => ("meter", client_name(heading.dest)),
+        None => ("station", "station"),
+    };
+    write_end(text, src, heading.src)?;
+    text.push_str(" to ")?;
+    write_end(text, dest, heading.dest)
+}
+
+/// A number of the control field.
+fn write_sequence<A: Allocator>(
+    text: &mut String<A>,
+    name: &str,
+    value: u8,
+) -> Result<(), AllocError> {
+    text.push_str(name)?;
+    number(text, u64::from(value))
+}
+
+/// The control field by its name, with its numbers.
+fn write_control<A: Allocator>(text: &mut String<A>, control: Control) -> Result<(), AllocError> {
+    text.push_str(name_of(control))?;
+    match control {
+        Control::Information { send, receive } => {
+            write_sequence(text, ", N(S) ", send)?;
+            write_sequence(text, ", N(R) ", receive)
+        }
+        Control::Ready { receive } | Control::NotReady { receive } => {
+            write_sequence(text, ", N(R) ", receive)
+        }
+        _ => Ok(()),
+    }
+}
+
+/// The poll bit, which is called the final bit where the meter sends it.
+fn poll_words(side: Option<Side>, octet: u8) -> &'static str {
+    match (has_poll(octet), side) {
+        (false, _) => "",
+        (true, Some(Side::Meter)) => ", final",
+        (true, _) => ", poll",
+    }
+}
+
+/// The line of a frame. The deframer gives frames alone of which each check is right.
+pub fn write_frame<A: Allocator>(
+    text: &mut String<A>,
+    side: Option<Side>,
+    heading: Heading,
+) -> Result<(), AllocError> {
+    text.push_str(sign(side))?;
+    write_ends(text, side, heading)?;
+    text.push_str(": ")?;
+    write_control(text, read(heading.control))?;
+    text.push_str(poll_words(side, heading.control))?;
+    if heading.segmented {
+        text.push_str(", segmented")?;
+    }
+    text.push_str("; length ")?;
+    number(text, heading.len as u64)?;
+    text.push_str(if heading.has_information {
+        "; header and frame check right"
+    } else {
+        "; check right"
+    })?;
+    end(text)
+}
+
+/// The line of a parameter that is there.
+fn write_parameter<A: Allocator>(
+    text: &mut String<A>,
+    name: &str,
+    value: Option<u32>,
+) -> Result<(), AllocError> {
+    match value {
+        Some(value) => {
+            begin(text, 2)?;
+            text.push_str(name)?;
+            number(text, u64::from(value))?;
+            end(text)
+        }
+        None => Ok(()),
+    }
+}
+
+/// The lines of a link's parameters.
+fn write_parameters<A: Allocator>(
+    text: &mut String<A>,
+    parameters: Parameters,
+) -> Result<(), AllocError> {
+    line(text, 1, "link parameters")?;
+    write_parameter(
+        text,
+        "maximum information field length, transmit: ",
+        parameters.sent,
+    )?;
+    write_parameter(
+        text,
+        "maximum information field length, receive: ",
+        parameters.received,
+    )?;
+    write_parameter(text, "window size, transmit: ", parameters.window_sent)?;
+    write_parameter(text, "window size, receive: ", parameters.window_received)
+}
+
+/// The lines of the information of an SNRM or a UA; none is what is not readable.
+pub fn write_information<A: Allocator>(
+    text: &mut String<A>,
+    parameters: Option<Parameters>,
+) -> Result<(), AllocError> {
+    match parameters {
+        Some(parameters) => write_parameters(text, parameters),
+        None => line(text, 1, "link parameters: not readable"),
+    }
+}
+
+/// What is said of a check.
+fn check_words(right: bool) -> &'static str {
+    if right { "right" } else { "wrong" }
+}
+
+/// What is wrong with bytes that have the form of a frame.
+fn write_damage<A: Allocator>(text: &mut String<A>, damage: Damage) -> Result<(), AllocError> {
+    match damage {
+        Damage::Check => text.push_str(", check wrong"),
+        Damage::Form => text.push_str(
+            ", with a frame's flags and length, but no addresses or checks",
+        ),
+        Damage::Checks { header, frame } => {
+            text.push_str(", header check ")?;
+            text.push_str(check_words(header))?;
+            text.push_str(", frame check ")?;
+            text.push_str(check_words(frame))
+        }
+    }
+}
+
+/// The line of bytes that are no frame, with their places in the stretch, of which the first is 0.
+pub fn write_stray<A: Allocator>(
+    text: &mut String<A>,
+    side: Option<Side>,
+    place: u64,
+    piece: Piece,
+) -> Result<(), AllocError> {
+    let len = piece.len as u64;
+    text.push_str(sign(side))?;
+    text.push_str("octets ")?;
+    number(text, place)?;
+    text.push_str(" to ")?;
+    number(text, place.saturating_add(len.saturating_sub(1)))?;
+    text.push_str(": no frame")?;
+    if let Some(damage) = piece.damage {
+        write_damage(text, damage)?;
+    }
+    end(text)
+}
+
+/// What is said of information without the LLC.
+const NO_LLC: &str = "not readable: no LLC stands in front of the APDU, at octet 1";
+
+/// The line of information without the LLC.
+pub fn write_no_llc<A: Allocator>(text: &mut String<A>) -> Result<(), AllocError> {
+    line(text, 1, NO_LLC)
+}
+
+/// The line of how many segments an APDU came in, where they are several.
+fn write_segments<A: Allocator>(text: &mut String<A>, count: u32) -> Result<(), AllocError> {
+    if count < 2 {
+        return Ok(());
+    }
+    begin(text, 1)?;
+    number(text, u64::from(count))?;
+    text.push_str(" segments joined")?;
+    end(text)
+}
+
+/// The line of a segment that others follow.
+fn write_segment<A: Allocator>(text: &mut String<A>, count: u32) -> Result<(), AllocError> {
+    begin(text, 1)?;
+    text.push_str("segment ")?;
+    number(text, u64::from(count))?;
+    end(text)
+}
+
+/// The line of what an information frame is among those before it; of an APDU in one frame none.
+pub fn write_came<A: Allocator>(text: &mut String<A>, came: Came) -> Result<(), AllocError> {
+    match came {
+        Came::Again => line(text, 1, "the number of the frame before: not taken again"),
+        Came::OutOfTurn | Came::Apart => line(text, 1, "out of turn: not taken"),
+        Came::NoPoll => line(text, 1, "no poll bit: not taken"),
+        Came::Segment(count) => write_segment(text, count),
+        Came::TooLong => line(text, 1, "not readable: the APDU is too long"),
+        Came::NoLlc => write_no_llc(text),
+        Came::Whole(count) => write_segments(text, count),
+    }
+}

@@ -1,0 +1,17 @@
+//! What the frames of a line say, in the words of the standards.
+#![tactic(auto)]
+
+mod association_text;
+mod data_text;
+mod date_text;
+mod explainer;
+mod fault;
+mod frame_text;
+mod names_text;
+mod service_text;
+mod session;
+mod words;
+
+pub use explainer::Explainer;
+pub use fault::ExplainFault;
+pub use session::{MOST_LINE, explain};

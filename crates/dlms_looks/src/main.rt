@@ -1,0 +1,128 @@
+//! Tells what stands in files of pages: whole, cut short, and with each page torn in turn. Of two files all of it is printed, of the
+//! others what a recovery would do; and of each torn or short one what a recovery would do, where that is something else.
+//!
+//! `data/NAME.bin` is a file of pages that another program wrote.
+#![tactic(auto)]
+
+use anyhow::Result;
+use dlms_show::{Curve, write_report};
+use dlms_survey::Image;
+use std::alloc::Global;
+use std::io::Write;
+use std::{fs, io, str};
+
+/// The files.
+const FILES: [&str; 8] = [
+    "p42.v0.bin",
+    "p42.v1.bin",
+    "p42.v2.bin",
+    "pulses1395.v2.bin",
+    "refusals.v2.bin",
+    "rows31.v1.bin",
+    "hundreds.v1.bin",
+    "hundreds.v2.bin",
+];
+
+/// Those of which all is printed, the curve too.
+const WHOLE: [&str; 2] = ["p42.v2.bin", "rows31.v1.bin"];
+
+/// How many pages a file has.
+const PAGES: u16 = 62;
+
+/// How many bytes a page and its seal have in a file.
+const SLOT: usize = 544;
+
+/// The first secrets.
+const SECRETS: [&[u8]; 2] = [b"12345678", b"23456789"];
+
+/// What is told of a file's bytes.
+fn told(alloc: Global, bytes: &[u8], curve: Curve) -> Result<Vec<u8>> {
+    let mut image = Image::of_bytes(alloc, bytes)?;
+    let mut text = Vec::new(alloc);
+    write_report(alloc, &mut image, bytes.len() as u64, curve, &mut text)?;
+    Ok(text)
+}
+
+/// The line of a text that says what a recovery would do.
+fn recovery(text: &[u8]) -> &str {
+    let lines = match str::from_utf8(text) {
+        Ok(text) => text,
+        Err(_) => return "no text",
+    };
+    for line in lines.lines() {
+        if line.starts_with("recovery: ") {
+            return line;
+        }
+    }
+    "no recovery"
+}
+
+/// Whether a text has these bytes somewhere.
+fn has(text: &[u8], bytes: &[u8]) -> bool {
+    (0..text.len()).any(|begin| text[begin..].starts_with(bytes))
+}
+
+/// Whether a text has a secret somewhere.
+fn has_secret(text: &[u8]) -> bool {
+    SECRETS.iter().any(|secret| has(text, secret))
+}
+
+/// The beginning of a file with so many pages.
+fn cut(bytes: &[u8], pages: u16) -> &[u8] {
+    bytes.get(..usize::from(pages) * SLOT).unwrap_or(bytes)
+}
+
+/// A file with a bit of a page turned.
+fn torn(alloc: Global, bytes: &[u8], page: u16) -> Result<Vec<u8>> {
+    let mut torn = Vec::from_slice(alloc, bytes)?;
+    if let Some(byte) = torn.get_mut(usize::from(page) * SLOT) {
+        *byte ^= 1;
+    }
+    Ok(torn)
+}
+
+/// Prints what a recovery would do with a file that was changed, where that is something else than with the whole one.
+fn print_changed(
+    rt: &HostRuntime,
+    what: &str,
+    number: u16,
+    bytes: &[u8],
+    whole: &str,
+) -> Result<()> {
+    let text = told(rt.alloc(), bytes, Curve::None)?;
+    let line = recovery(&text);
+    if line != whole {
+        println!(rt; "  {what} {number}: {line}")?;
+    }
+    Ok(())
+}
+
+/// Prints what is told of a file.
+fn print_file(rt: &HostRuntime, name: &str, bytes: &[u8]) -> Result<()> {
+    let text = told(rt.alloc(), bytes, Curve::Text)?;
+    println!(rt; "# {name}")?;
+    if WHOLE.iter().any(|whole| *whole == name) {
+        io::writer(rt).write_all(&text)?;
+    }
+    if has_secret(&text) {
+        println!(rt; "a secret stands in what is told")?;
+    }
+    let whole = recovery(&text);
+    println!(rt; "  {whole}")?;
+    for page in 0..PAGES {
+        let torn = torn(rt.alloc(), bytes, page)?;
+        print_changed(rt, "torn page", page, &torn, whole)?;
+    }
+    for pages in [0, 7, 30] {
+        print_changed(rt, "cut behind page", pages, cut(bytes, pages), whole)?;
+    }
+    Ok(())
+}
+
+fn main(rt: HostRuntime) -> Result<()> {
+    for name in FILES {
+        let bytes = fs::read(&rt, name)?;
+        print_file(&rt, name, &bytes)?;
+    }
+    Ok(())
+}

@@ -1,0 +1,6 @@
+pub mod Classes
+pub mod ClassView
+pub mod Codes
+pub mod Results
+pub mod Rows
+pub mod Services

@@ -1,0 +1,72 @@
+-- The services of the conformance block, and the APDUs (IEC 62056-5-3).
+use Rattle.std.specs.Prelude.{ℕ, List, [], ◌∷◌, codes}
+use Rattle.dlms_names.specs.Rows.{Rows}
+
+-- the type Conformance: its bits, of which bit 0 is the first one
+abbrev pub services : Rows
+services =
+    (1, codes "general-protection")
+    ∷ (2, codes "general-block-transfer")
+    ∷ (3, codes "read")
+    ∷ (4, codes "write")
+    ∷ (5, codes "unconfirmed-write")
+    ∷ (6, codes "delta-value-encoding")
+    ∷ (8, codes "attribute0-supported-with-set")
+    ∷ (9, codes "priority-mgmt-supported")
+    ∷ (10, codes "attribute0-supported-with-get")
+    ∷ (11, codes "block-transfer-with-get-or-read")
+    ∷ (12, codes "block-transfer-with-set-or-write")
+    ∷ (13, codes "block-transfer-with-action")
+    ∷ (14, codes "multiple-references")
+    ∷ (15, codes "information-report")
+    ∷ (16, codes "data-notification")
+    ∷ (17, codes "access")
+    ∷ (18, codes "parameterized-access")
+    ∷ (19, codes "get")
+    ∷ (20, codes "set")
+    ∷ (21, codes "selective-access")
+    ∷ (22, codes "event-notification")
+    ∷ (23, codes "action")
+    ∷ []
+
+-- the types XDLMS-APDU and ACSE-APDU: the octet that an APDU begins with
+abbrev pub apdus : Rows
+apdus =
+    (0x01, codes "initiate-request")
+    ∷ (0x08, codes "initiate-response")
+    ∷ (0x0e, codes "confirmed-service-error")
+    ∷ (0x0f, codes "data-notification")
+    ∷ (0x60, codes "association request")
+    ∷ (0x61, codes "association response")
+    ∷ (0x62, codes "release request")
+    ∷ (0x63, codes "release response")
+    ∷ (0xc0, codes "get-request")
+    ∷ (0xc1, codes "set-request")
+    ∷ (0xc2, codes "event-notification-request")
+    ∷ (0xc3, codes "action-request")
+    ∷ (0xc4, codes "get-response")
+    ∷ (0xc5, codes "set-response")
+    ∷ (0xc7, codes "action-response")
+    ∷ (0xc8, codes "glo-get-request")
+    ∷ (0xc9, codes "glo-set-request")
+    ∷ (0xca, codes "glo-event-notification-request")
+    ∷ (0xcb, codes "glo-action-request")
+    ∷ (0xcc, codes "glo-get-response")
+    ∷ (0xcd, codes "glo-set-response")
+    ∷ (0xcf, codes "glo-action-response")
+    ∷ (0xd0, codes "ded-get-request")
+    ∷ (0xd1, codes "ded-set-request")
+    ∷ (0xd2, codes "ded-event-notification-request")
+    ∷ (0xd3, codes "ded-action-request")
+    ∷ (0xd4, codes "ded-get-response")
+    ∷ (0xd5, codes "ded-set-response")
+    ∷ (0xd7, codes "ded-action-response")
+    ∷ (0xd8, codes "exception-response")
+    ∷ (0xd9, codes "access-request")
+    ∷ (0xda, codes "access-response")
+    ∷ (0xdb, codes "general-glo-ciphering")
+    ∷ (0xdc, codes "general-ded-ciphering")
+    ∷ (0xdd, codes "general-ciphering")
+    ∷ (0xdf, codes "general-signing")
+    ∷ (0xe0, codes "general-block-transfer")
+    ∷ []

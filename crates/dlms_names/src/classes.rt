@@ -1,0 +1,21 @@
+//! The classes of objects, by their numbers.
+
+ghost use Rattle.std.specs.Prelude.{◌≡◌, option_map};
+ghost use Rattle.dlms_names.specs.Classes.{class_in, classes};
+ghost use Rattle.dlms_names.specs.ClassView.{names_of};
+
+use crate::class::Class;
+use crate::control::control_class;
+use crate::exchange::exchange_class;
+use crate::management::management_class;
+use crate::measurement::measurement_class;
+
+/// The class of this number (the Blue Book, class_id), if it is one of those that a meter of electricity has.
+pub fn class_of(number: u16) -> Option<Class>
+    ensures { option_map names_of result ≡ class_in classes number }
+{
+    measurement_class(number)
+        .or(management_class(number))
+        .or(control_class(number))
+        .or(exchange_class(number))
+}

@@ -1,0 +1,22 @@
+//! The names that the standards give numbers: classes of objects with their attributes and methods, OBIS codes, results and
+//! errors, services and APDUs. They are looked up; nothing is written here.
+#![tactic(auto)]
+
+mod class;
+mod classes;
+mod codes;
+mod control;
+mod exchange;
+mod management;
+mod measurement;
+mod results;
+mod services;
+
+pub use class::Class;
+pub use classes::class_of;
+pub use codes::code_name;
+pub use results::{
+    access_result, action_result, diagnostic, initiate_error, release_request, release_response,
+    service_error, state_error,
+};
+pub use services::{apdu_name, service_name};

@@ -1,0 +1,5 @@
+pub mod Power
+pub mod Quantity
+pub mod Rows
+pub mod Series
+pub mod Steps

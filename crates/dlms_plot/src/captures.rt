@@ -1,0 +1,36 @@
+//! The power between two captures.
+ghost use Rattle.std.specs.Prelude.{◌≡◌};
+ghost use Rattle.dlms_plot.specs.Power.{period_of};
+
+/// What a register showed at a second of the clock.
+#[derive(Clone, Copy, Debug, PartialEq, Eq)]
+pub struct Sample {
+    pub clock: u32,
+    pub value: u32,
+}
+
+/// The power from one capture to the next one.
+#[derive(Clone, Copy, Debug, PartialEq, Eq)]
+pub struct Period {
+    pub from: u32,
+    pub to: u32,
+    /// What the register counted, an hour.
+    pub power: u64,
+}
+
+/// The power between two captures: what the register counted between them over the hours between them. None where the clock
+/// did not go on, or the register went back.
+pub fn power(before: Sample, after: Sample) -> Option<Period>
+    ensures { result ≡ period_of before after }
+{
+    if after.clock <= before.clock || after.value < before.value {
+        return None;
+    }
+    let seconds = u64::from(after.clock - before.clock);
+    let counted = u64::from(after.value - before.value);
+    Some(Period {
+        from: before.clock,
+        to: after.clock,
+        power: counted * 3600 / seconds,
+    })
+}

@@ -1,0 +1,24 @@
+//! The load profile as a curve of steps: in the terminal, and as an SVG that stands alone.
+#![tactic(auto)]
+
+mod canvas;
+mod captures;
+mod date;
+mod fault;
+mod quantity;
+mod readings;
+mod scale;
+mod series;
+mod svg;
+mod terminal;
+mod usual;
+
+pub use captures::{Period, Sample, power};
+pub use date::{Date, Day, Minute};
+pub use fault::PlotFault;
+pub use quantity::{Quantity, Thousandth};
+pub use readings::{Form, plot_readings};
+pub use series::Series;
+pub use svg::{write_empty_svg, write_svg};
+pub use terminal::write_text;
+pub use usual::usual_step;

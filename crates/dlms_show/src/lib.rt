@@ -1,0 +1,18 @@
+//! What a store's file holds, told: its pages, the slot that counts, the journal's events, what a recovery would do, the state, and
+//! the rows of the load profile.
+#![tactic(auto)]
+
+mod fault;
+mod file;
+mod journal;
+mod pages;
+mod profile;
+mod report;
+mod show;
+mod state;
+mod words;
+
+pub use fault::ShowFault;
+pub use file::{Bytes, MOST_BYTES, bytes_of};
+pub use report::{Curve, write_report};
+pub use show::show_file;

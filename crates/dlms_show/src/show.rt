@@ -1,0 +1,25 @@
+//! A file told.
+
+use crate::fault::ShowFault;
+use crate::file::bytes_of;
+use crate::report::{Curve, write_report};
+use dlms_survey::Image;
+use std::fs::File;
+use std::io::Write;
+use std::rt::Files;
+
+/// Writes all that is told of a file. The file is opened for reading alone, under its shared lock. What stands in
+/// it is never a fault.
+pub fn show_file<R: Files<File = File> + AllocGlobal, W: Write>(
+    rt: &R,
+    path: &str,
+    curve: Curve,
+    output: &mut W,
+) -> Result<(), ShowFault> {
+    let bytes = match bytes_of(rt, path) {
+        Ok(bytes) => bytes,
+        Err(error) => return Err(ShowFault::File(error)),
+    };
+    let mut image = Image::of_bytes(rt.alloc(), &bytes.pages)?;
+    write_report(rt.alloc(), &mut image, bytes.length, curve, output)
+}

@@ -1,0 +1,5 @@
+pub mod Image
+pub mod Judging
+pub mod Pages
+pub mod Places
+pub mod Survey

@@ -1,0 +1,16 @@
+//! What the pages of a store are: which slot counts, what a recovery finds and would do, and whether each page serves, and why not.
+#![tactic(auto)]
+
+mod head;
+mod image;
+mod judging;
+mod place;
+mod survey;
+mod verdict;
+
+pub use head::{Head, head_of};
+pub use image::Image;
+pub use judging::Judge;
+pub use place::{Place, place_of};
+pub use survey::{Recovery, Survey};
+pub use verdict::{Verdict, kind_name};

@@ -1,0 +1,61 @@
+//! What the places of pages are for.
+ghost use Rattle.dlms_survey.specs.Places.{IsPlace, IsInSlot};
+
+use dlms_store::{JOURNAL, RING, Slot};
+use std::fmt;
+
+/// What a page's place is for.
+#[derive(Clone, Copy, Debug, PartialEq, Eq)]
+pub enum Place {
+    /// The gate of a slot.
+    Gate(Slot),
+    /// A slot's body of this index.
+    Body(Slot, u16),
+    /// The journal page of this index.
+    Journal(u16),
+    /// The ring page of this index.
+    Ring(u16),
+}
+
+/// What the page of this number, counted from its slot's gate, is for.
+fn in_slot(slot: Slot, number: u16) -> Place
+    ensures { IsInSlot slot number result }
+{
+    if number == 0 {
+        Place::Gate(slot)
+    } else {
+        Place::Body(slot, number - 1)
+    }
+}
+
+/// What the place of a page is for.
+pub fn place_of(page: u16) -> Place
+    ensures { IsPlace page result }
+{
+    if page >= RING {
+        return Place::Ring(page - RING);
+    }
+    if page >= JOURNAL {
+        return Place::Journal(page - JOURNAL);
+    }
+    let second = Slot::Second.gate();
+    if page < second {
+        in_slot(Slot::First, page)
+    } else {
+        in_slot(Slot::Second, page - second)
+    }
+}
+
+/// The place in fifteen columns.
+impl fmt::Display for Place {
+    fn fmt<W: fmt::Write>(&self, f: &mut fmt::Formatter<W>) -> fmt::Result {
+        let (name, number) = match self {
+            Place::Gate(slot) => ("gate of slot", slot.index()),
+            Place::Body(Slot::First, body) => ("slot 0 body", *body),
+            Place::Body(Slot::Second, body) => ("slot 1 body", *body),
+            Place::Journal(index) => ("journal", *index),
+            Place::Ring(index) => ("ring", *index),
+        };
+        write!(f, "{name:<12} {number:>2}")
+    }
+}

@@ -1,0 +1,101 @@
+//! What a recovery finds in an image, and what it would do.
+ghost use Rattle.std.specs.Prelude.{◌≡◌, IfOk, MatchResult};
+ghost use Rattle.dlms_survey.specs.Survey.{IsFoundIn, IsGateOf, IsRecovery, IsSurveyed};
+
+use crate::image::Image;
+use dlms_state::State;
+use dlms_store::{Edition, Found, OpenFault, Slot, active, find, open_edition};
+use std::alloc::{AllocError, Allocator, Global};
+
+/// What a recovery would do.
+#[derive(Clone, Copy, Debug, PartialEq, Eq)]
+pub enum Recovery {
+    /// It would open the store, and write nothing.
+    Nothing,
+    /// It would write a checkpoint into this slot, with this generation.
+    Checkpoint(Slot, u64),
+    /// It would refuse.
+    Refused(OpenFault),
+}
+
+/// What a recovery would do with what it finds.
+fn recovery_of<A: Allocator + Copy>(found: &Found<A>) -> Recovery
+    ensures { IsRecovery found.now result }
+{
+    if !found.is_due() {
+        return Recovery::Nothing;
+    }
+    match found.edition.generation.checked_add(1) {
+        Some(next) => Recovery::Checkpoint(found.slot.other(), next),
+        None => Recovery::Refused(OpenFault::Exhausted),
+    }
+}
+
+/// What the gate of a slot says, where it is whole, open and of a known version.
+fn gate_in<A: Allocator + Copy>(image: &Image<A>, slot: Slot) -> Option<Edition>
+    ensures { IsGateOf slot image.now.pages result }
+{
+    open_edition(image.page(slot.gate()))
+}
+
+/// What a recovery finds in an image, by the store's own reading.
+fn found_in<A: Allocator + Copy>(alloc: A, image: &mut Image<A>) -> Result<Found<A>, OpenFault>
+    ensures found { IsFoundIn image.old.pages result }
+    ensures pages { image.new.pages ≡ image.old.pages }
+{
+    image.has_all_pages();
+    find(alloc, image)
+}
+
+/// What a recovery finds in an image: what its two gates say, which slot counts, and what that slot and the journal stand for, or
+/// why they stand for nothing.
+#[derive(Drop)]
+pub struct Survey<A: Allocator = Global> {
+    /// What the first slot's gate says, where it is whole, open and of a known version.
+    pub first: Option<Edition>,
+    /// What the second one's says.
+    pub second: Option<Edition>,
+    /// Which slot counts, or why none does.
+    pub active: Result<(Slot, Edition), OpenFault>,
+    /// What a recovery finds, or why it would refuse.
+    pub found: Result<Found<A>, OpenFault>,
+}
+
+impl<A: Allocator + Copy> Survey<A> {
+    /// Surveys an image. Want of memory comes of the rows of the state.
+    pub fn of(alloc: A, image: &mut Image<A>) -> Result<Survey<A>, AllocError>
+        ensures surveyed { IfOk result (IsSurveyed image.old.pages) }
+        ensures pages { image.new.pages ≡ image.old.pages }
+    {
+        let first = gate_in(image, Slot::First);
+        let second = gate_in(image, Slot::Second);
+        let found = found_in(alloc, image);
+        if let Err(OpenFault::Memory) = found {
+            return Err(AllocError);
+        }
+        Ok(Survey {
+            first,
+            second,
+            active: active(first, second),
+            found,
+        })
+    }
+
+    /// What a recovery would do.
+    pub fn recovery(&self) -> Recovery
+        ensures { MatchResult self.now.found (λ found. IsRecovery found result) (λ fault. result ≡ Recovery.Refused fault) }
+    {
+        match &self.found {
+            Ok(found) => recovery_of(found),
+            Err(fault) => Recovery::Refused(*fault),
+        }
+    }
+
+    /// The state after all events that a recovery finds.
+    pub fn state(&self) -> Option<&State<A>> {
+        match &self.found {
+            Ok(found) => Some(&found.state),
+            Err(_) => None,
+        }
+    }
+}

@@ -1,0 +1,8 @@
+use Rattle.std.proofs.Common.{◌≤◌, length}
+use Rattle.dlms_talks.proofs.lines.first_pair.Given as goal
+
+abbrev pub invariant-skipping : goal.invariant-skipping
+invariant-skipping l = length l.rest ≤ length l.digits
+
+abbrev pub decreases-skipping : goal.decreases-skipping
+decreases-skipping l = length l.rest

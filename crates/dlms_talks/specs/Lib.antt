@@ -1,0 +1,12 @@
+pub mod Apdus
+pub mod Association
+pub mod Control
+pub mod Following
+pub mod Heading
+pub mod Joining
+pub mod Names
+pub mod Said
+pub mod Secrets
+pub mod Segments
+pub mod Transfers
+pub mod Whole

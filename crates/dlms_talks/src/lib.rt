@@ -1,0 +1,38 @@
+//! What the frames of a line say, as values: which end sends each, what came of its segments and blocks, and the APDU that its
+//! reader gives. What is told of an APDU has no octet of a secret.
+#![tactic(auto)]
+
+mod apdus;
+mod association;
+mod control;
+mod heading;
+mod joining;
+pub mod laws;
+mod lines;
+mod named;
+mod parameters;
+mod parties;
+mod places;
+mod said;
+mod segments;
+mod stray;
+mod stretch;
+mod talks;
+mod whole;
+
+pub use apdus::{Apdu, read_apdu};
+pub use association::{Association, without_secret};
+pub use control::{Control, has_poll, name_of, read};
+pub use heading::{Heading, heading_of};
+pub use joining::{Joined, Transfers};
+pub use lines::{Line, first_pair, line_of};
+pub use named::{Asked, Named, asks_secret};
+pub use parameters::{Parameters, parameters_of};
+pub use parties::{Parties, Side, lower, parties_of, side_of, upper};
+pub use places::Fault;
+pub use said::{Content, Said, asked_by, request_said, response_said};
+pub use segments::{Came, Segments, behind_llc};
+pub use stray::{Damage, Piece, first_piece};
+pub use stretch::{Found, Stretch};
+pub use talks::{Numbers, Services, Talk, Talks};
+pub use whole::{Whole, whole_of};

@@ -1,0 +1,99 @@
+//! Who sends a frame, and to whom.
+
+use crate::control::{Control, read};
+use dlms_frame::{Address, Frame};
+
+/// An end of the line.
+#[derive(Clone, Copy, PartialEq, Eq)]
+pub enum Side {
+    Client,
+    Meter,
+}
+
+/// The two ends that talk, by the upper part of each one's address.
+#[derive(Clone, Copy, PartialEq, Eq)]
+pub struct Parties {
+    pub client: u16,
+    pub meter: u16,
+}
+
+/// The service access point of the meter's management.
+const MANAGEMENT: u16 = 1;
+
+/// The second octet of what stands before a client's APDU (IEC 62056-46, the LLC sublayer).
+const FROM_CLIENT: u8 = 0xe6;
+
+/// The same of a meter's.
+const FROM_METER: u8 = 0xe7;
+
+/// The upper part of an address.
+pub fn upper(address: Address) -> u16 {
+    match address {
+        Address::One(upper) => u16::from(upper),
+        Address::Two(upper, _) => u16::from(upper),
+        Address::Four(upper, _) => upper,
+    }
+}
+
+/// The lower part of an address, if it has one.
+pub fn lower(address: Address) -> Option<u16> {
+    match address {
+        Address::One(_) => None,
+        Address::Two(_, lower) => Some(u16::from(lower)),
+        Address::Four(_, lower) => Some(lower),
+    }
+}
+
+/// Who sends the frame, told by the forms of its addresses: a client's has one byte.
+fn side_by_form(frame: &Frame) -> Option<Side> {
+    match (lower(frame.dest), lower(frame.src)) {
+        (Some(_), None) => Some(Side::Client),
+        (None, Some(_)) => Some(Side::Meter),
+        _ => None,
+    }
+}
+
+/// Who sends the frame, told by which address is that of a meter's management.
+fn side_by_number(frame: &Frame) -> Option<Side> {
+    match (upper(frame.dest), upper(frame.src)) {
+        (MANAGEMENT, MANAGEMENT) => None,
+        (MANAGEMENT, _) => Some(Side::Client),
+        (_, MANAGEMENT) => Some(Side::Meter),
+        _ => None,
+    }
+}
+
+/// Who sends the frame, told by what it says.
+fn side_by_content(frame: &Frame) -> Option<Side> {
+    match read(frame.control) {
+        Control::Snrm | Control::Disc => return Some(Side::Client),
+        Control::Ua | Control::Dm | Control::Frmr => return Some(Side::Meter),
+        _ => {}
+    }
+    match frame.info.as_slice() {
+        [_, FROM_CLIENT, 0, ..] => Some(Side::Client),
+        [_, FROM_METER, 0, ..] => Some(Side::Meter),
+        _ => None,
+    }
+}
+
+/// Who sends the frame: the side that the line says, or else what its addresses and its content tell.
+pub fn side_of(said: Option<Side>, frame: &Frame) -> Option<Side> {
+    said.or(side_by_form(frame))
+        .or(side_by_number(frame))
+        .or(side_by_content(frame))
+}
+
+/// The two ends of a frame that this side sends; where it is not known, it is taken as the client's.
+pub fn parties_of(side: Option<Side>, frame: &Frame) -> Parties {
+    match side {
+        Some(Side::Meter) => Parties {
+            client: upper(frame.dest),
+            meter: upper(frame.src),
+        },
+        _ => Parties {
+            client: upper(frame.src),
+            meter: upper(frame.dest),
+        },
+    }
+}

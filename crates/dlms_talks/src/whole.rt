@@ -1,0 +1,37 @@
+//! A value that is joined of its blocks.
+
+ghost use Rattle.std.specs.Prelude.{IfOk};
+ghost use Rattle.dlms_talks.specs.Whole.{IsToldOfWhole};
+
+use crate::places::{Fault, value_fault};
+use dlms_data::{Data, DataFault, read};
+use std::alloc::{AllocError, Allocator};
+
+/// What is told of the joined octets of all blocks.
+#[derive(Drop)]
+pub enum Whole<A: Allocator> {
+    /// They are a secret.
+    Secret,
+    /// They spell this value.
+    Value(Data<A>),
+    /// They spell no value.
+    Unreadable(Fault),
+}
+
+/// What is told of the joined octets: of a secret nothing but that it is one.
+pub fn whole_of<A: Allocator + Copy>(
+    alloc: A,
+    secret: bool,
+    octets: &[u8],
+) -> Result<Whole<A>, AllocError>
+    ensures { IfOk result (IsToldOfWhole secret octets.now) }
+{
+    if secret {
+        return Ok(Whole::Secret);
+    }
+    match read(alloc, octets) {
+        Ok((value, len)) if len == octets.len() => Ok(Whole::Value(value)),
+        Err(DataFault::Memory) => Err(AllocError),
+        _ => Ok(Whole::Unreadable(value_fault(octets, 0))),
+    }
+}
