@@ -203,6 +203,16 @@ fn explain_parameters<A: Allocator>(text: &mut String<A>, info: &[u8]) -> Result
     write_information(text, parameters_of(info))
 }
 
+/// Whether a frame without numbers is heeded: with the poll bit, or from the meter the final bit, which are one bit; SNRM and DISC
+/// from the client, UA and DM from the meter.
+fn is_heeded(side: Option<Side>, control: u8) -> bool {
+    let other = match read(control) {
+        Control::Snrm | Control::Disc => Side::Meter,
+        _ => Side::Client,
+    };
+    has_poll(control) && side != Some(other)
+}
+
 /// The lines of what a frame holds.
 fn explain_content<A: Allocator + Copy>(
     text: &mut String<A>,
@@ -211,17 +221,24 @@ fn explain_content<A: Allocator + Copy>(
     talk: &mut Talk<A>,
     frame: &Frame,
 ) -> Result<(), AllocError> {
+    let heeded = is_heeded(side, frame.control);
     match read(frame.control) {
         Control::Snrm => {
-            talk.forget(alloc);
+            if heeded {
+                talk.forget(alloc);
+            }
             explain_parameters(text, frame.info.as_slice())
         }
         Control::Ua => {
-            talk.open();
+            if heeded {
+                talk.open();
+            }
             explain_parameters(text, frame.info.as_slice())
         }
         Control::Disc | Control::Dm => {
-            talk.forget(alloc);
+            if heeded {
+                talk.forget(alloc);
+            }
             Ok(())
         }
         Control::Information { send, receive } => {
