@@ -1,5 +1,6 @@
 //! What a recovery finds in an image, and what it would do.
-ghost use Rattle.std.specs.Prelude.{◌≡◌, IfOk, MatchResult};
+ghost use Rattle.std.specs.Prelude.{◌≡◌, IfOk, IsErr, MatchResult};
+ghost use Rattle.dlms_store.specs.Cause.{IsCause};
 ghost use Rattle.dlms_survey.specs.Survey.{IsFoundIn, IsGateOf, IsRecovery, IsSurveyed};
 
 use crate::image::Image;
@@ -62,9 +63,10 @@ pub struct Survey<A: Allocator = Global> {
 }
 
 impl<A: Allocator + Copy> Survey<A> {
-    /// Surveys an image. Want of memory comes of the rows of the state.
+    /// Surveys an image. Want of memory comes of the rows of the state, and so only where all else is that of one.
     pub fn of(alloc: A, image: &mut Image<A>) -> Result<Survey<A>, AllocError>
         ensures surveyed { IfOk result (IsSurveyed image.old.pages) }
+        ensures memory { IsErr result → IsCause OpenFault.Memory image.old.pages }
         ensures pages { image.new.pages ≡ image.old.pages }
     {
         let first = gate_in(image, Slot::First);
