@@ -1,4 +1,4 @@
-//! Real files of which so many reads, writes and syncs fail.
+//! Real files of which so many reads, writes and syncs fail, from the beginning or from the first sync on.
 
 use dlms_pages::LockFile;
 use std::alloc::{Allocator, Global};
@@ -8,10 +8,20 @@ use std::io;
 use std::io::{ErrorKind, Read, Seek, SeekFrom, Write};
 use std::rt::Files;
 
+/// From when on calls fail.
+#[derive(Clone, Copy, Debug, PartialEq, Eq)]
+pub enum Since {
+    /// From the file's first call on.
+    Opening,
+    /// Behind the file's first sync, with which its opening as pages ends.
+    FirstSync,
+}
+
 /// The system's files, where so many of the calls of each fail.
 #[derive(Drop)]
 pub struct FaultyFiles<'r> {
     pub rt: &'r HostRuntime,
+    pub since: Since,
     pub reads: u32,
     pub writes: u32,
     pub syncs: u32,
@@ -21,9 +31,17 @@ pub struct FaultyFiles<'r> {
 #[derive(Drop)]
 pub struct Faulty {
     file: File,
+    since: Cell<Since>,
     reads: u32,
     writes: u32,
     syncs: Cell<u32>,
+}
+
+impl Faulty {
+    /// Whether calls may fail yet.
+    fn is_due(&self) -> bool {
+        self.since.get() == Since::Opening
+    }
 }
 
 /// What a call that is to fail answers.
@@ -33,7 +51,7 @@ fn refused() -> io::Error {
 
 impl Read for Faulty {
     fn read(&mut self, buf: &mut [u8]) -> io::Result<usize> {
-        if 0 < self.reads {
+        if self.is_due() && 0 < self.reads {
             self.reads -= 1;
             return Err(refused());
         }
@@ -44,15 +62,12 @@ impl Read for Faulty {
 impl Write for Faulty {
     // Half of what is given, and then the fault.
     fn write(&mut self, buf: &[u8]) -> io::Result<usize> {
-        if 0 < self.writes && buf.len() < 544 {
+        let is_due = self.is_due() && 0 < self.writes;
+        if is_due && buf.len() < 544 {
             self.writes -= 1;
             return Err(refused());
         }
-        let end = if 0 < self.writes {
-            buf.len() / 2
-        } else {
-            buf.len()
-        };
+        let end = if is_due { buf.len() / 2 } else { buf.len() };
         self.file.write(&buf[..end])
     }
 
@@ -77,6 +92,10 @@ impl OpenFile for Faulty {
     }
 
     fn sync_all(&self) -> io::Result<()> {
+        if !self.is_due() {
+            self.since.set(Since::Opening);
+            return self.file.sync_all();
+        }
         let left = self.syncs.get();
         if 0 < left {
             self.syncs.set(left - 1);
@@ -113,6 +132,7 @@ impl Files for FaultyFiles<'_> {
     fn open_file(&self, how: &OpenOptions, path: &str) -> io::Result<Faulty> {
         Ok(Faulty {
             file: self.rt.open_file(how, path)?,
+            since: Cell::new(self.since),
             reads: self.reads,
             writes: self.writes,
             syncs: Cell::new(self.syncs),

@@ -2,7 +2,7 @@
 
 use crate::asked::{Ask, Came, asked, get, play};
 use crate::damages::{DAMAGES, SLOT, damaged};
-use crate::faulty::{Faulty, FaultyFiles};
+use crate::faulty::{Faulty, FaultyFiles, Since};
 use crate::report::Report;
 use anyhow::Result;
 use dlms_pages::{FilePages, PageRead, Pages};
@@ -285,6 +285,7 @@ const SCENARIOS: [Scenario; 3] = [
 fn with_faults(rt: &HostRuntime, path: &str, scenario: &Scenario) -> io::Result<FilePages<Faulty>> {
     let files = FaultyFiles {
         rt,
+        since: Since::FirstSync,
         reads: scenario.reads,
         writes: scenario.writes,
         syncs: scenario.syncs,
@@ -323,6 +324,34 @@ fn play_turns(report: &mut Report<'_>, path: &str, scenario: &Scenario) -> Resul
     Ok(())
 }
 
+/// Whether a file of three pages is not opened, where so many of its first reads, writes and syncs fail.
+fn is_not_opened(rt: &HostRuntime, path: &str, [reads, writes, syncs]: [u32; 3]) -> bool {
+    let files = FaultyFiles {
+        rt,
+        since: Since::Opening,
+        reads,
+        writes,
+        syncs,
+    };
+    let opened: io::Result<FilePages<Faulty>> = FilePages::open(&files, path, 3);
+    opened.is_err()
+}
+
+/// Opening reads each slot, writes it again as it stands, and syncs: where one of these calls fails the file is not opened, and
+/// it is as it was, also behind a write that was half done. Where none does its bytes are the same too.
+fn play_opening(report: &mut Report<'_>, path: &str) -> Result<()> {
+    let rt = report.rt();
+    let whole = three(report, path)?;
+    for faults in [[1, 0, 0], [0, 1, 0], [0, 0, 1]] {
+        report.compare(faults, is_not_opened(rt, path, faults), true)?;
+        let bytes = fs::read(rt, path)?;
+        report.compare("not opened", bytes.as_slice() == whole.as_slice(), true)?;
+    }
+    report.compare("no fault", is_not_opened(rt, path, [0, 0, 0]), false)?;
+    let bytes = fs::read(rt, path)?;
+    Ok(report.compare("opened", bytes.as_slice() == whole.as_slice(), true)?)
+}
+
 /// The scenarios, each on a new file.
 fn play_scenarios(report: &mut Report<'_>, path: &str) -> Result<()> {
     for scenario in &SCENARIOS {
@@ -341,6 +370,7 @@ pub fn play_files(report: &mut Report<'_>) -> Result<()> {
     play_damages(report, path.as_str())?;
     play_use(report, path.as_str())?;
     play_scenarios(report, path.as_str())?;
+    play_opening(report, path.as_str())?;
     fs::remove_file(report.rt(), path.as_str())?;
     play_missing(report, path.as_str())?;
     play_plain(report)?;

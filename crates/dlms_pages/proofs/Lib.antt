@@ -5,6 +5,7 @@ pub mod Made
 pub mod Moments
 pub mod Outcomes
 pub mod Picks
+pub mod Renewing
 pub mod Runs
 pub mod Slots
 pub mod Views

@@ -1,5 +1,5 @@
 -- What is asked of a file of slots.
-use Rattle.std.specs.Prelude.{◌≡◌, ◌+◌, ℕ, Bool, true, false, List, [], ◌∷◌, ◌++◌, Option, Some, None, Result, Ok, Err, if◌then◌else◌}
+use Rattle.std.specs.Prelude.{◌≡◌, ◌+◌, ℕ, Bool, true, false, List, [], ◌∷◌, ◌++◌, length, Option, Some, None, Result, Ok, Err, if◌then◌else◌}
 use Rattle.dlms_pages.specs.Seal.{slot_of, ReadsSlot}
 use Rattle.dlms_pages.specs.declared.device.PageRead.{PageRead}
 use Rattle.dlms_pages.specs.declared.device.PageRead.TheVariants.{Damaged}
@@ -69,3 +69,39 @@ written_again from (Some bytes ∷ pages) = Writes from (slot_of from bytes) tru
 -- written again first.
 abbrev pub sync_calls : Bool → List (Option (List ℕ)) → List Asked
 sync_calls behind pages = (if behind then written_again 0 pages else []) ++ Syncs true ∷ []
+
+-- ---- a file that is opened
+
+-- a slot is read, and written again as it stands where the file has all of it
+abbrev pub renewal_of : ℕ → Came → List Asked
+renewal_of index (Slot bytes) = Reads index (Slot bytes) ∷ Writes index bytes true ∷ []
+renewal_of index Short = Reads index Short ∷ []
+renewal_of index Failed = Reads index Failed ∷ []
+
+-- the slots from this index on, one after another
+abbrev pub renewals : ℕ → List Came → List Asked
+renewals from [] = []
+renewals from (came ∷ cames) = renewal_of from came ++ renewals (from + 1) cames
+
+-- the reading did not fail
+abbrev pub IsThere : Came → Type 0
+IsThere (Slot bytes) = Unit {0}
+IsThere Short = Unit {0}
+IsThere Failed = ⊥
+
+abbrev pub AreThere : List Came → Type 0
+AreThere [] = Unit {0}
+AreThere (came ∷ cames) = IsThere came × AreThere cames
+
+-- the slot was read and written again as it stood, and this passed
+pub record IsSlotRenewed (index : ℕ) (old new : Option (List Asked)) : Type 0 where
+  pub came : Came
+  pub there : IsThere came
+  pub calls : Asks old new (renewal_of index came)
+
+-- each of so many slots was read and written again as it stood, and then the file was synced, and all of this passed
+pub record IsRenewed (count : ℕ) (old new : Option (List Asked)) : Type 0 where
+  pub cames : List Came
+  pub counted : length cames ≡ count
+  pub there : AreThere cames
+  pub calls : Asks old new (renewals 0 cames ++ Syncs true ∷ [])

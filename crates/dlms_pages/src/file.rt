@@ -1,6 +1,6 @@
 //! Pages in a file, each under a seal.
 ghost use Rattle.std.specs.Prelude.{◌≡◌, ◌<◌, ◌≤◌, ◌^◌, true, false, length, replicate, slice_index_or, slice_set, IfOk, IfSome, OnErr, OnOk};
-ghost use Rattle.dlms_pages.specs.Asked.{AsksAll, sync_calls, written_again};
+ghost use Rattle.dlms_pages.specs.Asked.{AsksAll, IsRenewed, IsSlotRenewed, sync_calls, written_again};
 
 use crate::folder::sync_folder;
 use crate::lock::LockFile;
@@ -12,6 +12,10 @@ use std::fs::{File, Files, OpenFile, OpenOptions};
 use std::io;
 use std::io::{Read, Seek, Write};
 use std::marker::Model;
+use std::os::unix::fs::OpenOptionsExt;
+
+/// The permissions of a file that is made: its owner alone reads and writes it, since it holds secrets.
+const OWNER_ALONE: u32 = 0o600;
 
 /// Pages in a file. Page `i` stands at byte `544 * i`: its 512 bytes, and the SHA-256 of `i` (two bytes, the high one
 /// first) and of those 512. A part that the file lacks, or that does not match, reads as damaged.
@@ -53,7 +57,8 @@ impl<F: Read + Write + Seek + OpenFile + LockFile + Drop, A: Allocator> FilePage
     ghost use Rattle.dlms_pages.specs.File.{IsFresh};
 
     /// Makes the file, with so many pages that all read as damaged, in place of one that is there; its length and its
-    /// name outlast a stop. The fault is the system's. A file that is in use stays as it is.
+    /// name outlast a stop. A new file is its owner's alone to read and write; one that is there keeps its permissions.
+    /// The fault is the system's. A file that is in use stays as it is.
     pub fn create<R: Files<File = F> + Alloc<A = A>>(
         rt: &R,
         path: &str,
@@ -66,6 +71,7 @@ impl<F: Read + Write + Seek + OpenFile + LockFile + Drop, A: Allocator> FilePage
             .read(true)
             .write(true)
             .create(true)
+            .mode(OWNER_ALONE)
             .open(rt, path)?;
         // What stands there is thrown away behind the lock alone.
         file.lock_alone()?;
@@ -76,7 +82,7 @@ impl<F: Read + Write + Seek + OpenFile + LockFile + Drop, A: Allocator> FilePage
         Ok(FilePages::fresh(file, unsynced))
     }
 
-    /// Opens a file that is there, and is not in use. What it has past its pages stays. The fault is the system's.
+    /// Opens a file that is there, and is not in use, by `over`. What it has past its pages stays. The fault is the system's.
     pub fn open<R: Files<File = F> + Alloc<A = A>>(
         rt: &R,
         path: &str,
@@ -84,15 +90,27 @@ impl<F: Read + Write + Seek + OpenFile + LockFile + Drop, A: Allocator> FilePage
     ) -> io::Result<FilePages<F, A>>
         ensures { IfOk result (IsFresh count) }
     {
-        let unsynced = room(rt.alloc(), count)?;
         let file = OpenOptions::new().read(true).write(true).open(rt, path)?;
         file.lock_alone()?;
-        Ok(FilePages::fresh(file, unsynced))
+        FilePages::over(rt.alloc(), file, count)
     }
 }
 
 impl<F: SlotFile + Drop, A: Allocator> FilePages<F, A> {
-    ghost use Rattle.dlms_pages.specs.File.{faults_after, GivesPage, KeepsPage, Settles};
+    ghost use Rattle.dlms_pages.specs.File.{faults_after, GivesPage, IsFresh, KeepsPage, Settles};
+
+    /// So many pages over a file of slots that is there. An earlier process may have written what stands in it, and may have
+    /// seen its sync fail; a system may then drop that, and call the next sync a success. So each slot that the file has is
+    /// read, written again as it stands, octet for octet, and the file synced, before a page is read. The fault is the file's.
+    pub fn over(alloc: A, file: F, count: u16) -> io::Result<FilePages<F, A>>
+        ensures fresh { IfOk result (IsFresh count) }
+        ensures renewed { IfOk result (λ pages. IsRenewed count (F.asked file) (F.asked pages.file)) }
+    {
+        let unsynced = room(alloc, count)?;
+        let mut file = file;
+        renew(&mut file, count)?;
+        Ok(FilePages::fresh(file, unsynced))
+    }
 
     // Nothing is written yet, and nothing has failed.
     fn fresh(file: F, unsynced: Vec<Option<[u8; PAGE_BYTES]>, A>) -> FilePages<F, A>
@@ -225,6 +243,28 @@ fn room<A: Allocator>(alloc: A, count: u16) -> Result<Vec<Option<[u8; PAGE_BYTES
     ensures { IfOk result (λ pages. pages.items ≡ replicate count None) }
 {
     vec![in alloc; None; count as usize]
+}
+
+/// Writes each slot that the file has again, as it stands there, and syncs the file.
+fn renew<F: SlotFile>(file: &mut F, count: u16) -> io::Result<()>
+    ensures { IfOk result (λ _. IsRenewed count (F.asked file.old) (F.asked file.new)) }
+{
+    for index in 0..count {
+        renew_slot(file, index)?;
+    }
+    file.sync()
+}
+
+/// Writes a slot again, as it stands, where the file has all of it.
+fn renew_slot<F: SlotFile>(file: &mut F, index: u16) -> io::Result<()>
+    ensures { IfOk result (λ _. IsSlotRenewed index (F.asked file.old) (F.asked file.new)) }
+{
+    let mut slot = [0u8; SLOT_BYTES];
+    match file.read_slot(index, &mut slot) {
+        Ok(true) => file.write_slot(index, &slot),
+        Ok(false) => Ok(()),
+        Err(error) => Err(error),
+    }
 }
 
 /// Makes what the file holds outlast a stop. Where a write or a sync has failed, all is written again first, since a
