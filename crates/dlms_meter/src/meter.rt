@@ -1,14 +1,17 @@
 //! The meter: the clients' links and services over the store.
 
-ghost use Rattle.std.specs.Prelude.{◌≡◌, ◌≤◌, ◌<◌, ◌≢◌, ◌⊎◌, ◌++◌, [], List, None, Some, length, take, IfOk, IfErr, option_map, true};
+ghost use Rattle.std.specs.Prelude.{◌≡◌, ◌≤◌, ◌<◌, ◌≢◌, ◌⊎◌, ◌++◌, ◌↔◌, [], ℕ, List, None, Some, length, take, IfOk, IfErr, MatchResult, option_map, true};
 ghost use Rattle.dlms_frame.specs.Stream.{Fits};
 ghost use Rattle.dlms_frame.specs.declared.client.Client.{Client};
 ghost use Rattle.dlms_meter.specs.ClientRecord.{fresh_record};
 ghost use Rattle.dlms_pages.specs.Device.{Rose};
 ghost use Rattle.dlms_state.specs.declared.event.Event.{Event};
 ghost use Rattle.dlms_state.specs.StateValue.{IsStateOf};
-ghost use Rattle.dlms_store.specs.Fitting.{StoreFits, DeviceFits, OpensAs, GivesBack, GivesUp};
-ghost use Rattle.dlms_store.specs.Store.{state_in, view_of, IsStopped, CommitIsExhausted, Remembers};
+ghost use Rattle.dlms_store.specs.Cause.{IsCause};
+ghost use Rattle.dlms_store.specs.Fitting.{StoreFits, DeviceFits, IsOpened, OpensAs, GivesBack, GivesUp};
+ghost use Rattle.dlms_store.specs.Steady.{IsSpared};
+ghost use Rattle.dlms_store.specs.Store.{state_in, view_of, IsStopped, IsTooSmall, CommitIsExhausted, Remembers};
+ghost use Rattle.dlms_store.specs.Writing.{IsFormatted, Leaves};
 ghost use Rattle.dlms_store.specs.World.{StoreWorld};
 ghost use Rattle.dlms_store.specs.World.StoreWorld.{Runs};
 ghost use Rattle.dlms_store.specs.World.StoreStep.{Closes, ClosesInDoubt};
@@ -48,7 +51,11 @@ impl<P: Pages, A: Allocator + Copy> Meter<P, A> {
     pub fn format(alloc: A, device: P) -> Result<Self, (P, OpenFault)>
         ensures stands { IfOk result (λ meter. Stands meter first_world) }
         ensures fits { (P.view device).honest ≡ true → IfOk result (λ meter. StoreFits meter.store first_world.store) }
+        ensures formatted { (P.view device).honest ≡ true → IfOk result (λ meter. Leaves (view_of meter.store) IsFormatted) }
+        ensures size { IfErr result (λ e. (e.1 ≡ OpenFault.Size) ↔ IsTooSmall (P.view device)) }
+        ensures small { IfErr result (λ e. e.1 ≡ OpenFault.Size → e.0 ≡ device) }
         ensures device { IfErr result (λ e. e.1 ≡ OpenFault.Device → Rose (P.view device).faults (P.view e.0).faults) }
+        ensures faults { IfErr result (λ e. (e.1 ≢ OpenFault.NoCheckpoint) × ((page : ℕ) → e.1 ≢ OpenFault.Corrupt page) × (e.1 ≢ OpenFault.Exhausted)) }
     {
         let store = Store::format(alloc, device)?;
         Ok(Meter::over(alloc, store))
@@ -60,6 +67,10 @@ impl<P: Pages, A: Allocator + Copy> Meter<P, A> {
         ensures opened { IfOk result (λ meter. (events : List Event) × Remembers events [] meter.store) }
         ensures stands { IfOk result (λ meter. (events : List Event) → Remembers events [] meter.store → Stands meter (recovered events)) }
         ensures gives_back { (before : StoreWorld) → DeviceFits (P.view device) before → IfErr result (λ e. GivesBack before (P.view device) (P.view e.0) e.1) }
+        ensures exact { (P.view device).honest ≡ true → MatchResult result (λ meter. IsOpened (P.view device).seen meter.store) (λ e. IsCause e.1 (P.view device).seen) }
+        ensures spared { (P.view device).honest ≡ true → IfErr result (λ e. IsSpared (P.view device) (P.view e.0) e.1) }
+        ensures size { IfErr result (λ e. (e.1 ≡ OpenFault.Size) ↔ IsTooSmall (P.view device)) }
+        ensures small { IfErr result (λ e. e.1 ≡ OpenFault.Size → e.0 ≡ device) }
         ensures device { IfErr result (λ e. e.1 ≡ OpenFault.Device → Rose (P.view device).faults (P.view e.0).faults) }
     {
         let store = Store::open(alloc, device)?;

@@ -17,5 +17,6 @@ pub mod Ring
 pub mod Runs
 pub mod Scribbles
 pub mod Slots
+pub mod Sparing
 pub mod Spelled
 pub mod Starting

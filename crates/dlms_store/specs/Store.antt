@@ -118,3 +118,15 @@ pub record IsRenewed {P A : Type 0} {ghosts : Ghosts P} (old new : Store P A gho
   pub generation : new.generation ≡ old.generation + 1
   pub next : new.next ≡ 0
   pub captured : new.captured ≡ 0
+
+-- What was pending went into the next journal page, of this slot and generation.
+pub record TakesPage {P A : Type 0} {ghosts : Ghosts P} (old new : Store P A ghosts) : Type 0 where
+  pub slot : new.slot ≡ old.slot
+  pub generation : new.generation ≡ old.generation
+  pub next : new.next ≡ old.next + 1
+
+-- A checkpoint was made: the other slot is active, of the next generation, and the journal begins again.
+pub record MakesCheckpoint {P A : Type 0} {ghosts : Ghosts P} (old new : Store P A ghosts) : Type 0 where
+  pub slot : new.slot ≡ other_of old.slot
+  pub generation : new.generation ≡ old.generation + 1
+  pub next : new.next ≡ 0

@@ -4,7 +4,8 @@ use Rattle.dlms_pages.specs.Device.{View, Image, Outcome, page_at}
 use Rattle.dlms_pages.specs.Stops.{LeavesOnly}
 use Rattle.dlms_pages.specs.declared.device.PageRead.TheVariants.{Content, Damaged}
 use Rattle.dlms_pages.specs.declared.device.PageRead.{PageRead}
-use Rattle.dlms_journal.specs.declared.kind.PageKind.TheVariants.{Journal}
+use Rattle.dlms_journal.specs.Page.{IsPage}
+use Rattle.dlms_journal.specs.declared.kind.PageKind.TheVariants.{Journal, OpenGate}
 use Rattle.dlms_pages.specs.declared.device.Pages.{Ghosts}
 use Rattle.dlms_state.specs.StateValue.{StateValue}
 use Rattle.dlms_state.specs.Events.{captures}
@@ -12,11 +13,12 @@ use Rattle.dlms_store.specs.Image.{IsRingPage, Spells, Stands, all_of}
 use Rattle.dlms_store.specs.declared.layout.TheConstants.{BODIES, JOURNAL}
 use Rattle.dlms_state.specs.declared.event.Event.{Event}
 use Rattle.dlms_store.specs.declared.layout.Slot.{Slot}
+use Rattle.dlms_store.specs.declared.layout.Slot.TheVariants.{First}
 use Rattle.dlms_store.specs.declared.store.Store.{Store}
 use Rattle.dlms_store.specs.Page.{IsOf, next_of, present}
 use Rattle.dlms_store.specs.declared.page.Edition.{Edition}
 use Rattle.dlms_checkpoint.specs.declared.version.Version.TheVariants.{Columns, Rings}
-use Rattle.dlms_store.specs.Layout.{other_of, ring_place}
+use Rattle.dlms_store.specs.Layout.{gate_of, index_of, other_of, ring_place}
 use Rattle.dlms_store.specs.Store.{state_in}
 
 -- ---- between calls
@@ -40,6 +42,23 @@ pub record IsSettled {P A : Type 0} {ghosts : Ghosts P} (store : Store P A ghost
   pub next : store.next ≡ length pages
   pub captured : length (captures base) + store.captured ≡ (state_in store).rows.next
   pub device : Leaves (ghosts.view store.device) (Stands store.slot (present store.generation) base pages)
+
+-- the slot's gate is an open one of this generation, octet for octet
+pub record HasGate (slot : Slot) (generation : ℕ) (image : Image) : Type 0 where
+  pub page : List ℕ
+  pub there : page_at image (gate_of slot) ≡ Content page
+  pub is : IsPage page OpenGate (index_of slot) generation []
+
+-- the journal's page at this place is one of these records, octet for octet
+pub record HasJournalPage (place generation : ℕ) (records : List ℕ) (image : Image) : Type 0 where
+  pub page : List ℕ
+  pub there : page_at image (JOURNAL + place) ≡ Content page
+  pub is : IsPage page Journal place generation records
+
+-- a device that was just made empty: the first slot's gate is open, and every page behind that slot holds zeros
+pub record IsFormatted (image : Image) : Type 0 where
+  pub gate : HasGate First 1 image
+  pub zeros : (k : ℕ) → BODIES < k → k < length image → page_at image k ≡ Content (replicate 512 0)
 
 -- ---- while a call writes
 

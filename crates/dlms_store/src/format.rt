@@ -4,7 +4,7 @@ ghost use Rattle.dlms_pages.specs.Device.{Goes};
 ghost use Rattle.dlms_state.specs.StateValue.{state_of};
 ghost use Rattle.dlms_checkpoint.specs.Checkpoint.{checkpoint_bytes};
 ghost use Rattle.dlms_store.specs.declared.layout.Slot.TheVariants as SlotOf;
-ghost use Rattle.dlms_store.specs.Writing.{IsClear, Leaves};
+ghost use Rattle.dlms_store.specs.Writing.{IsClear, IsFormatted, Leaves};
 ghost use Rattle.dlms_store.specs.Image.{Stands};
 ghost use Rattle.dlms_store.specs.Page.{present};
 ghost use Rattle.dlms_checkpoint.specs.Bodies.{body_count};
@@ -33,6 +33,7 @@ pub(crate) fn begin<P: Pages>(device: &mut P, bytes: &Checkpoint) -> Result<(), 
     requires room { PAGES ≤ length (P.view device.old).seen }
     requires few { body_count bytes.now ≤ BODIES }
     ensures goes { Goes (P.view device.old) (P.view device.new) result }
+    ensures formatted { Leaves (P.view device.old) IsClear → OnOk result (Leaves (P.view device.new) IsFormatted) }
     ensures starts { bytes.now ≡ checkpoint_bytes (state_of []) → Leaves (P.view device.old) IsClear → OnOk result (Leaves (P.view device.new) (Stands SlotOf.First (present 1) [] [])) }
 {
     let gate = Slot::First.gate();

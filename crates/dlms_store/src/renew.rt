@@ -67,8 +67,10 @@ pub(crate) fn renew<P: Pages, A: Allocator + Copy>(
     requires order { found.now.journal.captured ≤ found.now.state.rows.next }
     ensures honest { (P.view device.new).honest ≡ (P.view device.old).honest }
     ensures count { length (P.view device.new).seen ≡ length (P.view device.old).seen }
+    ensures later { (P.view device.old).faults ≤ (P.view device.new).faults }
     ensures device { result ≡ Err OpenFault.Device → Rose (P.view device.old).faults (P.view device.new).faults }
     ensures exhausted { result ≡ Err OpenFault.Exhausted → found.now.edition.generation ≡ LAST_GENERATION }
+    ensures spares { result ≡ Err OpenFault.Exhausted → device.new ≡ device.old }
     ensures room { OnOk result (found.now.edition.generation < LAST_GENERATION) }
     ensures faults { IfErr result (λ fault. (fault ≡ OpenFault.Device) ⊎ (fault ≡ OpenFault.Exhausted)) }
     ensures renews { (image : Image) (base : List EventOf) (pages : List (List EventOf)) → IsFixed (P.view device.old) image → IsFound image base pages found.now → IsStale found.now

@@ -48,13 +48,14 @@ pub struct Store<P: Pages, A: Allocator = Global> {
 }
 
 impl<P: Pages, A: Allocator + Copy> Store<P, A> {
-    ghost use Rattle.dlms_store.specs.Store.{view_of, state_in, records_in, IsStopped, IsRunning, IsTooSmall, IsLast, refusal_in, HasRoom, JoinsPending, AddIsExhausted, CommitIsExhausted, RoomIsExhausted, Remembers, Settles, Joins, JoinsAlone, Fails, IsElsewhereSame, IsRenewed};
+    ghost use Rattle.dlms_store.specs.Store.{view_of, state_in, records_in, IsStopped, IsRunning, IsTooSmall, IsLast, refusal_in, HasRoom, JoinsPending, AddIsExhausted, CommitIsExhausted, RoomIsExhausted, Remembers, Settles, Joins, JoinsAlone, Fails, IsElsewhereSame, IsFull, IsRenewed, IsRingFull, MakesCheckpoint, TakesPage};
     ghost use Rattle.dlms_store.specs.World.{StoreWorld};
     ghost use Rattle.dlms_store.specs.World.StoreWorld.{Runs, Rests};
     ghost use Rattle.dlms_store.specs.Active.{IsFound, IsFresh, IsStale};
     ghost use Rattle.dlms_store.specs.Cause.{IsCause};
     ghost use Rattle.dlms_store.specs.Image.{Quiet, StandsFor, all_of};
-    ghost use Rattle.dlms_store.specs.Steady.{Fixes, FixesNothing, HasCheckpoint, IsRenewable, StandsBetween, Steady};
+    ghost use Rattle.dlms_store.specs.Steady.{Fixes, FixesNothing, HasCheckpoint, IsRenewable, IsSpared, StandsBetween, Steady};
+    ghost use Rattle.dlms_store.specs.Writing.{HasGate, HasJournalPage, IsFormatted, Leaves};
     ghost use Rattle.dlms_store.specs.Fitting.{StoreFits, DeviceFits, IsOpened, IsRefusal, OpensAs, GivesBack, LeftBy, Moves, AddMoves, GivesUp, commit_step};
     ghost use Rattle.dlms_store.specs.World.StoreStep.{Adds, Closes, ClosesInDoubt};
 
@@ -63,12 +64,16 @@ impl<P: Pages, A: Allocator + Copy> Store<P, A> {
         ensures fits { (P.view device).honest ≡ true → IfOk result (λ store. StoreFits store (Runs [] [])) }
         ensures empty { IfOk result (Remembers [] []) }
         ensures runs { IfOk result (λ store. IsStopped store → ⊥) }
+        ensures formatted { (P.view device).honest ≡ true → IfOk result (λ store. Leaves (view_of store) IsFormatted) }
         ensures size { IfErr result (λ e. (e.1 ≡ OpenFault.Size) ↔ IsTooSmall (P.view device)) }
+        ensures small { IfErr result (λ e. e.1 ≡ OpenFault.Size → e.0 ≡ device) }
+        ensures later { MatchResult result (λ store. (P.view device).faults ≤ (view_of store).faults) (λ e. (P.view device).faults ≤ (P.view e.0).faults) }
         ensures device { IfErr result (λ e. e.1 ≡ OpenFault.Device → Rose (P.view device).faults (P.view e.0).faults) }
         ensures faults { IfErr result (λ e. (e.1 ≢ OpenFault.NoCheckpoint) × ((page : ℕ) → e.1 ≢ OpenFault.Corrupt page) × (e.1 ≢ OpenFault.Exhausted)) }
     {
         let mut device = device;
-        if device.count() < PAGES {
+        let count = device.count();
+        if count < PAGES {
             return Err((device, OpenFault::Size));
         }
         if let Err(fault) = clear(&mut device) {
@@ -102,6 +107,9 @@ impl<P: Pages, A: Allocator + Copy> Store<P, A> {
         ensures runs { IfOk result (λ store. IsStopped store → ⊥) }
         ensures size { IfErr result (λ e. (e.1 ≡ OpenFault.Size) ↔ IsTooSmall (P.view device)) }
         ensures device { IfErr result (λ e. e.1 ≡ OpenFault.Device → Rose (P.view device).faults (P.view e.0).faults) }
+        ensures small { IfErr result (λ e. e.1 ≡ OpenFault.Size → e.0 ≡ device) }
+        ensures later { MatchResult result (λ store. (P.view device).faults ≤ (view_of store).faults) (λ e. (P.view device).faults ≤ (P.view e.0).faults) }
+        ensures spared { (P.view device).honest ≡ true → IfErr result (λ e. IsSpared (P.view device) (P.view e.0) e.1) }
         ensures exact { (P.view device).honest ≡ true → MatchResult result (IsOpened (P.view device).seen) (λ e. IsCause e.1 (P.view device).seen) }
         ensures steady { (events : List EventOf) → (P.view device).honest ≡ true → ((image : Image) → (P.view device).may_leave image → StandsFor events image)
             → MatchResult result (λ store. Steady events (P.view device) (view_of store)) (λ e. Steady events (P.view device) (P.view e.0)) }
@@ -119,7 +127,7 @@ impl<P: Pages, A: Allocator + Copy> Store<P, A> {
         }
         match find(alloc, &mut device) {
             Ok(found) => Store::recovered(device, found),
-            Err(fault) => Err((device, fault)),
+            Err(refusal) => Err((device, refusal)),
         }
     }
 
@@ -140,6 +148,8 @@ impl<P: Pages, A: Allocator + Copy> Store<P, A> {
         ensures runs { IfOk result (λ store. IsStopped store → ⊥) }
         ensures device { IfErr result (λ e. e.1 ≡ OpenFault.Device → Rose (P.view device).faults (P.view e.0).faults) }
         ensures exhausted { IfErr result (λ e. e.1 ≡ OpenFault.Exhausted → (found.edition.generation ≡ LAST_GENERATION) × IsStale found) }
+        ensures spares { IfErr result (λ e. e.1 ≡ OpenFault.Exhausted → e.0 ≡ device) }
+        ensures later { MatchResult result (λ store. (P.view device).faults ≤ (view_of store).faults) (λ e. (P.view device).faults ≤ (P.view e.0).faults) }
         ensures faults { IfErr result (λ e. (e.1 ≡ OpenFault.Device) ⊎ (e.1 ≡ OpenFault.Exhausted)) }
     {
         let mut device = device;
@@ -195,6 +205,9 @@ impl<P: Pages, A: Allocator + Copy> Store<P, A> {
         ensures exhausted { (result ≡ Err AddFault.Exhausted) ↔ (IsRunning self.old × (refusal_in self.old event ≡ None) × AddIsExhausted self.old event) }
         ensures unchanged { OnErr result (result ≢ Err AddFault.Device → self.new ≡ self.old) }
         ensures page { OnOk result (length (records_in self.new) ≤ MOST_PAYLOAD) }
+        ensures joins_in_memory { OnOk result (JoinsPending self.old event → IsElsewhereSame self.old self.new) }
+        ensures takes_page { OnOk result ((JoinsPending self.old event → ⊥) → (IsRingFull self.old → ⊥) → (IsFull self.old → ⊥) → TakesPage self.old self.new) }
+        ensures makes_checkpoint { OnOk result ((JoinsPending self.old event → ⊥) → IsRingFull self.old ⊎ IsFull self.old → MakesCheckpoint self.old self.new) }
         ensures later { (view_of self.old).faults ≤ (view_of self.new).faults }
     {
         if self.stopped {
@@ -221,6 +234,8 @@ impl<P: Pages, A: Allocator + Copy> Store<P, A> {
         ensures run { (JoinsPending self.old event.now → ⊥) → (before : StoreWorld) → StoreFits self.old before → Moves (commit_step result) before self.old self.new }
         ensures settles { OnOk result ((JoinsPending self.old event.now → ⊥) → Settles self.old self.new) }
         ensures room { OnOk result (JoinsPending self.new event.now) }
+        ensures takes_page { OnOk result ((JoinsPending self.old event.now → ⊥) → (IsRingFull self.old → ⊥) → (IsFull self.old → ⊥) → TakesPage self.old self.new) }
+        ensures makes_checkpoint { OnOk result ((JoinsPending self.old event.now → ⊥) → IsRingFull self.old ⊎ IsFull self.old → MakesCheckpoint self.old self.new) }
         ensures runs { OnOk result (IsRunning self.new) }
         ensures state { state_in self.new ≡ state_in self.old }
         ensures stopped { result ≢ Err StoreFault.Stopped }
@@ -247,8 +262,7 @@ impl<P: Pages, A: Allocator + Copy> Store<P, A> {
         requires number { HasNumberFor (state_in self.old) event }
         ensures run { (before : StoreWorld) → IsRunning self.old → StoreFits self.old before → Moves (Adds event) before self.old self.new }
         ensures joins { Joins event self.old self.new }
-        ensures stopped { self.new.stopped ≡ self.old.stopped }
-        ensures device { self.new.device ≡ self.old.device }
+        ensures same { IsElsewhereSame self.old self.new }
         ensures page { length (records_in self.new) ≤ MOST_PAYLOAD }
     {
         self.join(event, spelled);
@@ -284,6 +298,9 @@ impl<P: Pages, A: Allocator + Copy> Store<P, A> {
         ensures exhausted { (result ≡ Err StoreFault.Exhausted) ↔ (IsRunning self.old × CommitIsExhausted self.old) }
         ensures unchanged { OnErr result (result ≢ Err StoreFault.Device → self.new ≡ self.old) }
         ensures nothing { IsRunning self.old → records_in self.old ≡ [] → (result ≡ Ok tt) × (self.new ≡ self.old) }
+        ensures takes_page { OnOk result ((records_in self.old ≡ [] → ⊥) → (IsFull self.old → ⊥) → TakesPage self.old self.new) }
+        ensures makes_checkpoint { OnOk result ((records_in self.old ≡ [] → ⊥) → IsFull self.old → MakesCheckpoint self.old self.new) }
+        ensures page { (view_of self.old).honest ≡ true → OnOk result ((records_in self.old ≡ [] → ⊥) → (IsFull self.old → ⊥) → Leaves (view_of self.new) (HasJournalPage self.old.next self.old.generation (records_in self.old))) }
         ensures later { (view_of self.old).faults ≤ (view_of self.new).faults }
     {
         self.settle_pending()
@@ -303,6 +320,9 @@ impl<P: Pages, A: Allocator + Copy> Store<P, A> {
         ensures exhausted { (result ≡ Err StoreFault.Exhausted) ↔ (IsRunning self.old × CommitIsExhausted self.old) }
         ensures unchanged { OnErr result (result ≢ Err StoreFault.Device → self.new ≡ self.old) }
         ensures nothing { IsRunning self.old → records_in self.old ≡ [] → (result ≡ Ok tt) × (self.new ≡ self.old) }
+        ensures takes_page { OnOk result ((records_in self.old ≡ [] → ⊥) → (IsFull self.old → ⊥) → TakesPage self.old self.new) }
+        ensures makes_checkpoint { OnOk result ((records_in self.old ≡ [] → ⊥) → IsFull self.old → MakesCheckpoint self.old self.new) }
+        ensures page { (view_of self.old).honest ≡ true → OnOk result ((records_in self.old ≡ [] → ⊥) → (IsFull self.old → ⊥) → Leaves (view_of self.new) (HasJournalPage self.old.next self.old.generation (records_in self.old))) }
         ensures later { (view_of self.old).faults ≤ (view_of self.new).faults }
     {
         if self.stopped {
@@ -340,6 +360,7 @@ impl<P: Pages, A: Allocator + Copy> Store<P, A> {
         ensures stopped { (result ≡ Err StoreFault.Stopped) ↔ IsStopped self.old }
         ensures device { result ≡ Err StoreFault.Device → Fails self.old self.new }
         ensures renewed { OnOk result (IsRenewed self.old self.new) }
+        ensures gate { (view_of self.old).honest ≡ true → OnOk result (Leaves (view_of self.new) (HasGate self.new.slot self.new.generation)) }
         ensures steady { (base : List EventOf) (pages : List (List EventOf)) → IsRenewable base pages self.old → Steady (base ++ all_of pages) (view_of self.old) (view_of self.new) }
         ensures stands { (base : List EventOf) (pages : List (List EventOf)) → IsRenewable base pages self.old → OnOk result (HasCheckpoint (base ++ all_of pages) self.new) }
         ensures answers { IsRunning self.old → (Rose (view_of self.old).faults (view_of self.new).faults → ⊥) → (IsLast self.old → ⊥) → IsOk result }
@@ -395,6 +416,7 @@ impl<P: Pages, A: Allocator + Copy> Store<P, A> {
         ensures run { (before : StoreWorld) → StoreFits self before → GivesUp Closes before (view_of self) (P.view result) ⊎ GivesUp ClosesInDoubt before (view_of self) (P.view result) }
         ensures settles { (IsStopped self → ⊥) → (Rose (view_of self).faults (P.view result).faults → ⊥) → (CommitIsExhausted self → ⊥)
             → (before : StoreWorld) → StoreFits self before → GivesUp Closes before (view_of self) (P.view result) }
+        ensures nothing { IsRunning self → records_in self ≡ [] → result ≡ self.device }
     {
         let mut store = self;
         let _in_doubt = store.commit();
