@@ -1,4 +1,5 @@
-"""Frames of a client's side, for the scripts that drive the program (IEC 62056-46)."""
+"""Frames of a client's side, and a meter that answers as it is told to, for the scripts that drive the program (IEC 62056-46)."""
+import datetime
 
 
 def check(data):
@@ -44,3 +45,66 @@ class Client:
 
 def line(octets):
     return "> " + octets.hex() + "\n"
+
+
+def frames_in(came):
+    """The frames among the bytes, without their flags, and what is left of them."""
+    found = []
+    while True:
+        came = came[came.find(b"\x7e"):] if b"\x7e" in came else b""
+        while came[1:2] == b"\x7e":
+            came = came[1:]
+        if len(came) < 3:
+            return found, came
+        length = int.from_bytes(came[1:3], "big") & 0x7FF
+        if len(came) < length + 2:
+            return found, came
+        found.append(came[1:length + 1])
+        came = came[length + 1:]
+
+
+class FalseMeter:
+    """A meter's side of one poll: whatever is asked, its buffer has these rows, each a second of its clock and three registers."""
+
+    ACCEPTED = bytes.fromhex("6129a109060760857405080101a203020100a305a103020100be10040e0800065f1f0400001c1d04000007")
+    BEGIN = datetime.datetime(2000, 1, 1)
+
+    def __init__(self, rows, source=0x03):
+        self.source, self.rows = source, rows
+
+    def time(self, clock):
+        at = self.BEGIN + datetime.timedelta(seconds=clock)
+        return at.year.to_bytes(2, "big") + bytes([at.month, at.day, 0xFF, at.hour, at.minute, at.second, 0, 0x80, 0, 0])
+
+    def buffer(self):
+        rows = b"".join(b"\x02\x04\x09\x0c" + self.time(row[0]) + b"".join(b"\x06" + part.to_bytes(4, "big") for part in row[1:])
+                        for row in self.rows)
+        return b"\xc4\x01\xc1\x00\x01" + bytes([len(self.rows)]) + rows
+
+    def frame(self, control, information=b""):
+        length = 2 + 2 + 1 + 2 + (2 + len(information) if information else 0)
+        head = (0xA000 | length).to_bytes(2, "big") + bytes([self.source, 0x03, control])
+        body = head + check(head) + information if information else head
+        return b"\x7e" + body + check(body) + b"\x7e"
+
+    def apdu(self, number, apdu):
+        """The answer to the information frame of this number."""
+        return self.frame((number + 1) % 8 << 5 | 0x10 | number << 1, b"\xe6\xe7\x00" + apdu)
+
+    def answers(self):
+        """All the frames of a poll, in their order."""
+        return [self.frame(0x73), self.apdu(0, self.ACCEPTED), self.apdu(1, self.buffer()), self.apdu(2, bytes.fromhex("6303800100")),
+                self.frame(0x73)]
+
+    def serve(self, line):
+        """Answers one question after another."""
+        came = b""
+        for answer in self.answers():
+            found = []
+            while not found:
+                more = line.recv(4096)
+                if not more:
+                    return
+                found, came = frames_in(came + more)
+            line.sendall(answer)
+        line.recv(1)

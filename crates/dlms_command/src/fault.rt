@@ -1,5 +1,6 @@
 //! Why a run ended early, and what is said of it.
-use dlms_field::FieldFault;
+use dlms_field::{ClockFault, FieldFault};
+use dlms_headend::PollFault;
 use dlms_loopback::LoopFault;
 use dlms_plot::PlotFault;
 use dlms_program::ReplayFault;
@@ -7,6 +8,10 @@ use dlms_store::OpenFault;
 use std::alloc::Global;
 use std::io::ErrorKind;
 use std::{fmt, io};
+
+/// What is said of a meter whose columns are others than those of a readings file.
+const OTHER_COLUMNS: &str =
+    "protocol\n  the meter's columns are not the clock and the three registers, which a readings file has";
 
 /// Why a run ended early.
 #[derive(Drop)]
@@ -21,6 +26,10 @@ pub enum Fault<'a> {
     Loop(LoopFault),
     /// The secret in a file has more than 16 bytes.
     Secret,
+    /// The poll of this address was not done within so many seconds.
+    Late(&'a str, u32),
+    /// Of the rows from this address or file one is refused for its clock.
+    Clock(&'a str, ClockFault),
     /// The load profile of a readings file was not plotted.
     Plot(PlotFault),
 }
@@ -45,6 +54,8 @@ impl<'a> Fault<'a> {
         match fault {
             FieldFault::System(place, error) => Fault::of_file(alloc, place, &error),
             FieldFault::Secret => Fault::Secret,
+            FieldFault::Late(address, seconds) => Fault::Late(address, seconds),
+            FieldFault::Clock(place, fault) => Fault::Clock(place, fault),
             FieldFault::Other(fault) => Fault::Loop(fault),
         }
     }
@@ -67,8 +78,24 @@ impl fmt::Display for Fault<'_> {
             }
             Fault::Open(fault) => write!(f, "{fault}"),
             Fault::Replay(fault) => write!(f, "{fault}"),
+            Fault::Loop(LoopFault::Poll(PollFault::Columns)) => f.write_str(OTHER_COLUMNS),
             Fault::Loop(fault) => write!(f, "{fault}"),
             Fault::Secret => f.write_str("secret"),
+            Fault::Late(address, seconds) => {
+                write!(f, "line\n  {address}: not done within {seconds} seconds")
+            }
+            Fault::Clock(place, ClockFault::Fallen(number)) => {
+                write!(
+                    f,
+                    "clock {number}\n  {place}: the row is not later than the one before it"
+                )
+            }
+            Fault::Clock(place, ClockFault::Ahead(number)) => {
+                write!(
+                    f,
+                    "ahead {number}\n  {place}: the row is too far past the system's clock"
+                )
+            }
             Fault::Plot(fault) => write!(f, "{fault}"),
         }
     }

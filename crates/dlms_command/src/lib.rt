@@ -20,6 +20,7 @@ use std::cell::RefCell;
 use std::fs::File;
 use std::io::{BufReader, BufWriter, Read, Write};
 use std::net::Net;
+use std::os::fd::RawFd;
 use std::rt::Files;
 use std::time::Clock;
 use std::{fs, io};
@@ -36,6 +37,9 @@ const BUFFER: usize = 65_536;
 /// The address that a meter listens on where none is named.
 const LISTEN: &str = "127.0.0.1:4059";
 
+/// The descriptor of standard error (POSIX, STDERR_FILENO).
+const STANDARD_ERROR: RawFd = 2;
+
 /// The status of a run that came to its end.
 pub const DONE: u8 = 0;
 
@@ -46,6 +50,7 @@ pub const FAULT: u8 = 1;
 pub const USAGE: u8 = 2;
 
 /// Makes a new meter in a file, over whatever the file holds.
+#[inline(never)]
 fn run_format<'a, H: Files<File = File> + AllocGlobal, W: Write>(
     host: &H,
     file: &'a str,
@@ -68,6 +73,7 @@ fn run_format<'a, H: Files<File = File> + AllocGlobal, W: Write>(
 }
 
 /// Replays the input on a meter, and closes it.
+#[inline(never)]
 fn run_on<'f, H: AllocGlobal, R: Source, W: Sink, P: Pages + Drop>(
     host: &H,
     input: &mut R,
@@ -115,6 +121,7 @@ fn written<W: Write + Drop>(alloc: Global, output: W) -> Result<BufWriter<W>, Fa
 }
 
 /// Replays the input on the meter in a file. Each answer goes out as soon as it is made.
+#[inline(never)]
 fn run_replay_file<'a, H: Files<File = File> + AllocGlobal, R: Read + Drop, W: Write>(
     host: &H,
     file: &'a str,
@@ -136,6 +143,7 @@ fn run_replay_file<'a, H: Files<File = File> + AllocGlobal, R: Read + Drop, W: W
 }
 
 /// Replays the input on a new meter in memory. The answers go out through a buffer, before more input is waited for.
+#[inline(never)]
 fn run_replay_memory<H: AllocGlobal, R: Read + Drop, W: Write + Drop>(
     host: &H,
     input: R,
@@ -158,7 +166,8 @@ fn run_replay_memory<H: AllocGlobal, R: Read + Drop, W: Write + Drop>(
 }
 
 /// Polls a meter in memory over a socket, into the file where one is named.
-fn run_loopback<'a, H: Net + Files + AllocGlobal, W: Write>(
+#[inline(never)]
+fn run_loopback<'a, H: Net + Files<File = File> + AllocGlobal, W: Write>(
     host: &H,
     file: Option<&'a str>,
     stops: u8,
@@ -173,6 +182,7 @@ fn run_loopback<'a, H: Net + Files + AllocGlobal, W: Write>(
 }
 
 /// Recovers the meter in a file, and serves it on a TCP port.
+#[inline(never)]
 fn run_serve<'a, H: Net + Files<File = File> + Clock + AllocGlobal, W: Write, E: Write>(
     host: &H,
     file: &'a str,
@@ -201,25 +211,30 @@ fn run_serve<'a, H: Net + Files<File = File> + Clock + AllocGlobal, W: Write, E:
 }
 
 /// Polls the meter at an address once.
-fn run_poll<'a, H: Net + Files + Clock + AllocGlobal, W: Write>(
+#[inline(never)]
+fn run_poll<'a, H: Net + Files<File = File> + Clock + AllocGlobal, W: Write, E: Write>(
     host: &H,
     polling: &Polling<'a>,
     output: &mut W,
+    errors: &mut E,
 ) -> Result<(), Fault<'a>> {
-    match poll(host, polling, output) {
+    match poll(host, polling, output, errors) {
         Ok(()) => Ok(()),
         Err(fault) => Err(Fault::of_field(host.alloc(), fault)),
     }
 }
 
-/// Explains the frames that stand on the input. What is told of a line goes out before the next one is waited for.
+/// Explains the frames that stand on the input, where `raw` is set with strings that may be a secret. What is told of a line goes
+/// out before the next one is waited for.
+#[inline(never)]
 fn run_explain<H: AllocGlobal, R: Read + Drop, W: Write>(
     host: &H,
+    raw: bool,
     input: R,
     output: &mut W,
 ) -> Result<(), Fault<'static>> {
     let mut reader = buffered(host.alloc(), input)?;
-    let explained = match explain(host.alloc(), &mut reader, output) {
+    let explained = match explain(host.alloc(), raw, &mut reader, output) {
         Ok(()) => Ok(()),
         Err(ExplainFault::Memory) => Err(Fault::MEMORY),
         Err(ExplainFault::Input | ExplainFault::Output) => Err(Fault::Replay(ReplayFault::Io)),
@@ -228,6 +243,7 @@ fn run_explain<H: AllocGlobal, R: Read + Drop, W: Write>(
 }
 
 /// Shows what stands in a meter's file, and the curve of its load profile where it is asked for.
+#[inline(never)]
 fn run_show<'a, H: Files<File = File> + AllocGlobal, W: Write + Drop>(
     host: &H,
     file: &'a str,
@@ -246,6 +262,7 @@ fn run_show<'a, H: Files<File = File> + AllocGlobal, W: Write + Drop>(
 }
 
 /// Plots the load profile of a readings file.
+#[inline(never)]
 fn run_plot<'a, H: Files + AllocGlobal, W: Write + Drop>(
     host: &H,
     readings: &'a str,
@@ -279,6 +296,7 @@ pub fn finish<E: Write>(ended: Result<(), Fault<'_>>, errors: &mut E) -> io::Res
 }
 
 /// Does a job.
+#[inline(never)]
 fn run_job<
     'a,
     H: Net + Files<File = File> + Clock + AllocGlobal,
@@ -293,23 +311,32 @@ fn run_job<
         Job::Loopback { readings, stops } => run_loopback(host, readings, stops, output),
         Job::Serve { file, listen, load } => {
             let address = listen.unwrap_or(LISTEN);
-            run_serve(host, file, &Serving { address, load }, output, errors)
+            let serving = Serving {
+                address,
+                load,
+                errors: Some(STANDARD_ERROR),
+            };
+            run_serve(host, file, &serving, output, errors)
         }
         Job::Poll {
             address,
             readings,
             secret_file,
             client,
+            deadline,
+            ahead,
         } => {
             let polling = Polling {
                 address,
                 readings,
                 secret_file,
                 client,
+                deadline,
+                ahead,
             };
-            run_poll(host, &polling, output)
+            run_poll(host, &polling, output, errors)
         }
-        Job::Explain => run_explain(host, input, output),
+        Job::Explain { raw } => run_explain(host, raw, input, output),
         Job::Show { file, plot } => run_show(host, file, plot, output),
         Job::Plot { readings, svg } => run_plot(host, readings, svg, output),
     }

@@ -5,6 +5,7 @@ use crate::names_text::write_code;
 use crate::words::{begin, end, number, octets, signed};
 use dlms_data::{Bits, Data, secs};
 use dlms_names::code_name;
+use dlms_talks::{Part, Veiled};
 use std::alloc::{AllocError, Allocator};
 
 /// How many levels of arrays and structures a value has at most.
@@ -169,6 +170,21 @@ fn write_plain<A: Allocator>(text: &mut String<A>, value: &Data<A>) -> Result<()
     }
 }
 
+/// The line of what has so many parts.
+fn write_count<A: Allocator>(
+    text: &mut String<A>,
+    depth: u8,
+    kind: &str,
+    count: usize,
+    parts: &str,
+) -> Result<(), AllocError> {
+    begin(text, depth)?;
+    text.push_str(kind)?;
+    number(text, count as u64)?;
+    text.push_str(parts)?;
+    end(text)
+}
+
 /// The line of an array or a structure, with how many values it holds, and these below it.
 #[cycle(tree)]
 fn write_items<A: Allocator>(
@@ -178,10 +194,7 @@ fn write_items<A: Allocator>(
     kind: &str,
     items: &[Data<A>],
 ) -> Result<(), AllocError> {
-    begin(text, depth)?;
-    text.push_str(kind)?;
-    number(text, items.len() as u64)?;
-    end(text)?;
+    write_count(text, depth, kind, items.len(), "")?;
     if room == 0 {
         return Ok(());
     }
@@ -232,4 +245,62 @@ pub fn write_inline<A: Allocator>(text: &mut String<A>, value: &Data<A>) -> Resu
         Data::LongUnsigned(n) => number(text, u64::from(*n)),
         plain => write_plain(text, plain),
     }
+}
+
+/// The line of an array or a structure that may hold a secret, and the lines of its values below it.
+#[cycle(veiled)]
+fn write_veiled_items<A: Allocator>(
+    text: &mut String<A>,
+    depth: u8,
+    room: u8,
+    kind: &str,
+    count: usize,
+    veiled: &Veiled<'_, A>,
+) -> Result<(), AllocError> {
+    write_count(text, depth, kind, count, "")?;
+    if room == 0 {
+        return Ok(());
+    }
+    for at in 0..count {
+        if let Some(item) = veiled.item(at) {
+            write_veiled_tree(text, depth.saturating_add(1), room - 1, &item)?;
+        }
+    }
+    Ok(())
+}
+
+/// The lines of a value with so many levels that may be a secret, or hold one.
+#[cycle(veiled)]
+fn write_veiled_tree<A: Allocator>(
+    text: &mut String<A>,
+    depth: u8,
+    room: u8,
+    veiled: &Veiled<'_, A>,
+) -> Result<(), AllocError> {
+    match veiled.part() {
+        Part::Array(count) => write_veiled_items(text, depth, room, "array of ", count, veiled),
+        Part::Structure(count) => {
+            write_veiled_items(text, depth, room, "structure of ", count, veiled)
+        }
+        Part::OctetString(len) => write_count(text, depth, "octet-string of ", len, " octets"),
+        Part::VisibleString(len) => {
+            write_count(text, depth, "visible-string of ", len, " octets")
+        }
+        Part::Utf8String(len) => write_count(text, depth, "utf8-string of ", len, " octets"),
+        Part::BitString(len) => write_count(text, depth, "bit-string of ", len, " bits"),
+        Part::Plain(plain) => {
+            begin(text, depth)?;
+            write_plain(text, plain)?;
+            end(text)
+        }
+    }
+}
+
+/// The lines of a value that may be a secret, or hold one: of a string how long it is.
+pub fn write_veiled<A: Allocator>(
+    text: &mut String<A>,
+    depth: u8,
+    veiled: &Veiled<'_, A>,
+) -> Result<(), AllocError> {
+    write_veiled_tree(text, depth, MOST_LEVELS, veiled)
 }

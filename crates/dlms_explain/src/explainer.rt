@@ -11,9 +11,8 @@ use dlms_frame::Frame;
 use dlms_names::apdu_name;
 use dlms_talks::{
     Apdu, Came, Control, Found, Joined, Line, Numbers, Services, Side, Stretch, Talk, Talks,
-    asked_by, asks_secret, behind_llc, first_pair, first_piece, has_poll, heading_of, line_of,
-    parameters_of, parties_of, read, read_apdu, request_said, response_said, side_of, whole_of,
-    without_secret,
+    behind_llc, first_pair, first_piece, has_poll, heading_of, line_of, parameters_of, parties_of,
+    read, read_apdu, side_of, without_secret,
 };
 use std::alloc::{AllocError, Allocator, Global};
 use std::str;
@@ -33,55 +32,6 @@ pub struct Explainer<A: Allocator = Global> {
 /// The most bytes of a line that are looked at at once.
 const MOST_PIECE: usize = 256;
 
-/// What the blocks of a value that is set, or of a parameter, join to behind this request.
-fn join_put<A: Allocator + Copy>(
-    services: &mut Services<A>,
-    request: &Request<'_, A>,
-) -> Option<Joined> {
-    match request {
-        Request::SetFirst {
-            last,
-            number,
-            raw,
-            ..
-        }
-        | Request::ActionFirst {
-            last,
-            number,
-            raw,
-            ..
-        } => Some(services.transfers.put_first(*last, *number, raw)),
-        Request::SetBlock {
-            last,
-            number,
-            raw,
-            ..
-        }
-        | Request::ActionBlock {
-            last,
-            number,
-            raw,
-            ..
-        } => Some(services.transfers.put_more(*last, *number, raw)),
-        _ => None,
-    }
-}
-
-/// The lines of what a block joins to with those before it, whose octets are `joined_octets`.
-fn explain_joined<A: Allocator + Copy>(
-    text: &mut String<A>,
-    alloc: A,
-    joined: Joined,
-    joined_octets: &[u8],
-    secret: bool,
-) -> Result<(), AllocError> {
-    if joined != Joined::Whole {
-        return write_joined(text, joined);
-    }
-    let whole = whole_of(alloc, secret, joined_octets)?;
-    write_whole(text, joined_octets.len(), &whole)
-}
-
 /// The lines of a request, and of what its blocks join to.
 fn explain_request<A: Allocator + Copy>(
     text: &mut String<A>,
@@ -89,15 +39,15 @@ fn explain_request<A: Allocator + Copy>(
     services: &mut Services<A>,
     request: &Request<'_, A>,
 ) -> Result<(), AllocError> {
-    if let Some(asked) = asked_by(request) {
-        services.asked = Some(asked);
+    let heard = services.ask(alloc, request);
+    write_said(text, "", &heard.said)?;
+    match heard.joined {
+        Some(Joined::Whole) => {
+            write_whole(text, services.put_len(), &services.put_whole(alloc)?)
+        }
+        Some(joined) => write_joined(text, joined),
+        None => Ok(()),
     }
-    write_said(text, "", &request_said(request))?;
-    let Some(joined) = join_put(services, request) else {
-        return Ok(());
-    };
-    let secret = asks_secret(services.asked);
-    explain_joined(text, alloc, joined, services.transfers.put(), secret)
 }
 
 /// The lines of a response, and of what its blocks join to.
@@ -107,19 +57,15 @@ fn explain_response<A: Allocator + Copy>(
     services: &mut Services<A>,
     response: &Response<'_, A>,
 ) -> Result<(), AllocError> {
-    write_said(text, "of ", &response_said(response, services.asked))?;
-    let Response::GetBlock {
-        last,
-        number,
-        raw,
-        ..
-    } = response
-    else {
-        return Ok(());
-    };
-    let joined = services.transfers.get(alloc, *last, *number, raw)?;
-    let secret = asks_secret(services.asked);
-    explain_joined(text, alloc, joined, services.transfers.got(), secret)
+    let heard = services.answer(alloc, response)?;
+    write_said(text, "of ", &heard.said)?;
+    match heard.joined {
+        Some(Joined::Whole) => {
+            write_whole(text, services.got_len(), &services.got_whole(alloc)?)
+        }
+        Some(joined) => write_joined(text, joined),
+        None => Ok(()),
+    }
 }
 
 /// The lines of an APDU.
@@ -155,7 +101,9 @@ fn explain_whole<A: Allocator + Copy>(
 ) -> Result<(), AllocError> {
     match side {
         Some(Side::Meter) => {
-            explain_apdu(text, alloc, side, &mut talk.services, talk.meter.apdu())
+            explain_apdu(text, alloc, side, &mut talk.services, talk.meter.apdu())?;
+            talk.services.pass();
+            Ok(())
         }
         _ => explain_apdu(text, alloc, side, &mut talk.services, talk.client.apdu()),
     }
@@ -167,10 +115,11 @@ fn explain_alone<A: Allocator + Copy>(
     text: &mut String<A>,
     alloc: A,
     side: Option<Side>,
+    raw: bool,
     info: &[u8],
 ) -> Result<(), AllocError> {
     match behind_llc(side, info) {
-        Some(apdu) => explain_apdu(text, alloc, side, &mut Services::new(alloc), apdu),
+        Some(apdu) => { explain_apdu(text, alloc, side, &mut Services::new(alloc, raw), apdu) }
         None => write_no_llc(text),
     }
 }
@@ -185,11 +134,12 @@ fn explain_information<A: Allocator + Copy>(
     frame: &Frame,
 ) -> Result<(), AllocError> {
     let info = frame.info.as_slice();
-    let came = talk.take(side, numbers, frame.segmented, info)?;
+    let came = talk.take(alloc, side, numbers, frame.segmented, info)?;
     write_came(text, came)?;
+    let raw = talk.services.is_raw();
     match came {
-        Came::Apart => explain_alone(text, alloc, side, info),
-        Came::NoPoll if !frame.segmented => explain_alone(text, alloc, side, info),
+        Came::Apart => explain_alone(text, alloc, side, raw, info),
+        Came::NoPoll if !frame.segmented => explain_alone(text, alloc, side, raw, info),
         Came::Whole(_) => explain_whole(text, alloc, side, talk),
         _ => Ok(()),
     }
@@ -231,7 +181,7 @@ fn explain_content<A: Allocator + Copy>(
         }
         Control::Ua => {
             if heeded {
-                talk.open();
+                talk.open(alloc);
             }
             explain_parameters(text, frame.info.as_slice())
         }
@@ -251,10 +201,15 @@ fn explain_content<A: Allocator + Copy>(
             explain_information(text, alloc, side, talk, numbers, frame)
         }
         Control::Ready { receive } | Control::NotReady { receive } => {
-            talk.expect(side, receive);
+            if side == Some(Side::Meter) {
+                talk.expect(alloc, receive);
+            }
             Ok(())
         }
-        Control::Ui => explain_alone(text, alloc, side, frame.info.as_slice()),
+        Control::Ui => {
+            let raw = talk.services.is_raw();
+            explain_alone(text, alloc, side, raw, frame.info.as_slice())
+        }
         _ => Ok(()),
     }
 }
@@ -330,14 +285,14 @@ fn pass<A: Allocator>(text: &mut String<A>, bytes: &[u8]) -> Result<(), AllocErr
 }
 
 impl<A: Allocator + Copy> Explainer<A> {
-    /// Before the first line. No memory is taken here.
-    pub fn new(alloc: A) -> Self {
+    /// Before the first line; where `raw` is set, strings that may be a secret are told as they are. No memory is taken here.
+    pub fn new(alloc: A, raw: bool) -> Self {
         Explainer {
             alloc,
             client: Stretch::new(alloc),
             meter: Stretch::new(alloc),
             bare: Stretch::new(alloc),
-            talks: Talks::new(alloc),
+            talks: Talks::new(alloc, raw),
         }
     }
 

@@ -1,6 +1,6 @@
-//! The lines of GET, SET and ACTION, and of exceptions. No octet of a secret comes here.
+//! The lines of GET, SET and ACTION, and of exceptions. No octet of a secret comes here, nor of a string that may be one.
 
-use crate::data_text::{write_inline, write_value};
+use crate::data_text::{write_inline, write_value, write_veiled};
 use crate::names_text::write_code;
 use crate::words::{begin, end, line, named, number};
 use dlms_data::{Data, Selector};
@@ -212,6 +212,7 @@ fn write_content<A: Allocator>(
     match content {
         Content::Nothing => Ok(()),
         Content::Value(value) => write_value(text, 2, value),
+        Content::Unknown(veiled) => write_veiled(text, 2, veiled),
         Content::Secret => line(text, 2, "(secret)"),
         Content::Block { last, number, len } => write_block(text, *last, *number, *len),
         Content::Next(number) => write_number(text, "next behind block ", *number),
@@ -288,6 +289,7 @@ pub fn write_whole<A: Allocator>(
     match whole {
         Whole::Secret => line(text, 3, "(secret)"),
         Whole::Value(value) => write_value(text, 3, value),
+        Whole::Unknown(covered) => write_veiled(text, 3, &covered.veiled()),
         Whole::Unreadable(fault) => write_no_value(text, *fault),
     }
 }

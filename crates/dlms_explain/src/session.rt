@@ -27,9 +27,9 @@ struct Session<A: Allocator> {
 
 impl<A: Allocator + Copy> Session<A> {
     /// Before the first octet. No memory is taken here.
-    fn new(alloc: A) -> Self {
+    fn new(alloc: A, raw: bool) -> Self {
         Session {
-            explainer: Explainer::new(alloc),
+            explainer: Explainer::new(alloc, raw),
             line: Vec::new(alloc),
             is_long: false,
             text: String::new(alloc),
@@ -110,14 +110,17 @@ fn read_some<R: Read>(input: &mut R, room: &mut [u8]) -> Result<usize, ExplainFa
 /// soon as the line is whole, and at the end of the input what is told of its rest. A line may be of any length: of one of more
 /// than 65,536 octets it is told that it is one.
 ///
+/// Where `raw` is set, strings that may be a secret are told as they are; of what is known to be one nothing is told.
+///
 /// The caller may give any two streams; the input is read by 4,096 octets. Where memory is refused, or the input or the output
 /// fails, what was written before stays.
 pub fn explain<A: Allocator + Copy, R: Read, W: Write>(
     alloc: A,
+    raw: bool,
     input: &mut R,
     output: &mut W,
 ) -> Result<(), ExplainFault> {
-    let mut session = Session::new(alloc);
+    let mut session = Session::new(alloc, raw);
     let mut room = [0u8; ROOM];
     for _ in 0..u64::MAX {
         let count = read_some(input, &mut room)?;

@@ -1,2 +1,4 @@
+pub mod HangingUp
+pub mod ClockLemmas
 pub mod TellingLemmas
 pub mod TickLemmas

@@ -2,6 +2,7 @@
 ghost use Rattle.std.specs.Prelude.{◌≡◌};
 ghost use Rattle.dlms_field.specs.declared.fault.FieldFault.TheVariants.{Other as OtherOf};
 
+use crate::clocks::ClockFault;
 use dlms_loopback::LoopFault;
 use std::io;
 
@@ -12,6 +13,10 @@ pub enum FieldFault<'a> {
     System(&'a str, io::Error),
     /// The secret has more than 16 bytes.
     Secret,
+    /// The poll of this address was not done within so many seconds.
+    Late(&'a str, u32),
+    /// Of the rows from this address or file one is refused for its clock.
+    Clock(&'a str, ClockFault),
     /// Anything else.
     Other(LoopFault),
 }
@@ -21,5 +26,13 @@ impl<'a> From<LoopFault> for FieldFault<'a> {
 
     fn from(fault: LoopFault) -> FieldFault<'a> {
         FieldFault::Other(fault)
+    }
+}
+
+/// The outcome of a call of the system at this file or address.
+pub fn at<'a, T: Drop>(place: &'a str, outcome: io::Result<T>) -> Result<T, FieldFault<'a>> {
+    match outcome {
+        Ok(value) => Ok(value),
+        Err(error) => Err(FieldFault::System(place, error)),
     }
 }

@@ -1,6 +1,9 @@
 //! What holds of all the seconds that a meter is told of.
 
 ghost use Rattle.std.specs.Prelude.{◌≡◌, ◌+◌, List, length, sum_by};
+ghost use Rattle.dlms_field.specs.declared.hanging_up.TheConstants.{DISC, METER};
+ghost use Rattle.dlms_field.specs.declared.telling.TheConstants.{CATCH_UP};
+ghost use Rattle.dlms_field.specs.declared.turns.TheConstants.{INACTIVITY_SECONDS, IDLE_SECONDS, MOST_REFUSALS, MOST_SECONDS};
 ghost use Rattle.dlms_field.specs.Load.{pulses_after};
 ghost use Rattle.dlms_field.specs.Ticks.{AreNext};
 ghost use Rattle.dlms_field.specs.declared.ticks.Ticks.{Ticks as TicksOf};
@@ -12,4 +15,12 @@ pub fn pulses_add_up()
     ensures pulses { (old new : TicksOf) (seconds : List SecondOf) → AreNext old seconds new
         → pulses_after old.watts old.told + sum_by (λ second. second.pulses) seconds ≡ pulses_after old.watts new.told }
     ensures seconds { (old new : TicksOf) (seconds : List SecondOf) → AreNext old seconds new → new.told ≡ old.told + length seconds }
+{}
+
+/// The numbers that clauses cite by name: the seconds of one look at the clock, the control octet of DISC and the meter's upper
+/// address, and the seconds and refusals after which a turn is over.
+pub fn the_numbers()
+    ensures look { CATCH_UP ≡ 60 }
+    ensures disc { (DISC ≡ 0x53) × (METER ≡ 1) }
+    ensures turn { (INACTIVITY_SECONDS ≡ 120) × (IDLE_SECONDS ≡ 5) × (MOST_SECONDS ≡ 60) × (MOST_REFUSALS ≡ 5) }
 {}

@@ -1,18 +1,30 @@
 //! The two tools of the field: a meter that serves a TCP port, and a head end that polls one.
 #![tactic(auto)]
 
+mod calling;
+mod clocks;
+mod deadline;
 mod fault;
+mod hanging_up;
+mod keeping;
 pub mod laws;
 mod line;
+mod log;
 mod polling;
+mod refusals;
 mod secret;
 mod serving;
 mod telling;
 mod ticks;
+mod turns;
 
+pub use clocks::{ClockFault, Limit, first_ahead, judge, left_out};
+pub use deadline::{Deadline, is_over, left};
 pub use fault::FieldFault;
+pub use hanging_up::hang_up;
 pub use polling::{Polling, poll};
 pub use secret::secret_in;
 pub use serving::{Serving, serve};
 pub use telling::{CATCH_UP, goes_on, look, tell};
 pub use ticks::{Second, Ticks};
+pub use turns::{IDLE_SECONDS, INACTIVITY_SECONDS, MOST_REFUSALS, MOST_SECONDS, Over, Turn};

@@ -3,7 +3,9 @@
 ghost use Rattle.std.specs.Prelude.{◌≡◌, ◌<◌, ℕ, List, length, MatchOption};
 ghost use Rattle.dlms_field.specs.Secret.{IsWithoutLineFeed};
 
+use crate::fault::{FieldFault, at};
 use arrayvec::ArrayVec;
+use dlms_frame::Client;
 use std::fs::Files;
 use std::io::Read;
 use std::{fs, io};
@@ -38,7 +40,7 @@ pub fn secret_in(bytes: &[u8]) -> Option<ArrayVec<u8, 16>>
 }
 
 /// The first bytes of a file, enough to tell its secret, or that it is too long.
-pub fn first_bytes<R: Files>(rt: &R, path: &str) -> io::Result<ArrayVec<u8, MOST_READ>> {
+fn first_bytes<R: Files>(rt: &R, path: &str) -> io::Result<ArrayVec<u8, MOST_READ>> {
     let mut file = fs::open(rt, path)?;
     let mut bytes = ArrayVec::new();
     let mut byte = [0u8];
@@ -49,4 +51,36 @@ pub fn first_bytes<R: Files>(rt: &R, path: &str) -> io::Result<ArrayVec<u8, MOST
         let _room = bytes.try_push(byte[0]);
     }
     Ok(bytes)
+}
+
+/// The secret that a new meter knows of a client; none where it has none.
+fn first_secret(client: Client) -> &'static [u8] {
+    match client {
+        Client::Public => &[],
+        Client::Management => b"12345678",
+        Client::Reader => b"23456789",
+    }
+}
+
+/// The secret that a client sends: the one in the file where one is named, else its first one.
+pub fn secret_of<'a, R: Files>(
+    rt: &R,
+    client: Client,
+    file: Option<&'a str>,
+) -> Result<ArrayVec<u8, 16>, FieldFault<'a>> {
+    if !client.has_secret() {
+        return Ok(ArrayVec::new());
+    }
+    let bytes = match file {
+        Some(file) => at(file, first_bytes(rt, file))?,
+        None => {
+            let mut first = ArrayVec::new();
+            let _fits = first.try_extend_from_slice(first_secret(client));
+            first
+        }
+    };
+    match secret_in(bytes.as_slice()) {
+        Some(secret) => Ok(secret),
+        None => Err(FieldFault::Secret),
+    }
 }

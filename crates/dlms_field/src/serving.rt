@@ -1,16 +1,20 @@
 //! A meter that serves a TCP port, one client after another.
 
-ghost use Rattle.std.specs.Prelude.{◌≤◌, ◌+◌, ◌↔◌, IsTrue};
-
 use crate::fault::FieldFault;
+use crate::hanging_up::hang_up;
+use crate::log::Log;
+use crate::refusals::{Barred, Counted};
 use crate::telling;
 use crate::ticks::Ticks;
+use crate::turns::{IDLE_SECONDS, INACTIVITY_SECONDS, MOST_REFUSALS, MOST_SECONDS, Over, Turn};
 use dlms_loopback::{Heard, LoopFault, PIECE, answer, bytes_of, hear};
 use dlms_meter::Meter;
 use dlms_pages::Pages;
 use dlms_store::AddFault;
+use std::alloc::Global;
 use std::io::{ErrorKind, Read, Write};
 use std::net::{Net, OpenListener, OpenStream, SocketAddr, TcpListener};
+use std::os::fd::RawFd;
 use std::time::{Clock, Duration, Instant};
 use std::{io, thread};
 
@@ -20,8 +24,10 @@ const WAKE_SECONDS: u64 = 1;
 /// For how many milliseconds the next connection is waited for before it is asked for again.
 const PAUSE_MILLISECONDS: u64 = 10;
 
-/// A connection on which no frame was answered for so many seconds is closed.
-const INACTIVITY_SECONDS: u64 = 120;
+/// The numbers of Linux for errors of accept that pass: those of the connection that was to come (EPROTO, ENOPROTOOPT, EOPNOTSUPP,
+/// ENETDOWN, ENETUNREACH, ENONET, EHOSTDOWN, EHOSTUNREACH, EPERM of a firewall), and want of files or memory (ENFILE, EMFILE, ENOBUFS,
+/// ENOMEM).
+const PASSING: [i32; 13] = [71, 92, 95, 100, 101, 64, 112, 113, 1, 23, 24, 105, 12];
 
 /// How a meter is served.
 #[derive(Clone, Copy, Debug)]
@@ -30,6 +36,8 @@ pub struct Serving<'a> {
     pub address: &'a str,
     /// The load in watts, which gives pulses on channel 0.
     pub load: u32,
+    /// The descriptor behind the errors, if there is one: a line that it does not take at once is dropped.
+    pub errors: Option<RawFd>,
 }
 
 /// How a connection ended.
@@ -37,28 +45,35 @@ pub struct Serving<'a> {
 enum Ending {
     /// The client closed it.
     Closed,
-    /// No frame was answered for too long.
-    Inactive,
+    /// Its turn was over.
+    Over(Over),
     /// The system's call failed.
     Failed(io::Error),
 }
 
+/// A connection that was taken, and whose it is.
+#[derive(Drop)]
+struct Peer<S> {
+    stream: S,
+    address: SocketAddr,
+}
+
 /// A meter at work: the clock, what the meter was told of it, and where is said what happens.
 #[derive(Drop)]
-struct Site<'r, 'm, 'e, R: Clock, P: Pages, E: Write> {
+struct Site<'r, 'm, 'e, R: Clock, S: Drop, P: Pages, E: Write> {
     rt: &'r R,
     meter: &'m mut Meter<P>,
     ticks: Ticks,
     start: Instant,
+    /// Whether the last second was refused.
     refused: bool,
+    /// Whether the port gave an error that passes, and no connection since.
+    stumbled: bool,
+    /// The connection that waits for the line.
+    next: Option<Peer<S>>,
+    barred: Barred,
+    log: Log<Global>,
     errors: &'e mut E,
-}
-
-/// Whether no frame was answered for too long.
-fn is_inactive(answered: u64, elapsed: u64) -> bool
-    ensures { IsTrue result ↔ (answered + INACTIVITY_SECONDS ≤ elapsed) }
-{
-    elapsed.saturating_sub(answered) >= INACTIVITY_SECONDS
 }
 
 /// The end that an error of a stream is.
@@ -69,17 +84,62 @@ fn ending_of(error: io::Error) -> Ending {
     }
 }
 
-impl<R: Clock, P: Pages, E: Write> Site<'_, '_, '_, R, P, E> {
+/// Whether the port is asked again behind this error.
+fn passes(error: io::Error) -> bool {
+    match error.kind() {
+        ErrorKind::WouldBlock
+        | ErrorKind::Interrupted
+        | ErrorKind::ConnectionAborted
+        | ErrorKind::ConnectionReset => true,
+        _ => match error.raw_os_error() {
+            Some(number) => PASSING.contains(&number),
+            None => false,
+        },
+    }
+}
+
+/// Tells how a connection ended. That the line cannot be written is of no matter.
+fn tell_end<E: Write>(errors: &mut E, address: SocketAddr, ending: Ending) {
+    let _said = match ending {
+        Ending::Closed => writeln!(errors, "closed {address}"),
+        Ending::Over(Over::Refused) => writeln!(
+            errors,
+            "closed {address}: {MOST_REFUSALS} associations were refused"
+        ),
+        Ending::Over(Over::Inactive) => writeln!(
+            errors,
+            "closed {address}: no frame for {INACTIVITY_SECONDS} seconds"
+        ),
+        Ending::Over(Over::Idle) => writeln!(
+            errors,
+            "closed {address}: another waits, and no frame of an association for {IDLE_SECONDS} seconds"
+        ),
+        Ending::Over(Over::Long) => writeln!(
+            errors,
+            "closed {address}: another has waited for {MOST_SECONDS} seconds"
+        ),
+        Ending::Failed(error) => writeln!(errors, "closed {address}: {error}"),
+    };
+}
+
+impl<R: Clock, S: Drop, P: Pages, E: Write> Site<'_, '_, '_, R, S, P, E> {
+    /// Tells that a second was refused.
+    fn tell_refused(&mut self, number: u8) {
+        if self.log.takes_line(self.errors) {
+            let _said = writeln!(self.errors, "refused {number}");
+        }
+    }
+
     /// Looks at the clock, and tells the meter of the seconds that have gone by, so many at most. The seconds of the clock since
     /// the beginning come back. A moment that is refused is said once, until one is taken again.
     fn look(&mut self) -> Result<u64, LoopFault> {
         let elapsed = self.start.elapsed(self.rt)?.as_secs();
+        let told = self.ticks.told;
         match telling::look(self.meter, &mut self.ticks, elapsed) {
-            Ok(()) => self.refused = false,
+            Ok(()) => self.refused = self.refused && self.ticks.told == told,
             Err(AddFault::Refused(cause)) => {
                 if !self.refused {
-                    let number = cause.number();
-                    let _said = writeln!(self.errors, "refused {number}");
+                    self.tell_refused(cause.number());
                 }
                 self.refused = true;
             }
@@ -89,55 +149,114 @@ impl<R: Clock, P: Pages, E: Write> Site<'_, '_, '_, R, P, E> {
         Ok(elapsed)
     }
 
+    /// A connection that has come, unless its address is barred.
+    fn accepted<L: OpenListener<Stream = S>>(
+        &mut self,
+        listener: &L,
+        now: u64,
+    ) -> io::Result<Option<Peer<S>>> {
+        let (stream, address) = listener.accept()?;
+        if self.barred.takes(address.ip(), now) {
+            Ok(Some(Peer { stream, address }))
+        } else {
+            Ok(None)
+        }
+    }
+
+    /// Whether a connection waits for the line.
+    fn another_waits<L: OpenListener<Stream = S>>(&mut self, listener: &L, now: u64) -> bool {
+        if self.next.is_none() {
+            self.next = self.accepted(listener, now).unwrap_or(None);
+        }
+        self.next.is_some()
+    }
+
     /// Answers a client until the connection ends. Between two pieces of bytes, and once a second where none come, it looks at the
-    /// clock.
-    fn talk<S: Read + Write>(&mut self, stream: &mut S) -> Result<Ending, LoopFault> {
+    /// clock, and once in each of its seconds whether another connection waits.
+    fn talk<L: OpenListener<Stream = S>, T: Read + Write>(
+        &mut self,
+        listener: &L,
+        stream: &mut T,
+    ) -> Result<Ending, LoopFault> {
         let mut piece = [0u8; PIECE];
-        let mut answered = self.look()?;
-        for _ in 0..u64::MAX {
-            let elapsed = self.look()?;
-            if is_inactive(answered, elapsed) {
-                return Ok(Ending::Inactive);
+        let mut stream = Counted::new(stream);
+        let mut looked = self.look()?;
+        let mut turn = Turn::begins(looked);
+        for round in 0..u64::MAX {
+            let now = self.look()?;
+            if turn.waited.is_none()
+                && (round == 0 || now != looked)
+                && self.another_waits(listener, now)
+            {
+                turn.waited = Some(now);
             }
-            let count = match hear(stream, &mut piece) {
+            looked = now;
+            if let Some(over) = turn.over(now) {
+                return Ok(Ending::Over(over));
+            }
+            let count = match hear(&mut stream, &mut piece) {
                 Ok(Heard::Bytes(count)) => count,
                 Ok(Heard::Silence) => 0,
                 Err(error) => return Ok(ending_of(error)),
             };
-            match answer(stream, self.meter, bytes_of(&piece, count)) {
-                Ok(true) => answered = elapsed,
+            match answer(&mut stream, self.meter, bytes_of(&piece, count)) {
+                Ok(true) => turn = turn.answers(now, self.meter.is_associated()),
                 Ok(false) => {}
                 Err(error) => return Ok(Ending::Failed(error)),
             }
+            turn.refusals = stream.refusals;
         }
-        Ok(Ending::Inactive)
+        Ok(Ending::Over(Over::Inactive))
     }
 
-    /// Serves one connection. Its end is silence on the line.
-    fn serve_one<S: Read + Write + OpenStream>(
+    /// Serves one connection. No client's link is up when it begins, and none behind its end.
+    fn serve_one<L: OpenListener<Stream = S>>(
         &mut self,
-        stream: S,
-        peer: SocketAddr,
+        listener: &L,
+        peer: Peer<S>,
     ) -> Result<(), LoopFault>
     where
-        S: Drop,
+        S: Read + Write + OpenStream,
     {
+        let Peer { stream, address } = peer;
         let mut stream = stream;
-        let _said = writeln!(self.errors, "connected {peer}");
+        hang_up(self.meter);
         let ending = match prepare(&stream) {
-            Ok(()) => self.talk(&mut stream)?,
+            Ok(()) => self.talk(listener, &mut stream)?,
             Err(error) => Ending::Failed(error),
         };
-        self.meter.idle();
-        let _said = match ending {
-            Ending::Closed => writeln!(self.errors, "closed {peer}"),
-            Ending::Inactive => writeln!(
-                self.errors,
-                "closed {peer}: no frame for {INACTIVITY_SECONDS} seconds"
-            ),
-            Ending::Failed(error) => writeln!(self.errors, "closed {peer}: {error}"),
-        };
+        hang_up(self.meter);
+        if matches!(ending, Ending::Over(Over::Refused)) {
+            let now = self.start.elapsed(self.rt)?.as_secs();
+            self.barred.bar(address.ip(), now);
+        }
+        if self.log.takes_line(self.errors) {
+            tell_end(self.errors, address, ending);
+        }
         Ok(())
+    }
+
+    /// The connection that has waited longest, if there is one.
+    fn next_connection<L: OpenListener<Stream = S>>(
+        &mut self,
+        listener: &L,
+        now: u64,
+    ) -> io::Result<Option<Peer<S>>> {
+        if let Some(peer) = self.next.take() {
+            return Ok(Some(peer));
+        }
+        self.accepted(listener, now)
+    }
+
+    /// Tells of an error of the port that passes, once until a connection is taken again. That none waits is no error.
+    fn stumble(&mut self, error: io::Error) {
+        if error.kind() == ErrorKind::WouldBlock || self.stumbled {
+            return;
+        }
+        if self.log.takes_line(self.errors) {
+            let _said = writeln!(self.errors, "no connection: {error}");
+        }
+        self.stumbled = true;
     }
 }
 
@@ -164,7 +283,7 @@ fn announce<L: OpenListener, W: Write>(listener: &L, output: &mut W) -> io::Resu
 
 /// Serves one connection after another. While there is none, the clock is looked at a hundred times a second.
 fn serve_all<'f, R: Clock, L: OpenListener, P: Pages, E: Write>(
-    site: &mut Site<'_, '_, '_, R, P, E>,
+    site: &mut Site<'_, '_, '_, R, L::Stream, P, E>,
     listener: &L,
     address: &'f str,
 ) -> Result<(), FieldFault<'f>>
@@ -172,18 +291,20 @@ where
     L::Stream: Read + Write + OpenStream,
 {
     for _ in 0..u64::MAX {
-        let _elapsed = site.look()?;
-        match listener.accept() {
-            Ok((stream, peer)) => site.serve_one(stream, peer)?,
-            Err(error) => match error.kind() {
-                ErrorKind::WouldBlock => {
-                    thread::sleep(site.rt, Duration::from_millis(PAUSE_MILLISECONDS));
+        let now = site.look()?;
+        match site.next_connection(listener, now) {
+            Ok(Some(peer)) => {
+                site.stumbled = false;
+                site.serve_one(listener, peer)?;
+            }
+            Ok(None) => {}
+            Err(error) => {
+                if !passes(error) {
+                    return Err(FieldFault::System(address, error));
                 }
-                ErrorKind::Interrupted
-                | ErrorKind::ConnectionAborted
-                | ErrorKind::ConnectionReset => {}
-                _ => return Err(FieldFault::System(address, error)),
-            },
+                site.stumble(error);
+                thread::sleep(site.rt, Duration::from_millis(PAUSE_MILLISECONDS));
+            }
         }
     }
     Ok(())
@@ -191,9 +312,10 @@ where
 
 /// Serves the meter on a TCP port, until a fault. Its running second goes on from the last one that it has, a second of it each
 /// second of the system's steady clock, and its load gives pulses. `listening on ADDRESS:PORT` is printed once the port is there;
-/// a line among the errors tells of each connection, of its end, and of a moment that is refused. An error of those lines is of
-/// no matter. A store that is stopped is told as `Device`.
-pub fn serve<'a, R: Net + Clock, P: Pages, W: Write, E: Write>(
+/// a line among the errors tells of each connection at its end, and of a moment that is refused. An error of those lines is of
+/// no matter. A store that is stopped is told as `Device`. Each connection has a turn (`Turn`), which is looked
+/// at between two pieces of bytes, and `hang_up` stands before it and behind it.
+pub fn serve<'a, R: Net + Clock + AllocGlobal, P: Pages, W: Write, E: Write>(
     rt: &R,
     meter: &mut Meter<P>,
     serving: &Serving<'a>,
@@ -212,12 +334,17 @@ pub fn serve<'a, R: Net + Clock, P: Pages, W: Write, E: Write>(
         return Err(FieldFault::Other(LoopFault::from(error)));
     }
     let ticks = Ticks::new(meter.state().last(), serving.load);
+    let log = Log::new(rt, rt.alloc(), serving.errors);
     let mut site = Site {
         rt,
         meter,
         ticks,
         start,
         refused: false,
+        stumbled: false,
+        next: None,
+        barred: Barred::none(),
+        log,
         errors,
     };
     serve_all(&mut site, &listener, serving.address)

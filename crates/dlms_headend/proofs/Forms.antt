@@ -338,6 +338,9 @@ array_in v bytes h e = by_tag v bytes h (sym (begins_tag 1 v bytes h.0) ∙ e)
     by_tag (array vs) bytes h e = (vs, refl, record { spelled = body_is 1 (count vs) bytes h.0.0 (λ (body : List ℕ). SpellAll body vs) h.0.1 h.0.2; shallow = let d = h.1 in omega (arith, d) })
     by_tag _ bytes h e = absurd cc
 
+pub not_array : (v : Value) (vs : Values) (bytes : List ℕ) → IsSpelling bytes v → begins 1 bytes ≡ false → v ≡ array vs → ⊥
+not_array v vs bytes h e same = let clash : true ≡ false = sym (ap (λ (w : Value). tag_of w == 1) same) ∙ (sym (begins_tag 1 v bytes h.0) ∙ e) in cc
+
 pub no_array : (bytes : List ℕ) → begins 1 bytes ≡ false → (rows : List Row) → IsEncoded bytes rows → ⊥
 no_array bytes e rows (v, h, is) = by_tag v rows (sym (begins_tag 1 v bytes h.0) ∙ e) is
   where

@@ -10,7 +10,7 @@ use Rattle.dlms_blocks.specs.Joining.{Joining, is_next, with_block}
 use Rattle.dlms_headend.specs.declared.get_answer.GetAnswer.{GetAnswer}
 use Rattle.dlms_headend.specs.declared.get_answer.GetAnswer.TheVariants.{More, Rows}
 use Rattle.dlms_headend.specs.declared.poll_fault.PollFault.{PollFault}
-use Rattle.dlms_headend.specs.declared.poll_fault.PollFault.TheVariants.{Refused, Result as BadResult, Line, Protocol, Memory}
+use Rattle.dlms_headend.specs.declared.poll_fault.PollFault.TheVariants.{Refused, Result as BadResult, Line, Protocol, Columns, Memory}
 use Rattle.dlms_apdu.proofs.WholeLaws.{reads_responses}
 use Rattle.dlms_apdu.specs.Spelling.{SpellsResponse}
 use Rattle.dlms_data.proofs.WholeLaws.{reads_one_value}
@@ -28,6 +28,7 @@ last_fault taken invoke number joined raw Memory e h = e
 last_fault taken invoke number joined raw (Refused diagnostic) e h = absurd h
 last_fault taken invoke number joined raw (BadResult code) e h = absurd h
 last_fault taken invoke number joined raw Line e h = absurd h
+last_fault taken invoke number joined raw Columns e h = absurd h
 
 last_heard-at : {A : Type 0} (taken invoke number : ℕ) (old new : Joining) (raw : List ℕ) (result : Result (GetAnswer A) PollFault) → number ≡ taken + 1 → LastHeard (old.joined ++ raw) result
     → HearsBy taken old (Ok (get_block invoke true number raw)) result new

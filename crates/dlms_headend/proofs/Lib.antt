@@ -2,6 +2,7 @@ pub mod Fields
 pub mod Files
 pub mod Values
 pub mod Forms
+pub mod ColumnForms
 pub mod Requests
 pub mod HeardLemmas
 pub mod TalkLemmas

@@ -12,9 +12,10 @@ use Rattle.dlms_link.specs.declared.out.ClientOut.{ClientOut}
 use Rattle.dlms_link.specs.declared.out.ClientOut.TheVariants as out
 use Rattle.dlms_headend.specs.declared.row.Row.{Row}
 use Rattle.dlms_headend.specs.declared.stage.Stage.{Stage}
-use Rattle.dlms_headend.specs.declared.stage.Stage.TheVariants.{Associating, Getting, Releasing, Leaving}
+use Rattle.dlms_headend.specs.declared.stage.Stage.TheVariants.{Associating, Naming, Getting, Checking, Releasing, Leaving}
 use Rattle.dlms_headend.specs.Asking.{PlanValue}
-use Rattle.dlms_headend.specs.Poll.{Asks, associates, gets, goes_on, releases, HasReleased}
+use Rattle.dlms_headend.specs.Poll.{Asks, associates, names, gets, goes_on, checks, releases, HasReleased}
+use Rattle.dlms_headend.specs.declared.plan.Columns.{Columns}
 use Rattle.dlms_headend.specs.TalkValue.{TalkValue}
 use Rattle.dlms_headend.specs.Talk.{FitsAt, FitsTalk, CanTake, IsGetting}
 use Rattle.dlms_headend.specs.Polling.{IsGet, IsDue, Goes, asks, leaves, StandsAt, WantsRequest, FitsIn, Fits, SendsOn, Continues, Answers, IsDone, GoesDown, PollsBy, PollsIn, Polls, with_link}
@@ -27,36 +28,42 @@ use Rattle.dlms_headend.specs.declared.stage.Course.{Course}
 use Rattle.dlms_headend.specs.declared.stage.Course.TheVariants.{Running}
 
 -- what is due is what the list asks for
-due_goes-get : (plan : PlanValue) (apdus : List (List ℕ)) (taken : ℕ) (blocks : Joining) (rows : List Row) (apdu : List ℕ) → FitsAt (Getting taken) blocks rows apdus → IsGet plan taken apdu → Asks plan apdus apdu
+due_goes-get : (plan : PlanValue) (apdus : List (List ℕ)) (taken : ℕ) (blocks : Joining) (rows : List Row) (apdu : List ℕ) → FitsAt plan.columns (Getting taken) blocks rows apdus → IsGet plan taken apdu → Asks plan apdus apdu
 due_goes-get plan apdus taken blocks rows apdu h (inl x) = gets blocks.joined (rw x.0 at h.0) x.1
 due_goes-get plan apdus taken blocks rows apdu h (inr x) = goes_on taken blocks.joined x.0 h.0 x.1
 
-due_goes-at : (plan : PlanValue) (apdus : List (List ℕ)) (stage : Stage) (blocks : Joining) (rows : List Row) (link new : ClientRecord) (frame : Parts) → FitsAt stage blocks rows apdus → IsDue plan stage link frame new
+due_goes-at : (plan : PlanValue) (apdus : List (List ℕ)) (stage : Stage) (blocks : Joining) (rows : List Row) (link new : ClientRecord) (frame : Parts) → FitsAt plan.columns stage blocks rows apdus → IsDue plan stage link frame new
     → Goes plan apdus link frame new
 due_goes-at plan apdus Associating blocks rows link new frame h d = asks _ (associates h.0 refl) d
+due_goes-at plan apdus Naming blocks rows link new frame h d = asks _ (names h.0 h.1 refl) d
+due_goes-at plan apdus Checking blocks rows link new frame h d = asks _ (checks rows h.0 h.1 refl) d
 due_goes-at plan apdus (Getting taken) blocks rows link new frame h d = asks d.0 (due_goes-get plan apdus taken blocks rows d.0 h d.1) d.2
 due_goes-at plan apdus Releasing blocks rows link new frame h d = asks _ (releases rows h refl) d
 due_goes-at plan apdus Leaving blocks rows link new frame h d = leaves rows h d.0 d.1
 
-pub due_goes : (plan : PlanValue) (apdus : List (List ℕ)) (talk : TalkValue) (link new : ClientRecord) (frame : Parts) → FitsTalk talk apdus → IsDue plan talk.stage link frame new → Goes plan apdus link frame new
+pub due_goes : (plan : PlanValue) (apdus : List (List ℕ)) (talk : TalkValue) (link new : ClientRecord) (frame : Parts) → FitsTalk plan.columns talk apdus → IsDue plan talk.stage link frame new → Goes plan apdus link frame new
 due_goes plan apdus talk link new frame h d = due_goes-at plan apdus talk.stage talk.blocks talk.rows link new frame h d
 
 -- where the link stands then
 pub due_stands : (plan : PlanValue) (stage : Stage) (link new : ClientRecord) (frame : Parts) → IsIdle link → IsDue plan stage link frame new → StandsAt stage new.phase
 due_stands plan Associating link new frame idle d = inr (ap (λ (c : ClientRecord). c.phase) d.2 ∙ idle.0)
+due_stands plan Naming link new frame idle d = ap (λ (c : ClientRecord). c.phase) d.2 ∙ idle.0
+due_stands plan Checking link new frame idle d = ap (λ (c : ClientRecord). c.phase) d.2 ∙ idle.0
 due_stands plan (Getting taken) link new frame idle d = ap (λ (c : ClientRecord). c.phase) d.2.2 ∙ idle.0
 due_stands plan Releasing link new frame idle d = ap (λ (c : ClientRecord). c.phase) d.2 ∙ idle.0
 due_stands plan Leaving link new frame idle d = ap (λ (c : ClientRecord). c.phase) d.1
 
--- memory was wanting for a GET
-wants-at : (apdus : List (List ℕ)) (stage : Stage) (blocks : Joining) (rows : List Row) → FitsAt stage blocks rows apdus → IsGetting stage → WantsRequest apdus
-wants-at apdus Associating blocks rows h g = absurd g
-wants-at apdus (Getting taken) blocks rows h g = (taken, blocks.joined, h.0)
-wants-at apdus Releasing blocks rows h g = absurd g
-wants-at apdus Leaving blocks rows h g = absurd g
+-- memory was wanting for a GET of the buffer
+wants-at : (columns : Columns) (apdus : List (List ℕ)) (stage : Stage) (blocks : Joining) (rows : List Row) → FitsAt columns stage blocks rows apdus → IsGetting stage → WantsRequest columns apdus
+wants-at columns apdus Associating blocks rows h g = absurd g
+wants-at columns apdus Naming blocks rows h g = absurd g
+wants-at columns apdus Checking blocks rows h g = absurd g
+wants-at columns apdus (Getting taken) blocks rows h g = (taken, blocks.joined, h.0)
+wants-at columns apdus Releasing blocks rows h g = absurd g
+wants-at columns apdus Leaving blocks rows h g = absurd g
 
-pub wants : (apdus : List (List ℕ)) (talk : TalkValue) → FitsTalk talk apdus → IsGetting talk.stage → WantsRequest apdus
-wants apdus talk h g = wants-at apdus talk.stage talk.blocks talk.rows h g
+pub wants : (columns : Columns) (apdus : List (List ℕ)) (talk : TalkValue) → FitsTalk columns talk apdus → IsGetting talk.stage → WantsRequest columns apdus
+wants columns apdus talk h g = wants-at columns apdus talk.stage talk.blocks talk.rows h g
 
 -- ---- what an open link alone gives
 
@@ -108,7 +115,9 @@ send_open c f g e = step_open c f (subst IsOpenOut e tt)
 -- an open link awaits an APDU
 can_take-at : (stage : Stage) (phase : Phase) → StandsAt stage phase → phase ≡ Open → CanTake stage
 can_take-at Associating phase h e = tt
+can_take-at Naming phase h e = tt
 can_take-at (Getting taken) phase h e = tt
+can_take-at Checking phase h e = tt
 can_take-at Releasing phase h e = tt
 can_take-at Leaving phase h e = absurd (cc)
 
@@ -121,16 +130,16 @@ still_stands talk c d f g h e open_ = subst (StandsAt talk.stage) (send_open c f
 fits_running : (p : PollerValue) (apdus : List (List ℕ)) → p.course ≡ Running → FitsIn Running p apdus → Fits p apdus
 fits_running p apdus e h = subst (λ (course : Course). FitsIn course p apdus) (sym e) h
 
-pub sends_on : (p new : PollerValue) (apdus : List (List ℕ)) (frame : Parts) → p.course ≡ Running → IsIdle p.link → FitsTalk p.talk apdus → IsDue p.plan p.talk.stage p.link frame new.link → new.plan ≡ p.plan → new.course ≡ p.course
+pub sends_on : (p new : PollerValue) (apdus : List (List ℕ)) (frame : Parts) → p.course ≡ Running → IsIdle p.link → FitsTalk p.plan.columns p.talk apdus → IsDue p.plan p.talk.stage p.link frame new.link → new.plan ≡ p.plan → new.course ≡ p.course
     → new.talk ≡ p.talk → SendsOn p.plan apdus p.link frame new
 sends_on p new apdus frame running idle h d plan course talk = record {
   goes = due_goes p.plan apdus p.talk p.link new.link frame h d;
   runs = course ∙ running;
   keeps = plan;
-  fits = fits_running new apdus (course ∙ running) (rw talk h, rw talk (due_stands p.plan p.talk.stage p.link new.link frame idle d));
+  fits = fits_running new apdus (course ∙ running) (rw (plan, talk) h, rw talk (due_stands p.plan p.talk.stage p.link new.link frame idle d));
 }
 
-pub opened_sends_on : (p u new : PollerValue) (apdus : List (List ℕ)) (stage : Stage) (frame : Parts) → u ≡ p → p.course ≡ Running → IsIdle p.link → FitsTalk p.talk apdus → stage ≡ u.talk.stage
+pub opened_sends_on : (p u new : PollerValue) (apdus : List (List ℕ)) (stage : Stage) (frame : Parts) → u ≡ p → p.course ≡ Running → IsIdle p.link → FitsTalk p.plan.columns p.talk apdus → stage ≡ u.talk.stage
     → IsDue u.plan stage u.link frame new.link → new.plan ≡ u.plan → new.course ≡ u.course → new.talk ≡ u.talk → SendsOn p.plan apdus p.link frame new
 opened_sends_on p u new apdus stage frame same running idle h at_stage d plan course talk =
     let there : IsDue u.plan u.talk.stage u.link frame new.link = subst (λ (s : Stage). IsDue u.plan s u.link frame new.link) at_stage d in
@@ -146,7 +155,7 @@ took at mid new apdus (Ok (step.Send frame)) plan link k getting rows =
     subst (λ (c : ClientRecord). SendsOn at.plan (apdus ++ at.link.apdu ∷ []) c frame new) link
     (subst (λ (x : PlanValue). SendsOn x (apdus ++ at.link.apdu ∷ []) mid.link frame new) plan k)
 took at mid new apdus (Err fault) plan link k getting rows = (
-  inr (k.0, k.1),
+  inr (k.0, subst (λ (x : PlanValue). WantsRequest x.columns (apdus ++ at.link.apdu ∷ [])) plan k.1),
   record {
     course = ap (λ (p : PollerValue). p.course) k.2;
     plan = ap (λ (p : PollerValue). p.plan) k.2 ∙ plan;
@@ -157,12 +166,35 @@ took at mid new apdus (Err fault) plan link k getting rows = (
 
 -- ---- the poll is done where its list says so
 
-pub done_where : (old new : PollerValue) (result : Result PollStep PollFault) (f : Parts) (apdus : List (List ℕ)) (rows : List Row) → Polls apdus f old result new → Fits old apdus → old.course ≡ Running → HasReleased apdus rows
+pub done_where : (old new : PollerValue) (result : Result PollStep PollFault) (f : Parts) (apdus : List (List ℕ)) (rows : List Row) → Polls apdus f old result new → Fits old apdus → old.course ≡ Running → HasReleased old.plan.columns apdus rows
     → (client_step old.link f).1 ≡ out.Down → IsDone (with_link old (client_step old.link f).0) result new × (new.talk.rows ≡ rows)
 done_where old new result f apdus rows polls h running k e =
     let fits : FitsIn Running old apdus = subst (λ (course : Course). FitsIn course old apdus) running h in
     let here : PollsIn Running apdus f old result new = subst (λ (course : Course). PollsIn course apdus f old result new) running polls in
     let down : PollsBy out.Down (client_step old.link f).0 apdus old result new = subst (λ (o : ClientOut). PollsBy o (client_step old.link f).0 apdus old result new) e here in
-    let told = stage_told old.talk.stage old.talk.blocks old.talk.rows rows apdus fits.0 k in
+    let told = stage_told old.plan.columns old.talk.stage old.talk.blocks old.talk.rows rows apdus fits.0 k in
     let is_done : GoesDown Leaving (with_link old (client_step old.link f).0) result new = subst (λ (stage : Stage). GoesDown stage (with_link old (client_step old.link f).0) result new) told.0 down in
     (is_done, ap (λ (p : PollerValue). p.talk.rows) is_done.after ∙ told.1)
+
+-- and it is done nowhere else
+down_done : (columns : Columns) (stage : Stage) (blocks : Joining) (apdus : List (List ℕ)) (at new : PollerValue) → FitsAt columns stage blocks at.talk.rows apdus → GoesDown stage at (Ok step.Done) new → HasReleased columns apdus new.talk.rows
+down_done columns Associating blocks apdus at new fits h = let clash = h.answer in cc
+down_done columns Naming blocks apdus at new fits h = let clash = h.answer in cc
+down_done columns (Getting taken) blocks apdus at new fits h = let clash = h.answer in cc
+down_done columns Checking blocks apdus at new fits h = let clash = h.answer in cc
+down_done columns Releasing blocks apdus at new fits h = let clash = h.answer in cc
+down_done columns Leaving blocks apdus at new fits h = subst (HasReleased columns apdus) (sym (ap (λ (p : PollerValue). p.talk.rows) h.after)) fits
+
+done_by : (o : ClientOut) (link : ClientRecord) (apdus : List (List ℕ)) (old new : PollerValue) → FitsIn Running old apdus → PollsBy o link apdus old (Ok step.Done) new → HasReleased old.plan.columns apdus new.talk.rows
+done_by out.Nothing link apdus old new fits k = let clash = k.0 in cc
+done_by out.Up link apdus old new fits k = absurd k
+done_by (out.Send frame) link apdus old new fits k = let clash = k.0 in cc
+done_by out.Apdu link apdus old new fits k = absurd k
+done_by out.Down link apdus old new fits k = down_done old.plan.columns old.talk.stage old.talk.blocks apdus (with_link old link) new fits.0 k
+
+pub done_told : (old new : PollerValue) (result : Result PollStep PollFault) (f : Parts) (apdus : List (List ℕ)) → (FitsIn Running old apdus → PollsBy (client_step old.link f).1 (client_step old.link f).0 apdus old result new)
+    → old.course ≡ Running → Fits old apdus → result ≡ Ok step.Done → HasReleased old.plan.columns apdus new.talk.rows
+done_told old new result f apdus polls running h done =
+    let fits : FitsIn Running old apdus = subst (λ (course : Course). FitsIn course old apdus) running h in
+    done_by (client_step old.link f).1 (client_step old.link f).0 apdus old new fits
+    (subst (λ (r : Result PollStep PollFault). PollsBy (client_step old.link f).1 (client_step old.link f).0 apdus old r new) done (polls fits))

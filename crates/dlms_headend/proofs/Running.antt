@@ -6,7 +6,7 @@ use Rattle.dlms_link.specs.Client.{ClientRecord, snrm_of, client_connect, client
 use Rattle.dlms_link.specs.declared.out.ClientOut.{ClientOut}
 use Rattle.dlms_link.specs.declared.out.ClientOut.TheVariants as out
 use Rattle.dlms_headend.specs.declared.stage.Stage.{Stage}
-use Rattle.dlms_headend.specs.declared.stage.Stage.TheVariants.{Associating, Getting, Releasing, Leaving}
+use Rattle.dlms_headend.specs.declared.stage.Stage.TheVariants.{Associating, Naming, Getting, Checking, Releasing, Leaving}
 use Rattle.dlms_headend.specs.declared.stage.Course.{Course}
 use Rattle.dlms_headend.specs.declared.stage.Course.TheVariants.{Ready, Running, Done, Failed}
 use Rattle.dlms_headend.specs.declared.step.PollStep.{PollStep}
@@ -16,9 +16,9 @@ use Rattle.dlms_headend.specs.declared.poll_fault.PollFault.TheVariants.{Line, P
 use Rattle.dlms_headend.specs.declared.row.Row.{Row}
 use Rattle.dlms_headend.specs.Asking.{PlanValue}
 use Rattle.dlms_headend.specs.Poll.{HasReleased}
-use Rattle.dlms_headend.specs.Talk.{FitsAt}
+use Rattle.dlms_headend.specs.Talk.{FitsAt, Ends}
 use Rattle.dlms_headend.specs.PollerValue.{PollerValue}
-use Rattle.dlms_headend.specs.Polling.{Goes, FitsIn, Fits, SendsOn, HasFailed, Continues, Answers, GoesDown as DownBy, PollsBy, PollsEarly, PollsIn, BeginsIn, TimesOutBy, TimesOutIn, with_link}
+use Rattle.dlms_headend.specs.Polling.{Goes, WantsRequest, FitsIn, Fits, SendsOn, HasFailed, Continues, Answers, GoesDown as DownBy, PollsBy, PollsEarly, PollsIn, BeginsIn, TimesOutBy, TimesOutIn, with_link}
 use Rattle.dlms_headend.specs.PollRun.{Poll, first_poll, Call, Next, On, Timeout, failed, GoesOn, Takes, GoesDown, Hears, HearsEarly, ComesIn, StartsIn, RepeatsBy, RepeatsIn, Leads, PollRun, IsCall, Calls, IsAt, CallsAreAPoll, DoneIsTold}
 use Rattle.dlms_headend.proofs.Told.{stage_told}
 
@@ -63,7 +63,7 @@ module _ (p : Poll) (old new : PollerValue) (is : IsAt old p) (runs : p.course �
   continues link taken (Ok step.Done) k = absurd k
   continues link taken (Err fault) k = (
     failed p link fault,
-    (k.0, k.1, refl),
+    (k.0, subst (λ (plan : PlanValue). WantsRequest plan.columns taken) is.plan k.1, refl),
     at_failed p new link fault (ap (λ (v : PollerValue). v.plan) k.2 ∙ is.plan) (ap (λ (v : PollerValue). v.link) k.2) (ap (λ (v : PollerValue). v.course) k.2),
   )
 
@@ -72,28 +72,32 @@ module _ (p : Poll) (old new : PollerValue) (is : IsAt old p) (runs : p.course �
   answers link (Ok (step.Send frame)) k = let s = sends link (p.taken ++ link.apdu ∷ []) frame k in (s.0, inl s.1, s.2)
   answers link (Ok step.Done) k = absurd k
   answers link (Err fault) (inl ends, f) =
-      (failed p link fault, inr (fault, ends, refl, refl), at_failed p new link fault (f.plan ∙ is.plan) f.link f.course)
+      (failed p link fault, inr (fault, subst (λ (plan : PlanValue). Ends plan.columns p.taken link.apdu fault) is.plan ends, refl, refl), at_failed p new link fault (f.plan ∙ is.plan) f.link f.course)
   answers link (Err fault) (inr wants, f) =
-      (failed p link fault, inl (wants.0, wants.1, refl), at_failed p new link fault (f.plan ∙ is.plan) f.link f.course)
+      (failed p link fault, inl (wants.0, subst (λ (plan : PlanValue). WantsRequest plan.columns (p.taken ++ link.apdu ∷ [])) is.plan wants.1, refl), at_failed p new link fault (f.plan ∙ is.plan) f.link f.course)
 
   -- the link goes down
-  early : (link : ClientRecord) (result : Result PollStep PollFault) → ((rows : List Row) → HasReleased p.taken rows → ⊥) → HasFailed (with_link old link) Protocol result new → Reaches (λ now. GoesDown p link result now) new
+  early : (link : ClientRecord) (result : Result PollStep PollFault) → ((rows : List Row) → HasReleased p.plan.columns p.taken rows → ⊥) → HasFailed (with_link old link) Protocol result new → Reaches (λ now. GoesDown p link result now) new
   early link result none h = let f = has_failed p old new link Protocol result is h in (f.0, inr (none, f.1.0, f.1.1), f.2)
 
-  down : (stage : Stage) (blocks : Joining) (link : ClientRecord) (result : Result PollStep PollFault) → FitsAt stage blocks old.talk.rows p.taken → DownBy stage (with_link old link) result new → Reaches (λ now. GoesDown p link result now) new
-  down Associating blocks link result fits h = early link result (λ rows k. let bad = (stage_told Associating blocks old.talk.rows rows p.taken fits k).0 in absurd (cc)) h
-  down (Getting taken) blocks link result fits h = early link result (λ rows k. let bad = (stage_told (Getting taken) blocks old.talk.rows rows p.taken fits k).0 in absurd (cc)) h
-  down Releasing blocks link result fits h = early link result (λ rows k. let bad = (stage_told Releasing blocks old.talk.rows rows p.taken fits k).0 in absurd (cc)) h
+  down : (stage : Stage) (blocks : Joining) (link : ClientRecord) (result : Result PollStep PollFault) → FitsAt p.plan.columns stage blocks old.talk.rows p.taken → DownBy stage (with_link old link) result new → Reaches (λ now. GoesDown p link result now) new
+  down Associating blocks link result fits h = early link result (λ rows k. let bad = (stage_told p.plan.columns Associating blocks old.talk.rows rows p.taken fits k).0 in absurd (cc)) h
+  down Naming blocks link result fits h = early link result (λ rows k. let bad = (stage_told p.plan.columns Naming blocks old.talk.rows rows p.taken fits k).0 in absurd (cc)) h
+  down Checking blocks link result fits h = early link result (λ rows k. let bad = (stage_told p.plan.columns Checking blocks old.talk.rows rows p.taken fits k).0 in absurd (cc)) h
+  down (Getting taken) blocks link result fits h = early link result (λ rows k. let bad = (stage_told p.plan.columns (Getting taken) blocks old.talk.rows rows p.taken fits k).0 in absurd (cc)) h
+  down Releasing blocks link result fits h = early link result (λ rows k. let bad = (stage_told p.plan.columns Releasing blocks old.talk.rows rows p.taken fits k).0 in absurd (cc)) h
   down Leaving blocks link result fits h =
       let rows : new.talk.rows ≡ old.talk.rows = ap (λ (v : PollerValue). v.talk.rows) h.after in
-      let course : new.course ≡ Done = ap (λ (v : PollerValue). v.course) h.after in (
+      let course : new.course ≡ Done = ap (λ (v : PollerValue). v.course) h.after in
+      let plan : new.plan ≡ p.plan = ap (λ (v : PollerValue). v.plan) h.after ∙ is.plan in (
         record p { link = link; course = Done; rows = old.talk.rows },
         inl (old.talk.rows, fits, h.answer, refl),
         record {
-          plan = ap (λ (v : PollerValue). v.plan) h.after ∙ is.plan;
+          plan = plan;
           link = ap (λ (v : PollerValue). v.link) h.after;
           course = course;
-          fits = subst (λ (c : Course). FitsIn c new p.taken) (sym course) (subst (HasReleased p.taken) (sym rows) fits);
+          fits = subst (λ (c : Course). FitsIn c new p.taken) (sym course)
+              (subst (λ (x : PlanValue). HasReleased x.columns p.taken new.talk.rows) (sym plan) (subst (HasReleased p.plan.columns p.taken) (sym rows) fits));
           rows = λ e. rows;
         },
       )
@@ -110,7 +114,7 @@ module _ (p : Poll) (old new : PollerValue) (is : IsAt old p) (runs : p.course �
   hears out.Apdu link result k = answers link result k
   hears out.Down link result k =
       let fits : FitsIn Running old p.taken = subst (λ (c : Course). FitsIn c old p.taken) (is.course ∙ runs) is.fits in
-      down old.talk.stage old.talk.blocks link result fits.0 k
+      down old.talk.stage old.talk.blocks link result (subst (λ (x : PlanValue). FitsAt x.columns old.talk.stage old.talk.blocks old.talk.rows p.taken) is.plan fits.0) k
 
 hears_early : (o : ClientOut) (p : Poll) (old new : PollerValue) (link : ClientRecord) (result : Result PollStep PollFault) → IsAt old p → PollsEarly o link old result new → Reaches (λ now. HearsEarly o p link result now) new
 hears_early out.Nothing p old new link result is k = stays p old new (Ok step.Nothing) result is k.0 k.1
@@ -188,67 +192,74 @@ calls_are_a_poll plan calls new made = run_of calls (first_poll plan) _ new (rec
 
 -- ---- one that is done
 
-abbrev Told : Poll → Type 0
-Told p = p.course ≡ Done → HasReleased p.taken p.rows
+module _ (plan : PlanValue) where
+  -- its plan is the one that it began with, and where it is done its APDUs tell its rows
+  abbrev Told : Poll → Type 0
+  Told p = (p.plan ≡ plan) × (p.course ≡ Done → HasReleased plan.columns p.taken p.rows)
 
-told_as : (p now : Poll) → now ≡ p → Told p → Told now
-told_as p now same told = subst Told (sym same) told
+  told_as : (p now : Poll) → now ≡ p → Told p → Told now
+  told_as p now same told = subst Told (sym same) told
 
-fails_told : (p now : Poll) (link : ClientRecord) (fault : PollFault) → now ≡ failed p link fault → Told now
-fails_told p now link fault same = told_as (failed p link fault) now same (λ e. absurd (cc))
+  -- one that is not done
+  told_not : (p now : Poll) → now ≡ p → p.plan ≡ plan → (p.course ≡ Done → ⊥) → Told now
+  told_not p now same kept none = told_as p now same (kept, λ e. absurd (none e))
 
-told_on : (p now : Poll) (link : ClientRecord) (taken : List (List ℕ)) (result : Result PollStep PollFault) → p.course ≡ Running → GoesOn p link taken result now → Told now
-told_on p now link taken (Ok step.Nothing) runs h = absurd h
-told_on p now link taken (Ok (step.Send frame)) runs h = told_as (record p { link = h.0; taken = taken }) now h.2 (λ e. absurd (cc (runs, e)))
-told_on p now link taken (Ok step.Done) runs h = absurd h
-told_on p now link taken (Err fault) runs h = fails_told p now link fault h.2
+  fails_told : (p now : Poll) (link : ClientRecord) (fault : PollFault) → p.plan ≡ plan → now ≡ failed p link fault → Told now
+  fails_told p now link fault kept same = told_not (failed p link fault) now same kept (λ e. cc)
 
-told_heard : (o : ClientOut) (p now : Poll) (link : ClientRecord) (result : Result PollStep PollFault) → p.course ≡ Running → Hears o p link result now → Told now
-told_heard out.Nothing p now link result runs h = told_as p now h.1 (λ e. absurd (cc (runs, e)))
-told_heard out.Up p now link result runs h = told_on p now link p.taken result runs h
-told_heard (out.Send frame) p now link result runs h = told_as (record p { link = link }) now h.1 (λ e. absurd (cc (runs, e)))
-told_heard out.Apdu p now link result runs (inl on) = told_on p now link (p.taken ++ link.apdu ∷ []) result runs on
-told_heard out.Apdu p now link result runs (inr (fault, ends, told, same)) = fails_told p now link fault same
-told_heard out.Down p now link result runs (inl (rows, released, told, same)) = told_as (record p { link = link; course = Done; rows = rows }) now same (λ e. released)
-told_heard out.Down p now link result runs (inr (none, told, same)) = fails_told p now link Protocol same
+  told_on : (p now : Poll) (link : ClientRecord) (taken : List (List ℕ)) (result : Result PollStep PollFault) → p.plan ≡ plan → p.course ≡ Running → GoesOn p link taken result now → Told now
+  told_on p now link taken (Ok step.Nothing) kept runs h = absurd h
+  told_on p now link taken (Ok (step.Send frame)) kept runs h = told_not (record p { link = h.0; taken = taken }) now h.2 kept (λ e. cc (runs, e))
+  told_on p now link taken (Ok step.Done) kept runs h = absurd h
+  told_on p now link taken (Err fault) kept runs h = fails_told p now link fault kept h.2
 
-told_early : (o : ClientOut) (p now : Poll) (link : ClientRecord) (result : Result PollStep PollFault) → Told p → HearsEarly o p link result now → Told now
-told_early out.Nothing p now link result told h = told_as p now h.1 told
-told_early out.Up p now link result told h = fails_told p now link Protocol h.1
-told_early (out.Send frame) p now link result told h = fails_told p now link Protocol h.1
-told_early out.Apdu p now link result told h = fails_told p now link Protocol h.1
-told_early out.Down p now link result told h = fails_told p now link Protocol h.1
+  told_heard : (o : ClientOut) (p now : Poll) (link : ClientRecord) (result : Result PollStep PollFault) → p.plan ≡ plan → p.course ≡ Running → Hears o p link result now → Told now
+  told_heard out.Nothing p now link result kept runs h = told_not p now h.1 kept (λ e. cc (runs, e))
+  told_heard out.Up p now link result kept runs h = told_on p now link p.taken result kept runs h
+  told_heard (out.Send frame) p now link result kept runs h = told_not (record p { link = link }) now h.1 kept (λ e. cc (runs, e))
+  told_heard out.Apdu p now link result kept runs (inl on) = told_on p now link (p.taken ++ link.apdu ∷ []) result kept runs on
+  told_heard out.Apdu p now link result kept runs (inr (fault, ends, told, same)) = fails_told p now link fault kept same
+  told_heard out.Down p now link result kept runs (inl (rows, released, told, same)) =
+      told_as (record p { link = link; course = Done; rows = rows }) now same (kept, λ e. subst (λ (x : PlanValue). HasReleased x.columns p.taken rows) kept released)
+  told_heard out.Down p now link result kept runs (inr (none, told, same)) = fails_told p now link Protocol kept same
 
-told_came : (course : Course) (p now : Poll) (frame : Parts) (result : Result PollStep PollFault) → p.course ≡ course → Told p → ComesIn course p frame result now → Told now
-told_came Ready p now frame result at told h = told_early (client_step p.link frame).1 p now (client_step p.link frame).0 result told h
-told_came Running p now frame result at told h = told_heard (client_step p.link frame).1 p now (client_step p.link frame).0 result at h
-told_came Done p now frame result at told h = told_as p now h.1 told
-told_came (Failed fault) p now frame result at told h = told_as p now h.1 told
+  told_early : (o : ClientOut) (p now : Poll) (link : ClientRecord) (result : Result PollStep PollFault) → Told p → HearsEarly o p link result now → Told now
+  told_early out.Nothing p now link result told h = told_as p now h.1 told
+  told_early out.Up p now link result told h = fails_told p now link Protocol told.0 h.1
+  told_early (out.Send frame) p now link result told h = fails_told p now link Protocol told.0 h.1
+  told_early out.Apdu p now link result told h = fails_told p now link Protocol told.0 h.1
+  told_early out.Down p now link result told h = fails_told p now link Protocol told.0 h.1
 
-told_started : (course : Course) (p now : Poll) (frame : Option Parts) → Told p → StartsIn course p frame now → Told now
-told_started Ready p now frame told h = told_as (record p { link = client_connect p.link; course = Running }) now h.1 (λ e. absurd (cc))
-told_started Running p now frame told h = told_as p now h.1 told
-told_started Done p now frame told h = told_as p now h.1 told
-told_started (Failed fault) p now frame told h = told_as p now h.1 told
+  told_came : (course : Course) (p now : Poll) (frame : Parts) (result : Result PollStep PollFault) → p.course ≡ course → Told p → ComesIn course p frame result now → Told now
+  told_came Ready p now frame result at told h = told_early (client_step p.link frame).1 p now (client_step p.link frame).0 result told h
+  told_came Running p now frame result at told h = told_heard (client_step p.link frame).1 p now (client_step p.link frame).0 result told.0 at h
+  told_came Done p now frame result at told h = told_as p now h.1 told
+  told_came (Failed fault) p now frame result at told h = told_as p now h.1 told
 
-told_late : (late : ClientRecord × Option Parts) (p now : Poll) (result : Result Parts PollFault) → Told p → RepeatsBy late p result now → Told now
-told_late (link, Some frame) p now result told h = told_as (record p { link = link }) now h.1 told
-told_late (link, None) p now result told h = fails_told p now link Line h.1
+  told_started : (course : Course) (p now : Poll) (frame : Option Parts) → Told p → StartsIn course p frame now → Told now
+  told_started Ready p now frame told h = told_not (record p { link = client_connect p.link; course = Running }) now h.1 told.0 (λ e. cc)
+  told_started Running p now frame told h = told_as p now h.1 told
+  told_started Done p now frame told h = told_as p now h.1 told
+  told_started (Failed fault) p now frame told h = told_as p now h.1 told
 
-told_repeated : (course : Course) (p now : Poll) (result : Result Parts PollFault) → Told p → RepeatsIn course p result now → Told now
-told_repeated (Failed fault) p now result told h = told_as p now h.1 told
-told_repeated Ready p now result told h = told_late (client_timeout p.link) p now result told h
-told_repeated Running p now result told h = told_late (client_timeout p.link) p now result told h
-told_repeated Done p now result told h = told_late (client_timeout p.link) p now result told h
+  told_late : (late : ClientRecord × Option Parts) (p now : Poll) (result : Result Parts PollFault) → Told p → RepeatsBy late p result now → Told now
+  told_late (link, Some frame) p now result told h = told_as (record p { link = link }) now h.1 told
+  told_late (link, None) p now result told h = fails_told p now link Line told.0 h.1
 
-told_after : (call : Call) (p now : Poll) → Told p → Leads p call now → Told now
-told_after (Next frame) p now told h = told_started p.course p now frame told h
-told_after (On frame result) p now told h = told_came p.course p now frame result refl told h
-told_after (Timeout result) p now told h = told_repeated p.course p now result told h
+  told_repeated : (course : Course) (p now : Poll) (result : Result Parts PollFault) → Told p → RepeatsIn course p result now → Told now
+  told_repeated (Failed fault) p now result told h = told_as p now h.1 told
+  told_repeated Ready p now result told h = told_late (client_timeout p.link) p now result told h
+  told_repeated Running p now result told h = told_late (client_timeout p.link) p now result told h
+  told_repeated Done p now result told h = told_late (client_timeout p.link) p now result told h
 
-told_run : (calls : List Call) (p now : Poll) → Told p → PollRun p calls now → Told now
-told_run [] p now told same = told_as p now same told
-told_run (call ∷ calls) p now told (mid, leads, rest) = told_run calls mid now (told_after call p mid told leads) rest
+  told_after : (call : Call) (p now : Poll) → Told p → Leads p call now → Told now
+  told_after (Next frame) p now told h = told_started p.course p now frame told h
+  told_after (On frame result) p now told h = told_came p.course p now frame result refl told h
+  told_after (Timeout result) p now told h = told_repeated p.course p now result told h
+
+  told_run : (calls : List Call) (p now : Poll) → Told p → PollRun p calls now → Told now
+  told_run [] p now told same = told_as p now same told
+  told_run (call ∷ calls) p now told (mid, leads, rest) = told_run calls mid now (told_after call p mid told leads) rest
 
 pub done_is_told : DoneIsTold
-done_is_told plan calls p run e = told_run calls (first_poll plan) p (λ e. absurd (cc)) run e
+done_is_told plan calls p run e = (told_run plan calls (first_poll plan) p (refl, λ e. absurd (cc)) run).1 e

@@ -1,5 +1,5 @@
 -- The APDUs that a poll took tell its rows, and where it is.
-use Rattle.std.proofs.Common.{arith, refl, sym, ap, subst, ◌∙◌, ◌≡◌, ◌+◌, ◌++◌, ℕ, List, [], ◌∷◌, length, length-append, append-nil, Option, Some, unwrap_or, pos, true, false, Result, Ok}
+use Rattle.std.proofs.Common.{arith, refl, sym, ap, subst, ◌∙◌, ◌≡◌, ◌+◌, ◌++◌, ℕ, List, [], ◌∷◌, length, length-append, append_assoc, append-nil, Option, Some, unwrap_or, pos, true, false, Result, Ok}
 use Rattle.dlms_apdu.specs.declared.fault.Refusal.{Refusal}
 use Rattle.dlms_apdu.specs.Forms.{ResponseForm, get_data, get_block}
 use Rattle.dlms_apdu.specs.Reading.{response_at}
@@ -9,9 +9,11 @@ use Rattle.dlms_data.specs.Value.{Value, Values, array, none, cons}
 use Rattle.dlms_data.proofs.WholeLaws.{reads_one_value}
 use Rattle.dlms_headend.specs.declared.row.Row.{Row}
 use Rattle.dlms_headend.specs.declared.stage.Stage.{Stage}
-use Rattle.dlms_headend.specs.declared.stage.Stage.TheVariants.{Associating, Getting, Releasing, Leaving}
+use Rattle.dlms_headend.specs.declared.stage.Stage.TheVariants.{Associating, Naming, Getting, Checking, Releasing, Leaving}
 use Rattle.dlms_headend.specs.Rows.{IsRow, AreRows, IsProfile, IsEncoded}
-use Rattle.dlms_headend.specs.Poll.{IsMoreBy, IsMore, SpellsBy, Spells, AreBlocks, HasBlocks, HasRows, HasReleased}
+use Rattle.dlms_headend.specs.Poll.{IsMoreBy, IsMore, SpellsBy, Spells, AreBlocks, AreNamed, HasAccepted, HasBlocks, HasRows, HasNamed, HasReleased}
+use Rattle.dlms_headend.specs.declared.plan.Columns.{Columns}
+use Rattle.dlms_headend.specs.declared.plan.Columns.TheVariants.{Trusted, Asked}
 use Rattle.dlms_headend.specs.Talk.{FitsAt}
 use Rattle.dlms_headend.proofs.Files.{same_row}
 
@@ -87,66 +89,93 @@ blocks_told before (apdu ∷ apdus) t u i j h k =
     let rest = blocks_told (before + 1) apdus t u h.1 k.1 h.4 k.4 in
     (rest.0, h.3 ∙ (ap (λ (b : List ℕ). b ++ h.1) bytes ∙ (ap (λ (r : List ℕ). k.0 ++ r) rest.1 ∙ sym k.3)))
 
-blocks_last : (before : ℕ) (apdus : List (List ℕ)) (apdu : List ℕ) (t : ℕ) (i : List ℕ) → AreBlocks before (apdus ++ apdu ∷ []) t i
-    → (n : ℕ) × (j : List ℕ) × (bytes : List ℕ) × AreBlocks before apdus n j × IsMore n apdu bytes
-blocks_last before [] apdu t i h = (before, [], h.0, (refl, refl), h.2)
-blocks_last before (first ∷ apdus) apdu t i h =
-    let rest = blocks_last (before + 1) apdus apdu t h.1 h.4 in
-    (rest.0, h.0 ++ rest.1, rest.2, (h.0, rest.1, h.2, refl, rest.3), rest.4)
+-- an APDU among blocks is one
+blocks_at : (before : ℕ) (apdus more : List (List ℕ)) (apdu : List ℕ) (t : ℕ) (i : List ℕ) → AreBlocks before (apdus ++ apdu ∷ more) t i → (n : ℕ) × (bytes : List ℕ) × IsMore n apdu bytes
+blocks_at before [] more apdu t i h = (before, h.0, h.2)
+blocks_at before (first ∷ apdus) more apdu t i h = blocks_at (before + 1) apdus more apdu t h.1 h.4
 
-has_blocks_told : (apdus : List (List ℕ)) (t u : ℕ) (i j : List ℕ) → HasBlocks apdus t i → HasBlocks apdus u j → (t ≡ u) × (i ≡ j)
-has_blocks_told apdus t u i j h k =
-    let both : h.response ∷ h.blocks ≡ k.response ∷ k.blocks = sym h.are ∙ k.are in
-    let tails : h.blocks ≡ k.blocks = cc in
-    blocks_told 0 k.blocks t u i j (subst (λ (b : List (List ℕ)). AreBlocks 0 b t i) tails h.come) k.come
+-- as many answers tell the columns
+behind_names : (columns : Columns) (a b xs ys : List (List ℕ)) → AreNamed columns a → AreNamed columns b → a ++ xs ≡ b ++ ys → xs ≡ ys
+behind_names Trusted a b xs ys h k e = ap (λ (l : List (List ℕ)). l ++ xs) (sym h) ∙ (e ∙ ap (λ (l : List (List ℕ)). l ++ ys) k)
+behind_names Asked a b xs ys h k e =
+    let both : h.0 ∷ xs ≡ k.0 ∷ ys = ap (λ (l : List (List ℕ)). l ++ xs) (sym h.1) ∙ (e ∙ ap (λ (l : List (List ℕ)). l ++ ys) k.1) in
+    let tails : xs ≡ ys = cc in
+    tails
 
-has_rows_told : (apdus : List (List ℕ)) (r s : List Row) → HasRows apdus r → HasRows apdus s → r ≡ s
-has_rows_told apdus r s h k =
+before_names : (columns : Columns) (xs ys a b : List (List ℕ)) → AreNamed columns a → AreNamed columns b → xs ++ a ≡ ys ++ b → xs ≡ ys
+before_names Trusted xs ys a b h k e =
+    sym (append-nil xs) ∙ (ap (λ (l : List (List ℕ)). xs ++ l) (sym h) ∙ (e ∙ (ap (λ (l : List (List ℕ)). ys ++ l) k ∙ append-nil ys)))
+before_names Asked xs ys a b h k e = (snoc xs ys h.0 k.0 (ap (λ (l : List (List ℕ)). xs ++ l) (sym h.1) ∙ (e ∙ ap (λ (l : List (List ℕ)). ys ++ l) k.1))).0
+
+pub has_blocks_told : (columns : Columns) (apdus : List (List ℕ)) (t u : ℕ) (i j : List ℕ) → HasBlocks columns apdus t i → HasBlocks columns apdus u j → (t ≡ u) × (i ≡ j)
+has_blocks_told columns apdus t u i j h k =
+    let both : h.response ∷ (h.names ++ h.blocks) ≡ k.response ∷ (k.names ++ k.blocks) = sym h.are ∙ k.are in
+    let tails : h.names ++ h.blocks ≡ k.names ++ k.blocks = cc in
+    let same : h.blocks ≡ k.blocks = behind_names columns h.names k.names h.blocks k.blocks h.named k.named tails in
+    blocks_told 0 k.blocks t u i j (subst (λ (b : List (List ℕ)). AreBlocks 0 b t i) same h.come) k.come
+
+has_rows_told : (columns : Columns) (apdus : List (List ℕ)) (r s : List Row) → HasRows columns apdus r → HasRows columns apdus s → r ≡ s
+has_rows_told columns apdus r s h k =
     let parts = snoc h.before k.before h.answer k.answer (sym h.are ∙ k.are) in
-    let counts = has_blocks_told k.before h.taken k.taken h.joined k.joined (subst (λ (b : List (List ℕ)). HasBlocks b h.taken h.joined) parts.0 h.blocks) k.blocks in
+    let counts = has_blocks_told columns k.before h.taken k.taken h.joined k.joined (subst (λ (b : List (List ℕ)). HasBlocks columns b h.taken h.joined) parts.0 h.blocks) k.blocks in
     let one : Spells h.taken h.joined k.answer r = subst (λ (a : List ℕ). Spells h.taken h.joined a r) parts.1 h.spelled in
     let two : Spells k.taken h.joined k.answer r = subst (λ (n : ℕ). Spells n h.joined k.answer r) counts.0 one in
     let three : Spells k.taken k.joined k.answer r = subst (λ (j : List ℕ). Spells k.taken j k.answer r) counts.1 two in
     spells_told k.taken k.joined (response_at k.answer) r s three k.spelled
 
-pub released_told : (apdus : List (List ℕ)) (r s : List Row) → HasReleased apdus r → HasReleased apdus s → r ≡ s
-released_told apdus r s h k =
+pub released_told : (columns : Columns) (apdus : List (List ℕ)) (r s : List Row) → HasReleased columns apdus r → HasReleased columns apdus s → r ≡ s
+released_told columns apdus r s h k =
     let parts = snoc h.before k.before h.answer k.answer (sym h.are ∙ k.are) in
-    has_rows_told k.before r s (subst (λ (b : List (List ℕ)). HasRows b r) parts.0 h.polled) k.polled
+    let same : h.polled.before ≡ k.polled.before =
+    before_names columns h.polled.before k.polled.before h.polled.names k.polled.names h.polled.named k.polled.named (sym h.polled.are ∙ (parts.0 ∙ k.polled.are)) in
+    has_rows_told columns k.polled.before r s (subst (λ (b : List (List ℕ)). HasRows columns b r) same h.polled.polled) k.polled.polled
 
--- the blocks before the last APDU
-blocks_before : (apdus before : List (List ℕ)) (apdu response : List ℕ) (blocks : List (List ℕ)) (t : ℕ) (i : List ℕ) → HasBlocks apdus t i → apdus ≡ before ++ apdu ∷ [] → before ≡ response ∷ blocks
-    → (n : ℕ) × (j : List ℕ) × (bytes : List ℕ) × HasBlocks before n j × IsMore n apdu bytes
-blocks_before apdus before apdu response blocks t i h e f =
-    let both : h.response ∷ h.blocks ≡ response ∷ (blocks ++ apdu ∷ []) = sym h.are ∙ (e ∙ ap (λ (b : List (List ℕ)). b ++ apdu ∷ []) f) in
-    let heads : h.response ≡ response = cc in
-    let tails : h.blocks ≡ blocks ++ apdu ∷ [] = cc in
-    let parts = blocks_last 0 blocks apdu t i (subst (λ (b : List (List ℕ)). AreBlocks 0 b t i) tails h.come) in
-    (parts.0, parts.1, parts.2, record { response = h.response; blocks = blocks; are = f ∙ ap (λ (r : List ℕ). r ∷ blocks) (sym heads); accepts = h.accepts; come = parts.3 }, parts.4)
+-- no rows stand among blocks
+pub rows_inside : (columns : Columns) (apdus before more : List (List ℕ)) (t : ℕ) (i : List ℕ) (rows : List Row) → HasBlocks columns apdus t i → HasRows columns before rows → apdus ≡ before ++ more → ⊥
+rows_inside columns apdus before more t i rows h k e =
+    let b = k.blocks in
+    let whole : h.response ∷ (h.names ++ h.blocks) ≡ b.response ∷ (b.names ++ (b.blocks ++ k.answer ∷ more)) =
+    sym h.are ∙ (e ∙ (ap (λ (l : List (List ℕ)). l ++ more) k.are ∙ (append_assoc k.before (k.answer ∷ []) more
+    ∙ (ap (λ (l : List (List ℕ)). l ++ k.answer ∷ more) b.are ∙ ap (λ (l : List (List ℕ)). b.response ∷ l) (append_assoc b.names b.blocks (k.answer ∷ more)))))) in
+    let tails : h.names ++ h.blocks ≡ b.names ++ (b.blocks ++ k.answer ∷ more) = cc in
+    let same : h.blocks ≡ b.blocks ++ k.answer ∷ more = behind_names columns h.names b.names h.blocks (b.blocks ++ k.answer ∷ more) h.named b.named tails in
+    let one = blocks_at 0 b.blocks more k.answer t i (subst (λ (l : List (List ℕ)). AreBlocks 0 l t i) same h.come) in
+    more_not_spelled one.0 k.taken k.joined one.1 (response_at k.answer) rows one.2 k.spelled
 
-blocks_not_rows : (apdus : List (List ℕ)) (t : ℕ) (i : List ℕ) (rows : List Row) → HasBlocks apdus t i → HasRows apdus rows → ⊥
-blocks_not_rows apdus t i rows h k =
-    let parts = blocks_before apdus k.before k.answer k.blocks.response k.blocks.blocks t i h k.are k.blocks.are in
-    more_not_spelled parts.0 k.taken k.joined parts.2 (response_at k.answer) rows parts.4 k.spelled
+-- nor rows before other APDUs where the last has the rows
+pub rows_before : (columns : Columns) (apdus before more : List (List ℕ)) (last : List ℕ) (r s : List Row) → HasRows columns apdus r → HasRows columns before s → apdus ≡ before ++ (more ++ last ∷ []) → ⊥
+rows_before columns apdus before more last r s h k e =
+    let parts = snoc h.before (before ++ more) h.answer last (sym h.are ∙ (e ∙ sym (append_assoc before more (last ∷ [])))) in
+    rows_inside columns h.before before more h.taken h.joined s h.blocks k parts.0
 
-blocks_not_released : (apdus : List (List ℕ)) (t : ℕ) (i : List ℕ) (rows : List Row) → HasBlocks apdus t i → HasReleased apdus rows → ⊥
-blocks_not_released apdus t i rows h k =
-    let polled = k.polled in
-    let whole : k.before ≡ polled.blocks.response ∷ (polled.blocks.blocks ++ polled.answer ∷ []) = polled.are ∙ ap (λ (b : List (List ℕ)). b ++ polled.answer ∷ []) polled.blocks.are in
-    let parts = blocks_before apdus k.before k.answer polled.blocks.response (polled.blocks.blocks ++ polled.answer ∷ []) t i h k.are whole in
-    blocks_not_rows k.before parts.0 parts.1 rows parts.3 polled
+-- the rows, and what came behind them
+released_are : (columns : Columns) (apdus : List (List ℕ)) (rows : List Row) (k : HasReleased columns apdus rows) → apdus ≡ k.polled.before ++ (k.polled.names ++ k.answer ∷ [])
+released_are columns apdus rows k = k.are ∙ (ap (λ (l : List (List ℕ)). l ++ k.answer ∷ []) k.polled.are ∙ append_assoc k.polled.before k.polled.names (k.answer ∷ []))
 
-rows_not_released : (apdus : List (List ℕ)) (r s : List Row) → HasRows apdus r → HasReleased apdus s → ⊥
-rows_not_released apdus r s h k =
-    let parts = snoc h.before k.before h.answer k.answer (sym h.are ∙ k.are) in
-    blocks_not_rows k.before h.taken h.joined s (subst (λ (b : List (List ℕ)). HasBlocks b h.taken h.joined) parts.0 h.blocks) k.polled
+accepted_not_released : (columns : Columns) (apdus : List (List ℕ)) (rows : List Row) → HasAccepted apdus → HasReleased columns apdus rows → ⊥
+accepted_not_released columns apdus rows h k =
+    let rows_are = k.polled.polled.are in
+    omega (arith, ap length (sym h.are ∙ released_are columns apdus rows k), length-append k.polled.before (k.polled.names ++ k.answer ∷ []), length-append k.polled.names (k.answer ∷ []), ap length rows_are, length-append k.polled.polled.before (k.polled.polled.answer ∷ []))
+
+named_not_released : (columns : Columns) (apdus : List (List ℕ)) (r s : List Row) → HasNamed columns apdus r → HasReleased columns apdus s → ⊥
+named_not_released Trusted apdus r s h k =
+    rows_before Trusted h.before k.polled.before k.polled.names k.answer r s h.polled k.polled.polled
+    (sym (append-nil h.before) ∙ (ap (λ (l : List (List ℕ)). h.before ++ l) (sym h.named) ∙ (sym h.are ∙ released_are Trusted apdus s k)))
+named_not_released Asked apdus r s h k =
+    let p = k.polled in
+    let parts = snoc h.before (p.before ++ p.names) h.named.0 k.answer (ap (λ (l : List (List ℕ)). h.before ++ l) (sym h.named.1) ∙ (sym h.are ∙ (k.are ∙ ap (λ (l : List (List ℕ)). l ++ k.answer ∷ []) p.are))) in
+    rows_before Asked h.before p.before [] p.named.0 r s h.polled p.polled (parts.0 ∙ ap (λ (l : List (List ℕ)). p.before ++ l) p.named.1)
 
 -- a poll whose answer to the release came waits for the link's end, with these rows
-stage_told-at : (stage : Stage) (blocks : Joining) (rows more : List Row) (apdus : List (List ℕ)) → FitsAt stage blocks rows apdus → HasReleased apdus more → (stage ≡ Leaving) × (rows ≡ more)
-stage_told-at Associating blocks rows more apdus h k = absurd (not_empty k.before k.answer (sym h.0 ∙ k.are))
-stage_told-at (Getting taken) blocks rows more apdus h k = absurd (blocks_not_released apdus taken blocks.joined more h.0 k)
-stage_told-at Releasing blocks rows more apdus h k = absurd (rows_not_released apdus rows more h k)
-stage_told-at Leaving blocks rows more apdus h k = (refl, released_told apdus rows more h k)
+stage_told-at : (columns : Columns) (stage : Stage) (blocks : Joining) (rows more : List Row) (apdus : List (List ℕ)) → FitsAt columns stage blocks rows apdus → HasReleased columns apdus more → (stage ≡ Leaving) × (rows ≡ more)
+stage_told-at columns Associating blocks rows more apdus h k = absurd (not_empty k.before k.answer (sym h.0 ∙ k.are))
+stage_told-at columns Naming blocks rows more apdus h k = absurd (accepted_not_released columns apdus more h.1 k)
+stage_told-at columns (Getting taken) blocks rows more apdus h k =
+    absurd (rows_inside columns apdus k.polled.before (k.polled.names ++ k.answer ∷ []) taken blocks.joined more h.0 k.polled.polled (released_are columns apdus more k))
+stage_told-at columns Checking blocks rows more apdus h k =
+    absurd (rows_before columns apdus k.polled.before k.polled.names k.answer rows more h.1 k.polled.polled (released_are columns apdus more k))
+stage_told-at columns Releasing blocks rows more apdus h k = absurd (named_not_released columns apdus rows more h k)
+stage_told-at columns Leaving blocks rows more apdus h k = (refl, released_told columns apdus rows more h k)
 
-pub stage_told : (stage : Stage) (blocks : Joining) (rows more : List Row) (apdus : List (List ℕ)) → FitsAt stage blocks rows apdus → HasReleased apdus more → (stage ≡ Leaving) × (rows ≡ more)
-stage_told stage blocks rows more apdus h k = stage_told-at stage blocks rows more apdus h k
+pub stage_told : (columns : Columns) (stage : Stage) (blocks : Joining) (rows more : List Row) (apdus : List (List ℕ)) → FitsAt columns stage blocks rows apdus → HasReleased columns apdus more → (stage ≡ Leaving) × (rows ≡ more)
+stage_told columns stage blocks rows more apdus h k = stage_told-at columns stage blocks rows more apdus h k

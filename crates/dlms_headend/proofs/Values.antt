@@ -8,7 +8,7 @@ use Rattle.dlms_data.specs.DateTime.{NamesSecond}
 use Rattle.dlms_headend.specs.declared.row.Row.{Row}
 use Rattle.dlms_headend.specs.Rows.{four_in, fields_in, IsRow, AreRows, IsProfile, IsEncoded, NoProfile, NoValue, NoEncoding}
 use Rattle.dlms_headend.specs.declared.poll_fault.PollFault.{PollFault}
-use Rattle.dlms_headend.specs.declared.poll_fault.PollFault.TheVariants.{Refused, Result as BadResult, Line, Protocol, Memory}
+use Rattle.dlms_headend.specs.declared.poll_fault.PollFault.TheVariants.{Refused, Result as BadResult, Line, Protocol, Columns, Memory}
 use Rattle.dlms_data.specs.Spelling.{IsSpelling}
 use Rattle.dlms_data.specs.Reading.{Fault}
 
@@ -77,6 +77,7 @@ not_encoded-at bytes v spelled one Memory h = (h.0, (v, spelled, h.1))
 not_encoded-at bytes v spelled one (Refused diagnostic) h = h
 not_encoded-at bytes v spelled one (BadResult code) h = h
 not_encoded-at bytes v spelled one Line h = h
+not_encoded-at bytes v spelled one Columns h = h
 
 pub encoded_err : {X : Type 0} (bytes : List ℕ) (v : Value) (r : Result X PollFault) → IsSpelling bytes v → ((w : Value) → IsSpelling bytes w → w ≡ v) → IfErr r (NoProfile v) → IfErr r (NoEncoding bytes)
 encoded_err bytes v (Ok x) spelled one h = tt
@@ -89,6 +90,7 @@ none_encoded bytes Memory h there = there
 none_encoded bytes (Refused diagnostic) h there = h
 none_encoded bytes (BadResult code) h there = h
 none_encoded bytes Line h there = h
+none_encoded bytes Columns h there = h
 
 pub encoded_ok : {X : Type 0} (bytes : List ℕ) (v : Value) (r : Result X PollFault) (view : X → List Row) → IsSpelling bytes v → IfOk r (λ x. IsProfile v (view x)) → IfOk r (λ x. IsEncoded bytes (view x))
 encoded_ok bytes v (Ok x) view spelled h = (v, spelled, h)

@@ -1,14 +1,16 @@
 -- What a poll asks of the meter, in the order of the requests: the association (IEC 62056-5-3, the establishment of an
--- application association), the buffer of the load profile with selective access by range (Blue Book 4.3.6,
--- range_descriptor), further blocks, and the release.
-use Rattle.std.specs.Prelude.{◌≡◌, ℕ, List, [], ◌∷◌, Option, Some, unwrap_or, pos}
+-- application association), the columns of the load profile, where they are asked for, its buffer with selective access by range
+-- (Blue Book 4.3.6, range_descriptor), further blocks, the columns again, and the release.
+use Rattle.std.specs.Prelude.{◌≡◌, ℕ, List, [], ◌∷◌, Option, Some, None, unwrap_or}
 use Rattle.dlms_frame.specs.declared.client.Client.{Client}
 use Rattle.dlms_data.specs.Building.{IsTime}
-use Rattle.dlms_data.specs.Value.{Value, array, structure, octet_string, integer, long_unsigned, none, cons}
+use Rattle.dlms_data.specs.Value.{Value, array, structure, none, cons}
 use Rattle.dlms_data.specs.declared.descriptor.Descriptor.{Descriptor}
 use Rattle.dlms_acse.specs.Writing.{aarq_bytes}
 use Rattle.dlms_apdu.specs.Forms.{get_normal, get_next}
 use Rattle.dlms_apdu.specs.Writing.{request_bytes}
+use Rattle.dlms_headend.specs.Columns.{clock_column}
+use Rattle.dlms_headend.specs.declared.plan.Columns.{Columns}
 use Rattle.dlms_data.specs.declared.date_time.TheConstants.{LAST_SECOND}
 
 -- what is polled, as a contract sees it
@@ -16,6 +18,7 @@ pub record PlanValue : Type 0 where
   pub client : Client
   pub secret : List ℕ
   pub after : Option ℕ
+  pub columns : Columns
 
 -- the invoke-id-and-priority byte
 abbrev pub invoke : ℕ
@@ -29,10 +32,12 @@ association_bytes plan = aarq_bytes plan.client plan.secret 0x007E1F 1200
 abbrev pub buffer : Descriptor
 buffer = record { class = 7; name = 1 ∷ 0 ∷ 99 ∷ 1 ∷ 0 ∷ 255 ∷ []; id = 2 }
 
--- the capture object that is the clock's time: class 8, 0.0.1.0.0.255, attribute 2, data index 0
-abbrev pub clock_column : Value
-clock_column =
-    structure (cons (long_unsigned 8) (cons (octet_string (0 ∷ 0 ∷ 1 ∷ 0 ∷ 0 ∷ 255 ∷ [])) (cons (integer (pos 2)) (cons (long_unsigned 0) none))))
+-- its columns: the capture objects, attribute 3
+abbrev pub capture_objects : Descriptor
+capture_objects = record buffer { id = 3 }
+
+abbrev pub columns_bytes : List ℕ
+columns_bytes = request_bytes (get_normal invoke capture_objects None)
 
 -- the rows from one date-time to another, with all columns
 abbrev pub range : Value → Value → Value

@@ -7,7 +7,7 @@ use Rattle.dlms_blocks.specs.Joining.{Joining}
 use Rattle.dlms_headend.specs.declared.get_answer.GetAnswer.{GetAnswer}
 use Rattle.dlms_headend.specs.declared.get_answer.GetAnswer.TheVariants.{More, Rows}
 use Rattle.dlms_headend.specs.declared.poll_fault.PollFault.{PollFault}
-use Rattle.dlms_headend.specs.declared.poll_fault.PollFault.TheVariants.{Refused, Result as BadResult, Line, Protocol, Memory}
+use Rattle.dlms_headend.specs.declared.poll_fault.PollFault.TheVariants.{Refused, Result as BadResult, Line, Protocol, Columns, Memory}
 use Rattle.dlms_headend.specs.Rows.{IsEncoded, NoEncoding, AreReadings}
 use Rattle.dlms_headend.specs.Poll.{IsMoreBy, SpellsBy, FailsBy, NeedsBy}
 
@@ -25,6 +25,7 @@ FailsOrWants taken joined read Memory = NeedsBy taken read
 FailsOrWants taken joined read (Refused diagnostic) = FailsBy taken joined read (Refused diagnostic)
 FailsOrWants taken joined read (BadResult code) = FailsBy taken joined read (BadResult code)
 FailsOrWants taken joined read Line = FailsBy taken joined read Line
+FailsOrWants taken joined read Columns = FailsBy taken joined read Columns
 FailsOrWants taken joined read Protocol = FailsBy taken joined read Protocol
 
 -- rows that an answer brought are readings

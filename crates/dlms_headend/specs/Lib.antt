@@ -3,6 +3,7 @@ pub mod Merged
 pub mod ReadingsFault
 pub mod PollFault
 pub mod Rows
+pub mod Columns
 pub mod Form
 pub mod Asking
 pub mod Poll

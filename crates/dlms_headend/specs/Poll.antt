@@ -1,6 +1,7 @@
 -- A poll of the load profile, by the APDUs that it took since its link came up: an association response that accepts, then
--- answers to GET whose data, or whose blocks joined, spell an array of rows, then the answer to the release. What it sends
--- next, and why it fails, is said of the whole list of these APDUs.
+-- answers to GET whose data, or whose blocks joined, spell an array of rows, then the answer to the release. Where the columns are
+-- asked for, an answer that tells them comes before the rows, and another one behind them. What a poll sends next, and why it
+-- fails, is said of the whole list of these APDUs.
 use Rattle.std.specs.Prelude.{◌≡◌, ℕ, ◌+◌, ◌<◌, ◌==◌, if◌then◌else◌, Bool, true, false, List, [], ◌∷◌, ◌++◌, Result, Ok, Err}
 use Rattle.dlms_acse.specs.declared.fault.AcseFault.{AcseFault}
 use Rattle.dlms_acse.specs.declared.outcome.Verdict.{Verdict}
@@ -15,7 +16,10 @@ use Rattle.dlms_headend.specs.declared.row.Row.{Row}
 use Rattle.dlms_headend.specs.declared.poll_fault.PollFault.{PollFault}
 use Rattle.dlms_headend.specs.declared.poll_fault.PollFault.TheVariants.{Refused, Result as BadResult, Protocol}
 use Rattle.dlms_headend.specs.Rows.{IsProfile, IsEncoded}
-use Rattle.dlms_headend.specs.Asking.{PlanValue, association_bytes, IsBufferRequest, next_bytes}
+use Rattle.dlms_headend.specs.Asking.{PlanValue, association_bytes, columns_bytes, IsBufferRequest, next_bytes}
+use Rattle.dlms_headend.specs.Columns.{TellsColumns, MissesColumns}
+use Rattle.dlms_headend.specs.declared.plan.Columns.{Columns}
+use Rattle.dlms_headend.specs.declared.plan.Columns.TheVariants.{Trusted, Asked}
 
 -- ---- one APDU
 
@@ -97,48 +101,74 @@ abbrev pub AreBlocks : ℕ → List (List ℕ) → ℕ → List ℕ → Type 0
 AreBlocks before [] taken joined = (taken ≡ before) × (joined ≡ [])
 AreBlocks before (apdu ∷ apdus) taken joined = (bytes : List ℕ) × (rest : List ℕ) × IsMore before apdu bytes × (joined ≡ bytes ++ rest) × AreBlocks (before + 1) apdus taken rest
 
--- the association was accepted, and then came so many blocks
-pub record HasBlocks (apdus : List (List ℕ)) (taken : ℕ) (joined : List ℕ) : Type 0 where
+-- the association was accepted
+pub record HasAccepted (apdus : List (List ℕ)) : Type 0 where
   pub response : List ℕ
-  pub blocks : List (List ℕ)
-  pub are : apdus ≡ response ∷ blocks
+  pub are : apdus ≡ response ∷ []
   pub accepts : Accepts response
+
+-- and then, where they are asked for, came an answer that tells the columns
+abbrev pub AreNamed : Columns → List (List ℕ) → Type 0
+AreNamed Trusted apdus = apdus ≡ []
+AreNamed Asked apdus = (answer : List ℕ) × (apdus ≡ answer ∷ []) × TellsColumns answer
+
+-- and then so many blocks
+pub record HasBlocks (columns : Columns) (apdus : List (List ℕ)) (taken : ℕ) (joined : List ℕ) : Type 0 where
+  pub response : List ℕ
+  pub names : List (List ℕ)
+  pub blocks : List (List ℕ)
+  pub are : apdus ≡ response ∷ (names ++ blocks)
+  pub accepts : Accepts response
+  pub named : AreNamed columns names
   pub come : AreBlocks 0 blocks taken joined
 
 -- and then the rows
-pub record HasRows (apdus : List (List ℕ)) (rows : List Row) : Type 0 where
+pub record HasRows (columns : Columns) (apdus : List (List ℕ)) (rows : List Row) : Type 0 where
   pub before : List (List ℕ)
   pub answer : List ℕ
   pub taken : ℕ
   pub joined : List ℕ
   pub are : apdus ≡ before ++ answer ∷ []
-  pub blocks : HasBlocks before taken joined
+  pub blocks : HasBlocks columns before taken joined
   pub spelled : Spells taken joined answer rows
 
+-- and then, where they are asked for, an answer that tells the columns again
+pub record HasNamed (columns : Columns) (apdus : List (List ℕ)) (rows : List Row) : Type 0 where
+  pub before : List (List ℕ)
+  pub names : List (List ℕ)
+  pub are : apdus ≡ before ++ names
+  pub polled : HasRows columns before rows
+  pub named : AreNamed columns names
+
 -- and then the answer to the release
-pub record HasReleased (apdus : List (List ℕ)) (rows : List Row) : Type 0 where
+pub record HasReleased (columns : Columns) (apdus : List (List ℕ)) (rows : List Row) : Type 0 where
   pub before : List (List ℕ)
   pub answer : List ℕ
   pub are : apdus ≡ before ++ answer ∷ []
-  pub polled : HasRows before rows
+  pub polled : HasNamed columns before rows
   pub released : is_release answer ≡ true
 
--- what a poll sends once it took these: an association request, a GET of the buffer, a GET of the next block, a release
+-- what a poll sends once it took these: an association request, a GET of the columns, a GET of the buffer, a GET of the next block,
+-- a GET of the columns again, a release
 pub data Asks (plan : PlanValue) (apdus : List (List ℕ)) (apdu : List ℕ) : Type 0 where
   associates : apdus ≡ [] → apdu ≡ association_bytes plan → Asks plan apdus apdu
-  gets : (joined : List ℕ) → HasBlocks apdus 0 joined → IsBufferRequest plan.after apdu → Asks plan apdus apdu
-  goes_on : (taken : ℕ) (joined : List ℕ) → 0 < taken → HasBlocks apdus taken joined → apdu ≡ next_bytes taken → Asks plan apdus apdu
-  releases : (rows : List Row) → HasRows apdus rows → apdu ≡ release_request → Asks plan apdus apdu
+  names : plan.columns ≡ Asked → HasAccepted apdus → apdu ≡ columns_bytes → Asks plan apdus apdu
+  gets : (joined : List ℕ) → HasBlocks plan.columns apdus 0 joined → IsBufferRequest plan.after apdu → Asks plan apdus apdu
+  goes_on : (taken : ℕ) (joined : List ℕ) → 0 < taken → HasBlocks plan.columns apdus taken joined → apdu ≡ next_bytes taken → Asks plan apdus apdu
+  checks : (rows : List Row) → plan.columns ≡ Asked → HasRows plan.columns apdus rows → apdu ≡ columns_bytes → Asks plan apdus apdu
+  releases : (rows : List Row) → HasNamed plan.columns apdus rows → apdu ≡ release_request → Asks plan apdus apdu
 
 -- memory may be wanting for the last of these
-pub record Needs (before : List (List ℕ)) (apdu : List ℕ) : Type 0 where
+pub record Needs (columns : Columns) (before : List (List ℕ)) (apdu : List ℕ) : Type 0 where
   pub taken : ℕ
   pub joined : List ℕ
-  pub blocks : HasBlocks before taken joined
+  pub blocks : HasBlocks columns before taken joined
   pub needs : NeedsBy taken (response_at apdu)
 
 -- why the last of these ends a poll that had taken the others
-pub data Refuses (before : List (List ℕ)) (apdu : List ℕ) (fault : PollFault) : Type 0 where
-  denied : before ≡ [] → Denies apdu fault → Refuses before apdu fault
-  unanswered : (taken : ℕ) (joined : List ℕ) → HasBlocks before taken joined → Fails taken joined apdu fault → Refuses before apdu fault
-  unreleased : (rows : List Row) → HasRows before rows → is_release apdu ≡ false → fault ≡ other_fault apdu → Refuses before apdu fault
+pub data Refuses (columns : Columns) (before : List (List ℕ)) (apdu : List ℕ) (fault : PollFault) : Type 0 where
+  denied : before ≡ [] → Denies apdu fault → Refuses columns before apdu fault
+  unnamed : columns ≡ Asked → HasAccepted before → MissesColumns apdu fault → Refuses columns before apdu fault
+  unanswered : (taken : ℕ) (joined : List ℕ) → HasBlocks columns before taken joined → Fails taken joined apdu fault → Refuses columns before apdu fault
+  unchecked : (rows : List Row) → columns ≡ Asked → HasRows columns before rows → MissesColumns apdu fault → Refuses columns before apdu fault
+  unreleased : (rows : List Row) → HasNamed columns before rows → is_release apdu ≡ false → fault ≡ other_fault apdu → Refuses columns before apdu fault

@@ -43,19 +43,19 @@ abbrev pub GoesOn : Poll → ClientRecord → List (List ℕ) → Result PollSte
 GoesOn p link taken (Ok step.Nothing) now = ⊥
 GoesOn p link taken (Ok (step.Send frame)) now = (new : ClientRecord) × Goes p.plan taken link frame new × (now ≡ record p { link = new; taken = taken })
 GoesOn p link taken (Ok step.Done) now = ⊥
-GoesOn p link taken (Err fault) now = (fault ≡ Memory) × WantsRequest taken × (now ≡ failed p link fault)
+GoesOn p link taken (Err fault) now = (fault ≡ Memory) × WantsRequest p.plan.columns taken × (now ≡ failed p link fault)
 
 -- the next APDU is taken, and the poll goes on; or that APDU ends it
 abbrev pub Takes : Poll → ClientRecord → Result PollStep PollFault → Poll → Type 0
 Takes p link result now =
     GoesOn p link (p.taken ++ link.apdu ∷ []) result now
-    ⊎ ((fault : PollFault) × Ends p.taken link.apdu fault × (result ≡ Err fault) × (now ≡ failed p link fault))
+    ⊎ ((fault : PollFault) × Ends p.plan.columns p.taken link.apdu fault × (result ≡ Err fault) × (now ≡ failed p link fault))
 
 -- the link goes down: the poll is done exactly where the answer to the release came, and has the rows that its APDUs tell
 abbrev pub GoesDown : Poll → ClientRecord → Result PollStep PollFault → Poll → Type 0
 GoesDown p link result now =
-    ((rows : List Row) × HasReleased p.taken rows × (result ≡ Ok step.Done) × (now ≡ record p { link = link; course = Done; rows = rows }))
-    ⊎ (((rows : List Row) → HasReleased p.taken rows → ⊥) × (result ≡ Err Protocol) × (now ≡ failed p link Protocol))
+    ((rows : List Row) × HasReleased p.plan.columns p.taken rows × (result ≡ Ok step.Done) × (now ≡ record p { link = link; course = Done; rows = rows }))
+    ⊎ (((rows : List Row) → HasReleased p.plan.columns p.taken rows → ⊥) × (result ≡ Err Protocol) × (now ≡ failed p link Protocol))
 
 -- a frame, by what the link makes of it
 abbrev pub Hears : ClientOut → Poll → ClientRecord → Result PollStep PollFault → Poll → Type 0
@@ -131,6 +131,7 @@ pub record IsAt (v : PollerValue) (p : Poll) : Type 0 where
 abbrev pub CallsAreAPoll : Type 0
 CallsAreAPoll = (plan : PlanValue) (calls : List Call) (new : PollerValue) → Calls (fresh_poll plan) calls new → (p : Poll) × PollRun (first_poll plan) calls p × IsAt new p
 
--- And one that is done took an acceptance, answers that spell its rows, and the answer to the release.
+-- And one that is done took an acceptance, answers that spell its rows, behind and before answers that tell the columns where its
+-- plan asks for them, and the answer to the release.
 abbrev pub DoneIsTold : Type 0
-DoneIsTold = (plan : PlanValue) (calls : List Call) (p : Poll) → PollRun (first_poll plan) calls p → p.course ≡ Done → HasReleased p.taken p.rows
+DoneIsTold = (plan : PlanValue) (calls : List Call) (p : Poll) → PollRun (first_poll plan) calls p → p.course ≡ Done → HasReleased plan.columns p.taken p.rows

@@ -8,7 +8,7 @@ use Rattle.dlms_link.specs.declared.phase.Phase.TheVariants.{Connecting, Open, C
 use Rattle.dlms_link.specs.declared.out.ClientOut.{ClientOut}
 use Rattle.dlms_link.specs.declared.out.ClientOut.TheVariants as out
 use Rattle.dlms_headend.specs.declared.stage.Stage.{Stage}
-use Rattle.dlms_headend.specs.declared.stage.Stage.TheVariants.{Associating, Getting, Releasing, Leaving}
+use Rattle.dlms_headend.specs.declared.stage.Stage.TheVariants.{Associating, Naming, Getting, Checking, Releasing, Leaving}
 use Rattle.dlms_headend.specs.declared.stage.Course.{Course}
 use Rattle.dlms_headend.specs.declared.stage.Course.TheVariants.{Ready, Running, Done, Failed}
 use Rattle.dlms_headend.specs.declared.step.PollStep.{PollStep}
@@ -16,10 +16,11 @@ use Rattle.dlms_headend.specs.declared.step.PollStep.TheVariants as step
 use Rattle.dlms_headend.specs.declared.poll_fault.PollFault.{PollFault}
 use Rattle.dlms_headend.specs.declared.poll_fault.PollFault.TheVariants.{Line, Protocol, Memory}
 use Rattle.dlms_headend.specs.declared.row.Row.{Row}
-use Rattle.dlms_headend.specs.Asking.{PlanValue, association_bytes, IsBufferRequest, next_bytes}
+use Rattle.dlms_headend.specs.Asking.{PlanValue, association_bytes, columns_bytes, IsBufferRequest, next_bytes}
 use Rattle.dlms_headend.specs.Poll.{HasBlocks, HasReleased, Asks}
 use Rattle.dlms_headend.specs.Talk.{fresh_talk, FitsTalk, Ends}
 use Rattle.dlms_headend.specs.PollerValue.{PollerValue}
+use Rattle.dlms_headend.specs.declared.plan.Columns.{Columns}
 use Rattle.dlms_link.specs.declared.kept.TheConstants.{MOST_APDU}
 
 -- a poll that begins
@@ -39,6 +40,8 @@ IsGet plan taken apdu = ((taken ≡ 0) × IsBufferRequest plan.after apdu) ⊎ (
 -- what goes out at this stage
 abbrev pub IsDue : PlanValue → Stage → ClientRecord → Parts → ClientRecord → Type 0
 IsDue plan Associating link frame new = Gives link (association_bytes plan) frame new
+IsDue plan Naming link frame new = Gives link columns_bytes frame new
+IsDue plan Checking link frame new = Gives link columns_bytes frame new
 IsDue plan (Getting taken) link frame new = (apdu : List ℕ) × IsGet plan taken apdu × Gives link apdu frame new
 IsDue plan Releasing link frame new = Gives link release_request frame new
 IsDue plan Leaving link frame new = (frame ≡ disc_of link) × (new ≡ client_disconnect link)
@@ -46,22 +49,24 @@ IsDue plan Leaving link frame new = (frame ≡ disc_of link) × (new ≡ client_
 -- what a poll sends once it took these APDUs: the APDU that it asks, or the link's end
 pub data Goes (plan : PlanValue) (apdus : List (List ℕ)) (link : ClientRecord) (frame : Parts) (new : ClientRecord) : Type 0 where
   asks : (apdu : List ℕ) → Asks plan apdus apdu → Gives link apdu frame new → Goes plan apdus link frame new
-  leaves : (rows : List Row) → HasReleased apdus rows → frame ≡ disc_of link → new ≡ client_disconnect link → Goes plan apdus link frame new
+  leaves : (rows : List Row) → HasReleased plan.columns apdus rows → frame ≡ disc_of link → new ≡ client_disconnect link → Goes plan apdus link frame new
 
 -- ---- where a poll stands
 
 -- where the link stands
 abbrev pub StandsAt : Stage → Phase → Type 0
 StandsAt Associating phase = (phase ≡ Connecting) ⊎ (phase ≡ Open)
+StandsAt Naming phase = phase ≡ Open
 StandsAt (Getting taken) phase = phase ≡ Open
+StandsAt Checking phase = phase ≡ Open
 StandsAt Releasing phase = phase ≡ Open
 StandsAt Leaving phase = phase ≡ Closing
 
 -- a poll that took these APDUs since its link came up
 abbrev pub FitsIn : Course → PollerValue → List (List ℕ) → Type 0
 FitsIn Ready p apdus = (p.link ≡ fresh_client p.plan.client) × (p.talk ≡ fresh_talk) × (apdus ≡ [])
-FitsIn Running p apdus = FitsTalk p.talk apdus × StandsAt p.talk.stage p.link.phase
-FitsIn Done p apdus = HasReleased apdus p.talk.rows
+FitsIn Running p apdus = FitsTalk p.plan.columns p.talk apdus × StandsAt p.talk.stage p.link.phase
+FitsIn Done p apdus = HasReleased p.plan.columns apdus p.talk.rows
 FitsIn (Failed fault) p apdus = Unit {0}
 
 abbrev pub Fits : PollerValue → List (List ℕ) → Type 0
@@ -88,16 +93,16 @@ pub record SendsOn (plan : PlanValue) (apdus : List (List ℕ)) (link : ClientRe
   pub keeps : new.plan ≡ plan
   pub fits : Fits new apdus
 
--- memory may be wanting for a GET
-abbrev pub WantsRequest : List (List ℕ) → Type 0
-WantsRequest apdus = (taken : ℕ) × (joined : List ℕ) × HasBlocks apdus taken joined
+-- memory may be wanting for a GET of the buffer
+abbrev pub WantsRequest : Columns → List (List ℕ) → Type 0
+WantsRequest columns apdus = (taken : ℕ) × (joined : List ℕ) × HasBlocks columns apdus taken joined
 
 -- a poll goes on once it took these APDUs
 abbrev pub Continues : PollerValue → List (List ℕ) → Result PollStep PollFault → PollerValue → Type 0
 Continues at apdus (Ok step.Nothing) new = ⊥
 Continues at apdus (Ok (step.Send frame)) new = SendsOn at.plan apdus at.link frame new
 Continues at apdus (Ok step.Done) new = ⊥
-Continues at apdus (Err fault) new = (fault ≡ Memory) × WantsRequest apdus × (new ≡ record at { course = Failed fault })
+Continues at apdus (Err fault) new = (fault ≡ Memory) × WantsRequest at.plan.columns apdus × (new ≡ record at { course = Failed fault })
 
 -- the link hands up the next APDU
 abbrev pub Answers : PollerValue → List (List ℕ) → Result PollStep PollFault → PollerValue → Type 0
@@ -105,7 +110,7 @@ Answers at apdus (Ok step.Nothing) new = ⊥
 Answers at apdus (Ok (step.Send frame)) new = SendsOn at.plan (apdus ++ at.link.apdu ∷ []) at.link frame new
 Answers at apdus (Ok step.Done) new = ⊥
 Answers at apdus (Err fault) new =
-    (Ends apdus at.link.apdu fault ⊎ ((fault ≡ Memory) × WantsRequest (apdus ++ at.link.apdu ∷ []))) × IsFailed at fault new
+    (Ends at.plan.columns apdus at.link.apdu fault ⊎ ((fault ≡ Memory) × WantsRequest at.plan.columns (apdus ++ at.link.apdu ∷ []))) × IsFailed at fault new
 
 -- the link goes down: as the poll asked for, or against it
 pub record IsDone (at : PollerValue) (result : Result PollStep PollFault) (new : PollerValue) : Type 0 where
@@ -114,6 +119,8 @@ pub record IsDone (at : PollerValue) (result : Result PollStep PollFault) (new :
 
 abbrev pub GoesDown : Stage → PollerValue → Result PollStep PollFault → PollerValue → Type 0
 GoesDown Associating at result new = HasFailed at Protocol result new
+GoesDown Naming at result new = HasFailed at Protocol result new
+GoesDown Checking at result new = HasFailed at Protocol result new
 GoesDown (Getting taken) at result new = HasFailed at Protocol result new
 GoesDown Releasing at result new = HasFailed at Protocol result new
 GoesDown Leaving at result new = IsDone at result new

@@ -6,7 +6,7 @@ use Rattle.dlms_data.specs.Spelling.{IsSpelling}
 use Rattle.dlms_data.specs.Value.{Value, Values, array, structure, octet_string, double_long_unsigned, none, cons}
 use Rattle.dlms_headend.specs.declared.row.Row.{Row}
 use Rattle.dlms_headend.specs.declared.poll_fault.PollFault.{PollFault}
-use Rattle.dlms_headend.specs.declared.poll_fault.PollFault.TheVariants.{Refused, Result as BadResult, Line, Protocol, Memory}
+use Rattle.dlms_headend.specs.declared.poll_fault.PollFault.TheVariants.{Refused, Result as BadResult, Line, Protocol, Columns, Memory}
 use Rattle.dlms_data.specs.declared.date_time.TheConstants.{LAST_SECOND}
 
 abbrev pub on_some : {A B : Type 0} → Option A → (A → Option B) → Option B
@@ -75,6 +75,7 @@ Without are needs Memory = needs
 Without are needs (Refused diagnostic) = ⊥
 Without are needs (BadResult code) = ⊥
 Without are needs Line = ⊥
+Without are needs Columns = ⊥
 
 abbrev pub NoRows : Values → PollFault → Type 0
 NoRows vs fault = Without (AreRows vs) ((rows : List Row) × AreRows vs rows) fault
@@ -89,6 +90,7 @@ NoValue bytes Memory = (v : Value) × IsSpelling bytes v
 NoValue bytes (Refused diagnostic) = ⊥
 NoValue bytes (BadResult code) = ⊥
 NoValue bytes Line = ⊥
+NoValue bytes Columns = ⊥
 
 abbrev pub NoEncoding : List ℕ → PollFault → Type 0
 NoEncoding bytes fault = Without (IsEncoded bytes) ((rows : List Row) × IsEncoded bytes rows) fault

@@ -2,7 +2,8 @@
 
 ghost use Rattle.std.specs.Prelude.{◌≡◌, ◌≤◌, ◌<◌, ◌^◌, length, IfOk, IfSome};
 ghost use Rattle.dlms_data.specs.View.{value_of};
-ghost use Rattle.dlms_headend.specs.Asking.{clock_column, first_second, range, next_bytes, buffer_bytes, IsRange, IsBufferRequest};
+ghost use Rattle.dlms_headend.specs.Asking.{columns_bytes, first_second, range, next_bytes, buffer_bytes, IsRange, IsBufferRequest};
+ghost use Rattle.dlms_headend.specs.Columns.{clock_column};
 ghost use Rattle.dlms_link.specs.declared.kept.TheConstants.{MOST_APDU};
 
 use dlms_apdu::{Request, write_request};
@@ -20,7 +21,7 @@ const BUFFER: Descriptor = Descriptor {
 };
 
 /// The clock's logical name.
-const CLOCK: [u8; 6] = [0, 0, 1, 0, 0, 255];
+pub const CLOCK: [u8; 6] = [0, 0, 1, 0, 0, 255];
 
 /// The column of the clock's time: class, logical name, attribute and data index.
 fn column<A: Allocator + Copy>(alloc: A) -> Result<Data<A>, AllocError>
@@ -76,6 +77,15 @@ pub fn buffer_request<A: Allocator + Copy>(
 {
     let request = range_request(alloc, after)?;
     Ok(request)
+}
+
+/// The GET of the load profile's capture objects: class 7, 1.0.99.1.0.255, attribute 3, no selector. It takes no memory.
+pub fn columns_request() -> [u8; 13]
+    ensures { result ≡ columns_bytes }
+{
+    [
+        0xc0, 0x01, INVOKE, 0x00, 0x07, 1, 0, 99, 1, 0, 255, 0x03, 0x00,
+    ]
 }
 
 /// The GET of the block behind the one with this number.

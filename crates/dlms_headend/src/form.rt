@@ -9,7 +9,7 @@ ghost use Rattle.dlms_headend.specs.declared.row.Row.{Row as RowOf};
 
 use dlms_data::{is_value, secs, span};
 
-const ARRAY: u8 = 0x01;
+pub const ARRAY: u8 = 0x01;
 
 const STRUCTURE: u8 = 0x02;
 
@@ -18,7 +18,7 @@ const DOUBLE_LONG_UNSIGNED: u8 = 0x06;
 const OCTET_STRING: u8 = 0x09;
 
 /// Whether the bytes begin with this tag.
-fn begins(tag: u8, bytes: &[u8]) -> bool
+pub fn begins(tag: u8, bytes: &[u8]) -> bool
     ensures { result ≡ begins tag bytes.now }
 {
     match bytes {
@@ -28,7 +28,7 @@ fn begins(tag: u8, bytes: &[u8]) -> bool
 }
 
 /// What stands behind a tag and a length.
-fn body(bytes: &[u8]) -> &[u8]
+pub fn body(bytes: &[u8]) -> &[u8]
     ensures { result.now ≡ body_of bytes.now }
 {
     match bytes {
@@ -57,7 +57,7 @@ fn front(bytes: &[u8]) -> Option<(&[u8], &[u8])>
 }
 
 /// The bytes of four values, which are all that stand here.
-fn four(bytes: &[u8]) -> Option<(&[u8], &[u8], &[u8], &[u8])>
+pub fn four(bytes: &[u8]) -> Option<(&[u8], &[u8], &[u8], &[u8])>
     ensures { (vs : Values) → StandIn bytes.now vs
         → MatchOption result (four_in (structure vs) ≡ None) (λ x. IsFour (structure vs) x.0.now x.1.now x.2.now x.3.now) }
 {
@@ -80,7 +80,7 @@ fn four(bytes: &[u8]) -> Option<(&[u8], &[u8], &[u8], &[u8])>
 }
 
 /// The bytes of the four values of a structure.
-fn parts(bytes: &[u8]) -> Option<(&[u8], &[u8], &[u8], &[u8])>
+pub fn parts(bytes: &[u8]) -> Option<(&[u8], &[u8], &[u8], &[u8])>
     ensures { (v : Value) → IsSpelling bytes.now v
         → MatchOption result (four_in v ≡ None) (λ x. IsFour v x.0.now x.1.now x.2.now x.3.now) }
 {
@@ -91,7 +91,7 @@ fn parts(bytes: &[u8]) -> Option<(&[u8], &[u8], &[u8], &[u8])>
 }
 
 /// The octets of an octet-string.
-fn octets(bytes: &[u8]) -> Option<&[u8]>
+pub fn octets(bytes: &[u8]) -> Option<&[u8]>
     ensures { (v : Value) → IsSpelling bytes.now v → option_map (λ octets. octets.now) result ≡ octets_in v }
 {
     if !begins(OCTET_STRING, bytes) {

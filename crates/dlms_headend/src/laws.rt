@@ -1,6 +1,7 @@
 //! What holds of every poll. Nobody needs to call these functions: their contracts are the laws.
 
 ghost use Rattle.std.specs.Prelude.{◌≡◌, List, ℕ};
+ghost use Rattle.dlms_headend.specs.declared.plan.Columns.{Columns};
 ghost use Rattle.dlms_headend.specs.declared.row.Row.{Row};
 ghost use Rattle.dlms_headend.specs.Poll.{HasReleased};
 ghost use Rattle.dlms_headend.specs.PollRun.{CallsAreAPoll, DoneIsTold};
@@ -8,11 +9,12 @@ ghost use Rattle.dlms_headend.specs.declared.answer.TheConstants.{EXCEPTION};
 
 /// The APDUs that a poll took tell its rows.
 pub fn rows_are_told()
-    ensures { (apdus : List (List ℕ)) (rows more : List Row) → HasReleased apdus rows → HasReleased apdus more → rows ≡ more }
+    ensures { (columns : Columns) (apdus : List (List ℕ)) (rows more : List Row) → HasReleased columns apdus rows → HasReleased columns apdus more → rows ≡ more }
 {}
 
 /// The calls of a poller, from a new one on, in any order and with any frames, are a poll. One is done exactly where its link goes
-/// down behind an acceptance, answers that spell the rows, and the answer to the release; and it has those rows.
+/// down behind an acceptance, answers that spell the rows, and the answer to the release; and it has those rows. Where its plan
+/// asks for the columns, an answer that tells them came before the rows, and another one behind them.
 pub fn calls_are_a_poll()
     ensures run { CallsAreAPoll }
     ensures done { DoneIsTold }

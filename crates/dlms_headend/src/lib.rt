@@ -4,6 +4,8 @@
 mod answer;
 mod asking;
 mod buffer;
+mod capture_objects;
+mod columns_form;
 mod form;
 mod get_answer;
 pub mod laws;
@@ -19,7 +21,7 @@ mod stage;
 mod step;
 mod talk;
 
-pub use plan::Plan;
+pub use plan::{Columns, Plan};
 pub use poll_fault::PollFault;
 pub use poller::Poller;
 pub use readings::Readings;

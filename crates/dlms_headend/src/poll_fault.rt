@@ -22,13 +22,16 @@ pub enum PollFault {
     /// The link went down before the poll asked for that, or an answer had another form than the awaited one.
     #[error("protocol")]
     Protocol,
+    /// The load profile has other columns than the clock and the three registers, in their order.
+    #[error("protocol")]
+    Columns,
     /// A growth was refused.
     #[error("memory")]
     Memory,
 }
 
 impl PollFault {
-    /// The fault's number, from 1 for `Refused` to 5 for `Memory`.
+    /// The fault's number, from 1 for `Refused` to 5 for `Memory`; other columns are a fault of the protocol, 4.
     pub fn number(self) -> u8
         ensures { result ≡ number_of self }
     {
@@ -36,7 +39,7 @@ impl PollFault {
             PollFault::Refused(_) => 1,
             PollFault::Result(_) => 2,
             PollFault::Line => 3,
-            PollFault::Protocol => 4,
+            PollFault::Protocol | PollFault::Columns => 4,
             PollFault::Memory => 5,
         }
     }

@@ -15,7 +15,7 @@ ghost use Rattle.dlms_headend.specs.Talk.{FitsTalk, CanTake, IsGetting};
 ghost use Rattle.dlms_headend.specs.Polling.{IsDone, fresh_poll, IsGet, IsDue, Fits, FitsIn, Begins, TimesOut, CanTimeOut, HasFailed, Continues, Answers, GoesDown, PollsEarly, PollsBy, Polls, with_link};
 ghost use Rattle.dlms_link.specs.declared.kept.TheConstants.{MOST_APDU};
 
-use crate::asking::{buffer_request, next_request};
+use crate::asking::{buffer_request, columns_request, next_request};
 use crate::plan::Plan;
 use crate::poll_fault::PollFault;
 use crate::row::Row;
@@ -36,7 +36,8 @@ const PROPOSED: Conformance = Conformance(0x007e1f);
 /// The size in bytes of the largest APDU that the poller receives.
 const SIZE: u16 = 1200;
 
-/// A poll of the load profile: it connects, associates, reads the buffer, releases and disconnects.
+/// A poll of the load profile: it connects, associates, reads the columns where its plan asks for them, the buffer, and the columns
+/// again, releases and disconnects.
 #[derive(Drop)]
 pub struct Poller<A: Allocator = Global> {
     alloc: A,
@@ -93,6 +94,7 @@ fn due<A: Allocator + Copy>(
 {
     match stage {
         Stage::Associating => Ok(link.send(association(plan).as_slice())),
+        Stage::Naming | Stage::Checking => Ok(link.send(columns_request().as_slice())),
         Stage::Getting(taken) => {
             let request = get_request(alloc, plan, taken)?;
             Ok(link.send(&request))
@@ -137,10 +139,11 @@ impl<A: Allocator + Copy> Poller<A> {
     pub fn on(&mut self, frame: &Frame) -> Result<PollStep, PollFault>
         // Frame by frame, whatever APDUs were taken so far.
         ensures polls { (apdus : List (List ℕ)) → Fits self.old apdus → Polls apdus frame.now self.old result self.new }
-        // It is done only where these were an acceptance, answers that spell the rows, and the answer to the release.
-        ensures done { (apdus : List (List ℕ)) → Fits self.old apdus → result ≡ Ok Done → HasReleased apdus self.new.talk.rows }
+        // It is done only where these were an acceptance, answers that spell the rows, and the answer to the release; and where the
+        // plan asks for the columns, an answer that tells them before the rows and one behind them.
+        ensures done { (apdus : List (List ℕ)) → Fits self.old apdus → result ≡ Ok Done → HasReleased self.old.plan.columns apdus self.new.talk.rows }
         // And it is done where they are, once the link goes down.
-        ensures is_done { (apdus : List (List ℕ)) (rows : List RowOf) → Fits self.old apdus → self.old.course ≡ Running → HasReleased apdus rows
+        ensures is_done { (apdus : List (List ℕ)) (rows : List RowOf) → Fits self.old apdus → self.old.course ≡ Running → HasReleased self.old.plan.columns apdus rows
             → (client_step self.old.link frame.now).1 ≡ Down → IsDone (with_link self.old (client_step self.old.link frame.now).0) result self.new × (self.new.talk.rows ≡ rows) }
     {
         self.turn(frame)
@@ -149,7 +152,7 @@ impl<A: Allocator + Copy> Poller<A> {
     /// A frame, wherever the poll stands.
     fn turn(&mut self, frame: &Frame) -> Result<PollStep, PollFault>
         ensures polls { (apdus : List (List ℕ)) → Fits self.old apdus → Polls apdus frame.now self.old result self.new }
-        ensures done { (apdus : List (List ℕ)) → Fits self.old apdus → result ≡ Ok Done → HasReleased apdus self.new.talk.rows }
+        ensures done { (apdus : List (List ℕ)) → Fits self.old apdus → result ≡ Ok Done → HasReleased self.old.plan.columns apdus self.new.talk.rows }
     {
         match self.course {
             Course::Failed(fault) => Err(fault),
@@ -197,7 +200,7 @@ impl<A: Allocator + Copy> Poller<A> {
     fn go_on(&mut self) -> Result<PollStep, PollFault>
         requires running { self.old.course ≡ Running }
         requires idle { IsIdle self.old.link }
-        ensures continues { (apdus : List (List ℕ)) → FitsTalk self.old.talk apdus → Continues self.old apdus result self.new }
+        ensures continues { (apdus : List (List ℕ)) → FitsTalk self.old.plan.columns self.old.talk apdus → Continues self.old apdus result self.new }
         ensures getting { IfErr result (λ _. IsGetting self.old.talk.stage) }
     {
         match due(self.alloc, &self.plan, &mut self.link, self.talk.stage()) {
@@ -210,10 +213,10 @@ impl<A: Allocator + Copy> Poller<A> {
     fn take(&mut self) -> Result<PollStep, PollFault>
         requires running { self.old.course ≡ Running }
         requires idle { IsIdle self.old.link }
-        ensures { (apdus : List (List ℕ)) → FitsTalk self.old.talk apdus → CanTake self.old.talk.stage
+        ensures { (apdus : List (List ℕ)) → FitsTalk self.old.plan.columns self.old.talk apdus → CanTake self.old.talk.stage
             → Answers self.old apdus result self.new }
     {
-        match self.talk.take(self.link.apdu()) {
+        match self.talk.take(self.plan.columns, self.link.apdu()) {
             Ok(()) => self.go_on(),
             Err(fault) => self.fail(fault),
         }
@@ -259,6 +262,13 @@ impl<A: Allocator + Copy> Poller<A> {
             Course::Failed(_) => true,
             _ => self.link.is_waiting(),
         }
+    }
+
+    /// The APDU that the link handed up last; none before the first.
+    pub fn answer(&self) -> &[u8]
+        ensures { result.now ≡ self.now.link.apdu }
+    {
+        self.link.apdu()
     }
 
     /// The rows that were polled; none before they are there. Each is a reading: its clock is one of the meter's.

@@ -75,7 +75,7 @@ fn result_of(taken: u32, code: u8) -> PollFault
 }
 
 /// What stands behind the first four bytes.
-fn behind_head(apdu: &[u8]) -> &[u8]
+pub fn behind_head(apdu: &[u8]) -> &[u8]
     ensures { result.now ≡ drop 4 apdu.now }
 {
     if apdu.len() < 4 {

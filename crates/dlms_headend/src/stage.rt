@@ -7,8 +7,12 @@ use crate::poll_fault::PollFault;
 pub enum Stage {
     /// The answer to the association request.
     Associating,
-    /// The answer to a GET, after so many blocks.
+    /// The answer to the first GET of the columns.
+    Naming,
+    /// The answer to a GET of the buffer, after so many blocks.
     Getting(u32),
+    /// The answer to the second GET of the columns.
+    Checking,
     /// The answer to the release.
     Releasing,
     /// The link's end.

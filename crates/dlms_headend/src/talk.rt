@@ -1,12 +1,14 @@
 //! What the answers have brought.
 
 ghost use Rattle.std.specs.Prelude.{◌≡◌, ◌++◌, ◌∷◌, [], List, ℕ};
-ghost use Rattle.dlms_headend.specs.declared.stage.Stage.TheVariants.{Getting};
+ghost use Rattle.dlms_headend.specs.declared.stage.Stage.TheVariants.{Associating, Naming, Getting, Checking};
 ghost use Rattle.dlms_headend.specs.Rows.{AreReadings};
-ghost use Rattle.dlms_headend.specs.Talk.{fresh_talk, FitsTalk, CanTake, Takes};
+ghost use Rattle.dlms_headend.specs.Talk.{fresh_talk, behind_acceptance, behind_rows, FitsTalk, CanTake, Takes};
 
 use crate::answer::{associated, released};
+use crate::capture_objects::told;
 use crate::get_answer::GetAnswer;
+use crate::plan::Columns;
 use crate::poll_fault::PollFault;
 use crate::read_get_answer::heard;
 use crate::row::Row;
@@ -33,6 +35,26 @@ impl<A: Allocator> Model for Talk<A> {
     ghost view = { λ t. record { stage = t.stage; blocks = t.blocks; rows = t.rows.items } };
 
     ghost invariant = { λ t. AreReadings t.rows.items };
+}
+
+/// What is awaited behind the acceptance.
+fn behind_acceptance(columns: Columns) -> Stage
+    ensures { result ≡ behind_acceptance columns }
+{
+    match columns {
+        Columns::Trusted => Stage::Getting(0),
+        Columns::Asked => Stage::Naming,
+    }
+}
+
+/// What is awaited behind the rows.
+fn behind_rows(columns: Columns) -> Stage
+    ensures { result ≡ behind_rows columns }
+{
+    match columns {
+        Columns::Trusted => Stage::Releasing,
+        Columns::Asked => Stage::Checking,
+    }
 }
 
 impl<A: Allocator + Copy> Talk<A> {
@@ -63,10 +85,49 @@ impl<A: Allocator + Copy> Talk<A> {
         &self.rows
     }
 
-    /// An answer to a GET, after so many blocks.
+    /// The answer to the association request.
+    fn associate(&mut self, columns: Columns, apdu: &[u8]) -> Result<(), PollFault>
+        ensures { (apdus : List (List ℕ)) → FitsTalk columns self.old apdus → self.old.stage ≡ Associating → Takes columns self.old apdus apdu.now result self.new }
+    {
+        match associated(apdu) {
+            Ok(()) => {
+                self.stage = behind_acceptance(columns);
+                Ok(())
+            }
+            Err(fault) => Err(fault),
+        }
+    }
+
+    /// The answer to the first GET of the columns.
+    fn name(&mut self, columns: Columns, apdu: &[u8]) -> Result<(), PollFault>
+        ensures { (apdus : List (List ℕ)) → FitsTalk columns self.old apdus → self.old.stage ≡ Naming → Takes columns self.old apdus apdu.now result self.new }
+    {
+        match told(self.alloc, apdu) {
+            Ok(()) => {
+                self.stage = Stage::Getting(0);
+                Ok(())
+            }
+            Err(fault) => Err(fault),
+        }
+    }
+
+    /// The answer to the second one.
+    fn check(&mut self, columns: Columns, apdu: &[u8]) -> Result<(), PollFault>
+        ensures { (apdus : List (List ℕ)) → FitsTalk columns self.old apdus → self.old.stage ≡ Checking → Takes columns self.old apdus apdu.now result self.new }
+    {
+        match told(self.alloc, apdu) {
+            Ok(()) => {
+                self.stage = Stage::Releasing;
+                Ok(())
+            }
+            Err(fault) => Err(fault),
+        }
+    }
+
+    /// An answer to a GET of the buffer, after so many blocks.
     #[tactic(auto, using(crate::proofs::TalkLemmas::block_taken, crate::proofs::TalkLemmas::rows_taken, crate::proofs::TalkLemmas::get_ends))]
-    fn hear(&mut self, taken: u32, apdu: &[u8]) -> Result<(), PollFault>
-        ensures { (apdus : List (List ℕ)) → FitsTalk self.old apdus → self.old.stage ≡ Getting taken → Takes self.old apdus apdu.now result self.new }
+    fn hear(&mut self, columns: Columns, taken: u32, apdu: &[u8]) -> Result<(), PollFault>
+        ensures { (apdus : List (List ℕ)) → FitsTalk columns self.old apdus → self.old.stage ≡ Getting taken → Takes columns self.old apdus apdu.now result self.new }
     {
         match heard(self.alloc, taken, &mut self.blocks, apdu) {
             Ok(GetAnswer::More(number)) => {
@@ -74,7 +135,7 @@ impl<A: Allocator + Copy> Talk<A> {
                 Ok(())
             }
             Ok(GetAnswer::Rows(rows)) => {
-                self.stage = Stage::Releasing;
+                self.stage = behind_rows(columns);
                 self.rows = rows;
                 Ok(())
             }
@@ -82,19 +143,15 @@ impl<A: Allocator + Copy> Talk<A> {
         }
     }
 
-    /// The next APDU.
-    pub fn take(&mut self, apdu: &[u8]) -> Result<(), PollFault>
-        ensures { (apdus : List (List ℕ)) → FitsTalk self.old apdus → CanTake self.old.stage → Takes self.old apdus apdu.now result self.new }
+    /// The next APDU of a poll that asks for the columns or not.
+    pub fn take(&mut self, columns: Columns, apdu: &[u8]) -> Result<(), PollFault>
+        ensures { (apdus : List (List ℕ)) → FitsTalk columns self.old apdus → CanTake self.old.stage → Takes columns self.old apdus apdu.now result self.new }
     {
         match self.stage {
-            Stage::Associating => match associated(apdu) {
-                Ok(()) => {
-                    self.stage = Stage::Getting(0);
-                    Ok(())
-                }
-                Err(fault) => Err(fault),
-            },
-            Stage::Getting(taken) => self.hear(taken, apdu),
+            Stage::Associating => self.associate(columns, apdu),
+            Stage::Naming => self.name(columns, apdu),
+            Stage::Getting(taken) => self.hear(columns, taken, apdu),
+            Stage::Checking => self.check(columns, apdu),
             Stage::Releasing => match released(apdu) {
                 Ok(()) => {
                     self.stage = Stage::Leaving;

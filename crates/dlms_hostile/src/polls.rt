@@ -6,7 +6,7 @@ use crate::client::answer_to;
 use crate::tally::{Tally, Verdict};
 use arrayvec::ArrayVec;
 use dlms_frame::{Client, Frame};
-use dlms_headend::{Plan, PollFault, PollStep, Poller, Readings, Row};
+use dlms_headend::{Columns, Plan, PollFault, PollStep, Poller, Readings, Row};
 use dlms_meter::Meter;
 use dlms_pages::{MemoryPages, Pages};
 use dlms_store::PAGES;
@@ -29,6 +29,7 @@ pub fn first_plan() -> Plan
         client: Client::Management,
         secret,
         after: None,
+        columns: Columns::Trusted,
     }
 }
 

@@ -5,7 +5,7 @@ use crate::wire::{Fate, Pieces, Wire};
 use anyhow::{Result, anyhow};
 use arrayvec::ArrayVec;
 use dlms_frame::Client;
-use dlms_headend::{Plan, PollFault, Poller, Row};
+use dlms_headend::{Columns, Plan, PollFault, Poller, Row};
 use dlms_loopback::{LoopFault, poll};
 use dlms_meter::Meter;
 use dlms_pages::MemoryPages;
@@ -90,6 +90,7 @@ fn first_plan() -> Plan
         client: Client::Management,
         secret,
         after: None,
+        columns: Columns::Asked,
     }
 }
 

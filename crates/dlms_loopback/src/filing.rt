@@ -1,43 +1,198 @@
-//! The file of readings, as a whole text that is there or is not.
-use dlms_pages::sync_folder;
-use std::fs::{Files, OpenFile, OpenOptions};
-use std::io::{ErrorKind, Write};
+//! The place of a file of readings: one program at a time has it, and a whole text stands there, or none.
+use dlms_pages::{LockFile, sync_folder};
+use std::fs::{File, Files, Metadata, OpenOptions};
+use std::io::{ErrorKind, Read, Write};
+use std::os::fd::AsFd;
+use std::os::unix::fs::{MetadataExt, OpenOptionsExt, fchown};
 use std::{fs, io};
 
-/// The text of the file; an absent one is empty, where its folder is there. A file that is no UTF-8 is a fault.
-pub fn filed_text<R: Files + Alloc>(rt: &R, path: &str) -> io::Result<String<R::A>> {
-    match fs::read_to_string(rt, path) {
-        Err(e) if e.kind() == ErrorKind::NotFound => {
-            sync_folder(rt, path)?;
-            Ok(String::new(rt.alloc()))
+/// The permissions of a lock, and of a new text that takes the place of an old one: its owner alone has it. Who may open a
+/// lock may keep others out.
+const OWNER_ALONE: u32 = 0o600;
+
+/// The permissions of a text where there was none, less what the system's mask takes.
+const EVERYONE: u32 = 0o666;
+
+/// Where the system gives random octets.
+const RANDOM: &str = "/dev/urandom";
+
+/// How many names are tried for a new text.
+const NAMES: u64 = 16;
+
+/// The place of a file of readings: the file that its name stands for at the end of all links, be it there or not. It is
+/// locked as long as this is there, also where the program is killed: the lock is of a file beside it, to its name and
+/// `.lock`, which is made, and stays.
+#[derive(Drop)]
+pub struct Place {
+    path: String,
+    _lock: File,
+}
+
+/// A new text beside the file's, which outlasts a stop.
+#[derive(Drop)]
+pub struct Beside {
+    path: String,
+}
+
+/// The fault of a name that is no plain file's.
+fn no_plain_file() -> io::Error {
+    io::Error::new(ErrorKind::InvalidInput, "no plain file")
+}
+
+/// A name that leads to no file: its own, where its folder is there. A link that leads nowhere is a fault.
+fn absent<R: Files + AllocGlobal>(rt: &R, file: &str, missing: io::Error) -> io::Result<String> {
+    if fs::symlink_metadata(rt, file).is_ok() {
+        return Err(missing);
+    }
+    sync_folder(rt, file)?;
+    Ok(String::from_str(rt.alloc(), file)?)
+}
+
+/// The name at the end of the links that begin at this one.
+fn end_of<R: Files + AllocGlobal>(rt: &R, file: &str) -> io::Result<String> {
+    match fs::canonicalize(rt, file) {
+        Ok(path) => {
+            let path = path.into_string();
+            if fs::metadata(rt, path.as_str())?.is_file() {
+                Ok(path)
+            } else {
+                Err(no_plain_file())
+            }
         }
-        read => read,
+        Err(e) if e.kind() == ErrorKind::NotFound => absent(rt, file, e),
+        Err(e) => Err(e),
     }
 }
 
-/// Writes the text into a file of its own, which gets the permissions of the one that it will take the place of.
-fn write_beside<R: Files>(rt: &R, path: &str, beside: &str, text: &str) -> io::Result<()> {
-    let mut file = OpenOptions::new()
+/// Makes a file that was not there, of these permissions. No link is followed.
+fn made<R: Files<File = File>>(rt: &R, path: &str, mode: u32) -> io::Result<File> {
+    OpenOptions::new()
         .write(true)
-        .create(true)
-        .truncate(true)
-        .open(rt, beside)?;
-    if let Ok(old) = fs::metadata(rt, path) {
-        file.set_permissions(old.permissions())?;
+        .create_new(true)
+        .mode(mode)
+        .open(rt, path)
+}
+
+/// The file of a lock, made where it is not there. No link is followed.
+fn lock_file<R: Files<File = File>>(rt: &R, path: &str) -> io::Result<File> {
+    match made(rt, path, OWNER_ALONE) {
+        Err(e) if e.kind() == ErrorKind::AlreadyExists => {}
+        made => return made,
     }
+    if fs::symlink_metadata(rt, path)?.is_file() {
+        OpenOptions::new().write(true).open(rt, path)
+    } else {
+        Err(no_plain_file())
+    }
+}
+
+/// The lock beside a file, held.
+fn locked<R: Files<File = File> + AllocGlobal>(rt: &R, file: &str) -> io::Result<File> {
+    let path = format!(in rt.alloc(); "{file}.lock")?;
+    let lock = lock_file(rt, path.as_str())?;
+    lock.lock_alone()?;
+    Ok(lock)
+}
+
+/// A number that nobody knows beforehand, where the system gives random octets.
+fn number<R: Files>(rt: &R) -> u64 {
+    let mut octets = [0u8; 8];
+    if let Ok(mut random) = fs::open(rt, RANDOM) {
+        let _filled = random.read_exact(&mut octets);
+    }
+    u64::from_be_bytes(octets)
+}
+
+/// A file beside this one that was not there, and its name, which has a number that nobody knows beforehand.
+fn made_beside<R: Files<File = File> + AllocGlobal>(
+    rt: &R,
+    path: &str,
+    mode: u32,
+) -> io::Result<(Beside, File)> {
+    let first = number(rt);
+    let mut taken = io::Error::from(ErrorKind::AlreadyExists);
+    for further in 0..NAMES {
+        let number = first.wrapping_add(further);
+        let name = format!(in rt.alloc(); "{path}.{number:016x}.new")?;
+        match made(rt, name.as_str(), mode) {
+            Ok(file) => return Ok((Beside { path: name }, file)),
+            Err(e) if e.kind() == ErrorKind::AlreadyExists => taken = e,
+            Err(e) => return Err(e),
+        }
+    }
+    Err(taken)
+}
+
+/// Gives a file the group and the owner of an old one, where the system lets it, and its permissions.
+fn take_after(file: &File, old: &Metadata) -> io::Result<()> {
+    let _group = fchown(file.as_fd(), None, Some(old.gid()));
+    let _owner = fchown(file.as_fd(), Some(old.uid()), None);
+    file.set_permissions(old.permissions())
+}
+
+/// Writes the text, and makes it outlast a stop.
+fn fill(file: &mut File, text: &str) -> io::Result<()> {
     file.write_all(text.as_bytes())?;
     file.sync_all()
 }
 
-/// Puts the text in the place of the file's. It is written beside the file, to its name and `.new`, and synced; then the new
-/// file gets the old one's name, and the folder is synced. So a stop at any moment leaves the old text or the new one, whole.
-pub fn file_text<R: Files + Alloc>(rt: &R, path: &str, text: &str) -> io::Result<()> {
-    let beside = format!(in rt.alloc(); "{path}.new")?;
-    let beside = beside.as_str();
-    let written = write_beside(rt, path, beside, text).and_then(|()| fs::rename(rt, beside, path));
-    if let Err(e) = written {
-        let _removed = fs::remove_file(rt, beside);
-        return Err(e);
+impl Place {
+    /// The place that this name stands for, which nobody else has then. Another program that has it, a link that leads
+    /// nowhere, a name of no plain file, and a folder that is not there are faults.
+    pub fn open<R: Files<File = File> + AllocGlobal>(rt: &R, file: &str) -> io::Result<Place> {
+        let path = end_of(rt, file)?;
+        let lock = locked(rt, path.as_str())?;
+        Ok(Place { path, _lock: lock })
     }
-    sync_folder(rt, path)
+
+    /// The text of the file; an absent one is empty. A file that is no UTF-8 is a fault.
+    pub fn text<R: Files + AllocGlobal>(&self, rt: &R) -> io::Result<String> {
+        match fs::read_to_string(rt, self.path.as_str()) {
+            Err(e) if e.kind() == ErrorKind::NotFound => Ok(String::new(rt.alloc())),
+            read => read,
+        }
+    }
+
+    /// Writes a new text beside the file's, and syncs it. It has the permissions of the old one, and its group and owner
+    /// where the system lets it. The file stays as it is; where a call fails, nothing stands beside it.
+    pub fn write<R: Files<File = File> + AllocGlobal>(
+        &self,
+        rt: &R,
+        text: &str,
+    ) -> io::Result<Beside> {
+        let old = fs::metadata(rt, self.path.as_str());
+        let mode = if old.is_ok() { OWNER_ALONE } else { EVERYONE };
+        let (beside, file) = made_beside(rt, self.path.as_str(), mode)?;
+        let mut file = file;
+        let taken = match &old {
+            Ok(old) => take_after(&file, old),
+            Err(_) => Ok(()),
+        };
+        match taken.and_then(|()| fill(&mut file, text)) {
+            Ok(()) => Ok(beside),
+            Err(e) => {
+                beside.drop_text(rt);
+                Err(e)
+            }
+        }
+    }
+
+    /// Puts the new text in the place of the file's, and syncs the folder. A stop at any moment leaves the old text or the
+    /// new one, whole.
+    pub fn put<R: Files>(&self, rt: &R, beside: Beside) -> io::Result<()> {
+        match fs::rename(rt, beside.path.as_str(), self.path.as_str()) {
+            Ok(()) => sync_folder(rt, self.path.as_str()),
+            Err(e) => {
+                beside.drop_text(rt);
+                Err(e)
+            }
+        }
+    }
+}
+
+impl Beside {
+    /// Takes the new text away again.
+    pub fn drop_text<R: Files>(&self, rt: &R) {
+        let _removed = fs::remove_file(rt, self.path.as_str());
+    }
 }

@@ -7,6 +7,9 @@ use std::alloc::{Allocator, Global};
 use std::io;
 use std::io::{Read, Write};
 
+/// The most bytes of a poll, those of some sixty thousand rows: more than a year of quarters of an hour.
+pub const MOST_BYTES: usize = 2_097_152;
+
 /// What the head end has come to in a turn.
 #[derive(Clone, Copy, Debug, PartialEq, Eq)]
 pub enum Turn {
@@ -16,11 +19,12 @@ pub enum Turn {
     Done,
 }
 
-/// A poll, and what came of a frame that is not whole yet.
+/// A poll, what came of a frame that is not whole yet, and how many bytes may still come.
 #[derive(Drop)]
 pub struct HeadEnd<A: Allocator = Global> {
     deframer: Deframer,
     poller: Poller<A>,
+    left: usize,
 }
 
 fn send<W: Write>(end: &mut W, frame: &Frame) -> io::Result<()> {
@@ -37,6 +41,7 @@ impl<A: Allocator + Copy> HeadEnd<A> {
         Ok(HeadEnd {
             deframer: Deframer::new(),
             poller,
+            left: MOST_BYTES,
         })
     }
 
@@ -61,21 +66,36 @@ impl<A: Allocator + Copy> HeadEnd<A> {
         }
     }
 
-    /// Takes the frames among the bytes, up to the one that ends the poll.
+    /// Takes the frames among the bytes, up to the one that is answered or ends the poll. What stands behind it came before
+    /// the question that is out now, and is dropped.
     fn take<W: Write>(&mut self, end: &mut W, bytes: &[u8]) -> Result<Option<Turn>, LoopFault> {
         let mut rest = bytes;
-        let mut turn = None;
         for _ in 0..bytes.len() {
-            if rest.is_empty() || turn == Some(Turn::Done) {
+            if rest.is_empty() {
                 break;
             }
             let (taken, frame) = self.deframer.feed(rest);
             rest = rest.get(taken..).unwrap_or(&[]);
-            if let Some(frame) = frame {
-                turn = self.take_frame(end, &frame)?.or(turn);
+            let Some(frame) = frame else {
+                continue;
+            };
+            if let Some(turn) = self.take_frame(end, &frame)? {
+                self.deframer.idle();
+                return Ok(Some(turn));
             }
         }
-        Ok(turn)
+        Ok(None)
+    }
+
+    /// So many bytes more have come. More than a poll may have are a fault.
+    fn count(&mut self, bytes: usize) -> Result<(), LoopFault> {
+        match self.left.checked_sub(bytes) {
+            Some(left) => {
+                self.left = left;
+                Ok(())
+            }
+            None => Err(LoopFault::Poll(PollFault::Protocol)),
+        }
     }
 
     /// Nothing came: the frame that is out goes again, and the fourth time-out in a row is a fault.
@@ -96,6 +116,7 @@ impl<A: Allocator + Copy> HeadEnd<A> {
             let Heard::Bytes(count) = hear(end, &mut piece)? else {
                 break;
             };
+            self.count(count)?;
             if let Some(turn) = self.take(end, bytes_of(&piece, count))? {
                 return Ok(turn);
             }

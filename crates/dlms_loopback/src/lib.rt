@@ -12,9 +12,9 @@ mod socket;
 
 pub use end::{Heard, PIECE, bytes_of, hear};
 pub use fault::LoopFault;
-pub use filing::{file_text, filed_text};
-pub use head_end::{HeadEnd, Turn};
+pub use filing::{Beside, Place};
+pub use head_end::{HeadEnd, MOST_BYTES, Turn};
 pub use meter_end::answer;
-pub use polling::poll;
+pub use polling::{TURNS, poll};
 pub use rounds::loopback;
 pub use socket::{Line, ends};

@@ -9,7 +9,7 @@ use std::alloc::Allocator;
 use std::io::{Read, Write};
 
 /// The most turns of a poll, many times what the most rows need with each frame lost three times.
-const TURNS: u32 = 65_536;
+pub const TURNS: u32 = 65_536;
 
 /// Polls the meter over a line, whose ends give `WouldBlock` or `TimedOut` where nothing came: then the meter forgets half a
 /// frame, and the head end repeats the frame that is out. It may be called of a poll that has not begun. The poll that is

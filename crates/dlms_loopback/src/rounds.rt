@@ -3,18 +3,18 @@
 ghost use Rattle.std.specs.Prelude.{◌≤◌, IfSome};
 
 use crate::fault::LoopFault;
-use crate::filing::{file_text, filed_text};
+use crate::filing::Place;
 use crate::polling::poll;
 use crate::socket::{Line, ends};
 use arrayvec::ArrayVec;
 use dlms_data::LAST_SECOND;
 use dlms_frame::Client;
-use dlms_headend::{Plan, Poller, Readings};
+use dlms_headend::{Columns, Plan, Poller, Readings};
 use dlms_meter::Meter;
 use dlms_pages::{MemoryPages, Pick};
 use dlms_store::PAGES;
 use std::alloc::Global;
-use std::fs::Files;
+use std::fs::{File, Files};
 use std::io;
 use std::io::{Read, Write};
 use std::net::Net;
@@ -28,11 +28,11 @@ const PERIOD: u32 = 900;
 /// A meter over pages in memory.
 type MemoryMeter = Meter<MemoryPages<Global>, Global>;
 
-/// What was read so far, the file that it stands in, and what the system said where that file failed.
+/// What was read so far, the place where it stands, and what the system said where that place failed.
 #[derive(Drop)]
 struct Filed<'a> {
     readings: Readings,
-    path: Option<&'a str>,
+    place: Option<Place>,
     told: &'a mut Option<io::Error>,
 }
 
@@ -47,31 +47,53 @@ fn tell<T: Drop>(told: &mut Option<io::Error>, outcome: io::Result<T>) -> Result
     }
 }
 
-/// The readings that the file holds; none where no file is named.
+/// The readings that stand at a place; none where there is no place.
 fn opened<R: Files + AllocGlobal>(
     rt: &R,
-    path: Option<&str>,
+    place: &Option<Place>,
     told: &mut Option<io::Error>,
 ) -> Result<Readings, LoopFault> {
-    let Some(path) = path else {
+    let Some(place) = place else {
         return Ok(Readings::open(rt.alloc(), "")?);
     };
-    let text = tell(told, filed_text(rt, path))?;
+    let text = tell(told, place.text(rt))?;
     Ok(Readings::open(rt.alloc(), text.as_str())?)
+}
+
+/// The place of the file, where one is named.
+fn held<R: Files<File = File> + AllocGlobal>(
+    rt: &R,
+    file: Option<&str>,
+    told: &mut Option<io::Error>,
+) -> Result<Option<Place>, LoopFault> {
+    match file {
+        Some(file) => Ok(Some(tell(told, Place::open(rt, file))?)),
+        None => Ok(None),
+    }
+}
+
+/// Puts the text in the place of the old one.
+fn replace<R: Files<File = File> + AllocGlobal>(
+    rt: &R,
+    place: &Place,
+    text: &str,
+) -> io::Result<()> {
+    let beside = place.write(rt, text)?;
+    place.put(rt, beside)
 }
 
 impl Filed<'_> {
     /// Puts the readings in the place of the file's.
-    fn keep<R: Files + AllocGlobal>(&mut self, rt: &R) -> Result<(), LoopFault> {
-        let Some(path) = self.path else {
+    fn keep<R: Files<File = File> + AllocGlobal>(&mut self, rt: &R) -> Result<(), LoopFault> {
+        let Some(place) = &self.place else {
             return Ok(());
         };
         let text = self.readings.text()?;
-        tell(self.told, file_text(rt, path, text.as_str()))
+        tell(self.told, replace(rt, place, text.as_str()))
     }
 
     /// Polls once, merges what came, and keeps it.
-    fn read<R: Files + AllocGlobal, S: Read + Write>(
+    fn read<R: Files<File = File> + AllocGlobal, S: Read + Write>(
         &mut self,
         rt: &R,
         line: &mut Line<S>,
@@ -126,12 +148,13 @@ fn poller(alloc: Global, after: Option<u32>) -> Poller
         client: Client::Management,
         secret,
         after,
+        columns: Columns::Asked,
     };
     Poller::new(alloc, plan)
 }
 
 /// Polls, and so many times more, each time behind a stop of the meter.
-fn rounds<R: Files + AllocGlobal, S: Read + Write>(
+fn rounds<R: Files<File = File> + AllocGlobal, S: Read + Write>(
     rt: &R,
     filed: &mut Filed<'_>,
     line: &mut Line<S>,
@@ -149,22 +172,23 @@ fn rounds<R: Files + AllocGlobal, S: Read + Write>(
 
 /// Polls a new meter in memory over TCP, and prints the readings. The meter has 42 pulses on channel 0 and captures at 900 and
 /// 1800 seconds. Where a file is named its readings come first, and they and what is new stand in it after each poll that is
-/// done. So many times then the meter is stopped, what it has not synced is lost, it comes back, gets one more pulse and one
+/// done; nobody else has the file meanwhile. So many times then the meter is stopped, what it has not synced is lost, it comes back, gets one more pulse and one
 /// more capture, and is polled again. The file is read before anything else is done. Where the file is what failed, `told` gets
 /// what the system says of it.
-pub fn loopback<R: Net + Files + AllocGlobal, W: Write>(
+pub fn loopback<R: Net + Files<File = File> + AllocGlobal, W: Write>(
     rt: &R,
     file: Option<&str>,
     stops: u8,
     writer: &mut W,
     told: &mut Option<io::Error>,
 ) -> Result<(), LoopFault> {
-    let readings = opened(rt, file, told)?;
+    let place = held(rt, file, told)?;
+    let readings = opened(rt, &place, told)?;
     let meter = new_meter(rt.alloc())?;
     let mut line = ends(rt)?;
     let mut filed = Filed {
         readings,
-        path: file,
+        place,
         told,
     };
     rounds(rt, &mut filed, &mut line, meter, stops)?;

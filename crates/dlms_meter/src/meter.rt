@@ -1,6 +1,6 @@
 //! The meter: the clients' links and services over the store.
 
-ghost use Rattle.std.specs.Prelude.{◌≡◌, ◌≤◌, ◌<◌, ◌≢◌, ◌⊎◌, ◌++◌, ◌↔◌, [], ℕ, List, None, Some, length, take, IfOk, IfErr, MatchResult, option_map, true};
+ghost use Rattle.std.specs.Prelude.{◌≡◌, ◌≤◌, ◌<◌, ◌≢◌, ◌⊎◌, ◌++◌, ◌↔◌, [], ℕ, List, None, Some, length, take, IfOk, IfErr, IsSome, IsTrue, MatchResult, option_map, true};
 ghost use Rattle.dlms_frame.specs.Stream.{Fits};
 ghost use Rattle.dlms_frame.specs.declared.client.Client.{Client};
 ghost use Rattle.dlms_meter.specs.ClientRecord.{fresh_record};
@@ -113,6 +113,15 @@ impl<P: Pages, A: Allocator + Copy> Meter<P, A> {
         ensures store { self.new.store ≡ self.old.store }
     {
         self.deframer.idle();
+    }
+
+    /// Whether any client has an association.
+    pub fn is_associated(&self) -> bool
+        ensures { IsTrue result ↔ ((who : Client) × IsSome (record_for self.now who).session.opened) }
+    {
+        self.public.is_associated()
+            || self.management.is_associated()
+            || self.reader.is_associated()
     }
 
     /// What the accepted events have left.

@@ -5,7 +5,7 @@ ghost use Rattle.std.specs.Prelude.{◌≡◌, ◌≤◌, IfSome};
 use arrayvec::ArrayVec;
 use dlms_data::LAST_SECOND;
 use dlms_frame::{Client, Deframer, Frame};
-use dlms_headend::{Plan, PollStep, Poller};
+use dlms_headend::{Columns, Plan, PollStep, Poller};
 use dlms_meter::Meter;
 use dlms_pages::MemoryPages;
 use std::alloc::Global;
@@ -37,6 +37,7 @@ fn plan(after: Option<u32>) -> Plan
         client: Client::Management,
         secret,
         after,
+        columns: Columns::Asked,
     }
 }
 

@@ -1,9 +1,10 @@
 -- The program's words: its commands, and the job that a parse names.
-use Rattle.std.specs.Prelude.{◌≡◌, ◌<◌, ◌↔◌, ◌^◌, ℕ, pos, [], List, Option, Some, None, codes, option_map, unwrap_or, Bool, true, false, IsTrue}
+use Rattle.std.specs.Prelude.{◌≡◌, ◌<◌, ◌↔◌, ◌^◌, ℕ, pos, [], List, Option, Some, None, codes, cond, option_map, unwrap_or, Bool, true, false, IsTrue}
 use Rattle.clap.specs.Words.{App, Row, Rule, Text, first_of, new_app, new_rule, with_rule, with_subcommand}
 use Rattle.clap.specs.declared.builder.action.ArgAction.TheVariants.{SetTrue}
 use Rattle.dlms_program.specs.declared.commands.Job.{Job}
 use Rattle.dlms_program.specs.declared.commands.Job.TheVariants.{Format, Replay, Loopback, Serve, Poll, Explain, Show, Plot}
+use Rattle.dlms_program.specs.declared.words.TheConstants.{AHEAD, DEADLINE}
 use Rattle.dlms_program.specs.Numbers.{IsNumberOf}
 use Rattle.dlms_frame.specs.declared.client.Client.{Client}
 use Rattle.dlms_frame.specs.declared.client.Client.TheVariants.{Public, Management, Reader}
@@ -61,8 +62,28 @@ open_command = with_rule (with_rule asking_command secret_rule) public_rule
 abbrev pub reader_rule : Rule
 reader_rule = record (new_rule (codes "reader")) { long = Some (codes "reader"); action = Some SetTrue }
 
+abbrev pub known_command : App
+known_command = with_rule open_command reader_rule
+
+-- a deadline in seconds may be said, from 1 to 86400; the system's clock is looked at where that is asked for, or where it is said
+-- by how many seconds, 0 to 31536000, a row may be past it
+abbrev pub deadline_rule : Rule
+deadline_rule = record (new_rule (codes "deadline")) { long = Some (codes "deadline"); value_names = 1; parser = Some (parser.Signed (pos 1) (pos 86400)) }
+
+abbrev pub timed_command : App
+timed_command = with_rule known_command deadline_rule
+
+abbrev pub check_rule : Rule
+check_rule = record (new_rule (codes "check-clock")) { long = Some (codes "check-clock"); action = Some SetTrue }
+
+abbrev pub checked_command : App
+checked_command = with_rule timed_command check_rule
+
+abbrev pub ahead_rule : Rule
+ahead_rule = record (new_rule (codes "ahead")) { long = Some (codes "ahead"); value_names = 1; parser = Some (parser.Signed (pos 0) (pos 31536000)) }
+
 abbrev pub poll_command : App
-poll_command = with_rule open_command reader_rule
+poll_command = with_rule checked_command ahead_rule
 
 abbrev pub first_commands : App
 first_commands = with_subcommand (with_subcommand (with_subcommand (new_app (codes "dlms")) format_command.top) replay_command.top) loopback_command.top
@@ -70,9 +91,12 @@ first_commands = with_subcommand (with_subcommand (with_subcommand (new_app (cod
 abbrev pub field_commands : App
 field_commands = with_subcommand (with_subcommand first_commands serve_command.top) poll_command.top
 
--- frames are explained with no more words
+-- frames are explained, and strings that may be a secret may be asked for
+abbrev pub raw_rule : Rule
+raw_rule = record (new_rule (codes "raw")) { long = Some (codes "raw"); action = Some SetTrue }
+
 abbrev pub explain_command : App
-explain_command = new_app (codes "explain")
+explain_command = with_rule (new_app (codes "explain")) raw_rule
 
 -- a meter's file has to be named, and its curve may be asked for
 abbrev pub plot_rule : Rule
@@ -108,21 +132,33 @@ Met = Option (Text × List Row)
 abbrev pub file_in : List Row → Option Text
 file_in rows = first_of (codes "FILE") rows
 
--- a number of so many bits, where none is said 0
-abbrev pub Says : ℕ → Option Text → ℕ → Type 0
-Says bits None number = number ≡ 0
-Says bits (Some text) number = (n : ℕ) → n < 2 ^ bits → IsNumberOf text n → number ≡ n
+-- a number of so many bits, where none is said this one
+abbrev pub Says : (bits other : ℕ) → Option Text → ℕ → Type 0
+Says bits other None number = number ≡ other
+Says bits other (Some text) number = (n : ℕ) → n < 2 ^ bits → IsNumberOf text n → number ≡ n
 
--- so many stops, and so many watts
+-- so many stops, so many watts, and so many seconds
 abbrev pub SaysStops : Option Text → ℕ → Type 0
-SaysStops = Says 8
+SaysStops = Says 8 0
 
 abbrev pub SaysLoad : Option Text → ℕ → Type 0
-SaysLoad = Says 32
+SaysLoad = Says 32 0
+
+abbrev pub SaysDeadline : Option Text → ℕ → Type 0
+SaysDeadline = Says 32 DEADLINE
 
 -- a flag was given: clap finds the word `true` for it then, and else `false`
 abbrev pub IsSaid : Option Text → Bool → Type 0
 IsSaid found flag = IsTrue flag ↔ (found ≡ Some (codes "true"))
+
+-- by how many seconds a row may be past the system's clock: so many as are said; where none are, a day where the clock is to be
+-- looked at, and else it is not looked at
+abbrev pub SaysAhead : Bool → Option Text → Option ℕ → Type 0
+SaysAhead checks None ahead = ahead ≡ cond checks (Some AHEAD) None
+SaysAhead checks (Some text) ahead = (n : ℕ) → n < 2 ^ 32 → IsNumberOf text n → ahead ≡ Some n
+
+abbrev pub ChecksClock : List Row → Option ℕ → Type 0
+ChecksClock rows ahead = (checks : Bool) × IsSaid (first_of (codes "check-clock") rows) checks × SaysAhead checks (first_of (codes "ahead") rows) ahead
 
 -- who asks: the public client where its flag was given, else the reader where its was, else management
 abbrev pub asker : (public reader : Bool) → Client
@@ -140,10 +176,10 @@ Asks met (Replay file) = (rows : List Row) × (met ≡ Some (codes "replay", row
 Asks met (Loopback readings stops) = (rows : List Row) × (met ≡ Some (codes "loopback", rows)) × (option_map (λ f. f.now) readings ≡ first_of (codes "readings") rows) × SaysStops (first_of (codes "stops") rows) stops
 Asks met (Serve file listen load) = (rows : List Row) × (met ≡ Some (codes "serve", rows)) × (file.now ≡ unwrap_or (file_in rows) [])
     × (option_map (λ a. a.now) listen ≡ first_of (codes "listen") rows) × SaysLoad (first_of (codes "load") rows) load
-Asks met (Poll address readings secret client) = (rows : List Row) × (met ≡ Some (codes "poll", rows)) × (address.now ≡ unwrap_or (first_of (codes "ADDRESS:PORT") rows) [])
+Asks met (Poll address readings secret client deadline ahead) = (rows : List Row) × (met ≡ Some (codes "poll", rows)) × (address.now ≡ unwrap_or (first_of (codes "ADDRESS:PORT") rows) [])
     × (option_map (λ f. f.now) readings ≡ first_of (codes "readings") rows) × (option_map (λ f. f.now) secret ≡ first_of (codes "secret-file") rows)
-    × IsAsker rows client
-Asks met Explain = (rows : List Row) × (met ≡ Some (codes "explain", rows))
+    × IsAsker rows client × SaysDeadline (first_of (codes "deadline") rows) deadline × ChecksClock rows ahead
+Asks met (Explain raw) = (rows : List Row) × (met ≡ Some (codes "explain", rows)) × IsSaid (first_of (codes "raw") rows) raw
 Asks met (Show file plot) = (rows : List Row) × (met ≡ Some (codes "show", rows)) × (file.now ≡ unwrap_or (file_in rows) []) × IsSaid (first_of (codes "plot") rows) plot
 Asks met (Plot readings svg) = (rows : List Row) × (met ≡ Some (codes "plot", rows)) × (readings.now ≡ unwrap_or (first_of (codes "READINGS") rows) [])
     × IsSaid (first_of (codes "svg") rows) svg

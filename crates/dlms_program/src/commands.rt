@@ -26,15 +26,20 @@ pub enum Job<'a> {
         load: u32,
     },
     /// Polls the meter at this address once, into this file where one is named, by this client, with the secret in a file, or
-    /// with its first secret where none is named and it has to know one.
+    /// with its first secret where none is named and it has to know one; within so many seconds, and where `ahead` is there with
+    /// no row whose clock is more seconds past the system's.
     Poll {
         address: &'a str,
         readings: Option<&'a str>,
         secret_file: Option<&'a str>,
         client: Client,
+        deadline: u32,
+        ahead: Option<u32>,
     },
-    /// Explains the frames that stand on standard input.
-    Explain,
+    /// Explains the frames that stand on standard input; where `raw` is set, with strings that may be a secret.
+    Explain {
+        raw: bool,
+    },
     /// Shows what stands in a meter's file, and the curve of its load profile where `plot` asks for it.
     Show {
         file: &'a str,

@@ -2,7 +2,7 @@
 ghost use Rattle.std.specs.Prelude.{◌≡◌, [], List, Some, option_map, OnOk, false, true, IfErr, IfOk, codes, map};
 ghost use Rattle.clap.specs.Words.{app_of, fault_of, first_of, rule_of, Row, FailsBy, HasKind, subcommand_rows_of, subcommand_of};
 ghost use Rattle.clap.specs.declared.builder.command.Command.TheViews.{out-Command as fields_of};
-ghost use Rattle.dlms_program.specs.Words.{asking_command, dlms, explain_command, field_commands, first_commands, format_command, listen_rule, load_rule, loopback_command, open_command, plot_command, plot_rule, poll_command, public_rule, reader_rule, asker as client_by, readings_rule, replay_command, secret_rule, serve_command, show_command, stops_rule, svg_rule, Asks, IsSaid, SaysLoad, SaysStops};
+ghost use Rattle.dlms_program.specs.Words.{ahead_rule, asking_command, check_rule, checked_command, deadline_rule, dlms, explain_command, field_commands, first_commands, format_command, known_command, listen_rule, load_rule, loopback_command, open_command, plot_command, plot_rule, poll_command, public_rule, raw_rule, reader_rule, asker as client_by, readings_rule, replay_command, secret_rule, serve_command, show_command, stops_rule, svg_rule, timed_command, Asks, IsSaid, SaysAhead, SaysDeadline, SaysLoad, SaysStops};
 
 use crate::commands::Job;
 use clap::{Arg, ArgAction, ArgMatches, Command, Error, value_parser};
@@ -11,6 +11,13 @@ use std::alloc::{AllocError, Global};
 
 /// The program's version, as `--version` prints it.
 const VERSION: &str = "0.1.0";
+
+/// How many seconds a poll may take where nothing is said.
+const DEADLINE: u32 = 300;
+
+/// By how many seconds a row may be past the system's clock where nothing is said: by a day, since a meter's clock may show the
+/// time of any place.
+const AHEAD: u32 = 86_400;
 
 /// What the program is, for its help.
 const ABOUT: &str = "A DLMS/COSEM electricity meter, and a head end that polls one.
@@ -59,10 +66,11 @@ const SERVE_ABOUT: &str =
 
 Recovers the meter, listens on 127.0.0.1:4059 where no address is named, and prints \"listening on ADDRESS:PORT\"; of port 0 the \
 system chooses one. The meter's running second goes on from the last one that it recovered, a second of it each second of the \
-system's steady clock. With --load channel 0 gets a pulse a watt-hour. A line on standard error tells of the recovery, of each \
-connection, of its end, and of a second that the meter refuses. What was answered with success or data outlasts a kill; of the \
-seconds and pulses since then a kill takes 496 bytes of records at most. A connection on which no frame is answered for 120 \
-seconds is closed.
+system's steady clock. With --load channel 0 gets a pulse a watt-hour. A line on standard error tells of the recovery, of the end \
+of each connection, and of a second that the meter refuses; one that cannot be written at once is dropped. What was answered with \
+success or data outlasts a kill; of the seconds and pulses since then a kill takes 496 bytes of records at most. The end of a \
+connection is the end of its links. One on which no frame is answered for 120 seconds is closed; where another waits, one on which \
+no frame of an association is answered for 5 seconds, and any after 60. So is one to which 5 associations were refused.
 
 Exit status: 1 after a fault (dlms: io, with FILE or the address and the system's words on a second line; dlms: nocheckpoint or \
 dlms: corrupt N for a FILE that holds no meter, or a damaged one; dlms: device or dlms: exhausted once FILE takes no more; \
@@ -76,12 +84,17 @@ Asks as management, with the secret that stands in the file of --secret-file (at
 of it), or with 12345678 where none is named; with --reader as the reader, with that secret or with 23456789; with --public as \
 the public client, which has no secret, whatever else is given. With --readings the rows \
 from the second of FILE's last row on are asked for, an absent FILE has none, and FILE gets the new text: a stop at any moment \
-leaves the old text or the new one. Prints a line \"clock,r0,r1,r2\" for each row that FILE did not have. A frame that is not \
+leaves the old text or the new one. Prints a line \"clock,r0,r1,r2\" for each row that FILE did not have, before FILE has it: \
+what was printed and not filed comes again with the next poll. A line on standard error says how many rows were left out, not \
+later than FILE's last row. One poll at a time has FILE, by the lock of FILE.lock, which stays. A frame that is not \
 answered within two seconds goes out again, three times at most.
 
 Exit status: 0; 1 after a fault (dlms: io, with the file or ADDRESS:PORT and the system's words on a second line; dlms: line N \
-for a line of FILE that is none of readings; dlms: secret for one of more than 16 bytes; dlms: line, dlms: protocol (also for \
-rows of other columns than the clock and the three registers), dlms: refused N or dlms: result N for the poll; dlms: memory); \
+for a line of FILE that is none of readings; dlms: secret for one of more than 16 bytes; dlms: line, with ADDRESS:PORT on a \
+second line where the deadline is over; dlms: protocol (also for \
+rows of other columns than the clock and the three registers), dlms: refused N or dlms: result N for the poll; dlms: clock N \
+where row N is not later than the one before it; dlms: ahead N where row N is too far past the system's clock, of the poll or \
+of FILE, as a second line says; dlms: memory); \
 2 for words that are not understood, and for this help.";
 
 /// What `explain` does, for its help.
@@ -90,7 +103,8 @@ const EXPLAIN_ABOUT: &str =
 
 Reads lines: \"> HEX\" for bytes to a meter and \"< HEX\" for bytes from it, as the transcript of a replay has them, or digits \
 alone. Prints each frame's direction, addresses and control, and of the APDU in it the parts by their names. Of a secret no byte \
-is printed.
+is printed; of a string that may be one, since no frame before it asked for it, the length is, and with --raw all of it. A line \
+that holds no bytes of a frame is printed as it stands.
 
 Exit status: 0; 1 after a fault (dlms: io; dlms: memory); 2 for words that are not understood, and for this help.";
 
@@ -271,11 +285,72 @@ fn open_command<'a>(alloc: Global) -> Result<Command<'a>, AllocError>
         .arg(public_flag(alloc))
 }
 
+/// `poll`, by any client.
+fn known_command<'a>(alloc: Global) -> Result<Command<'a>, AllocError>
+    ensures shape { IfOk result (λ c. app_of c ≡ known_command) }
+    ensures local { IfOk result (λ c. (fields_of c).has_globals ≡ false) }
+{
+    open_command(alloc)?.arg(reader_flag(alloc))
+}
+
+/// The option that says a deadline.
+fn deadline_option<'a>(alloc: Global) -> Arg<'a>
+    ensures rule { rule_of result ≡ deadline_rule }
+    ensures local { result.global ≡ false }
+{
+    Arg::new(alloc, "deadline")
+        .long("deadline")
+        .value_name("SECONDS")
+        .value_parser(value_parser!(u32).range(1..=86_400))
+        .help("The poll takes so many seconds at most, 1 to 86400, 300 at first")
+}
+
+/// The flag that asks for a look at the system's clock.
+fn check_flag<'a>(alloc: Global) -> Arg<'a>
+    ensures rule { rule_of result ≡ check_rule }
+    ensures local { result.global ≡ false }
+{
+    Arg::new(alloc, "check-clock")
+        .long("check-clock")
+        .action(ArgAction::SetTrue)
+        .help("Refuses rows that are too far past the system's clock")
+}
+
+/// The option that says how far a row may be past the system's clock.
+fn ahead_option<'a>(alloc: Global) -> Arg<'a>
+    ensures rule { rule_of result ≡ ahead_rule }
+    ensures local { result.global ≡ false }
+{
+    Arg::new(alloc, "ahead")
+        .long("ahead")
+        .value_name("SECONDS")
+        .value_parser(value_parser!(u32).range(0..=31_536_000))
+        .help(
+            "Checks the clock, and bears so many seconds, 0 to 31536000; with --check-clock alone 86400",
+        )
+}
+
+/// `poll`, with a deadline.
+fn timed_command<'a>(alloc: Global) -> Result<Command<'a>, AllocError>
+    ensures shape { IfOk result (λ c. app_of c ≡ timed_command) }
+    ensures local { IfOk result (λ c. (fields_of c).has_globals ≡ false) }
+{
+    known_command(alloc)?.arg(deadline_option(alloc))
+}
+
+/// `poll`, with a look at the system's clock.
+fn checked_command<'a>(alloc: Global) -> Result<Command<'a>, AllocError>
+    ensures shape { IfOk result (λ c. app_of c ≡ checked_command) }
+    ensures local { IfOk result (λ c. (fields_of c).has_globals ≡ false) }
+{
+    timed_command(alloc)?.arg(check_flag(alloc))
+}
+
 fn poll_command<'a>(alloc: Global) -> Result<Command<'a>, AllocError>
     ensures shape { IfOk result (λ c. app_of c ≡ poll_command) }
     ensures local { IfOk result (λ c. (fields_of c).has_globals ≡ false) }
 {
-    open_command(alloc)?.arg(reader_flag(alloc))
+    checked_command(alloc)?.arg(ahead_option(alloc))
 }
 
 /// The commands of a meter in a file or in memory.
@@ -301,13 +376,25 @@ fn field_commands<'a>(alloc: Global) -> Result<Command<'a>, AllocError>
     Ok(program)
 }
 
-fn explain_command<'a>(alloc: Global) -> Command<'a>
-    ensures shape { app_of result ≡ explain_command }
-    ensures local { (fields_of result).has_globals ≡ false }
+/// The flag that asks for strings that may be a secret.
+fn raw_flag<'a>(alloc: Global) -> Arg<'a>
+    ensures rule { rule_of result ≡ raw_rule }
+    ensures local { result.global ≡ false }
+{
+    Arg::new(alloc, "raw")
+        .long("raw")
+        .action(ArgAction::SetTrue)
+        .help("Prints strings that may be a secret too")
+}
+
+fn explain_command<'a>(alloc: Global) -> Result<Command<'a>, AllocError>
+    ensures shape { IfOk result (λ c. app_of c ≡ explain_command) }
+    ensures local { IfOk result (λ c. (fields_of c).has_globals ≡ false) }
 {
     Command::new(alloc, "explain")
         .about("Explains the frames that stand on standard input, and what they carry")
         .long_about(EXPLAIN_ABOUT)
+        .arg(raw_flag(alloc))
 }
 
 /// The flag that asks for the curve of a meter's load profile.
@@ -365,7 +452,7 @@ fn program<'a>(alloc: Global) -> Result<Command<'a>, AllocError>
     ensures { IfOk result (λ c. app_of c ≡ dlms) }
 {
     let program = field_commands(alloc)?
-        .subcommand(explain_command(alloc))?
+        .subcommand(explain_command(alloc)?)?
         .subcommand(show_command(alloc)?)?
         .subcommand(plot_command(alloc)?)?
         .disable_help_subcommand(true)
@@ -406,6 +493,27 @@ fn load(said: Option<&str>) -> u32
     match said {
         Some(text) => text.parse::<u32>().unwrap_or(0),
         None => 0,
+    }
+}
+
+/// The deadline in seconds that was said.
+fn deadline(said: Option<&str>) -> u32
+    ensures { SaysDeadline (option_map (λ text. text.now) said.entry) result }
+{
+    match said {
+        Some(text) => text.parse::<u32>().unwrap_or(DEADLINE),
+        None => DEADLINE,
+    }
+}
+
+/// By how many seconds a row may be past the system's clock, where that is looked at.
+fn ahead(checks: bool, said: Option<&str>) -> Option<u32>
+    ensures { SaysAhead checks (option_map (λ text. text.now) said.entry) result }
+{
+    match said {
+        Some(text) => Some(text.parse::<u32>().unwrap_or(AHEAD)),
+        None if checks => Some(AHEAD),
+        None => None,
     }
 }
 
@@ -456,11 +564,14 @@ fn poll_job<'a>(matches: &ArgMatches<'a>) -> Job<'a>
 {
     let public = is_given(value_for(matches, "poll", "public"));
     let reader = is_given(value_for(matches, "poll", "reader"));
+    let checks = is_given(value_for(matches, "poll", "check-clock"));
     Job::Poll {
         address: value_for(matches, "poll", "ADDRESS:PORT").unwrap_or(""),
         readings: value_for(matches, "poll", "readings"),
         secret_file: value_for(matches, "poll", "secret-file"),
         client: asker(public, reader),
+        deadline: deadline(value_for(matches, "poll", "deadline")),
+        ahead: ahead(checks, value_for(matches, "poll", "ahead")),
     }
 }
 
@@ -472,6 +583,15 @@ fn show_job<'a>(matches: &ArgMatches<'a>) -> Job<'a>
     Job::Show {
         file: value_for(matches, "show", "FILE").unwrap_or(""),
         plot,
+    }
+}
+
+/// The values of `explain`.
+fn explain_job<'a>(matches: &ArgMatches<'a>) -> Job<'a>
+    ensures { (rows : List Row) → subcommand_rows_of matches.now ≡ Some (codes "explain", rows) → Asks (Some (codes "explain", rows)) result }
+{
+    Job::Explain {
+        raw: is_given(value_for(matches, "explain", "raw")),
     }
 }
 
@@ -509,7 +629,7 @@ pub fn job<'a>(alloc: Global, words: &'a [&'a str]) -> Result<Job<'a>, Error>
         return Ok(serve_job(&matches));
     }
     if matches.subcommand_name() == Some("explain") {
-        return Ok(Job::Explain);
+        return Ok(explain_job(&matches));
     }
     if matches.subcommand_name() == Some("show") {
         return Ok(show_job(&matches));

@@ -12,7 +12,7 @@ use crate::rows::put_values;
 use crate::words::{Words, client_of, put_truth};
 use dlms_data::LAST_SECOND;
 use dlms_frame::Frame;
-use dlms_headend::{Plan, PollFault, PollStep, Poller, Readings, ReadingsFault, Row};
+use dlms_headend::{Columns, Plan, PollFault, PollStep, Poller, Readings, ReadingsFault, Row};
 use linked_list_allocator::LocalHeap;
 
 /// A poll and a readings file.
@@ -29,6 +29,7 @@ fn put_poll_fault(answer: &mut String, fault: PollFault) -> Result<(), RowFault>
         PollFault::Refused(number) | PollFault::Result(number) => {
             put_with_number(answer, " ", u64::from(number))
         }
+        PollFault::Columns => Ok(answer.push_str(" columns")?),
         _ => Ok(()),
     }
 }
@@ -196,8 +197,8 @@ impl<'h> HeadendBench<'h> {
         }
     }
 
-    /// A poll by a client, with its secret, behind a second.
-    fn poll(&mut self, words: &mut Words<'_>) -> Result<(), RowFault> {
+    /// A poll by a client, with its secret, behind a second, that asks for the columns or not.
+    fn poll(&mut self, columns: Columns, words: &mut Words<'_>) -> Result<(), RowFault> {
         let client = client_of(words.word()?)?;
         let secret = in_place(&words.bytes()?)?;
         let after = after_of(words.word()?)?;
@@ -205,6 +206,7 @@ impl<'h> HeadendBench<'h> {
             client,
             secret,
             after,
+            columns,
         };
         self.poller = Some(Poller::new(self.heap, plan));
         Ok(())
@@ -231,7 +233,8 @@ impl Bench for HeadendBench<'_> {
     fn step(&mut self, words: &mut Words<'_>, answer: &mut String) -> Result<(), RowFault> {
         let call = words.word()?;
         match call {
-            "poll" => self.poll(words),
+            "poll" => self.poll(Columns::Trusted, words),
+            "ask" => self.poll(Columns::Asked, words),
             "open" => self.open(words, answer),
             "merge" | "text" | "last" => match &mut self.readings {
                 Some(readings) => readings_step(readings, call, words, answer),

@@ -1,5 +1,5 @@
 -- What a block is among those before it, by the definitions of dlms_blocks.
-use Rattle.std.specs.Prelude.{ℕ, ◌+◌, ◌==◌, nat_lt, if◌then◌else◌, Bool, List, length, Result, Ok, Err}
+use Rattle.std.specs.Prelude.{ℕ, ◌+◌, ◌==◌, nat_lt, if◌then◌else◌, Bool, List, length, Option, None, Result, Ok, Err}
 use Rattle.dlms_blocks.specs.Coming.{nothing}
 use Rattle.dlms_blocks.specs.Joining.{Joining, empty, is_next, with_block}
 use Rattle.dlms_blocks.specs.declared.block.PutStep.{PutStep}
@@ -7,11 +7,22 @@ use Rattle.dlms_blocks.specs.declared.block.PutStep.TheVariants as step
 use Rattle.dlms_talks.specs.declared.joining.Joined.{Joined}
 use Rattle.dlms_talks.specs.declared.joining.Joined.TheVariants.{More, Whole, NotNext, TooLong}
 use Rattle.dlms_talks.specs.declared.joining.TheConstants.{MOST_VALUE}
+use Rattle.dlms_talks.specs.declared.named.Asked.{Asked}
+use Rattle.dlms_talks.specs.Asked.{of_invoke}
 use Rattle.dlms_talks.specs.Transfers.{TwoTransfers}
 
 -- no block came
 abbrev pub none : TwoTransfers
-none = record { got = empty; put = nothing }
+none = record { got = empty; got_of = None; put = nothing; put_of = None }
+
+-- another value is asked for: none is read in blocks any more
+abbrev pub dropped : TwoTransfers → TwoTransfers
+dropped t = record t { got = empty; got_of = None }
+
+-- What a block of a value that is read is of: the block of number 1 of what was asked for, and a further one of what the first
+-- one is; and each has the invoke-id-and-priority of the request.
+abbrev pub read_of : TwoTransfers → Option Asked → ℕ → ℕ → Option Asked
+read_of t asked invoke number = of_invoke (if number == 1 then asked else t.got_of) invoke
 
 -- the block of number 1 begins a value
 abbrev pub begun : Joining → ℕ → Joining

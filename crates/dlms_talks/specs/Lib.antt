@@ -1,12 +1,17 @@
 pub mod Apdus
+pub mod Asked
 pub mod Association
 pub mod Control
 pub mod Following
 pub mod Heading
+pub mod History
 pub mod Joining
 pub mod Names
 pub mod Said
 pub mod Secrets
 pub mod Segments
+pub mod Services
+pub mod Talks
 pub mod Transfers
+pub mod Veiled
 pub mod Whole

@@ -1,13 +1,19 @@
 -- What is told of a value that came in blocks.
-use Rattle.std.specs.Prelude.{◌≡◌, ℕ, Bool, true, false, List}
+use Rattle.std.specs.Prelude.{◌≡◌, ℕ, List}
 use Rattle.dlms_data.specs.Spelling.{IsSpelling}
 use Rattle.dlms_data.specs.View.{value_of}
+use Rattle.dlms_talks.specs.declared.secrecy.Secrecy.{Secrecy}
+use Rattle.dlms_talks.specs.declared.secrecy.Secrecy.TheVariants.{Open, Unknown, Secret}
 use Rattle.dlms_talks.specs.declared.whole.Whole.{Whole}
 use Rattle.dlms_talks.specs.declared.whole.Whole.TheVariants as told
 
--- of a secret, that it is one; of other octets the value that they spell, or a fault, of which nothing is said here
-abbrev pub IsToldOfWhole : {A : Type 0} → Bool → List ℕ → Whole A → Type 0
-IsToldOfWhole true octets whole = whole ≡ told.Secret
-IsToldOfWhole false octets told.Secret = ⊥
-IsToldOfWhole false octets (told.Value value) = IsSpelling octets (value_of value)
-IsToldOfWhole false octets (told.Unreadable fault) = Unit {0}
+-- of a secret, that it is one; of other octets the value that they spell, veiled where it may be one, or a fault, of which
+-- nothing is said here
+abbrev pub IsToldOfWhole : {A : Type 0} → Secrecy → List ℕ → Whole A → Type 0
+IsToldOfWhole Secret octets whole = whole ≡ told.Secret
+IsToldOfWhole Unknown octets (told.Unknown covered) = IsSpelling octets (value_of covered.value)
+IsToldOfWhole Unknown octets (told.Unreadable fault) = Unit {0}
+IsToldOfWhole Unknown octets _ = ⊥
+IsToldOfWhole Open octets (told.Value value) = IsSpelling octets (value_of value)
+IsToldOfWhole Open octets (told.Unreadable fault) = Unit {0}
+IsToldOfWhole Open octets _ = ⊥

@@ -1,10 +1,30 @@
 //! Laws of what is told. They make no call.
 
-ghost use Rattle.std.specs.Prelude.{◌≡◌, ℕ, List, Some};
+ghost use Rattle.std.specs.Prelude.{◌≡◌, ◌⊎◌, ℕ, List, Some};
 ghost use Rattle.dlms_acse.specs.Verdict.{Request};
+ghost use Rattle.dlms_talks.specs.declared.joining.TheConstants.{MOST_VALUE};
+ghost use Rattle.dlms_talks.specs.declared.named.Asked.{Asked};
+ghost use Rattle.dlms_talks.specs.declared.segments.TheConstants.{MOST_APDU};
+ghost use Rattle.dlms_talks.specs.declared.talks.TheConstants.{MOST_TALKS};
 ghost use Rattle.dlms_talks.specs.Association.{told_of};
+ghost use Rattle.dlms_talks.specs.History.{AreUnbroken, IsKept, Step, WasAsked, talk_after_all};
+
+use crate::talks::Talk;
+use std::alloc::Allocator;
 
 /// Of association requests that differ in their secrets alone the same is told.
 pub fn secrets_are_told_alike()
     ensures { (r : Request) (secret other : List ℕ) → told_of (record r { secret = Some secret }) ≡ told_of (record r { secret = Some other }) }
+{}
+
+/// Whatever was lost from a log, and whatever stands between: what an answer or a value in blocks is known to be of was named by a
+/// request in the log, and since then no frame was missing by the numbers of the link, which went neither down nor up; or it was
+/// known before.
+pub fn only_what_was_asked<A: Allocator>(_talk: &Talk<A>)
+    ensures { (steps : List (Step A)) (a : Asked) → IsKept (talk_after_all _talk.now steps) a → (IsKept _talk.now a × AreUnbroken _talk.now steps) ⊎ WasAsked _talk.now steps a }
+{}
+
+/// The numbers of this crate.
+pub fn the_numbers()
+    ensures most { (MOST_TALKS ≡ 8) × (MOST_APDU ≡ 65535) × (MOST_VALUE ≡ 65536) }
 {}

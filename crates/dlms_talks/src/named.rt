@@ -1,7 +1,8 @@
 //! What a service names, and whether that is a secret.
 
 ghost use Rattle.std.specs.Prelude.{◌≡◌};
-ghost use Rattle.dlms_talks.specs.Secrets.{asks_secret, is_association, is_secret};
+ghost use Rattle.dlms_talks.specs.Secrets.{holds_secret, is_association, is_of_association, is_secret};
+ghost use Rattle.dlms_talks.specs.Asked.{of_invoke, of_service};
 
 use dlms_data::Descriptor;
 
@@ -29,6 +30,9 @@ const SECRET: u8 = 7;
 /// Its method that takes a new secret.
 const CHANGE_SECRET: u8 = 2;
 
+/// What names all attributes of an object.
+const ALL: u8 = 0;
+
 /// The value group C of an association's logical name.
 const ASSOCIATIONS: u8 = 40;
 
@@ -44,23 +48,45 @@ fn is_association(name: [u8; 6]) -> bool
 }
 
 impl Named {
-    /// Whether a secret stands there: the attribute or the method of an Association LN, by its class or by its name.
+    /// Whether the object is an Association LN, by its class or by its name.
+    fn is_of_association(self) -> bool
+        ensures { result ≡ is_of_association self.descriptor }
+    {
+        self.descriptor.class == ASSOCIATION || is_association(self.descriptor.name)
+    }
+
+    /// Whether a secret stands there: the attribute or the method of an Association LN.
     pub fn is_secret(self) -> bool
         ensures { result ≡ is_secret self.descriptor self.method }
     {
         let id = if self.method { CHANGE_SECRET } else { SECRET };
-        let of_association = self.descriptor.class == ASSOCIATION
-            || is_association(self.descriptor.name);
-        of_association && self.descriptor.id == id
+        self.is_of_association() && self.descriptor.id == id
+    }
+
+    /// Whether a secret stands there among others: all attributes of an Association LN.
+    pub fn holds_secret(self) -> bool
+        ensures { result ≡ holds_secret self.descriptor self.method }
+    {
+        self.is_of_association() && !self.method && self.descriptor.id == ALL
     }
 }
 
-/// Whether what was asked for last is a secret.
-pub fn asks_secret(asked: Option<Asked>) -> bool
-    ensures { result ≡ asks_secret asked }
+/// What was asked for, where a further APDU of this invoke-id-and-priority goes on with it.
+pub fn of_invoke(asked: Option<Asked>, invoke: u8) -> Option<Asked>
+    ensures { result ≡ of_invoke asked invoke }
 {
     match asked {
-        Some(asked) => asked.named.is_secret(),
-        None => false,
+        Some(asked) if asked.invoke == invoke => Some(asked),
+        _ => None,
+    }
+}
+
+/// The same of a further block of a parameter, or of a value to set.
+pub fn of_service(asked: Option<Asked>, invoke: u8, method: bool) -> Option<Asked>
+    ensures { result ≡ of_service asked invoke method }
+{
+    match of_invoke(asked, invoke) {
+        Some(asked) if asked.named.method == method => Some(asked),
+        _ => None,
     }
 }

@@ -1,5 +1,8 @@
 //! Who sends a frame, and to whom.
 
+ghost use Rattle.std.specs.Prelude.{◌≡◌};
+ghost use Rattle.dlms_talks.specs.Talks.{are_same, may_be};
+
 use crate::control::{Control, read};
 use dlms_frame::{Address, Frame};
 
@@ -10,11 +13,31 @@ pub enum Side {
     Meter,
 }
 
-/// The two ends that talk, by the upper part of each one's address.
-#[derive(Clone, Copy, PartialEq, Eq)]
+/// The two ends that talk, by the upper part of each one's address, and by the lower part of the meter's, where it has one.
+#[derive(Clone, Copy)]
 pub struct Parties {
     pub client: u16,
     pub meter: u16,
+    pub lower: Option<u16>,
+}
+
+/// Whether two lower parts may be those of one meter, whose addresses may be of several forms.
+fn may_be(one: Option<u16>, other: Option<u16>) -> bool
+    ensures { result ≡ may_be one other }
+{
+    match (one, other) {
+        (Some(one), Some(other)) => one == other,
+        _ => true,
+    }
+}
+
+impl Parties {
+    /// Whether these are the same ends.
+    pub fn are_same(self, other: Parties) -> bool
+        ensures { result ≡ are_same self other }
+    {
+        self.client == other.client && self.meter == other.meter && may_be(self.lower, other.lower)
+    }
 }
 
 /// The service access point of the meter's management.
@@ -90,10 +113,12 @@ pub fn parties_of(side: Option<Side>, frame: &Frame) -> Parties {
         Some(Side::Meter) => Parties {
             client: upper(frame.dest),
             meter: upper(frame.src),
+            lower: lower(frame.src),
         },
         _ => Parties {
             client: upper(frame.src),
             meter: upper(frame.dest),
+            lower: lower(frame.dest),
         },
     }
 }

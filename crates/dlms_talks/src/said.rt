@@ -1,10 +1,12 @@
 //! What is told of a request and of a response. No octet of a secret or of a block stands in it.
 
-ghost use Rattle.std.specs.Prelude.{◌≡◌, true, false, length};
-ghost use Rattle.dlms_talks.specs.Secrets.{asks_secret};
-ghost use Rattle.dlms_talks.specs.Said.{Shows, ShowsParameter, ShowsRequest, ShowsResponse, asked_of, request_form, response_form};
+ghost use Rattle.std.specs.Prelude.{◌≡◌, true, false, length, Some, None, option_map};
+ghost use Rattle.dlms_talks.specs.Secrets.{secrecy_of, told_as};
+ghost use Rattle.dlms_talks.specs.Said.{Shows, ShowsParameter, ShowsRequest, ShowsResponse, answered, asked_of, known_of, request_form, request_invoke, request_selector, response_form, response_invoke};
 
-use crate::named::{Asked, Named, asks_secret};
+use crate::named::{Asked, Named, of_invoke};
+use crate::secrecy::{Secrecy, secrecy_at, secrecy_of, told_as};
+use crate::veiled::Veiled;
 use dlms_apdu::{Request, Response};
 use dlms_data::{Data, Descriptor, Selector};
 use std::alloc::Allocator;
@@ -16,6 +18,8 @@ pub enum Content<'a, A: Allocator> {
     Nothing,
     /// A value to set, a parameter, or a value that was read.
     Value(&'a Data<A>),
+    /// Such a value, which may be a secret or hold one.
+    Unknown(Veiled<'a, A>),
     /// Such a value, which is a secret.
     Secret,
     /// A block of a value: whether it is the last one, its number, and how many octets it has.
@@ -51,14 +55,21 @@ pub struct Said<'a, A: Allocator> {
 }
 
 /// What is shown of a value.
-fn shown<'a, A: Allocator>(secret: bool, value: &'a Data<A>) -> Content<'a, A>
-    ensures { Shows secret value.now result }
+fn shown<'a, A: Allocator>(secrecy: Secrecy, value: &'a Data<A>) -> Content<'a, A>
+    ensures { Shows secrecy value.now result }
 {
-    if secret {
-        Content::Secret
-    } else {
-        Content::Value(value)
+    match secrecy {
+        Secrecy::Secret => Content::Secret,
+        Secrecy::Unknown => Content::Unknown(Veiled::new(value)),
+        Secrecy::Open => Content::Value(value),
     }
+}
+
+/// What is known of the value of an attribute, or of the parameter of a method, and how it is told.
+fn known_of(raw: bool, descriptor: Descriptor, method: bool) -> Secrecy
+    ensures { result ≡ known_of raw descriptor method }
+{
+    told_as(raw, secrecy_at(Named { descriptor, method }))
 }
 
 /// An attribute of an object.
@@ -117,11 +128,14 @@ pub fn asked_by<A: Allocator>(request: &Request<'_, A>) -> Option<Asked>
 }
 
 /// What is shown of a method's parameter.
-fn parameter_shown<'a, A: Allocator>(secret: bool, parameter: &'a Option<Data<A>>) -> Content<'a, A>
-    ensures { ShowsParameter secret parameter.now result }
+fn parameter_shown<'a, A: Allocator>(
+    secrecy: Secrecy,
+    parameter: &'a Option<Data<A>>,
+) -> Content<'a, A>
+    ensures { ShowsParameter secrecy parameter.now result }
 {
     match parameter {
-        Some(value) => shown(secret, value),
+        Some(value) => shown(secrecy, value),
         None => Content::Nothing,
     }
 }
@@ -154,7 +168,9 @@ fn request_form<A: Allocator>(request: &Request<'_, A>) -> &'static str
 }
 
 /// The invoke-id-and-priority of a request.
-fn request_invoke<A: Allocator>(request: &Request<'_, A>) -> u8 {
+fn request_invoke<A: Allocator>(request: &Request<'_, A>) -> u8
+    ensures { result ≡ request_invoke request.now }
+{
     match request {
         Request::GetNormal { invoke, .. }
         | Request::GetNext { invoke, .. }
@@ -168,7 +184,9 @@ fn request_invoke<A: Allocator>(request: &Request<'_, A>) -> u8 {
 }
 
 /// The selector of a request.
-fn request_selector<'a, A: Allocator>(request: &'a Request<'_, A>) -> Option<&'a Selector<A>> {
+fn request_selector<'a, A: Allocator>(request: &'a Request<'_, A>) -> Option<&'a Selector<A>>
+    ensures { option_map (λ selector. selector.now) result ≡ request_selector request.now }
+{
     match request {
         Request::GetNormal { selector, .. }
         | Request::SetNormal { selector, .. }
@@ -178,8 +196,8 @@ fn request_selector<'a, A: Allocator>(request: &'a Request<'_, A>) -> Option<&'a
 }
 
 /// What a request says beside its form and what it names.
-fn request_content<'a, A: Allocator>(request: &'a Request<'_, A>) -> Content<'a, A>
-    ensures { ShowsRequest request.now result }
+fn request_content<'a, A: Allocator>(request: &'a Request<'_, A>, raw: bool) -> Content<'a, A>
+    ensures { ShowsRequest raw request.now result }
 {
     match request {
         Request::GetNormal { .. } => Content::Nothing,
@@ -188,43 +206,46 @@ fn request_content<'a, A: Allocator>(request: &'a Request<'_, A>) -> Content<'a,
             descriptor,
             value,
             ..
-        } => return shown(attribute(*descriptor).is_secret(), value),
+        } => return shown(known_of(raw, *descriptor, false), value),
         Request::ActionNormal {
             descriptor,
             parameter,
             ..
-        } => return parameter_shown(method(*descriptor).is_secret(), parameter),
+        } => return parameter_shown(known_of(raw, *descriptor, true), parameter),
         Request::SetFirst {
             last,
             number,
-            raw,
+            raw: octets,
             ..
-        } => block(*last, *number, raw),
+        } => block(*last, *number, octets),
         Request::SetBlock {
             last,
             number,
-            raw,
+            raw: octets,
             ..
-        } => block(*last, *number, raw),
+        } => block(*last, *number, octets),
         Request::ActionFirst {
             last,
             number,
-            raw,
+            raw: octets,
             ..
-        } => block(*last, *number, raw),
+        } => block(*last, *number, octets),
         Request::ActionBlock {
             last,
             number,
-            raw,
+            raw: octets,
             ..
-        } => block(*last, *number, raw),
+        } => block(*last, *number, octets),
     }
 }
 
-/// What is told of a request.
-pub fn request_said<'a, A: Allocator>(request: &'a Request<'_, A>) -> Said<'a, A>
+/// What is told of a request; where `raw` is set, strings that may be a secret as they are.
+pub fn request_said<'a, A: Allocator>(request: &'a Request<'_, A>, raw: bool) -> Said<'a, A>
     ensures form { result.form.now ≡ request_form request.now }
-    ensures content { ShowsRequest request.now result.content }
+    ensures invoke { result.invoke ≡ Some (request_invoke request.now) }
+    ensures named { result.named ≡ option_map (λ asked. asked.named) (asked_of request.now) }
+    ensures selector { option_map (λ selector. selector.now) result.selector ≡ request_selector request.now }
+    ensures content { ShowsRequest raw request.now result.content }
 {
     let asked = asked_by(request);
     Said {
@@ -232,7 +253,7 @@ pub fn request_said<'a, A: Allocator>(request: &'a Request<'_, A>) -> Said<'a, A
         invoke: Some(request_invoke(request)),
         named: asked.map(|asked| asked.named),
         selector: request_selector(request),
-        content: request_content(request),
+        content: request_content(request, raw),
     }
 }
 
@@ -255,7 +276,9 @@ fn response_form<A: Allocator>(response: &Response<'_, A>) -> &'static str
 }
 
 /// The invoke-id-and-priority of a response; an exception has none.
-fn response_invoke<A: Allocator>(response: &Response<'_, A>) -> Option<u8> {
+fn response_invoke<A: Allocator>(response: &Response<'_, A>) -> Option<u8>
+    ensures { result ≡ response_invoke response.now }
+{
     match response {
         Response::GetData { invoke, .. }
         | Response::GetResult { invoke, .. }
@@ -271,11 +294,14 @@ fn response_invoke<A: Allocator>(response: &Response<'_, A>) -> Option<u8> {
 }
 
 /// What a response says beside its form and what it answers.
-fn response_content<'a, A: Allocator>(response: &'a Response<'_, A>, secret: bool) -> Content<'a, A>
-    ensures { ShowsResponse secret response.now result }
+fn response_content<'a, A: Allocator>(
+    response: &'a Response<'_, A>,
+    secrecy: Secrecy,
+) -> Content<'a, A>
+    ensures { ShowsResponse secrecy response.now result }
 {
     match response {
-        Response::GetData { value, .. } => return shown(secret, value),
+        Response::GetData { value, .. } => return shown(secrecy, value),
         Response::GetResult { result, .. } => Content::Access(*result),
         Response::GetBlock {
             last,
@@ -302,28 +328,35 @@ fn response_content<'a, A: Allocator>(response: &'a Response<'_, A>, secret: boo
     }
 }
 
-/// What the request of a response named, so far as it was seen: the last one, if it has the same invoke-id-and-priority.
-fn answered(asked: Option<Asked>, invoke: Option<u8>) -> Option<Named> {
-    match asked {
-        Some(asked) if invoke == Some(asked.invoke) => Some(asked.named),
-        _ => None,
+/// What the request of a response asked for: what was asked for, where the response has its invoke-id-and-priority.
+pub fn answered<A: Allocator>(asked: Option<Asked>, response: &Response<'_, A>) -> Option<Asked>
+    ensures { result ≡ answered asked response.now }
+{
+    match response_invoke(response) {
+        Some(invoke) => of_invoke(asked, invoke),
+        None => None,
     }
 }
 
-/// What is told of a response. `asked` is what was asked for last: where that is a secret, no value is shown.
+/// What is told of a response. `asked` is what the client's APDU before it asked for, where that is known; where `raw` is set,
+/// strings that may be a secret are told as they are.
 pub fn response_said<'a, A: Allocator>(
     response: &'a Response<'_, A>,
     asked: Option<Asked>,
+    raw: bool,
 ) -> Said<'a, A>
     ensures form { result.form.now ≡ response_form response.now }
-    ensures content { ShowsResponse (asks_secret asked) response.now result.content }
+    ensures invoke { result.invoke ≡ response_invoke response.now }
+    ensures named { result.named ≡ option_map (λ asked. asked.named) (answered asked response.now) }
+    ensures selector { option_map (λ selector. selector.now) result.selector ≡ None }
+    ensures content { ShowsResponse (told_as raw (secrecy_of (answered asked response.now))) response.now result.content }
 {
-    let invoke = response_invoke(response);
+    let of = answered(asked, response);
     Said {
         form: response_form(response),
-        invoke,
-        named: answered(asked, invoke),
+        invoke: response_invoke(response),
+        named: of.map(|asked| asked.named),
         selector: None,
-        content: response_content(response, asks_secret(asked)),
+        content: response_content(response, told_as(raw, secrecy_of(of))),
     }
 }

@@ -171,7 +171,7 @@ impl<A: Allocator> Segments<A> {
     }
 
     /// Whether it is known that the next frame has this number.
-    fn is_known(&self, number: u8) -> bool
+    pub fn is_known(&self, number: u8) -> bool
         ensures { result ≡ is_known self.now.next number }
     {
         match self.next {
@@ -191,7 +191,7 @@ impl<A: Allocator> Segments<A> {
     }
 
     /// Whether this is the number of the frame before.
-    fn is_again(&self, number: u8) -> bool
+    pub fn is_again(&self, number: u8) -> bool
         ensures { result ≡ is_again self.now.next number }
     {
         match self.next {

@@ -1,33 +1,16 @@
 //! The talks of the clients with the meters.
 
-ghost use Rattle.std.specs.Prelude.{◌<◌, IfSome};
-ghost use Rattle.std.specs.Vec.{vec_len};
+ghost use Rattle.std.specs.Prelude.{◌≡◌, [], None, Some, remove, slice_index_or, IfOk, MatchOption, OnOk};
+ghost use Rattle.dlms_talks.specs.Segments.{behind_llc};
+ghost use Rattle.dlms_talks.specs.Talks.{are_same, awaited, forgotten, is_apdu, is_certain, is_repeated, may_be, new_talk, opened_talk, place_of, talk_behind, taken_of, taken_of_client, uncertain, with_talk};
 
-use crate::joining::Transfers;
-use crate::named::Asked;
 use crate::parties::{Parties, Side};
-use crate::segments::{Came, Segments};
+use crate::segments::{Came, Segments, behind_llc};
+use crate::services::Services;
 use std::alloc::{AllocError, Allocator};
 
 /// How many talks are followed at once.
 const MOST_TALKS: usize = 8;
-
-/// What is kept of the services of a talk.
-#[derive(Drop)]
-pub struct Services<A: Allocator> {
-    pub transfers: Transfers<A>,
-    pub asked: Option<Asked>,
-}
-
-impl<A: Allocator + Copy> Services<A> {
-    /// Nothing was asked for.
-    pub fn new(alloc: A) -> Self {
-        Services {
-            transfers: Transfers::new(alloc),
-            asked: None,
-        }
-    }
-}
 
 /// The numbers of an information frame, and whether its poll bit is set: without it the meter takes no frame.
 #[derive(Clone, Copy)]
@@ -48,32 +31,80 @@ pub struct Talk<A: Allocator> {
 
 impl<A: Allocator + Copy> Talk<A> {
     /// Before the first frame.
-    fn new(alloc: A, parties: Parties) -> Self {
+    fn new(alloc: A, parties: Parties, raw: bool) -> Self
+        ensures { result ≡ new_talk parties raw }
+    {
         Talk {
             parties,
             client: Segments::new(alloc),
             meter: Segments::new(alloc),
-            services: Services::new(alloc),
+            services: Services::new(alloc, raw),
         }
     }
 
-    /// The link goes down, or is asked for: nothing of what was under way goes on.
-    pub fn forget(&mut self, alloc: A) {
-        self.client.forget();
-        self.meter.forget();
-        self.services = Services::new(alloc);
+    /// Frames are missing: it is not known any more what was asked for, and nothing in blocks goes on.
+    fn lose(&mut self, alloc: A)
+        ensures { self.new ≡ uncertain self.old }
+    {
+        let raw = self.services.is_raw();
+        self.services = Services::new(alloc, raw);
     }
 
-    /// The link is up: each end begins with the number 0.
-    pub fn open(&mut self) {
+    /// The link goes down, or is asked for: nothing of what was under way goes on.
+    pub fn forget(&mut self, alloc: A)
+        ensures { self.new ≡ forgotten self.old }
+    {
+        *self = Talk::new(alloc, self.parties, self.services.is_raw());
+    }
+
+    /// The link is up: each end begins with the number 0, and nothing goes on.
+    pub fn open(&mut self, alloc: A)
+        ensures { self.new ≡ opened_talk self.old }
+    {
         self.client.open();
         self.meter.open();
+        self.lose(alloc);
     }
 
-    /// Takes a frame by which this side awaits that number next. The meter answers only what it took.
-    pub fn expect(&mut self, side: Option<Side>, receive: u8) {
-        if side == Some(Side::Meter) {
+    /// The meter awaits this number of the client next: it answers only what it took.
+    pub fn expect(&mut self, alloc: A, receive: u8)
+        ensures { self.new ≡ awaited self.old receive }
+    {
+        if !self.client.is_known(receive) {
             self.client.expect(receive);
+            self.meter.drop_unsent();
+            self.lose(alloc);
+        }
+    }
+
+    /// Whether a frame of the client is its last one again, with the same APDU.
+    fn is_repeated(&self, number: u8, info: &[u8]) -> bool
+        ensures { result ≡ is_repeated self.now.client number info.now }
+    {
+        if !self.client.is_again(number) {
+            return false;
+        }
+        match behind_llc(Some(Side::Client), info) {
+            Some(octets) => octets == self.client.apdu(),
+            None => false,
+        }
+    }
+
+    /// Whether no frame is missing before this one.
+    fn is_certain(&self, side: Option<Side>, numbers: Numbers, info: &[u8]) -> bool
+        ensures { result ≡ is_certain self.now side numbers info.now }
+    {
+        let Numbers { send, receive, .. } = numbers;
+        match side {
+            Some(Side::Client) => {
+                (self.client.is_known(send) && self.meter.is_known(receive))
+                    || self.is_repeated(send, info)
+            }
+            Some(Side::Meter) => {
+                self.client.is_known(receive)
+                    && (self.meter.is_known(send) || self.meter.is_again(send))
+            }
+            None => false,
         }
     }
 
@@ -83,7 +114,10 @@ impl<A: Allocator + Copy> Talk<A> {
         numbers: Numbers,
         follows: bool,
         info: &[u8],
-    ) -> Result<Came, AllocError> {
+    ) -> Result<Came, AllocError>
+        ensures came { IfOk result (λ came. came ≡ (taken_of_client self.old numbers follows info.now).0) }
+        ensures after { IfOk result (λ came. self.new ≡ (taken_of_client self.old numbers follows info.now).1) }
+    {
         let side = Some(Side::Client);
         if !numbers.poll {
             return Ok(Came::NoPoll);
@@ -91,28 +125,53 @@ impl<A: Allocator + Copy> Talk<A> {
         if !self.client.is_next(numbers.send) || !self.meter.is_next(numbers.receive) {
             return Ok(self.client.passed(side, numbers.send, follows, info));
         }
+        self.meter.expect(numbers.receive);
         if !follows {
             self.meter.drop_unsent();
+            self.services.pass();
         }
         self.client.take(side, numbers.send, follows, info)
     }
 
-    /// Takes an information frame of this side; `follows` says that another segment of its APDU does.
-    pub fn take(
+    /// Takes an information frame of this side.
+    fn take_from(
         &mut self,
+        alloc: A,
         side: Option<Side>,
         numbers: Numbers,
         follows: bool,
         info: &[u8],
-    ) -> Result<Came, AllocError> {
+    ) -> Result<Came, AllocError>
+        ensures came { IfOk result (λ came. came ≡ (taken_of self.old side numbers follows info.now).0) }
+        ensures after { IfOk result (λ came. self.new ≡ (taken_of self.old side numbers follows info.now).1) }
+    {
         match side {
             Some(Side::Meter) => {
-                self.client.expect(numbers.receive);
+                self.expect(alloc, numbers.receive);
                 self.meter.take(side, numbers.send, follows, info)
             }
             Some(Side::Client) => self.take_from_client(numbers, follows, info),
             None => self.client.take(side, numbers.send, follows, info),
         }
+    }
+
+    /// Takes an information frame of this side; `follows` says that another segment of its APDU does. Where frames are missing
+    /// before it, what was asked for is forgotten. Where memory is refused nothing is said of what is kept.
+    pub fn take(
+        &mut self,
+        alloc: A,
+        side: Option<Side>,
+        numbers: Numbers,
+        follows: bool,
+        info: &[u8],
+    ) -> Result<Came, AllocError>
+        ensures came { IfOk result (λ came. came ≡ (talk_behind self.old side numbers follows info.now).0) }
+        ensures after { IfOk result (λ came. self.new ≡ (talk_behind self.old side numbers follows info.now).1) }
+    {
+        if !self.is_certain(side, numbers, info) {
+            self.lose(alloc);
+        }
+        self.take_from(alloc, side, numbers, follows, info)
     }
 }
 
@@ -120,43 +179,55 @@ impl<A: Allocator + Copy> Talk<A> {
 #[derive(Drop)]
 pub struct Talks<A: Allocator> {
     talks: Vec<Talk<A>, A>,
+    raw: bool,
 }
 
 impl<A: Allocator + Copy> Talks<A> {
-    /// None yet.
-    pub fn new(alloc: A) -> Self {
+    /// None yet; where `raw` is set, strings that may be a secret are told as they are.
+    pub fn new(alloc: A, raw: bool) -> Self
+        ensures talks { result.talks.items ≡ [] }
+        ensures raw { result.raw ≡ raw }
+    {
         Talks {
             talks: Vec::new(alloc),
+            raw,
         }
     }
 
     /// Every talk begins anew.
-    pub fn reset(&mut self) {
+    pub fn reset(&mut self)
+        ensures talks { self.new.talks.items ≡ [] }
+        ensures raw { self.new.raw ≡ self.old.raw }
+    {
         self.talks.clear();
     }
 
     /// Where the talk of these ends stands.
     fn find(&self, parties: Parties) -> Option<usize>
-        ensures { IfSome result (λ at. at < vec_len self.now.talks) }
+        ensures { result ≡ place_of self.now.talks.items parties }
     {
-        for (at, talk) in self.talks.iter().enumerate() {
-            if talk.parties == parties {
-                return Some(at);
-            }
-        }
-        None
+        self.talks
+            .iter()
+            .position(|talk| talk.parties.are_same(parties))
     }
 
     /// Takes the talk of these ends out, or begins one. It is to be put back.
-    pub fn take(&mut self, alloc: A, parties: Parties) -> Talk<A> {
+    pub fn take(&mut self, alloc: A, parties: Parties) -> Talk<A>
+        ensures talk { MatchOption (place_of self.old.talks.items parties) (result ≡ new_talk parties self.old.raw) (λ at. result ≡ slice_index_or self.old.talks.items at result) }
+        ensures others { MatchOption (place_of self.old.talks.items parties) (self.new.talks.items ≡ self.old.talks.items) (λ at. self.new.talks.items ≡ remove self.old.talks.items at) }
+        ensures raw { self.new.raw ≡ self.old.raw }
+    {
         match self.find(parties) {
             Some(at) => self.talks.remove(at),
-            None => Talk::new(alloc, parties),
+            None => Talk::new(alloc, parties, self.raw),
         }
     }
 
     /// Puts a talk back. Where there are too many, the one that was longest silent is let go.
-    pub fn put(&mut self, talk: Talk<A>) -> Result<(), AllocError> {
+    pub fn put(&mut self, talk: Talk<A>) -> Result<(), AllocError>
+        ensures talks { OnOk result (self.new.talks.items ≡ with_talk self.old.talks.items talk) }
+        ensures raw { self.new.raw ≡ self.old.raw }
+    {
         if self.talks.len() >= MOST_TALKS {
             let _oldest = self.talks.remove(0);
         }

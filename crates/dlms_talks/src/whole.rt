@@ -4,6 +4,8 @@ ghost use Rattle.std.specs.Prelude.{IfOk};
 ghost use Rattle.dlms_talks.specs.Whole.{IsToldOfWhole};
 
 use crate::places::{Fault, value_fault};
+use crate::secrecy::Secrecy;
+use crate::veiled::Covered;
 use dlms_data::{Data, DataFault, read};
 use std::alloc::{AllocError, Allocator};
 
@@ -14,6 +16,8 @@ pub enum Whole<A: Allocator> {
     Secret,
     /// They spell this value.
     Value(Data<A>),
+    /// They spell this value, which may be a secret.
+    Unknown(Covered<A>),
     /// They spell no value.
     Unreadable(Fault),
 }
@@ -21,16 +25,22 @@ pub enum Whole<A: Allocator> {
 /// What is told of the joined octets: of a secret nothing but that it is one.
 pub fn whole_of<A: Allocator + Copy>(
     alloc: A,
-    secret: bool,
+    secrecy: Secrecy,
     octets: &[u8],
 ) -> Result<Whole<A>, AllocError>
-    ensures { IfOk result (IsToldOfWhole secret octets.now) }
+    ensures { IfOk result (IsToldOfWhole secrecy octets.now) }
 {
-    if secret {
-        return Ok(Whole::Secret);
-    }
+    let veiled = match secrecy {
+        Secrecy::Secret => return Ok(Whole::Secret),
+        Secrecy::Unknown => true,
+        Secrecy::Open => false,
+    };
     match read(alloc, octets) {
-        Ok((value, len)) if len == octets.len() => Ok(Whole::Value(value)),
+        Ok((value, len)) if len == octets.len() => Ok(if veiled {
+            Whole::Unknown(Covered::new(value))
+        } else {
+            Whole::Value(value)
+        }),
         Err(DataFault::Memory) => Err(AllocError),
         _ => Ok(Whole::Unreadable(value_fault(octets, 0))),
     }

@@ -14,8 +14,9 @@ use Rattle.dlms_headend.specs.declared.poll_fault.PollFault.TheVariants.{Line, P
 use Rattle.dlms_headend.specs.declared.row.Row.{Row}
 use Rattle.dlms_headend.specs.declared.stage.Course.{Course}
 use Rattle.dlms_headend.specs.declared.stage.Course.TheVariants.{Ready, Running, Done, Failed}
+use Rattle.dlms_headend.specs.declared.plan.Columns.{Columns}
 use Rattle.dlms_headend.specs.declared.stage.Stage.{Stage}
-use Rattle.dlms_headend.specs.declared.stage.Stage.TheVariants.{Associating, Getting, Releasing, Leaving}
+use Rattle.dlms_headend.specs.declared.stage.Stage.TheVariants.{Associating, Naming, Getting, Checking, Releasing, Leaving}
 use Rattle.dlms_headend.specs.declared.step.PollStep.{PollStep}
 use Rattle.dlms_headend.specs.declared.step.PollStep.TheVariants as step
 use Rattle.dlms_headend.proofs.Told.{stage_told}
@@ -65,7 +66,7 @@ failed_poller now p fault plan course failed = record {
   fits = subst (λ (c : Course). FitsIn c p (taken_by now.course now.link.taken)) (sym course) tt;
 }
 
-done_poller : (now : World) (p : PollerValue) → p.plan ≡ now.plan → p.course ≡ Done → now.course ≡ Done → p.talk.rows ≡ now.rows → HasReleased now.link.taken p.talk.rows → IsPollerOf p now
+done_poller : (now : World) (p : PollerValue) → p.plan ≡ now.plan → p.course ≡ Done → now.course ≡ Done → p.talk.rows ≡ now.rows → HasReleased p.plan.columns now.link.taken p.talk.rows → IsPollerOf p now
 done_poller now p plan course done rows released = record {
   plan = plan;
   course = course ∙ sym done;
@@ -112,7 +113,7 @@ sends_by w frame rest old new c taken f at free ec et idle keeps runs fits (leav
     let there : IsIdle (reached w).client = subst IsIdle (sym ec) idle in
     let is : happens (reached w) Disconnect ≡ disconnects (reached w) Open None = left (reached w) there in (
       record w { link = happens (reached w) Disconnect },
-      Leaves w frame rest rows at.runs at.line free (subst (λ l. HasReleased l rows) (sym et) h),
+      Leaves w frame rest rows at.runs at.line free (subst (λ l. HasReleased w.plan.columns l rows) (sym et) (subst (λ (pl : PlanValue). HasReleased pl.columns taken rows) at.polls.plan h)),
       running_poller (record w { link = happens (reached w) Disconnect }) new (keeps ∙ at.polls.plan) runs at.runs
           (le ∙ ap client_disconnect (sym ec) ∙ sym (ap (λ (l : Link). l.client) is))
           (subst (λ l. FitsIn Running new l) (sym et ∙ sym (ap (λ (l : Link). l.taken) is)) fits),
@@ -124,7 +125,7 @@ sends w frame rest old new c taken f at free ec et idle s =
     sends_by w frame rest old new c taken f at free ec et idle s.keeps s.runs (subst (λ (x : Course). FitsIn x new taken) s.runs s.fits) s.goes
 
 -- the poll fails
-fails : (w : World) (frame : Parts) (rest : List Parts) (old new : PollerValue) (fault : PollFault) → Frame_at w frame rest old → Fails w.link.taken (reached w) fault (gives w frame) → new.plan ≡ old.plan → new.course ≡ Failed fault → TurnsInto w new
+fails : (w : World) (frame : Parts) (rest : List Parts) (old new : PollerValue) (fault : PollFault) → Frame_at w frame rest old → Fails w.plan.columns w.link.taken (reached w) fault (gives w frame) → new.plan ≡ old.plan → new.course ≡ Failed fault → TurnsInto w new
 fails w frame rest old new fault at why plan course = (
   record w { link = reached w; course = Failed fault },
   FailsAt w frame rest fault at.runs at.line why,
@@ -132,21 +133,23 @@ fails w frame rest old new fault at why plan course = (
 )
 
 -- where the link comes up nothing was taken
-none_taken : (stage : Stage) (blocks : Joining) (rows : List Row) (apdus : List (List ℕ)) (phase : Phase) → FitsAt stage blocks rows apdus → StandsAt stage phase → phase ≡ Connecting → apdus ≡ []
-none_taken Associating blocks rows apdus phase h s e = h.0
-none_taken (Getting taken) blocks rows apdus phase h s e = absurd (cc)
-none_taken Releasing blocks rows apdus phase h s e = absurd (cc)
-none_taken Leaving blocks rows apdus phase h s e = absurd (cc)
+none_taken : (columns : Columns) (stage : Stage) (blocks : Joining) (rows : List Row) (apdus : List (List ℕ)) (phase : Phase) → FitsAt columns stage blocks rows apdus → StandsAt stage phase → phase ≡ Connecting → apdus ≡ []
+none_taken columns Associating blocks rows apdus phase h s e = h.0
+none_taken columns Naming blocks rows apdus phase h s e = absurd (cc)
+none_taken columns (Getting taken) blocks rows apdus phase h s e = absurd (cc)
+none_taken columns Checking blocks rows apdus phase h s e = absurd (cc)
+none_taken columns Releasing blocks rows apdus phase h s e = absurd (cc)
+none_taken columns Leaving blocks rows apdus phase h s e = absurd (cc)
 
-wants_none : WantsRequest [] → ⊥
-wants_none (taken, joined, has) = cc
+wants_none : (columns : Columns) → WantsRequest columns [] → ⊥
+wants_none columns (taken, joined, has) = cc
 
 up : (w : World) (frame : Parts) (rest : List Parts) (result : Result PollStep PollFault) (old new : PollerValue) (c : ClientRecord) → Frame_at w frame rest old → IsFree (gives w frame)
     → (reached w).client ≡ c → (reached w).taken ≡ w.link.taken → w.link.taken ≡ [] → IsIdle c → Continues (with_link old c) w.link.taken result new → TurnsInto w new
 up w frame rest (Ok step.Nothing) old new c at free ec et none idle k = absurd k
 up w frame rest (Ok (step.Send f)) old new c at free ec et none idle k = sends w frame rest old new c w.link.taken f at free ec et idle k
 up w frame rest (Ok step.Done) old new c at free ec et none idle k = absurd k
-up w frame rest (Err fault) old new c at free ec et none idle k = absurd (wants_none (subst WantsRequest none k.1))
+up w frame rest (Err fault) old new c at free ec et none idle k = absurd (wants_none old.plan.columns (subst (WantsRequest old.plan.columns) none k.1))
 
 apdu_comes : (w : World) (frame : Parts) (rest : List Parts) (result : Result PollStep PollFault) (old new : PollerValue) (c : ClientRecord) → Frame_at w frame rest old → out.Apdu ≡ gives w frame
     → (reached w).client ≡ c → (reached w).taken ≡ w.link.taken ++ c.apdu ∷ [] → IsIdle c → Answers (with_link old c) w.link.taken result new → TurnsInto w new
@@ -154,9 +157,11 @@ apdu_comes w frame rest (Ok step.Nothing) old new c at is ec et idle k = absurd 
 apdu_comes w frame rest (Ok (step.Send f)) old new c at is ec et idle k = sends w frame rest old new c (w.link.taken ++ c.apdu ∷ []) f at (subst IsFree is tt) ec et idle k
 apdu_comes w frame rest (Ok step.Done) old new c at is ec et idle k = absurd k
 apdu_comes w frame rest (Err fault) old new c at is ec et idle (inl ends, failed) =
-    fails w frame rest old new fault at (subst (Fails w.link.taken (reached w) fault) is (inl (subst (λ (x : ClientRecord). EndsBy w.link.taken x.apdu fault) (sym ec) ends))) failed.plan failed.course
+    let here : EndsBy w.plan.columns w.link.taken c.apdu fault = subst (λ (pl : PlanValue). EndsBy pl.columns w.link.taken c.apdu fault) at.polls.plan ends in
+    fails w frame rest old new fault at (subst (Fails w.plan.columns w.link.taken (reached w) fault) is (inl (subst (λ (x : ClientRecord). EndsBy w.plan.columns w.link.taken x.apdu fault) (sym ec) here))) failed.plan failed.course
 apdu_comes w frame rest (Err fault) old new c at is ec et idle (inr wants, failed) =
-    fails w frame rest old new fault at (subst (Fails w.link.taken (reached w) fault) is (inr (wants.0, subst WantsRequest (sym et) wants.1))) failed.plan failed.course
+    let here : WantsRequest w.plan.columns (w.link.taken ++ c.apdu ∷ []) = subst (λ (pl : PlanValue). WantsRequest pl.columns (w.link.taken ++ c.apdu ∷ [])) at.polls.plan wants.1 in
+    fails w frame rest old new fault at (subst (Fails w.plan.columns w.link.taken (reached w) fault) is (inr (wants.0, subst (WantsRequest w.plan.columns) (sym et) here))) failed.plan failed.course
 
 -- the link goes down
 not_leaving-a : Associating ≡ Leaving → ⊥
@@ -168,24 +173,36 @@ not_leaving-g taken e = cc
 not_leaving-r : Releasing ≡ Leaving → ⊥
 not_leaving-r e = cc
 
+not_leaving-n : Naming ≡ Leaving → ⊥
+not_leaving-n e = cc
+
+not_leaving-c : Checking ≡ Leaving → ⊥
+not_leaving-c e = cc
+
 down_early : (w : World) (frame : Parts) (rest : List Parts) (result : Result PollStep PollFault) (old new : PollerValue) (c : ClientRecord) → Frame_at w frame rest old → out.Down ≡ gives w frame
-    → ((rows : List Row) → HasReleased w.link.taken rows → ⊥) → HasFailed (with_link old c) Protocol result new → TurnsInto w new
-down_early w frame rest result old new c at is none h = fails w frame rest old new Protocol at (subst (Fails w.link.taken (reached w) Protocol) is (refl, none)) (ap (λ (p : PollerValue). p.plan) h.after) (ap (λ (p : PollerValue). p.course) h.after)
+    → ((rows : List Row) → HasReleased w.plan.columns w.link.taken rows → ⊥) → HasFailed (with_link old c) Protocol result new → TurnsInto w new
+down_early w frame rest result old new c at is none h = fails w frame rest old new Protocol at (subst (Fails w.plan.columns w.link.taken (reached w) Protocol) is (refl, none)) (ap (λ (p : PollerValue). p.plan) h.after) (ap (λ (p : PollerValue). p.course) h.after)
 
 down : (w : World) (frame : Parts) (rest : List Parts) (result : Result PollStep PollFault) (old new : PollerValue) (c : ClientRecord) (stage : Stage) (blocks : Joining) → Frame_at w frame rest old → out.Down ≡ gives w frame
-    → (reached w).taken ≡ w.link.taken → FitsAt stage blocks old.talk.rows w.link.taken → GoesDown stage (with_link old c) result new → TurnsInto w new
+    → (reached w).taken ≡ w.link.taken → FitsAt w.plan.columns stage blocks old.talk.rows w.link.taken → GoesDown stage (with_link old c) result new → TurnsInto w new
 down w frame rest result old new c Associating blocks at is et fits h =
-    down_early w frame rest result old new c at is (λ rows k. absurd (not_leaving-a (stage_told Associating blocks old.talk.rows rows w.link.taken fits k).0)) h
+    down_early w frame rest result old new c at is (λ rows k. absurd (not_leaving-a (stage_told w.plan.columns Associating blocks old.talk.rows rows w.link.taken fits k).0)) h
+down w frame rest result old new c Naming blocks at is et fits h =
+    down_early w frame rest result old new c at is (λ rows k. absurd (not_leaving-n (stage_told w.plan.columns Naming blocks old.talk.rows rows w.link.taken fits k).0)) h
+down w frame rest result old new c Checking blocks at is et fits h =
+    down_early w frame rest result old new c at is (λ rows k. absurd (not_leaving-c (stage_told w.plan.columns Checking blocks old.talk.rows rows w.link.taken fits k).0)) h
 down w frame rest result old new c (Getting taken) blocks at is et fits h =
-    down_early w frame rest result old new c at is (λ rows k. absurd (not_leaving-g taken (stage_told (Getting taken) blocks old.talk.rows rows w.link.taken fits k).0)) h
+    down_early w frame rest result old new c at is (λ rows k. absurd (not_leaving-g taken (stage_told w.plan.columns (Getting taken) blocks old.talk.rows rows w.link.taken fits k).0)) h
 down w frame rest result old new c Releasing blocks at is et fits h =
-    down_early w frame rest result old new c at is (λ rows k. absurd (not_leaving-r (stage_told Releasing blocks old.talk.rows rows w.link.taken fits k).0)) h
+    down_early w frame rest result old new c at is (λ rows k. absurd (not_leaving-r (stage_told w.plan.columns Releasing blocks old.talk.rows rows w.link.taken fits k).0)) h
 down w frame rest result old new c Leaving blocks at is et fits h =
-    let rows : new.talk.rows ≡ old.talk.rows = ap (λ (p : PollerValue). p.talk.rows) h.after in (
+    let rows : new.talk.rows ≡ old.talk.rows = ap (λ (p : PollerValue). p.talk.rows) h.after in
+    let plan : new.plan ≡ w.plan = ap (λ (p : PollerValue). p.plan) h.after ∙ at.polls.plan in (
       record w { link = reached w; course = Done; rows = old.talk.rows },
       Ends w frame rest old.talk.rows at.runs at.line (sym is) fits,
-      done_poller (record w { link = reached w; course = Done; rows = old.talk.rows }) new (ap (λ (p : PollerValue). p.plan) h.after ∙ at.polls.plan) (ap (λ (p : PollerValue). p.course) h.after) refl rows
-          (subst (λ l. HasReleased l new.talk.rows) (sym et) (subst (HasReleased w.link.taken) (sym rows) fits)),
+      done_poller (record w { link = reached w; course = Done; rows = old.talk.rows }) new plan (ap (λ (p : PollerValue). p.course) h.after) refl rows
+          (subst (λ (pl : PlanValue). HasReleased pl.columns (reached w).taken new.talk.rows) (sym plan)
+          (subst (λ l. HasReleased w.plan.columns l new.talk.rows) (sym et) (subst (HasReleased w.plan.columns w.link.taken) (sym rows) fits))),
     )
 
 -- whatever comes of the frame
@@ -207,12 +224,13 @@ by_out w frame rest result old new c (out.Send f) at is e stands k =
           (subst (λ l. FitsIn Running new l) (sym (ap (λ (l : Link). l.taken) e)) (subst (λ (x : Course). FitsIn x new w.link.taken) course k.2)),
     )
 by_out w frame rest result old new c out.Up at is e stands k =
-    let none : w.link.taken ≡ [] = none_taken old.talk.stage old.talk.blocks old.talk.rows w.link.taken old.link.phase at.polls.fits.0 at.polls.fits.1 (ap (λ (x : ClientRecord). x.phase) at.polls.link ∙ stands.0) in
+    let none : w.link.taken ≡ [] = none_taken old.plan.columns old.talk.stage old.talk.blocks old.talk.rows w.link.taken old.link.phase at.polls.fits.0 at.polls.fits.1 (ap (λ (x : ClientRecord). x.phase) at.polls.link ∙ stands.0) in
     up w frame rest result old new c at (subst IsFree is tt) (ap (λ (l : Link). l.client) e) (ap (λ (l : Link). l.taken) e) none stands.1 k
 by_out w frame rest result old new c out.Apdu at is e stands k =
     apdu_comes w frame rest result old new c at is (ap (λ (l : Link). l.client) e) (ap (λ (l : Link). l.taken) e) stands.1 k
 by_out w frame rest result old new c out.Down at is e stands k =
-    down w frame rest result old new c old.talk.stage old.talk.blocks at is (ap (λ (l : Link). l.taken) e) at.polls.fits.0 k
+    down w frame rest result old new c old.talk.stage old.talk.blocks at is (ap (λ (l : Link). l.taken) e)
+    (subst (λ (pl : PlanValue). FitsAt pl.columns old.talk.stage old.talk.blocks old.talk.rows w.link.taken) at.polls.plan at.polls.fits.0) k
 
 pub on_is_turn : OnIsTurn
 on_is_turn w frame rest result old new is runs line polls =
@@ -230,7 +248,7 @@ fresh_closed w p fits link = ap (λ (c : ClientRecord). c.phase) (sym link) ∙ 
 
 -- the talk has not begun
 begun : (p : PollerValue) → p.talk ≡ fresh_talk → p.link.phase ≡ Connecting → FitsIn Running p []
-begun p talk phase = (subst (λ (t : TalkValue). FitsAt t.stage t.blocks t.rows []) (sym talk) (refl, refl, refl), subst (λ (t : TalkValue). StandsAt t.stage p.link.phase) (sym talk) (inl phase))
+begun p talk phase = (subst (λ (t : TalkValue). FitsAt p.plan.columns t.stage t.blocks t.rows []) (sym talk) (refl, refl, refl), subst (λ (t : TalkValue). StandsAt t.stage p.link.phase) (sym talk) (inl phase))
 
 pub next_is_turn : NextIsTurn
 next_is_turn w result old new is ready begins =
@@ -254,13 +272,16 @@ next_is_turn w result old new is ready begins =
 open_phase : (stage : Stage) (phase : Phase) → StandsAt stage phase → phase ≢ Closed
 open_phase Associating phase (inl s) e = absurd (cc)
 open_phase Associating phase (inr s) e = absurd (cc)
+open_phase Naming phase s e = absurd (cc)
 open_phase (Getting taken) phase s e = absurd (cc)
+open_phase Checking phase s e = absurd (cc)
 open_phase Releasing phase s e = absurd (cc)
 open_phase Leaving phase s e = absurd (cc)
 
-still_fits : (old new : PollerValue) (taken : List (List ℕ)) → new.talk ≡ old.talk → new.link.phase ≡ old.link.phase → FitsIn Running old taken → FitsIn Running new taken
-still_fits old new taken talk phase fits = (
-  subst (λ (t : TalkValue). FitsAt t.stage t.blocks t.rows taken) (sym talk) fits.0,
+still_fits : (old new : PollerValue) (taken : List (List ℕ)) → new.plan ≡ old.plan → new.talk ≡ old.talk → new.link.phase ≡ old.link.phase → FitsIn Running old taken → FitsIn Running new taken
+still_fits old new taken plan talk phase fits = (
+  subst (λ (t : TalkValue). FitsAt new.plan.columns t.stage t.blocks t.rows taken) (sym talk)
+      (subst (λ (pl : PlanValue). FitsAt pl.columns old.talk.stage old.talk.blocks old.talk.rows taken) (sym plan) fits.0),
   subst (λ (t : TalkValue). StandsAt t.stage new.link.phase) (sym talk) (subst (StandsAt old.talk.stage) (sym phase) fits.1),
 )
 
@@ -274,7 +295,7 @@ late w result old new true (Some f) p runs some waits e k =
       record w { link = happens w.link LineTimesOut },
       TimedOut w runs (λ shut. open_phase old.talk.stage old.link.phase p.fits.1 (ap (λ (x : ClientRecord). x.phase) p.link ∙ sym (ap (λ (l : Link). l.client.phase) e) ∙ shut)),
       running_poller (record w { link = happens w.link LineTimesOut }) new (ap (λ (x : PollerValue). x.plan) sent.1 ∙ p.plan) (ap (λ (x : PollerValue). x.course) sent.1 ∙ p.course) runs link
-          (subst (λ l. FitsIn Running new l) (sym (ap (λ (l : Link). l.taken) e)) (still_fits old new w.link.taken (ap (λ (x : PollerValue). x.talk) sent.1)
+          (subst (λ l. FitsIn Running new l) (sym (ap (λ (l : Link). l.taken) e)) (still_fits old new w.link.taken (ap (λ (x : PollerValue). x.plan) sent.1) (ap (λ (x : PollerValue). x.talk) sent.1)
           (ap (λ (x : PollerValue). x.link.phase) sent.1 ∙ sym (ap (λ (x : ClientRecord). x.phase) p.link)) p.fits)),
     )
 late w result old new false v p runs some waits e k = (

@@ -8,6 +8,7 @@ use Rattle.dlms_frame.specs.declared.client.Client.{Client}
 use Rattle.dlms_frame.specs.Frame.{Parts}
 use Rattle.dlms_headend.specs.Asking.{PlanValue}
 use Rattle.dlms_headend.specs.Poll.{Asks, HasReleased}
+use Rattle.dlms_headend.specs.declared.plan.Columns.{Columns}
 use Rattle.dlms_headend.specs.declared.row.Row.{Row}
 use Rattle.dlms_link.specs.World.{LinkWorld as Link, IsBeginningOf}
 use Rattle.dlms_link.specs.declared.phase.Phase.{Phase}
@@ -54,8 +55,8 @@ talks plan b (q ∷ qs) (t ∷ ts) rest more others [] h e k = cc
 talks plan b (q ∷ qs) (t ∷ ts) rest more others (x ∷ served) h e k =
     (subst (Asks plan b) (sym (ap first_of e)) h.0, sym (ap first_of k), talks plan (b ++ t ∷ []) qs ts rest more others served h.1 (ap rest_of e) (ap rest_of k))
 
-none_released : (taken : List (List ℕ)) (rows : List Row) → HasReleased taken rows → taken ≡ [] → ⊥
-none_released taken rows released none = no_end released.before released.answer (sym released.are ∙ none)
+none_released : (columns : Columns) (taken : List (List ℕ)) (rows : List Row) → HasReleased columns taken rows → taken ≡ [] → ⊥
+none_released columns taken rows released none = no_end released.before released.answer (sym released.are ∙ none)
   where
     no_end : (xs : List (List ℕ)) (x : List ℕ) → xs ++ x ∷ [] ≡ [] → ⊥
     no_end [] x e = cc
@@ -70,9 +71,9 @@ line_not_closed who link frame rest sound line closed =
     apart e = cc
 
 pub is_told : AnswersTell → (who : Client) (w : World) (frame : Parts) (rest : List Parts) (rows : List Row) → w.plan.client ≡ who → Sound who w.link → w.link.down_line ≡ frame ∷ rest → Fit w.plan w.link → Chain who w.link w.ours w.session w.served →
-    HasReleased w.link.taken rows → IsTold w.plan w.served rows
+    HasReleased w.plan.columns w.link.taken rows → IsTold w.plan w.served rows
 is_told tell who w frame rest rows client sound line fit c released =
-    let first = asked_first w.plan w.link.client.phase w.link.client.waits w.link.asked w.link.taken (none_released w.link.taken rows released) (line_not_closed who w.link frame rest sound line) fit in
+    let first = asked_first w.plan w.link.client.phase w.link.client.waits w.link.asked w.link.taken (none_released w.plan.columns w.link.taken rows released) (line_not_closed who w.link frame rest sound line) fit in
     let up : IsBeginningOf w.link.served w.link.asked = served_is who sound in
     let down : IsBeginningOf w.link.taken w.link.answers = taken_is who sound in
     let talk = talks w.plan [] first.before w.link.taken first.rest up.0 down.0 w.served first.answered (ap (λ l. l ++ up.0) c.apdus ∙ up.1 ∙ first.are) (down.1 ∙ sym c.answers) in

@@ -1,5 +1,5 @@
 -- A poll's requests for further blocks, and the blocks that answer them.
-use Rattle.std.proofs.Common.{arith, ◌≡◌, ◌<◌, ◌≤◌, ◌+◌, ◌-◌, ◌*◌, ◌==◌, ℕ, zero, suc, Bool, true, false, Option, Some, None, Result, Ok, List, [], ◌∷◌, ◌++◌, map, length, drop, refl, sym, ◌∙◌, ap, subst, append_assoc}
+use Rattle.std.proofs.Common.{arith, ◌≡◌, ◌<◌, ◌≤◌, ◌+◌, ◌-◌, ◌*◌, ◌==◌, ℕ, zero, suc, Bool, true, false, Option, Some, None, Result, Ok, List, [], ◌∷◌, ◌++◌, map, length, length-append, drop, refl, sym, ◌∙◌, ap, subst, append_assoc}
 use Rattle.std.specs.Prelude.{◌^◌}
 use Rattle.std.proofs.lemmas.List.{append-nil}
 use Rattle.std.proofs.lemmas.Bool.{leb-false}
@@ -14,7 +14,11 @@ use Rattle.dlms_blocks.specs.Block.{block_bytes, blocks_up_to, is_last}
 use Rattle.dlms_blocks.specs.Going.{Going}
 use Rattle.dlms_blocks.proofs.BlockLemmas.{whole_of}
 use Rattle.dlms_headend.specs.Asking.{PlanValue, invoke, next_bytes}
-use Rattle.dlms_headend.specs.Poll.{Asks, associates, gets, goes_on as goes_further, releases, HasBlocks, HasRows, AreBlocks, IsMore, IsMoreBy, Spells, SpellsBy}
+use Rattle.dlms_headend.specs.Poll.{Asks, associates, names, gets, goes_on as goes_further, checks, releases, HasAccepted, AreNamed, HasBlocks, HasRows, HasNamed, AreBlocks, IsMoreBy, Spells, SpellsBy}
+use Rattle.dlms_headend.specs.declared.plan.Columns.{Columns}
+use Rattle.dlms_headend.specs.declared.plan.Columns.TheVariants.{Asked as AsksColumns}
+use Rattle.dlms_headend.proofs.TalkLemmas.{blocks_append}
+use Rattle.dlms_headend.proofs.Told.{has_blocks_told, rows_inside}
 use Rattle.dlms_headend.specs.Rows.{IsEncoded}
 use Rattle.dlms_headend.specs.declared.row.Row.{Row}
 use Rattle.dlms_meter.specs.Transfers.{Exchange, Asked, InTurn}
@@ -28,79 +32,38 @@ use Rattle.dlms_world.specs.World.{GivesData, GivesDataBy}
 use Rattle.dlms_world.specs.Told.{Talks}
 use Rattle.dlms_world.proofs.Gets.{no_data, no_data_in, failed_get, read_exception}
 
--- ---- lists and blocks: these stand in the head end's proofs, where they are private
+-- ---- what came before
 
-snoc : {X : Type 0} (xs ys : List X) (x y : X) → xs ++ x ∷ [] ≡ ys ++ y ∷ [] → (xs ≡ ys) × (x ≡ y)
-snoc [] [] x y e = (refl, cc)
-snoc [] (b ∷ []) x y e = cc
-snoc [] (b ∷ c ∷ ys) x y e = cc
-snoc (a ∷ []) [] x y e = cc
-snoc (a ∷ c ∷ xs) [] x y e = cc
-snoc (a ∷ xs) (b ∷ ys) x y e =
-    let heads : a ≡ b = cc in
-    let tails : xs ++ x ∷ [] ≡ ys ++ y ∷ [] = cc in
-    let rest = snoc xs ys x y tails in
-    let same : xs ≡ ys = rest.0 in
-    (cc (heads, same), rest.1)
-
-more_not_spelled : (taken other : ℕ) (joined bytes : List ℕ) (read : Result ResponseForm Refusal) (rows : List Row) → IsMoreBy taken read bytes → SpellsBy other joined read rows → ⊥
-more_not_spelled taken other joined bytes (Ok (get_block i last number raw)) rows h k = let a : last ≡ false = h.0 in let b : last ≡ true = k.0 in cc
-more_not_spelled taken other joined bytes _ rows h k = h
-
-blocks_count : (before : ℕ) (apdus : List (List ℕ)) (t u : ℕ) (i j : List ℕ) → AreBlocks before apdus t i → AreBlocks before apdus u j → t ≡ u
-blocks_count before [] t u i j h k = h.0 ∙ sym k.0
-blocks_count before (apdu ∷ apdus) t u i j h k = blocks_count (before + 1) apdus t u h.1 k.1 h.4 k.4
-
-blocks_last : (before : ℕ) (apdus : List (List ℕ)) (apdu : List ℕ) (t : ℕ) (i : List ℕ) → AreBlocks before (apdus ++ apdu ∷ []) t i → (n : ℕ) × (bytes : List ℕ) × IsMore n apdu bytes
-blocks_last before [] apdu t i h = (before, h.0, h.2)
-blocks_last before (first ∷ apdus) apdu t i h = blocks_last (before + 1) apdus apdu t h.1 h.4
-
-pub has_count : (apdus : List (List ℕ)) (t u : ℕ) (i j : List ℕ) → HasBlocks apdus t i → HasBlocks apdus u j → t ≡ u
-has_count apdus t u i j h k =
-    let both : h.response ∷ h.blocks ≡ k.response ∷ k.blocks = sym h.are ∙ k.are in
-    let tails : h.blocks ≡ k.blocks = cc in
-    blocks_count 0 k.blocks t u i j (subst (λ (b : List (List ℕ)). AreBlocks 0 b t i) tails h.come) k.come
-
-AreBlocks-append : (before taken : ℕ) (apdus : List (List ℕ)) (joined bytes apdu : List ℕ) → AreBlocks before apdus taken joined → IsMore taken apdu bytes → AreBlocks before (apdus ++ apdu ∷ []) (taken + 1) (joined ++ bytes)
-AreBlocks-append before taken [] joined bytes apdu h m =
-    let count : before ≡ taken = sym h.0 in
-    let next : IsMore before apdu bytes = rw count m in
-    let joins : joined ++ bytes ≡ bytes ++ [] = rw (h.1) (sym (append-nil bytes)) in
-    (bytes, [], next, joins, (ap (λ (n : ℕ). n + 1) h.0, refl))
-AreBlocks-append before taken (first ∷ apdus) joined bytes apdu h m =
-    (h.0, h.1 ++ bytes, h.2, ap (λ (j : List ℕ). j ++ bytes) h.3 ∙ append_assoc h.0 h.1 bytes, AreBlocks-append (before + 1) taken apdus h.1 bytes apdu h.4 m)
-
-pub blocks_append : (apdus : List (List ℕ)) (taken : ℕ) (joined bytes apdu : List ℕ) → HasBlocks apdus taken joined → IsMore taken apdu bytes → HasBlocks (apdus ++ apdu ∷ []) (taken + 1) (joined ++ bytes)
-blocks_append apdus taken joined bytes apdu h m = record {
-  response = h.response;
-  blocks = h.blocks ++ apdu ∷ [];
-  are = ap (λ (l : List (List ℕ)). l ++ apdu ∷ []) h.are;
-  accepts = h.accepts;
-  come = AreBlocks-append 0 taken h.blocks joined bytes apdu h.come m;
-}
-
--- ---- what is asked
+pub has_count : (columns : Columns) (apdus : List (List ℕ)) (t u : ℕ) (i j : List ℕ) → HasBlocks columns apdus t i → HasBlocks columns apdus u j → t ≡ u
+has_count columns apdus t u i j h k = (has_blocks_told columns apdus t u i j h k).0
 
 -- rows came with an APDU that is no block behind which others are to come
-pub not_both : (apdus : List (List ℕ)) (k : ℕ) (joined : List ℕ) (rows : List Row) → HasBlocks apdus k joined → HasRows apdus rows → ⊥
-not_both apdus k joined rows h r =
-    let all : (r.blocks.response ∷ r.blocks.blocks) ++ r.answer ∷ [] ≡ h.response ∷ h.blocks = ap (λ l. l ++ r.answer ∷ []) (sym r.blocks.are) ∙ sym r.are ∙ h.are in
-    let tails : r.blocks.blocks ++ r.answer ∷ [] ≡ h.blocks = cc in
-    let one = blocks_last 0 r.blocks.blocks r.answer k joined (subst (λ b. AreBlocks 0 b k joined) (sym tails) h.come) in
-    more_not_spelled one.0 r.taken r.joined one.1 (response_at r.answer) rows one.2 r.spelled
+pub not_both : (columns : Columns) (apdus : List (List ℕ)) (k : ℕ) (joined : List ℕ) (rows : List Row) → HasBlocks columns apdus k joined → HasRows columns apdus rows → ⊥
+not_both columns apdus k joined rows h r = rows_inside columns apdus apdus [] k joined rows h r (sym (append-nil apdus))
+
+pub not_named : (columns : Columns) (apdus : List (List ℕ)) (k : ℕ) (joined : List ℕ) (rows : List Row) → HasBlocks columns apdus k joined → HasNamed columns apdus rows → ⊥
+not_named columns apdus k joined rows h r = rows_inside columns apdus r.before r.names k joined rows h r.polled r.are
+
+-- where the columns are asked for, an answer that tells them came behind the acceptance
+pub not_accepted : (columns : Columns) (apdus : List (List ℕ)) (k : ℕ) (joined : List ℕ) → columns ≡ AsksColumns → HasBlocks columns apdus k joined → HasAccepted apdus → ⊥
+not_accepted columns apdus k joined asked h a =
+    let named : AreNamed AsksColumns h.names = subst (λ (c : Columns). AreNamed c h.names) asked h.named in
+    omega (arith, ap length (sym h.are ∙ a.are), length-append h.names h.blocks, ap length named.1)
 
 -- behind so many blocks the next one is asked for
-pub asks_next : (plan : PlanValue) (apdus : List (List ℕ)) (k : ℕ) (joined apdu : List ℕ) → 0 < k → HasBlocks apdus k joined → Asks plan apdus apdu → apdu ≡ next_bytes k
+pub asks_next : (plan : PlanValue) (apdus : List (List ℕ)) (k : ℕ) (joined apdu : List ℕ) → 0 < k → HasBlocks plan.columns apdus k joined → Asks plan apdus apdu → apdu ≡ next_bytes k
 asks_next plan apdus k joined apdu some h (associates none is) = absurd (empty (sym none ∙ h.are))
   where
-    empty : [] ≡ h.response ∷ h.blocks → ⊥
+    empty : [] ≡ h.response ∷ (h.names ++ h.blocks) → ⊥
     empty e = cc
-asks_next plan apdus k joined apdu some h (gets other g is) = absurd (none_zero k some (has_count apdus k 0 joined other h g))
+asks_next plan apdus k joined apdu some h (names asked a is) = absurd (not_accepted plan.columns apdus k joined asked h a)
+asks_next plan apdus k joined apdu some h (gets other g is) = absurd (none_zero k some (has_count plan.columns apdus k 0 joined other h g))
   where
     none_zero : (k : ℕ) → 0 < k → k ≡ 0 → ⊥
     none_zero k some e = omega (arith, some, e)
-asks_next plan apdus k joined apdu some h (goes_further n other more g is) = is ∙ ap next_bytes (has_count apdus n k other joined g h)
-asks_next plan apdus k joined apdu some h (releases rows r is) = absurd (not_both apdus k joined rows h r)
+asks_next plan apdus k joined apdu some h (goes_further n other more g is) = is ∙ ap next_bytes (has_count plan.columns apdus n k other joined g h)
+asks_next plan apdus k joined apdu some h (checks rows asked r is) = absurd (not_both plan.columns apdus k joined rows h r)
+asks_next plan apdus k joined apdu some h (releases rows r is) = absurd (not_named plan.columns apdus k joined rows h r)
 
 -- ---- what is served
 
@@ -174,7 +137,7 @@ more_data taken _ bytes h = absurd h
 
 module _ (plan : PlanValue) (encoding : List ℕ) (room : ℕ) (sent : IsSent encoding room) (n : ℕ) (answer : List ℕ) (tail : List (List ℕ)) (rows : List Row) (last : SessionValue) where
   -- behind k blocks these come, and then the last one: their bytes, joined, are the encoding
-  pub follow : (blocks : List (List ℕ)) (k : ℕ) (before : List (List ℕ)) (joined rest : List ℕ) (s : SessionValue) (served : List Exchange) → 0 < k → k < 65536 → HasBlocks before k joined → joined ≡ blocks_up_to encoding room k →
+  pub follow : (blocks : List (List ℕ)) (k : ℕ) (before : List (List ℕ)) (joined rest : List ℕ) (s : SessionValue) (served : List Exchange) → 0 < k → k < 65536 → HasBlocks plan.columns before k joined → joined ≡ blocks_up_to encoding room k →
       s.getting ≡ Some (given_blocks encoding room k false) → InTurn s (map Asked served) last → Talks plan before served (blocks ++ answer ∷ tail) → AreBlocks k blocks n rest → Spells n (joined ++ rest) answer rows → IsEncoded encoding rows
   follow [] k before joined rest s [] some few h is getting chain talk come spelled = absurd talk
   follow [] k before joined rest s (x ∷ served) some few h is getting chain talk come spelled =
@@ -198,5 +161,5 @@ module _ (plan : PlanValue) (encoding : List ℕ) (room : ℕ) (sent : IsSent en
       let goes : x.outcome.own.getting ≡ Some (given_blocks encoding room (k + 1) false) =
       ap (λ (y : Outcome). y.own.getting) o ∙ (next_block s encoding room k getting).1 ∙ ap (λ l. Some (given_blocks encoding room (k + 1) l)) more.0 in
       let joins : joined ++ come.0 ≡ blocks_up_to encoding room (k + 1) = ap (λ l. l ++ come.0) is ∙ ap (λ l. blocks_up_to encoding room k ++ l) (sym more.2) ∙ one_more encoding room k in
-      follow blocks (k + 1) (before ++ b ∷ []) (joined ++ come.0) come.1 x.outcome.own served (omega arith) (few_blocks encoding room (k + 1) sent more.0) (blocks_append before k joined come.0 b h come.2) joins goes chain.1 talk.2 come.4
+      follow blocks (k + 1) (before ++ b ∷ []) (joined ++ come.0) come.1 x.outcome.own served (omega arith) (few_blocks encoding room (k + 1) sent more.0) (blocks_append plan.columns before k joined come.0 b h come.2) joins goes chain.1 talk.2 come.4
       (subst (λ j. Spells n j answer rows) (ap (λ l. joined ++ l) come.3 ∙ sym (append_assoc joined come.0 come.1)) spelled)

@@ -1,7 +1,7 @@
 -- A poll's GET that is answered with data shows the buffer's rows of its range.
 use Rattle.std.proofs.Common.{◌≡◌, ◌<◌, ℕ, Bool, true, false, Option, Some, None, Result, Ok, Err, List, map, length, refl, sym, ◌∙◌, ap, subst, arith, if◌then◌else◌}
 use Rattle.std.specs.Prelude.{◌^◌}
-use Rattle.dlms_apdu.specs.Forms.{RequestForm, ResponseForm, get_normal, get_data, get_result, get_block, get_block_result, set_result, set_block_taken, set_last, action_result, action_block_taken, exception}
+use Rattle.dlms_apdu.specs.Forms.{Selection, RequestForm, ResponseForm, get_normal, get_data, get_result, get_block, get_block_result, set_result, set_block_taken, set_last, action_result, action_block_taken, exception}
 use Rattle.dlms_apdu.specs.Reading.{request_at, response_at}
 use Rattle.dlms_apdu.specs.declared.fault.Refusal.{Refusal}
 use Rattle.dlms_apdu.specs.Writing.{response_bytes, IsShort}
@@ -14,7 +14,8 @@ use Rattle.dlms_data.specs.Value.{Value, octet_string}
 use Rattle.dlms_data.specs.Writing.{Fits}
 use Rattle.dlms_frame.specs.declared.client.Client.{Client}
 use Rattle.dlms_frame.specs.declared.client.Client.TheVariants.{Public, Management, Reader}
-use Rattle.dlms_headend.specs.Asking.{buffer, buffer_bytes, invoke, range, IsRange}
+use Rattle.dlms_headend.specs.Asking.{buffer, buffer_bytes, capture_objects, columns_bytes, invoke, range, IsRange}
+use Rattle.dlms_data.specs.declared.descriptor.Descriptor.{Descriptor}
 use Rattle.dlms_profile.specs.Rows.{in_range}
 use Rattle.dlms_service.specs.Serves.{Choice as Memory, FindsMemory, LacksMemoryToRead, LacksMemoryToAnswer, Requested, Permitted, Read, Within, Serves, permits}
 use Rattle.dlms_service.specs.Session.{SessionValue, Outcome, says, without_get, has, selective_access}
@@ -107,8 +108,53 @@ wants E Reader true second value v r shown = sees_rows E Reader second value v (
 
 -- ---- the whole GET
 
-abbrev pub get_form : Value → RequestForm
-get_form value = get_normal invoke buffer (Some (record { number = 1; value = value }))
+-- what a GET that was answered with data was served
+pub record Gave (d : Descriptor) (part : Option Selection) (E : List Event) (s : SessionValue) (o : Outcome) : Type 0 where
+  pub a : Association
+  pub opened : s.opened ≡ Some a
+  pub v : Value
+  pub sendable : IsSendable v
+  pub outcome : o ≡ sent (without_get s) a invoke v
+  pub shown : IsShown (state_of E) s.client d (asked s.client a d part) (Ok v)
+
+pub read_result : (r : ℕ) → response_at (response_bytes (get_result invoke r)) ≡ Ok (get_result invoke r)
+read_result r = reads_written_responses (get_result invoke r) tt tt
+
+pub read_exception : (x y : ℕ) → response_at (response_bytes (exception x y)) ≡ Ok (exception x y)
+read_exception x y = reads_written_responses (exception x y) tt tt
+
+module _ (d : Descriptor) (part : Option Selection) (bytes : List ℕ) (reads : request_at bytes ≡ Ok (get_normal invoke d part)) (E : List Event) (s : SessionValue) (o : Outcome) (given : GivesData o.answer)
+    (is_request : (choice : Memory) → Serves choice E s bytes o → Within choice E s bytes s.opened o) where
+  by_value : (a : Association) (open_as : s.opened ≡ Some a) (result : Result Value AccessResult) → IsShown (state_of E) s.client d (asked s.client a d part) result → Gives (without_get s) a invoke result o → Gave d part E s o
+  by_value a open_as (Err cause) shown is = absurd (no_data o (without_get s) (get_result invoke (number_of cause)) (read_result (number_of cause)) tt is given)
+  by_value a open_as (Ok v) shown is = record { a = a; opened = open_as; v = v; sendable = is.0; outcome = is.1; shown = shown }
+
+  by_permit : (a : Association) (open_as : s.opened ≡ Some a) (b : Bool) → Permitted E s a (get_normal invoke d part) b o → Gave d part E s o
+  by_permit a open_as true is = by_value a open_as is.0 is.1 is.2
+  by_permit a open_as false is = absurd (no_data o s (exception 1 2) (read_exception 1 2) tt is given)
+
+  by_choice : (choice : Memory) (a : Association) (open_as : s.opened ≡ Some a) → Requested choice E s a (get_normal invoke d part) o → Gave d part E s o
+  by_choice FindsMemory a open_as is = by_permit a open_as (permits a (get_normal invoke d part)) is
+  by_choice LacksMemoryToRead a open_as is = absurd (no_data o s (exception 1 3) (read_exception 1 3) tt is.1.1 given)
+  by_choice LacksMemoryToAnswer a open_as is =
+      absurd (no_data o (without_get s) (get_result invoke (number_of TemporaryFailure)) (read_result (number_of TemporaryFailure)) tt is.1.1 given)
+
+  by_association : (choice : Memory) (opened : Option Association) → s.opened ≡ opened → Within choice E s bytes opened o → Gave d part E s o
+  by_association choice None e is = absurd (no_data o s (exception 1 1) (read_exception 1 1) tt is given)
+  by_association choice (Some a) e is = by_choice choice a e (subst (λ form. Read choice E s a form o) reads is)
+
+  by_service : (choice : Memory) → Serves choice E s bytes o → Gave d part E s o
+  by_service choice serves = by_association choice s.opened refl (is_request choice serves)
+
+  gave_by : (choice : Choice) → Does choice E s bytes o → Gave d part E s o
+  gave_by (Served memory) does = by_service memory does
+  gave_by (DeviceFails kept) (form, read, would, leads, success, is) =
+      absurd (no_data_in o.answer (get_result invoke 1) (read_result 1) tt (failed_get kept s (get_normal invoke d part) form would.accepted (sym read ∙ reads) o is) given)
+
+-- ---- the GET of the rows
+
+abbrev pub range_part : Value → Option Selection
+range_part value = Some (record { number = 1; value = value })
 
 range_fits : (first last : List ℕ) → length first ≡ 12 → length last ≡ 12 → Fits (range (octet_string first) (octet_string last))
 range_fits first last size_first size_last = record {
@@ -119,50 +165,22 @@ range_fits first last size_first size_last = record {
     short : (l : List ℕ) → length l ≡ 12 → length l < 2 ^ 32
     short l e = omega (arith, e)
 
-get_read : (second : ℕ) (value : Value) → IsRange second value → request_at (buffer_bytes value) ≡ Ok (get_form value)
+get_read : (second : ℕ) (value : Value) → IsRange second value → request_at (buffer_bytes value) ≡ Ok (get_normal invoke buffer (range_part value))
 get_read second value r =
     let fits : Fits value = subst Fits (sym (whole_range second value r)) (range_fits r.from_first.octets r.to_last.octets r.from_first.names.size r.to_last.names.size) in
-    reads_written_requests (get_form value) fits (omega arith, refl)
+    reads_written_requests (get_normal invoke buffer (range_part value)) fits (omega arith, refl)
 
--- what a GET that was answered with data was served
-pub record GaveTable (second : ℕ) (E : List Event) (s : SessionValue) (o : Outcome) : Type 0 where
-  pub a : Association
-  pub opened : s.opened ≡ Some a
-  pub v : Value
-  pub sendable : IsSendable v
-  pub outcome : o ≡ sent (without_get s) a invoke v
-  pub table : IsTable (map (cells (columns_after E)) (rows_between (clock_place (columns_after E)) second LAST_SECOND (buffer_after E))) v
+pub gets_tell : (E : List Event) (s : SessionValue) (value : Value) (second : ℕ) → IsRange second value → (o : Outcome) → GivesData o.answer → (choice : Choice) → Does choice E s (buffer_bytes value) o → Gave buffer (range_part value) E s o
+gets_tell E s value second r o given choice does = gave_by buffer (range_part value) (buffer_bytes value) (get_read second value r) E s o given (λ choice serves. serves) choice does
 
-pub read_result : (r : ℕ) → response_at (response_bytes (get_result invoke r)) ≡ Ok (get_result invoke r)
-read_result r = reads_written_responses (get_result invoke r) tt tt
+pub table_shown : (E : List Event) (s : SessionValue) (second : ℕ) (value : Value) (o : Outcome) → IsRange second value → (g : Gave buffer (range_part value) E s o) →
+    IsTable (map (cells (columns_after E)) (rows_between (clock_place (columns_after E)) second LAST_SECOND (buffer_after E))) g.v
+table_shown E s second value o r g = wants E s.client (has g.a selective_access) second value g.v r g.shown
 
-pub read_exception : (x y : ℕ) → response_at (response_bytes (exception x y)) ≡ Ok (exception x y)
-read_exception x y = reads_written_responses (exception x y) tt tt
+-- ---- the GET of the columns
 
-module _ (E : List Event) (s : SessionValue) (second : ℕ) (value : Value) (r : IsRange second value) (o : Outcome) (given : GivesData o.answer) where
-  by_value : (a : Association) (open_as : s.opened ≡ Some a) (result : Result Value AccessResult) → IsShown (state_of E) s.client buffer (asked s.client a buffer (Some (record { number = 1; value = value }))) result → Gives (without_get s) a invoke result o → GaveTable second E s o
-  by_value a open_as (Err cause) shown is = absurd (no_data o (without_get s) (get_result invoke (number_of cause)) (read_result (number_of cause)) tt is given)
-  by_value a open_as (Ok v) shown is =
-      record { a = a; opened = open_as; v = v; sendable = is.0; outcome = is.1; table = wants E s.client (has a selective_access) second value v r shown }
+columns_read : request_at columns_bytes ≡ Ok (get_normal invoke capture_objects None)
+columns_read = reads_written_requests (get_normal invoke capture_objects None) tt (omega arith, refl)
 
-  by_permit : (a : Association) (open_as : s.opened ≡ Some a) (b : Bool) → Permitted E s a (get_form value) b o → GaveTable second E s o
-  by_permit a open_as true is = by_value a open_as is.0 is.1 is.2
-  by_permit a open_as false is = absurd (no_data o s (exception 1 2) (read_exception 1 2) tt is given)
-
-  by_choice : (choice : Memory) (a : Association) (open_as : s.opened ≡ Some a) → Requested choice E s a (get_form value) o → GaveTable second E s o
-  by_choice FindsMemory a open_as is = by_permit a open_as (permits a (get_form value)) is
-  by_choice LacksMemoryToRead a open_as is = absurd (no_data o s (exception 1 3) (read_exception 1 3) tt is.1.1 given)
-  by_choice LacksMemoryToAnswer a open_as is =
-      absurd (no_data o (without_get s) (get_result invoke (number_of TemporaryFailure)) (read_result (number_of TemporaryFailure)) tt is.1.1 given)
-
-  by_association : (choice : Memory) (opened : Option Association) → s.opened ≡ opened → Within choice E s (buffer_bytes value) opened o → GaveTable second E s o
-  by_association choice None e is = absurd (no_data o s (exception 1 1) (read_exception 1 1) tt is given)
-  by_association choice (Some a) e is = by_choice choice a e (subst (λ form. Read choice E s a form o) (get_read second value r) is)
-
-  by_service : (choice : Memory) → Serves choice E s (buffer_bytes value) o → GaveTable second E s o
-  by_service choice serves = by_association choice s.opened refl serves
-
-  pub gets_tell : (choice : Choice) → Does choice E s (buffer_bytes value) o → GaveTable second E s o
-  gets_tell (Served memory) does = by_service memory does
-  gets_tell (DeviceFails kept) (form, read, would, leads, success, is) =
-      absurd (no_data_in o.answer (get_result invoke 1) (read_result 1) tt (failed_get kept s (get_form value) form would.accepted (sym read ∙ get_read second value r) o is) given)
+pub columns_tell : (E : List Event) (s : SessionValue) (o : Outcome) → GivesData o.answer → (choice : Choice) → Does choice E s columns_bytes o → Gave capture_objects None E s o
+columns_tell E s o given choice does = gave_by capture_objects None columns_bytes columns_read E s o given (λ choice serves. serves) choice does

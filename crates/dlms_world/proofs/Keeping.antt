@@ -4,6 +4,7 @@ use Rattle.std.proofs.lemmas.List.{append-nil}
 use Rattle.dlms_frame.specs.declared.client.Client.{Client}
 use Rattle.dlms_frame.specs.Frame.{Parts}
 use Rattle.dlms_headend.specs.Asking.{PlanValue}
+use Rattle.dlms_headend.specs.declared.plan.Columns.{Columns}
 use Rattle.dlms_headend.specs.declared.stage.Course.{Course}
 use Rattle.dlms_headend.specs.declared.stage.Course.TheVariants.{Ready, Running, Done, Failed}
 use Rattle.dlms_link.specs.Client.{ClientRecord}
@@ -155,12 +156,12 @@ reached_client : (link : Link) (frame : Parts) (rest : List Parts) → link.down
 reached_client link frame rest line =
     subst (λ l. (reaches_client link l).client ≡ (client_step link.client frame).0) (sym line) (does_client (record link { client = (client_step link.client frame).0; down_line = rest }) (client_step link.client frame).1)
 
-fails_waits : (old new : ClientRecord) (result : ClientOut) (taken : List (List ℕ)) (link : Link) (fault : PollFault) → standing.Stands old result new → Fails taken link fault result → new.waits ≡ None
-fails_waits old new out.Nothing taken link fault is none = absurd none
-fails_waits old new out.Up taken link fault is none = absurd none
-fails_waits old new (out.Send f) taken link fault is none = absurd none
-fails_waits old new out.Apdu taken link fault is fails = is.1.1
-fails_waits old new out.Down taken link fault is fails = is.1
+fails_waits : (old new : ClientRecord) (result : ClientOut) (columns : Columns) (taken : List (List ℕ)) (link : Link) (fault : PollFault) → standing.Stands old result new → Fails columns taken link fault result → new.waits ≡ None
+fails_waits old new out.Nothing columns taken link fault is none = absurd none
+fails_waits old new out.Up columns taken link fault is none = absurd none
+fails_waits old new (out.Send f) columns taken link fault is none = absurd none
+fails_waits old new out.Apdu columns taken link fault is fails = is.1.1
+fails_waits old new out.Down columns taken link fault is fails = is.1
 
 nothing_there : (link : Link) → IsSameThere link link
 nothing_there link = record { client = refl; asked = refl; taken = refl }
@@ -176,7 +177,7 @@ stands who (Leaves w frame rest rows runs line free released) l s =
 stands who (Ends w frame rest rows runs line down released) l s =
     ap (λ (c : ClientRecord). c.waits) (reached_client w.link frame rest line) ∙ (subst (λ r. standing.Stands w.link.client r (client_step w.link.client frame).0) down (client_stands w.link.client frame)).1
 stands who (FailsAt w frame rest fault runs line fails) l s =
-    ap (λ (c : ClientRecord). c.waits) (reached_client w.link frame rest line) ∙ fails_waits w.link.client (client_step w.link.client frame).0 (client_step w.link.client frame).1 w.link.taken (happens w.link ReachesClient) fault (client_stands w.link.client frame) fails
+    ap (λ (c : ClientRecord). c.waits) (reached_client w.link frame rest line) ∙ fails_waits w.link.client (client_step w.link.client frame).0 (client_step w.link.client frame).1 w.plan.columns w.link.taken (happens w.link ReachesClient) fault (client_stands w.link.client frame) fails
 stands who (TimedOut w runs up) l s = fits_run w.course w.plan (happens w.link TimesOut) runs (asking.late_fits w.plan w.link (runs_fit w.course w.plan w.link runs s) up)
 stands who (GivesUp w fault runs closed) l s = subst (λ p. IsResting p (happens w.link TimesOut).client.waits) closed (resting who (link_keeps who TimesOut l.sound))
 stands who (TurnsTo w plan over client) l s =

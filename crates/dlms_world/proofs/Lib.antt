@@ -10,6 +10,7 @@ pub mod Ending
 pub mod Whole
 pub mod Tables
 pub mod Gets
+pub mod Named
 pub mod Following
 pub mod Sized
 pub mod Telling

@@ -1,5 +1,5 @@
 -- The whole invariant, over every run.
-use Rattle.std.proofs.Common.{◌≡◌, ◌⊎◌, ⊎_elim, inl, inr, List, [], ◌++◌, refl, sym, ◌∙◌, subst}
+use Rattle.std.proofs.Common.{◌≡◌, ◌⊎◌, ⊎_elim, inl, inr, List, [], ◌∷◌, ◌++◌, refl, sym, ◌∙◌, ap, append_assoc, subst}
 use Rattle.std.proofs.lemmas.List.{append-nil}
 use Rattle.std.proofs.lemmas.List.Elements.{Contains-append_left}
 use Rattle.dlms_frame.specs.declared.client.Client.{Client}
@@ -19,6 +19,7 @@ use Rattle.dlms_world.specs.Turn.{Turn, Begins, GoesOn, AsksNext, Leaves, Ends, 
 use Rattle.dlms_world.proofs.Keeping.{over_silent}
 use Rattle.dlms_world.specs.Agree.{LineIsSilent}
 use Rattle.dlms_world.specs.Agree.{AreCaptures, Rise, PollsAreTold, ReadingsAreCaptures, ReadingsRise}
+use Rattle.dlms_world.specs.Named.{IsNamed, PollsAreNamed}
 use Rattle.dlms_world.specs.Told.{IsTold, AnswersTell}
 use Rattle.dlms_world.proofs.Growing.{through, settled_begins}
 use Rattle.dlms_world.proofs.Readings.{still_captures, rose_before, merged_among, merged_rise, asked_are_captures, asked_rise}
@@ -41,9 +42,26 @@ DoneBy Running plan served memory rows = Unit {0}
 DoneBy Done plan served memory rows = Brought plan served memory rows
 DoneBy (Failed fault) plan served memory rows = Unit {0}
 
+named_still : (plan : PlanValue) (served later : List Exchange) (rows : List Row) → IsNamed plan served rows → IsNamed plan (served ++ later) rows
+named_still plan served later rows n = record {
+  association = n.association;
+  first = n.first;
+  get = n.get;
+  between = n.between;
+  last = n.last;
+  more = n.more ++ later;
+  are = ap (λ l. l ++ later) n.are ∙ ap (λ l. n.association ∷ n.first ∷ n.get ∷ l) (append_assoc n.between (n.last ∷ n.more) later);
+  asked_first = n.asked_first;
+  asked = n.asked;
+  asked_last = n.asked_last;
+  names_first = n.names_first;
+  names_last = n.names_last;
+  named = n.named;
+}
+
 brought_still : (plan : PlanValue) (served more : List Exchange) (before after : Store) (rows : List Row) → IsBeginning (settled_in before) (settled_in after) → Brought plan served before rows → Brought plan (served ++ more) after rows
 brought_still plan served more before after rows grown b = record {
-  told = record { get = b.told.get; took = Contains-append_left served more b.told.get b.told.took; asked = b.told.asked; success = b.told.success; are = b.told.are };
+  told = record { get = b.told.get; took = Contains-append_left served more b.told.get b.told.took; asked = b.told.asked; success = b.told.success; are = b.told.are; names = λ asked. named_still plan served more rows (b.told.names asked) };
   settled = through b.told.get.before (settled_in before) (settled_in after) b.settled grown;
 }
 
@@ -184,6 +202,9 @@ polls_are_told plan w run done =
     let told = brought.told in
     let legal : IsLegal told.get.before = beginning_legal told.get.before (events_in w.memory) (through told.get.before (settled_in w.memory) (events_in w.memory) brought.settled (settled_begins w.memory)) all.legal in
     record { get = told.get; took = told.took; asked = told.asked; are = told.are ∙ whole_range (first_second w.plan.after) told.get.before (IsWithinLimits-legal told.get.before legal) }
+
+pub polls_are_named : PollsAreNamed
+polls_are_named plan w run done asked = (is_brought plan.client w (good tells plan w run) done).told.names asked
 
 held_grows : (m : Store) → IsBeginning (settled_in m) (events_in m)
 held_grows m = settled_begins m

@@ -4,6 +4,7 @@ use Rattle.dlms_frame.specs.Frame.{Parts, spelling}
 use Rattle.dlms_frame.specs.declared.client.Client.{Client}
 use Rattle.dlms_headend.specs.Asking.{PlanValue}
 use Rattle.dlms_headend.specs.Merged.{merged}
+use Rattle.dlms_headend.specs.declared.plan.Columns.{Columns}
 use Rattle.dlms_headend.specs.Poll.{HasReleased, Asks}
 use Rattle.dlms_headend.specs.Polling.{WantsRequest}
 use Rattle.dlms_headend.specs.Talk.{Ends as EndsBy}
@@ -118,12 +119,12 @@ IsOnItsOwn out.Apdu = ⊥
 IsOnItsOwn out.Down = ⊥
 
 -- why a poll fails at a frame that leaves its link so
-abbrev pub Fails : List (List ℕ) → Link → PollFault → ClientOut → Type 0
-Fails taken link fault out.Nothing = ⊥
-Fails taken link fault out.Up = ⊥
-Fails taken link fault (out.Send frame) = ⊥
-Fails taken link fault out.Apdu = EndsBy taken link.client.apdu fault ⊎ ((fault ≡ Memory) × WantsRequest link.taken)
-Fails taken link fault out.Down = (fault ≡ Protocol) × ((rows : List Row) → HasReleased taken rows → ⊥)
+abbrev pub Fails : Columns → List (List ℕ) → Link → PollFault → ClientOut → Type 0
+Fails columns taken link fault out.Nothing = ⊥
+Fails columns taken link fault out.Up = ⊥
+Fails columns taken link fault (out.Send frame) = ⊥
+Fails columns taken link fault out.Apdu = EndsBy columns taken link.client.apdu fault ⊎ ((fault ≡ Memory) × WantsRequest columns link.taken)
+Fails columns taken link fault out.Down = (fault ≡ Protocol) × ((rows : List Row) → HasReleased columns taken rows → ⊥)
 
 abbrev pub IsOver : Course → Type 0
 IsOver Ready = ⊥
@@ -142,13 +143,13 @@ pub data Turn : World → World → Type 0 where
   AsksNext : (w : World) (frame : Parts) (rest : List Parts) (apdu : List ℕ) (short : length apdu ≤ 1024) → w.course ≡ Running → w.link.down_line ≡ frame ∷ rest →
       IsFree (gives w frame) → Asks w.plan (reached w).taken apdu → Turn w (record w { link = happens (reached w) (Give apdu short) })
   Leaves : (w : World) (frame : Parts) (rest : List Parts) (rows : List Row) → w.course ≡ Running → w.link.down_line ≡ frame ∷ rest →
-      IsFree (gives w frame) → HasReleased (reached w).taken rows → Turn w (record w { link = happens (reached w) Disconnect })
+      IsFree (gives w frame) → HasReleased w.plan.columns (reached w).taken rows → Turn w (record w { link = happens (reached w) Disconnect })
   -- it is done where its link goes down after the answer to the release
   Ends : (w : World) (frame : Parts) (rest : List Parts) (rows : List Row) → w.course ≡ Running → w.link.down_line ≡ frame ∷ rest →
-      gives w frame ≡ out.Down → HasReleased w.link.taken rows → Turn w (record w { link = reached w; course = Done; rows = rows })
+      gives w frame ≡ out.Down → HasReleased w.plan.columns w.link.taken rows → Turn w (record w { link = reached w; course = Done; rows = rows })
   -- it fails at an answer that is not the awaited one, for want of memory, or where its link goes down before
   FailsAt : (w : World) (frame : Parts) (rest : List Parts) (fault : PollFault) → w.course ≡ Running → w.link.down_line ≡ frame ∷ rest →
-      Fails w.link.taken (reached w) fault (gives w frame) → Turn w (record w { link = reached w; course = Failed fault })
+      Fails w.plan.columns w.link.taken (reached w) fault (gives w frame) → Turn w (record w { link = reached w; course = Failed fault })
   -- a time-out, which comes only where nothing is on the line: the frame goes again, or the poll has failed
   TimedOut : (w : World) → w.course ≡ Running → (happens w.link TimesOut).client.phase ≢ Closed → Turn w (record w { link = happens w.link TimesOut })
   GivesUp : (w : World) (fault : PollFault) → w.course ≡ Running → (happens w.link TimesOut).client.phase ≡ Closed →

@@ -9,6 +9,7 @@ ghost use Rattle.dlms_state.specs.declared.event.Event.{Event};
 ghost use Rattle.dlms_state.specs.Refusal.{IsLegal};
 ghost use Rattle.dlms_world.specs.World.{rows_from, all_rows_from};
 ghost use Rattle.dlms_world.specs.Turn.{Answers, handled};
+ghost use Rattle.dlms_world.specs.Named.{PollsAreNamed};
 ghost use Rattle.dlms_world.specs.Told.{AnswersTell};
 ghost use Rattle.dlms_world.specs.Calls.{NewIsFirst, NextIsTurn, OnIsTurn, TimeoutIsTurn};
 ghost use Rattle.dlms_world.specs.Ties.{FeedsAreTurns, EventsAreTurns};
@@ -25,6 +26,13 @@ pub fn the_file_and_the_meter_agree()
     ensures told { PollsAreTold }
     ensures captures { ReadingsAreCaptures }
     ensures rise { ReadingsRise }
+{}
+
+/// A poll that is done and asks for the columns: the meter's columns were the clock and the three registers both before its GET of the
+/// rows and behind it. Where they were at that GET too, each row is a capture by name: in the place of a register stands what that
+/// register held.
+pub fn polls_are_named()
+    ensures { PollsAreNamed }
 {}
 
 /// The answers to a whole poll, served in turn from a link that has just come up, tell the buffer's rows at its GET.

@@ -7,7 +7,7 @@ use Rattle.dlms_program.proofs.words.program.Goals as goal
 pub returns : goal.returns
 returns c =
     let explains : app_of c.in_ok-subcommand.field-0 ≡ with_subcommand (app_of c.in_ok-field_commands.field-0) explain_command.top =
-    c.in_ok-subcommand.ensures.shape c.explain_command.ensures.local ∙ ap (λ (a : App). with_subcommand (app_of c.in_ok-field_commands.field-0) a.top) c.explain_command.ensures.shape in
+    c.in_ok-subcommand.ensures.shape c.in_ok-explain_command.ensures.local ∙ ap (λ (a : App). with_subcommand (app_of c.in_ok-field_commands.field-0) a.top) c.in_ok-explain_command.ensures.shape in
     let shows : app_of c.in_ok-subcommand-2.field-0 ≡ with_subcommand (app_of c.in_ok-subcommand.field-0) show_command.top =
     c.in_ok-subcommand-2.ensures.shape c.in_ok-show_command.ensures.local ∙ ap (λ (a : App). with_subcommand (app_of c.in_ok-subcommand.field-0) a.top) c.in_ok-show_command.ensures.shape in
     let plots : app_of c.in_ok-subcommand-3.field-0 ≡ with_subcommand (app_of c.in_ok-subcommand-2.field-0) plot_command.top =

@@ -1,0 +1,114 @@
+//! A meter is called, and polled over the connection.
+use crate::deadline::Deadline;
+use crate::fault::{FieldFault, at};
+use crate::line::{Line, WAIT_SECONDS};
+use dlms_headend::{PollFault, Poller};
+use dlms_loopback::{HeadEnd, Heard, LoopFault, PIECE, TURNS, Turn, hear};
+use std::io;
+use std::io::{ErrorKind, Read, Write};
+use std::net::{Net, OpenStream, TcpStream, ToSocketAddrs};
+use std::time::{Clock, Duration};
+
+/// For how many seconds a connection is waited for.
+const CONNECT_SECONDS: u64 = 8;
+
+/// For how many milliseconds nothing has to come before the poll begins.
+const QUIET_MILLISECONDS: u64 = 50;
+
+/// The most reads before the poll begins.
+const QUIET_READS: u32 = 64;
+
+/// Drops what stands on the line: until nothing comes for a while, or so much has come that silence is not waited for.
+fn quiet<S: Read + OpenStream>(stream: &mut S) -> io::Result<()> {
+    stream.set_read_timeout(Some(Duration::from_millis(QUIET_MILLISECONDS)))?;
+    let mut piece = [0u8; PIECE];
+    for _ in 0..QUIET_READS {
+        match hear(stream, &mut piece) {
+            Ok(Heard::Bytes(_)) => {}
+            Ok(Heard::Silence) => break,
+            // The end of the stream is there for the next read too.
+            Err(error) if error.kind() == ErrorKind::UnexpectedEof => break,
+            Err(error) => return Err(error),
+        }
+    }
+    Ok(())
+}
+
+/// The stream gives up after a while, sends bytes at once, and has nothing to be read.
+fn prepare<S: Read + OpenStream>(stream: &mut S) -> io::Result<()> {
+    stream.set_nodelay(true)?;
+    quiet(stream)?;
+    stream.set_read_timeout(Some(Duration::from_secs(WAIT_SECONDS)))?;
+    stream.set_write_timeout(Some(Duration::from_secs(WAIT_SECONDS)))
+}
+
+/// A connection to the first address that answers; none where the deadline is over.
+fn connected<R: Net, C: Clock>(
+    rt: &R,
+    address: &str,
+    deadline: &Deadline<'_, C>,
+) -> io::Result<Option<R::Stream>> {
+    let mut last = io::Error::from(ErrorKind::AddrNotAvailable);
+    for place in address.to_socket_addrs(rt)? {
+        let seconds = deadline.left()?.min(CONNECT_SECONDS);
+        if seconds == 0 {
+            return Ok(None);
+        }
+        match TcpStream::connect_timeout(rt, &place, Duration::from_secs(seconds)) {
+            Ok(stream) => return Ok(Some(stream)),
+            Err(error) => last = error,
+        }
+    }
+    Err(last)
+}
+
+/// Does a poll over a line whose other end is the meter; none where the deadline is over.
+fn done<C: Clock, S: Read + Write>(
+    line: &mut S,
+    deadline: &Deadline<'_, C>,
+    poller: Poller,
+) -> Result<Option<Poller>, LoopFault> {
+    let mut head_end = HeadEnd::begin(line, poller)?;
+    for _ in 0..TURNS {
+        if deadline.is_over()? {
+            return Ok(None);
+        }
+        if head_end.turn(line)? == Turn::Done {
+            return Ok(Some(head_end.into_poller()));
+        }
+    }
+    Err(LoopFault::Poll(PollFault::Line))
+}
+
+/// Does a poll over a connection. Where the connection failed, it is told with what the system says.
+fn polled<'a, R: Clock, S: Read + Write + OpenStream + Drop>(
+    rt: &R,
+    address: &'a str,
+    deadline: &Deadline<'_, R>,
+    stream: S,
+    poller: Poller,
+) -> Result<Option<Poller>, FieldFault<'a>> {
+    let mut stream = stream;
+    at(address, prepare(&mut stream))?;
+    let mut line = at(address, Line::new(rt, stream))?;
+    match (done(&mut line, deadline, poller), line.failure()) {
+        (Ok(poller), _) => Ok(poller),
+        (Err(LoopFault::Io), Some(error)) => Err(FieldFault::System(address, error)),
+        (Err(fault), _) => Err(FieldFault::Other(fault)),
+    }
+}
+
+/// Calls the meter at an address, and polls it. The poll that is done comes back with its rows; none where so many seconds have
+/// gone by before.
+pub fn call<'a, R: Net + Clock>(
+    rt: &R,
+    address: &'a str,
+    seconds: u32,
+    poller: Poller,
+) -> Result<Option<Poller>, FieldFault<'a>> {
+    let deadline = at(address, Deadline::new(rt, seconds))?;
+    let Some(stream) = at(address, connected(rt, address, &deadline))? else {
+        return Ok(None);
+    };
+    polled(rt, address, &deadline, stream, poller)
+}

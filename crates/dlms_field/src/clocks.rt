@@ -1,0 +1,110 @@
+//! The clocks of polled rows, judged.
+
+ghost use Rattle.std.specs.Prelude.{◌≡◌, ◌↔◌, IsTrue, IfSome, IfNone, MatchResult, length};
+ghost use Rattle.dlms_field.specs.Clocks.{Rise, IsFirstFallen, IsAhead, AreInTime, IsFirstAhead, same, is_left_out, left_out, Refuses, Takes};
+
+use dlms_headend::Row;
+
+/// The second at which the meter's clock begins, 2000-01-01 00:00:00 UTC, of the system's, which counts from 1970.
+const YEAR_2000: u64 = 946_684_800;
+
+/// How far a row may be past a second of the system's clock. The meter's clock counts its own seconds from 2000-01-01 00:00:00,
+/// and is taken for UTC.
+#[derive(Clone, Copy, Debug, PartialEq, Eq)]
+pub struct Limit {
+    /// The second of the system's clock, counted from 1970-01-01 00:00:00 UTC.
+    pub now: u64,
+    /// So many seconds more are borne.
+    pub margin: u32,
+}
+
+/// Why the rows of an answer are refused.
+#[derive(Clone, Copy, Debug, PartialEq, Eq)]
+pub enum ClockFault {
+    /// The row of this number, counted from 1, is not later than the one before it.
+    Fallen(usize),
+    /// The row of this number, counted from 1, is too far past the system's clock.
+    Ahead(usize),
+}
+
+/// The number of the first row, counted from 1, that is not later than the one before it.
+fn first_fallen(rows: &[Row]) -> Option<usize>
+    ensures some { IfSome result (IsFirstFallen rows.now) }
+    ensures none { IfNone result (Rise rows.now (length rows.now)) }
+{
+    for at in 1..rows.len() {
+        if rows[at].clock <= rows[at - 1].clock {
+            return Some(at + 1);
+        }
+    }
+    None
+}
+
+/// Whether a second of the meter's clock is more than so many seconds past a second of the system's.
+fn is_ahead(now: u64, margin: u32, clock: u32) -> bool
+    ensures { IsTrue result ↔ IsAhead now margin clock }
+{
+    match now.checked_add(u64::from(margin)) {
+        Some(latest) => latest < u64::from(clock) + YEAR_2000,
+        None => false,
+    }
+}
+
+/// The number of the first row, counted from 1, that is more than so many seconds past a second of the system's clock.
+pub fn first_ahead(now: u64, margin: u32, rows: &[Row]) -> Option<usize>
+    ensures some { IfSome result (IsFirstAhead now margin rows.now) }
+    ensures none { IfNone result (AreInTime now margin rows.now (length rows.now)) }
+{
+    for at in 0..rows.len() {
+        if is_ahead(now, margin, rows[at].clock) {
+            return Some(at + 1);
+        }
+    }
+    None
+}
+
+/// Judges the clocks of an answer's rows: each is later than the row before it, and none is past the limit, where there is one.
+pub fn judge(rows: &[Row], limit: Option<Limit>) -> Result<(), ClockFault>
+    ensures { MatchResult result (λ _. Takes limit rows.now) (Refuses limit rows.now) }
+{
+    if let Some(number) = first_fallen(rows) {
+        return Err(ClockFault::Fallen(number));
+    }
+    let Some(limit) = limit else {
+        return Ok(());
+    };
+    match first_ahead(limit.now, limit.margin, rows) {
+        Some(number) => Err(ClockFault::Ahead(number)),
+        None => Ok(()),
+    }
+}
+
+/// Whether two rows are the same.
+fn is_same(one: &Row, other: &Row) -> bool
+    ensures { result ≡ same one.now other.now }
+{
+    one.clock == other.clock && one.registers.as_slice() == other.registers.as_slice()
+}
+
+/// Whether a row is neither later than a file's last one nor that one.
+fn is_left_out(last: Option<Row>, row: &Row) -> bool
+    ensures { result ≡ is_left_out last row.now }
+{
+    match last {
+        None => false,
+        Some(last) => row.clock <= last.clock && !is_same(&last, row),
+    }
+}
+
+/// How many of the rows a merge leaves out of a file with this last row, but for that row itself: those that are not later.
+pub fn left_out(last: Option<Row>, rows: &[Row]) -> usize
+    ensures { result ≡ length (left_out last rows.now) }
+{
+    let mut count = 0usize;
+    for row in rows {
+        if is_left_out(last, row) {
+            count += 1;
+        }
+    }
+    count
+}

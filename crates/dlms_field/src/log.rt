@@ -1,0 +1,90 @@
+//! Lines about a meter that serves, which never keep it waiting.
+
+use mio::unix::SourceFd;
+use mio::{Events, Interest, Poll, Token};
+use std::alloc::Allocator;
+use std::io::Write;
+use std::net::Net;
+use std::os::fd::RawFd;
+use std::time::Duration;
+
+/// The one descriptor that is asked about.
+const ERRORS: Token = Token(0);
+
+/// Whether a descriptor takes a line at once.
+#[derive(Drop)]
+struct Gauge<A: Allocator> {
+    poll: Poll,
+    events: Events<A>,
+    descriptor: RawFd,
+}
+
+impl<A: Allocator + Copy> Gauge<A> {
+    /// None where the system tells nothing of the descriptor, as of a file, which takes each line.
+    fn new<R: Net>(rt: &R, alloc: A, descriptor: RawFd) -> Option<Self> {
+        let poll = Poll::new(rt).ok()?;
+        let events = Events::with_capacity(alloc, 1).ok()?;
+        let mut source = SourceFd(&descriptor);
+        poll.registry()
+            .register(&mut source, ERRORS, Interest::WRITABLE)
+            .ok()?;
+        Some(Gauge {
+            poll,
+            events,
+            descriptor,
+        })
+    }
+
+    /// Asks without waiting. A pipe that is ready takes 4,096 bytes (pipe(7)), which is more than a line has.
+    fn is_ready(&mut self) -> bool {
+        let mut source = SourceFd(&self.descriptor);
+        let asked = self
+            .poll
+            .registry()
+            .reregister(&mut source, ERRORS, Interest::WRITABLE);
+        if asked.is_err() {
+            return true;
+        }
+        match self.poll.poll(&mut self.events, Some(Duration::ZERO)) {
+            Ok(()) => !self.events.is_empty(),
+            Err(_) => true,
+        }
+    }
+}
+
+/// How many lines were dropped, and whether the next one would have to wait.
+#[derive(Drop)]
+pub struct Log<A: Allocator> {
+    gauge: Option<Gauge<A>>,
+    dropped: u64,
+}
+
+impl<A: Allocator + Copy> Log<A> {
+    /// Lines for a writer that stands for this descriptor, if one is named.
+    pub fn new<R: Net>(rt: &R, alloc: A, descriptor: Option<RawFd>) -> Self {
+        let gauge = match descriptor {
+            Some(descriptor) => Gauge::new(rt, alloc, descriptor),
+            None => None,
+        };
+        Log { gauge, dropped: 0 }
+    }
+
+    /// Whether the next line is to be written. One that would have to wait is dropped. How many were is told before the next one that
+    /// is not.
+    pub fn takes_line<E: Write>(&mut self, errors: &mut E) -> bool {
+        let is_ready = match &mut self.gauge {
+            Some(gauge) => gauge.is_ready(),
+            None => true,
+        };
+        if !is_ready {
+            self.dropped = self.dropped.saturating_add(1);
+            return false;
+        }
+        if self.dropped > 0 {
+            let dropped = self.dropped;
+            let _said = writeln!(errors, "{dropped} lines dropped");
+            self.dropped = 0;
+        }
+        true
+    }
+}

@@ -1,0 +1,115 @@
+//! Who tries secrets: how many association requests were refused, and whose connections are not taken for a while.
+
+ghost use Rattle.std.specs.Prelude.{◌≡◌, ◌≤◌};
+
+use arrayvec::ArrayVec;
+use dlms_acse::{Verdict, read_aare};
+use dlms_frame::Deframer;
+use std::io;
+use std::io::{Read, Write};
+use std::net::{IpAddr, Ipv4Addr};
+
+/// An address whose association requests were refused too often is not taken again for so many seconds.
+pub const BARRED_SECONDS: u64 = 10;
+
+/// The LLC in front of each APDU of the meter (IEC 62056-46, 5.3.2).
+const LLC: [u8; 3] = [0xe6, 0xe7, 0x00];
+
+/// How many addresses are kept; where more are barred at once, the one that was barred first is let go.
+const BARRED: usize = 64;
+
+/// Whether a frame of the meter refuses an association (IEC 62056-5-3, AARE).
+fn is_refusal(reply: &[u8]) -> bool {
+    let mut deframer = Deframer::new();
+    let (_taken, found) = deframer.feed(reply);
+    let Some(frame) = found else {
+        return false;
+    };
+    let Some(apdu) = frame.info.as_slice().strip_prefix(&LLC) else {
+        return false;
+    };
+    matches!(read_aare(apdu), Ok(Verdict::Refused { .. }))
+}
+
+/// A stream that counts the refusals that go out. Each write begins with a frame.
+#[derive(Drop)]
+pub struct Counted<'s, S> {
+    stream: &'s mut S,
+    /// How many refusals went out.
+    pub refusals: u8,
+}
+
+impl<'s, S> Counted<'s, S> {
+    /// None has gone out.
+    pub fn new(stream: &'s mut S) -> Self {
+        Counted {
+            stream,
+            refusals: 0,
+        }
+    }
+}
+
+impl<S: Read> Read for Counted<'_, S> {
+    fn read(&mut self, buf: &mut [u8]) -> io::Result<usize> {
+        self.stream.read(buf)
+    }
+}
+
+impl<S: Write> Write for Counted<'_, S> {
+    fn write(&mut self, buf: &[u8]) -> io::Result<usize> {
+        if is_refusal(buf) {
+            self.refusals = self.refusals.saturating_add(1);
+        }
+        self.stream.write(buf)
+    }
+
+    fn flush(&mut self) -> io::Result<()> {
+        self.stream.flush()
+    }
+}
+
+/// An address that is not taken before this second.
+#[derive(Clone, Copy, Debug)]
+struct Bar {
+    address: IpAddr,
+    until: u64,
+}
+
+/// None: it is over at once.
+impl Default for Bar {
+    fn default() -> Self {
+        Bar {
+            address: IpAddr::V4(Ipv4Addr::UNSPECIFIED),
+            until: 0,
+        }
+    }
+}
+
+/// The addresses that are not taken for a while.
+#[derive(Drop)]
+pub struct Barred(ArrayVec<Bar, BARRED>);
+
+impl Barred {
+    /// None.
+    pub fn none() -> Self {
+        Barred(ArrayVec::new())
+    }
+
+    /// An address is not taken for `BARRED_SECONDS` from this second on.
+    pub fn bar(&mut self, address: IpAddr, now: u64) {
+        self.0.retain(|bar| bar.address != address);
+        if self.0.is_full() {
+            let _first = self.0.pop_at(0);
+        }
+        let until = now.saturating_add(BARRED_SECONDS);
+        let _kept = self.0.try_push(Bar { address, until });
+    }
+
+    /// Whether an address is taken at this second.
+    pub fn takes(&self, address: IpAddr, now: u64) -> bool {
+        !self
+            .0
+            .iter()
+            .any(|bar| bar.address == address && now < bar.until)
+    }
+}

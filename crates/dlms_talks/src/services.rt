@@ -1,0 +1,194 @@
+//! What is kept of the services of a talk, from one APDU to the next.
+
+ghost use Rattle.std.specs.Prelude.{◌≡◌, Some, None, option_map, IfOk};
+ghost use Rattle.dlms_talks.specs.Said.{ShowsRequest, ShowsResponse, answered, asked_of, request_form, request_invoke, request_selector, response_form, response_invoke};
+ghost use Rattle.dlms_talks.specs.Secrets.{secrecy_of, told_as};
+ghost use Rattle.dlms_talks.specs.Services.{awaited_behind, behind_request, behind_response, got_joined, idle, put_joined, transfers_behind, transfers_behind_response, unasked};
+ghost use Rattle.dlms_talks.specs.Whole.{IsToldOfWhole};
+
+use crate::joining::{Joined, Transfers};
+use crate::named::Asked;
+use crate::said::{Said, asked_by, request_said, response_said};
+use crate::whole::Whole;
+use dlms_apdu::{Request, Response};
+use std::alloc::{AllocError, Allocator};
+
+/// What is kept of the services of a talk.
+#[derive(Drop)]
+pub struct Services<A: Allocator> {
+    transfers: Transfers<A>,
+    /// What the client's last APDU asked for, where that is known and no answer came yet.
+    asked: Option<Asked>,
+    /// Whether strings that may be a secret are told as they are.
+    raw: bool,
+}
+
+/// What is told of an APDU, and what its block is among those before it, where it has one.
+#[derive(Drop)]
+pub struct Heard<'a, A: Allocator> {
+    pub said: Said<'a, A>,
+    pub joined: Option<Joined>,
+}
+
+impl<A: Allocator + Copy> Services<A> {
+    /// Nothing was asked for. No memory is taken here.
+    pub fn new(alloc: A, raw: bool) -> Self
+        ensures { result ≡ idle raw }
+    {
+        Services {
+            transfers: Transfers::new(alloc),
+            asked: None,
+            raw,
+        }
+    }
+
+    /// Whether strings that may be a secret are told as they are.
+    pub fn is_raw(&self) -> bool
+        ensures { result ≡ self.now.raw }
+    {
+        self.raw
+    }
+
+    /// No answer is awaited any more.
+    pub fn pass(&mut self)
+        ensures { self.new ≡ unasked self.old }
+    {
+        self.asked = None;
+    }
+
+    /// What the answer to this request will be of.
+    fn awaited(&self, request: &Request<'_, A>) -> Option<Asked>
+        ensures { result ≡ awaited_behind self.now.transfers request.now }
+    {
+        match request {
+            Request::GetNext { invoke, .. } => self.transfers.got_of(*invoke),
+            Request::SetBlock { invoke, .. } => self.transfers.put_of(*invoke, false),
+            Request::ActionBlock { invoke, .. } => self.transfers.put_of(*invoke, true),
+            _ => asked_by(request),
+        }
+    }
+
+    /// Takes the block of a request.
+    fn put(&mut self, alloc: A, request: &Request<'_, A>) -> Option<Joined>
+        ensures joined { result ≡ put_joined self.old.transfers request.now }
+        ensures after { self.new ≡ record self.old { transfers = transfers_behind self.old.transfers request.now } }
+    {
+        match request {
+            Request::GetNormal { .. } => {
+                self.transfers.drop_got(alloc);
+                None
+            }
+            Request::SetFirst {
+                last,
+                number,
+                raw,
+                ..
+            } => Some(
+                self.transfers
+                    .put_first(asked_by(request), *last, *number, raw),
+            ),
+            Request::ActionFirst {
+                last,
+                number,
+                raw,
+                ..
+            } => Some(
+                self.transfers
+                    .put_first(asked_by(request), *last, *number, raw),
+            ),
+            Request::SetBlock {
+                invoke,
+                last,
+                number,
+                raw,
+            } => Some(self.transfers.put_more(*invoke, false, *last, *number, raw)),
+            Request::ActionBlock {
+                invoke,
+                last,
+                number,
+                raw,
+            } => Some(self.transfers.put_more(*invoke, true, *last, *number, raw)),
+            _ => None,
+        }
+    }
+
+    /// Takes a request: what is told of it. Where its block is the last one of a value, `put_whole` tells that.
+    pub fn ask<'a>(&mut self, alloc: A, request: &'a Request<'_, A>) -> Heard<'a, A>
+        ensures form { result.said.form.now ≡ request_form request.now }
+        ensures invoke { result.said.invoke ≡ Some (request_invoke request.now) }
+        ensures named { result.said.named ≡ option_map (λ asked. asked.named) (asked_of request.now) }
+        ensures selector { option_map (λ selector. selector.now) result.said.selector ≡ request_selector request.now }
+        ensures content { ShowsRequest self.old.raw request.now result.said.content }
+        ensures joined { result.joined ≡ put_joined self.old.transfers request.now }
+        ensures after { self.new ≡ behind_request self.old request.now }
+    {
+        let said = request_said(request, self.raw);
+        self.asked = self.awaited(request);
+        let joined = self.put(alloc, request);
+        Heard { said, joined }
+    }
+
+    /// Takes the block of a response.
+    fn get(&mut self, alloc: A, response: &Response<'_, A>) -> Result<Option<Joined>, AllocError>
+        ensures joined { IfOk result (λ joined. joined ≡ got_joined self.old.transfers response.now) }
+        ensures after { IfOk result (λ joined. self.new ≡ record self.old { transfers = transfers_behind_response self.old.transfers self.old.asked response.now }) }
+    {
+        let Response::GetBlock {
+            invoke,
+            last,
+            number,
+            raw,
+        } = response
+        else {
+            return Ok(None);
+        };
+        let joined = self
+            .transfers
+            .get(alloc, self.asked, *invoke, *last, *number, raw)?;
+        Ok(Some(joined))
+    }
+
+    /// Takes a response: what is told of it, by what was asked for. Where its block is the last one of a value, `got_whole` tells
+    /// that. Where memory is refused nothing is said of what is kept.
+    pub fn answer<'a>(
+        &mut self,
+        alloc: A,
+        response: &'a Response<'_, A>,
+    ) -> Result<Heard<'a, A>, AllocError>
+        ensures form { IfOk result (λ heard. heard.said.form.now ≡ response_form response.now) }
+        ensures invoke { IfOk result (λ heard. heard.said.invoke ≡ response_invoke response.now) }
+        ensures named { IfOk result (λ heard. heard.said.named ≡ option_map (λ asked. asked.named) (answered self.old.asked response.now)) }
+        ensures content { IfOk result (λ heard. ShowsResponse (told_as self.old.raw (secrecy_of (answered self.old.asked response.now))) response.now heard.said.content) }
+        ensures joined { IfOk result (λ heard. heard.joined ≡ got_joined self.old.transfers response.now) }
+        ensures after { IfOk result (λ heard. self.new ≡ behind_response self.old response.now) }
+    {
+        let said = response_said(response, self.asked, self.raw);
+        let joined = self.get(alloc, response)?;
+        self.asked = None;
+        Ok(Heard { said, joined })
+    }
+
+    /// How many octets were joined of a value to set or of a parameter.
+    pub fn put_len(&self) -> usize {
+        self.transfers.put_len()
+    }
+
+    /// How many octets were joined of a value that is read.
+    pub fn got_len(&self) -> usize {
+        self.transfers.got_len()
+    }
+
+    /// What is told of a value to set or of a parameter, where its last block came.
+    pub fn put_whole(&self, alloc: A) -> Result<Whole<A>, AllocError>
+        ensures { IfOk result (IsToldOfWhole (told_as self.now.raw (secrecy_of self.now.transfers.put_of)) self.now.transfers.put.joined) }
+    {
+        self.transfers.put_whole(alloc, self.raw)
+    }
+
+    /// What is told of a value that is read, where its last block came.
+    pub fn got_whole(&self, alloc: A) -> Result<Whole<A>, AllocError>
+        ensures { IfOk result (IsToldOfWhole (told_as self.now.raw (secrecy_of self.now.transfers.got_of)) self.now.transfers.got.joined) }
+    {
+        self.transfers.got_whole(alloc, self.raw)
+    }
+}
