@@ -30,7 +30,7 @@ between s p e is =
     (drop is.0 p, ap (λ (l : List Event). l ++ drop is.0 p) is.1 ∙ append_assoc s (take is.0 p) (drop is.0 p) ∙ ap (λ (l : List Event). s ++ l) (take-append-drop is.0 p))
 
 -- a stop, a close and a recovery find a beginning of what was held
-finds : (before : Store) (step : StoreStep) (after : Store) → (IsUsual step → ⊥) → Next before step after → IsBeginning (events_in after) (events_in before)
+pub finds : (before : Store) (step : StoreStep) (after : Store) → (IsUsual step → ⊥) → Next before step after → IsBeginning (events_in after) (events_in before)
 finds before (Adds e) after unusual next = absurd (unusual tt)
 finds before (AddsBehind e) after unusual next = absurd (unusual tt)
 finds before Settles after unusual next = absurd (unusual tt)

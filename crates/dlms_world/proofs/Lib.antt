@@ -8,6 +8,7 @@ pub mod Asked
 pub mod Keeping
 pub mod Ending
 pub mod Whole
+pub mod Between
 pub mod Tables
 pub mod Gets
 pub mod Named

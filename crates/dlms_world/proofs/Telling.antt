@@ -1,9 +1,9 @@
 -- The answers to a whole poll tell the buffer's rows.
-use Rattle.std.proofs.Common.{arith, ◌≡◌, ◌<◌, ◌≤◌, ◌+◌, ◌-◌, ℕ, suc, Bool, true, false, Some, Result, Ok, List, [], ◌∷◌, ◌++◌, map, length, length-append, refl, sym, ◌∙◌, ap, subst, if◌then◌else◌, append_assoc, nat_le, ◌⊎◌, ⊎_elim, inl, inr}
+use Rattle.std.proofs.Common.{arith, ◌≡◌, ◌<◌, ◌≤◌, ◌+◌, ◌-◌, ℕ, suc, Bool, true, false, Option, Some, None, Result, Ok, List, [], ◌∷◌, ◌++◌, map, length, length-append, refl, sym, ◌∙◌, ap, subst, if◌then◌else◌, append_assoc, nat_le, ◌⊎◌, ⊎_elim, inl, inr}
 use Rattle.std.specs.Prelude.{Contains}
 use Rattle.std.proofs.lemmas.List.{append-nil}
 use Rattle.std.proofs.lemmas.List.Elements.{Contains-append_right}
-use Rattle.dlms_apdu.specs.Forms.{ResponseForm, get_data, get_block, get_result}
+use Rattle.dlms_apdu.specs.Forms.{Selection, ResponseForm, get_data, get_block, get_result}
 use Rattle.dlms_apdu.specs.declared.fault.Refusal.{Refusal}
 use Rattle.dlms_apdu.specs.Reading.{response_at}
 use Rattle.dlms_apdu.proofs.WholeLaws.{reads_written_responses}
@@ -12,10 +12,11 @@ use Rattle.dlms_blocks.proofs.BlockLemmas.{whole_of}
 use Rattle.dlms_classes.specs.Access.{number_of}
 use Rattle.dlms_classes.specs.declared.access.AccessResult.TheVariants.{OtherReason}
 use Rattle.dlms_data.specs.Value.{Value}
+use Rattle.dlms_data.specs.declared.descriptor.Descriptor.{Descriptor}
 use Rattle.dlms_data.specs.Writing.{canonical}
 use Rattle.dlms_data.proofs.WholeLaws.{reads_one_value}
 use Rattle.dlms_data.proofs.Written.{is_spelled}
-use Rattle.dlms_headend.specs.Asking.{PlanValue, IsBufferRequest, IsRange, buffer, columns_bytes, first_second, invoke, association_bytes}
+use Rattle.dlms_headend.specs.Asking.{PlanValue, IsBufferRequest, IsRange, buffer, capture_objects, columns_bytes, first_second, invoke, association_bytes}
 use Rattle.dlms_headend.specs.Columns.{TellsBy, TellsColumns, columns}
 use Rattle.dlms_headend.proofs.Told.{rows_before}
 use Rattle.dlms_world.specs.Agree.{AreAmong}
@@ -62,6 +63,16 @@ which o x y z true blocks is = inl is
 which o x y z false true is = inr (inl (refl, is))
 which o x y z false false is = inr (inr is)
 
+-- an answer of data is one of success
+gave_success : (d : Descriptor) (part : Option Selection) (E : List Event) (s : SessionValue) (o : Outcome) → Gave d part E s o → GivesData o.answer → is_success o.answer ≡ true
+gave_success d part E s o g given =
+    let enc : List ℕ = canonical g.v in
+    let refused : Outcome = says (without_get s) (get_result invoke (number_of OtherReason)) in
+    ⊎_elim (λ is. ap (λ (x : Outcome). is_success x.answer) is)
+    (λ rest. ⊎_elim (λ is. ap (λ (x : Outcome). is_success x.answer) is.1)
+    (λ is. absurd (no_data o (without_get s) (get_result invoke (number_of OtherReason)) (read_result (number_of OtherReason)) tt is given)) rest)
+    (which o (says (without_get s) (get_data invoke g.v)) (in_blocks (without_get s) g.a invoke enc) refused (nat_le (4 + length enc) g.a.size) (has g.a blocks_with_get) g.outcome)
+
 -- the GET of the rows comes behind these APDUs
 module _ (plan : PlanValue) (opening : List (List ℕ)) (only : HasBlocks plan.columns opening 0 []) (answer : List ℕ) (tail : List (List ℕ)) (rows : List Row) where
   first_get : (apdu : List ℕ) → Asks plan opening apdu → IsBufferRequest plan.after apdu
@@ -86,15 +97,8 @@ module _ (plan : PlanValue) (opening : List (List ℕ)) (only : HasBlocks plan.c
     gave : GivesData x.outcome.answer → Gave buffer (range_part request.value) x.before s x.outcome
     gave given = gets_tell x.before s request.value (first_second plan.after) request.wanted x.outcome given x.choice (subst (λ a. Does x.choice x.before s a x.outcome) request.is serves)
 
-    gave_success : GivesData x.outcome.answer → is_success x.outcome.answer ≡ true
-    gave_success given =
-        let g = gave given in
-        let enc : List ℕ = canonical g.v in
-        let refused : Outcome = says (without_get s) (get_result invoke (number_of OtherReason)) in
-        ⊎_elim (λ is. ap (λ (o : Outcome). is_success o.answer) is)
-        (λ rest. ⊎_elim (λ is. ap (λ (o : Outcome). is_success o.answer) is.1)
-        (λ is. absurd (no_data x.outcome (without_get s) (get_result invoke (number_of OtherReason)) (read_result (number_of OtherReason)) tt is given)) rest)
-        (which x.outcome (says (without_get s) (get_data invoke g.v)) (in_blocks (without_get s) g.a invoke enc) refused (nat_le (4 + length enc) g.a.size) (has g.a blocks_with_get) g.outcome)
+    got_success : GivesData x.outcome.answer → is_success x.outcome.answer ≡ true
+    got_success given = gave_success buffer (range_part request.value) x.before s x.outcome (gave given) given
 
     at_once : (n : ℕ) (joined : List ℕ) → n ≡ 0 → joined ≡ [] → x.outcome.answer ≡ answer → Spells n joined answer rows → GivesData x.outcome.answer → rows ≡ rows_asked plan x.before
     at_once n joined count empty said spelled given =
@@ -209,32 +213,34 @@ module _ (plan : PlanValue) (answer : List ℕ) (tail : List (List ℕ)) (rows :
   -- these were served before it
   from_get : (opening : List (List ℕ)) (only : HasBlocks plan.columns opening 0 []) (firsts : List Exchange) (s : SessionValue) → HasSize s.opened → (blocks : List (List ℕ)) (served : List Exchange) → AreBlocks 0 blocks n joined → InTurn s (map Asked served) last
       → Talks plan opening served (blocks ++ answer ∷ tail)
-      → ((x : Exchange) (rest : List Exchange) → served ≡ x ∷ rest → IsBufferRequest plan.after x.apdu → rows ≡ rows_asked plan x.before → plan.columns ≡ AsksColumns → IsNamed plan (firsts ++ served) rows) → IsTold plan (firsts ++ served) rows
+      → ((x : Exchange) (rest : List Exchange) → served ≡ x ∷ rest → IsBufferRequest plan.after x.apdu → is_success x.outcome.answer ≡ true → rows ≡ rows_asked plan x.before → plan.columns ≡ AsksColumns → IsNamed plan (firsts ++ served) rows) → IsTold plan (firsts ++ served) rows
   from_get opening only firsts s size [] [] come chain talk by_name = absurd talk
   from_get opening only firsts s size [] (x ∷ served) come chain talk by_name =
       let given : GivesData x.outcome.answer = subst GivesData (sym talk.1) (spells_data n joined (response_at answer) rows spelled) in
       let asked : IsBufferRequest plan.after x.apdu = first_get plan opening only answer tail rows x.apdu talk.0 in
+      let success : is_success x.outcome.answer ≡ true = got_success plan opening only answer tail rows x served s last size chain.0 chain.1 talk.0 given in
       let are : rows ≡ rows_asked plan x.before = at_once plan opening only answer tail rows x served s last size chain.0 chain.1 talk.0 n joined come.0 come.1 talk.1 spelled given in
       record {
         get = x;
         took = Contains-append_right firsts (x ∷ served) x (first_is_in x served);
         asked = asked;
-        success = gave_success plan opening only answer tail rows x served s last size chain.0 chain.1 talk.0 given;
+        success = success;
         are = are;
-        names = by_name x served refl asked are;
+        names = by_name x served refl asked success are;
       }
   from_get opening only firsts s size (b ∷ blocks) [] come chain talk by_name = absurd talk
   from_get opening only firsts s size (b ∷ blocks) (x ∷ served) come chain talk by_name =
       let given : GivesData x.outcome.answer = subst GivesData (sym talk.1) (more_data 0 (response_at b) come.0 come.2) in
       let asked : IsBufferRequest plan.after x.apdu = first_get plan opening only answer tail rows x.apdu talk.0 in
+      let success : is_success x.outcome.answer ≡ true = got_success plan opening only answer tail rows x served s last size chain.0 chain.1 talk.0 given in
       let are : rows ≡ rows_asked plan x.before = in_parts plan opening only answer tail rows x served s last size chain.0 chain.1 talk.0 b blocks n joined talk.1 come spelled talk.2 given in
       record {
         get = x;
         took = Contains-append_right firsts (x ∷ served) x (first_is_in x served);
         asked = asked;
-        success = gave_success plan opening only answer tail rows x served s last size chain.0 chain.1 talk.0 given;
+        success = success;
         are = are;
-        names = by_name x served refl asked are;
+        names = by_name x served refl asked success are;
       }
 
   -- the association stands, and what tells the columns comes, where they are asked for, and again behind the rows
@@ -244,7 +250,7 @@ module _ (plan : PlanValue) (answer : List ℕ) (tail : List (List ℕ)) (rows :
       let named_so : AreNamed plan.columns [] = subst (λ (c : Columns). AreNamed c []) (sym is) refl in
       let only : HasBlocks plan.columns (response ∷ []) 0 [] = record { response = response; names = []; blocks = []; are = refl; accepts = accepts; named = named_so; come = (refl, refl) } in
       from_get (response ∷ []) only (first ∷ []) first.outcome.own size blocks served come chain (subst (λ l. Talks plan (response ∷ []) served (l ++ (blocks ++ answer ∷ tail))) none talk)
-      (λ x rest same request are asked. let clash : Trusted ≡ AsksColumns = sym is ∙ asked in cc)
+      (λ x rest same request success are asked. let clash : Trusted ≡ AsksColumns = sym is ∙ asked in cc)
   from_names AsksColumns is response accepts named blocks again post one once_more behind_rows first size served come chain talk =
       behind served chain (subst (λ l. Talks plan (response ∷ []) served (l ++ (blocks ++ answer ∷ tail))) one.1 talk)
     where
@@ -280,7 +286,7 @@ module _ (plan : PlanValue) (answer : List ℕ) (tail : List (List ℕ)) (rows :
           let asked_last : there.exchange.apdu ≡ columns_bytes = last_asked plan (response ∷ one.0 ∷ (blocks ++ answer ∷ [])) rows there.exchange.apdu is came there.asks in
           let many : length there.front ≡ suc (length blocks) = omega (arith, there.as_many, length-append blocks (answer ∷ [])) in
           from_get (response ∷ one.0 ∷ []) only (first ∷ y ∷ []) y.outcome.own sized blocks served come chain.1 talk.2
-          (λ x rest same request are asked.
+          (λ x rest same request success are asked.
           let place = behind_first x rest there.front there.back there.exchange (length blocks) (sym same ∙ there.are) many in
           record {
             association = first;
@@ -293,6 +299,8 @@ module _ (plan : PlanValue) (answer : List ℕ) (tail : List (List ℕ)) (rows :
             asked_first = asked_first;
             asked = request;
             asked_last = asked_last;
+            success_first = gave_success capture_objects None y.before first.outcome.own y.outcome gave given;
+            success = success;
             names_first = told_names first.outcome.own y one.0 asked_first talk.1 one.2 chain.0;
             names_last = told_names there.session there.exchange once_more.0 asked_last there.answers once_more.2 there.does;
             named = λ e. subst (AreAmong (named_readings x.before)) (sym are) (rows_named plan x.before e);

@@ -54,6 +54,8 @@ named_still plan served later rows n = record {
   asked_first = n.asked_first;
   asked = n.asked;
   asked_last = n.asked_last;
+  success_first = n.success_first;
+  success = n.success;
   names_first = n.names_first;
   names_last = n.names_last;
   named = n.named;
@@ -117,7 +119,7 @@ done_after tell who (Restarted w step memory unusual next) g = done_on w.course 
 abbrev pub FileAfter : World → World → Type 0
 FileAfter w now = (now.file ≡ w.file) ⊎ ((w.course ≡ Done) × (now.file ≡ merged w.file w.rows))
 
-file_after : {w now : World} → Turn w now → FileAfter w now
+pub file_after : {w now : World} → Turn w now → FileAfter w now
 file_after (Begins w ready) = inl refl
 file_after (GoesOn w frame rest runs line own) = inl refl
 file_after (AsksNext w frame rest apdu short runs line free asks) = inl refl
@@ -138,7 +140,7 @@ file_after (Works w memory on remembers) = inl refl
 file_after (StopsInside w accepted mid memory on remembers stops) = inl refl
 file_after (Restarted w step memory unusual next) = inl refl
 
-is_brought : (who : Client) (w : World) → Good who w → w.course ≡ Done → Brought w.plan w.served w.memory w.rows
+pub is_brought : (who : Client) (w : World) → Good who w → w.course ≡ Done → Brought w.plan w.served w.memory w.rows
 is_brought who w g done = subst (λ c. DoneBy c w.plan w.served w.memory w.rows) done g.done
 
 -- the rows that are merged are readings of settled captures, and rise where these do

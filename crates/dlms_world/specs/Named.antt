@@ -1,5 +1,5 @@
 -- Rows by name, whatever columns the meter has and had.
-use Rattle.std.specs.Prelude.{◌≡◌, List, ◌∷◌, ◌++◌, map}
+use Rattle.std.specs.Prelude.{◌≡◌, true, List, ◌∷◌, ◌++◌, map}
 use Rattle.dlms_classes.specs.Listing.{map_values}
 use Rattle.dlms_classes.specs.Shown.{column_value}
 use Rattle.dlms_classes.specs.Table.{object_of_column}
@@ -10,6 +10,7 @@ use Rattle.dlms_headend.specs.declared.plan.Columns.TheVariants.{Asked}
 use Rattle.dlms_headend.specs.declared.row.Row.{Row}
 use Rattle.dlms_headend.specs.declared.stage.Course.TheVariants.{Done}
 use Rattle.dlms_meter.specs.Transfers.{Exchange}
+use Rattle.dlms_service.specs.Stake.{is_success}
 use Rattle.dlms_state.specs.Events.{captures, columns_after, clock_after, registers_after}
 use Rattle.dlms_state.specs.declared.event.Event.{Event}
 use Rattle.dlms_world.specs.Agree.{AreAmong}
@@ -29,7 +30,8 @@ named_readings E = map named_reading (captures E)
 
 -- A poll that asks for the columns: behind the association the meter served a GET of them, then the GET of the rows, and behind it
 -- and its blocks a GET of the columns again. At the first and at the last of them its columns were the clock and the three registers;
--- where they were at the GET of the rows too, each row has in the place of a register what that register held at a capture.
+-- where they were at the GET of the rows too, each row has in the place of a register what that register held at a capture. The
+-- first two were answered with data.
 pub record IsNamed (plan : PlanValue) (served : List Exchange) (rows : List Row) : Type 0 where
   pub association : Exchange
   pub first : Exchange
@@ -41,6 +43,8 @@ pub record IsNamed (plan : PlanValue) (served : List Exchange) (rows : List Row)
   pub asked_first : first.apdu ≡ columns_bytes
   pub asked : IsBufferRequest plan.after get.apdu
   pub asked_last : last.apdu ≡ columns_bytes
+  pub success_first : is_success first.outcome.answer ≡ true
+  pub success : is_success get.outcome.answer ≡ true
   pub names_first : names_after first.before ≡ columns
   pub names_last : names_after last.before ≡ columns
   pub named : names_after get.before ≡ columns → AreAmong (named_readings get.before) rows

@@ -10,6 +10,7 @@ ghost use Rattle.dlms_state.specs.Refusal.{IsLegal};
 ghost use Rattle.dlms_world.specs.World.{rows_from, all_rows_from};
 ghost use Rattle.dlms_world.specs.Turn.{Answers, handled};
 ghost use Rattle.dlms_world.specs.Named.{PollsAreNamed};
+ghost use Rattle.dlms_world.specs.Between.{ReadingsAreNamed, StillUnset, StillApart};
 ghost use Rattle.dlms_world.specs.Told.{AnswersTell};
 ghost use Rattle.dlms_world.specs.Calls.{NewIsFirst, NextIsTurn, OnIsTurn, TimeoutIsTurn};
 ghost use Rattle.dlms_world.specs.Ties.{FeedsAreTurns, EventsAreTurns};
@@ -33,6 +34,20 @@ pub fn the_file_and_the_meter_agree()
 /// register held.
 pub fn polls_are_named()
     ensures { PollsAreNamed }
+{}
+
+/// Where each poll asks for the columns, and no columns are set between the two answers of one poll, each row of the readings is a
+/// capture of the events that the meter holds, by name: in the place of a register stands what that register held. Columns may be
+/// set anywhere else in the run.
+pub fn the_file_is_named()
+    ensures { ReadingsAreNamed }
+{}
+
+/// Where no columns are set between the answers of a poll: in a run that sets none, and in one that goes on by any step behind which
+/// no poll is under way.
+pub fn columns_stand_still()
+    ensures unset { StillUnset }
+    ensures apart { StillApart }
 {}
 
 /// The answers to a whole poll, served in turn from a link that has just come up, tell the buffer's rows at its GET.
