@@ -4,6 +4,7 @@ pub mod ReadingsFault
 pub mod PollFault
 pub mod Rows
 pub mod Columns
+pub mod Listed
 pub mod Form
 pub mod Asking
 pub mod Poll

@@ -10,6 +10,7 @@ mod form;
 mod get_answer;
 pub mod laws;
 mod lines;
+mod listed;
 mod plan;
 mod poll_fault;
 mod poller;
@@ -21,6 +22,7 @@ mod stage;
 mod step;
 mod talk;
 
+pub use listed::{ColumnList, ListedColumn, list_columns};
 pub use plan::{Columns, Plan};
 pub use poll_fault::PollFault;
 pub use poller::Poller;
