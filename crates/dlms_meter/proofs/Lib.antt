@@ -12,3 +12,4 @@ pub mod Apart
 pub mod InTurn
 pub mod OneOutcome
 pub mod Given
+pub mod OwnRecords

@@ -7,3 +7,4 @@ pub mod Settled
 pub mod Storing
 pub mod Alike
 pub mod Lives
+pub mod Own

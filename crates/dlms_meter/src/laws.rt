@@ -1,12 +1,14 @@
 //! Laws over whole runs. They make no call: the calls' own contracts cite the same definitions.
 
 ghost use Rattle.std.specs.Prelude.{◌≡◌, ℕ, List, ◌++◌, map};
+ghost use Rattle.dlms_state.specs.declared.event.Event.{Event};
 ghost use Rattle.dlms_store.specs.World.{StoreRun};
-ghost use Rattle.dlms_meter.specs.Run.{MeterWorld, Stands, Comes, FoundMemory};
+ghost use Rattle.dlms_meter.specs.Run.{MeterWorld, Stands, Comes, FoundMemory, first_world, recovered};
 ghost use Rattle.dlms_meter.specs.Alike.{IsAlike};
 ghost use Rattle.dlms_meter.specs.Steps.{Step, Call, Calls, Run, step_of};
 ghost use Rattle.dlms_meter.specs.Independence.{IsAlone, IsIndependent};
 ghost use Rattle.dlms_meter.specs.Lives.{RecoversInLives, NoFurtherStopInLives};
+ghost use Rattle.dlms_meter.specs.Own.{AreOwn, AreOwnInLives, StayOwn};
 ghost use Rattle.dlms_meter.specs.Storing.{store_steps, RecoversInRuns};
 ghost use Rattle.dlms_meter.specs.Transfers.{AreInTurn, BlocksJoin, NoBlockUnasked};
 
@@ -19,6 +21,16 @@ use std::alloc::Allocator;
 pub fn calls_are_a_run<P: Pages, A: Allocator + Copy>(_old: &Meter<P, A>, _new: &Meter<P, A>)
     ensures { (calls : List Call) (w : MeterWorld) → Calls _old.now calls _new.now → Stands _old.now w
         → (w' : MeterWorld) × Run w (map step_of calls) w' × Stands _new.now w' }
+{}
+
+/// What a meter keeps of each client is that client's own, at first and behind a recovery, and no run makes it another's: so it is
+/// of every meter that was formatted or recovered, whatever calls it had since, and over stops and recoveries.
+pub fn records_stay_own<P: Pages, A: Allocator + Copy>(_old: &Meter<P, A>, _new: &Meter<P, A>)
+    ensures begins { AreOwn first_world × ((events : List Event) → AreOwn (recovered events)) }
+    ensures runs { StayOwn }
+    ensures lives { AreOwnInLives }
+    ensures calls { (calls : List Call) (w : MeterWorld) → Calls _old.now calls _new.now → Stands _old.now w → AreOwn w
+        → (w' : MeterWorld) × Run w (map step_of calls) w' × Stands _new.now w' × AreOwn w' }
 {}
 
 /// However a piece of bytes is cut in two, its frames, its replies and its events are the same.
