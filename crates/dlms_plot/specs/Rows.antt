@@ -1,5 +1,5 @@
 -- The rows of a readings file as captures of a register.
-use Rattle.std.specs.Prelude.{ℕ, ◌==◌, ◌-◌, List, Bool, false, not, unwrap_or, find, Option, Some, length, slice_index}
+use Rattle.std.specs.Prelude.{ℕ, ◌==◌, ◌-◌, List, Bool, false, not, unwrap_or, find, map, Option, Some, length, slice_index}
 use Rattle.std.specs.List.{slice_get}
 use Rattle.dlms_headend.specs.declared.row.Row.{Row}
 use Rattle.dlms_plot.specs.Quantity.{quantities}
@@ -28,3 +28,7 @@ differs rows quantity = differ quantity (slice_get rows 0) (slice_get rows (leng
 -- the first register that differs, or that of the import
 abbrev pub counted_of : List Row → Quantity
 counted_of rows = unwrap_or (find (differs rows) quantities) Import
+
+-- the captures of that register
+abbrev pub samples_in : List Row → List Sample
+samples_in rows = map (sample_of (counted_of rows)) rows

@@ -17,7 +17,7 @@ pub use captures::{Period, Sample, power};
 pub use date::{Date, Day, Minute};
 pub use fault::PlotFault;
 pub use quantity::{Quantity, Thousandth};
-pub use readings::{Form, plot_readings};
+pub use readings::{Curve, Form, plot_readings};
 pub use series::Series;
 pub use svg::{write_empty_svg, write_svg};
 pub use terminal::write_text;

@@ -1,5 +1,8 @@
 //! A readings file as a curve.
-ghost use Rattle.std.specs.Prelude.{◌≡◌, IfOk, map};
+ghost use Rattle.std.specs.Prelude.{◌≡◌, List, IfErr, IfOk, map};
+ghost use Rattle.dlms_headend.specs.Lines.{IsFile, Refuses};
+ghost use Rattle.dlms_headend.specs.declared.row.Row.{Row as RowOf};
+ghost use Rattle.dlms_plot.specs.Curve.{IsPlotOf};
 ghost use Rattle.dlms_plot.specs.Rows.{counted_of, differs, sample_of, value_in};
 
 use crate::captures::Sample;
@@ -8,8 +11,9 @@ use crate::quantity::Quantity;
 use crate::series::Series;
 use crate::svg::{write_empty_svg, write_svg};
 use crate::terminal::write_text;
-use dlms_headend::{Readings, Row};
+use dlms_headend::{Readings, ReadingsFault, Row};
 use std::alloc::{AllocError, Allocator};
+use std::io;
 use std::io::Write;
 
 /// As what a curve is written.
@@ -74,24 +78,54 @@ fn counted(rows: &[Row]) -> Quantity
     }
 }
 
-/// Writes the curve of a register of these rows.
-fn write_rows<A: Allocator + Copy, W: Write>(
-    alloc: A,
-    rows: &[Row],
+/// What is plotted: a register, and the periods of its captures.
+#[derive(Drop)]
+pub struct Curve<A: Allocator> {
+    /// The register.
+    pub quantity: Quantity,
+    /// The periods of its captures.
+    pub series: Series<A>,
+}
+
+impl<A: Allocator + Copy> Curve<A> {
+    /// The curve of these rows: of the first register of which the first row and the last one say different values, or of the
+    /// import. None where there is no period between two captures.
+    fn of_rows(alloc: A, rows: &[Row]) -> Result<Option<Curve<A>>, AllocError>
+        ensures { IfOk result (IsPlotOf rows.now) }
+    {
+        let quantity = counted(rows);
+        let samples = samples_of(alloc, rows, quantity)?;
+        match Series::of(alloc, &samples)? {
+            Some(series) => Ok(Some(Curve { quantity, series })),
+            None => Ok(None),
+        }
+    }
+
+    /// The curve of all rows of a readings file, whose text this is; the fault of a text that is none. Want of memory is told only
+    /// of a readings file's text.
+    pub fn of(alloc: A, text: &str) -> Result<Option<Curve<A>>, ReadingsFault>
+        ensures found { IfOk result (λ found. (rows : List RowOf) × IsFile text.now rows × IsPlotOf rows found) }
+        ensures fault { IfErr result (Refuses text.now) }
+    {
+        let readings = Readings::open(alloc, text)?;
+        Ok(Curve::of_rows(alloc, readings.rows())?)
+    }
+}
+
+/// Writes a curve, or words that there is none.
+fn write_curve<A: Allocator + Copy, W: Write>(
+    curve: &Option<Curve<A>>,
     form: Form,
     output: &mut W,
-) -> Result<(), PlotFault> {
-    let quantity = counted(rows);
-    let samples = samples_of(alloc, rows, quantity)?;
-    match (Series::of(alloc, &samples)?, form) {
-        (Some(series), Form::Text) => write_text(quantity, &series, output)?,
-        (Some(series), Form::Svg) => write_svg(quantity, &series, output)?,
+) -> io::Result<()> {
+    match (curve, form) {
+        (Some(curve), Form::Text) => write_text(curve.quantity, &curve.series, output),
+        (Some(curve), Form::Svg) => write_svg(curve.quantity, &curve.series, output),
         (None, Form::Text) => {
-            output.write_all(b"no curve: there is no period between two captures\n")?
+            output.write_all(b"no curve: there is no period between two captures\n")
         }
-        (None, Form::Svg) => write_empty_svg(output)?,
+        (None, Form::Svg) => write_empty_svg(output),
     }
-    Ok(())
 }
 
 /// Writes the curve of the text of a readings file, that of its first register of which the first row and the last one say
@@ -103,6 +137,7 @@ pub fn plot_readings<A: Allocator + Copy, W: Write>(
     form: Form,
     output: &mut W,
 ) -> Result<(), PlotFault> {
-    let readings = Readings::open(alloc, text)?;
-    write_rows(alloc, readings.rows(), form, output)
+    let curve = Curve::of(alloc, text)?;
+    write_curve(&curve, form, output)?;
+    Ok(())
 }

@@ -1,5 +1,6 @@
 //! Ticks of an axis, and places along it.
-ghost use Rattle.std.specs.Prelude.{◌≤◌, ◌*◌};
+ghost use Rattle.std.specs.Prelude.{◌≡◌, ◌≤◌, ◌<◌, ◌*◌, ◌-◌, ◌^◌};
+ghost use Rattle.dlms_plot.specs.Scale.{place_above_of, place_of};
 
 /// The most ticks of the axis of powers, but for that of nothing.
 pub const MOST_POWER_TICKS: u64 = 5;
@@ -83,25 +84,33 @@ pub fn first_tick(begin: u32, step: u32) -> u32
     }
 }
 
+/// A value times a length.
+#[tactic(auto, using(crate::proofs::Products::product_few))]
+fn times(value: u64, length: u64) -> u128
+    ensures product { result ≡ value * length }
+    ensures few { result < 2 ^ 128 - 2 ^ 64 }
+{
+    u128::from(value) * u128::from(length)
+}
+
 /// Where a value stands along a length, of which the whole is this.
 pub fn place(value: u64, whole: u64, length: u64) -> u64
-    ensures { result ≤ length }
+    ensures { result ≡ place_of value whole length }
 {
-    value
-        .saturating_mul(length)
-        .checked_div(whole)
-        .unwrap_or(0)
-        .min(length)
+    if whole == 0 {
+        return 0;
+    }
+    let along = times(value, length) / u128::from(whole);
+    along.min(u128::from(length)) as u64
 }
 
 /// The same, and one more where something is left.
 pub fn place_above(value: u64, whole: u64, length: u64) -> u64
-    ensures { result ≤ length }
+    ensures { result ≡ place_above_of value whole length }
 {
-    value
-        .saturating_mul(length)
-        .saturating_add(whole.saturating_sub(1))
-        .checked_div(whole)
-        .unwrap_or(0)
-        .min(length)
+    if whole == 0 {
+        return 0;
+    }
+    let along = (times(value, length) + u128::from(whole - 1)) / u128::from(whole);
+    along.min(u128::from(length)) as u64
 }

@@ -1,7 +1,8 @@
 //! The periods between captures, and where captures are missing.
-ghost use Rattle.std.specs.Prelude.{◌≡◌, IfOk, MatchOption, length, map, max, min};
+ghost use Rattle.std.specs.Prelude.{◌≡◌, ◌≢◌, [], IfOk, IsErr, MatchOption, length, map, max, min};
 ghost use Rattle.std.specs.List.{reduce};
 ghost use Rattle.dlms_plot.specs.Series.{gap_of, gaps_of, period_within, periods_of, HasNoSeries, IsSeriesOf, greatest, least};
+ghost use Rattle.dlms_plot.specs.Steps.{steps_of};
 
 use crate::captures::{Period, Sample, power};
 use crate::usual::usual_step;
@@ -24,9 +25,11 @@ impl<A: Allocator> Model for Series<A> {
 }
 
 impl<A: Allocator + Copy> Series<A> {
-    /// The periods between captures. None where there is no period.
+    /// The periods between captures. None where there is no period. Want of memory is told only where the clock goes on from some
+    /// capture to the next one.
     pub fn of(alloc: A, samples: &[Sample]) -> Result<Option<Series<A>>, AllocError>
-        ensures { IfOk result (λ found. MatchOption found (HasNoSeries samples.now) (IsSeriesOf samples.now)) }
+        ensures found { IfOk result (λ found. MatchOption found (HasNoSeries samples.now) (IsSeriesOf samples.now)) }
+        ensures memory { IsErr result → steps_of samples.now ≢ [] }
     {
         let Some(usual) = usual_step(alloc, samples)? else {
             return Ok(None);

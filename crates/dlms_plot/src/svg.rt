@@ -1,5 +1,6 @@
 //! The curve as an SVG that stands alone: no script, no font from elsewhere, light or dark as the reader has it.
-ghost use Rattle.std.specs.Prelude.{◌≤◌, ◌*◌};
+ghost use Rattle.std.specs.Prelude.{◌≡◌, ◌≤◌, ◌+◌, ◌-◌, ◌*◌};
+ghost use Rattle.dlms_plot.specs.Scale.{place_of};
 
 use crate::captures::Period;
 use crate::date::{Date, Day, Minute};
@@ -71,6 +72,7 @@ struct Plane {
 impl Plane {
     /// Where a second stands from the left.
     fn across(self, second: u32) -> Tenths
+        ensures place { result.0 ≡ 10 * LEFT + place_of (second - self.begin) self.span (10 * (RIGHT - LEFT)) }
         ensures left { 10 * LEFT ≤ result.0 }
         ensures right { result.0 ≤ 10 * RIGHT }
     {
@@ -81,6 +83,7 @@ impl Plane {
 
     /// Where a power stands from the top.
     fn down(self, power: u64) -> Tenths
+        ensures place { result.0 ≡ 10 * BOTTOM - place_of power self.top (10 * (BOTTOM - TOP)) }
         ensures top { 10 * TOP ≤ result.0 }
         ensures bottom { result.0 ≤ 10 * BOTTOM }
     {

@@ -1,5 +1,5 @@
 //! The usual period: the step of the clock that stands most often between two captures.
-ghost use Rattle.std.specs.Prelude.{◌≡◌, [], ◌∷◌, IfOk, MatchOption};
+ghost use Rattle.std.specs.Prelude.{◌≡◌, ◌≢◌, [], ◌∷◌, IfOk, IsErr, MatchOption, length};
 ghost use Rattle.std.specs.List.Sorted.{IsNonDecreasing};
 ghost use Rattle.dlms_plot.specs.Steps.{step_of, steps_of, IsUsual};
 
@@ -15,6 +15,17 @@ fn step(before: Sample, after: Sample) -> Option<u32>
     } else {
         None
     }
+}
+
+/// How often the clock goes on from a capture to the next one.
+fn count_steps(samples: &[Sample]) -> usize
+    ensures { result ≡ length (steps_of samples.now) }
+{
+    samples
+        .iter()
+        .zip(samples.iter().skip(1))
+        .filter_map(|(before, after)| step(*before, *after))
+        .count()
 }
 
 /// By how much the clock went on from each capture to the next one, where it did.
@@ -60,10 +71,14 @@ fn most_often(sorted: &[u32]) -> Option<u32>
 }
 
 /// The usual period: the step of the clock that stands most often between two captures; of several the least. None where the
-/// clock never goes on.
+/// clock never goes on; want of memory is told only where it does.
 pub fn usual_step<A: Allocator>(alloc: A, samples: &[Sample]) -> Result<Option<u32>, AllocError>
-    ensures { IfOk result (λ found. MatchOption found (steps_of samples.now ≡ []) (IsUsual (steps_of samples.now))) }
+    ensures usual { IfOk result (λ found. MatchOption found (steps_of samples.now ≡ []) (IsUsual (steps_of samples.now))) }
+    ensures memory { IsErr result → steps_of samples.now ≢ [] }
 {
+    if count_steps(samples) == 0 {
+        return Ok(None);
+    }
     let mut steps = steps(alloc, samples)?;
     steps.sort()?;
     Ok(most_often(&steps))
