@@ -5,6 +5,8 @@ use Rattle.dlms_pages.specs.declared.device.PageRead.{PageRead}
 
 pub record ImageValue : Type 0 where
   pub pages : List PageRead
+  -- how many bytes there were
+  pub bytes : ℕ
   -- how often a write was asked for, each of which is a fault
   pub faults : ℕ
 

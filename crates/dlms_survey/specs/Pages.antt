@@ -9,10 +9,14 @@ use Rattle.dlms_pages.specs.declared.seal.TheConstants.{SLOT_BYTES}
 abbrev pub slot_at : ℕ → List ℕ → List ℕ
 slot_at index bytes = slice_range bytes (index * SLOT_BYTES) (index * SLOT_BYTES + SLOT_BYTES)
 
+-- bytes of this count end before the slot does
+abbrev pub IsCut : (index count : ℕ) → Type 0
+IsCut index count = count < index * SLOT_BYTES + SLOT_BYTES
+
 -- A page is what its slot says, by its seal; where the bytes end before the slot does, it is damaged.
 pub record IsPageIn (index : ℕ) (bytes : List ℕ) (page : PageRead) : Type 0 where
   pub whole : index * SLOT_BYTES + SLOT_BYTES ≤ length bytes → ReadsSlot index (slot_at index bytes) page
-  pub cut : length bytes < index * SLOT_BYTES + SLOT_BYTES → page ≡ Damaged
+  pub cut : IsCut index (length bytes) → page ≡ Damaged
 
 -- so of each page of a device of so many pages
 abbrev pub AreIn : List ℕ → List PageRead → Type 0

@@ -1,7 +1,8 @@
 -- What a recovery finds in an image, and what it would do, in the words of dlms_store.
-use Rattle.std.specs.Prelude.{◌≡◌, ◌+◌, ◌-◌, ◌^◌, List, Option, Result, MatchOption, MatchResult}
+use Rattle.std.specs.Prelude.{◌≡◌, ◌+◌, ◌-◌, ◌^◌, List, Option, Some, None, Result, Ok, Err, MatchOption, MatchResult}
 use Rattle.dlms_pages.specs.Device.{Image, page_at}
 use Rattle.dlms_state.specs.declared.event.Event.{Event}
+use Rattle.dlms_state.specs.StateValue.{StateValue}
 use Rattle.dlms_store.specs.Active.{IsChosen, IsFound, IsStale}
 use Rattle.dlms_store.specs.Cause.{IsCause}
 use Rattle.dlms_store.specs.Layout.{gate_of, other_of}
@@ -30,6 +31,11 @@ IsGateOf slot image said = MatchOption said ((edition : Edition) → IsNot (IsOp
 -- what a recovery finds in an image, or its cause for refusing
 abbrev pub IsFoundIn : {A : Type 0} → Image → Result (Found A) OpenFault → Type 0
 IsFoundIn image found = MatchResult found (λ found. (base : List Event) × (pages : List (List Event)) × IsFound image base pages found) (λ fault. IsCause fault image)
+
+-- the state of what a recovery finds, if it finds any
+abbrev pub state_in : {A : Type 0} → Result (Found A) OpenFault → Option StateValue
+state_in (Ok found) = Some found.state
+state_in (Err fault) = None
 
 -- so much of an image: its gates, the slot that counts, and what a recovery finds there, or its cause for refusing
 pub record IsSurveyed {A : Type 0} (image : Image) (survey : Survey A) : Type 0 where

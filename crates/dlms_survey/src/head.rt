@@ -27,6 +27,7 @@ pub struct Head {
 /// What the head of a page says, by the readers of heads.
 pub fn head_of(page: &[u8; PAGE_BYTES]) -> Head
     ensures kind { result.kind ≡ kind_named (said_by page.now).kind }
+    ensures number { result.number ≡ (said_by page.now).kind }
     ensures version { result.version ≡ (said_by page.now).version }
     ensures index { result.index ≡ (said_by page.now).index }
     ensures generation { result.generation ≡ (said_by page.now).generation }

@@ -1,7 +1,7 @@
 //! The pages of a file's bytes, as a device that is read and never written.
-ghost use Rattle.std.specs.Prelude.{◌≡◌, ◌≤◌, ◌<◌, ◌^◌, ◌+◌, true, length, min, IfOk, IsErr, Ok};
+ghost use Rattle.std.specs.Prelude.{◌≡◌, ◌≤◌, ◌<◌, ◌^◌, ◌+◌, ◌↔◌, true, length, min, IfOk, IsErr, IsTrue, Ok};
 ghost use Rattle.dlms_pages.specs.Device.{page_at};
-ghost use Rattle.dlms_survey.specs.Pages.{AreIn, IsPageIn};
+ghost use Rattle.dlms_survey.specs.Pages.{AreIn, IsCut, IsPageIn};
 ghost use Rattle.dlms_store.specs.declared.layout.TheConstants.{PAGES};
 
 use dlms_pages::{DeviceFault, PAGE_BYTES, PageRead, Pages, SLOT_BYTES, opened};
@@ -15,8 +15,8 @@ use std::marker::Model;
 pub struct Image<A: Allocator = Global> {
     pages: Vec<PageRead, A>,
     faults: u64,
-    // How many whole slots the bytes had.
-    whole: usize,
+    // How many bytes there were.
+    bytes: usize,
 }
 
 impl<A: Allocator> Model for Image<A> {
@@ -28,6 +28,7 @@ impl<A: Allocator> Model for Image<A> {
 
     ghost view = { λ i. record {
       pages = i.pages.items;
+      bytes = i.bytes;
       faults = i.faults;
     } };
 
@@ -66,13 +67,14 @@ impl<A: Allocator + Copy> Image<A> {
     /// The pages of these bytes. What stands behind the last page is not looked at.
     pub fn of_bytes(alloc: A, bytes: &[u8]) -> Result<Image<A>, AllocError>
         ensures pages { IfOk result (λ image. AreIn bytes.now image.pages) }
+        ensures bytes { IfOk result (λ image. image.bytes ≡ length bytes.now) }
     {
         let mut pages = vec![in alloc; PageRead::Damaged; PAGES as usize]?;
         fill(&mut pages, bytes);
         Ok(Image {
             pages,
             faults: 0,
-            whole: bytes.len() / SLOT_BYTES,
+            bytes: bytes.len(),
         })
     }
 
@@ -94,8 +96,10 @@ impl<A: Allocator + Copy> Image<A> {
     }
 
     /// Whether the bytes end before the page does.
-    pub fn is_cut(&self, index: u16) -> bool {
-        usize::from(index) >= self.whole
+    pub fn is_cut(&self, index: u16) -> bool
+        ensures { IsTrue result ↔ IsCut index self.now.bytes }
+    {
+        self.bytes < usize::from(index) * SLOT_BYTES + SLOT_BYTES
     }
 }
 

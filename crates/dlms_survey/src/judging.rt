@@ -1,10 +1,14 @@
 //! Whether each page of an image serves a recovery, and why not.
-ghost use Rattle.std.specs.Prelude.{◌≡◌, ◌≢◌, ◌<◌, ◌+◌, ◌↔◌, ℕ, IfErr, MatchResult, Ok};
+ghost use Rattle.std.specs.Prelude.{◌≡◌, ◌≢◌, ◌≤◌, ◌<◌, ◌+◌, ◌-◌, ◌%◌, ◌^◌, ◌↔◌, ◌==◌, ◌||◌, ℕ, List, IfErr, IfSome, IsTrue, MatchResult, Ok, Some};
+ghost use Rattle.dlms_journal.specs.Page.{head_of as said_by};
+ghost use Rattle.dlms_pages.specs.declared.device.PageRead.{PageRead as PageReadOf};
+ghost use Rattle.dlms_pages.specs.declared.device.PageRead.TheVariants.{Content};
 ghost use Rattle.dlms_store.specs.Layout.{gate_of};
 ghost use Rattle.dlms_store.specs.declared.layout.Slot.{Slot as SlotOf};
-ghost use Rattle.dlms_store.specs.declared.layout.TheConstants.{JOURNAL, JOURNAL_PAGES};
+ghost use Rattle.dlms_store.specs.declared.layout.TheConstants.{BODIES, JOURNAL, JOURNAL_PAGES, RING, RING_PAGES};
 ghost use Rattle.dlms_store.specs.declared.page.Edition.{Edition as EditionOf};
-ghost use Rattle.dlms_survey.specs.Judging.{CountsGate, CountsJournal};
+ghost use Rattle.dlms_survey.specs.Judging.{CountsGate, CountsJournal, IsBefore, IsBehindNamed, IsKind, MayCountBody, MayCountRing, Says, SaysOf};
+ghost use Rattle.dlms_survey.specs.Image.{ImageValue};
 
 use crate::head::{Head, head_of};
 use crate::image::Image;
@@ -38,7 +42,9 @@ fn index_at(place: Place) -> Option<u16> {
 
 /// Whether a page of this kind has what its place asks for, whatever counts.
 fn fits_place(place: Place, kind: PageKind, head: Head) -> Verdict
-    ensures { result ≢ Verdict.Counts }
+    ensures counts { result ≢ Verdict.Counts }
+    ensures says { (image : ImageValue) (page : ℕ) (bytes : List ℕ) → IsKind (Some kind) (said_by bytes) → head.version ≡ (said_by bytes).version → head.index ≡ (said_by bytes).index
+        → SaysOf image page (Content bytes) result }
 {
     if kind == PageKind::Empty {
         return Verdict::Empty;
@@ -61,7 +67,8 @@ fn fits_place(place: Place, kind: PageKind, head: Head) -> Verdict
 
 /// Whether a page has what its place asks for, whatever counts.
 fn at_place<A: Allocator + Copy>(image: &Image<A>, page: u16) -> Verdict
-    ensures { result ≢ Verdict.Counts }
+    ensures counts { result ≢ Verdict.Counts }
+    ensures says { Says image.now page result }
 {
     match image.page(page) {
         PageRead::Damaged if image.is_cut(page) => Verdict::Cut,
@@ -82,15 +89,16 @@ fn payload_in<A: Allocator + Copy>(
     page: u16,
     edition: Edition,
 ) -> Result<&[u8], Verdict>
-    ensures { IfErr result (λ verdict. verdict ≢ Verdict.Counts) }
+    ensures counts { IfErr result (λ verdict. verdict ≢ Verdict.Counts) }
+    ensures says { IfErr result (Says image.now page) }
 {
     let found = at_place(image, page);
+    let PageRead::Content(bytes) = image.page(page) else {
+        return Err(found);
+    };
     if found != Verdict::Unused {
         return Err(found);
     }
-    let PageRead::Content(bytes) = image.page(page) else {
-        return Err(Verdict::Torn);
-    };
     let head = head_of(bytes);
     if head.generation != edition.generation {
         return Err(Verdict::OtherCheckpoint(head.generation));
@@ -144,7 +152,8 @@ fn body_reason<A: Allocator + Copy>(
     index: u16,
     edition: Edition,
 ) -> Verdict
-    ensures { result ≢ Verdict.Counts }
+    ensures counts { result ≢ Verdict.Counts }
+    ensures says { Says image.now page result }
 {
     let body = match payload_in(image, page, edition) {
         Ok(body) => body,
@@ -161,7 +170,8 @@ fn body_reason<A: Allocator + Copy>(
 
 /// Why a journal page behind this state does not fit, which is of the edition that counts.
 fn records_reason<A: Allocator + Copy>(state: &State<A>, payload: &[u8]) -> Verdict
-    ensures { result ≢ Verdict.Counts }
+    ensures counts { result ≢ Verdict.Counts }
+    ensures says { (image : ImageValue) (page : ℕ) (read : PageReadOf) → SaysOf image page read result }
 {
     let Some(events) = records_of(payload) else {
         return Verdict::NoRecords;
@@ -189,14 +199,19 @@ struct Named {
 }
 
 /// The number of the ring page that stands at this index, where this one is the first that may be named.
-fn number_at(first: u64, index: u16) -> u64 {
+fn number_at(first: u64, index: u16) -> u64
+    ensures from { first ≤ result }
+    ensures place { result < 2 ^ 64 - 1 → index < RING_PAGES → result % RING_PAGES ≡ index }
+{
     let pages = u64::from(RING_PAGES);
     let ahead = (u64::from(index) + pages - first % pages) % pages;
     first.saturating_add(ahead)
 }
 
 /// The number of the ring page behind those that were named: those that a recovery took, or up to the one that does not fit.
-fn behind_named<A: Allocator + Copy>(found: &Result<Found<A>, OpenFault>, first: u64) -> u64 {
+fn behind_named<A: Allocator + Copy>(found: &Result<Found<A>, OpenFault>, first: u64) -> u64
+    ensures { IsBehindNamed first found.now result }
+{
     match found {
         Ok(found) => {
             let captured = u128::from(found.journal.captured);
@@ -222,7 +237,9 @@ pub struct Judge<'a, A: Allocator = Global> {
 impl<'a, A: Allocator + Copy> Judge<'a, A> {
     /// A judge of this image, of which this is the survey.
     pub fn new(image: &'a Image<A>, survey: &'a Survey<A>) -> Self
+        ensures image { result.image.now ≡ image.now }
         ensures survey { result.survey.now ≡ survey.now }
+        ensures named { IfSome result.named (λ named. IsBehindNamed named.first survey.now.found named.behind) }
     {
         let Ok((slot, edition)) = survey.active else {
             return Judge {
@@ -232,12 +249,11 @@ impl<'a, A: Allocator + Copy> Judge<'a, A> {
                 named: None,
             };
         };
-        let bodies = bodies_of(image, slot, edition);
         Judge {
             image,
             survey,
             more: asks_for_more(image, slot, edition),
-            named: bodies.and_then(|bodies| named_by(&bodies, &survey.found)),
+            named: named_in(image, slot, edition, &survey.found),
         }
     }
 
@@ -251,7 +267,8 @@ impl<'a, A: Allocator + Copy> Judge<'a, A> {
 
     /// Whether a gate counts, and why not.
     fn gate(&self, slot: Slot) -> Verdict
-        ensures { (result ≡ Verdict.Counts) ↔ CountsGate slot self.now.survey.now }
+        ensures counts { (result ≡ Verdict.Counts) ↔ CountsGate slot self.now.survey.now }
+        ensures says { Says self.now.image.now (gate_of slot) result }
     {
         match self.survey.active {
             Ok((active, _)) if active == slot => Verdict::Counts,
@@ -263,25 +280,52 @@ impl<'a, A: Allocator + Copy> Judge<'a, A> {
         }
     }
 
-    /// Whether a body counts, and why not.
-    fn body(&self, slot: Slot, index: u16, page: u16) -> Verdict {
+    /// Whether a slot counts, and its bodies are as many as to have one of this index.
+    fn is_asked_for(&self, slot: Slot, index: u16) -> bool
+        ensures slot { IsTrue result → CountsGate slot self.now.survey.now }
+        ensures index { IsTrue result → IsTrue ((index == 0) || self.now.more) }
+    {
         match self.survey.active {
-            Ok((active, edition)) if active == slot && (index == 0 || self.more) => {
-                match self.unfit() {
-                    Some(unfit) if unfit == page => {
-                        body_reason(self.image, page, index, edition)
-                    }
-                    Some(unfit) if unfit < page => Verdict::Unused,
-                    _ => Verdict::Counts,
-                }
-            }
-            _ => at_place(self.image, page),
+            Ok((active, _)) if active == slot => index == 0 || self.more,
+            _ => false,
+        }
+    }
+
+    /// Whether a page stands before the one that a recovery names where it refuses.
+    fn is_before(&self, page: u16) -> bool
+        ensures { IsTrue result → IsBefore page self.now.survey.now.found }
+    {
+        match &self.survey.found {
+            Err(OpenFault::Corrupt(unfit)) => page < *unfit,
+            _ => true,
+        }
+    }
+
+    /// Whether a body counts, and why not.
+    fn body(&self, slot: Slot, index: u16, page: u16) -> Verdict
+        ensures counts { result ≡ Verdict.Counts → MayCountBody slot index page self.now.more self.now.survey.now }
+        ensures says { Says self.now.image.now page result }
+    {
+        let Ok((_, edition)) = self.survey.active else {
+            return at_place(self.image, page);
+        };
+        if !self.is_asked_for(slot, index) {
+            return at_place(self.image, page);
+        }
+        if self.unfit() == Some(page) {
+            return body_reason(self.image, page, index, edition);
+        }
+        if self.is_before(page) {
+            Verdict::Counts
+        } else {
+            Verdict::Unused
         }
     }
 
     /// Whether a journal page counts, and why not.
     fn journal(&self, index: u16, page: u16) -> Verdict
-        ensures { (result ≡ Verdict.Counts) ↔ CountsJournal index self.now.survey.now }
+        ensures counts { (result ≡ Verdict.Counts) ↔ CountsJournal index self.now.survey.now }
+        ensures says { Says self.now.image.now page result }
     {
         let Ok(found) = &self.survey.found else {
             return at_place(self.image, page);
@@ -297,7 +341,10 @@ impl<'a, A: Allocator + Copy> Judge<'a, A> {
     }
 
     /// Why a named ring page does not fit.
-    fn ring_reason(&self, page: u16, number: u64, named: Named) -> Verdict {
+    fn ring_reason(&self, page: u16, number: u64, named: Named) -> Verdict
+        ensures counts { result ≢ Verdict.Counts }
+        ensures says { Says self.now.image.now page result }
+    {
         let Ok((_, edition)) = self.survey.active else {
             return Verdict::Unused;
         };
@@ -313,7 +360,10 @@ impl<'a, A: Allocator + Copy> Judge<'a, A> {
     }
 
     /// Whether a ring page counts, and why not.
-    fn ring(&self, index: u16, page: u16) -> Verdict {
+    fn ring(&self, index: u16, page: u16) -> Verdict
+        ensures counts { result ≡ Verdict.Counts → index < RING_PAGES → MayCountRing index self.now.named }
+        ensures says { Says self.now.image.now page result }
+    {
         let Some(named) = self.named else {
             return at_place(self.image, page);
         };
@@ -328,10 +378,13 @@ impl<'a, A: Allocator + Copy> Judge<'a, A> {
     }
 
     /// Whether a page serves, and why not. A gate counts exactly where its slot does, and a journal page exactly where a recovery
-    /// takes its events.
+    /// takes its events; a body and a ring page count only where they may. What it says of a page's bytes and head is so.
     pub fn verdict(&self, page: u16) -> Verdict
         ensures gate { (slot : SlotOf) → page ≡ gate_of slot → (result ≡ Verdict.Counts) ↔ CountsGate slot self.now.survey.now }
+        ensures body { (slot : SlotOf) (k : ℕ) → page ≡ gate_of slot + 1 + k → k < BODIES → result ≡ Verdict.Counts → MayCountBody slot k page self.now.more self.now.survey.now }
         ensures journal { (k : ℕ) → page ≡ JOURNAL + k → k < JOURNAL_PAGES → (result ≡ Verdict.Counts) ↔ CountsJournal k self.now.survey.now }
+        ensures ring { (k : ℕ) → page ≡ RING + k → k < RING_PAGES → result ≡ Verdict.Counts → MayCountRing k self.now.named }
+        ensures says { Says self.now.image.now page result }
     {
         match place_of(page) {
             Place::Gate(slot) => self.gate(slot),
@@ -342,11 +395,16 @@ impl<'a, A: Allocator + Copy> Judge<'a, A> {
     }
 }
 
-/// The ring pages that bodies name.
-fn named_by<A: Allocator + Copy>(
-    bodies: &Refilling,
+/// The ring pages that a slot's bodies name.
+fn named_in<A: Allocator + Copy>(
+    image: &Image<A>,
+    slot: Slot,
+    edition: Edition,
     found: &Result<Found<A>, OpenFault>,
-) -> Option<Named> {
+) -> Option<Named>
+    ensures { IfSome result (λ named. IsBehindNamed named.first found.now named.behind) }
+{
+    let bodies = bodies_of(image, slot, edition)?;
     let first = bodies.awaited_page()?;
     Some(Named {
         first,

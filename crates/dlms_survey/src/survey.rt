@@ -1,7 +1,7 @@
 //! What a recovery finds in an image, and what it would do.
-ghost use Rattle.std.specs.Prelude.{◌≡◌, IfOk, IsErr, MatchResult};
+ghost use Rattle.std.specs.Prelude.{◌≡◌, IfOk, IsErr, MatchResult, option_map};
 ghost use Rattle.dlms_store.specs.Cause.{IsCause};
-ghost use Rattle.dlms_survey.specs.Survey.{IsFoundIn, IsGateOf, IsRecovery, IsSurveyed};
+ghost use Rattle.dlms_survey.specs.Survey.{IsFoundIn, IsGateOf, IsRecovery, IsSurveyed, state_in};
 
 use crate::image::Image;
 use dlms_state::State;
@@ -93,8 +93,10 @@ impl<A: Allocator + Copy> Survey<A> {
         }
     }
 
-    /// The state after all events that a recovery finds.
-    pub fn state(&self) -> Option<&State<A>> {
+    /// The state after all events that a recovery finds; none exactly where it would refuse.
+    pub fn state(&self) -> Option<&State<A>>
+        ensures { option_map (λ state. state.now) result ≡ state_in self.now.found }
+    {
         match &self.found {
             Ok(found) => Some(&found.state),
             Err(_) => None,

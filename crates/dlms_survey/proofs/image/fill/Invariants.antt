@@ -1,4 +1,4 @@
-use Rattle.std.proofs.Common.{◌≡◌, ◌<◌, ℕ}
+use Rattle.std.proofs.Common.{◌<◌, ℕ}
 use Rattle.dlms_pages.specs.Device.{page_at}
 use Rattle.dlms_survey.specs.Pages.{IsPageIn}
 use Rattle.dlms_survey.proofs.image.fill.Given as goal
