@@ -5,7 +5,7 @@ use crate::damages::{DAMAGES, SLOT, damaged};
 use crate::faulty::{Faulty, FaultyFiles, Since};
 use crate::report::Report;
 use anyhow::Result;
-use dlms_pages::{FilePages, PageRead, Pages};
+use dlms_pages::{FilePages, FileSlots, PageRead, Pages};
 use std::alloc::{AllocError, Global};
 use std::env::temp_dir;
 use std::io::ErrorKind;
@@ -282,7 +282,11 @@ const SCENARIOS: [Scenario; 3] = [
 ];
 
 /// Three pages in a file of which so many calls fail.
-fn with_faults(rt: &HostRuntime, path: &str, scenario: &Scenario) -> io::Result<FilePages<Faulty>> {
+fn with_faults(
+    rt: &HostRuntime,
+    path: &str,
+    scenario: &Scenario,
+) -> io::Result<FilePages<FileSlots<Faulty>>> {
     let files = FaultyFiles {
         rt,
         since: Since::FirstSync,
@@ -333,7 +337,7 @@ fn is_not_opened(rt: &HostRuntime, path: &str, [reads, writes, syncs]: [u32; 3])
         writes,
         syncs,
     };
-    let opened: io::Result<FilePages<Faulty>> = FilePages::open(&files, path, 3);
+    let opened: io::Result<FilePages<FileSlots<Faulty>>> = FilePages::open(&files, path, 3);
     opened.is_err()
 }
 

@@ -26,7 +26,7 @@ length-stable disk (Write index bytes ∷ calls) e = length-stable (after disk (
 length-stable disk (Sync ∷ calls) e = length-stable (after disk Sync) calls refl
 
 -- a page put back
-put_back : (image : Image) (index : ℕ) (x y : PageRead) → get_or image index Damaged ≡ y → set (set image index x) index y ≡ image
+pub put_back : (image : Image) (index : ℕ) (x y : PageRead) → get_or image index Damaged ≡ y → set (set image index x) index y ≡ image
 put_back image index x y is =
     ext_get_or Damaged (set (set image index x) index y) image (length-set (set image index x) index y ∙ length-set image index x) (λ k small. ⊎_elim
     (λ (same : k ≡ index). ap (λ (j : ℕ). get_or (set (set image index x) index y) j Damaged) same ∙ get_or-set_same (set image index x) index y Damaged (omega (arith, length-set (set image index x) index y, length-set image index x)) ∙ sym is ∙ ap (λ (j : ℕ). get_or image j Damaged) (sym same))

@@ -1,14 +1,17 @@
 -- A file that is opened: its slots are written again, one after another.
-use Rattle.std.proofs.Common.{◌≡◌, ◌+◌, ℕ, suc, true, List, [], ◌∷◌, ◌++◌, length, Option, refl, sym, ◌∙◌, ap, arith, append_assoc, subst, Result, Ok, Err}
+use Rattle.std.proofs.Common.{◌≡◌, ◌+◌, ℕ, suc, true, List, [], ◌∷◌, ◌++◌, length, refl, sym, ◌∙◌, ap, arith, append_assoc, subst, Result, Ok, Err}
 use Rattle.std.proofs.lemmas.List.{append-nil, length-append}
 use Rattle.std.specs.Prelude.{IfOk}
-use Rattle.dlms_pages.specs.Asked.{Asked, Came, Asks, passed, renewal_of, renewals, IsThere, AreThere, IsSlotRenewed, IsRenewed}
-use Rattle.dlms_pages.specs.Asked.Asked.{Reads, Writes, Syncs}
-use Rattle.dlms_pages.specs.Asked.Came.{Slot}
-use Rattle.dlms_pages.proofs.Asking.{nothing, then_asks}
+use Rattle.dlms_pages.specs.Asked.{Asks, passed, renewal_of, renewals, IsThere, AreThere, IsSlotRenewed, IsRenewed}
+use Rattle.dlms_pages.specs.declared.asking.Asked.{Asked}
+use Rattle.dlms_pages.specs.declared.asking.Asked.TheVariants.{Reads, Writes, Syncs}
+use Rattle.dlms_pages.specs.declared.asking.Came.{Came}
+use Rattle.dlms_pages.specs.declared.asking.Came.TheVariants.{Slot}
+use Rattle.dlms_pages.specs.Slots.{Slots, Gives}
+use Rattle.dlms_pages.proofs.FileCalls.{nothing, then_asks}
 
 -- the slots below this one were renewed
-pub record RenewedTo (index : ℕ) (old new : Option (List Asked)) : Type 0 where
+pub record RenewedTo (index : ℕ) (old new : Slots) : Type 0 where
   pub cames : List Came
   pub counted : length cames ≡ index
   pub there : AreThere cames
@@ -25,10 +28,10 @@ there_too : (cames : List Came) (came : Came) → AreThere cames → IsThere cam
 there_too [] came all one = (one, tt)
 there_too (first ∷ cames) came all one = (all.0, there_too cames came all.1 one)
 
-pub none_yet : (a : Option (List Asked)) → RenewedTo 0 a a
+pub none_yet : (a : Slots) → RenewedTo 0 a a
 none_yet a = record { cames = []; counted = refl; there = tt; calls = nothing a }
 
-pub one_more : (index : ℕ) (old mid new : Option (List Asked)) → RenewedTo index old mid → IsSlotRenewed index mid new → RenewedTo (index + 1) old new
+pub one_more : (index : ℕ) (old mid new : Slots) → RenewedTo index old mid → IsSlotRenewed index mid new → RenewedTo (index + 1) old new
 one_more index old mid new made next = record {
   cames = made.cames ++ next.came ∷ [];
   counted = length-append made.cames (next.came ∷ []) ∙ ap (λ (n : ℕ). n + 1) made.counted;
@@ -39,7 +42,7 @@ one_more index old mid new made next = record {
       subst (Asks old new) (sym (behind made.cames next.came 0)) (then_asks old mid new (renewals 0 made.cames) (renewal_of (0 + length made.cames) next.came) made.calls here);
 }
 
-pub all_and_synced : (count index : ℕ) (old mid new : Option (List Asked)) → index ≡ count → RenewedTo index old mid → Asks mid new (Syncs true ∷ []) → IsRenewed count old new
+pub all_and_synced : (count index : ℕ) (old mid new : Slots) → index ≡ count → RenewedTo index old mid → Asks mid new (Syncs true ∷ []) → IsRenewed count old new
 all_and_synced count index old mid new same made synced = record {
   cames = made.cames;
   counted = made.counted ∙ same;
@@ -48,11 +51,12 @@ all_and_synced count index old mid new same made synced = record {
 }
 
 -- one slot that the file has all of
-pub slot_again : {T E : Type 0} (index : ℕ) (bytes : List ℕ) (old mid new : Option (List Asked)) (result : Result T E) → Asks old mid (Reads index (Slot bytes) ∷ []) → Asks mid new (Writes index bytes (passed result) ∷ [])
+pub slot_again : {T E : Type 0} (index : ℕ) (bytes : List ℕ) (old mid new : Slots) (result : Result T E) → Asks old mid (Reads index (Slot bytes) ∷ []) → (old.keeps ≡ true → Gives old index (Slot bytes)) → Asks mid new (Writes index bytes (passed result) ∷ [])
     → IfOk result (λ _. IsSlotRenewed index old new)
-slot_again index bytes old mid new (Ok x) read written = record {
+slot_again index bytes old mid new (Ok x) read gives written = record {
   came = Slot bytes;
   there = tt;
+  gives = gives;
   calls = then_asks old mid new (Reads index (Slot bytes) ∷ []) (Writes index bytes true ∷ []) read written;
 }
-slot_again index bytes old mid new (Err e) read written = tt
+slot_again index bytes old mid new (Err e) read gives written = tt

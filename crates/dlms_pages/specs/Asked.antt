@@ -1,21 +1,13 @@
 -- What is asked of a file of slots.
-use Rattle.std.specs.Prelude.{◌≡◌, ◌+◌, ℕ, Bool, true, false, List, [], ◌∷◌, ◌++◌, length, Option, Some, None, Result, Ok, Err, if◌then◌else◌}
-use Rattle.dlms_pages.specs.Seal.{slot_of, ReadsSlot}
+use Rattle.std.specs.Prelude.{◌≡◌, ◌+◌, ℕ, Bool, true, false, List, [], ◌∷◌, ◌++◌, reverse, length, Option, Some, None, Result, Ok, Err, if◌then◌else◌}
+use Rattle.dlms_pages.specs.Seal.{slot_of}
+use Rattle.dlms_pages.specs.Slots.{Slots, Gives, Leaves, newest, page_in, standing}
+use Rattle.dlms_pages.specs.declared.asking.Asked.{Asked}
+use Rattle.dlms_pages.specs.declared.asking.Asked.TheVariants.{Reads, Writes, Syncs}
+use Rattle.dlms_pages.specs.declared.asking.Came.{Came}
+use Rattle.dlms_pages.specs.declared.asking.Came.TheVariants.{Slot, Short, Failed}
 use Rattle.dlms_pages.specs.declared.device.PageRead.{PageRead}
-use Rattle.dlms_pages.specs.declared.device.PageRead.TheVariants.{Damaged}
 use Rattle.dlms_pages.specs.declared.device.DeviceFault.{DeviceFault}
-
--- what comes of a read: the slot, or the file ends before it, or a fault
-pub data Came : Type 0 where
-  Slot : (bytes : List ℕ) → Came
-  Short : Came
-  Failed : Came
-
--- a call, and what came of it; of a write and a sync, whether it passed
-pub data Asked : Type 0 where
-  Reads : (index : ℕ) (came : Came) → Asked
-  Writes : (index : ℕ) (slot : List ℕ) (passed : Bool) → Asked
-  Syncs : (passed : Bool) → Asked
 
 abbrev pub came_of : {E : Type 0} → Result Bool E → List ℕ → Came
 came_of (Ok true) slot = Slot slot
@@ -26,11 +18,9 @@ abbrev pub passed : {T E : Type 0} → Result T E → Bool
 passed (Ok x) = true
 passed (Err e) = false
 
--- where it is known what was asked, these calls came behind it
-abbrev pub Asks : Option (List Asked) → Option (List Asked) → List Asked → Type 0
-Asks None new calls = Unit {0}
-Asks (Some before) None calls = ⊥
-Asks (Some before) (Some after) calls = after ≡ before ++ calls
+-- these calls came behind those of before, and what stood there first, and whether the file keeps the rules, is the same
+abbrev pub Asks : Slots → Slots → List Asked → Type 0
+Asks old new calls = new ≡ record old { calls = reverse calls ++ old.calls }
 
 -- the same call, that did not pass
 abbrev pub failed : Asked → Asked
@@ -39,7 +29,7 @@ failed (Writes index slot is) = Writes index slot false
 failed (Syncs is) = Syncs false
 
 -- these calls, up to one that failed
-pub record AsksUntilFault (old new : Option (List Asked)) (calls : List Asked) : Type 0 where
+pub record AsksUntilFault (old new : Slots) (calls : List Asked) : Type 0 where
   pub front : List Asked
   pub call : Asked
   pub rest : List Asked
@@ -47,15 +37,14 @@ pub record AsksUntilFault (old new : Option (List Asked)) (calls : List Asked) :
   pub asked : Asks old new (front ++ failed call ∷ [])
 
 -- an Ok asked all of these calls, and each passed; a fault is that of the first that failed
-abbrev pub AsksAll : {T E : Type 0} → Option (List Asked) → Option (List Asked) → List Asked → Result T E → Type 0
+abbrev pub AsksAll : {T E : Type 0} → Slots → Slots → List Asked → Result T E → Type 0
 AsksAll old new calls (Ok x) = Asks old new calls
 AsksAll old new calls (Err e) = AsksUntilFault old new calls
 
 -- what a page reads as where the file was asked for its slot
 abbrev pub ReadsAs : ℕ → Came → Result PageRead DeviceFault → Type 0
-ReadsAs index (Slot bytes) (Ok page) = ReadsSlot index bytes page
-ReadsAs index (Slot bytes) (Err fault) = ⊥
-ReadsAs index Short result = result ≡ Ok Damaged
+ReadsAs index (Slot bytes) result = result ≡ Ok (page_in index (Some bytes))
+ReadsAs index Short result = result ≡ Ok (page_in index None)
 ReadsAs index Failed (Ok page) = ⊥
 ReadsAs index Failed (Err fault) = Unit {0}
 
@@ -94,14 +83,23 @@ AreThere [] = Unit {0}
 AreThere (came ∷ cames) = IsThere came × AreThere cames
 
 -- the slot was read and written again as it stood, and this passed
-pub record IsSlotRenewed (index : ℕ) (old new : Option (List Asked)) : Type 0 where
+pub record IsSlotRenewed (index : ℕ) (old new : Slots) : Type 0 where
   pub came : Came
   pub there : IsThere came
+  pub gives : old.keeps ≡ true → Gives old index came
   pub calls : Asks old new (renewal_of index came)
 
 -- each of so many slots was read and written again as it stood, and then the file was synced, and all of this passed
-pub record IsRenewed (count : ℕ) (old new : Option (List Asked)) : Type 0 where
+pub record IsRenewed (count : ℕ) (old new : Slots) : Type 0 where
   pub cames : List Came
   pub counted : length cames ≡ count
   pub there : AreThere cames
   pub calls : Asks old new (renewals 0 cames ++ Syncs true ∷ [])
+
+-- What the opening makes of a slot of a file that keeps the rules. It is synced, and what stands there now is one of the slots
+-- that a stop might have left before; it is what stood there where that was sure.
+pub record Reopens (old new : Slots) (k : ℕ) : Type 0 where
+  pub synced : (standing new.calls k).synced ≡ true
+  pub sure : (standing new.calls k).sure ≡ true
+  pub left : Leaves old.first old.calls k (newest new.first new.calls k)
+  pub same : (standing old.calls k).sure ≡ true → newest new.first new.calls k ≡ newest old.first old.calls k

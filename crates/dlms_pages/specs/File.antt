@@ -1,10 +1,12 @@
--- What is known of pages in a file: how many there are, what was written since the last sync, how often a call failed, and
--- what is asked of the file. Nothing is known of what the file holds, so no file is taken for one that keeps the disk rules.
-use Rattle.std.specs.Prelude.{◌≡◌, ◌≤◌, ◌+◌, ◌-◌, ◌^◌, min, ℕ, Bool, true, false, List, [], ◌∷◌, length, Option, Some, None, IfSome, Result, Ok, OnOk, OnErr, replicate, slice_index_or, slice_set}
-use Rattle.dlms_pages.specs.Asked.{Asked, Came, Asks, AsksAll, ReadsAs, passed, sync_calls}
-use Rattle.dlms_pages.specs.Asked.Asked.{Reads, Writes}
-use Rattle.dlms_pages.specs.Device.{View, Rules}
+-- What is known of pages in a file: what the file of slots is known to be, what was written since the last sync, and how often
+-- a call failed. Pages in a file keep the disk rules where the file keeps those of slots.
+use Rattle.std.specs.Prelude.{◌≡◌, ◌<◌, ◌≤◌, ◌+◌, ◌-◌, ◌^◌, min, ℕ, Bool, true, false, List, [], ◌∷◌, length, Option, Some, None, IfSome, Result, Ok, OnOk, OnErr, replicate, slice_index_or, slice_set}
+use Rattle.dlms_pages.specs.Asked.{Asks, AsksAll, ReadsAs, passed, sync_calls}
+use Rattle.dlms_pages.specs.declared.asking.Asked.TheVariants.{Reads, Writes}
+use Rattle.dlms_pages.specs.declared.asking.Came.{Came}
+use Rattle.dlms_pages.specs.Device.{View}
 use Rattle.dlms_pages.specs.Seal.{slot_of}
+use Rattle.dlms_pages.specs.Slots.{Slots, Gives, LeavesImage, LeavesPage, LeftSince, newest, page_in, pages_from, standing}
 use Rattle.dlms_pages.specs.declared.device.PageRead.{PageRead}
 use Rattle.dlms_pages.specs.declared.device.DeviceFault.{DeviceFault}
 use Rattle.dlms_pages.specs.declared.device.PageRead.TheVariants.{Content, Damaged}
@@ -23,16 +25,36 @@ pub record IsFresh {F : Type 0} (count : ℕ) (value : FileValue F) : Type 0 whe
   pub behind : value.behind ≡ false
   pub faults : value.faults ≡ 0
 
--- What the disk rules are told of a file: it is not said to keep them, and a stop may leave anything.
-abbrev pub file_view : {F : Type 0} → FileValue F → View
-file_view value = record {
-  honest = false;
-  seen = replicate (length value.unsynced) Damaged;
-  may_leave = λ image. Unit {0};
-  moment = 0;
-  left_since = λ t image. Unit {0};
-  faults = value.faults;
+-- The pages of a file of slots: they keep the disk rules where the file keeps its own, and a moment is a number of its calls.
+abbrev pub pages_of : ℕ → Slots → ℕ → View
+pages_of count file faults = record {
+  honest = file.keeps;
+  seen = pages_from (λ k. page_in k (newest file.first file.calls k)) 0 count;
+  may_leave = LeavesImage count file.first file.calls;
+  moment = length file.calls;
+  left_since = LeftSince count file.first file.calls;
+  faults = faults;
 }
+
+abbrev pub file_view : {F : Type 0} → (F → Slots) → FileValue F → View
+file_view slots value = pages_of (length value.unsynced) (slots value.file) value.faults
+
+-- a page that was written and is not synced: the newest write of its slot was of this content, and a stop may tear it
+pub record IsPending (file : Slots) (k : ℕ) (bytes : List ℕ) : Type 0 where
+  pub size : length bytes ≡ 512
+  pub newest_is : newest file.first file.calls k ≡ Some (slot_of k bytes)
+  pub torn : LeavesPage file.first file.calls k Damaged
+
+-- of a page that is not pending the slot is synced
+abbrev pub IsKeptOf : Slots → ℕ → Option (List ℕ) → Type 0
+IsKeptOf file k None = (standing file.calls k).synced ≡ true
+IsKeptOf file k (Some bytes) = IsPending file k bytes
+
+-- What is kept beside a file: what was written and is not synced, and whether a call has failed since.
+pub record IsKeptBeside (file : Slots) (unsynced : List (Option (List ℕ))) (behind : Bool) : Type 0 where
+  pub small : length unsynced < 2 ^ 16
+  pub pages : file.keeps ≡ true → (k : ℕ) → k < length unsynced → IsKeptOf file k (slice_index_or unsynced k None)
+  pub sure : file.keeps ≡ true → behind ≡ false → (k : ℕ) → k < length unsynced → (standing file.calls k).sure ≡ true
 
 -- one more fault: at the greatest number the count stays
 abbrev pub faults_after : ℕ → ℕ
@@ -46,16 +68,16 @@ pub record CountsFaults {F T : Type 0} (old new : FileValue F) (result : Result 
 
 -- Whatever the file does, a read gives what was written to the page since the last sync, and asks nothing of the file. Where
 -- nothing was written since, the page is what its slot says.
-pub record GivesPage {F : Type 0} (asked : F → Option (List Asked)) (index : ℕ) (old new : FileValue F) (result : Result PageRead DeviceFault) : Type 0 where
+pub record GivesPage {F : Type 0} (slots : F → Slots) (index : ℕ) (old new : FileValue F) (result : Result PageRead DeviceFault) : Type 0 where
   pub page : IfSome (slice_index_or old.unsynced index None) (λ bytes. (result ≡ Ok (Content bytes)) × (new.file ≡ old.file))
-  pub slot : slice_index_or old.unsynced index None ≡ None → (came : Came) × Asks (asked old.file) (asked new.file) (Reads index came ∷ []) × ReadsAs index came result
+  pub slot : slice_index_or old.unsynced index None ≡ None → (came : Came) × Asks (slots old.file) (slots new.file) (Reads index came ∷ []) × ReadsAs index came result × ((slots old.file).keeps ≡ true → Gives (slots old.file) index came)
   pub unsynced : new.unsynced ≡ old.unsynced
   pub behind : new.behind ≡ old.behind
   pub faults : CountsFaults old new result
 
 -- A write asks for the page's slot to be written. One that fails counts as one, and the next sync makes up for it.
-pub record KeepsPage {F T : Type 0} (asked : F → Option (List Asked)) (index : ℕ) (bytes : List ℕ) (old new : FileValue F) (result : Result T DeviceFault) : Type 0 where
-  pub asks : Asks (asked old.file) (asked new.file) (Writes index (slot_of index bytes) (passed result) ∷ [])
+pub record KeepsPage {F T : Type 0} (slots : F → Slots) (index : ℕ) (bytes : List ℕ) (old new : FileValue F) (result : Result T DeviceFault) : Type 0 where
+  pub asks : Asks (slots old.file) (slots new.file) (Writes index (slot_of index bytes) (passed result) ∷ [])
   pub unsynced : new.unsynced ≡ slice_set old.unsynced index (Some bytes)
   pub passed : OnOk result (new.behind ≡ old.behind)
   pub failed : OnErr result (new.behind ≡ true)
@@ -63,14 +85,10 @@ pub record KeepsPage {F T : Type 0} (asked : F → Option (List Asked)) (index :
 
 -- After a sync that succeeds nothing is unsynced, and the file was asked for all that a sync asks. After one that fails all
 -- of it still is, to be written again.
-pub record Settles {F T : Type 0} (asked : F → Option (List Asked)) (old new : FileValue F) (result : Result T DeviceFault) : Type 0 where
-  pub asks : AsksAll (asked old.file) (asked new.file) (sync_calls old.behind old.unsynced) result
+pub record Settles {F T : Type 0} (slots : F → Slots) (old new : FileValue F) (result : Result T DeviceFault) : Type 0 where
+  pub asks : AsksAll (slots old.file) (slots new.file) (sync_calls old.behind old.unsynced) result
   pub forgotten : OnOk result (new.unsynced ≡ replicate (length old.unsynced) None)
   pub passed : OnOk result (new.behind ≡ false)
   pub unsynced : OnErr result (new.unsynced ≡ old.unsynced)
   pub failed : OnErr result (new.behind ≡ true)
   pub faults : CountsFaults old new result
-
--- no file is honest, so the rules ask nothing of it
-pub file_rules : {F : Type 0} (value : FileValue F) → (file_view value).honest ≡ true → Rules (file_view value)
-file_rules value is = absurd (cc is)

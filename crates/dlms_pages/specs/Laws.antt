@@ -1,11 +1,12 @@
 -- What holds of every run of a device that keeps the disk rules.
-use Rattle.std.specs.Prelude.{◌≡◌, ◌⊎◌, ◌↔◌, ℕ, true, List, [], ◌∷◌, Result, Ok, Err, slice_set}
+use Rattle.std.specs.Prelude.{◌≡◌, ◌<◌, ◌⊎◌, ◌↔◌, ℕ, true, List, [], ◌∷◌, Result, Ok, Err, slice_set}
 use Rattle.dlms_pages.specs.declared.device.PageRead.{PageRead}
 use Rattle.dlms_pages.specs.declared.device.PageRead.TheVariants.{Content, Damaged}
 use Rattle.dlms_pages.specs.declared.device.DeviceFault.{DeviceFault}
 use Rattle.dlms_pages.specs.Device.{View, Image, Goes, Reads, Writes, Syncs}
 use Rattle.dlms_pages.specs.Disk.{IsImage}
 use Rattle.dlms_pages.specs.Memory.{Memory, view_of}
+use Rattle.dlms_pages.specs.Slots.{Slot, Slots, Leaves, LeavesImage, page_in, pages_from}
 use Rattle.dlms_pages.specs.Stops.{IsFixed}
 
 -- Calls of a device since it was `start`, without a sync that succeeded, and the writes among them, failed ones included,
@@ -33,3 +34,7 @@ SyncsLeaveOneImage {P} view = (before now : P) → (view before).honest ≡ true
 -- page torn, and nothing else.
 abbrev pub LeavesEachOutcome : Memory → ℕ → List ℕ → List ℕ → Type 0
 LeavesEachOutcome memory index old new = (c : Image) → (view_of memory).may_leave c ↔ ((c ≡ slice_set memory.first index (Content old)) ⊎ ((c ≡ slice_set memory.first index (Content new)) ⊎ (c ≡ slice_set memory.first index Damaged)))
+
+-- What a stop may leave of a file of slots, its pages may be left as.
+abbrev pub StopsAreOfPages : Type 0
+StopsAreOfPages = (file : Slots) (count : ℕ) (slots : ℕ → Slot) → ((k : ℕ) → k < count → Leaves file.first file.calls k (slots k)) → LeavesImage count file.first file.calls (pages_from (λ k. page_in k (slots k)) 0 count)

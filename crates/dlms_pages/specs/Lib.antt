@@ -2,10 +2,13 @@ pub mod Asked
 pub mod Device
 pub mod Disk
 pub mod File
+pub mod HeldSlots
 pub mod History
 pub mod Laws
 pub mod Memory
 pub mod MemoryRules
 pub mod Pick
 pub mod Seal
+pub mod SlotRules
+pub mod Slots
 pub mod Stops

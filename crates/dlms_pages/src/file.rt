@@ -1,11 +1,11 @@
 //! Pages in a file, each under a seal.
-ghost use Rattle.std.specs.Prelude.{◌≡◌, ◌<◌, ◌≤◌, ◌^◌, true, false, length, replicate, slice_index_or, slice_set, IfOk, IfSome, OnErr, OnOk};
-ghost use Rattle.dlms_pages.specs.Asked.{AsksAll, IsRenewed, IsSlotRenewed, sync_calls, written_again};
+ghost use Rattle.std.specs.Prelude.{◌≡◌, ◌<◌, ◌≤◌, ◌^◌, ℕ, true, false, length, replicate, slice_index_or, slice_set, IfOk, IfSome, OnErr, OnOk};
+ghost use Rattle.dlms_pages.specs.Asked.{AsksAll, IsRenewed, IsSlotRenewed, Reopens, sync_calls, written_again};
 
 use crate::folder::sync_folder;
 use crate::lock::LockFile;
 use crate::seal::{SLOT_BYTES, opened, sealed};
-use crate::slot_file::SlotFile;
+use crate::slot_file::{FileSlots, SlotFile};
 use crate::{DeviceFault, PAGE_BYTES, PageRead, Pages};
 use std::alloc::{AllocError, Allocator, Global};
 use std::fs::{File, Files, OpenFile, OpenOptions};
@@ -27,19 +27,18 @@ const OWNER_ALONE: u32 = 0o600;
 /// The file's exclusive advisory lock is held as long as these pages are there, so no second program that asks for it
 /// reads or writes them at the same time.
 ///
-/// Whether a file keeps the disk rules is not known, so what the rules promise is not promised of it. What is asked of the
-/// file is said, call for call: what was written is written and synced, and where a call fails the answer is a fault.
+/// Over a file that keeps the rules of slots these pages keep the disk rules. What is asked of the file is said of every
+/// file, call for call.
 #[derive(Drop)]
-pub struct FilePages<F = File, A: Allocator = Global> {
+pub struct FilePages<F: SlotFile = FileSlots<File>, A: Allocator = Global> {
     file: F,
     unsynced: Vec<Option<[u8; PAGE_BYTES]>, A>,
     behind: bool,
     faults: u64,
 }
 
-impl<F, A: Allocator> Model for FilePages<F, A> {
-    ghost use Rattle.std.specs.Prelude.{◌<◌, ◌^◌, length};
-    ghost use Rattle.dlms_pages.specs.File.{FileValue};
+impl<F: SlotFile, A: Allocator> Model for FilePages<F, A> {
+    ghost use Rattle.dlms_pages.specs.File.{FileValue, IsKeptBeside};
 
     ghost Value = { FileValue F };
 
@@ -50,10 +49,10 @@ impl<F, A: Allocator> Model for FilePages<F, A> {
       faults = f.faults;
     } };
 
-    ghost invariant = { λ f. length f.unsynced.items < 2 ^ 16 };
+    ghost invariant = { λ f. IsKeptBeside (F.slots f.file) f.unsynced.items f.behind };
 }
 
-impl<F: Read + Write + Seek + OpenFile + LockFile + Drop, A: Allocator> FilePages<F, A> {
+impl<F: Read + Write + Seek + OpenFile + LockFile + Drop, A: Allocator> FilePages<FileSlots<F>, A> {
     ghost use Rattle.dlms_pages.specs.File.{IsFresh};
 
     /// Makes the file, with so many pages that all read as damaged, in place of one that is there; its length and its
@@ -63,7 +62,7 @@ impl<F: Read + Write + Seek + OpenFile + LockFile + Drop, A: Allocator> FilePage
         rt: &R,
         path: &str,
         count: u16,
-    ) -> io::Result<FilePages<F, A>>
+    ) -> io::Result<FilePages<FileSlots<F>, A>>
         ensures { IfOk result (IsFresh count) }
     {
         let unsynced = room(rt.alloc(), count)?;
@@ -79,7 +78,7 @@ impl<F: Read + Write + Seek + OpenFile + LockFile + Drop, A: Allocator> FilePage
         file.set_len(u64::from(count) * SLOT_BYTES as u64)?;
         file.sync_all()?;
         sync_folder(rt, path)?;
-        Ok(FilePages::fresh(file, unsynced))
+        FilePages::renewed(FileSlots::of(file), unsynced, count)
     }
 
     /// Opens a file that is there, and is not in use, by `over`. What it has past its pages stays. The fault is the system's.
@@ -87,26 +86,43 @@ impl<F: Read + Write + Seek + OpenFile + LockFile + Drop, A: Allocator> FilePage
         rt: &R,
         path: &str,
         count: u16,
-    ) -> io::Result<FilePages<F, A>>
+    ) -> io::Result<FilePages<FileSlots<F>, A>>
         ensures { IfOk result (IsFresh count) }
     {
         let file = OpenOptions::new().read(true).write(true).open(rt, path)?;
         file.lock_alone()?;
-        FilePages::over(rt.alloc(), file, count)
+        FilePages::over(rt.alloc(), FileSlots::of(file), count)
     }
 }
 
 impl<F: SlotFile + Drop, A: Allocator> FilePages<F, A> {
-    ghost use Rattle.dlms_pages.specs.File.{faults_after, GivesPage, IsFresh, KeepsPage, Settles};
+    ghost use Rattle.dlms_pages.specs.File.{faults_after, GivesPage, IsFresh, IsKeptBeside, KeepsPage, Settles};
 
     /// So many pages over a file of slots that is there. An earlier process may have written what stands in it, and may have
     /// seen its sync fail; a system may then drop that, and call the next sync a success. So each slot that the file has is
     /// read, written again as it stands, octet for octet, and the file synced, before a page is read. The fault is the file's.
     pub fn over(alloc: A, file: F, count: u16) -> io::Result<FilePages<F, A>>
         ensures fresh { IfOk result (IsFresh count) }
-        ensures renewed { IfOk result (λ pages. IsRenewed count (F.asked file) (F.asked pages.file)) }
+        ensures renewed { IfOk result (λ pages. IsRenewed count (F.slots file) (F.slots pages.file)) }
+        ensures reopened { IfOk result (λ pages. (F.slots file).keeps ≡ true
+            → (k : ℕ) → k < count → Reopens (F.slots file) (F.slots pages.file) k) }
     {
         let unsynced = room(alloc, count)?;
+        FilePages::renewed(file, unsynced, count)
+    }
+
+    // So many pages, with this room for what is written, over a file whose slots are written again.
+    fn renewed(
+        file: F,
+        unsynced: Vec<Option<[u8; PAGE_BYTES]>, A>,
+        count: u16,
+    ) -> io::Result<FilePages<F, A>>
+        requires { unsynced.items ≡ replicate count None }
+        ensures fresh { IfOk result (IsFresh count) }
+        ensures renewed { IfOk result (λ pages. IsRenewed count (F.slots file) (F.slots pages.file)) }
+        ensures reopened { IfOk result (λ pages. (F.slots file).keeps ≡ true
+            → (k : ℕ) → k < count → Reopens (F.slots file) (F.slots pages.file) k) }
+    {
         let mut file = file;
         renew(&mut file, count)?;
         Ok(FilePages::fresh(file, unsynced))
@@ -114,7 +130,7 @@ impl<F: SlotFile + Drop, A: Allocator> FilePages<F, A> {
 
     // Nothing is written yet, and nothing has failed.
     fn fresh(file: F, unsynced: Vec<Option<[u8; PAGE_BYTES]>, A>) -> FilePages<F, A>
-        requires { length unsynced.items < 2 ^ 16 }
+        requires { IsKeptBeside (F.slots file) unsynced.items false }
         ensures { result ≡ record {
           file = file;
           unsynced = unsynced.items;
@@ -139,20 +155,11 @@ impl<F: SlotFile + Drop, A: Allocator> FilePages<F, A> {
         DeviceFault
     }
 
-    // One more fault, after which what is unsynced is to be written again.
-    fn fall_behind(&mut self) -> DeviceFault
-        ensures counted { self.new
-            ≡ record self.old { behind = true; faults = faults_after self.old.faults } }
-        ensures later { self.old.faults ≤ self.new.faults }
-    {
-        self.behind = true;
-        self.fail()
-    }
-
     // What a page reads as.
     fn read_page(&mut self, index: u16) -> Result<PageRead, DeviceFault>
         requires { index < length self.old.unsynced }
-        ensures { GivesPage F.asked index self.old self.new result }
+        ensures file { GivesPage F.slots index self.old self.new result }
+        ensures kept { IsKeptBeside (F.slots self.old.file) self.old.unsynced self.old.behind }
     {
         if let Some(content) = self.unsynced[index as usize] {
             return Ok(PageRead::Content(content));
@@ -168,18 +175,22 @@ impl<F: SlotFile + Drop, A: Allocator> FilePages<F, A> {
     // Writes a page, and keeps what was written.
     fn write_page(&mut self, index: u16, bytes: &[u8; PAGE_BYTES]) -> Result<(), DeviceFault>
         requires { index < length self.old.unsynced }
-        ensures { KeepsPage F.asked index bytes.now self.old self.new result }
+        ensures { KeepsPage F.slots index bytes.now self.old self.new result }
     {
         self.unsynced[index as usize] = Some(*bytes);
         match self.file.write_slot(index, &sealed(index, bytes)) {
             Ok(()) => Ok(()),
-            Err(_) => Err(self.fall_behind()),
+            Err(_) => {
+                self.behind = true;
+                Err(self.fail())
+            }
         }
     }
 
     // Makes all that was written outlast a stop.
     fn sync_pages(&mut self) -> Result<(), DeviceFault>
-        ensures { Settles F.asked self.old self.new result }
+        ensures file { Settles F.slots self.old self.new result }
+        ensures kept { IsKeptBeside (F.slots self.old.file) self.old.unsynced self.old.behind }
     {
         match settle(&mut self.file, &self.unsynced, self.behind) {
             Ok(()) => {
@@ -187,18 +198,22 @@ impl<F: SlotFile + Drop, A: Allocator> FilePages<F, A> {
                 self.behind = false;
                 Ok(())
             }
-            Err(_) => Err(self.fall_behind()),
+            Err(_) => {
+                self.behind = true;
+                Err(self.fail())
+            }
         }
     }
 }
 
 impl<F: SlotFile + Drop, A: Allocator> Pages for FilePages<F, A> {
     ghost use Rattle.dlms_pages.specs.Device.{Goes, Reads, Writes, Syncs};
-    ghost use Rattle.dlms_pages.specs.File.{file_view, file_rules, GivesPage, KeepsPage, Settles};
+    ghost use Rattle.dlms_pages.specs.File.{file_view, GivesPage, KeepsPage, Settles};
+    ghost use Rattle.dlms_pages.specs.SlotRules.{pages_rules};
 
-    ghost view = { λ f. file_view f };
+    ghost view = { λ f. file_view F.slots f };
 
-    ghost rules = { λ f honest. file_rules f honest };
+    ghost rules = { λ f honest. pages_rules (length f.unsynced) (F.slots f.file) f.faults };
 
     fn count(&self) -> u16 {
         self.unsynced.len() as u16
@@ -209,30 +224,30 @@ impl<F: SlotFile + Drop, A: Allocator> Pages for FilePages<F, A> {
     }
 
     fn read(&mut self, index: u16) -> Result<PageRead, DeviceFault>
-        requires { index < length (file_view self.old).seen }
-        ensures goes { Goes (file_view self.old) (file_view self.new) result }
-        ensures page { (file_view self.old).honest ≡ true
-            → Reads index (file_view self.old) (file_view self.new) result }
-        ensures file { GivesPage F.asked index self.old self.new result }
+        requires { index < length (file_view F.slots self.old).seen }
+        ensures goes { Goes (file_view F.slots self.old) (file_view F.slots self.new) result }
+        ensures page { (file_view F.slots self.old).honest ≡ true
+            → Reads index (file_view F.slots self.old) (file_view F.slots self.new) result }
+        ensures file { GivesPage F.slots index self.old self.new result }
     {
         self.read_page(index)
     }
 
     fn write(&mut self, index: u16, bytes: &[u8; PAGE_BYTES]) -> Result<(), DeviceFault>
-        requires { index < length (file_view self.old).seen }
-        ensures goes { Goes (file_view self.old) (file_view self.new) result }
-        ensures written { (file_view self.old).honest ≡ true
-            → Writes index bytes.now (file_view self.old) (file_view self.new) result }
-        ensures file { KeepsPage F.asked index bytes.now self.old self.new result }
+        requires { index < length (file_view F.slots self.old).seen }
+        ensures goes { Goes (file_view F.slots self.old) (file_view F.slots self.new) result }
+        ensures written { (file_view F.slots self.old).honest ≡ true
+            → Writes index bytes.now (file_view F.slots self.old) (file_view F.slots self.new) result }
+        ensures file { KeepsPage F.slots index bytes.now self.old self.new result }
     {
         self.write_page(index, bytes)
     }
 
     fn sync(&mut self) -> Result<(), DeviceFault>
-        ensures goes { Goes (file_view self.old) (file_view self.new) result }
-        ensures synced { (file_view self.old).honest ≡ true
-            → Syncs (file_view self.old) (file_view self.new) result }
-        ensures file { Settles F.asked self.old self.new result }
+        ensures goes { Goes (file_view F.slots self.old) (file_view F.slots self.new) result }
+        ensures synced { (file_view F.slots self.old).honest ≡ true
+            → Syncs (file_view F.slots self.old) (file_view F.slots self.new) result }
+        ensures file { Settles F.slots self.old self.new result }
     {
         self.sync_pages()
     }
@@ -247,7 +262,9 @@ fn room<A: Allocator>(alloc: A, count: u16) -> Result<Vec<Option<[u8; PAGE_BYTES
 
 /// Writes each slot that the file has again, as it stands there, and syncs the file.
 fn renew<F: SlotFile>(file: &mut F, count: u16) -> io::Result<()>
-    ensures { IfOk result (λ _. IsRenewed count (F.asked file.old) (F.asked file.new)) }
+    ensures asks { IfOk result (λ _. IsRenewed count (F.slots file.old) (F.slots file.new)) }
+    ensures reopens { IfOk result (λ _. (F.slots file.old).keeps ≡ true
+        → (k : ℕ) → k < count → Reopens (F.slots file.old) (F.slots file.new) k) }
 {
     for index in 0..count {
         renew_slot(file, index)?;
@@ -257,7 +274,7 @@ fn renew<F: SlotFile>(file: &mut F, count: u16) -> io::Result<()>
 
 /// Writes a slot again, as it stands, where the file has all of it.
 fn renew_slot<F: SlotFile>(file: &mut F, index: u16) -> io::Result<()>
-    ensures { IfOk result (λ _. IsSlotRenewed index (F.asked file.old) (F.asked file.new)) }
+    ensures { IfOk result (λ _. IsSlotRenewed index (F.slots file.old) (F.slots file.new)) }
 {
     let mut slot = [0u8; SLOT_BYTES];
     match file.read_slot(index, &mut slot) {
@@ -275,7 +292,7 @@ fn settle<F: SlotFile>(
     behind: bool,
 ) -> io::Result<()>
     requires { length pages.now < 2 ^ 16 }
-    ensures { AsksAll (F.asked file.old) (F.asked file.new) (sync_calls behind pages.now) result }
+    ensures { AsksAll (F.slots file.old) (F.slots file.new) (sync_calls behind pages.now) result }
 {
     if behind {
         write_again(file, pages)?;
@@ -286,7 +303,7 @@ fn settle<F: SlotFile>(
 /// Writes again what was written.
 fn write_again<F: SlotFile>(file: &mut F, pages: &[Option<[u8; PAGE_BYTES]>]) -> io::Result<()>
     requires { length pages.now < 2 ^ 16 }
-    ensures { AsksAll (F.asked file.old) (F.asked file.new) (written_again 0 pages.now) result }
+    ensures { AsksAll (F.slots file.old) (F.slots file.new) (written_again 0 pages.now) result }
 {
     for index in 0..pages.len() {
         if let Some(content) = &pages[index] {

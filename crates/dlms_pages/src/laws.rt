@@ -1,7 +1,7 @@
 //! What holds of every run of device calls, as functions whose contracts are the laws. They make no call.
 ghost use Rattle.std.specs.Prelude.{◌≡◌, ◌<◌, ◌+◌, ℕ, List, [], ◌∷◌, length};
 ghost use Rattle.dlms_pages.specs.declared.memory.Call.TheVariants.{Write, Sync};
-ghost use Rattle.dlms_pages.specs.Laws.{StopsKeepTheRules, StopsSinceKeepTheRules, SyncsLeaveOneImage, LeavesEachOutcome};
+ghost use Rattle.dlms_pages.specs.Laws.{StopsKeepTheRules, StopsSinceKeepTheRules, StopsAreOfPages, SyncsLeaveOneImage, LeavesEachOutcome};
 ghost use Rattle.dlms_pages.specs.Memory.{Memory};
 ghost use Rattle.dlms_pages.specs.declared.device.TheConstants.{PAGE_BYTES};
 ghost use Rattle.dlms_pages.specs.declared.seal.TheConstants.{SLOT_BYTES};
@@ -26,6 +26,12 @@ pub fn each_outcome_may_be_left_and_no_other()
     ensures { (memory : Memory) (index : ℕ) (old new : List ℕ) → index < length memory.first
         → memory.calls ≡ Write index old ∷ Sync ∷ Write index new ∷ []
         → LeavesEachOutcome memory index old new }
+{}
+
+/// Where a stop leaves slots as the rules of a file of slots have it, the pages that stand in them are as the rules of a disk
+/// have it. So pages in a file that keeps its rules are a device that keeps the disk's.
+pub fn stops_of_a_file_are_stops_of_its_pages()
+    ensures { StopsAreOfPages }
 {}
 
 /// The sizes by which pages and slots are laid out, in bytes: a slot is a page and its seal, a SHA-256.

@@ -1,6 +1,7 @@
 //! Devices of pages of 512 bytes, and what a stop of the power may leave of them.
 #![tactic(auto)]
 
+mod asking;
 mod device;
 mod file;
 mod folder;
@@ -8,17 +9,20 @@ mod history;
 pub mod laws;
 mod lock;
 mod memory;
+mod memory_slots;
 mod past;
 mod pick;
 mod plan;
 mod seal;
 mod slot_file;
 
+pub use asking::{Asked, Came};
 pub use device::{DeviceFault, PAGE_BYTES, PageRead, Pages};
 pub use file::FilePages;
 pub use folder::sync_folder;
 pub use lock::LockFile;
 pub use memory::{Call, MemoryPages};
+pub use memory_slots::MemorySlots;
 pub use pick::{Choice, Pick};
 pub use seal::{SLOT_BYTES, opened};
-pub use slot_file::SlotFile;
+pub use slot_file::{FileSlots, SlotFile};

@@ -1,48 +1,120 @@
-//! A file as slots: what is asked of it, and what came of that.
-ghost use Rattle.std.specs.Prelude.{List, Option, None, [], ◌∷◌};
-ghost use Rattle.dlms_pages.specs.Asked.{Asked, Asks, came_of, passed};
-ghost use Rattle.dlms_pages.specs.Asked.Asked.{Reads, Writes, Syncs};
+//! A file as slots: what is asked of it, what came of that, and the rules by which it may be a disk.
+ghost use Rattle.std.specs.Prelude.{◌≡◌, true, [], ◌∷◌};
+ghost use Rattle.dlms_pages.specs.Asked.{Asks, came_of, passed};
+ghost use Rattle.dlms_pages.specs.Slots.{Slots, Gives};
+ghost use Rattle.dlms_pages.specs.declared.asking.Asked.TheVariants.{Reads, Writes, Syncs};
 
+use crate::asking::{Asked, Came};
+use crate::past::Past;
 use crate::seal::SLOT_BYTES;
 use std::fs::OpenFile;
 use std::io;
 use std::io::{ErrorKind, Read, Seek, SeekFrom, Write};
+use std::marker::Model;
 
 /// A file in which slots of 544 bytes stand one after another: slot `i` from byte `544 * i` on.
 pub trait SlotFile {
-    /// What was asked of it, in order, and what came of each call, where that is known. Of a real file it is not; what
-    /// code does that takes any such file holds of those of which it is known too.
-    ghost asked: { Self → Option (List Asked) } = { λ _. None };
+    /// What is known of it: what was asked of it, and whether it keeps the rules of `Slots`.
+    ghost slots: { Self → Slots };
 
     /// Reads a slot, and says whether the file has all of it.
     fn read_slot(&mut self, index: u16, slot: &mut [u8; SLOT_BYTES]) -> io::Result<bool>
-        ensures { Asks (asked self.old) (asked self.new) (Reads index (came_of result slot.new) ∷ []) };
+        ensures asked { Asks (slots self.old) (slots self.new) (Reads index (came_of result slot.new) ∷ []) }
+        ensures gives { (slots self.old).keeps ≡ true
+            → Gives (slots self.old) index (came_of result slot.new) };
 
     /// Writes a slot.
     fn write_slot(&mut self, index: u16, slot: &[u8; SLOT_BYTES]) -> io::Result<()>
-        ensures { Asks (asked self.old) (asked self.new) (Writes index slot.now (passed result) ∷ []) };
+        ensures { Asks (slots self.old) (slots self.new) (Writes index slot.now (passed result) ∷ []) };
 
     /// Asks the system to make what was written outlast a stop.
     fn sync(&mut self) -> io::Result<()>
-        ensures { Asks (asked self.old) (asked self.new) (Syncs (passed result) ∷ []) };
+        ensures { Asks (slots self.old) (slots self.new) (Syncs (passed result) ∷ []) };
 }
 
-impl<F: Read + Write + Seek + OpenFile> SlotFile for F {
-    fn read_slot(&mut self, index: u16, slot: &mut [u8; SLOT_BYTES]) -> io::Result<bool> {
-        self.seek(SeekFrom::Start(u64::from(index) * SLOT_BYTES as u64))?;
-        match self.read_exact(slot) {
+/// A file of the system's, as slots. Whether it keeps the rules cannot be told from outside, one way or the other.
+#[derive(Drop)]
+pub struct FileSlots<F> {
+    file: F,
+    past: Past<Asked>,
+}
+
+impl<F> Model for FileSlots<F> {
+    ghost use Rattle.std.specs.Prelude.{[], false, reverse};
+    ghost use Rattle.dlms_pages.specs.Slots.{Slots};
+
+    ghost Value = { Slots };
+
+    ghost view = { λ s. record {
+      keeps = false;
+      first = [];
+      calls = reverse s.past.calls;
+    } };
+}
+
+impl<F> FileSlots<F> {
+    /// The slots of this file.
+    pub fn of(file: F) -> FileSlots<F> {
+        FileSlots {
+            file,
+            past: Past::new(),
+        }
+    }
+}
+
+impl<F: Read + Write + Seek + OpenFile> FileSlots<F> {
+    // Reads what stands at the slot's place.
+    fn get(&mut self, index: u16, slot: &mut [u8; SLOT_BYTES]) -> io::Result<bool>
+        ensures { self.new ≡ self.old }
+    {
+        self.file
+            .seek(SeekFrom::Start(u64::from(index) * SLOT_BYTES as u64))?;
+        match self.file.read_exact(slot) {
             Ok(()) => Ok(true),
             Err(e) if e.kind() == ErrorKind::UnexpectedEof => Ok(false),
             Err(e) => Err(e),
         }
     }
 
+    // Writes to the slot's place.
+    fn put(&mut self, index: u16, slot: &[u8; SLOT_BYTES]) -> io::Result<()>
+        ensures { self.new ≡ self.old }
+    {
+        self.file
+            .seek(SeekFrom::Start(u64::from(index) * SLOT_BYTES as u64))?;
+        self.file.write_all(slot.as_slice())
+    }
+}
+
+impl<F: Read + Write + Seek + OpenFile> SlotFile for FileSlots<F> {
+    ghost slots = { λ s. s };
+
+    fn read_slot(&mut self, index: u16, slot: &mut [u8; SLOT_BYTES]) -> io::Result<bool> {
+        let result = self.get(index, slot);
+        let came = match &result {
+            Ok(true) => Came::Slot(*slot),
+            Ok(false) => Came::Short,
+            Err(_) => Came::Failed,
+        };
+        self.past = self.past.and(&Asked::Reads { index, came });
+        result
+    }
+
     fn write_slot(&mut self, index: u16, slot: &[u8; SLOT_BYTES]) -> io::Result<()> {
-        self.seek(SeekFrom::Start(u64::from(index) * SLOT_BYTES as u64))?;
-        self.write_all(slot.as_slice())
+        let result = self.put(index, slot);
+        let passed = result.is_ok();
+        self.past = self.past.and(&Asked::Writes {
+            index,
+            slot: *slot,
+            passed,
+        });
+        result
     }
 
     fn sync(&mut self) -> io::Result<()> {
-        self.sync_all()
+        let result = self.file.sync_all();
+        let passed = result.is_ok();
+        self.past = self.past.and(&Asked::Syncs { passed });
+        result
     }
 }

@@ -1,12 +1,12 @@
 use Rattle.std.proofs.Common.{◌∷◌, [], true, Bool, subst, sym}
 use Rattle.dlms_pages.specs.Asked.{AsksUntilFault, sync_calls, written_again}
-use Rattle.dlms_pages.specs.Asked.Asked.{Syncs}
-use Rattle.dlms_pages.proofs.Asking.{longer, with_fault}
+use Rattle.dlms_pages.specs.declared.asking.Asked.TheVariants.{Syncs}
+use Rattle.dlms_pages.proofs.FileCalls.{longer, with_fault}
 use Rattle.dlms_pages.proofs.file.settle.Goals as goal
 
 pub returns-in_err-write_again : goal.returns-in_err-write_again
 returns-in_err-write_again g c =
-    let asked = g.F.SlotFile.asked in
+    let asked = g.F.SlotFile.slots in
     let old = asked c.args.file.now in
     let new = asked c.write_again.new.file in
     with_fault old new _ c.from_residual.result c.from_residual.ensures.0

@@ -1,20 +1,25 @@
 -- Calls of a file, one after another.
 use Rattle.std.proofs.Common.{◌≡◌, ◌<◌, ◌+◌, ℕ, zero, suc, true, List, [], ◌∷◌, ◌++◌, length, take, drop, get_or, Option, Some, None, refl, sym, ◌∙◌, ap, arith, append_assoc, take-append-drop, Result, Ok, Err, subst, false}
-use Rattle.std.proofs.lemmas.List.{append-nil}
-use Rattle.dlms_pages.specs.Asked.{Asked, Asks, AsksUntilFault, failed, written_again, AsksAll}
-use Rattle.dlms_pages.specs.Asked.Asked.{Writes}
+use Rattle.std.proofs.lemmas.List.{append-nil, reverse-append}
+use Rattle.dlms_pages.specs.declared.asking.Asked.{Asked}
+use Rattle.dlms_pages.specs.Slots.{Slots}
+use Rattle.std.specs.Prelude.{reverse}
+use Rattle.dlms_pages.specs.Asked.{Asks, AsksUntilFault, failed, written_again, AsksAll}
+use Rattle.dlms_pages.specs.declared.asking.Asked.TheVariants.{Writes}
 use Rattle.dlms_pages.specs.Seal.{slot_of}
 use Rattle.std.specs.Result.{IsErr}
 
-pub nothing : (a : Option (List Asked)) → Asks a a []
-nothing None = tt
-nothing (Some before) = sym (append-nil before)
+pub nothing : (a : Slots) → Asks a a []
+nothing a = refl
 
-pub then_asks : (a b c : Option (List Asked)) (xs ys : List Asked) → Asks a b xs → Asks b c ys → Asks a c (xs ++ ys)
-then_asks None b c xs ys first second = tt
-then_asks (Some x) None c xs ys first second = absurd first
-then_asks (Some x) (Some y) None xs ys first second = absurd second
-then_asks (Some x) (Some y) (Some z) xs ys first second = second ∙ ap (λ (l : List Asked). l ++ ys) first ∙ append_assoc x xs ys
+-- calls behind calls
+pub joined_calls : (xs ys : List Asked) (a : List Asked) → reverse ys ++ (reverse xs ++ a) ≡ reverse (xs ++ ys) ++ a
+joined_calls xs ys a = sym (append_assoc (reverse ys) (reverse xs) a) ∙ ap (λ (l : List Asked). l ++ a) (sym (reverse-append xs ys))
+
+pub then_asks : (a b c : Slots) (xs ys : List Asked) → Asks a b xs → Asks b c ys → Asks a c (xs ++ ys)
+then_asks a b c xs ys first second =
+    second ∙ ap (λ (s : Slots). record s { calls = reverse ys ++ s.calls }) first
+    ∙ ap (λ (l : List Asked). record a { calls = l }) (joined_calls xs ys a.calls)
 
 -- ---- what is written again
 
@@ -49,7 +54,7 @@ one_page_more pages k bytes low some =
     more pages k 0 low ∙ ap (λ (page : Option (List ℕ)). written_again 0 (take k pages) ++ one_of (0 + k) page) some ∙ moved (Some bytes) (0 + k) k (written_again 0 (take k pages)) (omega arith)
 
 -- the fault of this page's write
-pub until_page : (old before new : Option (List Asked)) (pages : List (Option (List ℕ))) (k : ℕ) (bytes slot : List ℕ) → k < length pages → get_or pages k None ≡ Some bytes → slot ≡ slot_of k bytes → Asks old before (written_again 0 (take k pages)) → Asks before new (Writes k slot false ∷ [])
+pub until_page : (old before new : Slots) (pages : List (Option (List ℕ))) (k : ℕ) (bytes slot : List ℕ) → k < length pages → get_or pages k None ≡ Some bytes → slot ≡ slot_of k bytes → Asks old before (written_again 0 (take k pages)) → Asks before new (Writes k slot false ∷ [])
     → AsksUntilFault old new (written_again 0 pages)
 until_page old before new pages k bytes slot low some made first last =
     let missed = subst (λ (s : List ℕ). Asks before new (Writes k s false ∷ [])) made last in
@@ -64,7 +69,7 @@ until_page old before new pages k bytes slot low some made first last =
       asked = then_asks old before new front (failed call ∷ []) first missed;
     }
 
-pub longer : (old new : Option (List Asked)) (calls others : List Asked) → AsksUntilFault old new calls → AsksUntilFault old new (calls ++ others)
+pub longer : (old new : Slots) (calls others : List Asked) → AsksUntilFault old new calls → AsksUntilFault old new (calls ++ others)
 longer old new calls others is = record {
   front = is.front;
   call = is.call;
@@ -73,17 +78,17 @@ longer old new calls others is = record {
   asked = is.asked;
 }
 
-pub with_fault : {T E : Type 0} (old new : Option (List Asked)) (calls : List Asked) (result : Result T E) → IsErr result → AsksUntilFault old new calls → AsksAll old new calls result
+pub with_fault : {T E : Type 0} (old new : Slots) (calls : List Asked) (result : Result T E) → IsErr result → AsksUntilFault old new calls → AsksAll old new calls result
 with_fault old new calls (Ok x) err is = absurd (cc err)
 with_fault old new calls (Err e) err is = is
 
 -- with nothing passed over, and with a write that passed
-pub still_asked : (old now : Option (List Asked)) (pages : List (Option (List ℕ))) (k : ℕ) → k < length pages → get_or pages k None ≡ None → Asks old now (written_again 0 (take k pages)) → Asks old now (written_again 0 (take (k + 1) pages))
+pub still_asked : (old now : Slots) (pages : List (Option (List ℕ))) (k : ℕ) → k < length pages → get_or pages k None ≡ None → Asks old now (written_again 0 (take k pages)) → Asks old now (written_again 0 (take (k + 1) pages))
 still_asked old now pages k low none is =
     let next : suc k ≡ k + 1 = omega arith in
     subst (λ (n : ℕ). Asks old now (written_again 0 (take n pages))) next (subst (Asks old now) (sym (passed_over pages k low none)) is)
 
-pub one_more_asked : (old before now : Option (List Asked)) (pages : List (Option (List ℕ))) (k : ℕ) (bytes slot : List ℕ) → k < length pages → get_or pages k None ≡ Some bytes → slot ≡ slot_of k bytes → Asks old before (written_again 0 (take k pages)) → Asks before now (Writes k slot true ∷ [])
+pub one_more_asked : (old before now : Slots) (pages : List (Option (List ℕ))) (k : ℕ) (bytes slot : List ℕ) → k < length pages → get_or pages k None ≡ Some bytes → slot ≡ slot_of k bytes → Asks old before (written_again 0 (take k pages)) → Asks before now (Writes k slot true ∷ [])
     → Asks old now (written_again 0 (take (k + 1) pages))
 one_more_asked old before now pages k bytes slot low some made first last =
     let next : suc k ≡ k + 1 = omega arith in
