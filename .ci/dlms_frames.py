@@ -64,13 +64,22 @@ def frames_in(came):
 
 
 class FalseMeter:
-    """A meter's side of one poll: whatever is asked, its buffer has these rows, each a second of its clock and three registers."""
+    """A meter's side of one poll: whatever is asked, its buffer has these rows, each a second of its clock and three registers, and
+    its columns are those of the first list, and behind the rows those of the second: class, name, attribute and data index."""
 
     ACCEPTED = bytes.fromhex("6129a109060760857405080101a203020100a305a103020100be10040e0800065f1f0400001c1d04000007")
     BEGIN = datetime.datetime(2000, 1, 1)
 
-    def __init__(self, rows, source=0x03):
-        self.source, self.rows = source, rows
+    COLUMNS = [(8, "0000010000ff", 2, 0), *((3, f"0100{energy:02x}0800ff", 2, 0) for energy in (1, 2, 3))]
+
+    def __init__(self, rows, source=0x03, columns=(COLUMNS, COLUMNS)):
+        self.source, self.rows, self.columns = source, rows, columns
+
+    def told(self, columns):
+        """The answer that has these columns."""
+        each = b"".join(b"\x02\x04\x12" + of_class.to_bytes(2, "big") + b"\x09\x06" + bytes.fromhex(name)
+                        + b"\x0f" + bytes([attribute]) + b"\x12" + index.to_bytes(2, "big") for of_class, name, attribute, index in columns)
+        return b"\xc4\x01\xc1\x00\x01" + bytes([len(columns)]) + each
 
     def time(self, clock):
         at = self.BEGIN + datetime.timedelta(seconds=clock)
@@ -93,8 +102,9 @@ class FalseMeter:
 
     def answers(self):
         """All the frames of a poll, in their order."""
-        return [self.frame(0x73), self.apdu(0, self.ACCEPTED), self.apdu(1, self.buffer()), self.apdu(2, bytes.fromhex("6303800100")),
-                self.frame(0x73)]
+        before, behind = (self.told(it) for it in self.columns)
+        apdus = [self.ACCEPTED, before, self.buffer(), behind, bytes.fromhex("6303800100")]
+        return [self.frame(0x73), *(self.apdu(number, apdu) for number, apdu in enumerate(apdus)), self.frame(0x73)]
 
     def serve(self, line):
         """Answers one question after another."""
