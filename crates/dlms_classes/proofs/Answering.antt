@@ -1,5 +1,5 @@
 -- The answer of GET, step by step.
-use Rattle.std.proofs.Common.{◌≡◌, ap, subst, ℕ, List, IsTrue, Option, Result, Ok, Err}
+use Rattle.std.proofs.Common.{◌≡◌, ap, subst, ℕ, List, Option, Result, Ok, Err}
 use Rattle.dlms_data.specs.declared.data.Data.{Data}
 use Rattle.dlms_data.specs.declared.descriptor.Descriptor.{Descriptor}
 use Rattle.dlms_data.specs.View.{value_of}
@@ -14,7 +14,7 @@ use Rattle.dlms_classes.specs.declared.table.Content.{Content}
 use Rattle.dlms_classes.specs.Access.{◌>>=◌, readable}
 use Rattle.dlms_classes.specs.Answer.{IsAnswer, IsShown, NeedsMemory, Wanted, wanted}
 use Rattle.dlms_classes.specs.Choice.{Selection, part_of, Picks, HasPart, IsProper, IsChoice}
-use Rattle.dlms_classes.specs.Shown.{Part, whole, between, cut, Shows, shown, takes_memory}
+use Rattle.dlms_classes.specs.Shown.{Part, whole, between, cut, Shows, shown, TakesMemory}
 
 abbrev err_of : {X : Type 0} → Result X AccessResult → AccessResult
 err_of (Ok x) = TemporaryFailure
@@ -38,10 +38,10 @@ refused_at : (s : StateValue) (client : Client) (d : Descriptor) (content : Cont
 refused_at s client d content (Err q) r h = ap Err (ap err_of h)
 refused_at s client d content (Ok p) r h = h
 
-lacking_at : (columns : List ℕ) (content : Content) (parts : Result Part AccessResult) (choice : Choice) → IsChoice columns parts (Ok choice) → IsProper columns choice
-    → IsTrue (takes_memory content) → NeedsMemory columns (told content parts)
-lacking_at columns content (Err q) choice h proper takes = absurd cc
-lacking_at columns content (Ok p) choice h proper takes = (has_part columns p choice h proper, takes)
+lacking_at : (s : StateValue) (content : Content) (parts : Result Part AccessResult) (choice : Choice) → IsChoice s.columns parts (Ok choice) → IsProper s.columns choice
+    → ((p : Part) → Picks s.columns p choice → TakesMemory s p content) → NeedsMemory s (told content parts)
+lacking_at s content (Err q) choice h proper takes = absurd cc
+lacking_at s content (Ok p) choice h proper takes = (has_part s.columns p choice h proper, takes p h)
 
 showing_at : {A : Type 0} (s : StateValue) (client : Client) (d : Descriptor) (content : Content) (parts : Result Part AccessResult) (choice : Choice) (v : Data A) → IsChoice s.columns parts (Ok choice)
     → IsProper s.columns choice → ((p : Part) → Picks s.columns p choice → Shows (shown s client d p content) (value_of v)) → IsAnswer s client d (told content parts) (Ok v)
@@ -54,9 +54,9 @@ pub refused : (s : StateValue) (client : Client) (d : Descriptor) (selection : O
 refused s client d selection a r e h = rw (← e) (refused_at s client d a.content (part_of a.content selection) r h)
 
 -- refused for want of memory
-pub lacking : (columns : List ℕ) (client : Client) (d : Descriptor) (selection : Option Selection) (a : Attribute) (choice : Choice) → Ok a ≡ readable client d
-    → IsChoice columns (part_of a.content selection) (Ok choice) → IsProper columns choice → IsTrue (takes_memory a.content) → NeedsMemory columns (wanted client d selection)
-lacking columns client d selection a choice e h proper takes = rw (← e) (lacking_at columns a.content (part_of a.content selection) choice h proper takes)
+pub lacking : (s : StateValue) (client : Client) (d : Descriptor) (selection : Option Selection) (a : Attribute) (choice : Choice) → Ok a ≡ readable client d
+    → IsChoice s.columns (part_of a.content selection) (Ok choice) → IsProper s.columns choice → ((p : Part) → Picks s.columns p choice → TakesMemory s p a.content) → NeedsMemory s (wanted client d selection)
+lacking s client d selection a choice e h proper takes = rw (← e) (lacking_at s a.content (part_of a.content selection) choice h proper takes)
 
 -- answered by a value
 pub showing : {A : Type 0} (s : StateValue) (client : Client) (d : Descriptor) (selection : Option Selection) (a : Attribute) (choice : Choice) (v : Data A) → Ok a ≡ readable client d

@@ -1,5 +1,5 @@
 -- The answer of GET.
-use Rattle.std.specs.Prelude.{◌≡◌, ◌⊎◌, ◌≤◌, ℕ, ◌+◌, ◌*◌, List, length, Option, Result, Ok, Err, MatchResult, IsTrue}
+use Rattle.std.specs.Prelude.{◌≡◌, ◌⊎◌, ◌≤◌, ℕ, ◌+◌, ◌*◌, List, length, Option, Result, Ok, Err, MatchResult}
 use Rattle.dlms_data.specs.Value.{Value}
 use Rattle.dlms_data.specs.Writing.{canonical, Fits}
 use Rattle.dlms_data.specs.declared.data.Data.{Data}
@@ -14,7 +14,7 @@ use Rattle.dlms_classes.specs.declared.access.AccessResult.TheVariants.{Temporar
 use Rattle.dlms_classes.specs.declared.table.Content.{Content}
 use Rattle.dlms_classes.specs.Access.{◌>>=◌, readable}
 use Rattle.dlms_classes.specs.Choice.{Selection, part_of, HasPart}
-use Rattle.dlms_classes.specs.Shown.{Part, Shows, shown, takes_memory}
+use Rattle.dlms_classes.specs.Shown.{Part, Shows, shown, TakesMemory}
 
 -- an attribute, and which part of it
 pub record Wanted : Type 0 where
@@ -41,14 +41,14 @@ IsGranted columns (Err r) = ⊥
 IsGranted columns (Ok w) = HasPart columns w.part
 
 -- and it takes memory to show it
-abbrev pub NeedsMemory : (columns : List ℕ) → Result Wanted AccessResult → Type 0
-NeedsMemory columns (Err r) = ⊥
-NeedsMemory columns (Ok w) = HasPart columns w.part × IsTrue (takes_memory w.content)
+abbrev pub NeedsMemory : StateValue → Result Wanted AccessResult → Type 0
+NeedsMemory s (Err r) = ⊥
+NeedsMemory s (Ok w) = HasPart s.columns w.part × TakesMemory s w.part w.content
 
 -- what a call answers: what is shown, or want of memory where it takes memory to show it
 abbrev pub IsAnswer : {A : Type 0} → StateValue → Client → Descriptor → Result Wanted AccessResult → Result (Data A) AccessResult → Type 0
 IsAnswer s client d w result =
-    MatchResult result (λ v. IsShown s client d w (Ok (value_of v))) (λ r. IsShown s client d w (Err r) ⊎ (NeedsMemory s.columns w × (r ≡ TemporaryFailure)))
+    MatchResult result (λ v. IsShown s client d w (Ok (value_of v))) (λ r. IsShown s client d w (Err r) ⊎ (NeedsMemory s w × (r ≡ TemporaryFailure)))
 
 -- the answer after a list of events: the state is that of the definitions of settings, registers, clock and buffer
 abbrev pub AnswersAfter : {A : Type 0} → List Event → Client → Descriptor → Option Selection → Result (Data A) AccessResult → Type 0

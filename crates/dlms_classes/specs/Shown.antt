@@ -1,6 +1,6 @@
 -- What an answer shows, and which value shows it: the attributes' values of IEC 62056-6-2 (Blue Book: Data 4.3.1, Register
 -- 4.3.2, Profile generic 4.3.6, Association LN 4.4.4, Clock 4.5.1). The constants are the meter's own.
-use Rattle.std.specs.Prelude.{◌≡◌, ℕ, zero, suc, ◌-◌, ◌==◌, ◌≤◌, ◌||◌, nat_lt, if◌then◌else◌, List, [], ◌∷◌, map, length, slice_index, slice_range, codes, replicate, pos, ⊤, Bool, true, false, Option, Some}
+use Rattle.std.specs.Prelude.{◌≡◌, ◌≢◌, ℕ, zero, suc, ◌-◌, ◌==◌, ◌≤◌, ◌||◌, nat_lt, if◌then◌else◌, List, [], ◌∷◌, map, length, slice_index, slice_range, codes, replicate, pos, ⊤, Bool, true, false, IsTrue, Option, Some}
 use Rattle.std.specs.List.{position_from}
 use Rattle.dlms_data.specs.Value.{Value, Values, null, array, structure, boolean, double_long_unsigned, octet_string, integer, long, unsigned, long_unsigned, enumerated, none, cons}
 use Rattle.dlms_data.specs.DateTime.{NamesSecond}
@@ -130,6 +130,18 @@ takes_memory SortMethod = false
 takes_memory EntriesInUse = false
 takes_memory ProfileEntries = false
 takes_memory _ = true
+
+-- the part of the buffer that is wanted has a row
+abbrev pub HasRows : (columns : List ℕ) → List Row → Part → Type 0
+HasRows columns rows whole = rows ≢ []
+HasRows columns rows (between first last) =
+    (place : ℕ) × (from : ℕ) × (to : ℕ) × (clock_place columns ≡ Some place) × NamesSecond first from × NamesSecond last to × (in_range place from to rows ≢ [])
+HasRows columns rows (cut first last first_column last_column) = entries first last rows ≢ []
+
+-- what is wanted of a state takes memory to show: of the buffer, where that part has a row
+abbrev pub TakesMemory : StateValue → Part → Content → Type 0
+TakesMemory s p Buffer = HasRows s.columns s.rows.items p
+TakesMemory s p content = IsTrue (takes_memory content)
 
 -- ---- which value shows it
 

@@ -1,11 +1,11 @@
 //! The rows of the load profile as values.
 
-ghost use Rattle.std.specs.Prelude.{◌≡◌, ◌≤◌, ◌<◌, ◌++◌, List, Some, map, slice_range, All, IfOk, OnOk, length};
+ghost use Rattle.std.specs.Prelude.{◌≡◌, ◌≢◌, ◌≤◌, ◌<◌, ◌++◌, ◌==◌, [], List, Some, map, slice_range, All, IfOk, IsErr, OnOk, length};
 ghost use Rattle.dlms_data.specs.View.{value_of};
 ghost use Rattle.dlms_profile.specs.declared.rows.Row.{Row};
 ghost use Rattle.dlms_state.specs.Columns.{IsRowOf};
 ghost use Rattle.dlms_classes.specs.declared.rows.Cell.{Cell};
-ghost use Rattle.dlms_classes.specs.Shown.{cell_of as field_of, cells as cells_of, HasTime, Match, IsCell, IsRow, IsTable, Part, part_shown, Shows, columns_between, last_column as last_of};
+ghost use Rattle.dlms_classes.specs.Shown.{cell_of as field_of, cells as cells_of, HasRows, HasTime, Match, IsCell, IsRow, IsTable, Part, part_shown, Shows, columns_between, last_column as last_of};
 ghost use Rattle.dlms_profile.specs.Rows.{in_range, entries as cut_out};
 ghost use Rattle.dlms_classes.specs.Choice.{Picks, IsProper};
 
@@ -86,6 +86,13 @@ fn put_rows<A: Allocator + Copy>(
     Ok(())
 }
 
+/// Whether there are no rows.
+fn are_none(older: &[Row], newer: &[Row]) -> bool
+    ensures { result ≡ (length (older.now ++ newer.now) == 0) }
+{
+    older.is_empty() && newer.is_empty()
+}
+
 /// The array of some columns of rows, which stand in two slices.
 fn table_of<A: Allocator + Copy>(
     alloc: A,
@@ -100,8 +107,12 @@ fn table_of<A: Allocator + Copy>(
     requires newer { All (IsRowOf columns.now) newer.now }
     requires order { first ≤ end }
     requires end { end ≤ length columns.now }
-    ensures { IfOk result (λ v. IsTable (map (λ row. slice_range (cells_of columns.now row) first end) (older.now ++ newer.now)) (value_of v)) }
+    ensures table { IfOk result (λ v. IsTable (map (λ row. slice_range (cells_of columns.now row) first end) (older.now ++ newer.now)) (value_of v)) }
+    ensures lacks { IsErr result → older.now ++ newer.now ≢ [] }
 {
+    if are_none(older, newer) {
+        return Ok(Data::Array(Items::from_vec(Vec::new(alloc))));
+    }
     let mut items = room(alloc, count)?;
     put_rows(alloc, &mut items, columns, older, first, end)?;
     put_rows(alloc, &mut items, columns, newer, first, end)?;
@@ -109,21 +120,20 @@ fn table_of<A: Allocator + Copy>(
 }
 
 /// The array of all rows.
-
 fn whole<A: Allocator + Copy>(
     alloc: A,
     columns: &[u8],
     rows: &Rows<A>,
 ) -> Result<Data<A>, AllocError>
     requires rows { All (IsRowOf columns.now) rows.now.items }
-    ensures { IfOk result (λ v. IsTable (map (cells_of columns.now) rows.now.items) (value_of v)) }
+    ensures table { IfOk result (λ v. IsTable (map (cells_of columns.now) rows.now.items) (value_of v)) }
+    ensures lacks { IsErr result → rows.now.items ≢ [] }
 {
     let (older, newer) = rows.as_slices();
     table_of(alloc, columns, older, newer, rows.len(), 0, columns.len())
 }
 
 /// The array of the rows whose clock, at its place among the columns, lies between two seconds.
-
 fn between<A: Allocator + Copy>(
     alloc: A,
     columns: &[u8],
@@ -133,7 +143,8 @@ fn between<A: Allocator + Copy>(
     to: u32,
 ) -> Result<Data<A>, AllocError>
     requires rows { All (IsRowOf columns.now) rows.now.items }
-    ensures { IfOk result (λ v. IsTable (map (cells_of columns.now) (in_range place from to rows.now.items)) (value_of v)) }
+    ensures table { IfOk result (λ v. IsTable (map (cells_of columns.now) (in_range place from to rows.now.items)) (value_of v)) }
+    ensures lacks { IsErr result → in_range place from to rows.now.items ≢ [] }
 {
     let found = rows.by_range(place, from, to)?;
     table_of(
@@ -159,7 +170,8 @@ fn cut<A: Allocator + Copy>(
     requires entry { 0 < entries.0 }
     requires column { 0 < shown.0 }
     requires order { shown.0 ≤ last_of (length columns.now) shown.1 }
-    ensures { IfOk result (λ v. IsTable (map (λ row. columns_between (length columns.now) shown.0 shown.1 (cells_of columns.now row)) (cut_out entries.0 entries.1 rows.now.items)) (value_of v)) }
+    ensures table { IfOk result (λ v. IsTable (map (λ row. columns_between (length columns.now) shown.0 shown.1 (cells_of columns.now row)) (cut_out entries.0 entries.1 rows.now.items)) (value_of v)) }
+    ensures lacks { IsErr result → cut_out entries.0 entries.1 rows.now.items ≢ [] }
 {
     let found = rows.by_entry(entries.0, entries.1)?;
     let first = usize::from(shown.0) - 1;
@@ -175,7 +187,7 @@ fn cut<A: Allocator + Copy>(
     )
 }
 
-/// The array of the part that is wanted, of rows with these columns.
+/// The array of the part that is wanted, of rows with these columns. Want of memory is told only where that part has a row.
 pub fn buffer<A: Allocator + Copy>(
     alloc: A,
     columns: &[u8],
@@ -184,7 +196,8 @@ pub fn buffer<A: Allocator + Copy>(
 ) -> Result<Data<A>, AllocError>
     requires rows { All (IsRowOf columns.now) rows.now.items }
     requires proper { IsProper columns.now choice }
-    ensures { (p : Part) → Picks columns.now p choice → IfOk result (λ v. Shows (part_shown columns.now p rows.now.items) (value_of v)) }
+    ensures shows { (p : Part) → Picks columns.now p choice → IfOk result (λ v. Shows (part_shown columns.now p rows.now.items) (value_of v)) }
+    ensures lacks { (p : Part) → Picks columns.now p choice → IsErr result → HasRows columns.now rows.now.items p }
 {
     match choice {
         Choice::Whole => whole(alloc, columns, rows),

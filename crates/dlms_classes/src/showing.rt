@@ -1,12 +1,12 @@
 //! The values of attributes.
 
-ghost use Rattle.std.specs.Prelude.{◌≡◌, IfOk, OnErr, IsTrue, map, pos, slice_index};
+ghost use Rattle.std.specs.Prelude.{◌≡◌, IfOk, IsErr, map, pos, slice_index};
 ghost use Rattle.dlms_data.specs.Value.{array, structure, integer, enumerated, long_unsigned};
 ghost use Rattle.dlms_data.specs.View.{value_of};
 ghost use Rattle.dlms_frame.specs.Client.{sap_of};
 ghost use Rattle.dlms_classes.specs.Choice.{Picks, IsProper};
 ghost use Rattle.dlms_classes.specs.Listing.{map_values};
-ghost use Rattle.dlms_classes.specs.Shown.{Part, shown, Shows, takes_memory, column_value as column, no_column as no_object, two as pair};
+ghost use Rattle.dlms_classes.specs.Shown.{Part, shown, Shows, TakesMemory, column_value as column, no_column as no_object, two as pair};
 ghost use Rattle.dlms_classes.specs.Table.{object_of_column as column_object, entry_of};
 
 use crate::choosing::Choice;
@@ -91,7 +91,7 @@ pub fn value<A: Allocator + Copy>(
 ) -> Result<Data<A>, AllocError>
     requires { IsProper state.now.columns choice }
     ensures shows { (p : Part) → Picks state.now.columns p choice → IfOk result (λ v. Shows (shown state.now client descriptor p content) (value_of v)) }
-    ensures lacks { OnErr result (IsTrue (takes_memory content)) }
+    ensures lacks { (p : Part) → Picks state.now.columns p choice → IsErr result → TakesMemory state.now p content }
 {
     match content {
         Content::LogicalName => octet_string_of(alloc, descriptor.name.as_slice()),

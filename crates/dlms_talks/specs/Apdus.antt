@@ -1,9 +1,10 @@
 -- What an APDU is told as is what the reader of its kind reads.
-use Rattle.std.specs.Prelude.{◌≡◌, ◌⊎◌, ℕ, List, ◌∷◌}
+use Rattle.std.specs.Prelude.{◌≡◌, ◌⊎◌, ℕ, List, ◌∷◌, IsOkAnd}
 use Rattle.dlms_acse.specs.declared.outcome.Verdict.{Verdict}
 use Rattle.dlms_acse.specs.Spelling.{IsAarq, IsAare}
 use Rattle.dlms_acse.specs.Verdict.{Request, request_of as said_by}
 use Rattle.dlms_apdu.specs.Forms.{RequestForm, ResponseForm}
+use Rattle.dlms_apdu.specs.Reading.{HoldsData, HoldsValue, request_at, response_at}
 use Rattle.dlms_apdu.specs.Spelling.{SpellsRequest, SpellsResponse}
 use Rattle.dlms_apdu.specs.View.{request_of, response_of}
 use Rattle.dlms_talks.specs.declared.apdus.Apdu.{Apdu}
@@ -53,3 +54,10 @@ IsTold bytes (apdu.ReleaseResponse r) = (rest : List ℕ) × (bytes ≡ 0x63 ∷
 IsTold bytes (apdu.Request r) = SpellsRequest bytes (request_of r)
 IsTold bytes (apdu.Response r) = SpellsResponse bytes (response_of r)
 IsTold bytes (apdu.Unreadable f) = (IsNoAarq bytes ⊎ IsNoAare bytes) ⊎ (IsNoRequest bytes ⊎ IsNoResponse bytes)
+
+-- the bytes are a request, or a response, that holds a value which needs memory
+abbrev pub RequestNeedsMemory : List ℕ → Type 0
+RequestNeedsMemory bytes = IsOkAnd (request_at bytes) HoldsValue
+
+abbrev pub ResponseNeedsMemory : List ℕ → Type 0
+ResponseNeedsMemory bytes = IsOkAnd (response_at bytes) HoldsData

@@ -1,6 +1,6 @@
 -- The information frames of one end, from one to the next (IEC 62056-46, 6.4.3, numbers modulo 8, 6.4.4, segmentation, and
 -- section 5, the LLC). What is done where frames are missing is this project's own.
-use Rattle.std.specs.Prelude.{ℕ, ◌+◌, ◌%◌, ◌==◌, ◌&&◌, ◌||◌, not, nat_le, min, is_some, if◌then◌else◌, Bool, true, false, List, [], ◌∷◌, ◌++◌, length, Option, Some, None}
+use Rattle.std.specs.Prelude.{◌≡◌, ◌<◌, ◌≤◌, ℕ, ◌+◌, ◌%◌, ◌==◌, ◌&&◌, ◌||◌, not, nat_le, min, is_some, if◌then◌else◌, Bool, true, false, List, [], ◌∷◌, ◌++◌, length, Option, Some, None}
 use Rattle.dlms_talks.specs.declared.parties.Side.{Side}
 use Rattle.dlms_talks.specs.declared.parties.Side.TheVariants.{Client, Meter}
 use Rattle.dlms_talks.specs.declared.segments.Progress.{Progress}
@@ -79,6 +79,20 @@ with_segment progress.Good side f info = with_octets f info
 with_segment progress.TooLong side f info = f
 with_segment progress.BadStart side f info = f
 
+-- octets are joined to those of the APDU: there are some, and not too many
+abbrev pub Joins : Following → List ℕ → Type 0
+Joins f octets = (0 < length octets) × (length f.apdu + length octets ≤ MOST_APDU)
+
+abbrev pub JoinsFromStart : Following → Option (List ℕ) → Type 0
+JoinsFromStart f (Some octets) = Joins (record f { apdu = [] }) octets
+JoinsFromStart f None = ⊥
+
+abbrev pub JoinsSegment : Progress → Option Side → Following → List ℕ → Type 0
+JoinsSegment progress.Fresh side f info = JoinsFromStart f (behind_llc side info)
+JoinsSegment progress.Good side f info = Joins f info
+JoinsSegment progress.TooLong side f info = ⊥
+JoinsSegment progress.BadStart side f info = ⊥
+
 -- what is told behind the last segment
 abbrev pub told : Progress → ℕ → Came
 told progress.Good count = came.Whole count
@@ -119,3 +133,10 @@ taken f side number follows info =
     else if is_next f.next number then taken_on f side number follows info
     else if is_some (behind_llc side info) then taken_on (begun None) side number follows info
     else (came.OutOfTurn, f)
+
+-- The frame is taken, and its octets are joined: to those before it, or where it is out of turn to none.
+abbrev pub goes_on : Following → ℕ → Following
+goes_on f number = if is_next f.next number then f else begun None
+
+abbrev pub JoinsFrame : Following → Option Side → ℕ → List ℕ → Type 0
+JoinsFrame f side number info = (is_again f.next number ≡ false) × JoinsSegment (goes_on f number).progress side (goes_on f number) info

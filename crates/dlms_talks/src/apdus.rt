@@ -1,7 +1,7 @@
 //! What an APDU is.
 
-ghost use Rattle.std.specs.Prelude.{IfOk};
-ghost use Rattle.dlms_talks.specs.Apdus.{IsToldOfAarq, IsToldOfAare, IsToldOfRequest, IsToldOfResponse, IsTold};
+ghost use Rattle.std.specs.Prelude.{◌⊎◌, IfOk, IsErr};
+ghost use Rattle.dlms_talks.specs.Apdus.{IsToldOfAarq, IsToldOfAare, IsToldOfRequest, IsToldOfResponse, IsTold, RequestNeedsMemory, ResponseNeedsMemory};
 
 use crate::parties::Side;
 use crate::places::{Fault, acse_fault, apdu_fault};
@@ -53,7 +53,8 @@ fn association_response<'a, A: Allocator>(bytes: &'a [u8]) -> Apdu<'a, A>
 
 /// A request of a service.
 fn request<A: Allocator + Copy>(alloc: A, bytes: &[u8]) -> Result<Apdu<'_, A>, AllocError>
-    ensures { IfOk result (IsToldOfRequest bytes.now) }
+    ensures told { IfOk result (IsToldOfRequest bytes.now) }
+    ensures memory { IsErr result → RequestNeedsMemory bytes.now }
 {
     match read_request(alloc, bytes) {
         Ok(request) => Ok(Apdu::Request(request)),
@@ -64,7 +65,8 @@ fn request<A: Allocator + Copy>(alloc: A, bytes: &[u8]) -> Result<Apdu<'_, A>, A
 
 /// A response of a service.
 fn response<A: Allocator + Copy>(alloc: A, bytes: &[u8]) -> Result<Apdu<'_, A>, AllocError>
-    ensures { IfOk result (IsToldOfResponse bytes.now) }
+    ensures told { IfOk result (IsToldOfResponse bytes.now) }
+    ensures memory { IsErr result → ResponseNeedsMemory bytes.now }
 {
     match read_response(alloc, bytes) {
         Ok(response) => Ok(Apdu::Response(response)),
@@ -74,13 +76,14 @@ fn response<A: Allocator + Copy>(alloc: A, bytes: &[u8]) -> Result<Apdu<'_, A>, 
 }
 
 /// Reads an APDU from this side. Its first octet says which reader is asked; an octet that names no APDU is refused by the
-/// reader of the side's services.
+/// reader of the side's services. Want of memory is told only of a request or a response that holds a value which needs some.
 pub fn read_apdu<A: Allocator + Copy>(
     alloc: A,
     side: Option<Side>,
     bytes: &[u8],
 ) -> Result<Apdu<'_, A>, AllocError>
-    ensures { IfOk result (IsTold bytes.now) }
+    ensures told { IfOk result (IsTold bytes.now) }
+    ensures memory { IsErr result → RequestNeedsMemory bytes.now ⊎ ResponseNeedsMemory bytes.now }
 {
     match bytes {
         [0x60, ..] => Ok(association_request(bytes)),

@@ -1,7 +1,7 @@
 //! The segments of the APDUs that come from one end.
 
-ghost use Rattle.std.specs.Prelude.{◌≡◌, None, option_map, IfOk, OnOk};
-ghost use Rattle.dlms_talks.specs.Segments.{after, another, behind_llc, begun, came_of, expected, from_start, is_again, is_from, is_known, is_next, opened, passed, taken, told, with_octets, with_segment, without_rest};
+ghost use Rattle.std.specs.Prelude.{◌≡◌, None, option_map, IfOk, IsErr, OnOk};
+ghost use Rattle.dlms_talks.specs.Segments.{Joins, JoinsFrame, JoinsFromStart, JoinsSegment, after, another, behind_llc, begun, came_of, expected, from_start, is_again, is_from, is_known, is_next, opened, passed, taken, told, with_octets, with_segment, without_rest};
 
 use crate::parties::Side;
 use std::alloc::{AllocError, Allocator};
@@ -209,7 +209,8 @@ impl<A: Allocator> Segments<A> {
 
     /// Keeps octets of an APDU.
     fn keep(&mut self, octets: &[u8]) -> Result<(), AllocError>
-        ensures { OnOk result (self.new ≡ with_octets self.old octets.now) }
+        ensures kept { OnOk result (self.new ≡ with_octets self.old octets.now) }
+        ensures memory { IsErr result → Joins self.old octets.now }
     {
         if octets.len() > MOST_APDU || self.apdu.len() > MOST_APDU - octets.len() {
             self.progress = Progress::TooLong;
@@ -223,7 +224,8 @@ impl<A: Allocator> Segments<A> {
 
     /// Keeps the first segment.
     fn keep_first(&mut self, side: Option<Side>, info: &[u8]) -> Result<(), AllocError>
-        ensures { OnOk result (self.new ≡ from_start self.old (behind_llc side info.now)) }
+        ensures kept { OnOk result (self.new ≡ from_start self.old (behind_llc side info.now)) }
+        ensures memory { IsErr result → JoinsFromStart self.old (behind_llc side info.now) }
     {
         self.apdu.clear();
         match behind_llc(side, info) {
@@ -237,7 +239,8 @@ impl<A: Allocator> Segments<A> {
 
     /// Keeps a segment, the first or a further one.
     fn keep_segment(&mut self, side: Option<Side>, info: &[u8]) -> Result<(), AllocError>
-        ensures { OnOk result (self.new ≡ with_segment self.old.progress side self.old info.now) }
+        ensures kept { OnOk result (self.new ≡ with_segment self.old.progress side self.old info.now) }
+        ensures memory { IsErr result → JoinsSegment self.old.progress side self.old info.now }
     {
         match self.progress {
             Progress::Fresh => self.keep_first(side, info),
@@ -275,7 +278,8 @@ impl<A: Allocator> Segments<A> {
     }
 
     /// Takes a frame with this number. One out of turn that begins with the LLC begins an APDU anew, as frames before it may be
-    /// missing from what is explained. Where memory is refused nothing is said of what is kept.
+    /// missing from what is explained. Memory is wanted only where octets are joined; where it is refused nothing is said of what
+    /// is kept.
     pub fn take(
         &mut self,
         side: Option<Side>,
@@ -285,6 +289,7 @@ impl<A: Allocator> Segments<A> {
     ) -> Result<Came, AllocError>
         ensures came { IfOk result (λ came. came ≡ (taken self.old side number follows info.now).0) }
         ensures after { IfOk result (λ came. self.new ≡ (taken self.old side number follows info.now).1) }
+        ensures memory { IsErr result → JoinsFrame self.old side number info.now }
     {
         if self.is_again(number) {
             return Ok(Came::Again);

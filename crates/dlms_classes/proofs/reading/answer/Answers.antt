@@ -15,8 +15,8 @@ returns-in_err-value g c =
     let p = err_from_is_err_and c.from_residual-in_err-value.result c.from_residual-in_err-value.ensures.1 in
     let selection = option_map (λ s. selection_of s.now) c.args.selector in
     rw (p.1, p.2) (inr (
-      lacking c.args.state.now.columns c.args.client c.args.descriptor selection c.in_ok-attribute.attribute c.in_ok-choice.choice c.in_ok-attribute.ensures
-          (rw (← c.columns.ensures.value) c.in_ok-choice.ensures.choice) (rw (← c.columns.ensures.value) c.in_ok-choice.ensures.proper) c.in_err-value.ensures.lacks,
+      lacking c.args.state.now c.args.client c.args.descriptor selection c.in_ok-attribute.attribute c.in_ok-choice.choice c.in_ok-attribute.ensures
+          (rw (← c.columns.ensures.value) c.in_ok-choice.ensures.choice) (rw (← c.columns.ensures.value) c.in_ok-choice.ensures.proper) (λ p picks. c.in_err-value.ensures.lacks p picks refl),
       refl,
     ))
 

@@ -5,8 +5,8 @@ use Rattle.dlms_classes.proofs.rows.between.Goals as goal
 
 pub table_of-requires-clause-older : goal.table_of-requires-clause-older
 table_of-requires-clause-older g c =
-    rw (c.as_slice.ensures.value, c.in_ok-found.ensures) (rows_in_range c.args.columns.now c.args.place c.args.from c.args.to c.args.rows.now.items c.requires.rows)
+    rw (c.as_slice.ensures.value, c.in_ok-found.ensures.rows) (rows_in_range c.args.columns.now c.args.place c.args.from c.args.to c.args.rows.now.items c.requires.rows)
 
-pub returns : goal.returns
-returns g c =
-    rw (← all_of_found c.args.columns.now c.as_slice.result.now (in_range c.args.place c.args.from c.args.to c.args.rows.now.items) (c.as_slice.ensures.value ∙ c.in_ok-found.ensures)) c.table_of.ensures
+pub returns-clause-table : goal.returns-clause-table
+returns-clause-table g c =
+    rw (← all_of_found c.args.columns.now c.as_slice.result.now (in_range c.args.place c.args.from c.args.to c.args.rows.now.items) (c.as_slice.ensures.value ∙ c.in_ok-found.ensures.rows)) c.table_of.ensures.table

@@ -9,5 +9,5 @@ table_of-requires-clause-newer g c =
     let all : All (IsRowOf c.args.columns.now) (c.as_slices.result.0.now ++ c.as_slices.result.1.now) = rw c.as_slices.ensures c.requires.rows in
     rows_behind c.args.columns.now c.as_slices.result.0.now c.as_slices.result.1.now all
 
-pub returns : goal.returns
-returns g c = rw (← all_columns c.args.columns.now c.args.rows.now.items, ← c.as_slices.ensures) c.table_of.ensures
+pub returns-clause-table : goal.returns-clause-table
+returns-clause-table g c = rw (← all_columns c.args.columns.now c.args.rows.now.items, ← c.as_slices.ensures) c.table_of.ensures.table
