@@ -22,7 +22,8 @@ use Rattle.dlms_meter.specs.Run.{Choice, Served, DeviceFails, ByLink, EndsFrame,
 use Rattle.dlms_store.specs.World.{StoreStep, StoreRun}
 use Rattle.dlms_service.specs.Session.{fresh}
 use Rattle.dlms_state.specs.declared.event.Event.{Event}
-use Rattle.dlms_field.specs.HangingUp.{disc_of, AllEnded, AreOwn, IsDown, HasEnded}
+use Rattle.dlms_meter.specs.Own.{AreOwn}
+use Rattle.dlms_field.specs.HangingUp.{disc_of, AllEnded, IsDown, HasEnded}
 
 -- ---- the frame in its stretch
 
@@ -77,7 +78,7 @@ ended own = record { link = record own.link { up = false }; session = fresh own.
 
 by_link : (choice : Choice) (made : Type 0) → ByLink choice made → made
 by_link (Served memory) made is = is
-by_link (DeviceFails kept) made none = absurd none
+by_link (DeviceFails kept wanted) made none = absurd none
 
 row_up : (r : ServerRecord) (who : Client) → r.client ≡ who → r.up ≡ true → row_of r (disc_of who) ≡ Disconnects
 row_up r who is up = subst (λ (c : Client). row_of r (disc_of c) ≡ Disconnects) is (row_of-disc_up r up)

@@ -5,6 +5,7 @@ use Rattle.dlms_frame.specs.Frame.{Parts}
 use Rattle.dlms_frame.specs.declared.client.Client.{Client}
 use Rattle.dlms_frame.specs.declared.frame.Address.TheVariants.{One}
 use Rattle.dlms_meter.specs.ClientRecord.{ClientRecord}
+use Rattle.dlms_meter.specs.Own.{AreOwn}
 use Rattle.dlms_meter.specs.Run.{MeterWorld, Stands}
 use Rattle.dlms_meter.specs.declared.meter.Meter.{Meter}
 use Rattle.dlms_pages.specs.declared.device.Pages.{Ghosts}
@@ -14,10 +15,6 @@ use Rattle.dlms_field.specs.declared.hanging_up.TheConstants.{DISC, METER}
 -- the frame with which a client ends its link (IEC 62056-46, 6.4.3.3): DISC, from its service access point to the meter
 abbrev pub disc_of : Client → Parts
 disc_of who = record { segmented = false; dest = One METER; src = One (sap_of who); control = DISC; info = [] }
-
--- what the meter keeps of each client is that client's, as it is in the first world and behind a recovery
-abbrev pub AreOwn : MeterWorld → Type 0
-AreOwn w = (who : Client) → (w.records who).link.client ≡ who
 
 -- a client's link is down, with no association and no transfer
 pub record IsDown (own : ClientRecord) : Type 0 where

@@ -64,7 +64,7 @@ stored_for false accepted steps before now (nothing, none) run = uncalled accept
 stored_events : (choice : Choice) (answer : Option (List ℕ)) (accepted : List Event) (steps : List StoreStep) (before now : StoreWorld) → Stored choice answer accepted steps → StoreRun before steps now → events_in now ≡ events_in before ++ accepted
 stored_events choice None accepted steps before now (nothing, none) run = uncalled accepted steps before now nothing none run
 stored_events (Served memory) (Some bytes) accepted steps before now stored run = stored_for (is_success bytes) accepted steps before now stored run
-stored_events (DeviceFails kept) (Some bytes) accepted steps before now (taking, last, is, which, same) run = behind accepted taking last steps before now is same run (unsettled last now which)
+stored_events (DeviceFails kept wanted) (Some bytes) accepted steps before now (taking, last, is, which, same) run = behind accepted taking last steps before now is same run (unsettled last now which)
 
 -- the events after a turn
 pub turn_events : (w : MeterWorld) (turn : Turn) → IsTurn w turn → events_of (after_turn w turn) ≡ events_of w ++ turn.accepted
@@ -93,4 +93,4 @@ pub stored_once : (answer : Option (List ℕ)) (choice : Choice) (memory : Memor
     → Stored choice answer accepted steps → StoreRun before steps now → Stored choice answer accepted others → StoreRun before others after → now ≡ after
 stored_once None choice memory accepted steps others before now after is (nothing, none) run (nothing', none') run' = stays_at steps before now none run ∙ sym (stays_at others before after none' run')
 stored_once (Some bytes) (Served found) memory accepted steps others before now after is stored run stored' run' = store_once (is_success bytes) accepted steps others before now after stored run stored' run'
-stored_once (Some bytes) (DeviceFails kept) memory accepted steps others before now after is stored run stored' run' = absurd cc
+stored_once (Some bytes) (DeviceFails kept wanted) memory accepted steps others before now after is stored run stored' run' = absurd cc

@@ -38,7 +38,7 @@ run_settled : (steps : List StoreStep) (before now : StoreWorld) → StoreRun be
 run_settled [] before now (mid, next, same) = ap pending_in same ∙ settled_last before mid next
 run_settled (step ∷ steps) before now (mid, next, run) = run_settled steps mid now run
 
-abbrev IsUnsaid : Option (List ℕ) → Type 0
+abbrev pub IsUnsaid : Option (List ℕ) → Type 0
 IsUnsaid answer = IfSome answer (λ bytes. is_success bytes ≡ false)
 
 -- result 1 is no success
@@ -49,23 +49,23 @@ unsaid_by s (Set invoke) = refl
 unsaid_by s (SetLast invoke number) = refl
 unsaid_by s (Action invoke) = refl
 
-unsaid : (kept : Bool) (E : List Event) (r : ServerRecord) (s : SessionValue) (out : LinkOut) (h : Handled) → Answered (DeviceFails kept) E r s out h → IsUnsaid h.answer
-unsaid kept E r s Nothing h is = absurd is
-unsaid kept E r s (Reply frame) h is = absurd is
-unsaid kept E r s (Up frame) h is = absurd is
-unsaid kept E r s (Down frame) h is = absurd is
-unsaid kept E r s Oversize h is = absurd is
-unsaid kept E r s BadLlc h is = absurd is
-unsaid kept E r s Apdu h (o, (form, read, would, leads, told, same), is) =
+pub unsaid : (kept : Bool) (wanted : List Event) (E : List Event) (r : ServerRecord) (s : SessionValue) (out : LinkOut) (h : Handled) → Answered (DeviceFails kept wanted) E r s out h → IsUnsaid h.answer
+unsaid kept wanted E r s Nothing h is = absurd is
+unsaid kept wanted E r s (Reply frame) h is = absurd is
+unsaid kept wanted E r s (Up frame) h is = absurd is
+unsaid kept wanted E r s (Down frame) h is = absurd is
+unsaid kept wanted E r s Oversize h is = absurd is
+unsaid kept wanted E r s BadLlc h is = absurd is
+unsaid kept wanted E r s Apdu h (o, ((form, read, would, leads, told, same), wants), is) =
     subst (λ (x : Handled). IsUnsaid x.answer) (sym is) (ap (λ (x : Outcome). is_success x.answer) same ∙ unsaid_by s (stake_of form))
 
-promised : (choice : Choice) (answer : Option (List ℕ)) (accepted : List Event) (steps : List StoreStep) (before now : StoreWorld) → ((kept : Bool) → choice ≡ DeviceFails kept → IsUnsaid answer)
+pub promised : (choice : Choice) (answer : Option (List ℕ)) (accepted : List Event) (steps : List StoreStep) (before now : StoreWorld) → ((kept : Bool) (wanted : List Event) → choice ≡ DeviceFails kept wanted → IsUnsaid answer)
     → Stored choice answer accepted steps → StoreRun before steps now → IfSome answer (λ bytes. is_success bytes ≡ true → pending_in now ≡ [])
 promised choice None accepted steps before now fails stored run = tt
 promised (Served memory) (Some bytes) accepted steps before now fails stored run = λ says.
     let settles : IsSettling accepted steps = subst (λ (b : Bool). StoredFor b accepted steps) says stored in
     run_settled settles.0 before now (subst (λ (x : List StoreStep). StoreRun before x now) settles.2 run)
-promised (DeviceFails kept) (Some bytes) accepted steps before now fails stored run = λ says. absurd (cc (says, fails kept refl))
+promised (DeviceFails kept wanted) (Some bytes) accepted steps before now fails stored run = λ says. absurd (cc (says, fails kept wanted refl))
 
 -- ---- a frame
 
@@ -90,7 +90,7 @@ promised_by : {P A : Type 0} {ghosts : Ghosts P} (own : ClientRecord) (f : Parts
 promised_by own f reply w old new own' h =
     let made : Handled = record { own = own'; reply = reply; answer = h.answer; accepted = h.accepted } in
     promised h.choice h.answer h.accepted h.steps w.store h.now
-    (λ kept e. unsaid kept (events_of w) (server_on own.link f).0 own.session (server_on own.link f).1 made (subst (λ (c : Choice). Handles c (events_of w) own f made) e h.handles))
+    (λ kept wanted e. unsaid kept wanted (events_of w) (server_on own.link f).0 own.session (server_on own.link f).1 made (subst (λ (c : Choice). Handles c (events_of w) own f made) e h.handles))
     h.stored h.goes.run
 
 -- each client's record, where one of them changed

@@ -251,7 +251,7 @@ failed kept E request s (action_block invoke last number raw) events o e = quiet
 
 moved_by : (choice : Chosen) (E : List Event) (s : SessionValue) (bytes : List ℕ) (o : Outcome) → Does choice E s bytes o → Moved E (request_at bytes) s o
 moved_by (Served memory) E s bytes o h = associated_or (begins_with 0x60 bytes) memory E s bytes o h
-moved_by (DeviceFails kept) E s bytes o (form, at, would, leads, success, e) = failed kept E (request_at bytes) s form would.accepted o e
+moved_by (DeviceFails kept wanted) E s bytes o ((form, at, would, leads, success, e), wants) = failed kept E (request_at bytes) s form would.accepted o e
 
 moved : (x : Exchange) (s : SessionValue) → Does x.choice x.before s x.apdu x.outcome → Moved x.before (request_at x.apdu) s x.outcome
 moved x s does = moved_by x.choice x.before s x.apdu x.outcome does

@@ -13,3 +13,5 @@ pub mod InTurn
 pub mod OneOutcome
 pub mod Given
 pub mod OwnRecords
+pub mod BillingLaw
+pub mod HealthLaw

@@ -16,7 +16,7 @@ opened (Runs s p) now found next = absurd next
 opened (InDoubt s p) now found next = next.1
 opened (Rests events) now found next = next.1
 
-ends_opened : (steps : List StoreStep) (before now : StoreWorld) (found : List Event) → StoreRun before (steps ++ Opens found ∷ []) now → now ≡ Runs found []
+pub ends_opened : (steps : List StoreStep) (before now : StoreWorld) (found : List Event) → StoreRun before (steps ++ Opens found ∷ []) now → now ≡ Runs found []
 ends_opened [] before now found (mid, next, same) = same ∙ opened before mid found next
 ends_opened (step ∷ steps) before now found (mid, next, run) = ends_opened steps mid now found run
 
@@ -29,7 +29,7 @@ leg_run w leg is =
     subst (λ (xs : List StoreStep). StoreRun w.store xs is.now)
     (sym (append_assoc front (leg.cut ++ leg.quiet) end) ∙ ap (λ (xs : List StoreStep). xs ++ end) (sym (append_assoc front leg.cut leg.quiet))) all
 
-leg_found : (w : MeterWorld) (leg : Leg) (is : IsLeg w leg) → is.now ≡ (recovered leg.found).store
+pub leg_found : (w : MeterWorld) (leg : Leg) (is : IsLeg w leg) → is.now ≡ (recovered leg.found).store
 leg_found w leg is = ends_opened (before_recovery w leg is) w.store is.now leg.found (leg_run w leg is)
 
 life_run : (w w' : MeterWorld) (legs : List Leg) (lives : Lives w legs w') → StoreRun w.store (life_steps w legs w' lives) w'.store

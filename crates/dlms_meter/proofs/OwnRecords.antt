@@ -15,7 +15,7 @@ use Rattle.dlms_meter.specs.Independence.{OwnTurn, Alone, own_in_run}
 use Rattle.dlms_meter.specs.Lives.{Leg, Lives}
 use Rattle.dlms_meter.specs.Own.{AreOwn, StayOwn, AreOwnInLives}
 use Rattle.dlms_meter.specs.Run.{Choice, Served, DeviceFails, ByLink, Handled, Handles, Answered, MeterWorld, Stands, first_world, recovered}
-use Rattle.dlms_meter.specs.Steps.{Call, Calls, Step, Run, step_of}
+use Rattle.dlms_meter.specs.Steps.{Call, Calls, Run, step_of}
 use Rattle.dlms_meter.specs.declared.meter.Meter.{Meter}
 use Rattle.dlms_meter.proofs.Apart.{on_its_own}
 use Rattle.dlms_meter.proofs.StepLemmas.{runs}
@@ -34,7 +34,7 @@ row_keeps r f Ignores = refl
 
 by_link : {A : Type 0} {x y : A} (choice : Choice) → ByLink choice (x ≡ y) → x ≡ y
 by_link (Served memory) is = is
-by_link (DeviceFails kept) is = absurd is
+by_link (DeviceFails kept wanted) is = absurd is
 
 -- what is made of what the link gives keeps it too
 answered_keeps : (choice : Choice) (E : List Event) (r : ServerRecord) (s : SessionValue) (out : LinkOut) (h : Handled) → Answered choice E r s out h → h.own.link.client ≡ r.client

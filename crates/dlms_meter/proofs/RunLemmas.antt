@@ -1,6 +1,6 @@
 -- How the calls of a meter make a run.
 use Rattle.std.specs.Prelude.{IfSome}
-use Rattle.std.proofs.Common.{arith, refl, sym, ap, subst, append-nil, ◌∙◌, ◌≡◌, ◌≤◌, ◌<◌, ℕ, Bool, true, false, List, [], ◌++◌, length}
+use Rattle.std.proofs.Common.{arith, refl, sym, ap, subst, append-nil, ◌∙◌, ◌≡◌, ◌≤◌, ◌<◌, ℕ, Bool, true, false, List, [], ◌++◌, length, if◌then◌else◌}
 use Rattle.std.specs.Prelude.{Some}
 use Rattle.dlms_frame.specs.Frame.{Parts, spelling}
 use Rattle.dlms_frame.specs.Stream.{FrameAt, Fits}
@@ -10,8 +10,10 @@ use Rattle.dlms_link.specs.declared.out.LinkOut.{LinkOut}
 use Rattle.dlms_link.specs.declared.out.LinkOut.TheVariants.{Apdu}
 use Rattle.dlms_pages.specs.Device.{Rules}
 use Rattle.dlms_pages.specs.declared.device.Pages.{Ghosts}
-use Rattle.dlms_service.specs.Session.{Outcome}
+use Rattle.dlms_service.specs.Session.{Outcome, SessionValue}
 use Rattle.dlms_service.specs.Serves.{FindsMemory}
+use Rattle.dlms_service.specs.Stake.{Fails, failing}
+use Rattle.dlms_service.specs.declared.stake.Stake.{Stake}
 use Rattle.dlms_state.specs.declared.event.Event.{Event}
 use Rattle.dlms_state.specs.StateValue.{StateValue, IsStateOf}
 use Rattle.dlms_store.specs.Store.{Remembers}
@@ -21,7 +23,7 @@ use Rattle.dlms_store.specs.Going.{Knows, Goes}
 use Rattle.dlms_store.specs.declared.store.Store.{Store}
 use Rattle.dlms_store.proofs.Going.{none}
 use Rattle.dlms_meter.specs.ClientRecord.{ClientRecord}
-use Rattle.dlms_meter.specs.Run.{Choice, Served, Does, Handled, Answered, sends, IsSettling, StoredFor, Stored, HasNoFrame, Handling, MayChoose, events_in}
+use Rattle.dlms_meter.specs.Run.{Choice, Served, DeviceFails, Does, Handled, Answered, sends, IsSettling, StoredFor, Stored, HasNoFrame, Handling, MayChoose, events_in}
 
 -- what is kept awaits every frame: none has ended
 pub none_ended : (kept stretch : List ℕ) (place : ℕ) → Fits kept stretch place → HasNoFrame stretch place
@@ -96,3 +98,9 @@ uncalled b accepted is nothing = subst (λ (x : Bool). StoredFor x accepted []) 
 
 pub settling : (b : Bool) (accepted : List Event) (steps : List StoreStep) → b ≡ true → IsSettling accepted steps → StoredFor b accepted steps
 settling b accepted steps is settles = subst (λ (x : Bool). StoredFor x accepted steps) (sym is) settles
+
+-- the event that is accepted where the device failed behind it is the one that the answer would have had
+pub wants : (kept : Bool) (E : List Event) (s own : SessionValue) (apdu : List ℕ) (stake : Stake) (events : List Event) → Fails true E s apdu (failing true own stake events)
+    → Does (DeviceFails kept events) E s apdu (failing kept own stake events)
+wants kept E s own apdu stake events (form, read, would, leads, success, same) =
+    ((form, read, would, leads, success, ap (λ (x : Outcome). record x { accepted = if kept then x.accepted else [] }) same), sym (ap (λ (x : Outcome). x.accepted) same))

@@ -15,7 +15,7 @@ pub runs_on : (first second : List StoreStep) (before mid now : StoreWorld) → 
 runs_on [] second before mid now same run = subst (λ (x : StoreWorld). StoreRun x second now) same run
 runs_on (step ∷ first) second before mid now (between, next, rest) run = (between, next, runs_on first second between mid now rest run)
 
-turns_run : (w : MeterWorld) (turns : List Turn) (replies : List (List ℕ)) (w' : MeterWorld) → Answers w turns replies w' → StoreRun w.store (steps_of turns) w'.store
+pub turns_run : (w : MeterWorld) (turns : List Turn) (replies : List (List ℕ)) (w' : MeterWorld) → Answers w turns replies w' → StoreRun w.store (steps_of turns) w'.store
 turns_run w [] replies w' (free, none, same) = ap (λ (x : MeterWorld). x.store) same
 turns_run w (turn ∷ turns) replies w' (is_turn, rest, is, answers) = runs_on turn.steps (steps_of turns) w.store turn.store w'.store is_turn.run (turns_run (after_turn w turn) turns rest w' answers)
 
@@ -31,7 +31,7 @@ refused_while (Rests events) (inr at) = absurd at
 refused : (w w' : MeterWorld) (step : StoreStep) → IsRunningIn w.store ⊎ IsStoppedIn w.store → step ≡ Refuses → w' ≡ w → StoreRun w.store (step ∷ []) w'.store
 refused w w' step at is same = (w.store, subst (λ (x : StoreStep). Next w.store x w.store) (sym is) (refused_while w.store at), ap (λ (x : MeterWorld). x.store) same)
 
-judged_run : (w : MeterWorld) (event : Event) (outcome : Result (Unit {0}) AddFault) (step : StoreStep) (w' : MeterWorld) → Judged w event outcome step w' → StoreRun w.store (step ∷ []) w'.store
+pub judged_run : (w : MeterWorld) (event : Event) (outcome : Result (Unit {0}) AddFault) (step : StoreStep) (w' : MeterWorld) → Judged w event outcome step w' → StoreRun w.store (step ∷ []) w'.store
 judged_run w event (Ok done) step w' (free, is_add, now, next, same) = one_step w w' step now next same
 judged_run w event (Err add.Device) step w' (free, is, now, next, same) = one_step w w' step now (subst (λ (x : StoreStep). Next w.store x now) (sym is) next) same
 judged_run w event (Err add.Stopped) step w' (at, is, same) = refused w w' step (inr at) is same

@@ -8,3 +8,5 @@ pub mod Storing
 pub mod Alike
 pub mod Lives
 pub mod Own
+pub mod Billing
+pub mod Healthy

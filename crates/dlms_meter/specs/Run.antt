@@ -59,15 +59,15 @@ events_of w = events_in w.store
 -- ---- one frame of a client
 
 -- What no list of events determines: whether memory is found; and whether, where the answer would say success or carry data,
--- the device fails instead, the event of that answer then being accepted or not.
+-- the device fails instead, the event that this answer would have had (if any) then being accepted or not.
 pub data Choice : Type 0 where
   Served : (memory : Memory) → Choice
-  DeviceFails : (kept : Bool) → Choice
+  DeviceFails : (kept : Bool) (wanted : List Event) → Choice
 
 -- what an APDU leads to
 abbrev pub Does : Choice → List Event → SessionValue → List ℕ → Outcome → Type 0
 Does (Served memory) E s apdu o = Serves memory E s apdu o
-Does (DeviceFails kept) E s apdu o = Fails kept E s apdu o
+Does (DeviceFails kept wanted) E s apdu o = (fails : Fails kept E s apdu o) × (fails.2.accepted ≡ wanted)
 
 -- What a frame leads to: its client's record, the bytes of the frame that answers it, the APDU of which that frame is the
 -- first, if it is (a further segment and a repeated frame are not), and the event that is accepted, if any.
@@ -88,7 +88,7 @@ sends r o = record { own = record { link = (server_send r o.answer).0; session =
 -- what the link alone does calls no device
 abbrev pub ByLink : Choice → Type 0 → Type 0
 ByLink (Served memory) made = made
-ByLink (DeviceFails kept) made = ⊥
+ByLink (DeviceFails kept wanted) made = ⊥
 
 -- What is made of what the link gives. A link that comes up or goes down drops the association and the transfers; an APDU
 -- is served; one that is too long, or does not begin with the LLC, is not.
@@ -168,7 +168,7 @@ StoredFor false accepted steps = IsUncalled accepted steps
 abbrev pub Stored : Choice → Option (List ℕ) → List Event → List StoreStep → Type 0
 Stored choice None accepted steps = IsUncalled accepted steps
 Stored (Served memory) (Some answer) accepted steps = StoredFor (is_success answer) accepted steps
-Stored (DeviceFails kept) (Some answer) accepted steps = IsUnsettling accepted steps
+Stored (DeviceFails kept wanted) (Some answer) accepted steps = IsUnsettling accepted steps
 
 -- the next frame of the stretch is this turn's; an answer has at most the bytes that a link takes
 pub record IsTurn (w : MeterWorld) (turn : Turn) : Type 0 where
@@ -272,19 +272,20 @@ pub record Stands {P A : Type 0} {ghosts : Ghosts P} (m : Meter P A ghosts) (w :
   pub own : (who : Client) → w.records who ≡ record_for m who
   pub store : Knows m.store w.store
 
--- no number of 64 bits is left for the event's row, or no checkpoint that it asks for can be made any more
-abbrev pub TakesNoMore : {P A : Type 0} → {ghosts : Ghosts P} → Store P A ghosts → Type 0
-TakesNoMore store = (event : Event) × AddIsExhausted store event
+-- this event is not taken: no number of 64 bits is left for its row, or no checkpoint that it asks for can be made any more
+abbrev pub TakesNoMore : {P A : Type 0} → {ghosts : Ghosts P} → List Event → Store P A ghosts → Type 0
+TakesNoMore wanted store = (event : Event) × (wanted ≡ event ∷ []) × AddIsExhausted store event
 
--- Why the device may fail an answer: its faults rose in these calls, or the store was stopped before them, or it is exhausted:
--- something is still pending that only a checkpoint could settle, and none can be made any more, or it takes an event no more.
-abbrev pub MayFail : {P A : Type 0} → {ghosts : Ghosts P} → Store P A ghosts → Store P A ghosts → Type 0
-MayFail old new = Rose (view_of old).faults (view_of new).faults ⊎ IsStopped old ⊎ CommitIsExhausted new ⊎ TakesNoMore new
+-- Why the device may fail an answer with this event, or with none: its faults rose in these calls, or the store was stopped before
+-- them, or it is exhausted: something is still pending that only a checkpoint could settle, and none can be made any more, or it
+-- does not take this event any more.
+abbrev pub MayFail : {P A : Type 0} → {ghosts : Ghosts P} → List Event → Store P A ghosts → Store P A ghosts → Type 0
+MayFail wanted old new = Rose (view_of old).faults (view_of new).faults ⊎ IsStopped old ⊎ CommitIsExhausted new ⊎ TakesNoMore wanted new
 
 -- Want of memory may always be told; a failure of the device only for its cause.
 abbrev pub MayChoose : {P A : Type 0} → {ghosts : Ghosts P} → Store P A ghosts → Store P A ghosts → Choice → Type 0
 MayChoose old new (Served memory) = Unit {0}
-MayChoose old new (DeviceFails kept) = MayFail old new
+MayChoose old new (DeviceFails kept wanted) = MayFail wanted old new
 
 -- what a frame of a client led to, in its record and in the store
 pub record Handling {P A : Type 0} {ghosts : Ghosts P} (own : ClientRecord) (frame : Parts) (reply : Option (List ℕ)) (own' : ClientRecord) (before : StoreWorld) (old new : Store P A ghosts) : Type 0 where

@@ -12,4 +12,4 @@ use Rattle.dlms_meter.specs.Run.{IsSettling, IsUnsettling, MayFail}
 abbrev pub Settled : {P A : Type 0} → {ghosts : Ghosts P} → Result (Unit {0}) AddFault → StoreWorld → List Event → Store P A ghosts → Store P A ghosts → Type 0
 Settled (Ok done) before events old new = (steps : List StoreStep) × (now : StoreWorld) × IsSettling events steps × Goes before steps now old new
 Settled (Err fault) before events old new =
-    (kept : Bool) × (steps : List StoreStep) × (now : StoreWorld) × IsUnsettling (if kept then events else []) steps × Goes before steps now old new × MayFail old new
+    (kept : Bool) × (steps : List StoreStep) × (now : StoreWorld) × IsUnsettling (if kept then events else []) steps × Goes before steps now old new × MayFail events old new

@@ -7,6 +7,8 @@ ghost use Rattle.dlms_meter.specs.Run.{MeterWorld, Stands, Comes, FoundMemory, f
 ghost use Rattle.dlms_meter.specs.Alike.{IsAlike};
 ghost use Rattle.dlms_meter.specs.Steps.{Step, Call, Calls, Run, step_of};
 ghost use Rattle.dlms_meter.specs.Independence.{IsAlone, IsIndependent};
+ghost use Rattle.dlms_meter.specs.Billing.{NothingIsTakenBack};
+ghost use Rattle.dlms_meter.specs.Healthy.{HealthyCallsGoWell};
 ghost use Rattle.dlms_meter.specs.Lives.{RecoversInLives, NoFurtherStopInLives};
 ghost use Rattle.dlms_meter.specs.Own.{AreOwn, AreOwnInLives, StayOwn};
 ghost use Rattle.dlms_meter.specs.Storing.{store_steps, RecoversInRuns};
@@ -21,6 +23,16 @@ use std::alloc::Allocator;
 pub fn calls_are_a_run<P: Pages, A: Allocator + Copy>(_old: &Meter<P, A>, _new: &Meter<P, A>)
     ensures { (calls : List Call) (w : MeterWorld) → Calls _old.now calls _new.now → Stands _old.now w
         → (w' : MeterWorld) × Run w (map step_of calls) w' × Stands _new.now w' }
+{}
+
+/// Where each call met no fault of the device, the store was not stopped before it, and no checkpoint was wanting, the calls are a
+/// run in which no frame is answered with result 1 for the device, and no event meets a fault: such a run has one outcome where
+/// memory is found (`one_outcome`).
+pub fn healthy_calls_are_served<P: Pages, A: Allocator + Copy>(
+    _old: &Meter<P, A>,
+    _new: &Meter<P, A>,
+)
+    ensures { HealthyCallsGoWell _old.now _new.now }
 {}
 
 /// What a meter keeps of each client is that client's own, at first and behind a recovery, and no run makes it another's: so it is
@@ -70,6 +82,12 @@ pub fn recovers_in_runs()
 /// So it is over stops and recoveries, wherever the power stopped: in a call, in a recovery or between them.
 pub fn recovers_in_lives()
     ensures { RecoversInLives }
+{}
+
+/// What was answered is never taken back: behind an answer of success, or with data, in any run of a meter, every later recovery
+/// finds all events that were accepted before that answer, wherever the power stopped: in a call, in a recovery or between them.
+pub fn nothing_is_taken_back()
+    ensures { NothingIsTakenBack }
 {}
 
 /// The first stop fixes what every later recovery finds.

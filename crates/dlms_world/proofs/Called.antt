@@ -1,5 +1,5 @@
 -- The calls of a poller are steps of the world.
-use Rattle.std.proofs.Common.{◌≡◌, ◌≢◌, inl, inr, ℕ, ◌+◌, Bool, true, false, List, [], ◌∷◌, ◌++◌, Option, None, Some, Result, Ok, Err, refl, sym, subst, ap, ◌∙◌, nat_lt}
+use Rattle.std.proofs.Common.{◌≡◌, ◌≢◌, inl, inr, ℕ, ◌+◌, Bool, true, false, List, [], ◌∷◌, ◌++◌, Option, None, Some, Result, Ok, Err, refl, sym, subst, ap, ◌∙◌, nat_lt, append-nil}
 use Rattle.std.specs.Prelude.{IsSome}
 use Rattle.dlms_blocks.specs.Joining.{Joining}
 use Rattle.dlms_frame.specs.Frame.{Parts}
@@ -20,15 +20,15 @@ use Rattle.dlms_headend.specs.declared.stage.Stage.TheVariants.{Associating, Nam
 use Rattle.dlms_headend.specs.declared.step.PollStep.{PollStep}
 use Rattle.dlms_headend.specs.declared.step.PollStep.TheVariants as step
 use Rattle.dlms_headend.proofs.Told.{stage_told}
-use Rattle.dlms_link.specs.Client.{ClientRecord, IsIdle, client_step, client_send, client_connect, client_disconnect, client_timeout, by_count}
-use Rattle.dlms_link.specs.World.{LinkWorld as Link, happens, Connect, Give, Disconnect, ReachesClient, TimesOut as LineTimesOut, connects, gives as link_gives, disconnects, client_does, reaches_client, times_out, timed_out}
+use Rattle.dlms_link.specs.Client.{ClientRecord, IsIdle, client_step, client_send, client_connect, client_disconnect, client_timeout, by_count, disc_of, snrm_of}
+use Rattle.dlms_link.specs.World.{LinkWorld as Link, happens, Connect, Give, Disconnect, ReachesClient, TimesOut as LineTimesOut, connects, gives as link_gives, disconnects, client_does, reaches_client, resent, times_out, timed_out}
 use Rattle.dlms_link.specs.declared.out.ClientOut.{ClientOut}
 use Rattle.dlms_link.specs.declared.out.ClientOut.TheVariants as out
 use Rattle.dlms_link.specs.declared.phase.Phase.{Phase}
 use Rattle.dlms_link.specs.declared.phase.Phase.TheVariants.{Closed, Connecting, Open}
 use Rattle.dlms_world.specs.World.{World}
 use Rattle.dlms_world.specs.Turn.{Begins as BeginsTurn, GoesOn, AsksNext, Leaves, Ends, FailsAt, TimedOut, GivesUp, reached, gives, IsFree, IsOnItsOwn, Fails}
-use Rattle.dlms_world.specs.Calls.{IsPollerOf, IsUnderWay, taken_by, TurnsInto, NewIsFirst, NextIsTurn, OnIsTurn, TimeoutIsTurn}
+use Rattle.dlms_world.specs.Calls.{IsPollerOf, IsUnderWay, taken_by, IsAsideSame, TurnsInto, sent_first, sent_on, sent_again, NewIsFirst, NextIsTurn, OnIsTurn, TimeoutIsTurn}
 use Rattle.dlms_world.proofs.Standing.{Stands, client_stands}
 
 -- ---- a poller and its world
@@ -97,9 +97,22 @@ record Frame_at (w : World) (frame : Parts) (rest : List Parts) (old : PollerVal
   runs : w.course ≡ Running
   line : w.link.down_line ≡ frame ∷ rest
 
+-- the line behind that frame, and the meter's end
+record Behind (w : World) (rest : List Parts) (sent : List Parts) : Type 0 where
+  going : (reached w).up_line ≡ w.link.up_line ++ sent
+  coming : (reached w).down_line ≡ rest
+  meter : (reached w).meter ≡ w.link.meter
+
+aside : (w now : World) → now.plan.client ≡ w.plan.client → now.link.meter ≡ w.link.meter → now.session ≡ w.session → now.others ≡ w.others → now.memory ≡ w.memory → now.file ≡ w.file → IsAsideSame w now
+aside w now client meter session others memory file = record { client = client; meter = meter; session = session; others = others; memory = memory; file = file }
+
+-- a frame more goes out
+one_more : (w : World) (rest : List Parts) (frame : Parts) → Behind w rest [] → (reached w).up_line ++ frame ∷ [] ≡ w.link.up_line ++ frame ∷ []
+one_more w rest frame behind = ap (λ (l : List Parts). l ++ frame ∷ []) (behind.going ∙ append-nil w.link.up_line)
+
 sends_by : (w : World) (frame : Parts) (rest : List Parts) (old new : PollerValue) (c : ClientRecord) (taken : List (List ℕ)) (f : Parts) → Frame_at w frame rest old → IsFree (gives w frame)
-    → (reached w).client ≡ c → (reached w).taken ≡ taken → IsIdle c → new.plan ≡ old.plan → new.course ≡ Running → FitsIn Running new taken → Goes old.plan taken c f new.link → TurnsInto w new
-sends_by w frame rest old new c taken f at free ec et idle keeps runs fits (asks apdu a g) =
+    → (reached w).client ≡ c → (reached w).taken ≡ taken → IsIdle c → new.plan ≡ old.plan → new.course ≡ Running → FitsIn Running new taken → Behind w rest [] → Goes old.plan taken c f new.link → TurnsInto w (f ∷ []) rest new
+sends_by w frame rest old new c taken f at free ec et idle keeps runs fits behind (asks apdu a g) =
     let there : IsIdle (reached w).client = subst IsIdle (sym ec) idle in
     let asked : Asks w.plan (reached w).taken apdu = subst (λ l. Asks w.plan l apdu) (sym et) (subst (λ (pl : PlanValue). Asks pl taken apdu) at.polls.plan a) in
     let is : happens (reached w) (Give apdu g.0) ≡ link_gives (reached w) apdu Open None = given (reached w) apdu there in (
@@ -108,8 +121,12 @@ sends_by w frame rest old new c taken f at free ec et idle keeps runs fits (asks
       running_poller (record w { link = happens (reached w) (Give apdu g.0) }) new (keeps ∙ at.polls.plan) runs at.runs
           (g.2 ∙ ap (λ (x : ClientRecord). (client_send x apdu).0) (sym ec) ∙ sym (ap (λ (l : Link). l.client) is))
           (subst (λ l. FitsIn Running new l) (sym et ∙ sym (ap (λ (l : Link). l.taken) is)) fits),
+      ap (λ (l : Link). l.up_line) is ∙ one_more w rest (client_send (reached w).client apdu).1 behind ∙ ap (λ (x : ClientRecord). w.link.up_line ++ (client_send x apdu).1 ∷ []) ec
+          ∙ ap (λ (x : Parts). w.link.up_line ++ x ∷ []) (sym g.1),
+      ap (λ (l : Link). l.down_line) is ∙ behind.coming,
+      aside w (record w { link = happens (reached w) (Give apdu g.0) }) refl (ap (λ (l : Link). l.meter) is ∙ behind.meter) refl refl refl refl,
     )
-sends_by w frame rest old new c taken f at free ec et idle keeps runs fits (leaves rows h fe le) =
+sends_by w frame rest old new c taken f at free ec et idle keeps runs fits behind (leaves rows h fe le) =
     let there : IsIdle (reached w).client = subst IsIdle (sym ec) idle in
     let is : happens (reached w) Disconnect ≡ disconnects (reached w) Open None = left (reached w) there in (
       record w { link = happens (reached w) Disconnect },
@@ -117,19 +134,26 @@ sends_by w frame rest old new c taken f at free ec et idle keeps runs fits (leav
       running_poller (record w { link = happens (reached w) Disconnect }) new (keeps ∙ at.polls.plan) runs at.runs
           (le ∙ ap client_disconnect (sym ec) ∙ sym (ap (λ (l : Link). l.client) is))
           (subst (λ l. FitsIn Running new l) (sym et ∙ sym (ap (λ (l : Link). l.taken) is)) fits),
+      ap (λ (l : Link). l.up_line) is ∙ one_more w rest (disc_of (reached w).client) behind ∙ ap (λ (x : ClientRecord). w.link.up_line ++ disc_of x ∷ []) ec
+          ∙ ap (λ (x : Parts). w.link.up_line ++ x ∷ []) (sym fe),
+      ap (λ (l : Link). l.down_line) is ∙ behind.coming,
+      aside w (record w { link = happens (reached w) Disconnect }) refl (ap (λ (l : Link). l.meter) is ∙ behind.meter) refl refl refl refl,
     )
 
 sends : (w : World) (frame : Parts) (rest : List Parts) (old new : PollerValue) (c : ClientRecord) (taken : List (List ℕ)) (f : Parts) → Frame_at w frame rest old → IsFree (gives w frame)
-    → (reached w).client ≡ c → (reached w).taken ≡ taken → IsIdle c → SendsOn old.plan taken c f new → TurnsInto w new
-sends w frame rest old new c taken f at free ec et idle s =
-    sends_by w frame rest old new c taken f at free ec et idle s.keeps s.runs (subst (λ (x : Course). FitsIn x new taken) s.runs s.fits) s.goes
+    → (reached w).client ≡ c → (reached w).taken ≡ taken → IsIdle c → Behind w rest [] → SendsOn old.plan taken c f new → TurnsInto w (f ∷ []) rest new
+sends w frame rest old new c taken f at free ec et idle behind s =
+    sends_by w frame rest old new c taken f at free ec et idle s.keeps s.runs (subst (λ (x : Course). FitsIn x new taken) s.runs s.fits) behind s.goes
 
 -- the poll fails
-fails : (w : World) (frame : Parts) (rest : List Parts) (old new : PollerValue) (fault : PollFault) → Frame_at w frame rest old → Fails w.plan.columns w.link.taken (reached w) fault (gives w frame) → new.plan ≡ old.plan → new.course ≡ Failed fault → TurnsInto w new
-fails w frame rest old new fault at why plan course = (
+fails : (w : World) (frame : Parts) (rest : List Parts) (old new : PollerValue) (fault : PollFault) → Frame_at w frame rest old → Fails w.plan.columns w.link.taken (reached w) fault (gives w frame) → Behind w rest [] → new.plan ≡ old.plan → new.course ≡ Failed fault → TurnsInto w [] rest new
+fails w frame rest old new fault at why behind plan course = (
   record w { link = reached w; course = Failed fault },
   FailsAt w frame rest fault at.runs at.line why,
   failed_poller (record w { link = reached w; course = Failed fault }) new fault (plan ∙ at.polls.plan) course refl,
+  behind.going,
+  behind.coming,
+  aside w (record w { link = reached w; course = Failed fault }) refl behind.meter refl refl refl refl,
 )
 
 -- where the link comes up nothing was taken
@@ -145,23 +169,23 @@ wants_none : (columns : Columns) → WantsRequest columns [] → ⊥
 wants_none columns (taken, joined, has) = cc
 
 up : (w : World) (frame : Parts) (rest : List Parts) (result : Result PollStep PollFault) (old new : PollerValue) (c : ClientRecord) → Frame_at w frame rest old → IsFree (gives w frame)
-    → (reached w).client ≡ c → (reached w).taken ≡ w.link.taken → w.link.taken ≡ [] → IsIdle c → Continues (with_link old c) w.link.taken result new → TurnsInto w new
-up w frame rest (Ok step.Nothing) old new c at free ec et none idle k = absurd k
-up w frame rest (Ok (step.Send f)) old new c at free ec et none idle k = sends w frame rest old new c w.link.taken f at free ec et idle k
-up w frame rest (Ok step.Done) old new c at free ec et none idle k = absurd k
-up w frame rest (Err fault) old new c at free ec et none idle k = absurd (wants_none old.plan.columns (subst (WantsRequest old.plan.columns) none k.1))
+    → (reached w).client ≡ c → (reached w).taken ≡ w.link.taken → w.link.taken ≡ [] → IsIdle c → Behind w rest [] → Continues (with_link old c) w.link.taken result new → TurnsInto w (sent_on result) rest new
+up w frame rest (Ok step.Nothing) old new c at free ec et none idle behind k = absurd k
+up w frame rest (Ok (step.Send f)) old new c at free ec et none idle behind k = sends w frame rest old new c w.link.taken f at free ec et idle behind k
+up w frame rest (Ok step.Done) old new c at free ec et none idle behind k = absurd k
+up w frame rest (Err fault) old new c at free ec et none idle behind k = absurd (wants_none old.plan.columns (subst (WantsRequest old.plan.columns) none k.1))
 
 apdu_comes : (w : World) (frame : Parts) (rest : List Parts) (result : Result PollStep PollFault) (old new : PollerValue) (c : ClientRecord) → Frame_at w frame rest old → out.Apdu ≡ gives w frame
-    → (reached w).client ≡ c → (reached w).taken ≡ w.link.taken ++ c.apdu ∷ [] → IsIdle c → Answers (with_link old c) w.link.taken result new → TurnsInto w new
-apdu_comes w frame rest (Ok step.Nothing) old new c at is ec et idle k = absurd k
-apdu_comes w frame rest (Ok (step.Send f)) old new c at is ec et idle k = sends w frame rest old new c (w.link.taken ++ c.apdu ∷ []) f at (subst IsFree is tt) ec et idle k
-apdu_comes w frame rest (Ok step.Done) old new c at is ec et idle k = absurd k
-apdu_comes w frame rest (Err fault) old new c at is ec et idle (inl ends, failed) =
+    → (reached w).client ≡ c → (reached w).taken ≡ w.link.taken ++ c.apdu ∷ [] → IsIdle c → Behind w rest [] → Answers (with_link old c) w.link.taken result new → TurnsInto w (sent_on result) rest new
+apdu_comes w frame rest (Ok step.Nothing) old new c at is ec et idle behind k = absurd k
+apdu_comes w frame rest (Ok (step.Send f)) old new c at is ec et idle behind k = sends w frame rest old new c (w.link.taken ++ c.apdu ∷ []) f at (subst IsFree is tt) ec et idle behind k
+apdu_comes w frame rest (Ok step.Done) old new c at is ec et idle behind k = absurd k
+apdu_comes w frame rest (Err fault) old new c at is ec et idle behind (inl ends, failed) =
     let here : EndsBy w.plan.columns w.link.taken c.apdu fault = subst (λ (pl : PlanValue). EndsBy pl.columns w.link.taken c.apdu fault) at.polls.plan ends in
-    fails w frame rest old new fault at (subst (Fails w.plan.columns w.link.taken (reached w) fault) is (inl (subst (λ (x : ClientRecord). EndsBy w.plan.columns w.link.taken x.apdu fault) (sym ec) here))) failed.plan failed.course
-apdu_comes w frame rest (Err fault) old new c at is ec et idle (inr wants, failed) =
+    fails w frame rest old new fault at (subst (Fails w.plan.columns w.link.taken (reached w) fault) is (inl (subst (λ (x : ClientRecord). EndsBy w.plan.columns w.link.taken x.apdu fault) (sym ec) here))) behind failed.plan failed.course
+apdu_comes w frame rest (Err fault) old new c at is ec et idle behind (inr wants, failed) =
     let here : WantsRequest w.plan.columns (w.link.taken ++ c.apdu ∷ []) = subst (λ (pl : PlanValue). WantsRequest pl.columns (w.link.taken ++ c.apdu ∷ [])) at.polls.plan wants.1 in
-    fails w frame rest old new fault at (subst (Fails w.plan.columns w.link.taken (reached w) fault) is (inr (wants.0, subst (WantsRequest w.plan.columns) (sym et) here))) failed.plan failed.course
+    fails w frame rest old new fault at (subst (Fails w.plan.columns w.link.taken (reached w) fault) is (inr (wants.0, subst (WantsRequest w.plan.columns) (sym et) here))) behind failed.plan failed.course
 
 -- the link goes down
 not_leaving-a : Associating ≡ Leaving → ⊥
@@ -180,57 +204,74 @@ not_leaving-c : Checking ≡ Leaving → ⊥
 not_leaving-c e = cc
 
 down_early : (w : World) (frame : Parts) (rest : List Parts) (result : Result PollStep PollFault) (old new : PollerValue) (c : ClientRecord) → Frame_at w frame rest old → out.Down ≡ gives w frame
-    → ((rows : List Row) → HasReleased w.plan.columns w.link.taken rows → ⊥) → HasFailed (with_link old c) Protocol result new → TurnsInto w new
-down_early w frame rest result old new c at is none h = fails w frame rest old new Protocol at (subst (Fails w.plan.columns w.link.taken (reached w) Protocol) is (refl, none)) (ap (λ (p : PollerValue). p.plan) h.after) (ap (λ (p : PollerValue). p.course) h.after)
+    → ((rows : List Row) → HasReleased w.plan.columns w.link.taken rows → ⊥) → Behind w rest [] → HasFailed (with_link old c) Protocol result new → TurnsInto w (sent_on result) rest new
+down_early w frame rest result old new c at is none behind h =
+    subst (λ (r : Result PollStep PollFault). TurnsInto w (sent_on r) rest new) (sym h.answer)
+    (fails w frame rest old new Protocol at (subst (Fails w.plan.columns w.link.taken (reached w) Protocol) is (refl, none)) behind (ap (λ (p : PollerValue). p.plan) h.after) (ap (λ (p : PollerValue). p.course) h.after))
 
 down : (w : World) (frame : Parts) (rest : List Parts) (result : Result PollStep PollFault) (old new : PollerValue) (c : ClientRecord) (stage : Stage) (blocks : Joining) → Frame_at w frame rest old → out.Down ≡ gives w frame
-    → (reached w).taken ≡ w.link.taken → FitsAt w.plan.columns stage blocks old.talk.rows w.link.taken → GoesDown stage (with_link old c) result new → TurnsInto w new
-down w frame rest result old new c Associating blocks at is et fits h =
-    down_early w frame rest result old new c at is (λ rows k. absurd (not_leaving-a (stage_told w.plan.columns Associating blocks old.talk.rows rows w.link.taken fits k).0)) h
-down w frame rest result old new c Naming blocks at is et fits h =
-    down_early w frame rest result old new c at is (λ rows k. absurd (not_leaving-n (stage_told w.plan.columns Naming blocks old.talk.rows rows w.link.taken fits k).0)) h
-down w frame rest result old new c Checking blocks at is et fits h =
-    down_early w frame rest result old new c at is (λ rows k. absurd (not_leaving-c (stage_told w.plan.columns Checking blocks old.talk.rows rows w.link.taken fits k).0)) h
-down w frame rest result old new c (Getting taken) blocks at is et fits h =
-    down_early w frame rest result old new c at is (λ rows k. absurd (not_leaving-g taken (stage_told w.plan.columns (Getting taken) blocks old.talk.rows rows w.link.taken fits k).0)) h
-down w frame rest result old new c Releasing blocks at is et fits h =
-    down_early w frame rest result old new c at is (λ rows k. absurd (not_leaving-r (stage_told w.plan.columns Releasing blocks old.talk.rows rows w.link.taken fits k).0)) h
-down w frame rest result old new c Leaving blocks at is et fits h =
+    → (reached w).taken ≡ w.link.taken → FitsAt w.plan.columns stage blocks old.talk.rows w.link.taken → Behind w rest [] → GoesDown stage (with_link old c) result new → TurnsInto w (sent_on result) rest new
+down w frame rest result old new c Associating blocks at is et fits behind h =
+    down_early w frame rest result old new c at is (λ rows k. absurd (not_leaving-a (stage_told w.plan.columns Associating blocks old.talk.rows rows w.link.taken fits k).0)) behind h
+down w frame rest result old new c Naming blocks at is et fits behind h =
+    down_early w frame rest result old new c at is (λ rows k. absurd (not_leaving-n (stage_told w.plan.columns Naming blocks old.talk.rows rows w.link.taken fits k).0)) behind h
+down w frame rest result old new c Checking blocks at is et fits behind h =
+    down_early w frame rest result old new c at is (λ rows k. absurd (not_leaving-c (stage_told w.plan.columns Checking blocks old.talk.rows rows w.link.taken fits k).0)) behind h
+down w frame rest result old new c (Getting taken) blocks at is et fits behind h =
+    down_early w frame rest result old new c at is (λ rows k. absurd (not_leaving-g taken (stage_told w.plan.columns (Getting taken) blocks old.talk.rows rows w.link.taken fits k).0)) behind h
+down w frame rest result old new c Releasing blocks at is et fits behind h =
+    down_early w frame rest result old new c at is (λ rows k. absurd (not_leaving-r (stage_told w.plan.columns Releasing blocks old.talk.rows rows w.link.taken fits k).0)) behind h
+down w frame rest result old new c Leaving blocks at is et fits behind h =
     let rows : new.talk.rows ≡ old.talk.rows = ap (λ (p : PollerValue). p.talk.rows) h.after in
-    let plan : new.plan ≡ w.plan = ap (λ (p : PollerValue). p.plan) h.after ∙ at.polls.plan in (
+    let plan : new.plan ≡ w.plan = ap (λ (p : PollerValue). p.plan) h.after ∙ at.polls.plan in
+    subst (λ (r : Result PollStep PollFault). TurnsInto w (sent_on r) rest new) (sym h.answer) (
       record w { link = reached w; course = Done; rows = old.talk.rows },
       Ends w frame rest old.talk.rows at.runs at.line (sym is) fits,
       done_poller (record w { link = reached w; course = Done; rows = old.talk.rows }) new plan (ap (λ (p : PollerValue). p.course) h.after) refl rows
           (subst (λ (pl : PlanValue). HasReleased pl.columns (reached w).taken new.talk.rows) (sym plan)
           (subst (λ l. HasReleased w.plan.columns l new.talk.rows) (sym et) (subst (HasReleased w.plan.columns w.link.taken) (sym rows) fits))),
+      behind.going,
+      behind.coming,
+      aside w (record w { link = reached w; course = Done; rows = old.talk.rows }) refl behind.meter refl refl refl refl,
     )
 
 -- whatever comes of the frame
 by_out : (w : World) (frame : Parts) (rest : List Parts) (result : Result PollStep PollFault) (old new : PollerValue) (c : ClientRecord) (o : ClientOut) → Frame_at w frame rest old
-    → o ≡ gives w frame → reached w ≡ after w.link c rest o → Stands w.link.client o c → PollsBy o c w.link.taken old result new → TurnsInto w new
-by_out w frame rest result old new c out.Nothing at is e stands k = (
-  record w { link = reached w },
-  GoesOn w frame rest at.runs at.line (subst IsOnItsOwn is tt),
-  running_poller (record w { link = reached w }) new (ap (λ (p : PollerValue). p.plan) k.1 ∙ at.polls.plan) (ap (λ (p : PollerValue). p.course) k.1 ∙ at.polls.course) at.runs
-      (ap (λ (p : PollerValue). p.link) k.1 ∙ at.polls.link ∙ sym stands ∙ sym (ap (λ (l : Link). l.client) e))
-      (subst (λ l. FitsIn Running new l) (sym (ap (λ (l : Link). l.taken) e)) (subst (λ (p : PollerValue). FitsIn Running p w.link.taken) (sym k.1) at.polls.fits)),
-)
+    → o ≡ gives w frame → reached w ≡ after w.link c rest o → Stands w.link.client o c → PollsBy o c w.link.taken old result new → TurnsInto w (sent_on result) rest new
+by_out w frame rest result old new c out.Nothing at is e stands k =
+    subst (λ (r : Result PollStep PollFault). TurnsInto w (sent_on r) rest new) (sym k.0) (
+      record w { link = reached w },
+      GoesOn w frame rest at.runs at.line (subst IsOnItsOwn is tt),
+      running_poller (record w { link = reached w }) new (ap (λ (p : PollerValue). p.plan) k.1 ∙ at.polls.plan) (ap (λ (p : PollerValue). p.course) k.1 ∙ at.polls.course) at.runs
+          (ap (λ (p : PollerValue). p.link) k.1 ∙ at.polls.link ∙ sym stands ∙ sym (ap (λ (l : Link). l.client) e))
+          (subst (λ l. FitsIn Running new l) (sym (ap (λ (l : Link). l.taken) e)) (subst (λ (p : PollerValue). FitsIn Running p w.link.taken) (sym k.1) at.polls.fits)),
+      ap (λ (l : Link). l.up_line) e ∙ sym (append-nil w.link.up_line),
+      ap (λ (l : Link). l.down_line) e,
+      aside w (record w { link = reached w }) refl (ap (λ (l : Link). l.meter) e) refl refl refl refl,
+    )
 by_out w frame rest result old new c (out.Send f) at is e stands k =
-    let course : new.course ≡ Running = ap (λ (p : PollerValue). p.course) k.1 ∙ at.polls.course in (
+    let course : new.course ≡ Running = ap (λ (p : PollerValue). p.course) k.1 ∙ at.polls.course in
+    subst (λ (r : Result PollStep PollFault). TurnsInto w (sent_on r) rest new) (sym k.0) (
       record w { link = reached w },
       GoesOn w frame rest at.runs at.line (subst IsOnItsOwn is tt),
       running_poller (record w { link = reached w }) new (ap (λ (p : PollerValue). p.plan) k.1 ∙ at.polls.plan) course at.runs
           (ap (λ (p : PollerValue). p.link) k.1 ∙ sym (ap (λ (l : Link). l.client) e))
           (subst (λ l. FitsIn Running new l) (sym (ap (λ (l : Link). l.taken) e)) (subst (λ (x : Course). FitsIn x new w.link.taken) course k.2)),
+      ap (λ (l : Link). l.up_line) e,
+      ap (λ (l : Link). l.down_line) e,
+      aside w (record w { link = reached w }) refl (ap (λ (l : Link). l.meter) e) refl refl refl refl,
     )
 by_out w frame rest result old new c out.Up at is e stands k =
     let none : w.link.taken ≡ [] = none_taken old.plan.columns old.talk.stage old.talk.blocks old.talk.rows w.link.taken old.link.phase at.polls.fits.0 at.polls.fits.1 (ap (λ (x : ClientRecord). x.phase) at.polls.link ∙ stands.0) in
-    up w frame rest result old new c at (subst IsFree is tt) (ap (λ (l : Link). l.client) e) (ap (λ (l : Link). l.taken) e) none stands.1 k
+    up w frame rest result old new c at (subst IsFree is tt) (ap (λ (l : Link). l.client) e) (ap (λ (l : Link). l.taken) e) none stands.1
+    (record { going = ap (λ (l : Link). l.up_line) e ∙ sym (append-nil w.link.up_line); coming = ap (λ (l : Link). l.down_line) e; meter = ap (λ (l : Link). l.meter) e }) k
 by_out w frame rest result old new c out.Apdu at is e stands k =
-    apdu_comes w frame rest result old new c at is (ap (λ (l : Link). l.client) e) (ap (λ (l : Link). l.taken) e) stands.1 k
+    apdu_comes w frame rest result old new c at is (ap (λ (l : Link). l.client) e) (ap (λ (l : Link). l.taken) e) stands.1
+    (record { going = ap (λ (l : Link). l.up_line) e ∙ sym (append-nil w.link.up_line); coming = ap (λ (l : Link). l.down_line) e; meter = ap (λ (l : Link). l.meter) e }) k
 by_out w frame rest result old new c out.Down at is e stands k =
     down w frame rest result old new c old.talk.stage old.talk.blocks at is (ap (λ (l : Link). l.taken) e)
-    (subst (λ (pl : PlanValue). FitsAt pl.columns old.talk.stage old.talk.blocks old.talk.rows w.link.taken) at.polls.plan at.polls.fits.0) k
+    (subst (λ (pl : PlanValue). FitsAt pl.columns old.talk.stage old.talk.blocks old.talk.rows w.link.taken) at.polls.plan at.polls.fits.0)
+    (record { going = ap (λ (l : Link). l.up_line) e ∙ sym (append-nil w.link.up_line); coming = ap (λ (l : Link). l.down_line) e; meter = ap (λ (l : Link). l.meter) e }) k
 
 pub on_is_turn : OnIsTurn
 on_is_turn w frame rest result old new is runs line polls =
@@ -258,12 +299,16 @@ next_is_turn w result old new is ready begins =
     let here : BeginsIn Ready old result new = subst (λ (c : Course). BeginsIn c old result new) course begins in
     let joins : happens w.link Connect ≡ connects w.link Closed = ap (λ ph. connects w.link ph) (fresh_closed w old fits link) in
     let talk : new.talk ≡ fresh_talk = ap (λ (p : PollerValue). p.talk) here.1 ∙ fits.1 in
-    let phase : new.link.phase ≡ Connecting = ap (λ (p : PollerValue). p.link.phase) here.1 in (
+    let phase : new.link.phase ≡ Connecting = ap (λ (p : PollerValue). p.link.phase) here.1 in
+    subst (λ (r : Option Parts). TurnsInto w (sent_first r) w.link.down_line new) (sym here.0) (
       record w { link = happens w.link Connect; ours = false; served = []; course = Running },
       BeginsTurn w ready,
       running_poller (record w { link = happens w.link Connect; ours = false; served = []; course = Running }) new (ap (λ (p : PollerValue). p.plan) here.1 ∙ is.plan) (ap (λ (p : PollerValue). p.course) here.1) refl
           (ap (λ (p : PollerValue). p.link) here.1 ∙ ap client_connect link ∙ sym (ap (λ (l : Link). l.client) joins))
           (subst (λ l. FitsIn Running new l) (sym (ap (λ (l : Link). l.taken) joins)) (begun new talk phase)),
+      ap (λ (l : Link). l.up_line) joins ∙ ap (λ (c : ClientRecord). w.link.up_line ++ snrm_of c ∷ []) (sym link),
+      ap (λ (l : Link). l.down_line) joins,
+      aside w (record w { link = happens w.link Connect; ours = false; served = []; course = Running }) refl (ap (λ (l : Link). l.meter) joins) refl refl refl refl,
     )
 
 -- ---- a time-out
@@ -286,22 +331,29 @@ still_fits old new taken plan talk phase fits = (
 )
 
 late : (w : World) (result : Result Parts PollFault) (old new : PollerValue) (b : Bool) (v : Option Parts) → Polls_in w old → w.course ≡ Running → IsSome v → w.link.client.waits ≡ v
-    → happens w.link LineTimesOut ≡ timed_out w.link (by_count w.link.client b) → TimesOutBy (by_count w.link.client b) old result new → TurnsInto w new
-late w result old new true None p runs some waits e k = absurd (cc)
-late w result old new true (Some f) p runs some waits e k =
+    → happens w.link LineTimesOut ≡ timed_out w.link (by_count w.link.client b) → w.link.up_line ≡ [] → w.link.down_line ≡ [] → TimesOutBy (by_count w.link.client b) old result new → TurnsInto w (sent_again result) [] new
+late w result old new true None p runs some waits e going coming k = absurd (cc)
+late w result old new true (Some f) p runs some waits e going coming k =
     let c = w.link.client in
     let sent : TimesOutBy (record c { repeats = c.repeats + 1 }, Some f) old result new = subst (λ v. TimesOutBy (record c { repeats = c.repeats + 1 }, v) old result new) waits k in
-    let link : new.link ≡ (happens w.link LineTimesOut).client = ap (λ (x : PollerValue). x.link) sent.1 ∙ sym (ap (λ (l : Link). l.client) e) in (
+    let link : new.link ≡ (happens w.link LineTimesOut).client = ap (λ (x : PollerValue). x.link) sent.1 ∙ sym (ap (λ (l : Link). l.client) e) in
+    subst (λ (r : Result Parts PollFault). TurnsInto w (sent_again r) [] new) (sym sent.0) (
       record w { link = happens w.link LineTimesOut },
       TimedOut w runs (λ shut. open_phase old.talk.stage old.link.phase p.fits.1 (ap (λ (x : ClientRecord). x.phase) p.link ∙ sym (ap (λ (l : Link). l.client.phase) e) ∙ shut)),
       running_poller (record w { link = happens w.link LineTimesOut }) new (ap (λ (x : PollerValue). x.plan) sent.1 ∙ p.plan) (ap (λ (x : PollerValue). x.course) sent.1 ∙ p.course) runs link
           (subst (λ l. FitsIn Running new l) (sym (ap (λ (l : Link). l.taken) e)) (still_fits old new w.link.taken (ap (λ (x : PollerValue). x.plan) sent.1) (ap (λ (x : PollerValue). x.talk) sent.1)
           (ap (λ (x : PollerValue). x.link.phase) sent.1 ∙ sym (ap (λ (x : ClientRecord). x.phase) p.link)) p.fits)),
+      ap (λ (l : Link). l.up_line) e ∙ ap resent waits ∙ ap (λ (l : List Parts). l ++ f ∷ []) (sym going),
+      ap (λ (l : Link). l.down_line) e ∙ coming,
+      aside w (record w { link = happens w.link LineTimesOut }) refl (ap (λ (l : Link). l.meter) e) refl refl refl refl,
     )
-late w result old new false v p runs some waits e k = (
+late w result old new false v p runs some waits e going coming k = subst (λ (r : Result Parts PollFault). TurnsInto w (sent_again r) [] new) (sym k.answer) (
   record w { link = happens w.link LineTimesOut; course = Failed Line },
   GivesUp w Line runs (ap (λ (l : Link). l.client.phase) e),
   failed_poller (record w { link = happens w.link LineTimesOut; course = Failed Line }) new Line (ap (λ (x : PollerValue). x.plan) k.after ∙ p.plan) (ap (λ (x : PollerValue). x.course) k.after) refl,
+  ap (λ (l : Link). l.up_line) e ∙ sym going ∙ sym (append-nil w.link.up_line),
+  ap (λ (l : Link). l.down_line) e ∙ coming,
+  aside w (record w { link = happens w.link LineTimesOut; course = Failed Line }) refl (ap (λ (l : Link). l.meter) e) refl refl refl refl,
 )
 
 times_out_so : (link : Link) (f : Parts) → link.client.waits ≡ Some f → link.up_line ≡ [] → link.down_line ≡ [] → happens link LineTimesOut ≡ timed_out link (client_timeout link.client)
@@ -320,7 +372,7 @@ timeout_is_turn w result old new is runs can up down k =
     let waits : w.link.client.waits ≡ Some f.0 = sym (ap (λ (x : ClientRecord). x.waits) p.link) ∙ f.1 in
     let here : TimesOutBy (client_timeout old.link) old result new = subst (λ (c : Course). TimesOutIn c old result new) p.course k in
     let there : TimesOutBy (client_timeout w.link.client) old result new = subst (λ (x : ClientRecord). TimesOutBy (client_timeout x) old result new) p.link here in
-    late w result old new (nat_lt w.link.client.repeats 3) (Some f.0) p runs (subst IsSome f.1 some) waits (times_out_so w.link f.0 waits up down) there
+    late w result old new (nat_lt w.link.client.repeats 3) (Some f.0) p runs (subst IsSome f.1 some) waits (times_out_so w.link f.0 waits up down) up down there
 
 pub new_is_first : NewIsFirst
 new_is_first plan = record { plan = refl; course = refl; link = λ u. refl; rows = λ d. absurd (cc); fits = (refl, refl, refl) }

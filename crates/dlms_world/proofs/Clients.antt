@@ -127,12 +127,12 @@ fails_stay kept E s apdu o (form, read, would, leads, success, is) = by o (faili
 
 pub does_stay : (choice : Choice) (E : List Event) (s : SessionValue) (apdu : List ℕ) (o : Outcome) → Does choice E s apdu o → o.own.client ≡ s.client
 does_stay (Served memory) E s apdu o is = serves_stays memory E s apdu o is
-does_stay (DeviceFails kept) E s apdu o is = fails_stay kept E s apdu o is
+does_stay (DeviceFails kept wanted) E s apdu o is = fails_stay kept E s apdu o is.0
 
 -- what the link alone does
 pub by_link : (choice : Choice) (made : Type 0) → ByLink choice made → made
 by_link (Served memory) made is = is
-by_link (DeviceFails kept) made none = absurd none
+by_link (DeviceFails kept wanted) made none = absurd none
 
 pub answers_stay : (choice : Choice) (E : List Event) (r : ServerRecord) (s : SessionValue) (result : LinkOut) (o : Outcome) → Answers choice E r s result o → o.own.client ≡ s.client
 answers_stay choice E r s Apdu o is = does_stay choice E s r.apdu o is

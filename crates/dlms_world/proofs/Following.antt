@@ -83,7 +83,7 @@ module _ (E : List Event) (s : SessionValue) (k : ℕ) (o : Outcome) (given : Gi
 
   pub next_tells : (choice : Choice) → Does choice E s (next_bytes k) o → o ≡ goes_on s invoke k
   next_tells (Served memory) serves = next_within memory s.opened serves
-  next_tells (DeviceFails kept) (form, read, would, leads, success, is) =
+  next_tells (DeviceFails kept wanted) ((form, read, would, leads, success, is), wants) =
       absurd (no_data_in o.answer (get_block_result invoke k 1) (reads_written_responses (get_block_result invoke k 1) tt few) tt
       (failed_get kept s (get_next invoke k) form would.accepted (sym read ∙ reads_written_requests (get_next invoke k) tt few) o is) given)
 

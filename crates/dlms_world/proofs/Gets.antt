@@ -148,7 +148,7 @@ module _ (d : Descriptor) (part : Option Selection) (bytes : List ℕ) (reads : 
 
   gave_by : (choice : Choice) → Does choice E s bytes o → Gave d part E s o
   gave_by (Served memory) does = by_service memory does
-  gave_by (DeviceFails kept) (form, read, would, leads, success, is) =
+  gave_by (DeviceFails kept wanted) ((form, read, would, leads, success, is), wants) =
       absurd (no_data_in o.answer (get_result invoke 1) (read_result 1) tt (failed_get kept s (get_normal invoke d part) form would.accepted (sym read ∙ reads) o is) given)
 
 -- ---- the GET of the rows

@@ -104,7 +104,7 @@ linked who (Intruded w frame choice o memory between closed takes) l = record {
 linked who (OtherSends w other frame choice own reply answer accepted memory on differs of handles remembers) l = record { sound = l.sound; plan = l.plan; session = l.session }
 linked who (Happens w event memory on follows remembers) l = record { sound = l.sound; plan = l.plan; session = l.session }
 linked who (Works w memory on remembers) l = record { sound = l.sound; plan = l.plan; session = l.session }
-linked who (StopsInside w accepted mid memory on remembers stops) l = record { sound = link_keeps who Restarts (link_keeps who LostUp l.sound); plan = l.plan; session = l.session }
+linked who (StopsInside w accepted mid memory on remembers stops) l = record { sound = link_keeps who Restarts l.sound; plan = l.plan; session = l.session }
 linked who (Restarted w step memory unusual next) l = record { sound = link_keeps who Restarts l.sound; plan = l.plan; session = l.session }
 
 -- ---- where the poll stands
@@ -191,7 +191,7 @@ stands who (Intruded w frame choice o memory between closed takes) l s = same_st
 stands who (OtherSends w other frame choice own reply answer accepted memory on differs of handles remembers) l s = s
 stands who (Happens w event memory on follows remembers) l s = s
 stands who (Works w memory on remembers) l s = s
-stands who (StopsInside w accepted mid memory on remembers stops) l s = same_stands w.course w.plan w.link (happens (happens w.link LostUp) Restarts) (record { client = refl; asked = refl; taken = refl }) s
+stands who (StopsInside w accepted mid memory on remembers stops) l s = same_stands w.course w.plan w.link (happens w.link Restarts) (record { client = refl; asked = refl; taken = refl }) s
 stands who (Restarted w step memory unusual next) l s = same_stands w.course w.plan w.link (happens w.link Restarts) (record { client = refl; asked = refl; taken = refl }) s
 
 -- ---- what was served
@@ -266,7 +266,7 @@ chained who (OtherSends w other frame choice own reply answer accepted memory on
 chained who (Happens w event memory on follows remembers) l s c = c
 chained who (Works w memory on remembers) l s c = c
 chained who (StopsInside w accepted mid memory on remembers stops) l s c =
-    chain.broken who w.link (happens (happens w.link LostUp) Restarts) w.ours w.session (fresh w.session.client) w.served c refl refl (restarts_dead (happens w.link LostUp))
+    chain.broken who w.link (happens w.link Restarts) w.ours w.session (fresh w.session.client) w.served c refl refl (restarts_dead w.link)
 chained who (Restarted w step memory unusual next) l s c =
     chain.broken who w.link (happens w.link Restarts) w.ours w.session (fresh w.session.client) w.served c refl refl (restarts_dead w.link)
 

@@ -20,3 +20,7 @@ pub mod Lawful
 pub mod Beginning
 pub mod Called
 pub mod Tied
+pub mod Renewed
+pub mod Stopping
+pub mod LineFrames
+pub mod ProgramLaw

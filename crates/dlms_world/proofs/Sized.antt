@@ -88,5 +88,5 @@ failed_as_was s (stake.Action invoke) = refl
 
 pub association_sized : (choice : Choice) (E : List Event) (plan : PlanValue) (s : SessionValue) (o : Outcome) → HasSize s.opened → Does choice E s (association_bytes plan) o → HasSize o.own.opened
 association_sized (Served memory) E plan s o was does = by_service memory E plan s o does
-association_sized (DeviceFails kept) E plan s o was (form, read, would, leads, success, is) =
+association_sized (DeviceFails kept wanted) E plan s o was ((form, read, would, leads, success, is), wants) =
     subst HasSize (sym (ap (λ (x : Outcome). x.own.opened) is ∙ failed_as_was s (stake_of form))) was

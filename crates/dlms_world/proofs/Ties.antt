@@ -29,12 +29,12 @@ frames_handled (Served memory) E r s Nothing o is = ap (λ (x : Outcome). handle
 frames_handled (Served memory) E r s (Reply frame) o is = ap (λ (x : Outcome). handled r (Reply frame) x) is
 frames_handled (Served memory) E r s (Up frame) o is = ap (λ (x : Outcome). handled r (Up frame) x) is
 frames_handled (Served memory) E r s (Down frame) o is = ap (λ (x : Outcome). handled r (Down frame) x) is
-frames_handled (DeviceFails kept) E r s Oversize o none = absurd none
-frames_handled (DeviceFails kept) E r s BadLlc o none = absurd none
-frames_handled (DeviceFails kept) E r s Nothing o none = absurd none
-frames_handled (DeviceFails kept) E r s (Reply frame) o none = absurd none
-frames_handled (DeviceFails kept) E r s (Up frame) o none = absurd none
-frames_handled (DeviceFails kept) E r s (Down frame) o none = absurd none
+frames_handled (DeviceFails kept wanted) E r s Oversize o none = absurd none
+frames_handled (DeviceFails kept wanted) E r s BadLlc o none = absurd none
+frames_handled (DeviceFails kept wanted) E r s Nothing o none = absurd none
+frames_handled (DeviceFails kept wanted) E r s (Reply frame) o none = absurd none
+frames_handled (DeviceFails kept wanted) E r s (Up frame) o none = absurd none
+frames_handled (DeviceFails kept wanted) E r s (Down frame) o none = absurd none
 
 both : (a b : Bool) → b ≡ true → (a && b) ≡ a
 both true b e = e

@@ -1,15 +1,17 @@
 -- What the calls of a poller are in the world.
-use Rattle.std.specs.Prelude.{◌≡◌, ℕ, List, [], ◌∷◌, Option, Result}
+use Rattle.std.specs.Prelude.{◌≡◌, ℕ, List, [], ◌∷◌, ◌++◌, Option, None, Some, Result, Ok, Err}
 use Rattle.dlms_frame.specs.Frame.{Parts}
 use Rattle.dlms_headend.specs.Asking.{PlanValue}
+use Rattle.dlms_headend.specs.Merged.{merged}
 use Rattle.dlms_headend.specs.PollerValue.{PollerValue}
 use Rattle.dlms_headend.specs.Polling.{fresh_poll, Fits, Begins, Polls, TimesOut, CanTimeOut}
 use Rattle.dlms_headend.specs.declared.poll_fault.PollFault.{PollFault}
 use Rattle.dlms_headend.specs.declared.stage.Course.{Course}
 use Rattle.dlms_headend.specs.declared.stage.Course.TheVariants.{Ready, Running, Done, Failed}
 use Rattle.dlms_headend.specs.declared.step.PollStep.{PollStep}
+use Rattle.dlms_headend.specs.declared.step.PollStep.TheVariants.{Send}
 use Rattle.dlms_world.specs.World.{World, first_world}
-use Rattle.dlms_world.specs.Turn.{Turn}
+use Rattle.dlms_world.specs.Turn.{Turn, IsOver, Run}
 
 -- the poll has not ended
 abbrev pub IsUnderWay : Course → Type 0
@@ -33,26 +35,61 @@ pub record IsPollerOf (p : PollerValue) (w : World) : Type 0 where
   pub rows : w.course ≡ Done → p.talk.rows ≡ w.rows
   pub fits : Fits p (taken_by w.course w.link.taken)
 
--- a step of the world, after which this is its poller
-abbrev pub TurnsInto : World → PollerValue → Type 0
-TurnsInto w new = (now : World) × Turn w now × IsPollerOf new now
+-- the meter, and what it keeps, are as they were, and so is the file
+pub record IsAsideSame (w now : World) : Type 0 where
+  pub client : now.plan.client ≡ w.plan.client
+  pub meter : now.link.meter ≡ w.link.meter
+  pub session : now.session ≡ w.session
+  pub others : now.others ≡ w.others
+  pub memory : now.memory ≡ w.memory
+  pub file : now.file ≡ w.file
+
+-- A step of the world, after which this is its poller: the frames that it sent stand on the line behind those on the way to the
+-- meter, these are left on the way to the poller, and nothing else has changed.
+abbrev pub TurnsInto : World → (sent left : List Parts) → PollerValue → Type 0
+TurnsInto w sent left new =
+    (now : World) × Turn w now × IsPollerOf new now × (now.link.up_line ≡ w.link.up_line ++ sent) × (now.link.down_line ≡ left) × IsAsideSame w now
+
+-- the frame that a call answered, if it did
+abbrev pub sent_first : Option Parts → List Parts
+sent_first None = []
+sent_first (Some frame) = frame ∷ []
+
+abbrev pub sent_on : Result PollStep PollFault → List Parts
+sent_on (Ok (Send frame)) = frame ∷ []
+sent_on _ = []
+
+abbrev pub sent_again : Result Parts PollFault → List Parts
+sent_again (Ok frame) = frame ∷ []
+sent_again (Err fault) = []
 
 -- a new poller is that of the first world
 abbrev pub NewIsFirst : Type 0
 NewIsFirst = (plan : PlanValue) → IsPollerOf (fresh_poll plan) (first_world plan)
 
+-- so is one behind a poll that is over, by whatever plan of this client
+abbrev pub NewIsTurn : Type 0
+NewIsTurn =
+    (first plan : PlanValue) (w : World) → Run (first_world first) w → IsOver w.course → plan.client ≡ w.plan.client
+    → TurnsInto w [] [] (fresh_poll plan)
+
+-- a merge of the rows of a poll that is done is a step: the file has its rows, and the later ones of the poll's
+abbrev pub MergeIsTurn : Type 0
+MergeIsTurn =
+    (w : World) (p : PollerValue) → IsPollerOf p w → p.course ≡ Done → (now : World) × Turn w now × IsPollerOf p now × (now ≡ record w { file = merged w.file p.talk.rows })
+
 -- the call that gives the first frame is a step
 abbrev pub NextIsTurn : Type 0
-NextIsTurn = (w : World) (result : Option Parts) (old new : PollerValue) → IsPollerOf old w → w.course ≡ Ready → Begins old result new → TurnsInto w new
+NextIsTurn = (w : World) (result : Option Parts) (old new : PollerValue) → IsPollerOf old w → w.course ≡ Ready → Begins old result new → TurnsInto w (sent_first result) w.link.down_line new
 
 -- a call that is given the oldest frame on the way is a step
 abbrev pub OnIsTurn : Type 0
 OnIsTurn =
     (w : World) (frame : Parts) (rest : List Parts) (result : Result PollStep PollFault) (old new : PollerValue) → IsPollerOf old w → w.course ≡ Running
-    → w.link.down_line ≡ frame ∷ rest → Polls w.link.taken frame old result new → TurnsInto w new
+    → w.link.down_line ≡ frame ∷ rest → Polls w.link.taken frame old result new → TurnsInto w (sent_on result) rest new
 
 -- a call that tells of a time-out, while nothing is on the line, is a step
 abbrev pub TimeoutIsTurn : Type 0
 TimeoutIsTurn =
     (w : World) (result : Result Parts PollFault) (old new : PollerValue) → IsPollerOf old w → w.course ≡ Running → CanTimeOut old
-    → w.link.up_line ≡ [] → w.link.down_line ≡ [] → TimesOut old result new → TurnsInto w new
+    → w.link.up_line ≡ [] → w.link.down_line ≡ [] → TimesOut old result new → TurnsInto w (sent_again result) [] new

@@ -181,8 +181,8 @@ pub data Turn : World → World → Type 0 where
   Happens : (w : World) (event : Event) (memory : Store) → IsOn w.memory → MayFollow (events_in w.memory) event → Remembers w.memory (event ∷ []) memory → Turn w (record w { memory = memory })
   -- the store settles what is pending, refuses, or fails by itself
   Works : (w : World) (memory : Store) → IsOn w.memory → Remembers w.memory [] memory → Turn w (record w { memory = memory })
-  -- the power stops inside a call that had accepted these events or not yet; the frame that led to the call is off the line
-  StopsInside : (w : World) (accepted : List Event) (mid memory : Store) → IsOn w.memory → Remembers w.memory accepted mid → Next mid Stops memory → Turn w (restarted (record w { link = happens w.link LostUp }) memory)
+  -- the power stops inside a call that had accepted these events; a frame that led to the call is one that was lost
+  StopsInside : (w : World) (accepted : List Event) (mid memory : Store) → IsOn w.memory → Remembers w.memory accepted mid → Next mid Stops memory → Turn w (restarted w memory)
   -- it stops, or the meter is closed, or recovery is tried, and finds what the store's own rules let it find
   Restarted : (w : World) (step : StoreStep) (memory : Store) → (IsUsual step → ⊥) → Next w.memory step memory → Turn w (restarted w memory)
 

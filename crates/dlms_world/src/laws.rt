@@ -12,8 +12,9 @@ ghost use Rattle.dlms_world.specs.Turn.{Answers, handled};
 ghost use Rattle.dlms_world.specs.Named.{PollsAreNamed};
 ghost use Rattle.dlms_world.specs.Between.{ReadingsAreNamed, StillUnset, StillApart};
 ghost use Rattle.dlms_world.specs.Told.{AnswersTell};
-ghost use Rattle.dlms_world.specs.Calls.{NewIsFirst, NextIsTurn, OnIsTurn, TimeoutIsTurn};
-ghost use Rattle.dlms_world.specs.Ties.{FeedsAreTurns, EventsAreTurns};
+ghost use Rattle.dlms_world.specs.Calls.{NewIsFirst, NewIsTurn, MergeIsTurn, NextIsTurn, OnIsTurn, TimeoutIsTurn};
+ghost use Rattle.dlms_world.specs.Programs.{FilesAreCaptures};
+ghost use Rattle.dlms_world.specs.Ties.{FeedsAreTurns, EventsAreTurns, StopsAreTurns, RecoveriesAreTurns, RestsAreTurns};
 ghost use Rattle.dlms_world.specs.Agree.{PollsAreTold, ReadingsAreCaptures, ReadingsRise, LineIsSilent, CanBegin};
 
 use dlms_meter::Meter;
@@ -76,22 +77,41 @@ pub fn a_poll_can_begin()
     ensures { CanBegin }
 {}
 
-/// The calls of a poller are steps of the world: a new one is that of the first world; the call that gives its first frame, one
-/// that is given the oldest frame on the way, and one that tells of a time-out while nothing is on the line.
+/// The calls of a poller are steps of the world: a new one is that of the first world, or of the one behind a poll that is over; the
+/// call that gives its first frame, one that is given the oldest frame on the way, and one that tells of a time-out while nothing
+/// is on the line; and a merge of the rows of one that is done.
 pub fn calls_are_turns()
     ensures new { NewIsFirst }
+    ensures again { NewIsTurn }
     ensures next { NextIsTurn }
     ensures on { OnIsTurn }
     ensures timeout { TimeoutIsTurn }
+    ensures merge { MergeIsTurn }
 {}
 
-/// The calls of a meter are steps of the world, whatever its device does: a call of `feed` is none, where it ended no frame or one
-/// of nobody; or it is the step that a frame of the poller's client or of another client is. A call of `pulses` or `moment` is one
-/// where it accepted the event or the device failed, and else none.
+/// The calls of a meter are steps of the world, whatever its device does. The bytes of a call of `feed` end no frame, and nothing is
+/// replied; or they end the next frame of the stretch: where that is the oldest on the way from the poller its reply is the frame
+/// that goes onto the line, one of another client leaves the poller's line as it is, and one of nobody is none. A call of `pulses`
+/// or `moment` is a step where it accepted the event, or the device failed, and else none. What a stop at any moment of such a call
+/// leaves stands for the events of a step.
 pub fn calls_of_a_meter_are_turns<P: Pages, A: Allocator + Copy>(
     old: &Meter<P, A>,
     new: &Meter<P, A>,
 )
     ensures feed { FeedsAreTurns old.now new.now }
     ensures events { EventsAreTurns old.now new.now }
+    ensures stops { StopsAreTurns old.now new.now }
+{}
+
+/// So are recoveries and closes: the meter that a recovery makes is that of the world behind it, and a device that a recovery or a
+/// close gives back fits the world's memory.
+pub fn recoveries_are_turns<P: Pages, A: Allocator + Copy>(new: &Meter<P, A>)
+    ensures opens { RecoveriesAreTurns new.now }
+    ensures rests { RestsAreTurns new.now }
+{}
+
+/// Any program that makes these calls, on one meter, one line and one readings file, in whatever order, is a run of the world: each
+/// row of its file is a capture of the events that its meter holds, wherever the power stopped, inside calls and recoveries too.
+pub fn programs_are_runs<P: Pages, A: Allocator + Copy>(meter: &Meter<P, A>)
+    ensures { FilesAreCaptures meter.now }
 {}

@@ -1,4 +1,4 @@
-use Rattle.std.proofs.Common.{◌≡◌, ◌≤◌, sym, subst, arith, ℕ, Option, None, Ok, Err}
+use Rattle.std.proofs.Common.{◌≡◌, ◌≤◌, sym, subst, arith, ℕ, [], ◌∷◌, Option, None, Ok, Err}
 use Rattle.std.proofs.lemmas.Result.{err_from_is_err_and}
 use Rattle.dlms_state.specs.declared.event.Event.{Event}
 use Rattle.dlms_service.specs.Session.{listed}
@@ -112,12 +112,12 @@ returns-in_err-commit g c before knows =
           let is : Committed (Err fault) between new = subst (λ z. Committed (Err fault) z new) w.store-is committed in
           subst (λ (o : Option Event). Settled (Err p.0) before (listed o) store new) (sym w.in-Some.is)
           (commit_behind_failed fault p.0 e before store between new (add_goes (Ok tt) e before store between knows added) is
-          (commit_may_fail fault store between new w.add.ensures.later (λ stopped. absurd (y.runs stopped)) is))
+          (commit_may_fail (e ∷ []) fault store between new w.add.ensures.later (λ stopped. absurd (y.runs stopped)) is))
           )
       | in_default w ↦ (
           let is : Committed (Err fault) store new = subst (λ z. Committed (Err fault) z new) w.store-is committed in
           subst (λ (o : Option Event). Settled (Err p.0) before (listed o) store new) (sym w.in_default.is)
-          (commit_alone_failed fault p.0 before store new knows is (commit_may_fail fault store store new same (λ stopped. stopped) is))
+          (commit_alone_failed fault p.0 before store new knows is (commit_may_fail [] fault store store new same (λ stopped. stopped) is))
           )
     ])
   where

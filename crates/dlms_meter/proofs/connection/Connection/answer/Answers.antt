@@ -3,11 +3,11 @@ use Rattle.dlms_frame.specs.Frame.{spelling}
 use Rattle.dlms_link.specs.Server.{server_send}
 use Rattle.dlms_link.specs.declared.out.LinkOut.TheVariants.{Nothing, Reply, Oversize, BadLlc, Up, Down}
 use Rattle.dlms_service.specs.Session.{Outcome, SessionValue, outcome_of, listed, fresh, not_possible, unknown_service}
-use Rattle.dlms_service.specs.Stake.{is_success, Fails}
+use Rattle.dlms_service.specs.Stake.{is_success}
 use Rattle.dlms_store.proofs.Going.{none}
 use Rattle.dlms_meter.specs.ClientRecord.{ClientRecord}
-use Rattle.dlms_meter.specs.Run.{Served, DeviceFails, Handled, Handling, replies, events_in}
-use Rattle.dlms_meter.proofs.RunLemmas.{state_known, on_link, one_answer, apdu_handled, uncalled, settling}
+use Rattle.dlms_meter.specs.Run.{Served, DeviceFails, Does, Handled, Handling, replies, events_in}
+use Rattle.dlms_meter.proofs.RunLemmas.{state_known, on_link, one_answer, apdu_handled, uncalled, settling, wants}
 use Rattle.dlms_meter.proofs.Settling.{settled_ok, settled_err}
 use Rattle.dlms_meter.proofs.connection.Connection.answer.Goals as goal
 
@@ -56,14 +56,14 @@ returns-else-is_ok g c before knows =
     let settled = settled_err c.settle.result before event store new (sym c.is_ok.ensures.value ∙ c.if-is_ok.false) (c.settle.ensures before knows) in
     let kept = settled.0 in
     let o : Outcome = record { own = c.fail-failed.new.self; answer = c.fail-failed.result.items; accepted = if kept then event else [] } in
-    let told = c.serve-answer.ensures.fails c.in-Some.stake c.in-Some.is (events_in before) of kept in
+    let told = wants kept (events_in before) c.self.inside.session c.serve-answer.new.self c.apdu.result.now c.in-Some.stake event (c.serve-answer.ensures.fails c.in-Some.stake c.in-Some.is (events_in before) of true) in
     let same = ap (λ (x : Outcome). record x { accepted = if kept then event else [] }) c.fail-failed.ensures in
     let sent = c.send-in-Apdu.ensures.after ∙ ap (λ (bytes : List ℕ). (server_send link bytes).0) c.as_slice-in-Apdu.ensures.value in
     let frame = c.send-in-Apdu.ensures.frame ∙ ap (λ (bytes : List ℕ). spelling (server_send link bytes).1) c.as_slice-in-Apdu.ensures.value in
     subst (λ (r : ClientRecord). Handling r c.args.frame.now (Some c.send-in-Apdu.result.items) (record { link = c.send-in-Apdu.new.link; session = c.fail-failed.new.self }) before store new) c.self.view_is
-    (apdu_handled own c.args.frame.now link c.send-in-Apdu.new.link c.apdu.result.now o c.send-in-Apdu.result.items (DeviceFails kept) before settled.2 settled.1 store new
+    (apdu_handled own c.args.frame.now link c.send-in-Apdu.new.link c.apdu.result.now o c.send-in-Apdu.result.items (DeviceFails kept event) before settled.2 settled.1 store new
     (sym c.in-Apdu.is ∙ c.on.ensures.out) c.on.ensures.after c.apdu.ensures.value
-    (subst (λ (x : Outcome). Fails kept (events_in before) c.self.inside.session c.apdu.result.now x) (sym same) told)
+    (subst (λ (x : Outcome). Does (DeviceFails kept event) (events_in before) c.self.inside.session c.apdu.result.now x) (sym same) told)
     sent frame settled.3 settled.5 settled.4 (subst (λ (bytes : List ℕ). length bytes ≤ 1024) c.as_slice-in-Apdu.ensures.value c.as_slice-in-Apdu.ensures.fits))
 
 pub returns-in-Nothing : goal.returns-in-Nothing
