@@ -18,6 +18,13 @@ pub struct Period {
     pub power: u64,
 }
 
+/// From one capture to the next one others are missing.
+#[derive(Clone, Copy, Debug, PartialEq, Eq)]
+pub struct Gap {
+    pub from: u32,
+    pub to: u32,
+}
+
 /// The power between two captures: what the register counted between them over the hours between them. None where the clock
 /// did not go on, or the register went back.
 pub fn power(before: Sample, after: Sample) -> Option<Period>

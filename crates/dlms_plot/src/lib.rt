@@ -13,7 +13,7 @@ mod svg;
 mod terminal;
 mod usual;
 
-pub use captures::{Period, Sample, power};
+pub use captures::{Gap, Period, Sample, power};
 pub use date::{Date, Day, Minute};
 pub use fault::PlotFault;
 pub use quantity::{Quantity, Thousandth};

@@ -1,19 +1,23 @@
 //! The periods between captures, and where captures are missing.
-ghost use Rattle.std.specs.Prelude.{◌≡◌, ◌≢◌, [], IfOk, IsErr, MatchOption, length, map, max, min};
+ghost use Rattle.std.specs.Prelude.{◌≡◌, ◌≢◌, [], IfOk, IsErr, MatchOption, map, max, min};
 ghost use Rattle.std.specs.List.{reduce};
-ghost use Rattle.dlms_plot.specs.Series.{gap_of, gaps_of, period_within, periods_of, HasNoSeries, IsSeriesOf, greatest, least};
+ghost use Rattle.dlms_plot.specs.Series.{gap_between, gaps_of, period_within, periods_of, HasNoSeries, IsSeriesOf, greatest, least};
 ghost use Rattle.dlms_plot.specs.Steps.{steps_of};
 
-use crate::captures::{Period, Sample, power};
+use crate::captures::{Gap, Period, Sample, power};
 use crate::usual::usual_step;
 use std::alloc::{AllocError, Allocator};
 use std::marker::Model;
 
-/// The periods of a register's captures. A period that is longer than the usual one is none of them: captures are missing there.
+/// The periods of a register's captures, and the gaps. A period that is longer than the usual one is none of them: captures are
+/// missing there.
 #[derive(Drop)]
 pub struct Series<A: Allocator> {
     periods: Vec<Period, A>,
+    gaps: Vec<Gap, A>,
     usual: u32,
+    begin: u32,
+    end: u32,
 }
 
 impl<A: Allocator> Model for Series<A> {
@@ -21,7 +25,7 @@ impl<A: Allocator> Model for Series<A> {
 
     ghost Value = { SeriesValue };
 
-    ghost view = { λ s. record { periods = s.periods.items; usual = s.usual } };
+    ghost view = { λ s. record { periods = s.periods.items; gaps = s.gaps.items; usual = s.usual; begin = s.begin; end = s.end } };
 }
 
 impl<A: Allocator + Copy> Series<A> {
@@ -38,7 +42,14 @@ impl<A: Allocator + Copy> Series<A> {
         if periods.is_empty() {
             return Ok(None);
         }
-        Ok(Some(Series { periods, usual }))
+        let gaps = gaps(alloc, samples, usual)?;
+        Ok(Some(Series {
+            periods,
+            gaps,
+            usual,
+            begin: first_second(samples).unwrap_or(0),
+            end: last_second(samples).unwrap_or(0),
+        }))
     }
 
     /// The periods, in the order of the captures.
@@ -48,6 +59,13 @@ impl<A: Allocator + Copy> Series<A> {
         self.periods.as_slice()
     }
 
+    /// Where captures are missing, in the order of the captures.
+    pub fn gaps(&self) -> &[Gap]
+        ensures { result.now ≡ self.now.gaps }
+    {
+        self.gaps.as_slice()
+    }
+
     /// The usual period in seconds.
     pub fn usual(&self) -> u32
         ensures { result ≡ self.now.usual }
@@ -55,18 +73,18 @@ impl<A: Allocator + Copy> Series<A> {
         self.usual
     }
 
-    /// The second at which the earliest period begins.
+    /// The second of the earliest capture.
     pub fn begin(&self) -> u32
-        ensures { result ≡ least (map (λ period. period.from) self.now.periods) }
+        ensures { result ≡ self.now.begin }
     {
-        first_second(&self.periods).unwrap_or(0)
+        self.begin
     }
 
-    /// The second at which the latest period ends.
+    /// The second of the latest capture.
     pub fn end(&self) -> u32
-        ensures { result ≡ greatest (map (λ period. period.to) self.now.periods) }
+        ensures { result ≡ self.now.end }
     {
-        last_second(&self.periods).unwrap_or(0)
+        self.end
     }
 
     /// The greatest power.
@@ -75,31 +93,20 @@ impl<A: Allocator + Copy> Series<A> {
     {
         most_power(&self.periods).unwrap_or(0)
     }
-
-    /// How often the next period does not begin where one ends, but later.
-    pub fn gaps(&self) -> usize
-        ensures { result ≡ length (gaps_of self.now.periods) }
-    {
-        self.periods
-            .iter()
-            .zip(self.periods.iter().skip(1))
-            .filter_map(|(before, after)| gap(before, after))
-            .count()
-    }
 }
 
-/// The second at which the earliest period begins.
-fn first_second(periods: &[Period]) -> Option<u32>
-    ensures { result ≡ reduce min (map (λ period. period.from) periods.now) }
+/// The second of the earliest capture.
+fn first_second(samples: &[Sample]) -> Option<u32>
+    ensures { result ≡ reduce min (map (λ sample. sample.clock) samples.now) }
 {
-    periods.iter().map(|period| period.from).min()
+    samples.iter().map(|sample| sample.clock).min()
 }
 
-/// The second at which the latest period ends.
-fn last_second(periods: &[Period]) -> Option<u32>
-    ensures { result ≡ reduce max (map (λ period. period.to) periods.now) }
+/// The second of the latest capture.
+fn last_second(samples: &[Sample]) -> Option<u32>
+    ensures { result ≡ reduce max (map (λ sample. sample.clock) samples.now) }
 {
-    periods.iter().map(|period| period.to).max()
+    samples.iter().map(|sample| sample.clock).max()
 }
 
 /// The greatest power.
@@ -107,17 +114,6 @@ fn most_power(periods: &[Period]) -> Option<u64>
     ensures { result ≡ reduce max (map (λ period. period.power) periods.now) }
 {
     periods.iter().map(|period| period.power).max()
-}
-
-/// The stretch from a period to the next one, where there is one.
-pub fn gap(before: &Period, after: &Period) -> Option<(u32, u32)>
-    ensures { result ≡ gap_of (before.now, after.now) }
-{
-    if before.to < after.from {
-        Some((before.to, after.from))
-    } else {
-        None
-    }
 }
 
 /// The period between two captures that stand no further apart than this.
@@ -142,5 +138,30 @@ fn periods<A: Allocator>(
         .iter()
         .zip(samples.iter().skip(1))
         .filter_map(|(before, after)| period_between(*before, *after, usual))
+        .collect(alloc)
+}
+
+/// Whether captures are missing from one to the next one, and from when to when.
+fn gap_between_captures(before: Sample, after: Sample, usual: u32) -> Option<Gap>
+    ensures { result ≡ gap_between usual (before, after) }
+{
+    if before.clock < after.clock && period_between(before, after, usual).is_none() {
+        Some(Gap {
+            from: before.clock,
+            to: after.clock,
+        })
+    } else {
+        None
+    }
+}
+
+/// The gaps.
+fn gaps<A: Allocator>(alloc: A, samples: &[Sample], usual: u32) -> Result<Vec<Gap, A>, AllocError>
+    ensures { IfOk result (λ gaps. gaps.items ≡ gaps_of usual samples.now) }
+{
+    samples
+        .iter()
+        .zip(samples.iter().skip(1))
+        .filter_map(|(before, after)| gap_between_captures(*before, *after, usual))
         .collect(alloc)
 }

@@ -2,11 +2,11 @@
 ghost use Rattle.std.specs.Prelude.{◌≡◌, ◌≤◌, ◌+◌, ◌-◌, ◌*◌};
 ghost use Rattle.dlms_plot.specs.Scale.{place_of};
 
-use crate::captures::Period;
+use crate::captures::{Gap, Period};
 use crate::date::{Date, Day, Minute};
 use crate::quantity::{Quantity, Thousandth};
 use crate::scale::{SECONDS_A_DAY, first_tick, place, power_step, power_ticks, time_step};
-use crate::series::{Series, gap};
+use crate::series::Series;
 use std::alloc::Allocator;
 use std::io::Write;
 use std::{fmt, io};
@@ -108,7 +108,7 @@ fn write_title<A: Allocator + Copy, W: Write>(
     let usual = series.usual();
     let begin = Date(series.begin());
     let end = Date(series.end());
-    let gaps = series.gaps();
+    let gaps = series.gaps().len();
     writeln!(output, "<title>Load profile: {name}</title>")?;
     output.write_all(STYLE.as_bytes())?;
     writeln!(
@@ -122,11 +122,9 @@ fn write_title<A: Allocator + Copy, W: Write>(
 }
 
 /// Writes the stretches in which captures are missing.
-fn write_gaps<W: Write>(plane: Plane, periods: &[Period], output: &mut W) -> io::Result<()> {
-    for (before, after) in periods.iter().zip(periods.iter().skip(1)) {
-        if let Some((from, to)) = gap(before, after) {
-            write_gap(plane, from, to, output)?;
-        }
+fn write_gaps<W: Write>(plane: Plane, gaps: &[Gap], output: &mut W) -> io::Result<()> {
+    for gap in gaps {
+        write_gap(plane, gap.from, gap.to, output)?;
     }
     Ok(())
 }
@@ -261,7 +259,7 @@ pub fn write_svg<A: Allocator + Copy, W: Write>(
     };
     output.write_all(HEAD.as_bytes())?;
     write_title(quantity, series, output)?;
-    write_gaps(plane, series.periods(), output)?;
+    write_gaps(plane, series.gaps(), output)?;
     write_powers(plane, step, ticks, output)?;
     write_axes(quantity, output)?;
     write_times(plane, time_step(span, MOST_TIME_TICKS), output)?;

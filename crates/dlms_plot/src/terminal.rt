@@ -184,7 +184,7 @@ fn write_heading<A: Allocator + Copy, W: Write>(
     writeln!(output, "{name}: {unit} by capture period of {usual} s")?;
     let begin = Date(series.begin());
     let end = Date(series.end());
-    let gaps = series.gaps();
+    let gaps = series.gaps().len();
     writeln!(output, "{begin} to {end}, gaps in the captures: {gaps}")
 }
 
