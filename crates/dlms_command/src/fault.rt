@@ -1,63 +1,128 @@
-//! Why a run ended early, and what is said of it.
+//! Why a run ended early, and what is said of it: its name in the first line, where and why in the second, and in a third what to
+//! do, where something can be done.
+use crate::columns::Columns;
 use dlms_field::{ClockFault, FieldFault};
-use dlms_headend::PollFault;
+use dlms_headend::{ColumnList, PollFault, ReadingsFault};
 use dlms_loopback::LoopFault;
+use dlms_names::{access_result, diagnostic};
 use dlms_plot::PlotFault;
 use dlms_program::ReplayFault;
-use dlms_store::OpenFault;
+use dlms_store::{AddFault, OpenFault};
 use std::alloc::Global;
 use std::io::ErrorKind;
 use std::{fmt, io};
 
-/// What is said of a meter whose columns are others than those of a readings file.
-const OTHER_COLUMNS: &str =
-    "protocol\n  the meter's columns are not the clock and the three registers, which a readings file has";
+/// The diagnostic of a secret that is another (IEC 62056-5-3, authentication-failure).
+const AUTHENTICATION_FAILURE: u8 = 13;
 
 /// Why a run ended early.
 #[derive(Drop)]
 pub enum Fault<'a> {
-    /// This file could not be made or opened, or the line at this address failed, for which the system has these words.
-    File(&'a str, String),
-    /// The meter could not be made or recovered, or its device failed.
-    Open(OpenFault),
+    /// A call of the system for this file, this address or this stream failed, for which the system has these words.
+    System(&'a str, String),
+    /// The output failed; why it keeps itself.
+    Output,
+    /// What stands at this place cannot be read any more.
+    Input(&'a str),
+    /// The meter could not be made or recovered, or its device failed: that in this file, or one in memory.
+    Open(Option<&'a str>, OpenFault),
     /// The replay ended early.
     Replay(ReplayFault),
-    /// The loopback, the meter that serves or the poll ended early.
+    /// The loopback, or the meter that serves, ended early.
     Loop(LoopFault),
-    /// The secret in a file has more than 16 bytes.
-    Secret,
+    /// The poll of this address failed.
+    Poll(&'a str, PollFault),
+    /// The meter at this address has these columns, which are others than those of a readings file.
+    Columns(&'a str, ColumnList),
+    /// In this file the line of this number is none of readings.
+    Readings(&'a str, usize),
+    /// The secret in this file has more than 16 bytes.
+    Secret(&'a str),
     /// The poll of this address was not done within so many seconds.
     Late(&'a str, u32),
     /// Of the rows from this address or file one is refused for its clock.
     Clock(&'a str, ClockFault),
-    /// The load profile of a readings file was not plotted.
-    Plot(PlotFault),
 }
 
 impl<'a> Fault<'a> {
     /// Want of memory.
     pub const MEMORY: Fault<'static> = Fault::Replay(ReplayFault::Memory);
 
-    /// The fault of a file that could not be made or opened, or of an address.
-    pub fn of_file(alloc: Global, file: &'a str, error: &io::Error) -> Fault<'a> {
+    /// The fault of a file, an address or a stream for which a call of the system failed.
+    pub fn of_system(alloc: Global, place: &'a str, error: &io::Error) -> Fault<'a> {
         if error.kind() == ErrorKind::OutOfMemory {
             return Fault::MEMORY;
         }
         match format!(in alloc; "{error}") {
-            Ok(words) => Fault::File(file, words),
+            Ok(words) => Fault::System(place, words),
             Err(_) => Fault::MEMORY,
         }
     }
 
-    /// The fault of a tool of the field.
-    pub fn of_field(alloc: Global, fault: FieldFault<'a>) -> Fault<'a> {
+    /// The fault of a poll of the meter at this place into this file.
+    pub fn of_poll(place: &'a str, readings: Option<&'a str>, fault: LoopFault) -> Fault<'a> {
+        match (fault, readings) {
+            (LoopFault::Readings(ReadingsFault::Line(number)), Some(file)) => {
+                Fault::Readings(file, number)
+            }
+            (LoopFault::Poll(fault), _) => Fault::Poll(place, fault),
+            (LoopFault::Columns(list), _) => Fault::Columns(place, list),
+            (fault, _) => Fault::Loop(fault),
+        }
+    }
+
+    /// The fault of a meter in this file that serves.
+    fn of_serving(file: &'a str, fault: LoopFault) -> Fault<'a> {
         match fault {
-            FieldFault::System(place, error) => Fault::of_file(alloc, place, &error),
-            FieldFault::Secret => Fault::Secret,
+            LoopFault::Add(AddFault::Device) => Fault::Open(Some(file), OpenFault::Device),
+            LoopFault::Add(AddFault::Exhausted) => Fault::Open(Some(file), OpenFault::Exhausted),
+            fault => Fault::Loop(fault),
+        }
+    }
+
+    /// The fault of `serve`.
+    pub fn of_serve(alloc: Global, file: &'a str, fault: FieldFault<'a>) -> Fault<'a> {
+        match fault {
+            FieldFault::System(place, error) => Fault::of_system(alloc, place, &error),
+            FieldFault::Secret => Fault::Secret(file),
             FieldFault::Late(address, seconds) => Fault::Late(address, seconds),
             FieldFault::Clock(place, fault) => Fault::Clock(place, fault),
-            FieldFault::Other(fault) => Fault::Loop(fault),
+            FieldFault::Other(fault) => Fault::of_serving(file, fault),
         }
+    }
+
+    /// The fault of `poll`, of this address, into this file, with the secret in that one.
+    pub fn of_field(
+        alloc: Global,
+        address: &'a str,
+        readings: Option<&'a str>,
+        secret_file: Option<&'a str>,
+        fault: FieldFault<'a>,
+    ) -> Fault<'a> {
+        match fault {
+            FieldFault::System(place, error) => Fault::of_system(alloc, place, &error),
+            FieldFault::Secret => Fault::Secret(secret_file.unwrap_or("")),
+            FieldFault::Late(address, seconds) => Fault::Late(address, seconds),
+            FieldFault::Clock(place, fault) => Fault::Clock(place, fault),
+            FieldFault::Other(fault) => Fault::of_poll(address, readings, fault),
+        }
+    }
+
+    /// The fault of a curve of this file.
+    pub fn of_plot(readings: &'a str, fault: PlotFault) -> Fault<'a> {
+        match fault {
+            PlotFault::Readings(ReadingsFault::Line(number)) => Fault::Readings(readings, number),
+            PlotFault::Readings(ReadingsFault::Memory) | PlotFault::Memory => Fault::MEMORY,
+            PlotFault::Output => Fault::Output,
+        }
+    }
+
+    /// Whether it is of a stream, one of which the output may be.
+    pub fn is_of_a_stream(&self) -> bool {
+        matches!(
+            self,
+            Fault::Output | Fault::Replay(ReplayFault::Io) | Fault::Loop(LoopFault::Io)
+        )
     }
 }
 
@@ -69,34 +134,128 @@ fn without_number(words: &str) -> &str {
     }
 }
 
+/// Says why a meter in this file could not be opened, or does not go on.
+fn write_open<W: fmt::Write>(
+    f: &mut fmt::Formatter<W>,
+    file: &str,
+    fault: &OpenFault,
+) -> fmt::Result {
+    match fault {
+        OpenFault::NoCheckpoint => write!(
+            f,
+            "\n  {file}: no meter stands in it\n  dlms format makes one, over whatever it holds"
+        ),
+        OpenFault::Corrupt(page) => {
+            let page = *page;
+            write!(
+                f,
+                "\n  {file}: page {page} is damaged, or does not fit\n  dlms show tells which pages count"
+            )
+        }
+        OpenFault::Device => write!(f, "\n  {file}: a call of the system failed"),
+        OpenFault::Exhausted => write!(f, "\n  {file}: it takes no further checkpoint"),
+        OpenFault::Size => write!(f, "\n  {file}: it has too few pages"),
+        OpenFault::Memory => Ok(()),
+    }
+}
+
+/// Says what became of the poll of this address.
+fn write_poll<W: fmt::Write>(
+    f: &mut fmt::Formatter<W>,
+    address: &str,
+    fault: &PollFault,
+) -> fmt::Result {
+    match fault {
+        PollFault::Refused(number) => {
+            let name = diagnostic(*number).unwrap_or("for a reason of its own");
+            write!(f, "\n  {address}: the association is refused, {name}")?;
+            if *number == AUTHENTICATION_FAILURE {
+                f.write_str("\n  --secret-file names the file of the client's secret")?;
+            }
+            Ok(())
+        }
+        PollFault::Result(number) => {
+            let name = access_result(*number).unwrap_or("a result without a name");
+            write!(f, "\n  {address}: the meter answers {name}")
+        }
+        PollFault::Line => write!(f, "\n  {address}: nobody answers"),
+        PollFault::Protocol => write!(
+            f,
+            "\n  {address}: an answer has another form, or the link went down"
+        ),
+        PollFault::Columns => write!(f, "\n  {address}: the meter has other columns"),
+        PollFault::Memory => Ok(()),
+    }
+}
+
+/// Says which row is refused for its clock.
+fn write_clock<W: fmt::Write>(
+    f: &mut fmt::Formatter<W>,
+    place: &str,
+    fault: &ClockFault,
+) -> fmt::Result {
+    match fault {
+        ClockFault::Fallen(number) => {
+            let number = *number;
+            write!(
+                f,
+                "clock {number}\n  {place}: the row is not later than the one before it"
+            )
+        }
+        ClockFault::Ahead(number) => {
+            let number = *number;
+            write!(
+                f,
+                "ahead {number}\n  {place}: the row is too far past the system's clock"
+            )
+        }
+    }
+}
+
 impl fmt::Display for Fault<'_> {
     fn fmt<W: fmt::Write>(&self, f: &mut fmt::Formatter<W>) -> fmt::Result {
         match self {
-            Fault::File(file, words) => {
+            Fault::System(place, words) => {
                 let words = without_number(words.as_str());
-                write!(f, "io\n  {file}: {words}")
+                write!(f, "io\n  {place}: {words}")
             }
-            Fault::Open(fault) => write!(f, "{fault}"),
+            Fault::Output => f.write_str("io\n  standard output: it takes no more"),
+            Fault::Input(place) => write!(f, "io\n  {place}: it cannot be read"),
+            Fault::Open(file, fault) => {
+                write!(f, "{fault}")?;
+                match file {
+                    Some(file) => write_open(f, file, fault),
+                    None => Ok(()),
+                }
+            }
+            Fault::Replay(ReplayFault::Recovery) => f.write_str(
+                "recovery\n  the meter could not be recovered: the last line that was printed says why",
+            ),
             Fault::Replay(fault) => write!(f, "{fault}"),
-            Fault::Loop(LoopFault::Poll(PollFault::Columns)) => f.write_str(OTHER_COLUMNS),
             Fault::Loop(fault) => write!(f, "{fault}"),
-            Fault::Secret => f.write_str("secret"),
+            Fault::Poll(address, fault) => {
+                write!(f, "{fault}")?;
+                write_poll(f, address, fault)
+            }
+            Fault::Columns(address, list) => {
+                let columns = Columns(list);
+                write!(
+                    f,
+                    "protocol\n  {address}: the meter's columns are {columns}: a readings file has clock and the three registers"
+                )
+            }
+            Fault::Readings(file, number) => {
+                let number = *number;
+                write!(
+                    f,
+                    "line {number}\n  {file}: this line is none of readings (clock,register,register,register)"
+                )
+            }
+            Fault::Secret(file) => write!(f, "secret\n  {file}: more than 16 bytes"),
             Fault::Late(address, seconds) => {
                 write!(f, "line\n  {address}: not done within {seconds} seconds")
             }
-            Fault::Clock(place, ClockFault::Fallen(number)) => {
-                write!(
-                    f,
-                    "clock {number}\n  {place}: the row is not later than the one before it"
-                )
-            }
-            Fault::Clock(place, ClockFault::Ahead(number)) => {
-                write!(
-                    f,
-                    "ahead {number}\n  {place}: the row is too far past the system's clock"
-                )
-            }
-            Fault::Plot(fault) => write!(f, "{fault}"),
+            Fault::Clock(place, fault) => write_clock(f, place, fault),
         }
     }
 }

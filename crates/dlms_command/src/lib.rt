@@ -1,20 +1,20 @@
 //! What the program does for its words, over any three streams.
 #![tactic(auto)]
 
-ghost use Rattle.std.specs.Prelude.{◌≡◌, ◌≢◌, [], map, IfOk, MatchResult};
-ghost use Rattle.clap.specs.Words.{fault_of};
-ghost use Rattle.dlms_program.specs.Words.{dlms};
+ghost use Rattle.std.specs.Prelude.{◌≡◌, ◌≢◌, ◌⊎◌, [], map, IfOk, MatchResult};
+ghost use Rattle.clap.specs.Words.{fault_of, subcommand_of};
+ghost use Rattle.dlms_program.specs.Words.{dlms, AsksBoth, IsClear, NamesNoAddress};
 
 use clap::error::ErrorKind;
 use dlms_explain::{ExplainFault, explain};
-use dlms_field::{Polling, Serving, poll, serve};
+use dlms_field::{Polling, Serving, Times, poll, serve};
 use dlms_loopback::loopback;
 use dlms_meter::Meter;
 use dlms_pages::{FilePages, MemoryPages, Pages};
 use dlms_plot::{Form, plot_readings};
-use dlms_program::{Job, ReplayFault, Sink, Source, job, replay};
+use dlms_program::{Job, Sink, Source, job, replay};
 use dlms_show::{Curve, ShowFault, show_file};
-use dlms_store::{OpenFault, PAGES};
+use dlms_store::{AddFault, OpenFault, PAGES};
 use std::alloc::Global;
 use std::cell::RefCell;
 use std::fs::File;
@@ -25,17 +25,31 @@ use std::rt::Files;
 use std::time::Clock;
 use std::{fs, io};
 
+mod columns;
+mod demo;
 mod fault;
 mod streams;
+mod watched;
 
 pub use fault::Fault;
 use streams::{Input, Output, flush};
+use watched::Watched;
 
 /// How many bytes are read or written at a time.
 const BUFFER: usize = 65_536;
 
 /// The address that a meter listens on where none is named.
 const LISTEN: &str = "127.0.0.1:4059";
+
+/// The place of the meter that a loopback polls.
+const LOOPBACK: &str = "the loopback";
+
+/// The places of what is printed and of what is read, and the name of a file that stands for the latter.
+const OUTPUT: &str = "standard output";
+
+const INPUT: &str = "standard input";
+
+const INPUT_NAME: &str = "-";
 
 /// The descriptor of standard error (POSIX, STDERR_FILENO).
 const STANDARD_ERROR: RawFd = 2;
@@ -49,26 +63,52 @@ pub const FAULT: u8 = 1;
 /// The status of a run whose words ask for nothing that the program does, and of one that asks for help.
 pub const USAGE: u8 = 2;
 
-/// Makes a new meter in a file, over whatever the file holds.
+/// Says what was made.
+fn told<W: Write>(output: &mut W, demo: bool) -> io::Result<()> {
+    writeln!(output, "formatted {PAGES} pages")?;
+    if demo {
+        let rows = demo::QUARTERS;
+        writeln!(output, "captured {rows} rows")?;
+    }
+    Ok(())
+}
+
+/// Lets a day pass on a new meter in a file.
+fn pass_a_day<'a, P: Pages>(meter: &mut Meter<P>, file: &'a str) -> Result<(), Fault<'a>> {
+    match demo::pass(meter) {
+        Ok(()) => Ok(()),
+        Err(AddFault::Exhausted) => Err(Fault::Open(Some(file), OpenFault::Exhausted)),
+        Err(_) => Err(Fault::Open(Some(file), OpenFault::Device)),
+    }
+}
+
+/// Makes a new meter in a file, over whatever the file holds, where it is asked for with a day behind it.
 #[inline(never)]
 fn run_format<'a, H: Files<File = File> + AllocGlobal, W: Write>(
     host: &H,
     file: &'a str,
+    demo: bool,
     output: &mut W,
 ) -> Result<(), Fault<'a>> {
     let pages = match FilePages::create(host, file, PAGES) {
         Ok(pages) => pages,
-        Err(error) => return Err(Fault::of_file(host.alloc(), file, &error)),
+        Err(error) => return Err(Fault::of_system(host.alloc(), file, &error)),
     };
     match Meter::format(host.alloc(), pages) {
         Ok(meter) => {
-            let _pages = meter.close();
+            let mut meter = meter;
+            if demo {
+                pass_a_day(&mut meter, file)?;
+            }
+            if meter.close().faults() > 0 {
+                return Err(Fault::Open(Some(file), OpenFault::Device));
+            }
         }
-        Err((_, fault)) => return Err(Fault::Open(fault)),
+        Err((_, fault)) => return Err(Fault::Open(Some(file), fault)),
     }
-    match writeln!(output, "formatted {PAGES} pages") {
+    match told(output, demo) {
         Ok(()) => Ok(()),
-        Err(_) => Err(Fault::Replay(ReplayFault::Io)),
+        Err(_) => Err(Fault::Output),
     }
 }
 
@@ -76,6 +116,7 @@ fn run_format<'a, H: Files<File = File> + AllocGlobal, W: Write>(
 #[inline(never)]
 fn run_on<'f, H: AllocGlobal, R: Source, W: Sink, P: Pages + Drop>(
     host: &H,
+    file: Option<&'f str>,
     input: &mut R,
     output: &mut W,
     meter: Meter<P>,
@@ -90,7 +131,7 @@ fn run_on<'f, H: AllocGlobal, R: Source, W: Sink, P: Pages + Drop>(
         return Err(Fault::Replay(fault));
     }
     if has_failed {
-        return Err(Fault::Open(OpenFault::Device));
+        return Err(Fault::Open(file, OpenFault::Device));
     }
     Ok(())
 }
@@ -100,7 +141,7 @@ fn ended<'a>(run: Result<(), Fault<'a>>, flushed: io::Result<()>) -> Result<(), 
     run?;
     match flushed {
         Ok(()) => Ok(()),
-        Err(_) => Err(Fault::Replay(ReplayFault::Io)),
+        Err(_) => Err(Fault::Output),
     }
 }
 
@@ -130,15 +171,15 @@ fn run_replay_file<'a, H: Files<File = File> + AllocGlobal, R: Read + Drop, W: W
 ) -> Result<(), Fault<'a>> {
     let pages = match FilePages::open(host, file, PAGES) {
         Ok(pages) => pages,
-        Err(error) => return Err(Fault::of_file(host.alloc(), file, &error)),
+        Err(error) => return Err(Fault::of_system(host.alloc(), file, &error)),
     };
     match Meter::recover(host.alloc(), pages) {
         Ok(meter) => {
             let mut reader = buffered(host.alloc(), input)?;
-            let replayed = run_on(host, &mut reader, output, meter);
+            let replayed = run_on(host, Some(file), &mut reader, output, meter);
             ended(replayed, output.flush())
         }
-        Err((_, fault)) => Err(Fault::Open(fault)),
+        Err((_, fault)) => Err(Fault::Open(Some(file), fault)),
     }
 }
 
@@ -158,10 +199,10 @@ fn run_replay_memory<H: AllocGlobal, R: Read + Drop, W: Write + Drop>(
     match Meter::format(host.alloc(), pages) {
         Ok(meter) => {
             let mut input = Input::new(reader, &output);
-            let replayed = run_on(host, &mut input, &mut Output(&output), meter);
+            let replayed = run_on(host, None, &mut input, &mut Output(&output), meter);
             ended(replayed, flush(&output))
         }
-        Err((_, fault)) => Err(Fault::Open(fault)),
+        Err((_, fault)) => Err(Fault::Open(None, fault)),
     }
 }
 
@@ -176,8 +217,8 @@ fn run_loopback<'a, H: Net + Files<File = File> + AllocGlobal, W: Write>(
     let mut told = None;
     match (loopback(host, file, stops, output, &mut told), file, told) {
         (Ok(()), _, _) => Ok(()),
-        (Err(_), Some(file), Some(error)) => Err(Fault::of_file(host.alloc(), file, &error)),
-        (Err(fault), _, _) => Err(Fault::Loop(fault)),
+        (Err(_), Some(file), Some(error)) => Err(Fault::of_system(host.alloc(), file, &error)),
+        (Err(fault), file, _) => Err(Fault::of_poll(LOOPBACK, file, fault)),
     }
 }
 
@@ -192,21 +233,23 @@ fn run_serve<'a, H: Net + Files<File = File> + Clock + AllocGlobal, W: Write, E:
 ) -> Result<(), Fault<'a>> {
     let pages = match FilePages::open(host, file, PAGES) {
         Ok(pages) => pages,
-        Err(error) => return Err(Fault::of_file(host.alloc(), file, &error)),
+        Err(error) => return Err(Fault::of_system(host.alloc(), file, &error)),
     };
     match Meter::recover(host.alloc(), pages) {
         Ok(meter) => {
             let mut meter = meter;
             let second = meter.state().last();
-            let _said = writeln!(errors, "recovered {file} at second {second}");
+            if !serving.quiet {
+                let _said = writeln!(errors, "recovered {file} at second {second}");
+            }
             let served = serve(host, &mut meter, serving, output, errors);
             let _pages = meter.close();
             match served {
                 Ok(()) => Ok(()),
-                Err(fault) => Err(Fault::of_field(host.alloc(), fault)),
+                Err(fault) => Err(Fault::of_serve(host.alloc(), file, fault)),
             }
         }
-        Err((_, fault)) => Err(Fault::Open(fault)),
+        Err((_, fault)) => Err(Fault::Open(Some(file), fault)),
     }
 }
 
@@ -220,24 +263,54 @@ fn run_poll<'a, H: Net + Files<File = File> + Clock + AllocGlobal, W: Write, E: 
 ) -> Result<(), Fault<'a>> {
     match poll(host, polling, output, errors) {
         Ok(()) => Ok(()),
-        Err(fault) => Err(Fault::of_field(host.alloc(), fault)),
+        Err(fault) => Err(Fault::of_field(
+            host.alloc(),
+            polling.address,
+            polling.readings,
+            polling.secret_file,
+            fault,
+        )),
     }
 }
 
-/// Explains the frames that stand on the input, where `raw` is set with strings that may be a secret. What is told of a line goes
-/// out before the next one is waited for.
+/// The file's name, but for the one that stands for the standard input.
+fn named(file: Option<&str>) -> Option<&str> {
+    file.filter(|name| *name != INPUT_NAME)
+}
+
+/// Explains the frames that stand in a file, or on the input where none is named.
 #[inline(never)]
-fn run_explain<H: AllocGlobal, R: Read + Drop, W: Write>(
+fn run_explain<'a, H: Files<File = File> + AllocGlobal, R: Read + Drop, W: Write>(
     host: &H,
+    file: Option<&'a str>,
     raw: bool,
     input: R,
     output: &mut W,
-) -> Result<(), Fault<'static>> {
+) -> Result<(), Fault<'a>> {
+    let Some(file) = named(file) else {
+        return explained(host, raw, INPUT, input, output);
+    };
+    match fs::open(host, file) {
+        Ok(opened) => explained(host, raw, file, opened, output),
+        Err(error) => Err(Fault::of_system(host.alloc(), file, &error)),
+    }
+}
+
+/// Explains the frames that stand on an input, where `raw` is set with strings that may be a secret. What is told of a line goes
+/// out before the next one is waited for.
+fn explained<'a, H: AllocGlobal, R: Read + Drop, W: Write>(
+    host: &H,
+    raw: bool,
+    place: &'a str,
+    input: R,
+    output: &mut W,
+) -> Result<(), Fault<'a>> {
     let mut reader = buffered(host.alloc(), input)?;
     let explained = match explain(host.alloc(), raw, &mut reader, output) {
         Ok(()) => Ok(()),
         Err(ExplainFault::Memory) => Err(Fault::MEMORY),
-        Err(ExplainFault::Input | ExplainFault::Output) => Err(Fault::Replay(ReplayFault::Io)),
+        Err(ExplainFault::Input) => Err(Fault::Input(place)),
+        Err(ExplainFault::Output) => Err(Fault::Output),
     };
     ended(explained, output.flush())
 }
@@ -254,30 +327,44 @@ fn run_show<'a, H: Files<File = File> + AllocGlobal, W: Write + Drop>(
     let curve = if plot { Curve::Text } else { Curve::None };
     let shown = match show_file(host, file, curve, &mut writer) {
         Ok(()) => Ok(()),
-        Err(ShowFault::File(error)) => Err(Fault::of_file(host.alloc(), file, &error)),
+        Err(ShowFault::File(error)) => Err(Fault::of_system(host.alloc(), file, &error)),
         Err(ShowFault::Memory) => Err(Fault::MEMORY),
-        Err(ShowFault::Output) => Err(Fault::Replay(ReplayFault::Io)),
+        Err(ShowFault::Output) => Err(Fault::Output),
     };
     ended(shown, writer.flush())
 }
 
+/// The text of a readings file, or of the input where its name says so, and where it stands.
+fn readings_text<'a, H: Files + AllocGlobal, R: Read + Drop>(
+    host: &H,
+    readings: &'a str,
+    input: R,
+) -> Result<(&'a str, String), Fault<'a>> {
+    let (place, read) = match named(Some(readings)) {
+        Some(file) => (file, fs::read_to_string(host, file)),
+        None => (INPUT, io::read_to_string(host.alloc(), input)),
+    };
+    match read {
+        Ok(text) => Ok((place, text)),
+        Err(error) => Err(Fault::of_system(host.alloc(), place, &error)),
+    }
+}
+
 /// Plots the load profile of a readings file.
 #[inline(never)]
-fn run_plot<'a, H: Files + AllocGlobal, W: Write + Drop>(
+fn run_plot<'a, H: Files + AllocGlobal, R: Read + Drop, W: Write + Drop>(
     host: &H,
     readings: &'a str,
     svg: bool,
+    input: R,
     output: W,
 ) -> Result<(), Fault<'a>> {
-    let text = match fs::read_to_string(host, readings) {
-        Ok(text) => text,
-        Err(error) => return Err(Fault::of_file(host.alloc(), readings, &error)),
-    };
+    let (place, text) = readings_text(host, readings, input)?;
     let mut writer = written(host.alloc(), output)?;
     let form = if svg { Form::Svg } else { Form::Text };
     let plotted = match plot_readings(host.alloc(), text.as_str(), form, &mut writer) {
         Ok(()) => Ok(()),
-        Err(fault) => Err(Fault::Plot(fault)),
+        Err(fault) => Err(Fault::of_plot(place, fault)),
     };
     ended(plotted, writer.flush())
 }
@@ -305,15 +392,30 @@ fn run_job<
     E: Write,
 >(host: &H, job: Job<'a>, input: R, output: &mut W, errors: &mut E) -> Result<(), Fault<'a>> {
     match job {
-        Job::Format { file } => run_format(host, file, output),
+        Job::Format { file, demo } => run_format(host, file, demo, output),
         Job::Replay { file: Some(file) } => run_replay_file(host, file, input, output),
         Job::Replay { file: None } => run_replay_memory(host, input, output),
         Job::Loopback { readings, stops } => run_loopback(host, readings, stops, output),
-        Job::Serve { file, listen, load } => {
-            let address = listen.unwrap_or(LISTEN);
+        Job::Serve {
+            file,
+            listen,
+            load,
+            tick,
+            quiet,
+            idle,
+            turn,
+            inactivity,
+        } => {
             let serving = Serving {
-                address,
+                address: listen.unwrap_or(LISTEN),
                 load,
+                tick,
+                times: Times {
+                    inactivity,
+                    idle,
+                    longest: turn,
+                },
+                quiet,
                 errors: Some(STANDARD_ERROR),
             };
             run_serve(host, file, &serving, output, errors)
@@ -336,9 +438,36 @@ fn run_job<
             };
             run_poll(host, &polling, output, errors)
         }
-        Job::Explain { raw } => run_explain(host, raw, input, output),
+        Job::Explain { file, raw } => run_explain(host, file, raw, input, output),
         Job::Show { file, plot } => run_show(host, file, plot, output),
-        Job::Plot { readings, svg } => run_plot(host, readings, svg, output),
+        Job::Plot { readings, svg } => run_plot(host, readings, svg, input, output),
+    }
+}
+
+/// Whether whoever reads what the job prints may have had enough of it: then the job is done.
+fn may_be_cut(job: &Job<'_>) -> bool {
+    matches!(
+        job,
+        Job::Replay { .. } | Job::Explain { .. } | Job::Show { .. } | Job::Plot { .. }
+    )
+}
+
+/// How a job ended, where the output may have failed: why it did is told, but for a reader that has closed its end of a pipe.
+fn judged<'a>(
+    alloc: Global,
+    job: &Job<'a>,
+    ended: Result<(), Fault<'a>>,
+    failure: Option<io::Error>,
+) -> Result<(), Fault<'a>> {
+    match (ended, failure) {
+        (Err(fault), Some(error)) if fault.is_of_a_stream() => {
+            if error.kind() == io::ErrorKind::BrokenPipe && may_be_cut(job) {
+                Ok(())
+            } else {
+                Err(Fault::of_system(alloc, OUTPUT, &error))
+            }
+        }
+        (ended, _) => ended,
     }
 }
 
@@ -352,12 +481,18 @@ pub fn run<H: Net + Files<File = File> + Clock + AllocGlobal, R: Read + Drop, W:
     output: &mut W,
     errors: &mut E,
 ) -> io::Result<u8>
-    // Words that ask for nothing are told as such, or memory was wanting; and only they are.
-    ensures done { IfOk result (λ status. status ≡ DONE → fault_of dlms (map (λ word. word.now) words.now) ≡ []) }
-    ensures usage { IfOk result (λ status. status ≡ USAGE → fault_of dlms (map (λ word. word.now) words.now) ≢ []) }
+    // Words that ask for nothing are told as such, or memory was wanting; and only they are: those that clap refuses, and those that
+    // ask for two clients or name no address.
+    ensures done { IfOk result (λ status. status ≡ DONE → (fault_of dlms (map (λ word. word.now) words.now) ≡ []) × IsClear (subcommand_of dlms (map (λ word. word.now) words.now))) }
+    ensures usage { IfOk result (λ status. status ≡ USAGE → (fault_of dlms (map (λ word. word.now) words.now) ≢ [])
+        ⊎ AsksBoth (subcommand_of dlms (map (λ word. word.now) words.now)) ⊎ NamesNoAddress (subcommand_of dlms (map (λ word. word.now) words.now))) }
 {
     match job(host.alloc(), words) {
-        Ok(job) => finish(run_job(host, job, input, output, errors), errors),
+        Ok(job) => {
+            let mut output = Watched::new(output);
+            let ended = run_job(host, job, input, &mut output, errors);
+            finish(judged(host.alloc(), &job, ended, output.failure()), errors)
+        }
         Err(error) if error.kind() == ErrorKind::OutOfMemory => {
             finish(Err(Fault::MEMORY), errors)
         }

@@ -2,6 +2,7 @@ pub mod HangingUp
 pub mod Clocks
 pub mod Deadline
 pub mod Load
+pub mod Pace
 pub mod Secret
 pub mod Telling
 pub mod Ticks

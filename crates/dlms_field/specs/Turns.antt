@@ -1,22 +1,32 @@
--- When a connection's turn on the meter's line is over. The time-out of 120 seconds is the inactivity time-out of the class IEC HDLC
--- setup (Blue Book 4.7.2) at its default; the others are this project's own, so that whoever waits behind n others has the
--- line within some n minutes.
-use Rattle.std.specs.Prelude.{ℕ, ◌+◌, nat_le, if◌then◌else◌, Option, Some, None}
+-- When a connection's turn on the meter's line is over. The time without an answer is the inactivity time-out of the class IEC HDLC
+-- setup (Blue Book 4.7.2); the others are this project's own, so that whoever waits behind n others has the line within n times
+-- the longest turn.
+use Rattle.std.specs.Prelude.{◌≡◌, ◌+◌, ◌≤◌, ◌<◌, ℕ, Option, Some, None}
+use Rattle.dlms_field.specs.declared.turns.Times.{Times}
 use Rattle.dlms_field.specs.declared.turns.Turn.{Turn}
 use Rattle.dlms_field.specs.declared.turns.Over.{Over}
 use Rattle.dlms_field.specs.declared.turns.Over.TheVariants.{Refused, Inactive, Idle, Long}
-use Rattle.dlms_field.specs.declared.turns.TheConstants.{INACTIVITY_SECONDS, IDLE_SECONDS, MOST_REFUSALS, MOST_SECONDS}
+use Rattle.dlms_field.specs.declared.turns.TheConstants.{MOST_REFUSALS}
 
--- where another connection waits
-abbrev pub over_for : Turn → Option ℕ → ℕ → Option Over
-over_for turn None now = None
-over_for turn (Some since) now =
-    if nat_le (turn.held + IDLE_SECONDS) now then Some Idle
-    else (if nat_le (since + MOST_SECONDS) now then Some Long
-    else None)
+-- another connection waits since this second
+abbrev pub WaitsSince : Turn → ℕ → Type 0
+WaitsSince turn since = turn.waited ≡ Some since
 
-abbrev pub over_at : Turn → ℕ → Option Over
-over_at turn now =
-    if nat_le MOST_REFUSALS turn.refusals then Some Refused
-    else (if nat_le (turn.answered + INACTIVITY_SECONDS) now then Some Inactive
-    else over_for turn turn.waited now)
+-- the turn is over at this second for this reason
+abbrev pub IsOver : Times → Turn → ℕ → Over → Type 0
+IsOver times turn now Refused = MOST_REFUSALS ≤ turn.refusals
+IsOver times turn now Inactive = turn.answered + times.inactivity ≤ now
+IsOver times turn now Idle = (since : ℕ) × WaitsSince turn since × (turn.held + times.idle ≤ now)
+IsOver times turn now Long = (since : ℕ) × WaitsSince turn since × (since + times.longest ≤ now)
+
+-- the reasons in the order in which they are told
+abbrev pub place_of : Over → ℕ
+place_of Refused = 0
+place_of Inactive = 1
+place_of Idle = 2
+place_of Long = 3
+
+-- what is told of a turn at this second: the first reason for which it is over, and none only where it is over for none
+abbrev pub Tells : Times → Turn → ℕ → Option Over → Type 0
+Tells times turn now (Some why) = IsOver times turn now why × ((other : Over) → place_of other < place_of why → IsOver times turn now other → ⊥)
+Tells times turn now None = (why : Over) → IsOver times turn now why → ⊥

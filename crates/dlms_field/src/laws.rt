@@ -2,8 +2,9 @@
 
 ghost use Rattle.std.specs.Prelude.{◌≡◌, ◌+◌, List, length, sum_by};
 ghost use Rattle.dlms_field.specs.declared.hanging_up.TheConstants.{DISC, METER};
+ghost use Rattle.dlms_field.specs.declared.secret.TheConstants.{MOST_SECRET};
 ghost use Rattle.dlms_field.specs.declared.telling.TheConstants.{CATCH_UP};
-ghost use Rattle.dlms_field.specs.declared.turns.TheConstants.{INACTIVITY_SECONDS, IDLE_SECONDS, MOST_REFUSALS, MOST_SECONDS};
+ghost use Rattle.dlms_field.specs.declared.turns.TheConstants.{MOST_REFUSALS};
 ghost use Rattle.dlms_field.specs.Load.{pulses_after};
 ghost use Rattle.dlms_field.specs.Ticks.{AreNext};
 ghost use Rattle.dlms_field.specs.declared.ticks.Ticks.{Ticks as TicksOf};
@@ -18,9 +19,10 @@ pub fn pulses_add_up()
 {}
 
 /// The numbers that clauses cite by name: the seconds of one look at the clock, the control octet of DISC and the meter's upper
-/// address, and the seconds and refusals after which a turn is over.
+/// address, the octets of the longest secret, and the refusals after which a turn is over.
 pub fn the_numbers()
     ensures look { CATCH_UP ≡ 60 }
     ensures disc { (DISC ≡ 0x53) × (METER ≡ 1) }
-    ensures turn { (INACTIVITY_SECONDS ≡ 120) × (IDLE_SECONDS ≡ 5) × (MOST_SECONDS ≡ 60) × (MOST_REFUSALS ≡ 5) }
+    ensures secret { MOST_SECRET ≡ 16 }
+    ensures turn { MOST_REFUSALS ≡ 5 }
 {}

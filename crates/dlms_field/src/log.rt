@@ -52,9 +52,10 @@ impl<A: Allocator + Copy> Gauge<A> {
     }
 }
 
-/// How many lines were dropped, and whether the next one would have to wait.
+/// How many lines were dropped, and whether the next one would have to wait; or that none is wanted.
 #[derive(Drop)]
 pub struct Log<A: Allocator> {
+    is_quiet: bool,
     gauge: Option<Gauge<A>>,
     dropped: u64,
 }
@@ -66,12 +67,28 @@ impl<A: Allocator + Copy> Log<A> {
             Some(descriptor) => Gauge::new(rt, alloc, descriptor),
             None => None,
         };
-        Log { gauge, dropped: 0 }
+        Log {
+            is_quiet: false,
+            gauge,
+            dropped: 0,
+        }
+    }
+
+    /// No line is written.
+    pub fn quiet() -> Self {
+        Log {
+            is_quiet: true,
+            gauge: None,
+            dropped: 0,
+        }
     }
 
     /// Whether the next line is to be written. One that would have to wait is dropped. How many were is told before the next one that
     /// is not.
     pub fn takes_line<E: Write>(&mut self, errors: &mut E) -> bool {
+        if self.is_quiet {
+            return false;
+        }
         let is_ready = match &mut self.gauge {
             Some(gauge) => gauge.is_ready(),
             None => true,

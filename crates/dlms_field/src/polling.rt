@@ -1,18 +1,13 @@
 //! A head end that polls the meter at an address once.
 
-ghost use Rattle.std.specs.Prelude.{◌≤◌, IfSome};
-
 use crate::calling::call;
 use crate::clocks::{ClockFault, Limit, first_ahead, judge, left_out};
 use crate::fault::FieldFault;
 use crate::keeping::{give, held, opened};
 use crate::secret::secret_of;
-use arrayvec::ArrayVec;
-use dlms_data::LAST_SECOND;
 use dlms_frame::Client;
-use dlms_headend::{Columns, Plan, Poller, Readings, Row};
-use dlms_loopback::LoopFault;
-use std::alloc::Global;
+use dlms_headend::{Poller, Readings, Row};
+use dlms_loopback::{LoopFault, poller};
 use std::fs::{File, Files};
 use std::io::Write;
 use std::net::Net;
@@ -33,19 +28,6 @@ pub struct Polling<'a> {
     pub deadline: u32,
     /// By how many seconds a row's clock may be past the system's; where none is said, by any.
     pub ahead: Option<u32>,
-}
-
-/// A poll by this client, from the last row's second on.
-fn poller(alloc: Global, client: Client, secret: ArrayVec<u8, 16>, after: Option<u32>) -> Poller
-    requires { IfSome after (λ second. second ≤ LAST_SECOND) }
-{
-    let plan = Plan {
-        client,
-        secret,
-        after,
-        columns: Columns::Asked,
-    };
-    Poller::new(alloc, plan)
 }
 
 /// How far a row may be past the system's clock, which is looked at now.

@@ -3,10 +3,11 @@
 use crate::fault::FieldFault;
 use crate::hanging_up::hang_up;
 use crate::log::Log;
+use crate::pace::due;
 use crate::refusals::{Barred, Counted};
 use crate::telling;
 use crate::ticks::Ticks;
-use crate::turns::{IDLE_SECONDS, INACTIVITY_SECONDS, MOST_REFUSALS, MOST_SECONDS, Over, Turn};
+use crate::turns::{MOST_REFUSALS, Over, Times, Turn};
 use dlms_loopback::{Heard, LoopFault, PIECE, answer, bytes_of, hear};
 use dlms_meter::Meter;
 use dlms_pages::Pages;
@@ -36,6 +37,12 @@ pub struct Serving<'a> {
     pub address: &'a str,
     /// The load in watts, which gives pulses on channel 0.
     pub load: u32,
+    /// The meter is told of the seconds of the clock in steps of so many.
+    pub tick: u32,
+    /// After how many seconds a connection's turn is over.
+    pub times: Times,
+    /// Whether nothing is said of connections, of seconds that are refused, and of errors that pass.
+    pub quiet: bool,
     /// The descriptor behind the errors, if there is one: a line that it does not take at once is dropped.
     pub errors: Option<RawFd>,
 }
@@ -64,7 +71,11 @@ struct Site<'r, 'm, 'e, R: Clock, S: Drop, P: Pages, E: Write> {
     rt: &'r R,
     meter: &'m mut Meter<P>,
     ticks: Ticks,
+    tick: u32,
+    times: Times,
     start: Instant,
+    /// When it was asked last in this turn whether another connection waits.
+    asked: Option<u64>,
     /// Whether the last second was refused.
     refused: bool,
     /// Whether the port gave an error that passes, and no connection since.
@@ -99,7 +110,12 @@ fn passes(error: io::Error) -> bool {
 }
 
 /// Tells how a connection ended. That the line cannot be written is of no matter.
-fn tell_end<E: Write>(errors: &mut E, address: SocketAddr, ending: Ending) {
+fn tell_end<E: Write>(errors: &mut E, address: SocketAddr, times: Times, ending: Ending) {
+    let Times {
+        inactivity,
+        idle,
+        longest,
+    } = times;
     let _said = match ending {
         Ending::Closed => writeln!(errors, "closed {address}"),
         Ending::Over(Over::Refused) => writeln!(
@@ -108,15 +124,15 @@ fn tell_end<E: Write>(errors: &mut E, address: SocketAddr, ending: Ending) {
         ),
         Ending::Over(Over::Inactive) => writeln!(
             errors,
-            "closed {address}: no frame for {INACTIVITY_SECONDS} seconds"
+            "closed {address}: no frame for {inactivity} seconds"
         ),
         Ending::Over(Over::Idle) => writeln!(
             errors,
-            "closed {address}: another waits, and no frame of an association for {IDLE_SECONDS} seconds"
+            "closed {address}: another waits, and no frame of an association for {idle} seconds"
         ),
         Ending::Over(Over::Long) => writeln!(
             errors,
-            "closed {address}: another has waited for {MOST_SECONDS} seconds"
+            "closed {address}: another has waited for {longest} seconds"
         ),
         Ending::Failed(error) => writeln!(errors, "closed {address}: {error}"),
     };
@@ -130,12 +146,12 @@ impl<R: Clock, S: Drop, P: Pages, E: Write> Site<'_, '_, '_, R, S, P, E> {
         }
     }
 
-    /// Looks at the clock, and tells the meter of the seconds that have gone by, so many at most. The seconds of the clock since
-    /// the beginning come back. A moment that is refused is said once, until one is taken again.
+    /// Looks at the clock, and tells the meter of the seconds that are due, so many at most. The seconds of the clock since the
+    /// beginning come back. A moment that is refused is said once, until one is taken again.
     fn look(&mut self) -> Result<u64, LoopFault> {
         let elapsed = self.start.elapsed(self.rt)?.as_secs();
         let told = self.ticks.told;
-        match telling::look(self.meter, &mut self.ticks, elapsed) {
+        match telling::look(self.meter, &mut self.ticks, due(elapsed, self.tick)) {
             Ok(()) => self.refused = self.refused && self.ticks.told == told,
             Err(AddFault::Refused(cause)) => {
                 if !self.refused {
@@ -171,8 +187,52 @@ impl<R: Clock, S: Drop, P: Pages, E: Write> Site<'_, '_, '_, R, S, P, E> {
         self.next.is_some()
     }
 
-    /// Answers a client until the connection ends. Between two pieces of bytes, and once a second where none come, it looks at the
-    /// clock, and once in each of its seconds whether another connection waits.
+    /// Whether the turn is over at this second, and why. Once in each second it is asked whether another connection waits.
+    fn over<L: OpenListener<Stream = S>>(
+        &mut self,
+        listener: &L,
+        turn: &mut Turn,
+        now: u64,
+    ) -> Option<Over> {
+        if turn.waited.is_none() && self.asked != Some(now) && self.another_waits(listener, now) {
+            turn.waited = Some(now);
+        }
+        self.asked = Some(now);
+        turn.over(self.times, now)
+    }
+
+    /// Answers the frames among the bytes, one after another, as long as the turn is not over. Behind each it looks at the clock.
+    fn answer_each<L: OpenListener<Stream = S>, T: Read + Write>(
+        &mut self,
+        listener: &L,
+        stream: &mut Counted<'_, T>,
+        turn: &mut Turn,
+        bytes: &[u8],
+    ) -> Result<Option<Ending>, LoopFault> {
+        let mut rest = bytes;
+        for _ in 0..bytes.len() {
+            if rest.is_empty() {
+                break;
+            }
+            let taken = match answer(stream, self.meter, rest) {
+                Ok(taken) => taken,
+                Err(error) => return Ok(Some(Ending::Failed(error))),
+            };
+            rest = rest.get(taken.count..).unwrap_or(&[]);
+            let now = self.look()?;
+            if taken.is_answered {
+                *turn = turn.answers(now, self.meter.is_associated());
+            }
+            turn.refusals = stream.refusals;
+            if let Some(over) = self.over(listener, turn, now) {
+                return Ok(Some(Ending::Over(over)));
+            }
+        }
+        Ok(None)
+    }
+
+    /// Answers a client until the connection ends. Behind each frame, and once a second where no bytes come, it looks at the clock, and
+    /// once in each of its seconds whether another connection waits.
     fn talk<L: OpenListener<Stream = S>, T: Read + Write>(
         &mut self,
         listener: &L,
@@ -180,18 +240,11 @@ impl<R: Clock, S: Drop, P: Pages, E: Write> Site<'_, '_, '_, R, S, P, E> {
     ) -> Result<Ending, LoopFault> {
         let mut piece = [0u8; PIECE];
         let mut stream = Counted::new(stream);
-        let mut looked = self.look()?;
-        let mut turn = Turn::begins(looked);
-        for round in 0..u64::MAX {
+        let mut turn = Turn::begins(self.look()?);
+        self.asked = None;
+        for _ in 0..u64::MAX {
             let now = self.look()?;
-            if turn.waited.is_none()
-                && (round == 0 || now != looked)
-                && self.another_waits(listener, now)
-            {
-                turn.waited = Some(now);
-            }
-            looked = now;
-            if let Some(over) = turn.over(now) {
+            if let Some(over) = self.over(listener, &mut turn, now) {
                 return Ok(Ending::Over(over));
             }
             let count = match hear(&mut stream, &mut piece) {
@@ -199,12 +252,10 @@ impl<R: Clock, S: Drop, P: Pages, E: Write> Site<'_, '_, '_, R, S, P, E> {
                 Ok(Heard::Silence) => 0,
                 Err(error) => return Ok(ending_of(error)),
             };
-            match answer(&mut stream, self.meter, bytes_of(&piece, count)) {
-                Ok(true) => turn = turn.answers(now, self.meter.is_associated()),
-                Ok(false) => {}
-                Err(error) => return Ok(Ending::Failed(error)),
+            let bytes = bytes_of(&piece, count);
+            if let Some(ending) = self.answer_each(listener, &mut stream, &mut turn, bytes)? {
+                return Ok(ending);
             }
-            turn.refusals = stream.refusals;
         }
         Ok(Ending::Over(Over::Inactive))
     }
@@ -231,7 +282,7 @@ impl<R: Clock, S: Drop, P: Pages, E: Write> Site<'_, '_, '_, R, S, P, E> {
             self.barred.bar(address.ip(), now);
         }
         if self.log.takes_line(self.errors) {
-            tell_end(self.errors, address, ending);
+            tell_end(self.errors, address, self.times, ending);
         }
         Ok(())
     }
@@ -314,7 +365,7 @@ where
 /// second of the system's steady clock, and its load gives pulses. `listening on ADDRESS:PORT` is printed once the port is there;
 /// a line among the errors tells of each connection at its end, and of a moment that is refused. An error of those lines is of
 /// no matter. A store that is stopped is told as `Device`. Each connection has a turn (`Turn`), which is looked
-/// at between two pieces of bytes, and `hang_up` stands before it and behind it.
+/// at behind each frame, and `hang_up` stands before it and behind it.
 pub fn serve<'a, R: Net + Clock + AllocGlobal, P: Pages, W: Write, E: Write>(
     rt: &R,
     meter: &mut Meter<P>,
@@ -334,12 +385,19 @@ pub fn serve<'a, R: Net + Clock + AllocGlobal, P: Pages, W: Write, E: Write>(
         return Err(FieldFault::Other(LoopFault::from(error)));
     }
     let ticks = Ticks::new(meter.state().last(), serving.load);
-    let log = Log::new(rt, rt.alloc(), serving.errors);
+    let log = if serving.quiet {
+        Log::quiet()
+    } else {
+        Log::new(rt, rt.alloc(), serving.errors)
+    };
     let mut site = Site {
         rt,
         meter,
         ticks,
+        tick: serving.tick,
+        times: serving.times,
         start,
+        asked: None,
         refused: false,
         stumbled: false,
         next: None,

@@ -1,19 +1,21 @@
 //! When a connection's turn on the meter's line is over.
 
 ghost use Rattle.std.specs.Prelude.{◌≡◌, ◌≤◌, ◌+◌, ◌↔◌, IsTrue, None, if◌then◌else◌};
-ghost use Rattle.dlms_field.specs.Turns.{over_at};
-
-/// A connection on which no frame was answered for so many seconds is closed.
-pub const INACTIVITY_SECONDS: u64 = 120;
-
-/// Where another connection waits, one on which no frame of an open association was answered for so many seconds is closed.
-pub const IDLE_SECONDS: u64 = 5;
-
-/// Where another connection has waited for so many seconds of a turn, that turn is over in any case.
-pub const MOST_SECONDS: u64 = 60;
+ghost use Rattle.dlms_field.specs.Turns.{Tells};
 
 /// A connection to which so many association requests were refused is closed.
 pub const MOST_REFUSALS: u8 = 5;
+
+/// After how many seconds a turn is over.
+#[derive(Clone, Copy, Debug, PartialEq, Eq)]
+pub struct Times {
+    /// A connection on which no frame was answered for so many seconds is closed.
+    pub inactivity: u32,
+    /// Where another connection waits, one on which no frame of an open association was answered for so many seconds is closed.
+    pub idle: u32,
+    /// Where another connection has waited for so many seconds of a turn, that turn is over in any case.
+    pub longest: u32,
+}
 
 /// What has happened in a connection's turn, in seconds of the clock.
 #[derive(Clone, Copy, Debug, PartialEq, Eq)]
@@ -33,20 +35,20 @@ pub struct Turn {
 pub enum Over {
     /// `MOST_REFUSALS` association requests were refused.
     Refused,
-    /// No frame was answered for `INACTIVITY_SECONDS`.
+    /// No frame was answered for so long.
     Inactive,
-    /// Another connection waits, and no frame of an open association was answered for `IDLE_SECONDS`.
+    /// Another connection waits, and no frame of an open association was answered for so long.
     Idle,
-    /// Another connection has waited for `MOST_SECONDS`.
+    /// Another connection has waited for so long.
     Long,
 }
 
 /// Whether so many seconds have gone by since then.
-fn have_passed(seconds: u64, since: u64, now: u64) -> bool
+fn have_passed(seconds: u32, since: u64, now: u64) -> bool
     ensures { IsTrue result ↔ (since + seconds ≤ now) }
 {
     match now.checked_sub(since) {
-        Some(passed) => passed >= seconds,
+        Some(passed) => passed >= u64::from(seconds),
         None => false,
     }
 }
@@ -75,21 +77,21 @@ impl Turn {
         }
     }
 
-    /// Whether the turn is over at this second, and why.
-    pub fn over(self, now: u64) -> Option<Over>
-        ensures { result ≡ over_at self now }
+    /// Whether the turn is over at this second, and the first of the reasons for which it is.
+    pub fn over(self, times: Times, now: u64) -> Option<Over>
+        ensures { Tells times self now result }
     {
         if self.refusals >= MOST_REFUSALS {
             return Some(Over::Refused);
         }
-        if have_passed(INACTIVITY_SECONDS, self.answered, now) {
+        if have_passed(times.inactivity, self.answered, now) {
             return Some(Over::Inactive);
         }
         let since = self.waited?;
-        if have_passed(IDLE_SECONDS, self.held, now) {
+        if have_passed(times.idle, self.held, now) {
             return Some(Over::Idle);
         }
-        if have_passed(MOST_SECONDS, since, now) {
+        if have_passed(times.longest, since, now) {
             return Some(Over::Long);
         }
         None

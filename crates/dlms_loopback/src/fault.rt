@@ -2,7 +2,7 @@
 ghost use Rattle.std.specs.Prelude.{◌≡◌};
 ghost use Rattle.dlms_loopback.specs.declared.fault.LoopFault.TheVariants.{Open as OpenOf, Add as AddOf, Poll as PollOf, Readings as ReadingsOf, Memory as MemoryOf};
 
-use dlms_headend::{PollFault, ReadingsFault};
+use dlms_headend::{ColumnList, PollFault, ReadingsFault};
 use dlms_store::{AddFault, OpenFault};
 use std::alloc::AllocError;
 use std::io::ErrorKind;
@@ -17,6 +17,8 @@ pub enum LoopFault {
     Add(AddFault),
     /// A poll failed.
     Poll(PollFault),
+    /// A poll failed: the meter told these columns, which are others than those of a readings file.
+    Columns(ColumnList),
     /// The file is no file of readings.
     Readings(ReadingsFault),
     /// The file, the socket or the writer failed.
@@ -31,6 +33,7 @@ impl fmt::Display for LoopFault {
             LoopFault::Open(fault) => fault.fmt(f),
             LoopFault::Add(fault) => fault.fmt(f),
             LoopFault::Poll(fault) => fault.fmt(f),
+            LoopFault::Columns(_) => f.write_str("protocol"),
             LoopFault::Readings(fault) => fault.fmt(f),
             LoopFault::Io => f.write_str("io"),
             LoopFault::Memory => f.write_str("memory"),

@@ -2,7 +2,7 @@
 use crate::end::{Heard, PIECE, READS, bytes_of, hear};
 use crate::fault::LoopFault;
 use dlms_frame::{Deframer, Frame};
-use dlms_headend::{PollFault, PollStep, Poller};
+use dlms_headend::{PollFault, PollStep, Poller, list_columns};
 use std::alloc::{Allocator, Global};
 use std::io;
 use std::io::{Read, Write};
@@ -50,19 +50,23 @@ impl<A: Allocator + Copy> HeadEnd<A> {
         self.poller
     }
 
-    /// Takes a frame.
+    /// Takes a frame. Where the poll ends for the meter's columns, the answer tells which they are.
     fn take_frame<W: Write>(
         &mut self,
         end: &mut W,
         frame: &Frame,
     ) -> Result<Option<Turn>, LoopFault> {
-        match self.poller.on(frame)? {
-            PollStep::Nothing => Ok(None),
-            PollStep::Send(next) => {
+        match self.poller.on(frame) {
+            Ok(PollStep::Nothing) => Ok(None),
+            Ok(PollStep::Send(next)) => {
                 send(end, &next)?;
                 Ok(Some(Turn::Sent))
             }
-            PollStep::Done => Ok(Some(Turn::Done)),
+            Ok(PollStep::Done) => Ok(Some(Turn::Done)),
+            Err(PollFault::Columns) => {
+                Err(LoopFault::Columns(list_columns(self.poller.answer())))
+            }
+            Err(fault) => Err(LoopFault::Poll(fault)),
         }
     }
 

@@ -4,12 +4,12 @@ ghost use Rattle.std.specs.Prelude.{◌≤◌, IfSome};
 
 use crate::fault::LoopFault;
 use crate::filing::Place;
-use crate::polling::poll;
+use crate::polling::{poll, poller};
 use crate::socket::{Line, ends};
 use arrayvec::ArrayVec;
 use dlms_data::LAST_SECOND;
 use dlms_frame::Client;
-use dlms_headend::{Columns, Plan, Poller, Readings};
+use dlms_headend::{Poller, Readings};
 use dlms_meter::Meter;
 use dlms_pages::{MemoryPages, Pick};
 use dlms_store::PAGES;
@@ -99,7 +99,7 @@ impl Filed<'_> {
         line: &mut Line<S>,
         meter: &mut MemoryMeter,
     ) -> Result<(), LoopFault> {
-        let poller = poller(rt.alloc(), self.readings.last());
+        let poller = managements_poller(rt.alloc(), self.readings.last());
         let done = poll(&mut line.head, &mut line.tail, meter, poller)?;
         let _added = self.readings.merge(done.rows())?;
         self.keep(rt)
@@ -139,18 +139,12 @@ fn stopped(alloc: Global, meter: MemoryMeter, round: u8) -> Result<MemoryMeter, 
 }
 
 /// A poll by management, from the last row's second on.
-fn poller(alloc: Global, after: Option<u32>) -> Poller
+fn managements_poller(alloc: Global, after: Option<u32>) -> Poller
     requires { IfSome after (λ second. second ≤ LAST_SECOND) }
 {
     let mut secret = ArrayVec::new();
     let _fits = secret.try_extend_from_slice(SECRET);
-    let plan = Plan {
-        client: Client::Management,
-        secret,
-        after,
-        columns: Columns::Asked,
-    };
-    Poller::new(alloc, plan)
+    poller(alloc, Client::Management, secret, after)
 }
 
 /// Polls, and so many times more, each time behind a stop of the meter.

@@ -74,6 +74,11 @@ same_some e = cc
 abbrev pub IsNot : Text → Option (Text × List Row) → Type 0
 IsNot name met = option_map (λ p. p.0) met ≡ Some name → ⊥
 
+-- what was met under a name has rows
+pub met_named : (name : Text) (met : Option (Text × List Row)) → option_map (λ p. p.0) met ≡ Some name → (rows : List Row) × (met ≡ Some (name, rows))
+met_named name None e = absurd (cc e)
+met_named name (Some (other, rows)) e = (rows, ap (λ (n : Text). Some (n, rows)) (same_some e))
+
 other_name : (name : Text) (met found : Option (Text × List Row)) → met ≡ found → IsNot name met → ((rows : List Row) × (found ≡ Some (name, rows))) → ⊥
 other_name name met found is not_it has = not_it (ap (option_map (λ p. p.0)) (is ∙ has.1))
 

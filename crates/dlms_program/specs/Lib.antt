@@ -1,4 +1,5 @@
 pub mod Outcome
+pub mod Addresses
 pub mod Calls
 pub mod Lines
 pub mod Numbers

@@ -1,10 +1,15 @@
 -- The program's words: its commands, and the job that a parse names.
-use Rattle.std.specs.Prelude.{◌≡◌, ◌<◌, ◌↔◌, ◌^◌, ℕ, pos, [], List, Option, Some, None, codes, cond, option_map, unwrap_or, Bool, true, false, IsTrue}
+use Rattle.std.specs.Str.{bytes_eq}
+use Rattle.std.specs.Prelude.{◌≡◌, ◌⊎◌, if◌then◌else◌, ◌<◌, ◌↔◌, ◌^◌, ℕ, pos, [], List, Option, Some, None, codes, cond, option_map, unwrap_or, Bool, true, false, IsTrue}
+use Rattle.clap.specs.Values.{kind_of}
 use Rattle.clap.specs.Words.{App, Row, Rule, Text, first_of, new_app, new_rule, with_rule, with_subcommand}
+use Rattle.clap.specs.declared.error.Error.{Error}
+use Rattle.clap.specs.declared.error.kind.ErrorKind.TheVariants.{ArgumentConflict, InvalidValue}
 use Rattle.clap.specs.declared.builder.action.ArgAction.TheVariants.{SetTrue}
 use Rattle.dlms_program.specs.declared.commands.Job.{Job}
 use Rattle.dlms_program.specs.declared.commands.Job.TheVariants.{Format, Replay, Loopback, Serve, Poll, Explain, Show, Plot}
-use Rattle.dlms_program.specs.declared.words.TheConstants.{AHEAD, DEADLINE}
+use Rattle.dlms_program.specs.declared.words.TheConstants.{AHEAD, DEADLINE, IDLE, INACTIVITY, TICK, TURN}
+use Rattle.dlms_program.specs.Addresses.{IsAddress}
 use Rattle.dlms_program.specs.Numbers.{IsNumberOf}
 use Rattle.dlms_frame.specs.declared.client.Client.{Client}
 use Rattle.dlms_frame.specs.declared.client.Client.TheVariants.{Public, Management, Reader}
@@ -17,8 +22,12 @@ file_rule = new_rule (codes "FILE")
 abbrev pub wanted_file_rule : Rule
 wanted_file_rule = record file_rule { required = true }
 
+-- a meter in a file may be asked for with a day behind it
+abbrev pub demo_rule : Rule
+demo_rule = record (new_rule (codes "demo")) { long = Some (codes "demo"); action = Some SetTrue }
+
 abbrev pub format_command : App
-format_command = with_rule (new_app (codes "format")) wanted_file_rule
+format_command = with_rule (with_rule (new_app (codes "format")) wanted_file_rule) demo_rule
 
 abbrev pub replay_command : App
 replay_command = with_rule (new_app (codes "replay")) file_rule
@@ -40,8 +49,37 @@ listen_rule = record (new_rule (codes "listen")) { long = Some (codes "listen");
 abbrev pub load_rule : Rule
 load_rule = record (new_rule (codes "load")) { long = Some (codes "load"); value_names = 1; parser = Some (parser.Signed (pos 0) (pos 1000000)) }
 
+abbrev pub listening_command : App
+listening_command = with_rule (with_rule (new_app (codes "serve")) wanted_file_rule) listen_rule
+
+abbrev pub loaded_command : App
+loaded_command = with_rule listening_command load_rule
+
+-- the seconds of a step of the meter's clock may be said, from 1 to 60, and that nothing is to be told of connections
+abbrev pub tick_rule : Rule
+tick_rule = record (new_rule (codes "tick")) { long = Some (codes "tick"); value_names = 1; parser = Some (parser.Signed (pos 1) (pos 60)) }
+
+abbrev pub quiet_rule : Rule
+quiet_rule = record (new_rule (codes "quiet")) { long = Some (codes "quiet"); action = Some SetTrue }
+
+abbrev pub ticking_command : App
+ticking_command = with_rule (with_rule loaded_command tick_rule) quiet_rule
+
+-- the times of a turn may be said, in seconds from 1 to 86400
+abbrev pub idle_rule : Rule
+idle_rule = record (new_rule (codes "idle")) { long = Some (codes "idle"); value_names = 1; parser = Some (parser.Signed (pos 1) (pos 86400)) }
+
+abbrev pub turn_rule : Rule
+turn_rule = record (new_rule (codes "turn")) { long = Some (codes "turn"); value_names = 1; parser = Some (parser.Signed (pos 1) (pos 86400)) }
+
+abbrev pub yielding_command : App
+yielding_command = with_rule (with_rule ticking_command idle_rule) turn_rule
+
+abbrev pub inactivity_rule : Rule
+inactivity_rule = record (new_rule (codes "inactivity")) { long = Some (codes "inactivity"); value_names = 1; parser = Some (parser.Signed (pos 1) (pos 86400)) }
+
 abbrev pub serve_command : App
-serve_command = with_rule (with_rule (with_rule (new_app (codes "serve")) wanted_file_rule) listen_rule) load_rule
+serve_command = with_rule yielding_command inactivity_rule
 
 -- an address has to be named, a file of the secret may be, and another client than management asked for
 abbrev pub address_rule : Rule
@@ -91,12 +129,12 @@ first_commands = with_subcommand (with_subcommand (with_subcommand (new_app (cod
 abbrev pub field_commands : App
 field_commands = with_subcommand (with_subcommand first_commands serve_command.top) poll_command.top
 
--- frames are explained, and strings that may be a secret may be asked for
+-- frames are explained, of a file that may be named, and strings that may be a secret may be asked for
 abbrev pub raw_rule : Rule
 raw_rule = record (new_rule (codes "raw")) { long = Some (codes "raw"); action = Some SetTrue }
 
 abbrev pub explain_command : App
-explain_command = with_rule (new_app (codes "explain")) raw_rule
+explain_command = with_rule (with_rule (new_app (codes "explain")) file_rule) raw_rule
 
 -- a meter's file has to be named, and its curve may be asked for
 abbrev pub plot_rule : Rule
@@ -137,15 +175,12 @@ abbrev pub Says : (bits other : ℕ) → Option Text → ℕ → Type 0
 Says bits other None number = number ≡ other
 Says bits other (Some text) number = (n : ℕ) → n < 2 ^ bits → IsNumberOf text n → number ≡ n
 
--- so many stops, so many watts, and so many seconds
+-- the number that was said for this value, where none is this one: so many stops; so many watts, seconds and the like
 abbrev pub SaysStops : Option Text → ℕ → Type 0
 SaysStops = Says 8 0
 
-abbrev pub SaysLoad : Option Text → ℕ → Type 0
-SaysLoad = Says 32 0
-
-abbrev pub SaysDeadline : Option Text → ℕ → Type 0
-SaysDeadline = Says 32 DEADLINE
+abbrev pub IsSaidFor : List ℕ → List Row → (other number : ℕ) → Type 0
+IsSaidFor name rows other number = Says 32 other (first_of name rows) number
 
 -- a flag was given: clap finds the word `true` for it then, and else `false`
 abbrev pub IsSaid : Option Text → Bool → Type 0
@@ -171,15 +206,42 @@ IsAsker rows client = (public : Bool) × (reader : Bool) × IsSaid (first_of (co
 
 -- the words ask for the job, with these values
 abbrev pub Asks : Met → Job → Type 0
-Asks met (Format file) = (rows : List Row) × (met ≡ Some (codes "format", rows)) × (file.now ≡ unwrap_or (file_in rows) [])
+Asks met (Format file demo) = (rows : List Row) × (met ≡ Some (codes "format", rows)) × (file.now ≡ unwrap_or (file_in rows) []) × IsSaid (first_of (codes "demo") rows) demo
 Asks met (Replay file) = (rows : List Row) × (met ≡ Some (codes "replay", rows)) × (option_map (λ f. f.now) file ≡ file_in rows)
 Asks met (Loopback readings stops) = (rows : List Row) × (met ≡ Some (codes "loopback", rows)) × (option_map (λ f. f.now) readings ≡ first_of (codes "readings") rows) × SaysStops (first_of (codes "stops") rows) stops
-Asks met (Serve file listen load) = (rows : List Row) × (met ≡ Some (codes "serve", rows)) × (file.now ≡ unwrap_or (file_in rows) [])
-    × (option_map (λ a. a.now) listen ≡ first_of (codes "listen") rows) × SaysLoad (first_of (codes "load") rows) load
+Asks met (Serve file listen load tick quiet idle turn inactivity) = (rows : List Row) × (met ≡ Some (codes "serve", rows)) × (file.now ≡ unwrap_or (file_in rows) [])
+    × (option_map (λ a. a.now) listen ≡ first_of (codes "listen") rows) × IsSaidFor (codes "load") rows 0 load
+    × IsSaidFor (codes "tick") rows TICK tick × IsSaid (first_of (codes "quiet") rows) quiet
+    × IsSaidFor (codes "idle") rows IDLE idle × IsSaidFor (codes "turn") rows TURN turn × IsSaidFor (codes "inactivity") rows INACTIVITY inactivity
 Asks met (Poll address readings secret client deadline ahead) = (rows : List Row) × (met ≡ Some (codes "poll", rows)) × (address.now ≡ unwrap_or (first_of (codes "ADDRESS:PORT") rows) [])
     × (option_map (λ f. f.now) readings ≡ first_of (codes "readings") rows) × (option_map (λ f. f.now) secret ≡ first_of (codes "secret-file") rows)
-    × IsAsker rows client × SaysDeadline (first_of (codes "deadline") rows) deadline × ChecksClock rows ahead
-Asks met (Explain raw) = (rows : List Row) × (met ≡ Some (codes "explain", rows)) × IsSaid (first_of (codes "raw") rows) raw
+    × IsAsker rows client × IsSaidFor (codes "deadline") rows DEADLINE deadline × ChecksClock rows ahead
+Asks met (Explain file raw) = (rows : List Row) × (met ≡ Some (codes "explain", rows)) × (option_map (λ f. f.now) file ≡ file_in rows) × IsSaid (first_of (codes "raw") rows) raw
 Asks met (Show file plot) = (rows : List Row) × (met ≡ Some (codes "show", rows)) × (file.now ≡ unwrap_or (file_in rows) []) × IsSaid (first_of (codes "plot") rows) plot
 Asks met (Plot readings svg) = (rows : List Row) × (met ≡ Some (codes "plot", rows)) × (readings.now ≡ unwrap_or (first_of (codes "READINGS") rows) [])
     × IsSaid (first_of (codes "svg") rows) svg
+
+-- ---- words that clap takes, and that ask for nothing all the same
+
+-- two clients are asked for at once
+abbrev pub AsksBoth : Met → Type 0
+AsksBoth met = (rows : List Row) × (met ≡ Some (codes "poll", rows)) × (first_of (codes "public") rows ≡ Some (codes "true")) × (first_of (codes "reader") rows ≡ Some (codes "true"))
+
+-- the address that is named, to poll or to listen on
+abbrev pub address_in : Met → Option Text
+address_in None = None
+address_in (Some (name, rows)) =
+    if bytes_eq name (codes "poll") then first_of (codes "ADDRESS:PORT") rows
+    else (if bytes_eq name (codes "serve") then first_of (codes "listen") rows else None)
+
+-- that is none
+abbrev pub NamesNoAddress : Met → Type 0
+NamesNoAddress met = (text : Text) × (address_in met ≡ Some text) × (IsAddress text → ⊥)
+
+-- neither is so
+abbrev pub IsClear : Met → Type 0
+IsClear met = (AsksBoth met → ⊥) × (NamesNoAddress met → ⊥)
+
+-- one of them is, which the error says
+abbrev pub IsUnclear : Met → Error → Type 0
+IsUnclear met e = (AsksBoth met × (kind_of e ≡ ArgumentConflict)) ⊎ (NamesNoAddress met × (kind_of e ≡ InvalidValue))

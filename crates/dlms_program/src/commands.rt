@@ -5,9 +5,10 @@ use dlms_frame::Client;
 /// The work that the program is asked to do.
 #[derive(Clone, Copy, Debug, PartialEq, Eq)]
 pub enum Job<'a> {
-    /// Makes a new meter in this file, over whatever it holds.
+    /// Makes a new meter in this file, over whatever it holds; where `demo` is set with a day of captures behind it.
     Format {
         file: &'a str,
+        demo: bool,
     },
     /// Replays standard input on the meter in this file, or on a new one in memory.
     Replay {
@@ -19,11 +20,19 @@ pub enum Job<'a> {
         readings: Option<&'a str>,
         stops: u8,
     },
-    /// Serves the meter in this file on a TCP port, at this address where one is named; its load in watts gives pulses.
+    /// Serves the meter in this file on a TCP port, at this address where one is named; its load in watts gives pulses. It is told of
+    /// the seconds of the clock in steps of so many, and says nothing of connections where `quiet` is set. A connection is closed
+    /// on which no frame was answered for `inactivity` seconds; where another waits one on which no frame of an association was
+    /// answered for `idle` seconds, and any once the other has waited for `turn` seconds.
     Serve {
         file: &'a str,
         listen: Option<&'a str>,
         load: u32,
+        tick: u32,
+        quiet: bool,
+        idle: u32,
+        turn: u32,
+        inactivity: u32,
     },
     /// Polls the meter at this address once, into this file where one is named, by this client, with the secret in a file, or
     /// with its first secret where none is named and it has to know one; within so many seconds, and where `ahead` is there with
@@ -36,8 +45,10 @@ pub enum Job<'a> {
         deadline: u32,
         ahead: Option<u32>,
     },
-    /// Explains the frames that stand on standard input; where `raw` is set, with strings that may be a secret.
+    /// Explains the frames that stand in this file, or on standard input where none is named; where `raw` is set, with strings
+    /// that may be a secret.
     Explain {
+        file: Option<&'a str>,
         raw: bool,
     },
     /// Shows what stands in a meter's file, and the curve of its load profile where `plot` asks for it.

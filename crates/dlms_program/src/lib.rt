@@ -1,6 +1,7 @@
 //! What the program does: its words, and the replay of a transcript on a meter.
 #![tactic(auto)]
 
+mod addresses;
 mod commands;
 mod fault;
 pub mod laws;

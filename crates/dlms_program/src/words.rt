@@ -1,10 +1,13 @@
 //! What the program's words ask for.
-ghost use Rattle.std.specs.Prelude.{◌≡◌, [], List, Some, option_map, OnOk, false, true, IfErr, IfOk, codes, map};
-ghost use Rattle.clap.specs.Words.{app_of, fault_of, first_of, rule_of, Row, FailsBy, HasKind, subcommand_rows_of, subcommand_of};
+ghost use Rattle.std.specs.Prelude.{◌≡◌, ◌⊎◌, ◌↔◌, [], List, Some, option_map, OnOk, false, true, IfErr, IfOk, IsTrue, codes, map};
+ghost use Rattle.clap.specs.Values.{kind_of};
+ghost use Rattle.clap.specs.Words.{Text, app_of, fault_of, first_of, rule_of, Row, FailsBy, HasKind, subcommand_rows_of, subcommand_of};
 ghost use Rattle.clap.specs.declared.builder.command.Command.TheViews.{out-Command as fields_of};
-ghost use Rattle.dlms_program.specs.Words.{ahead_rule, asking_command, check_rule, checked_command, deadline_rule, dlms, explain_command, field_commands, first_commands, format_command, known_command, listen_rule, load_rule, loopback_command, open_command, plot_command, plot_rule, poll_command, public_rule, raw_rule, reader_rule, asker as client_by, readings_rule, replay_command, secret_rule, serve_command, show_command, stops_rule, svg_rule, timed_command, Asks, IsSaid, SaysAhead, SaysDeadline, SaysLoad, SaysStops};
+ghost use Rattle.dlms_program.specs.Words.{ahead_rule, asking_command, check_rule, checked_command, deadline_rule, demo_rule, dlms, explain_command, field_commands, first_commands, format_command, known_command, idle_rule, inactivity_rule, listen_rule, listening_command, load_rule, loaded_command, loopback_command, open_command, plot_command, plot_rule, poll_command, public_rule, quiet_rule, raw_rule, reader_rule, asker as client_by, readings_rule, replay_command, secret_rule, serve_command, show_command, stops_rule, svg_rule, tick_rule, ticking_command, timed_command, turn_rule, yielding_command, address_in, Asks, AsksBoth, IsClear, IsUnclear, NamesNoAddress, IsSaid, IsSaidFor, Says, SaysAhead, SaysStops};
 
+use crate::addresses::is_address;
 use crate::commands::Job;
+use clap::error::ErrorKind;
 use clap::{Arg, ArgAction, ArgMatches, Command, Error, value_parser};
 use dlms_frame::Client;
 use std::alloc::{AllocError, Global};
@@ -15,9 +18,29 @@ const VERSION: &str = "0.1.0";
 /// How many seconds a poll may take where nothing is said.
 const DEADLINE: u32 = 300;
 
+/// The seconds of a step in which a meter that serves is told of the clock where nothing is said.
+const TICK: u32 = 1;
+
+/// For how many seconds a connection may be without an answer of an association where another waits and nothing is said: two frames
+/// that are lost and go again.
+const IDLE: u32 = 5;
+
+/// For how many seconds another connection waits at most where nothing is said: many polls.
+const TURN: u32 = 60;
+
+/// For how many seconds a connection may be without an answer where nothing is said: the default of the inactivity time-out of the
+/// class IEC HDLC setup (Blue Book 4.7.2).
+const INACTIVITY: u32 = 120;
+
 /// By how many seconds a row may be past the system's clock where nothing is said: by a day, since a meter's clock may show the
 /// time of any place.
 const AHEAD: u32 = 86_400;
+
+/// What is said where two clients are asked for.
+const TWO_CLIENTS: &str = "the argument '--public' cannot be used with '--reader'";
+
+/// What is said where an address is none.
+const NO_ADDRESS: &str = "an address is wanted as ADDRESS:PORT, with a port of 0 to 65535";
 
 /// What the program is, for its help.
 const ABOUT: &str = "A DLMS/COSEM electricity meter, and a head end that polls one.
@@ -28,7 +51,8 @@ the program does, and for this help.";
 /// What `format` does, for its help.
 const FORMAT_ABOUT: &str = "Makes a new meter in FILE. Whatever FILE holds is written over and lost.
 
-Reads nothing. Prints \"formatted N pages\". The last step is a sync: from then on the meter outlasts a stop of the power.
+Reads nothing. Prints \"formatted N pages\". The last step is a sync: from then on the meter outlasts a stop of the power. With \
+--demo the meter has a day of a household behind it, 96 rows a quarter of an hour apart, and \"captured 96 rows\" is printed too.
 
 Exit status: 0; 1 after a fault (dlms: io, with the file and the system's words on a second line; dlms: device; \
 dlms: memory); 2 for words that are not understood, and for this help.";
@@ -67,10 +91,13 @@ const SERVE_ABOUT: &str =
 Recovers the meter, listens on 127.0.0.1:4059 where no address is named, and prints \"listening on ADDRESS:PORT\"; of port 0 the \
 system chooses one. The meter's running second goes on from the last one that it recovered, a second of it each second of the \
 system's steady clock. With --load channel 0 gets a pulse a watt-hour. A line on standard error tells of the recovery, of the end \
-of each connection, and of a second that the meter refuses; one that cannot be written at once is dropped. What was answered with \
-success or data outlasts a kill; of the seconds and pulses since then a kill takes 496 bytes of records at most. The end of a \
-connection is the end of its links. One on which no frame is answered for 120 seconds is closed; where another waits, one on which \
-no frame of an association is answered for 5 seconds, and any after 60. So is one to which 5 associations were refused.
+of each connection, and of a second that the meter refuses; one that cannot be written at once is dropped, and with --quiet \
+none is written. What was answered with \
+success or data outlasts a kill; of the seconds and pulses since then a kill takes 496 bytes of records at most. With --tick the \
+meter is told of its seconds in steps, each of them all the same: its clock is behind by less than a step, and its file is written \
+less often. The end of a connection is the end of its links. One on which no frame is answered for 120 seconds is closed, or for \
+those of --inactivity; where another waits, one on which no frame of an association is answered for 5 seconds, or for those of \
+--idle, and any after 60, or after those of --turn. So is one to which 5 associations were refused.
 
 Exit status: 1 after a fault (dlms: io, with FILE or the address and the system's words on a second line; dlms: nocheckpoint or \
 dlms: corrupt N for a FILE that holds no meter, or a damaged one; dlms: device or dlms: exhausted once FILE takes no more; \
@@ -99,14 +126,16 @@ of FILE, as a second line says; dlms: memory); \
 
 /// What `explain` does, for its help.
 const EXPLAIN_ABOUT: &str =
-    "Explains the HDLC frames that stand on standard input in hexadecimal digits, and what they carry.
+    "Explains the HDLC frames that stand in FILE in hexadecimal digits, and what they carry; without FILE, and where it is \
+\"-\", those on standard input.
 
 Reads lines: \"> HEX\" for bytes to a meter and \"< HEX\" for bytes from it, as the transcript of a replay has them, or digits \
 alone. Prints each frame's direction, addresses and control, and of the APDU in it the parts by their names. Of a secret no byte \
 is printed; of a string that may be one, since no frame before it asked for it, the length is, and with --raw all of it. A line \
 that holds no bytes of a frame is printed as it stands.
 
-Exit status: 0; 1 after a fault (dlms: io; dlms: memory); 2 for words that are not understood, and for this help.";
+Exit status: 0, also where the reader of the output has had enough; 1 after a fault (dlms: io, with FILE or the stream and the \
+system's words on a second line; dlms: memory); 2 for words that are not understood, and for this help.";
 
 /// What `show` does, for its help.
 const SHOW_ABOUT: &str = "Shows what stands in the meter's file FILE, and changes nothing in it.
@@ -120,16 +149,28 @@ another program uses FILE; dlms: memory); 2 for words that are not understood, a
 
 /// What `plot` does, for its help.
 const PLOT_ABOUT: &str =
-    "Plots the load profile of the readings file READINGS as a curve of steps, broken where captures are missing.
+    "Plots the load profile of the readings file READINGS as a curve of steps, broken where captures are missing; where it is \
+\"-\", of the readings on standard input.
 
 Reads the lines \"clock,r0,r1,r2\" that loopback and poll leave in their --readings. Plots the first register whose first and \
 last rows differ, as the power between neighboring captures: plain text of at most 100 columns, each of them its greatest power. \
 With --svg an SVG that stands alone. The usual period is the step of the clock that stands most often between two captures; \
-where two stand further apart, captures are missing.
+where two stand further apart, captures are missing, at the end as well.
 
 Exit status: 0; 1 after a fault (dlms: io, with READINGS and the system's words on a second line where the system has any; \
 dlms: line N for a line of READINGS that is none of readings; dlms: memory); 2 for words that are not understood, and for this \
 help.";
+
+/// The flag that asks for a day of captures.
+fn demo_flag<'a>(alloc: Global) -> Arg<'a>
+    ensures rule { rule_of result ≡ demo_rule }
+    ensures local { result.global ≡ false }
+{
+    Arg::new(alloc, "demo")
+        .long("demo")
+        .action(ArgAction::SetTrue)
+        .help("Gives the meter a day of a household to show")
+}
 
 fn format_command<'a>(alloc: Global) -> Result<Command<'a>, AllocError>
     ensures shape { IfOk result (λ c. app_of c ≡ format_command) }
@@ -141,7 +182,9 @@ fn format_command<'a>(alloc: Global) -> Result<Command<'a>, AllocError>
     Command::new(alloc, "format")
         .about("Makes a new meter in FILE, over whatever FILE holds")
         .long_about(FORMAT_ABOUT)
-        .arg(file)
+        .after_help("Example:\n  dlms format meter.bin --demo")
+        .arg(file)?
+        .arg(demo_flag(alloc))
 }
 
 fn replay_command<'a>(alloc: Global) -> Result<Command<'a>, AllocError>
@@ -152,6 +195,7 @@ fn replay_command<'a>(alloc: Global) -> Result<Command<'a>, AllocError>
     Command::new(alloc, "replay")
         .about("Replays standard input on the meter in FILE, or on a new one in memory")
         .long_about(REPLAY_ABOUT)
+        .after_help("Example:\n  printf 'P 0 42\\nM 900\\nS\\n' | dlms replay meter.bin")
         .arg(file)
 }
 
@@ -185,6 +229,7 @@ fn loopback_command<'a>(alloc: Global) -> Result<Command<'a>, AllocError>
     Command::new(alloc, "loopback")
         .about("Polls a meter in memory over a socket, and prints the readings")
         .long_about(LOOPBACK_ABOUT)
+        .after_help("Example:\n  dlms loopback --readings readings.csv --stops 2")
         .arg(readings_option(alloc))?
         .arg(stops_option(alloc))
 }
@@ -212,8 +257,9 @@ fn load_option<'a>(alloc: Global) -> Arg<'a>
         .help("So many watts give pulses on channel 0, 0 to 1000000")
 }
 
-fn serve_command<'a>(alloc: Global) -> Result<Command<'a>, AllocError>
-    ensures shape { IfOk result (λ c. app_of c ≡ serve_command) }
+/// `serve`, with a file and an address.
+fn listening_command<'a>(alloc: Global) -> Result<Command<'a>, AllocError>
+    ensures shape { IfOk result (λ c. app_of c ≡ listening_command) }
     ensures local { IfOk result (λ c. (fields_of c).has_globals ≡ false) }
 {
     let file = Arg::new(alloc, "FILE")
@@ -222,9 +268,105 @@ fn serve_command<'a>(alloc: Global) -> Result<Command<'a>, AllocError>
     Command::new(alloc, "serve")
         .about("Serves the meter in FILE on a TCP port")
         .long_about(SERVE_ABOUT)
+        .after_help("Example:\n  dlms serve meter.bin --load 3000")
         .arg(file)?
-        .arg(listen_option(alloc))?
-        .arg(load_option(alloc))
+        .arg(listen_option(alloc))
+}
+
+/// `serve`, with a load.
+fn loaded_command<'a>(alloc: Global) -> Result<Command<'a>, AllocError>
+    ensures shape { IfOk result (λ c. app_of c ≡ loaded_command) }
+    ensures local { IfOk result (λ c. (fields_of c).has_globals ≡ false) }
+{
+    listening_command(alloc)?.arg(load_option(alloc))
+}
+
+/// The option that says the seconds of a step of the meter's clock.
+fn tick_option<'a>(alloc: Global) -> Arg<'a>
+    ensures rule { rule_of result ≡ tick_rule }
+    ensures local { result.global ≡ false }
+{
+    Arg::new(alloc, "tick")
+        .long("tick")
+        .value_name("SECONDS")
+        .value_parser(value_parser!(u32).range(1..=60))
+        .help("The meter is told of its seconds in steps of so many, 1 to 60, 1 at first")
+}
+
+/// The flag that asks for no lines about connections.
+fn quiet_flag<'a>(alloc: Global) -> Arg<'a>
+    ensures rule { rule_of result ≡ quiet_rule }
+    ensures local { result.global ≡ false }
+{
+    Arg::new(alloc, "quiet")
+        .long("quiet")
+        .action(ArgAction::SetTrue)
+        .help("Tells of nothing but the address and a fault")
+}
+
+/// The option that says how long a connection may be idle where another waits.
+fn idle_option<'a>(alloc: Global) -> Arg<'a>
+    ensures rule { rule_of result ≡ idle_rule }
+    ensures local { result.global ≡ false }
+{
+    Arg::new(alloc, "idle")
+        .long("idle")
+        .value_name("SECONDS")
+        .value_parser(value_parser!(u32).range(1..=86_400))
+        .help(
+            "Where another waits, a connection may be without an association's frame for so long, 5 at first",
+        )
+}
+
+/// The option that says how long another connection waits at most.
+fn turn_option<'a>(alloc: Global) -> Arg<'a>
+    ensures rule { rule_of result ≡ turn_rule }
+    ensures local { result.global ≡ false }
+{
+    Arg::new(alloc, "turn")
+        .long("turn")
+        .value_name("SECONDS")
+        .value_parser(value_parser!(u32).range(1..=86_400))
+        .help("Where another waits, a connection ends after so long, 60 at first")
+}
+
+/// The option that says how long a connection may be without an answer.
+fn inactivity_option<'a>(alloc: Global) -> Arg<'a>
+    ensures rule { rule_of result ≡ inactivity_rule }
+    ensures local { result.global ≡ false }
+{
+    Arg::new(alloc, "inactivity")
+        .long("inactivity")
+        .value_name("SECONDS")
+        .value_parser(value_parser!(u32).range(1..=86_400))
+        .help("A connection may be without an answered frame for so long, 120 at first")
+}
+
+/// `serve`, with the steps of its clock, and what it tells.
+fn ticking_command<'a>(alloc: Global) -> Result<Command<'a>, AllocError>
+    ensures shape { IfOk result (λ c. app_of c ≡ ticking_command) }
+    ensures local { IfOk result (λ c. (fields_of c).has_globals ≡ false) }
+{
+    loaded_command(alloc)?
+        .arg(tick_option(alloc))?
+        .arg(quiet_flag(alloc))
+}
+
+/// `serve`, with the times of a turn while another connection waits.
+fn yielding_command<'a>(alloc: Global) -> Result<Command<'a>, AllocError>
+    ensures shape { IfOk result (λ c. app_of c ≡ yielding_command) }
+    ensures local { IfOk result (λ c. (fields_of c).has_globals ≡ false) }
+{
+    ticking_command(alloc)?
+        .arg(idle_option(alloc))?
+        .arg(turn_option(alloc))
+}
+
+fn serve_command<'a>(alloc: Global) -> Result<Command<'a>, AllocError>
+    ensures shape { IfOk result (λ c. app_of c ≡ serve_command) }
+    ensures local { IfOk result (λ c. (fields_of c).has_globals ≡ false) }
+{
+    yielding_command(alloc)?.arg(inactivity_option(alloc))
 }
 
 /// The option that names a file of the secret.
@@ -271,6 +413,7 @@ fn asking_command<'a>(alloc: Global) -> Result<Command<'a>, AllocError>
     Command::new(alloc, "poll")
         .about("Polls the meter at ADDRESS:PORT, and prints the rows that are new")
         .long_about(POLL_ABOUT)
+        .after_help("Example:\n  dlms poll 127.0.0.1:4059 --readings readings.csv")
         .arg(address)?
         .arg(readings_option(alloc))
 }
@@ -391,9 +534,12 @@ fn explain_command<'a>(alloc: Global) -> Result<Command<'a>, AllocError>
     ensures shape { IfOk result (λ c. app_of c ≡ explain_command) }
     ensures local { IfOk result (λ c. (fields_of c).has_globals ≡ false) }
 {
+    let file = Arg::new(alloc, "FILE").help("The file that the frames stand in");
     Command::new(alloc, "explain")
-        .about("Explains the frames that stand on standard input, and what they carry")
+        .about("Explains the frames that stand in FILE or on standard input, and what they carry")
         .long_about(EXPLAIN_ABOUT)
+        .after_help("Example:\n  dlms explain line.log")
+        .arg(file)?
         .arg(raw_flag(alloc))
 }
 
@@ -418,6 +564,7 @@ fn show_command<'a>(alloc: Global) -> Result<Command<'a>, AllocError>
     Command::new(alloc, "show")
         .about("Shows what stands in the meter's file FILE, damaged or not")
         .long_about(SHOW_ABOUT)
+        .after_help("Example:\n  dlms show meter.bin --plot")
         .arg(file)?
         .arg(plot_flag(alloc))
 }
@@ -443,6 +590,7 @@ fn plot_command<'a>(alloc: Global) -> Result<Command<'a>, AllocError>
     Command::new(alloc, "plot")
         .about("Plots the load profile of the readings file READINGS")
         .long_about(PLOT_ABOUT)
+        .after_help("Example:\n  dlms plot readings.csv --svg > curve.svg")
         .arg(readings)?
         .arg(svg_flag(alloc))
 }
@@ -486,24 +634,21 @@ fn stops(said: Option<&str>) -> u8
     }
 }
 
-/// The load in watts that was said.
-fn load(said: Option<&str>) -> u32
-    ensures { SaysLoad (option_map (λ text. text.now) said.entry) result }
+/// The number that was said, and where none was this one.
+fn number(said: Option<&str>, other: u32) -> u32
+    ensures { Says 32 other (option_map (λ text. text.now) said.entry) result }
 {
     match said {
-        Some(text) => text.parse::<u32>().unwrap_or(0),
-        None => 0,
+        Some(text) => text.parse::<u32>().unwrap_or(other),
+        None => other,
     }
 }
 
-/// The deadline in seconds that was said.
-fn deadline(said: Option<&str>) -> u32
-    ensures { SaysDeadline (option_map (λ text. text.now) said.entry) result }
+/// The number that was said for one of a command's values, and where none was this one.
+fn number_for(matches: &ArgMatches<'_>, command: &str, id: &str, other: u32) -> u32
+    ensures { (rows : List Row) → subcommand_rows_of matches.now ≡ Some (command.now, rows) → IsSaidFor id.now rows other result }
 {
-    match said {
-        Some(text) => text.parse::<u32>().unwrap_or(DEADLINE),
-        None => DEADLINE,
-    }
+    number(value_for(matches, command, id), other)
 }
 
 /// By how many seconds a row may be past the system's clock, where that is looked at.
@@ -524,6 +669,17 @@ fn is_given(said: Option<&str>) -> bool
     said == Some("true")
 }
 
+/// The values of `format`.
+fn format_job<'a>(matches: &ArgMatches<'a>) -> Job<'a>
+    ensures { (rows : List Row) → subcommand_rows_of matches.now ≡ Some (codes "format", rows) → Asks (Some (codes "format", rows)) result }
+{
+    let demo = is_given(value_for(matches, "format", "demo"));
+    Job::Format {
+        file: value_for(matches, "format", "FILE").unwrap_or(""),
+        demo,
+    }
+}
+
 /// The values of `loopback`.
 fn loopback_job<'a>(matches: &ArgMatches<'a>) -> Job<'a>
     ensures { (rows : List Row) → subcommand_rows_of matches.now ≡ Some (codes "loopback", rows) → Asks (Some (codes "loopback", rows)) result }
@@ -538,10 +694,16 @@ fn loopback_job<'a>(matches: &ArgMatches<'a>) -> Job<'a>
 fn serve_job<'a>(matches: &ArgMatches<'a>) -> Job<'a>
     ensures { (rows : List Row) → subcommand_rows_of matches.now ≡ Some (codes "serve", rows) → Asks (Some (codes "serve", rows)) result }
 {
+    let quiet = is_given(value_for(matches, "serve", "quiet"));
     Job::Serve {
         file: value_for(matches, "serve", "FILE").unwrap_or(""),
         listen: value_for(matches, "serve", "listen"),
-        load: load(value_for(matches, "serve", "load")),
+        load: number_for(matches, "serve", "load", 0),
+        tick: number_for(matches, "serve", "tick", TICK),
+        quiet,
+        idle: number_for(matches, "serve", "idle", IDLE),
+        turn: number_for(matches, "serve", "turn", TURN),
+        inactivity: number_for(matches, "serve", "inactivity", INACTIVITY),
     }
 }
 
@@ -570,7 +732,7 @@ fn poll_job<'a>(matches: &ArgMatches<'a>) -> Job<'a>
         readings: value_for(matches, "poll", "readings"),
         secret_file: value_for(matches, "poll", "secret-file"),
         client: asker(public, reader),
-        deadline: deadline(value_for(matches, "poll", "deadline")),
+        deadline: number_for(matches, "poll", "deadline", DEADLINE),
         ahead: ahead(checks, value_for(matches, "poll", "ahead")),
     }
 }
@@ -590,8 +752,10 @@ fn show_job<'a>(matches: &ArgMatches<'a>) -> Job<'a>
 fn explain_job<'a>(matches: &ArgMatches<'a>) -> Job<'a>
     ensures { (rows : List Row) → subcommand_rows_of matches.now ≡ Some (codes "explain", rows) → Asks (Some (codes "explain", rows)) result }
 {
+    let raw = is_given(value_for(matches, "explain", "raw"));
     Job::Explain {
-        raw: is_given(value_for(matches, "explain", "raw")),
+        file: value_for(matches, "explain", "FILE"),
+        raw,
     }
 }
 
@@ -606,17 +770,80 @@ fn plot_job<'a>(matches: &ArgMatches<'a>) -> Job<'a>
     }
 }
 
-/// The job that the words name, the first of which is the program's own name: its command and its values are those that `clap`
-/// finds for them. A fault is `clap`'s, or want of memory; where `clap` finds none, it is want of memory.
-pub fn job<'a>(alloc: Global, words: &'a [&'a str]) -> Result<Job<'a>, Error>
-    ensures ok { IfOk result (Asks (subcommand_of dlms (map (λ word. word.now) words.entry.now))) }
-    ensures only_ok { OnOk result (fault_of dlms (map (λ word. word.now) words.entry.now) ≡ []) }
-    ensures fault { IfErr result (HasKind (fault_of dlms (map (λ word. word.now) words.entry.now))) }
+/// Whether two clients are asked for at once.
+fn asks_both(matches: &ArgMatches<'_>) -> bool
+    ensures { IsTrue result ↔ AsksBoth (subcommand_rows_of matches.now) }
+{
+    if matches.subcommand_name() != Some("poll") {
+        return false;
+    }
+    let public = is_given(value_for(matches, "poll", "public"));
+    let reader = is_given(value_for(matches, "poll", "reader"));
+    public && reader
+}
+
+/// The address that is named, to poll or to listen on.
+fn address_for<'a>(matches: &ArgMatches<'a>) -> Option<&'a str>
+    ensures { option_map (λ text. text.now) result ≡ address_in (subcommand_rows_of matches.now) }
+{
+    if matches.subcommand_name() == Some("poll") {
+        return value_for(matches, "poll", "ADDRESS:PORT");
+    }
+    if matches.subcommand_name() == Some("serve") {
+        return value_for(matches, "serve", "listen");
+    }
+    None
+}
+
+/// Whether the address that is named is none.
+fn names_no_address(matches: &ArgMatches<'_>) -> bool
+    ensures { IsTrue result ↔ NamesNoAddress (subcommand_rows_of matches.now) }
+{
+    match address_for(matches) {
+        Some(text) => !is_address(text.as_bytes()),
+        None => false,
+    }
+}
+
+/// The error of words that clap takes, and that ask for nothing all the same.
+fn complaint(alloc: Global, kind: ErrorKind, message: &str) -> Result<Error, AllocError>
+    ensures { IfOk result (λ e. kind_of e ≡ kind) }
+{
+    let mut program = program(alloc)?;
+    program.error(kind, message)
+}
+
+/// What was found for the words, where it asks for something.
+fn clear<'a>(alloc: Global, words: &'a [&'a str]) -> Result<ArgMatches<'a>, Error>
+    ensures none { OnOk result (fault_of dlms (map (λ word. word.now) words.entry.now) ≡ []) }
+    ensures clear { OnOk result (IsClear (subcommand_of dlms (map (λ word. word.now) words.entry.now))) }
+    ensures matches { IfOk result (λ m. subcommand_rows_of m ≡ subcommand_of dlms (map (λ word. word.now) words.entry.now)) }
+    ensures fault { IfErr result (λ e. HasKind (fault_of dlms (map (λ word. word.now) words.entry.now)) e
+        ⊎ IsUnclear (subcommand_of dlms (map (λ word. word.now) words.entry.now)) e) }
 {
     let matches = parsed(alloc, words)?;
+    if asks_both(&matches) {
+        return Err(complaint(alloc, ErrorKind::ArgumentConflict, TWO_CLIENTS)?);
+    }
+    if names_no_address(&matches) {
+        return Err(complaint(alloc, ErrorKind::InvalidValue, NO_ADDRESS)?);
+    }
+    Ok(matches)
+}
+
+/// The job that the words name, the first of which is the program's own name: its command and its values are those that `clap`
+/// finds for them. A fault is `clap`'s, or want of memory, or that two clients are asked for, or no address is named where one is
+/// wanted; where there is none of these, it is want of memory.
+pub fn job<'a>(alloc: Global, words: &'a [&'a str]) -> Result<Job<'a>, Error>
+    ensures ok { IfOk result (Asks (subcommand_of dlms (map (λ word. word.now) words.entry.now))) }
+    ensures clear { OnOk result (IsClear (subcommand_of dlms (map (λ word. word.now) words.entry.now))) }
+    ensures only_ok { OnOk result (fault_of dlms (map (λ word. word.now) words.entry.now) ≡ []) }
+    ensures fault { IfErr result (λ e. HasKind (fault_of dlms (map (λ word. word.now) words.entry.now)) e
+        ⊎ IsUnclear (subcommand_of dlms (map (λ word. word.now) words.entry.now)) e) }
+{
+    let matches = clear(alloc, words)?;
     if matches.subcommand_name() == Some("format") {
-        let file = value_for(&matches, "format", "FILE").unwrap_or("");
-        return Ok(Job::Format { file });
+        return Ok(format_job(&matches));
     }
     if matches.subcommand_name() == Some("replay") {
         let file = value_for(&matches, "replay", "FILE");

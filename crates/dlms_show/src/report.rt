@@ -3,7 +3,7 @@
 use crate::fault::ShowFault;
 use crate::file::MOST_BYTES;
 use crate::journal::write_journal;
-use crate::pages::write_pages;
+use crate::pages::{has_pages, write_pages};
 use crate::profile::{plotted, samples_of, write_rows};
 use crate::state::write_state;
 use dlms_checkpoint::Version;
@@ -188,6 +188,9 @@ pub fn write_report<A: Allocator + Copy, W: Write>(
     let survey = Survey::of(alloc, image)?;
     let judge = Judge::new(image, &survey);
     write_length(length, output)?;
+    if !has_pages(image) {
+        output.write_all(b"no meter's file: no page of it is whole\n")?;
+    }
     output.write_all(b"\npages\n")?;
     write_pages(image, &judge, output)?;
     output.write_all(b"\n")?;

@@ -1,7 +1,7 @@
 use Rattle.std.proofs.Common.{rules, refl, subst}
 use Rattle.std.specs.Prelude.{Option}
 use Rattle.clap.specs.Words.{Text}
-use Rattle.dlms_program.specs.Words.{IsSaid, SaysAhead, SaysDeadline}
+use Rattle.dlms_program.specs.Words.{IsSaid, SaysAhead}
 use Rattle.dlms_program.proofs.words.poll_job.Goals as goal
 
 pub returns : goal.returns
@@ -19,10 +19,10 @@ returns c = λ rows met.
         subst (λ (said : Option Text). IsSaid said c.is_given-reader.result) (c.value_for-2.ensures rows met) c.is_given-reader.ensures,
         c.asker.ensures,
       ),
-      subst (λ (said : Option Text). SaysDeadline said c.deadline.result) (c.value_for-7.ensures rows met) c.deadline.ensures,
+      c.number_for.ensures rows met,
       (
         c.is_given-checks.result,
         subst (λ (said : Option Text). IsSaid said c.is_given-checks.result) (c.value_for-3.ensures rows met) c.is_given-checks.ensures,
-        subst (λ (said : Option Text). SaysAhead c.is_given-checks.result said c.ahead.result) (c.value_for-8.ensures rows met) c.ahead.ensures,
+        subst (λ (said : Option Text). SaysAhead c.is_given-checks.result said c.ahead.result) (c.value_for-7.ensures rows met) c.ahead.ensures,
       ),
     )

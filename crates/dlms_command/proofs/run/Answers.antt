@@ -1,0 +1,12 @@
+use Rattle.std.proofs.Common.{rules, ◌≡◌, map}
+use Rattle.clap.specs.Values.{kind_of}
+use Rattle.clap.specs.Words.{fault_of, subcommand_of}
+use Rattle.clap.specs.declared.error.kind.ErrorKind.TheVariants.{OutOfMemory}
+use Rattle.dlms_program.specs.Words.{dlms}
+use Rattle.dlms_command.proofs.Usage.{is_usage}
+use Rattle.dlms_command.proofs.run.Goals as goal
+
+pub returns-clause-usage : goal.returns-clause-usage
+returns-clause-usage g c = λ _.
+    is_usage (fault_of dlms (map (λ word. word.now) c.args.words.now)) (subcommand_of dlms (map (λ word. word.now) c.args.words.now)) c.in-Err-2.error
+    (λ (memory : kind_of c.in-Err-2.error ≡ OutOfMemory). absurd (search rules)) c.in-Err-2.ensures.fault

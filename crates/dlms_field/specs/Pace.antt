@@ -1,0 +1,9 @@
+-- At what pace a meter is told of the seconds of a clock.
+use Rattle.std.specs.Prelude.{◌≡◌, ◌+◌, ◌*◌, ◌<◌, ◌≤◌, ℕ}
+
+-- of the seconds that have gone by these are due: those of so many whole steps, the next of which is not over yet
+pub record AreDue (step elapsed due : ℕ) : Type 0 where
+  pub steps : ℕ
+  pub whole : due ≡ steps * step
+  pub gone : due ≤ elapsed
+  pub next : elapsed < due + step
