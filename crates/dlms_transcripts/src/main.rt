@@ -4,6 +4,7 @@
 //! something is said among the errors `NNN.err`, and where the program is not asked to `replay` on a new meter `NNN.words` (its
 //! words, one a line). The cases run in the order of their numbers, in one folder: a file that one makes is there for the next.
 //! Where a case has `NNN.seal`, the file that its last word names must have this SHA-256 behind the run.
+//! `faults.txt` is what is said of the faults that no case brings about (`faults`).
 //! From 601 to 609 a case is a talk: each line is given when it is asked for, and only where each frame before it was answered.
 #![tactic(auto)]
 
@@ -19,6 +20,7 @@ use std::process::ExitCode;
 use std::rt::Files;
 use std::time::Clock;
 
+mod faults;
 mod talk;
 
 use talk::{Asking, Hearing, Turns};
@@ -165,8 +167,17 @@ fn run_all<R: Net + Files<File = File> + Clock + Print + AllocGlobal>(rt: &R) ->
     Ok(differing)
 }
 
+/// Whether each fault is told as `faults.txt` has it.
+fn faults_are_said<R: Files + Print + AllocGlobal>(rt: &R) -> Result<bool> {
+    let expected = bytes_of(rt, "faults", "txt")?;
+    let is_said = is_bytes(&expected, faults::said(rt.alloc())?.as_slice());
+    println!(rt; "faults in words: {is_said}")?;
+    Ok(is_said)
+}
+
 fn main(rt: HostRuntime) -> Result<ExitCode> {
-    if run_all(&rt)? == 0 {
+    let differing = run_all(&rt)?;
+    if faults_are_said(&rt)? && differing == 0 {
         Ok(ExitCode::SUCCESS)
     } else {
         Ok(ExitCode::from(1))
