@@ -1,5 +1,6 @@
 //! What a recovery finds in an image, and what it would do.
-ghost use Rattle.std.specs.Prelude.{◌≡◌, IfOk, IsErr, MatchResult, option_map};
+ghost use Rattle.std.specs.Prelude.{◌≡◌, ◌≢◌, Err, IfOk, IsErr, MatchResult, option_map};
+ghost use Rattle.dlms_pages.specs.Device.{Rose};
 ghost use Rattle.dlms_store.specs.Cause.{IsCause};
 ghost use Rattle.dlms_survey.specs.Survey.{IsFoundIn, IsGateOf, IsRecovery, IsSurveyed, state_in};
 
@@ -42,6 +43,8 @@ fn gate_in<A: Allocator + Copy>(image: &Image<A>, slot: Slot) -> Option<Edition>
 /// What a recovery finds in an image, by the store's own reading.
 fn found_in<A: Allocator + Copy>(alloc: A, image: &mut Image<A>) -> Result<Found<A>, OpenFault>
     ensures found { IsFoundIn image.old.pages result }
+    ensures size { result ≢ Err OpenFault.Size }
+    ensures device { result ≡ Err OpenFault.Device → Rose image.old.faults image.new.faults }
     ensures pages { image.new.pages ≡ image.old.pages }
 {
     image.has_all_pages();
@@ -66,6 +69,8 @@ impl<A: Allocator + Copy> Survey<A> {
     /// Surveys an image. Want of memory comes of the rows of the state, and so only where all else is that of one.
     pub fn of(alloc: A, image: &mut Image<A>) -> Result<Survey<A>, AllocError>
         ensures surveyed { IfOk result (IsSurveyed image.old.pages) }
+        ensures told { IfOk result (λ survey. (survey.found ≢ Err OpenFault.Size) × (survey.found ≢ Err OpenFault.Memory)) }
+        ensures device { IfOk result (λ survey. survey.found ≡ Err OpenFault.Device → Rose image.old.faults image.new.faults) }
         ensures memory { IsErr result → IsCause OpenFault.Memory image.old.pages }
         ensures pages { image.new.pages ≡ image.old.pages }
     {

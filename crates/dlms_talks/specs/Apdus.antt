@@ -1,5 +1,5 @@
 -- What an APDU is told as is what the reader of its kind reads.
-use Rattle.std.specs.Prelude.{◌≡◌, ◌⊎◌, ℕ, List, ◌∷◌, IsOkAnd}
+use Rattle.std.specs.Prelude.{◌≡◌, ◌==◌, ◌&&◌, ◌||◌, ℕ, List, Option, Some, None, IsOkAnd, get_or, if◌then◌else◌, length, nat_lt}
 use Rattle.dlms_acse.specs.declared.outcome.Verdict.{Verdict}
 use Rattle.dlms_acse.specs.Spelling.{IsAarq, IsAare}
 use Rattle.dlms_acse.specs.Verdict.{Request, request_of as said_by}
@@ -8,6 +8,10 @@ use Rattle.dlms_apdu.specs.Reading.{HoldsData, HoldsValue, request_at, response_
 use Rattle.dlms_apdu.specs.Spelling.{SpellsRequest, SpellsResponse}
 use Rattle.dlms_apdu.specs.View.{request_of, response_of}
 use Rattle.dlms_talks.specs.declared.apdus.Apdu.{Apdu}
+use Rattle.dlms_talks.specs.declared.apdus.Kind.{Kind}
+use Rattle.dlms_talks.specs.declared.apdus.Kind.TheVariants as kind
+use Rattle.dlms_talks.specs.declared.parties.Side.{Side}
+use Rattle.dlms_talks.specs.declared.parties.Side.TheVariants.{Client, Meter}
 use Rattle.dlms_talks.specs.declared.apdus.Apdu.TheVariants as apdu
 
 -- the bytes are none of a kind
@@ -44,16 +48,36 @@ IsToldOfResponse bytes (apdu.Response r) = SpellsResponse bytes (response_of r)
 IsToldOfResponse bytes (apdu.Unreadable f) = IsNoResponse bytes
 IsToldOfResponse bytes _ = ⊥
 
--- What is told of bytes is so: of a release, that they begin as one; of any other APDU, that they spell what is told; of what
--- is not readable, that the reader of a kind has none.
-abbrev pub IsTold : {A : Type 0} → List ℕ → Apdu A → Type 0
-IsTold bytes (apdu.AssociationRequest a) = IsAarq bytes (said_by a)
-IsTold bytes (apdu.AssociationResponse v) = IsAare bytes v
-IsTold bytes (apdu.ReleaseRequest r) = (rest : List ℕ) × (bytes ≡ 0x62 ∷ rest)
-IsTold bytes (apdu.ReleaseResponse r) = (rest : List ℕ) × (bytes ≡ 0x63 ∷ rest)
-IsTold bytes (apdu.Request r) = SpellsRequest bytes (request_of r)
-IsTold bytes (apdu.Response r) = SpellsResponse bytes (response_of r)
-IsTold bytes (apdu.Unreadable f) = (IsNoAarq bytes ⊎ IsNoAare bytes) ⊎ (IsNoRequest bytes ⊎ IsNoResponse bytes)
+-- by whom it was sent
+abbrev pub kind_by : Option Side → Kind
+kind_by None = kind.Request
+kind_by (Some Client) = kind.Request
+kind_by (Some Meter) = kind.Response
+
+-- Which reader an APDU is given to, by its first octet (IEC 62056-5-3: the tags of AARQ 60, AARE 61, RLRQ 62 and RLRE 63, of the
+-- requests C0, C1, C3, of the responses C4, C5, C7, and of the exception D8), and where that is none of these by the side that sent it.
+abbrev pub kind_of : Option Side → ℕ → Kind
+kind_of side octet =
+    if octet == 0x60 then kind.AssociationRequest
+    else (if octet == 0x61 then kind.AssociationResponse
+    else (if octet == 0x62 then kind.ReleaseRequest
+    else (if octet == 0x63 then kind.ReleaseResponse
+    else (if (octet == 0xC4) || (octet == 0xC5) || (octet == 0xC7) || (octet == 0xD8) then kind.Response
+    else (if (octet == 0xC0) || (octet == 0xC1) || (octet == 0xC3) then kind.Request
+    else kind_by side)))))
+
+-- the reason of a release, where one stands behind the tag 80 and its length 1
+abbrev pub reason_of : List ℕ → Option ℕ
+reason_of bytes = if nat_lt 4 (length bytes) && (get_or bytes 2 0 == 0x80) && (get_or bytes 3 0 == 1) then Some (get_or bytes 4 0) else None
+
+-- What is told of bytes is what the reader of this kind reads of them, or that it reads nothing.
+abbrev pub IsToldAs : {A : Type 0} → Kind → List ℕ → Apdu A → Type 0
+IsToldAs kind.AssociationRequest bytes a = IsToldOfAarq bytes a
+IsToldAs kind.AssociationResponse bytes a = IsToldOfAare bytes a
+IsToldAs kind.ReleaseRequest bytes a = a ≡ apdu.ReleaseRequest (reason_of bytes)
+IsToldAs kind.ReleaseResponse bytes a = a ≡ apdu.ReleaseResponse (reason_of bytes)
+IsToldAs kind.Request bytes a = IsToldOfRequest bytes a
+IsToldAs kind.Response bytes a = IsToldOfResponse bytes a
 
 -- the bytes are a request, or a response, that holds a value which needs memory
 abbrev pub RequestNeedsMemory : List ℕ → Type 0

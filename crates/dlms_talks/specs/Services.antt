@@ -1,7 +1,7 @@
 -- What is kept of the services of a talk, from one APDU to the next.
-use Rattle.std.specs.Prelude.{ℕ, ◌==◌, if◌then◌else◌, Bool, true, false, Option, Some, None}
+use Rattle.std.specs.Prelude.{◌≡◌, ◌<◌, ℕ, ◌==◌, if◌then◌else◌, length, Bool, true, false, Option, Some, None}
 use Rattle.dlms_blocks.specs.Coming.{first_answer, first_after, more_answer, more_after}
-use Rattle.dlms_blocks.specs.Joining.{empty}
+use Rattle.dlms_blocks.specs.Joining.{empty, is_next}
 use Rattle.dlms_apdu.specs.declared.request.Request.{Request}
 use Rattle.dlms_apdu.specs.declared.request.Request.TheVariants.{GetNormal, GetNext, SetNormal, SetFirst, SetBlock, ActionNormal, ActionFirst, ActionBlock}
 use Rattle.dlms_apdu.specs.declared.response.Response.{Response}
@@ -57,6 +57,11 @@ transfers_behind_response t asked _ = t
 
 abbrev pub behind_response : {A : Type 0} → Services A → Response A → Services A
 behind_response s response = record s { transfers = transfers_behind_response s.transfers s.asked response; asked = None }
+
+-- a response is the next block of the value under way, and has octets to be joined
+abbrev pub JoinsBlock : {A : Type 0} → TwoTransfers → Response A → Type 0
+JoinsBlock t (answer.GetBlock invoke last n raw) = (is_next (begun t.got n) n ≡ true) × (0 < length raw.now)
+JoinsBlock t _ = ⊥
 
 abbrev pub got_joined : {A : Type 0} → TwoTransfers → Response A → Option Joined
 got_joined t (answer.GetBlock invoke last n raw) = Some (got_answer (begun t.got n) last n raw.now)

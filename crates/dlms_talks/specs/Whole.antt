@@ -1,5 +1,7 @@
 -- What is told of a value that came in blocks.
-use Rattle.std.specs.Prelude.{◌≡◌, ℕ, List}
+use Rattle.std.specs.Prelude.{◌≡◌, ℕ, List, IsOkAnd}
+use Rattle.dlms_data.specs.Memory.{NeedsFirst}
+use Rattle.dlms_data.specs.Reading.{data_at}
 use Rattle.dlms_data.specs.Spelling.{IsSpelling}
 use Rattle.dlms_data.specs.View.{value_of}
 use Rattle.dlms_talks.specs.declared.secrecy.Secrecy.{Secrecy}
@@ -17,3 +19,9 @@ IsToldOfWhole Unknown octets _ = ⊥
 IsToldOfWhole Open octets (told.Value value) = IsSpelling octets (value_of value)
 IsToldOfWhole Open octets (told.Unreadable fault) = Unit {0}
 IsToldOfWhole Open octets _ = ⊥
+
+-- memory is asked for: of what is no secret, where a value that needs some begins the octets
+abbrev pub WantsMemory : Secrecy → List ℕ → Type 0
+WantsMemory Secret octets = ⊥
+WantsMemory Unknown octets = IsOkAnd (data_at 8 octets) NeedsFirst
+WantsMemory Open octets = IsOkAnd (data_at 8 octets) NeedsFirst

@@ -1,7 +1,7 @@
 //! What an APDU is.
 
-ghost use Rattle.std.specs.Prelude.{◌⊎◌, IfOk, IsErr};
-ghost use Rattle.dlms_talks.specs.Apdus.{IsToldOfAarq, IsToldOfAare, IsToldOfRequest, IsToldOfResponse, IsTold, RequestNeedsMemory, ResponseNeedsMemory};
+ghost use Rattle.std.specs.Prelude.{◌≡◌, ◌⊎◌, IfOk, IsErr, get_or};
+ghost use Rattle.dlms_talks.specs.Apdus.{kind_of, reason_of, IsToldAs, IsToldOfAarq, IsToldOfAare, IsToldOfRequest, IsToldOfResponse, RequestNeedsMemory, ResponseNeedsMemory};
 
 use crate::parties::Side;
 use crate::places::{Fault, acse_fault, apdu_fault};
@@ -23,11 +23,43 @@ pub enum Apdu<'a, A: Allocator> {
     Unreadable(Fault),
 }
 
-/// The reason of a release, behind the APDU's first octet.
-fn reason(bytes: &[u8]) -> Option<u8> {
-    match bytes {
-        [_, 0x80, 0x01, reason, ..] => Some(*reason),
-        _ => None,
+/// The kinds of APDUs that a reader has.
+#[derive(Clone, Copy, Debug, PartialEq, Eq)]
+enum Kind {
+    AssociationRequest,
+    AssociationResponse,
+    ReleaseRequest,
+    ReleaseResponse,
+    Request,
+    Response,
+}
+
+/// Which reader an APDU with this first octet from this side is given to.
+fn kind_of(side: Option<Side>, octet: u8) -> Kind
+    ensures { result ≡ kind_of side octet }
+{
+    match octet {
+        0x60 => Kind::AssociationRequest,
+        0x61 => Kind::AssociationResponse,
+        0x62 => Kind::ReleaseRequest,
+        0x63 => Kind::ReleaseResponse,
+        0xc4 | 0xc5 | 0xc7 | 0xd8 => Kind::Response,
+        0xc0 | 0xc1 | 0xc3 => Kind::Request,
+        _ => match side {
+            Some(Side::Meter) => Kind::Response,
+            _ => Kind::Request,
+        },
+    }
+}
+
+/// The reason of a release.
+fn reason(bytes: &[u8]) -> Option<u8>
+    ensures { result ≡ reason_of bytes.now }
+{
+    if bytes.len() > 4 && bytes[2] == 0x80 && bytes[3] == 0x01 {
+        Some(bytes[4])
+    } else {
+        None
     }
 }
 
@@ -82,19 +114,16 @@ pub fn read_apdu<A: Allocator + Copy>(
     side: Option<Side>,
     bytes: &[u8],
 ) -> Result<Apdu<'_, A>, AllocError>
-    ensures told { IfOk result (IsTold bytes.now) }
+    ensures told { IfOk result (IsToldAs (kind_of side (get_or bytes.now 0 0)) bytes.now) }
     ensures memory { IsErr result → RequestNeedsMemory bytes.now ⊎ ResponseNeedsMemory bytes.now }
 {
-    match bytes {
-        [0x60, ..] => Ok(association_request(bytes)),
-        [0x61, ..] => Ok(association_response(bytes)),
-        [0x62, rest @ ..] => Ok(Apdu::ReleaseRequest(reason(rest))),
-        [0x63, rest @ ..] => Ok(Apdu::ReleaseResponse(reason(rest))),
-        [0xc4 | 0xc5 | 0xc7 | 0xd8, ..] => response(alloc, bytes),
-        [0xc0 | 0xc1 | 0xc3, ..] => request(alloc, bytes),
-        _ => match side {
-            Some(Side::Meter) => response(alloc, bytes),
-            _ => request(alloc, bytes),
-        },
+    let octet = bytes.first().copied().unwrap_or(0);
+    match kind_of(side, octet) {
+        Kind::AssociationRequest => Ok(association_request(bytes)),
+        Kind::AssociationResponse => Ok(association_response(bytes)),
+        Kind::ReleaseRequest => Ok(Apdu::ReleaseRequest(reason(bytes))),
+        Kind::ReleaseResponse => Ok(Apdu::ReleaseResponse(reason(bytes))),
+        Kind::Request => request(alloc, bytes),
+        Kind::Response => response(alloc, bytes),
     }
 }

@@ -1,11 +1,12 @@
 //! The blocks of long values, joined.
 
-ghost use Rattle.std.specs.Prelude.{◌≡◌, length, IfOk, OnErr};
+ghost use Rattle.std.specs.Prelude.{◌≡◌, ◌<◌, length, true, IfOk, OnErr};
+ghost use Rattle.dlms_blocks.specs.Joining.{is_next};
 ghost use Rattle.dlms_blocks.specs.Coming.{first_answer, first_after, more_answer, more_after};
 ghost use Rattle.dlms_talks.specs.Asked.{of_invoke, of_service};
 ghost use Rattle.dlms_talks.specs.Joining.{got_answer, got_after, read_of, begun, dropped, put_answer, none};
 ghost use Rattle.dlms_talks.specs.Secrets.{secrecy_of, told_as};
-ghost use Rattle.dlms_talks.specs.Whole.{IsToldOfWhole};
+ghost use Rattle.dlms_talks.specs.Whole.{IsToldOfWhole, WantsMemory};
 
 use crate::named::{Asked, of_invoke, of_service};
 use crate::secrecy::{secrecy_of, told_as};
@@ -94,6 +95,7 @@ impl<A: Allocator + Copy> Transfers<A> {
         ensures answer { IfOk result (λ joined. joined ≡ got_answer (begun self.old.got number) last number raw.now) }
         ensures after { IfOk result (λ joined. self.new ≡ record self.old { got = got_after (begun self.old.got number) last number raw.now; got_of = read_of self.old asked invoke number }) }
         ensures err { OnErr result (self.new ≡ record self.old { got = begun self.old.got number; got_of = read_of self.old asked invoke number }) }
+        ensures memory { OnErr result ((is_next (begun self.old.got number) number ≡ true) × (0 < length raw.now)) }
     {
         if number == 1 {
             self.got = GetIn::new(alloc);
@@ -167,7 +169,8 @@ impl<A: Allocator + Copy> Transfers<A> {
     /// What is told of a value that is read, where its last block came; where `raw` is set, strings that may be a secret are told
     /// as they are.
     pub fn got_whole(&self, alloc: A, raw: bool) -> Result<Whole<A>, AllocError>
-        ensures { IfOk result (IsToldOfWhole (told_as raw (secrecy_of self.now.got_of)) self.now.got.joined) }
+        ensures told { IfOk result (IsToldOfWhole (told_as raw (secrecy_of self.now.got_of)) self.now.got.joined) }
+        ensures memory { OnErr result (WantsMemory (told_as raw (secrecy_of self.now.got_of)) self.now.got.joined) }
     {
         whole_of(
             alloc,
@@ -178,7 +181,8 @@ impl<A: Allocator + Copy> Transfers<A> {
 
     /// The same of a value to set or of a parameter.
     pub fn put_whole(&self, alloc: A, raw: bool) -> Result<Whole<A>, AllocError>
-        ensures { IfOk result (IsToldOfWhole (told_as raw (secrecy_of self.now.put_of)) self.now.put.joined) }
+        ensures told { IfOk result (IsToldOfWhole (told_as raw (secrecy_of self.now.put_of)) self.now.put.joined) }
+        ensures memory { OnErr result (WantsMemory (told_as raw (secrecy_of self.now.put_of)) self.now.put.joined) }
     {
         whole_of(
             alloc,

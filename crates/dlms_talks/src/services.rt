@@ -1,10 +1,10 @@
 //! What is kept of the services of a talk, from one APDU to the next.
 
-ghost use Rattle.std.specs.Prelude.{◌≡◌, Some, None, option_map, IfOk};
+ghost use Rattle.std.specs.Prelude.{◌≡◌, Some, None, length, option_map, IfOk, OnErr};
 ghost use Rattle.dlms_talks.specs.Said.{ShowsRequest, ShowsResponse, answered, asked_of, request_form, request_invoke, request_selector, response_form, response_invoke};
 ghost use Rattle.dlms_talks.specs.Secrets.{secrecy_of, told_as};
-ghost use Rattle.dlms_talks.specs.Services.{awaited_behind, behind_request, behind_response, got_joined, idle, put_joined, transfers_behind, transfers_behind_response, unasked};
-ghost use Rattle.dlms_talks.specs.Whole.{IsToldOfWhole};
+ghost use Rattle.dlms_talks.specs.Services.{awaited_behind, behind_request, behind_response, got_joined, JoinsBlock, idle, put_joined, transfers_behind, transfers_behind_response, unasked};
+ghost use Rattle.dlms_talks.specs.Whole.{IsToldOfWhole, WantsMemory};
 
 use crate::joining::{Joined, Transfers};
 use crate::named::Asked;
@@ -132,6 +132,7 @@ impl<A: Allocator + Copy> Services<A> {
     fn get(&mut self, alloc: A, response: &Response<'_, A>) -> Result<Option<Joined>, AllocError>
         ensures joined { IfOk result (λ joined. joined ≡ got_joined self.old.transfers response.now) }
         ensures after { IfOk result (λ joined. self.new ≡ record self.old { transfers = transfers_behind_response self.old.transfers self.old.asked response.now }) }
+        ensures memory { OnErr result (JoinsBlock self.old.transfers response.now) }
     {
         let Response::GetBlock {
             invoke,
@@ -161,6 +162,7 @@ impl<A: Allocator + Copy> Services<A> {
         ensures content { IfOk result (λ heard. ShowsResponse (told_as self.old.raw (secrecy_of (answered self.old.asked response.now))) response.now heard.said.content) }
         ensures joined { IfOk result (λ heard. heard.joined ≡ got_joined self.old.transfers response.now) }
         ensures after { IfOk result (λ heard. self.new ≡ behind_response self.old response.now) }
+        ensures memory { OnErr result (JoinsBlock self.old.transfers response.now) }
     {
         let said = response_said(response, self.asked, self.raw);
         let joined = self.get(alloc, response)?;
@@ -169,25 +171,31 @@ impl<A: Allocator + Copy> Services<A> {
     }
 
     /// How many octets were joined of a value to set or of a parameter.
-    pub fn put_len(&self) -> usize {
+    pub fn put_len(&self) -> usize
+        ensures { result ≡ length self.now.transfers.put.joined }
+    {
         self.transfers.put_len()
     }
 
     /// How many octets were joined of a value that is read.
-    pub fn got_len(&self) -> usize {
+    pub fn got_len(&self) -> usize
+        ensures { result ≡ length self.now.transfers.got.joined }
+    {
         self.transfers.got_len()
     }
 
     /// What is told of a value to set or of a parameter, where its last block came.
     pub fn put_whole(&self, alloc: A) -> Result<Whole<A>, AllocError>
-        ensures { IfOk result (IsToldOfWhole (told_as self.now.raw (secrecy_of self.now.transfers.put_of)) self.now.transfers.put.joined) }
+        ensures told { IfOk result (IsToldOfWhole (told_as self.now.raw (secrecy_of self.now.transfers.put_of)) self.now.transfers.put.joined) }
+        ensures memory { OnErr result (WantsMemory (told_as self.now.raw (secrecy_of self.now.transfers.put_of)) self.now.transfers.put.joined) }
     {
         self.transfers.put_whole(alloc, self.raw)
     }
 
     /// What is told of a value that is read, where its last block came.
     pub fn got_whole(&self, alloc: A) -> Result<Whole<A>, AllocError>
-        ensures { IfOk result (IsToldOfWhole (told_as self.now.raw (secrecy_of self.now.transfers.got_of)) self.now.transfers.got.joined) }
+        ensures told { IfOk result (IsToldOfWhole (told_as self.now.raw (secrecy_of self.now.transfers.got_of)) self.now.transfers.got.joined) }
+        ensures memory { OnErr result (WantsMemory (told_as self.now.raw (secrecy_of self.now.transfers.got_of)) self.now.transfers.got.joined) }
     {
         self.transfers.got_whole(alloc, self.raw)
     }

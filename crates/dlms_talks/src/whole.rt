@@ -1,7 +1,7 @@
 //! A value that is joined of its blocks.
 
-ghost use Rattle.std.specs.Prelude.{IfOk};
-ghost use Rattle.dlms_talks.specs.Whole.{IsToldOfWhole};
+ghost use Rattle.std.specs.Prelude.{IfOk, OnErr};
+ghost use Rattle.dlms_talks.specs.Whole.{IsToldOfWhole, WantsMemory};
 
 use crate::places::{Fault, value_fault};
 use crate::secrecy::Secrecy;
@@ -28,7 +28,8 @@ pub fn whole_of<A: Allocator + Copy>(
     secrecy: Secrecy,
     octets: &[u8],
 ) -> Result<Whole<A>, AllocError>
-    ensures { IfOk result (IsToldOfWhole secrecy octets.now) }
+    ensures told { IfOk result (IsToldOfWhole secrecy octets.now) }
+    ensures memory { OnErr result (WantsMemory secrecy octets.now) }
 {
     let veiled = match secrecy {
         Secrecy::Secret => return Ok(Whole::Secret),
