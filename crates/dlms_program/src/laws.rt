@@ -4,6 +4,7 @@ ghost use Rattle.std.specs.Prelude.{◌≡◌, ℕ, Bool, List, Option};
 ghost use Rattle.dlms_meter.specs.Run.{MeterWorld};
 ghost use Rattle.dlms_program.specs.Outcome.{AllFound, AlikeEnds};
 ghost use Rattle.dlms_program.specs.Replay.{End, Replays};
+ghost use Rattle.dlms_program.specs.declared.words.TheConstants.{AHEAD, DEADLINE, IDLE, INACTIVITY, TICK, TURN};
 
 pub use dlms_world::laws::{
     calls_are_turns, calls_of_a_meter_are_turns, the_file_and_the_meter_agree,
@@ -15,4 +16,10 @@ pub fn one_outcome()
     ensures { (honest : Bool) (lines : List (List ℕ)) (number : ℕ) (w : MeterWorld) (s t : List ℕ) (end end' : End) (last last' : Option MeterWorld)
         → (a : Replays honest w number lines s end last) (b : Replays honest w number lines t end' last')
         → AllFound honest w number lines s end last a → AllFound honest w number lines t end' last' b → (s ≡ t) × (end ≡ end') × AlikeEnds last last' }
+{}
+
+/// The numbers that clauses cite by name: what holds, in seconds, where the words say nothing.
+pub fn the_numbers()
+    ensures poll { (DEADLINE ≡ 300) × (AHEAD ≡ 86400) }
+    ensures serve { (TICK ≡ 1) × (IDLE ≡ 5) × (TURN ≡ 60) × (INACTIVITY ≡ 120) }
 {}
