@@ -14,6 +14,7 @@ mod numbers;
 mod report;
 mod rows;
 mod scripts;
+mod slots;
 mod stops;
 mod stores;
 mod versions;
@@ -34,6 +35,7 @@ fn run(report: &mut Report<'_>) -> Result<()> {
     rows::play_rows(report)?;
     numbers::play_last(report)?;
     stops::play_stops(report)?;
+    slots::play_slots(report)?;
     migration::play_images(report)?;
     heaps::play_recoveries(report)?;
     stores::play_texts(report)

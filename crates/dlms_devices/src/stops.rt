@@ -2,9 +2,8 @@
 
 use crate::report::Report;
 use crate::scripts::FORMATS;
-use crate::stores::MemoryStore;
 use anyhow::Result;
-use dlms_pages::{Choice, MemoryPages, Pick};
+use dlms_pages::{Choice, MemoryPages, Pages, Pick};
 use dlms_state::Event;
 use dlms_store::{PAGES, Store};
 use std::alloc::{AllocError, Global};
@@ -62,7 +61,7 @@ impl Left {
 pub const LEFT: [Left; 4] = [Left::Old, Left::New, Left::Damaged, Left::Each];
 
 /// How many pulses the store has, each an event that it accepted.
-fn accepted(store: &MemoryStore) -> u32 {
+pub fn accepted<P: Pages>(store: &Store<P>) -> u32 {
     let [pulses, _, _] = store.state().registers();
     pulses
 }
@@ -75,7 +74,7 @@ struct Went {
 }
 
 /// Adds so many pulses, of which some are settled on the way.
-fn add_pulses(store: &mut MemoryStore, count: u32, settled: u32) -> Went {
+fn add_pulses<P: Pages>(store: &mut Store<P>, count: u32, settled: u32) -> Went {
     let mut settled = settled;
     for _ in 0..count {
         let (before, waiting) = (accepted(store), store.pending());
@@ -96,7 +95,7 @@ fn add_pulses(store: &mut MemoryStore, count: u32, settled: u32) -> Went {
 }
 
 /// What a call that settles all pulses came to.
-fn settles(store: &MemoryStore, works: bool, settled: u32) -> Went {
+fn settles<P: Pages>(store: &Store<P>, works: bool, settled: u32) -> Went {
     Went {
         settled: if works { accepted(store) } else { settled },
         works,
@@ -104,7 +103,7 @@ fn settles(store: &MemoryStore, works: bool, settled: u32) -> Went {
 }
 
 /// Plays an act, and says what came of it.
-fn play_act(store: &mut MemoryStore, act: Act, settled: u32) -> Went {
+fn play_act<P: Pages>(store: &mut Store<P>, act: Act, settled: u32) -> Went {
     match act {
         Act::Pulses(count) => add_pulses(store, count, settled),
         Act::Commit => {
@@ -119,7 +118,7 @@ fn play_act(store: &mut MemoryStore, act: Act, settled: u32) -> Went {
 }
 
 /// Plays the scenario up to the first fault, and gives how many pulses were settled.
-fn settled_in(store: &mut MemoryStore) -> u32 {
+pub fn settled_in<P: Pages>(store: &mut Store<P>) -> u32 {
     let mut settled = 0;
     for act in SCENARIO {
         let went = play_act(store, act, settled);

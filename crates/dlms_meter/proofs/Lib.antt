@@ -15,3 +15,5 @@ pub mod Given
 pub mod OwnRecords
 pub mod BillingLaw
 pub mod HealthLaw
+pub mod FileLaw
+pub mod Sparing

@@ -4,9 +4,11 @@ pub mod ClientRecord
 pub mod Independence
 pub mod Transfers
 pub mod Settled
+pub mod Sparing
 pub mod Storing
 pub mod Alike
 pub mod Lives
 pub mod Own
 pub mod Billing
+pub mod Filed
 pub mod Healthy

@@ -1,13 +1,20 @@
 //! Laws over whole runs. They make no call: the calls' own contracts cite the same definitions.
 
-ghost use Rattle.std.specs.Prelude.{◌≡◌, ℕ, List, ◌++◌, map};
+ghost use Rattle.std.specs.Prelude.{◌≡◌, ℕ, List, ◌++◌, length, map};
+ghost use Rattle.dlms_pages.specs.File.{file_view};
+ghost use Rattle.dlms_pages.specs.Slots.{Slots};
+ghost use Rattle.dlms_pages.specs.Stops.{LeavesOnly};
 ghost use Rattle.dlms_state.specs.declared.event.Event.{Event};
-ghost use Rattle.dlms_store.specs.World.{StoreRun};
+ghost use Rattle.dlms_store.specs.Fitting.{DeviceFits, StoreFits};
+ghost use Rattle.dlms_store.specs.Going.{LeftDuring, StopsDuring};
+ghost use Rattle.dlms_store.specs.Store.{view_of};
+ghost use Rattle.dlms_store.specs.World.{StoreRun, StoreStep, StoreWorld};
 ghost use Rattle.dlms_meter.specs.Run.{MeterWorld, Stands, Comes, FoundMemory, first_world, recovered};
 ghost use Rattle.dlms_meter.specs.Alike.{IsAlike};
 ghost use Rattle.dlms_meter.specs.Steps.{Step, Call, Calls, Run, step_of};
 ghost use Rattle.dlms_meter.specs.Independence.{IsAlone, IsIndependent};
 ghost use Rattle.dlms_meter.specs.Billing.{NothingIsTakenBack};
+ghost use Rattle.dlms_meter.specs.Filed.{FindsInFile, IsBetween, IsOpenedBehind, IsOpenOf};
 ghost use Rattle.dlms_meter.specs.Healthy.{HealthyCallsGoWell};
 ghost use Rattle.dlms_meter.specs.Lives.{RecoversInLives, NoFurtherStopInLives};
 ghost use Rattle.dlms_meter.specs.Own.{AreOwn, AreOwnInLives, StayOwn};
@@ -15,7 +22,7 @@ ghost use Rattle.dlms_meter.specs.Storing.{store_steps, RecoversInRuns};
 ghost use Rattle.dlms_meter.specs.Transfers.{AreInTurn, BlocksJoin, NoBlockUnasked};
 
 use crate::Meter;
-use dlms_pages::Pages;
+use dlms_pages::{FilePages, Pages, SlotFile};
 use std::alloc::Allocator;
 
 /// The calls of a meter, one after another, are a run from each world that it stood for, and it then stands for the
@@ -88,6 +95,23 @@ pub fn recovers_in_lives()
 /// finds all events that were accepted before that answer, wherever the power stopped: in a call, in a recovery or between them.
 pub fn nothing_is_taken_back()
     ensures { NothingIsTakenBack }
+{}
+
+/// So it is of a meter in a file that keeps the rules of slots (`dlms_pages`): where the machine stopped at any moment of its calls, the
+/// pages that are opened over what was left of the slots are a device that fits the world after that stop; and a recovery over
+/// them finds what `recovers_in_runs` says, which the runs and lives of these laws go on from.
+pub fn recovers_in_a_file<F: SlotFile + Drop, A: Allocator, B: Allocator + Copy>(
+    _old: &Meter<FilePages<F, A>, B>,
+    _new: &Meter<FilePages<F, A>, B>,
+    _pages: &FilePages<F, A>,
+    _again: &Meter<FilePages<F, A>, B>,
+)
+    ensures stops { (before : StoreWorld) (steps : List StoreStep) → LeavesOnly (view_of _old.now.store) (view_of _new.now.store) (LeftDuring before steps)
+        → (at : Slots) → IsBetween (F.slots _old.now.store.device.file) (F.slots _new.now.store.device.file) at → IsOpenedBehind F.slots (length _new.now.store.device.unsynced) at _pages.now
+        → (now : StoreWorld) × StopsDuring before steps now × DeviceFits (file_view F.slots _pages.now) now }
+    ensures recovers { (w : MeterWorld) (steps : List Step) (run : Run first_world steps w) → StoreFits _new.now.store w.store
+        → IsOpenedBehind F.slots (length _new.now.store.device.unsynced) (F.slots _new.now.store.device.file) _pages.now → IsOpenOf F.slots _pages.now _again.now.store
+        → FindsInFile w steps run _again.now.store }
 {}
 
 /// The first stop fixes what every later recovery finds.

@@ -10,12 +10,13 @@ ghost use Rattle.dlms_state.specs.StateValue.{IsStateOf};
 ghost use Rattle.dlms_store.specs.Cause.{IsCause};
 ghost use Rattle.dlms_store.specs.Fitting.{StoreFits, DeviceFits, IsOpened, OpensAs, GivesBack, GivesUp};
 ghost use Rattle.dlms_store.specs.Steady.{IsSpared};
-ghost use Rattle.dlms_store.specs.Store.{state_in, view_of, IsStopped, IsTooSmall, CommitIsExhausted, Remembers};
-ghost use Rattle.dlms_store.specs.Writing.{IsFormatted, Leaves};
+ghost use Rattle.dlms_store.specs.Store.{records_in, state_in, view_of, IsRunning, IsStopped, IsTooSmall, CommitIsExhausted, Remembers};
+ghost use Rattle.dlms_store.specs.Writing.{IsClear, IsFormatted, Leaves};
 ghost use Rattle.dlms_store.specs.World.{StoreWorld};
 ghost use Rattle.dlms_store.specs.World.StoreWorld.{Runs};
 ghost use Rattle.dlms_store.specs.World.StoreStep.{Closes, ClosesInDoubt};
 ghost use Rattle.dlms_meter.specs.Run.{Stands, Feeds, EndsFrame, Judges, MeterWorld, first_world, recovered, silent, client_at, Replies, events_of, record_for};
+ghost use Rattle.dlms_meter.specs.Sparing.{SparesSlots};
 
 use crate::connection::{Connection, Reply};
 use dlms_frame::{Address, Client, Deframer, Frame};
@@ -56,6 +57,7 @@ impl<P: Pages, A: Allocator + Copy> Meter<P, A> {
         ensures small { IfErr result (λ e. e.1 ≡ OpenFault.Size → e.0 ≡ device) }
         ensures device { IfErr result (λ e. e.1 ≡ OpenFault.Device → Rose (P.view device).faults (P.view e.0).faults) }
         ensures faults { IfErr result (λ e. (e.1 ≢ OpenFault.NoCheckpoint) × ((page : ℕ) → e.1 ≢ OpenFault.Corrupt page) × (e.1 ≢ OpenFault.Exhausted)) }
+        ensures memory { (P.view device).honest ≡ true → IfErr result (λ e. e.1 ≡ OpenFault.Memory → Leaves (P.view e.0) IsClear) }
     {
         let store = Store::format(alloc, device)?;
         Ok(Meter::over(alloc, store))
@@ -136,6 +138,7 @@ impl<P: Pages, A: Allocator + Copy> Meter<P, A> {
         ensures run { (before : StoreWorld) → StoreFits self.store before → GivesUp Closes before (view_of self.store) (P.view result) ⊎ GivesUp ClosesInDoubt before (view_of self.store) (P.view result) }
         ensures settles { (IsStopped self.store → ⊥) → (Rose (view_of self.store).faults (P.view result).faults → ⊥) → (CommitIsExhausted self.store → ⊥)
             → (before : StoreWorld) → StoreFits self.store before → GivesUp Closes before (view_of self.store) (P.view result) }
+        ensures nothing { IsRunning self.store → records_in self.store ≡ [] → result ≡ self.store.device }
     {
         self.store.close()
     }
@@ -148,6 +151,7 @@ impl<P: Pages, A: Allocator + Copy> Meter<P, A> {
         // It leaves bytes only where a frame ends with the last one that it took.
         ensures all { (w : MeterWorld) → Stands self.old w → result.0 < length bytes.now → EndsFrame w (take result.0 bytes.now) }
         ensures feeds { Feeds self.old (take result.0 bytes.now) (option_map (λ reply. reply.items) result.1) self.new }
+        ensures spares { SparesSlots self.old.store self.new.store }
     {
         let (taken, frame) = self.deframer.feed(bytes);
         match frame {
@@ -165,7 +169,8 @@ impl<P: Pages, A: Allocator + Copy> Meter<P, A> {
 
     /// The reply to a frame.
     fn answer(&mut self, frame: &Frame) -> Option<Reply>
-        ensures { Replies self.old frame.now (option_map (λ reply. reply.items) result) self.new (client_at frame.now.src) }
+        ensures replies { Replies self.old frame.now (option_map (λ reply. reply.items) result) self.new (client_at frame.now.src) }
+        ensures spares { SparesSlots self.old.store self.new.store }
     {
         match client_at(frame.src) {
             Some(Client::Public) => self.public.answer(self.alloc, &mut self.store, frame),

@@ -1,10 +1,11 @@
 //! A client's end of the line.
 
-use crate::MemoryMeter;
 use arrayvec::ArrayVec;
 use dlms_acse::{Conformance, write_aarq};
 use dlms_frame::{Client, Deframer, Frame};
 use dlms_link::{ClientLink, ClientOut};
+use dlms_meter::Meter;
+use dlms_pages::Pages;
 use std::alloc::Allocator;
 
 /// An APDU.
@@ -17,7 +18,10 @@ const PROPOSED: Conformance = Conformance(0x7e_1f);
 const SIZE: u16 = 64;
 
 /// The meter's reply to a frame.
-fn reply_to<A: Allocator + Copy>(meter: &mut MemoryMeter<A>, frame: &Frame) -> Option<Frame> {
+fn reply_to<P: Pages, A: Allocator + Copy>(
+    meter: &mut Meter<P, A>,
+    frame: &Frame,
+) -> Option<Frame> {
     let bytes = frame.put();
     let (_, reply) = meter.feed(bytes.as_slice());
     let reply = reply?;
@@ -25,8 +29,8 @@ fn reply_to<A: Allocator + Copy>(meter: &mut MemoryMeter<A>, frame: &Frame) -> O
 }
 
 /// Sends an APDU, and takes its answer, in as many frames as it comes in.
-pub fn exchange<A: Allocator + Copy>(
-    meter: &mut MemoryMeter<A>,
+pub fn exchange<P: Pages, A: Allocator + Copy>(
+    meter: &mut Meter<P, A>,
     link: &mut ClientLink,
     apdu: &[u8],
 ) -> Option<Apdu> {
@@ -50,8 +54,8 @@ pub fn exchange<A: Allocator + Copy>(
 }
 
 /// A client's link, with an association.
-pub fn associated<A: Allocator + Copy>(
-    meter: &mut MemoryMeter<A>,
+pub fn associated<P: Pages, A: Allocator + Copy>(
+    meter: &mut Meter<P, A>,
     client: Client,
 ) -> Option<ClientLink> {
     let mut link = ClientLink::new(client);

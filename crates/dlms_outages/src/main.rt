@@ -4,6 +4,7 @@
 
 mod acts;
 mod client;
+mod filed;
 mod heaps;
 mod play;
 mod replays;
@@ -15,8 +16,9 @@ use anyhow::Result;
 use client::{associated, exchange};
 use dlms_frame::Client;
 use dlms_meter::Meter;
-use dlms_pages::MemoryPages;
+use dlms_pages::{MemoryPages, Tear};
 use dlms_store::PAGES;
+use filed::stopped_in_a_file;
 use heaps::{GET_LIST, GET_REGISTER, is_refused_in_turn, is_transfer_left};
 use play::Seen;
 use replays::{is_refused_at_recovery, replays};
@@ -137,6 +139,12 @@ fn run(rt: &HostRuntime) -> Result<()> {
         println!(rt; "{fault:?}, {pick:?}: {runs} runs, {differ} differ")?;
         let (runs, differ) = rounds(alloc, fault, pick)?;
         println!(rt; "{fault:?}, {pick:?}, rows replayed: {runs} runs, {differ} differ")?;
+    }
+    for fault in [Fault::Fuse, Fault::Once] {
+        for tear in [Tear::Old, Tear::New, Tear::EverySecond] {
+            let (runs, differ) = stopped_in_a_file(alloc, fault, tear)?;
+            println!(rt; "in a file, {fault:?}, {tear:?}: {runs} runs, {differ} differ")?;
+        }
     }
     Ok(())
 }

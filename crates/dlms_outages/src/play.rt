@@ -1,9 +1,10 @@
 //! A scenario played on a meter.
 
-use crate::MemoryMeter;
 use crate::acts::{Act, Asked, SCENARIO};
 use crate::client::exchange;
 use dlms_link::ClientLink;
+use dlms_meter::Meter;
+use dlms_pages::Pages;
 use dlms_store::AddFault;
 use std::alloc::AllocError;
 
@@ -16,7 +17,7 @@ pub struct Seen {
     pub text: Option<u8>,
 }
 
-pub fn seen_in(meter: &MemoryMeter) -> Seen {
+pub fn seen_in<P: Pages>(meter: &Meter<P>) -> Seen {
     let state = meter.state();
     let [pulses, _, _] = state.registers();
     Seen {
@@ -66,9 +67,9 @@ impl Played {
 }
 
 /// Plays one act, and writes down what is to be seen after each of its calls.
-fn act(
+fn act<P: Pages>(
     act: Act,
-    meter: &mut MemoryMeter,
+    meter: &mut Meter<P>,
     link: &mut ClientLink,
     played: &mut Played,
     trace: &mut Vec<Seen>,
@@ -102,8 +103,8 @@ fn act(
 }
 
 /// Plays the scenario, and writes down what is to be seen after each call.
-pub fn play(
-    meter: &mut MemoryMeter,
+pub fn play<P: Pages>(
+    meter: &mut Meter<P>,
     link: &mut ClientLink,
     trace: &mut Vec<Seen>,
 ) -> Result<Played, AllocError> {

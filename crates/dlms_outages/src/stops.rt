@@ -2,9 +2,10 @@
 
 use crate::client::associated;
 use crate::play::{Played, Seen, play, seen_in};
-use crate::{FORMATS, MemoryMeter, formatted, recovered};
+use crate::{FORMATS, formatted, recovered};
 use dlms_frame::Client;
-use dlms_pages::{MemoryPages, Pick};
+use dlms_meter::Meter;
+use dlms_pages::{MemoryPages, Pages, Pick};
 use dlms_store::PAGES;
 use std::alloc::{AllocError, Global};
 
@@ -47,7 +48,10 @@ pub fn device_of(alloc: Global, fault: Fault, calls: u64) -> Result<MemoryPages,
 }
 
 /// Plays the scenario for a client that associates first.
-fn played_on(meter: &mut MemoryMeter, trace: &mut Vec<Seen>) -> Result<Option<Played>, AllocError> {
+pub fn played_on<P: Pages>(
+    meter: &mut Meter<P>,
+    trace: &mut Vec<Seen>,
+) -> Result<Option<Played>, AllocError> {
     match associated(meter, Client::Management) {
         Some(mut link) => Ok(Some(play(meter, &mut link, trace)?)),
         None => Ok(None),
@@ -101,7 +105,7 @@ fn found_after_stops(alloc: Global, device: MemoryPages, pick: Left) -> Option<S
 }
 
 /// Whether what is found is a beginning of the events, with every answered one: it was seen on the way, between those places.
-fn is_between(trace: &[Seen], answered: Seen, found: Seen, last: Seen) -> bool {
+pub fn is_between(trace: &[Seen], answered: Seen, found: Seen, last: Seen) -> bool {
     let place = |what: Seen| trace.iter().position(|one| *one == what);
     match (place(answered), place(found), place(last)) {
         (Some(least), Some(here), Some(most)) => least <= here && here <= most,
@@ -157,13 +161,13 @@ fn is_right(
 }
 
 /// How often the device is called in the scenario.
-const CALLS: u32 = 101;
+pub const CALLS: u32 = 101;
 
 /// More calls than a recovery makes: a sync, two gates, two bodies, eight ring pages and sixteen of the journal, and a checkpoint.
 const RECOVERY: u64 = 64;
 
 /// What is to be seen in the scenario, call by call, where the device never fails; None where a call answers otherwise.
-fn whole(alloc: Global) -> Result<Option<Vec<Seen>>, AllocError> {
+pub fn whole(alloc: Global) -> Result<Option<Vec<Seen>>, AllocError> {
     let mut trace = Vec::new(alloc);
     match end_of(alloc, Fault::Fuse, u64::from(CALLS), &mut trace)? {
         Some(end) if end.played.is_right && !end.played.failed => Ok(Some(trace)),

@@ -13,7 +13,7 @@ use Rattle.dlms_pages.specs.Slots.{Slot, Either, Leaves, LeavesPage, newest, pag
 use Rattle.dlms_pages.proofs.FileDisk.{same_from_octets}
 
 -- a slot that is no page's, or that of some content
-stands_or_not : (k : ℕ) (slot : Slot) → (page_in k slot ≡ Damaged) ⊎ ((content : List ℕ) × (slot ≡ Some (slot_of k content)))
+pub stands_or_not : (k : ℕ) (slot : Slot) → (page_in k slot ≡ Damaged) ⊎ ((content : List ℕ) × (slot ≡ Some (slot_of k content)))
 stands_or_not k None = inl refl
 stands_or_not k (Some octets) = ⊎_elim
     (λ (is : same_octets octets (slot_of k (take 512 octets)) ≡ true). inr (take 512 octets, ap (λ (s : List ℕ). Some s) (same_from_octets octets (slot_of k (take 512 octets)) is)))
@@ -24,7 +24,7 @@ either_too : (b : Bool) (This That This' That' : Type 0) → (This → This') �
 either_too true This That This' That' f g is = f is
 either_too false This That This' That' f g is = g is
 
-page_left : (first : List Slot) (calls : List Asked) (k : ℕ) (slot : Slot) → Leaves first calls k slot → LeavesPage first calls k (page_in k slot)
+pub page_left : (first : List Slot) (calls : List Asked) (k : ℕ) (slot : Slot) → Leaves first calls k slot → LeavesPage first calls k (page_in k slot)
 page_left first [] k slot left = ap (page_in k) left
 page_left first (Reads index came ∷ calls) k slot left = page_left first calls k slot left
 page_left first (Writes index bytes passed ∷ calls) k slot left = ⊎_elim

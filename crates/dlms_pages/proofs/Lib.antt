@@ -8,10 +8,12 @@ pub mod Held
 pub mod Kept
 pub mod Made
 pub mod Moments
+pub mod OpenedOver
 pub mod Outcomes
 pub mod Picks
 pub mod Renewing
 pub mod Reopened
 pub mod Runs
 pub mod Slots
+pub mod Spared
 pub mod Views

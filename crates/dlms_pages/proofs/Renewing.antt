@@ -1,8 +1,8 @@
 -- A file that is opened: its slots are written again, one after another.
-use Rattle.std.proofs.Common.{◌≡◌, ◌+◌, ℕ, suc, true, List, [], ◌∷◌, ◌++◌, length, refl, sym, ◌∙◌, ap, arith, append_assoc, subst, Result, Ok, Err}
+use Rattle.std.proofs.Common.{◌≡◌, ◌+◌, ℕ, suc, Bool, true, List, [], ◌∷◌, ◌++◌, length, refl, sym, ◌∙◌, ap, arith, append_assoc, subst, Result, Ok, Err}
 use Rattle.std.proofs.lemmas.List.{append-nil, length-append}
 use Rattle.std.specs.Prelude.{IfOk}
-use Rattle.dlms_pages.specs.Asked.{Asks, passed, renewal_of, renewals, IsThere, AreThere, IsSlotRenewed, IsRenewed}
+use Rattle.dlms_pages.specs.Asked.{Asks, passed, renewal_of, renewals, IsThere, AreThere, IsSlotRenewed, IsSlotTouched, IsRenewed}
 use Rattle.dlms_pages.specs.declared.asking.Asked.{Asked}
 use Rattle.dlms_pages.specs.declared.asking.Asked.TheVariants.{Reads, Writes, Syncs}
 use Rattle.dlms_pages.specs.declared.asking.Came.{Came}
@@ -60,3 +60,11 @@ slot_again index bytes old mid new (Ok x) read gives written = record {
   calls = then_asks old mid new (Reads index (Slot bytes) ∷ []) (Writes index bytes true ∷ []) read written;
 }
 slot_again index bytes old mid new (Err e) read gives written = tt
+
+pub slot_touched : (index : ℕ) (bytes : List ℕ) (old mid new : Slots) (passed : Bool) → Asks old mid (Reads index (Slot bytes) ∷ []) → (old.keeps ≡ true → Gives old index (Slot bytes)) → Asks mid new (Writes index bytes passed ∷ []) → IsSlotTouched index old new
+slot_touched index bytes old mid new passed read gives written = record {
+  came = Slot bytes;
+  passed = passed;
+  gives = gives;
+  calls = then_asks old mid new (Reads index (Slot bytes) ∷ []) (Writes index bytes passed ∷ []) read written;
+}

@@ -1,16 +1,16 @@
 -- What is asked of a file of slots.
-use Rattle.std.specs.Prelude.{◌≡◌, ◌+◌, ℕ, Bool, true, false, List, [], ◌∷◌, ◌++◌, reverse, length, Option, Some, None, Result, Ok, Err, if◌then◌else◌}
+use Rattle.std.specs.Prelude.{◌≡◌, ◌+◌, ◌≤◌, ℕ, Bool, true, false, List, [], ◌∷◌, ◌++◌, reverse, length, Option, Some, None, Result, Ok, Err, if◌then◌else◌}
 use Rattle.dlms_pages.specs.Seal.{slot_of}
-use Rattle.dlms_pages.specs.Slots.{Slots, Gives, Leaves, newest, page_in, standing}
+use Rattle.dlms_pages.specs.Slots.{Slot, Slots, Gives, Leaves, LeavesPage, newest, page_in, standing}
 use Rattle.dlms_pages.specs.declared.asking.Asked.{Asked}
 use Rattle.dlms_pages.specs.declared.asking.Asked.TheVariants.{Reads, Writes, Syncs}
 use Rattle.dlms_pages.specs.declared.asking.Came.{Came}
-use Rattle.dlms_pages.specs.declared.asking.Came.TheVariants.{Slot, Short, Failed}
+use Rattle.dlms_pages.specs.declared.asking.Came.TheVariants.{Slot as Octets, Short, Failed}
 use Rattle.dlms_pages.specs.declared.device.PageRead.{PageRead}
 use Rattle.dlms_pages.specs.declared.device.DeviceFault.{DeviceFault}
 
 abbrev pub came_of : {E : Type 0} → Result Bool E → List ℕ → Came
-came_of (Ok true) slot = Slot slot
+came_of (Ok true) slot = Octets slot
 came_of (Ok false) slot = Short
 came_of (Err e) slot = Failed
 
@@ -43,7 +43,7 @@ AsksAll old new calls (Err e) = AsksUntilFault old new calls
 
 -- what a page reads as where the file was asked for its slot
 abbrev pub ReadsAs : ℕ → Came → Result PageRead DeviceFault → Type 0
-ReadsAs index (Slot bytes) result = result ≡ Ok (page_in index (Some bytes))
+ReadsAs index (Octets bytes) result = result ≡ Ok (page_in index (Some bytes))
 ReadsAs index Short result = result ≡ Ok (page_in index None)
 ReadsAs index Failed (Ok page) = ⊥
 ReadsAs index Failed (Err fault) = Unit {0}
@@ -63,7 +63,7 @@ sync_calls behind pages = (if behind then written_again 0 pages else []) ++ Sync
 
 -- a slot is read, and written again as it stands where the file has all of it
 abbrev pub renewal_of : ℕ → Came → List Asked
-renewal_of index (Slot bytes) = Reads index (Slot bytes) ∷ Writes index bytes true ∷ []
+renewal_of index (Octets bytes) = Reads index (Octets bytes) ∷ Writes index bytes true ∷ []
 renewal_of index Short = Reads index Short ∷ []
 renewal_of index Failed = Reads index Failed ∷ []
 
@@ -74,7 +74,7 @@ renewals from (came ∷ cames) = renewal_of from came ++ renewals (from + 1) cam
 
 -- the reading did not fail
 abbrev pub IsThere : Came → Type 0
-IsThere (Slot bytes) = Unit {0}
+IsThere (Octets bytes) = Unit {0}
 IsThere Short = Unit {0}
 IsThere Failed = ⊥
 
@@ -103,3 +103,21 @@ pub record Reopens (old new : Slots) (k : ℕ) : Type 0 where
   pub sure : (standing new.calls k).sure ≡ true
   pub left : Leaves old.first old.calls k (newest new.first new.calls k)
   pub same : (standing old.calls k).sure ≡ true → newest new.first new.calls k ≡ newest old.first old.calls k
+
+-- a slot is read and, where the file has all of it, written as it stands; the write may fail
+abbrev pub touch_of : ℕ → Came → Bool → List Asked
+touch_of index (Octets bytes) passed = Reads index (Octets bytes) ∷ Writes index bytes passed ∷ []
+touch_of index Short passed = Reads index Short ∷ []
+touch_of index Failed passed = Reads index Failed ∷ []
+
+-- so it was; either call may have failed
+pub record IsSlotTouched (index : ℕ) (old new : Slots) : Type 0 where
+  pub came : Came
+  pub passed : Bool
+  pub gives : old.keeps ≡ true → Gives old index came
+  pub calls : Asks old new (touch_of index came passed)
+
+-- Whatever a stop leaves of slot k at any moment of the calls that lead from the one to the other: it reads as a page that a stop
+-- before them might have left.
+abbrev pub SparesSlot : Slots → Slots → ℕ → Type 0
+SparesSlot old new k = (later earlier : List Asked) → new.calls ≡ later ++ earlier → length old.calls ≤ length earlier → (slot : Slot) → Leaves new.first earlier k slot → LeavesPage old.first old.calls k (page_in k slot)

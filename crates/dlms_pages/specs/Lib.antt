@@ -8,7 +8,9 @@ pub mod Laws
 pub mod Memory
 pub mod MemoryRules
 pub mod Pick
+pub mod Reopening
 pub mod Seal
 pub mod SlotRules
 pub mod Slots
 pub mod Stops
+pub mod Tear

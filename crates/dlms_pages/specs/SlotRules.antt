@@ -45,7 +45,7 @@ newest_left first (Syncs true ∷ calls) k = either_is (standing calls k).sure _
 newest_left first (Syncs false ∷ calls) k = newest_left first calls k
 
 -- nothing stands before all of a list
-no_more : (calls later earlier : List Asked) → calls ≡ later ++ earlier → length calls ≤ length earlier → calls ≡ earlier
+pub no_more : (calls later earlier : List Asked) → calls ≡ later ++ earlier → length calls ≤ length earlier → calls ≡ earlier
 no_more calls later earlier split small =
     let n : length calls ≡ length later + length earlier = ap (λ (l : List Asked). length l) split ∙ length-append later earlier in
     let none : later ≡ [] = nil_from_length later (omega (arith, n, small)) in

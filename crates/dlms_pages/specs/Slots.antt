@@ -54,10 +54,10 @@ standing (Syncs false ∷ calls) k = record { synced = (standing calls k).synced
 abbrev pub IsMix : List ℕ → List ℕ → List ℕ → Type 0
 IsMix old new mix = (length mix ≡ length new) × ((i : ℕ) → i < length new → (slice_index_or mix i 0 ≡ slice_index_or old i 0) ⊎ (slice_index_or mix i 0 ≡ slice_index_or new i 0))
 
--- What a write that a stop tore leaves in slot k: a mix of the old octets and the new. This is where the seal is trusted: no
--- such mix is the slot of some content, but for the old slot and the new one.
+-- What a write that a stop tore leaves in slot k: a mix of the old octets and the new, where the file had the old ones. This is
+-- where the seal is trusted: no such mix is the slot of some content, but for the old slot and the new one.
 pub record IsTorn (k : ℕ) (old : Slot) (new : List ℕ) (slot : Slot) : Type 0 where
-  pub mix : (was bytes : List ℕ) → old ≡ Some was → slot ≡ Some bytes → IsMix was new bytes
+  pub mix : (was : List ℕ) → old ≡ Some was → (bytes : List ℕ) × (slot ≡ Some bytes) × IsMix was new bytes
   pub sealed : (content : List ℕ) → slot ≡ Some (slot_of k content) → (slot ≡ old) ⊎ (slot ≡ Some new)
 
 -- where it holds, this; else that

@@ -1,6 +1,6 @@
 //! Pages in a file, each under a seal.
-ghost use Rattle.std.specs.Prelude.{◌≡◌, ◌<◌, ◌≤◌, ◌^◌, ℕ, true, false, length, replicate, slice_index_or, slice_set, IfOk, IfSome, OnErr, OnOk};
-ghost use Rattle.dlms_pages.specs.Asked.{AsksAll, IsRenewed, IsSlotRenewed, Reopens, sync_calls, written_again};
+ghost use Rattle.std.specs.Prelude.{◌≡◌, ◌<◌, ◌≤◌, ◌^◌, ℕ, true, false, length, replicate, slice_index_or, slice_set, IfOk, IfSome, MatchResult, OnErr, OnOk, Ok, Err};
+ghost use Rattle.dlms_pages.specs.Asked.{AsksAll, IsRenewed, IsSlotRenewed, IsSlotTouched, Reopens, SparesSlot, sync_calls, written_again};
 
 use crate::folder::sync_folder;
 use crate::lock::LockFile;
@@ -78,7 +78,7 @@ impl<F: Read + Write + Seek + OpenFile + LockFile + Drop, A: Allocator> FilePage
         file.set_len(u64::from(count) * SLOT_BYTES as u64)?;
         file.sync_all()?;
         sync_folder(rt, path)?;
-        FilePages::renewed(FileSlots::of(file), unsynced, count)
+        alone(FilePages::renewed(FileSlots::of(file), unsynced, count))
     }
 
     /// Opens a file that is there, and is not in use, by `over`. What it has past its pages stays. The fault is the system's.
@@ -91,7 +91,7 @@ impl<F: Read + Write + Seek + OpenFile + LockFile + Drop, A: Allocator> FilePage
     {
         let file = OpenOptions::new().read(true).write(true).open(rt, path)?;
         file.lock_alone()?;
-        FilePages::over(rt.alloc(), FileSlots::of(file), count)
+        alone(FilePages::over(rt.alloc(), FileSlots::of(file), count))
     }
 }
 
@@ -100,15 +100,34 @@ impl<F: SlotFile + Drop, A: Allocator> FilePages<F, A> {
 
     /// So many pages over a file of slots that is there. An earlier process may have written what stands in it, and may have
     /// seen its sync fail; a system may then drop that, and call the next sync a success. So each slot that the file has is
-    /// read, written again as it stands, octet for octet, and the file synced, before a page is read. The fault is the file's.
-    pub fn over(alloc: A, file: F, count: u16) -> io::Result<FilePages<F, A>>
+    /// read, written again as it stands, octet for octet, and the file synced, before a page is read. The fault is the file's,
+    /// or want of memory; the file is given back with it.
+    pub fn over(alloc: A, file: F, count: u16) -> Result<FilePages<F, A>, (F, io::Error)>
         ensures fresh { IfOk result (IsFresh count) }
         ensures renewed { IfOk result (λ pages. IsRenewed count (F.slots file) (F.slots pages.file)) }
         ensures reopened { IfOk result (λ pages. (F.slots file).keeps ≡ true
             → (k : ℕ) → k < count → Reopens (F.slots file) (F.slots pages.file) k) }
+        ensures spared { (F.slots file).keeps ≡ true → (k : ℕ) → MatchResult result
+            (λ pages. SparesSlot (F.slots file) (F.slots pages.file) k)
+            (λ e. SparesSlot (F.slots file) (F.slots e.0) k) }
     {
-        let unsynced = room(alloc, count)?;
-        FilePages::renewed(file, unsynced, count)
+        match room(alloc, count) {
+            Ok(unsynced) => FilePages::renewed(file, unsynced, count),
+            Err(fault) => Err((file, fault.into())),
+        }
+    }
+
+    /// The file of slots. What was written and not synced stands in it as it was written.
+    pub fn into_slots(self) -> F
+        ensures { result ≡ self.file }
+    {
+        let FilePages {
+            file,
+            unsynced: _,
+            behind: _,
+            faults: _,
+        } = self;
+        file
     }
 
     // So many pages, with this room for what is written, over a file whose slots are written again.
@@ -116,16 +135,21 @@ impl<F: SlotFile + Drop, A: Allocator> FilePages<F, A> {
         file: F,
         unsynced: Vec<Option<[u8; PAGE_BYTES]>, A>,
         count: u16,
-    ) -> io::Result<FilePages<F, A>>
+    ) -> Result<FilePages<F, A>, (F, io::Error)>
         requires { unsynced.items ≡ replicate count None }
         ensures fresh { IfOk result (IsFresh count) }
         ensures renewed { IfOk result (λ pages. IsRenewed count (F.slots file) (F.slots pages.file)) }
         ensures reopened { IfOk result (λ pages. (F.slots file).keeps ≡ true
             → (k : ℕ) → k < count → Reopens (F.slots file) (F.slots pages.file) k) }
+        ensures spared { (F.slots file).keeps ≡ true → (k : ℕ) → MatchResult result
+            (λ pages. SparesSlot (F.slots file) (F.slots pages.file) k)
+            (λ e. SparesSlot (F.slots file) (F.slots e.0) k) }
     {
         let mut file = file;
-        renew(&mut file, count)?;
-        Ok(FilePages::fresh(file, unsynced))
+        match renew(&mut file, count) {
+            Ok(()) => Ok(FilePages::fresh(file, unsynced)),
+            Err(fault) => Err((file, fault)),
+        }
     }
 
     // Nothing is written yet, and nothing has failed.
@@ -253,6 +277,15 @@ impl<F: SlotFile + Drop, A: Allocator> Pages for FilePages<F, A> {
     }
 }
 
+/// The pages, or the fault alone: the file that is given back with it is closed.
+fn alone<F: SlotFile + Drop, A: Allocator>(
+    pages: Result<FilePages<F, A>, (F, io::Error)>,
+) -> io::Result<FilePages<F, A>>
+    ensures { MatchResult pages (λ over. result ≡ Ok over) (λ e. result ≡ Err e.1) }
+{
+    pages.map_err(|(_, fault)| fault)
+}
+
 /// The room for what is written between two syncs.
 fn room<A: Allocator>(alloc: A, count: u16) -> Result<Vec<Option<[u8; PAGE_BYTES]>, A>, AllocError>
     ensures { IfOk result (λ pages. pages.items ≡ replicate count None) }
@@ -265,6 +298,8 @@ fn renew<F: SlotFile>(file: &mut F, count: u16) -> io::Result<()>
     ensures asks { IfOk result (λ _. IsRenewed count (F.slots file.old) (F.slots file.new)) }
     ensures reopens { IfOk result (λ _. (F.slots file.old).keeps ≡ true
         → (k : ℕ) → k < count → Reopens (F.slots file.old) (F.slots file.new) k) }
+    ensures spares { (F.slots file.old).keeps ≡ true
+        → (k : ℕ) → SparesSlot (F.slots file.old) (F.slots file.new) k }
 {
     for index in 0..count {
         renew_slot(file, index)?;
@@ -274,7 +309,8 @@ fn renew<F: SlotFile>(file: &mut F, count: u16) -> io::Result<()>
 
 /// Writes a slot again, as it stands, where the file has all of it.
 fn renew_slot<F: SlotFile>(file: &mut F, index: u16) -> io::Result<()>
-    ensures { IfOk result (λ _. IsSlotRenewed index (F.slots file.old) (F.slots file.new)) }
+    ensures renewed { IfOk result (λ _. IsSlotRenewed index (F.slots file.old) (F.slots file.new)) }
+    ensures touched { IsSlotTouched index (F.slots file.old) (F.slots file.new) }
 {
     let mut slot = [0u8; SLOT_BYTES];
     match file.read_slot(index, &mut slot) {

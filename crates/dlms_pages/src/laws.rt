@@ -3,10 +3,11 @@ ghost use Rattle.std.specs.Prelude.{◌≡◌, ◌<◌, ◌+◌, ℕ, List, [], 
 ghost use Rattle.dlms_pages.specs.declared.memory.Call.TheVariants.{Write, Sync};
 ghost use Rattle.dlms_pages.specs.Laws.{StopsKeepTheRules, StopsSinceKeepTheRules, StopsAreOfPages, SyncsLeaveOneImage, LeavesEachOutcome};
 ghost use Rattle.dlms_pages.specs.Memory.{Memory};
+ghost use Rattle.dlms_pages.specs.Reopening.{OpensWhatWasLeft};
 ghost use Rattle.dlms_pages.specs.declared.device.TheConstants.{PAGE_BYTES};
 ghost use Rattle.dlms_pages.specs.declared.seal.TheConstants.{SLOT_BYTES};
 
-use crate::Pages;
+use crate::{Pages, SlotFile};
 
 /// Whatever calls were made of a device since a moment at which a stop could leave one image alone, a stop leaves each
 /// page as it was then, or as a write since left it. So does a stop at any moment between.
@@ -32,6 +33,12 @@ pub fn each_outcome_may_be_left_and_no_other()
 /// have it. So pages in a file that keeps its rules are a device that keeps the disk's.
 pub fn stops_of_a_file_are_stops_of_its_pages()
     ensures { StopsAreOfPages }
+{}
+
+/// Where the machine stopped, and pages are opened again over what was left of a file that keeps its rules: they are what the stop
+/// left of the pages before, and no other image is left from then on, nor was one by a stop while they were opened.
+pub fn a_file_opened_again_has_what_a_stop_left<F: SlotFile>()
+    ensures { OpensWhatWasLeft F.slots }
 {}
 
 /// The sizes by which pages and slots are laid out, in bytes: a slot is a page and its seal, a SHA-256.

@@ -15,6 +15,7 @@ mod pick;
 mod plan;
 mod seal;
 mod slot_file;
+mod tear;
 
 pub use asking::{Asked, Came};
 pub use device::{DeviceFault, PAGE_BYTES, PageRead, Pages};
@@ -26,3 +27,4 @@ pub use memory_slots::MemorySlots;
 pub use pick::{Choice, Pick};
 pub use seal::{SLOT_BYTES, opened};
 pub use slot_file::{FileSlots, SlotFile};
+pub use tear::{Tear, Tears};

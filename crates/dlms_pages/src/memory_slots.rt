@@ -1,7 +1,8 @@
-//! A file of slots in memory, which keeps the rules of such a file.
-ghost use Rattle.std.specs.Prelude.{◌≡◌, true, [], ◌∷◌, IfOk, length};
+//! A file of slots in memory, which keeps the rules of such a file, and can lose power.
+ghost use Rattle.std.specs.Prelude.{◌≡◌, ◌<◌, ℕ, true, [], ◌∷◌, None, IfOk, length, slice_index_or};
 ghost use Rattle.dlms_pages.specs.Asked.{Asks, came_of, passed};
-ghost use Rattle.dlms_pages.specs.Slots.{Slots, Gives};
+ghost use Rattle.dlms_pages.specs.Slots.{Slots, Gives, Leaves, newest, standing};
+ghost use Rattle.dlms_pages.specs.Tear.{tear_at};
 ghost use Rattle.dlms_pages.specs.declared.asking.Asked.TheVariants.{Reads, Writes, Syncs};
 
 use crate::asking::{Asked, Came};
@@ -9,18 +10,25 @@ use crate::past::Past;
 use crate::plan::{Plan, next_of};
 use crate::seal::SLOT_BYTES;
 use crate::slot_file::SlotFile;
+use crate::tear::{Tear, Tears, tear_all, torn};
 use std::alloc::{AllocError, Allocator, Global};
 use std::io;
 use std::io::ErrorKind;
 use std::marker::Model;
 use std::snapshot::Snapshot;
 
-/// Slots in memory. A call can be made to fail: a read that fails gives nothing, a write that fails writes nothing, and a sync
-/// that fails leaves the slots as they read. No slot stands past those that it was made with, and a call of one fails.
+/// Slots in memory. No slot stands past those that it was made with, and a call of one fails. A call can be made to fail: a read
+/// that fails gives nothing; a write that fails leaves its slot torn as was asked for, and a sync that fails all that were
+/// written since the last one that passed, from then on as reads give it. What a stop of the power leaves is asked for as well.
 #[derive(Drop)]
 pub struct MemorySlots<A: Allocator = Global> {
+    // What reads give.
     slots: Vec<[u8; SLOT_BYTES], A>,
+    // What each slot was when it was last made to outlast a stop, and what was written to it last.
+    kept: Vec<[u8; SLOT_BYTES], A>,
+    last: Vec<[u8; SLOT_BYTES], A>,
     plan: Plan,
+    tear: Tear,
     // What stood there at first, and what was asked since: no memory stands behind these two.
     first: Snapshot<Vec<[u8; SLOT_BYTES], A>>,
     past: Past<Asked>,
@@ -39,21 +47,26 @@ impl<A: Allocator> Model for MemorySlots<A> {
       calls = reverse s.past.calls;
     } };
 
-    ghost invariant = { λ s. AreHeld (map Some s.first.value.items) (reverse s.past.calls) s.slots.items };
+    ghost invariant = { λ s. AreHeld (map Some s.first.value.items) (reverse s.past.calls) s.slots.items s.kept.items s.last.items };
 }
 
-impl<A: Allocator> MemorySlots<A> {
-    /// So many slots of zeros.
+impl<A: Allocator + Copy> MemorySlots<A> {
+    /// So many slots of zeros, as after a sync.
     pub fn new(alloc: A, count: u16) -> Result<Self, AllocError>
         ensures keeps { IfOk result (λ file. file.keeps ≡ true) }
         ensures calls { IfOk result (λ file. file.calls ≡ []) }
         ensures count { IfOk result (λ file. length file.first ≡ count) }
     {
         let slots = vec![in alloc; [0; SLOT_BYTES]; count as usize]?;
+        let kept = copied(alloc, &slots)?;
+        let last = copied(alloc, &slots)?;
         let first = Snapshot::of(&slots);
         Ok(MemorySlots {
             slots,
+            kept,
+            last,
             plan: Plan::Never,
+            tear: Tear::Old,
             first,
             past: Past::new(),
         })
@@ -73,6 +86,54 @@ impl<A: Allocator> MemorySlots<A> {
         self.plan = Plan::Once(calls);
     }
 
+    /// How a call that fails leaves the slots that it was to change. A new file leaves them old.
+    pub fn fail_as(&mut self, tear: Tear)
+        ensures { self.new ≡ self.old }
+    {
+        self.tear = tear;
+    }
+
+    /// Stops the power. Each slot is left torn as was asked for, where it was written and not made to outlast a stop; no call is
+    /// to fail.
+    pub fn cut(self, tears: Tears<'_>) -> Self
+        ensures keeps { result.keeps ≡ true }
+        ensures calls { result.calls ≡ [] }
+        ensures count { length result.first ≡ length self.first }
+        ensures left { (k : ℕ) → k < length self.first
+            → Leaves self.first self.calls k (slice_index_or result.first k None) }
+        ensures new { (k : ℕ) → k < length self.first → tear_at tears.entry k ≡ Tear.New
+            → (standing self.calls k).sure ≡ true
+            → slice_index_or result.first k None ≡ newest self.first self.calls k }
+    {
+        let MemorySlots {
+            slots,
+            kept,
+            last,
+            plan: _,
+            tear: _,
+            first: _,
+            past: _,
+        } = self;
+        let mut slots = slots;
+        let mut kept = kept;
+        let mut last = last;
+        tear_all(&kept, &last, &mut slots, tears);
+        kept.copy_from_slice(&slots);
+        last.copy_from_slice(&slots);
+        let first = Snapshot::of(&slots);
+        MemorySlots {
+            slots,
+            kept,
+            last,
+            plan: Plan::Never,
+            tear: Tear::Old,
+            first,
+            past: Past::new(),
+        }
+    }
+}
+
+impl<A: Allocator> MemorySlots<A> {
     // Whether this call is to fail.
     fn is_due(&mut self) -> bool
         ensures { self.new ≡ self.old }
@@ -81,6 +142,18 @@ impl<A: Allocator> MemorySlots<A> {
         self.plan = later;
         due
     }
+}
+
+// The same slots once more.
+fn copied<A: Allocator>(
+    alloc: A,
+    slots: &[[u8; SLOT_BYTES]],
+) -> Result<Vec<[u8; SLOT_BYTES], A>, AllocError>
+    ensures { IfOk result (λ all. all.items ≡ slots.now) }
+{
+    let mut all = vec![in alloc; [0; SLOT_BYTES]; slots.len()]?;
+    all.copy_from_slice(slots);
+    Ok(all)
 }
 
 // What a call that is to fail answers.
@@ -106,9 +179,13 @@ impl<A: Allocator> SlotFile for MemorySlots<A> {
 
     fn write_slot(&mut self, index: u16, slot: &[u8; SLOT_BYTES]) -> io::Result<()> {
         let due = self.is_due();
-        let passed = !due && (index as usize) < self.slots.len();
-        if passed {
-            self.slots[index as usize] = *slot;
+        let is_there = (index as usize) < self.slots.len();
+        let passed = is_there && !due;
+        if is_there {
+            let place = index as usize;
+            let tear = if passed { Tear::New } else { self.tear };
+            self.slots[place] = torn(index, &self.slots[place], slot, tear);
+            self.last[place] = *slot;
         }
         self.past = self.past.and(&Asked::Writes {
             index,
@@ -120,6 +197,17 @@ impl<A: Allocator> SlotFile for MemorySlots<A> {
 
     fn sync(&mut self) -> io::Result<()> {
         let passed = !self.is_due();
+        if passed {
+            self.kept.copy_from_slice(&self.slots);
+            self.last.copy_from_slice(&self.slots);
+        } else {
+            tear_all(
+                &self.kept,
+                &self.last,
+                &mut self.slots,
+                Tears::All(self.tear),
+            );
+        }
         self.past = self.past.and(&Asked::Syncs { passed });
         if passed { Ok(()) } else { Err(refused()) }
     }

@@ -55,7 +55,7 @@ impl<P: Pages, A: Allocator + Copy> Store<P, A> {
     ghost use Rattle.dlms_store.specs.Cause.{IsCause};
     ghost use Rattle.dlms_store.specs.Image.{Quiet, StandsFor, all_of};
     ghost use Rattle.dlms_store.specs.Steady.{Fixes, FixesNothing, HasCheckpoint, IsRenewable, IsSpared, StandsBetween, Steady};
-    ghost use Rattle.dlms_store.specs.Writing.{HasGate, HasJournalPage, IsFormatted, Leaves};
+    ghost use Rattle.dlms_store.specs.Writing.{HasGate, HasJournalPage, IsClear, IsFormatted, Leaves};
     ghost use Rattle.dlms_store.specs.Fitting.{StoreFits, DeviceFits, IsOpened, IsRefusal, OpensAs, GivesBack, LeftBy, Moves, AddMoves, GivesUp, commit_step};
     ghost use Rattle.dlms_store.specs.World.StoreStep.{Adds, Closes, ClosesInDoubt};
 
@@ -70,6 +70,7 @@ impl<P: Pages, A: Allocator + Copy> Store<P, A> {
         ensures later { MatchResult result (λ store. (P.view device).faults ≤ (view_of store).faults) (λ e. (P.view device).faults ≤ (P.view e.0).faults) }
         ensures device { IfErr result (λ e. e.1 ≡ OpenFault.Device → Rose (P.view device).faults (P.view e.0).faults) }
         ensures faults { IfErr result (λ e. (e.1 ≢ OpenFault.NoCheckpoint) × ((page : ℕ) → e.1 ≢ OpenFault.Corrupt page) × (e.1 ≢ OpenFault.Exhausted)) }
+        ensures memory { (P.view device).honest ≡ true → IfErr result (λ e. e.1 ≡ OpenFault.Memory → Leaves (P.view e.0) IsClear) }
     {
         let mut device = device;
         let count = device.count();

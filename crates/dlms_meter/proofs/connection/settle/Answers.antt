@@ -1,4 +1,4 @@
-use Rattle.std.proofs.Common.{◌≡◌, ◌≤◌, sym, subst, arith, ℕ, [], ◌∷◌, Option, None, Ok, Err}
+use Rattle.std.proofs.Common.{◌≡◌, ◌≤◌, refl, sym, subst, arith, ℕ, [], ◌∷◌, Option, None, Ok, Err}
 use Rattle.std.proofs.lemmas.Result.{err_from_is_err_and}
 use Rattle.dlms_state.specs.declared.event.Event.{Event}
 use Rattle.dlms_service.specs.Session.{listed}
@@ -7,11 +7,13 @@ use Rattle.dlms_store.specs.Store.{state_in, refusal_in}
 use Rattle.dlms_store.proofs.Going.{Added, Committed, add_goes}
 use Rattle.dlms_meter.specs.Settled.{Settled}
 use Rattle.dlms_meter.proofs.Settling.{add_may_fail, commit_may_fail, add_failed, commit_alone, commit_alone_failed, commit_behind, commit_behind_failed}
+use Rattle.dlms_meter.proofs.Sparing as sparing
+use Rattle.dlms_meter.proofs.Sparing.{IsNear}
 use Rattle.dlms_meter.proofs.connection.settle.Goals as goal
 use Rattle.dlms_meter.proofs.connection.settle.Goals.{in-Some+in_ok-add, in_default}
 
-pub returns-in_err-add : goal.returns-in_err-add
-returns-in_err-add g c before knows =
+pub returns-in_err-add-clause-settled : goal.returns-in_err-add-clause-settled
+returns-in_err-add-clause-settled g c before knows =
     let store = c.args.store.now in
     let new = c.add.new.self in
     let e = c.in-Some.event in
@@ -35,8 +37,8 @@ returns-in_err-add g c before knows =
     (subst (λ (o : Option Event). Settled (Err p.0) before (listed o) store new) (sym c.in-Some.is)
     (add_failed fault p.0 e before store new (add_goes (Err fault) e before store new knows added) (add_may_fail fault e store new passes added)))
 
-pub returns : goal.returns
-returns g c before knows =
+pub returns-clause-settled : goal.returns-clause-settled
+returns-clause-settled g c before knows =
     let store = c.args.store.now in
     let mid = c.match-event.store in
     let new = c.commit.new.self in
@@ -75,8 +77,8 @@ returns g c before knows =
           )
     ]
 
-pub returns-in_err-commit : goal.returns-in_err-commit
-returns-in_err-commit g c before knows =
+pub returns-in_err-commit-clause-settled : goal.returns-in_err-commit-clause-settled
+returns-in_err-commit-clause-settled g c before knows =
     let store = c.args.store.now in
     let mid = c.match-event.store in
     let new = c.commit.new.self in
@@ -123,3 +125,28 @@ returns-in_err-commit g c before knows =
   where
     same : {n : ℕ} → n ≤ n
     same = omega arith
+
+pub returns-in_err-add-clause-spares : goal.returns-in_err-add-clause-spares
+returns-in_err-add-clause-spares g c = (let x = c.in_err-add.ensures in sparing.add_failed c.args.store.now c.add.new.self c.in_err-add.field-0.0 _ refl x.device x.unchanged)
+
+pub returns-clause-spares : goal.returns-clause-spares
+returns-clause-spares g c runs free ring =
+    let store = c.args.store.now in
+    let mid = c.match-event.store in
+    let x = c.in_ok-commit.ensures in
+    let near : IsNear store mid = elim c.match-event.branch [
+      | in-Some+in_ok-add w ↦ (let y = w.in_ok-add.ensures in subst (IsNear store) (sym w.store-is) (sparing.added store w.add.new.self w.in-Some.event y.joins_in_memory y.takes_page free ring))
+      | in_default w ↦ subst (IsNear store) (sym w.store-is) (sparing.itself store)
+    ] in
+    sparing.committed store mid c.commit.new.self near (λ none. (x.nothing (sparing.running mid.stopped (λ is. absurd (cc (x.stopped.1 is)))) none).1) x.takes_page free
+
+pub returns-in_err-commit-clause-spares : goal.returns-in_err-commit-clause-spares
+returns-in_err-commit-clause-spares g c runs free ring =
+    let store = c.args.store.now in
+    let mid = c.match-event.store in
+    let x = c.in_err-commit.ensures in
+    let near : IsNear store mid = elim c.match-event.branch [
+      | in-Some+in_ok-add w ↦ (let y = w.in_ok-add.ensures in subst (IsNear store) (sym w.store-is) (sparing.added store w.add.new.self w.in-Some.event y.joins_in_memory y.takes_page free ring))
+      | in_default w ↦ subst (IsNear store) (sym w.store-is) (sparing.itself store)
+    ] in
+    sparing.near_still store mid c.commit.new.self near (sparing.commit_failed mid c.commit.new.self c.in_err-commit.field-0.0 _ refl x.device x.unchanged runs)

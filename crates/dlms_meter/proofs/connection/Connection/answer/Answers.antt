@@ -11,8 +11,8 @@ use Rattle.dlms_meter.proofs.RunLemmas.{state_known, on_link, one_answer, apdu_h
 use Rattle.dlms_meter.proofs.Settling.{settled_ok, settled_err}
 use Rattle.dlms_meter.proofs.connection.Connection.answer.Goals as goal
 
-pub returns-in_default : goal.returns-in_default
-returns-in_default g c before knows =
+pub returns-in_default-clause-handled : goal.returns-in_default-clause-handled
+returns-in_default-clause-handled g c before knows =
     let own : ClientRecord = record { link = c.self.inside.link; session = c.self.inside.session } in
     let store = c.args.store.now in
     let link = c.on.new.self in
@@ -27,8 +27,8 @@ returns-in_default g c before knows =
     (sym c.in-Apdu.is ∙ c.on.ensures.out) c.on.ensures.after c.apdu.ensures.value told.1 sent frame
     (uncalled (is_success o.answer) o.accepted quiet (c.serve-answer.ensures.alone (events_in before) of c.in_default.is)) tt (none before store (λ h. g.met.P.Pages.rules store.device h) knows) (subst (λ (bytes : List ℕ). length bytes ≤ 1024) c.as_slice.ensures.value c.as_slice.ensures.fits))
 
-pub returns-then-is_ok : goal.returns-then-is_ok
-returns-then-is_ok g c before knows =
+pub returns-then-is_ok-clause-handled : goal.returns-then-is_ok-clause-handled
+returns-then-is_ok-clause-handled g c before knows =
     let own : ClientRecord = record { link = c.self.inside.link; session = c.self.inside.session } in
     let store = c.args.store.now in
     let new = c.settle.new.store in
@@ -39,21 +39,21 @@ returns-then-is_ok g c before knows =
     let sent = c.send-then-is_ok.ensures.after ∙ ap (λ (bytes : List ℕ). (server_send link bytes).0) c.as_slice-then-is_ok.ensures.value in
     let frame = c.send-then-is_ok.ensures.frame ∙ ap (λ (bytes : List ℕ). spelling (server_send link bytes).1) c.as_slice-then-is_ok.ensures.value in
     let says : is_success o.answer ≡ true = sym c.serve-answer.ensures.stake ∙ ap is_some c.in-Some.is in
-    let settled = settled_ok c.settle.result before (listed c.serve-answer.result.event) store new (sym c.is_ok.ensures.value ∙ c.if-is_ok.true) (c.settle.ensures before knows) in
+    let settled = settled_ok c.settle.result before (listed c.serve-answer.result.event) store new (sym c.is_ok.ensures.value ∙ c.if-is_ok.true) (c.settle.ensures.settled before knows) in
     subst (λ (r : ClientRecord). Handling r c.args.frame.now (Some c.send-then-is_ok.result.items) (record { link = c.send-then-is_ok.new.link; session = c.serve-answer.new.self }) before store new) c.self.view_is
     (apdu_handled own c.args.frame.now link c.send-then-is_ok.new.link c.apdu.result.now o c.send-then-is_ok.result.items (Served told.0) before settled.1 settled.0 store new
     (sym c.in-Apdu.is ∙ c.on.ensures.out) c.on.ensures.after c.apdu.ensures.value told.1 sent frame
     (settling (is_success o.answer) o.accepted settled.0 says settled.2) tt settled.3 (subst (λ (bytes : List ℕ). length bytes ≤ 1024) c.as_slice-then-is_ok.ensures.value c.as_slice-then-is_ok.ensures.fits))
 
-pub returns-else-is_ok : goal.returns-else-is_ok
-returns-else-is_ok g c before knows =
+pub returns-else-is_ok-clause-handled : goal.returns-else-is_ok-clause-handled
+returns-else-is_ok-clause-handled g c before knows =
     let own : ClientRecord = record { link = c.self.inside.link; session = c.self.inside.session } in
     let store = c.args.store.now in
     let new = c.settle.new.store in
     let link = c.on.new.self in
     let event = listed c.serve-answer.result.event in
     let of = state_known before store c.state.result.now knows c.state.ensures.after in
-    let settled = settled_err c.settle.result before event store new (sym c.is_ok.ensures.value ∙ c.if-is_ok.false) (c.settle.ensures before knows) in
+    let settled = settled_err c.settle.result before event store new (sym c.is_ok.ensures.value ∙ c.if-is_ok.false) (c.settle.ensures.settled before knows) in
     let kept = settled.0 in
     let o : Outcome = record { own = c.fail-failed.new.self; answer = c.fail-failed.result.items; accepted = if kept then event else [] } in
     let told = wants kept (events_in before) c.self.inside.session c.serve-answer.new.self c.apdu.result.now c.in-Some.stake event (c.serve-answer.ensures.fails c.in-Some.stake c.in-Some.is (events_in before) of true) in
@@ -66,15 +66,15 @@ returns-else-is_ok g c before knows =
     (subst (λ (x : Outcome). Does (DeviceFails kept event) (events_in before) c.self.inside.session c.apdu.result.now x) (sym same) told)
     sent frame settled.3 settled.5 settled.4 (subst (λ (bytes : List ℕ). length bytes ≤ 1024) c.as_slice-in-Apdu.ensures.value c.as_slice-in-Apdu.ensures.fits))
 
-pub returns-in-Nothing : goal.returns-in-Nothing
-returns-in-Nothing g c before knows =
+pub returns-in-Nothing-clause-handled : goal.returns-in-Nothing-clause-handled
+returns-in-Nothing-clause-handled g c before knows =
     let store = c.args.store.now in
     subst (λ (r : ClientRecord). Handling r c.args.frame.now None (record { link = c.on.new.self; session = c.self.inside.session }) before store store) c.self.view_is
     (on_link (record { link = c.self.inside.link; session = c.self.inside.session }) c.args.frame.now c.on.new.self Nothing (replies c.on.new.self c.self.inside.session None) before store
     (λ h. g.met.P.Pages.rules store.device h) knows (sym c.in-Nothing.is ∙ c.on.ensures.out) c.on.ensures.after (λ E. refl) (refl, refl) tt)
 
-pub returns-in-Reply : goal.returns-in-Reply
-returns-in-Reply g c before knows =
+pub returns-in-Reply-clause-handled : goal.returns-in-Reply-clause-handled
+returns-in-Reply-clause-handled g c before knows =
     let store = c.args.store.now in
     let frame = c.in-Reply.reply in
     subst (λ (r : ClientRecord). Handling r c.args.frame.now (Some c.put.result.items) (record { link = c.on.new.self; session = c.self.inside.session }) before store store) c.self.view_is
@@ -82,8 +82,8 @@ returns-in-Reply g c before knows =
     (λ h. g.met.P.Pages.rules store.device h) knows (sym c.in-Reply.is ∙ c.on.ensures.out) c.on.ensures.after
     (λ E. ap (λ (bytes : List ℕ). replies c.on.new.self c.self.inside.session (Some bytes)) c.put.ensures.text) (refl, refl) tt)
 
-pub returns-in-Oversize : goal.returns-in-Oversize
-returns-in-Oversize g c before knows =
+pub returns-in-Oversize-clause-handled : goal.returns-in-Oversize-clause-handled
+returns-in-Oversize-clause-handled g c before knows =
     let store = c.args.store.now in
     let link = c.on.new.self in
     let s = c.self.inside.session in
@@ -93,8 +93,8 @@ returns-in-Oversize g c before knows =
     (λ x. g.met.P.Pages.rules store.device x) knows (sym c.in-Oversize.is ∙ c.on.ensures.out) c.on.ensures.after
     (λ E. one_answer link c.send-in-Oversize.new.link c.send-in-Oversize.result.items (not_possible s) c.send-in-Oversize.ensures.after c.send-in-Oversize.ensures.frame) (refl, refl) (omega arith))
 
-pub returns-in-BadLlc : goal.returns-in-BadLlc
-returns-in-BadLlc g c before knows =
+pub returns-in-BadLlc-clause-handled : goal.returns-in-BadLlc-clause-handled
+returns-in-BadLlc-clause-handled g c before knows =
     let store = c.args.store.now in
     let link = c.on.new.self in
     let s = c.self.inside.session in
@@ -104,8 +104,8 @@ returns-in-BadLlc g c before knows =
     (λ x. g.met.P.Pages.rules store.device x) knows (sym c.in-BadLlc.is ∙ c.on.ensures.out) c.on.ensures.after
     (λ E. one_answer link c.send-in-BadLlc.new.link c.send-in-BadLlc.result.items (unknown_service s) c.send-in-BadLlc.ensures.after c.send-in-BadLlc.ensures.frame) (refl, refl) (omega arith))
 
-pub returns-in-Up : goal.returns-in-Up
-returns-in-Up g c before knows =
+pub returns-in-Up-clause-handled : goal.returns-in-Up-clause-handled
+returns-in-Up-clause-handled g c before knows =
     let store = c.args.store.now in
     let link = c.on.new.self in
     let s = c.self.inside.session in

@@ -7,7 +7,7 @@ returns-in-Some-clause-feeds g c =
     let takes = rw c.in-Some.is at c.feed-taken.ensures.takes in
     let old = c.args.self.now in
     fed_one old (take c.feed-taken.result.0 c.args.bytes.now) c.feed-taken.new.self c.in-Some.frame (option_map (λ reply. reply.items) c.answer.result) c.answer.new.self
-    (λ h. g.met.P.Pages.rules old.store.device h) takes c.answer.ensures
+    (λ h. g.met.P.Pages.rules old.store.device h) takes c.answer.ensures.replies
 
 pub returns-in-Some-clause-all : goal.returns-in-Some-clause-all
 returns-in-Some-clause-all g c =

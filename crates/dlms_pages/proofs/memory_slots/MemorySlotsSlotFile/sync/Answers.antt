@@ -1,13 +1,28 @@
-use Rattle.std.proofs.Common.{ap, map, Some, sym, subst, List, ◌∙◌}
-use Rattle.std.specs.Prelude.{reverse}
-use Rattle.dlms_pages.specs.declared.asking.Asked.{Asked}
-use Rattle.dlms_pages.specs.HeldSlots.{AreHeld}
-use Rattle.dlms_pages.proofs.Held.{held_any_sync, one_call}
+use Rattle.std.proofs.Common.{rules, map, Some, sym, ap, subst, ◌∙◌}
+use Rattle.dlms_pages.specs.HeldSlots.{AreTorn}
+use Rattle.dlms_pages.proofs.Held.{synced, not_synced}
 use Rattle.dlms_pages.proofs.memory_slots.MemorySlotsSlotFile.sync.Goals as goal
+use Rattle.dlms_pages.proofs.memory_slots.MemorySlotsSlotFile.sync.Goals.{then-passed, else-passed}
 
 pub invariant_of-self : goal.invariant_of-self
 invariant_of-self g c =
-    let inside = c.self.inside in
-    let first = map Some inside.first.value.items in
-    subst (λ (calls : List Asked). AreHeld first calls inside.slots.items) (sym (ap (λ (calls : List Asked). reverse calls) c.and-self-inside.ensures ∙ one_call inside.past.calls _))
-    (held_any_sync first (reverse inside.past.calls) inside.slots.items c.self.invariant _)
+    let old = c.self.inside in
+    let new = c.if-passed.self-inside in
+    let first = map Some old.first.value.items in
+    let held = c.self.invariant in
+    elim c.if-passed.branch [
+      | then-passed w ↦
+          synced first old.past.calls old.slots.items old.kept.items old.last.items held (map Some new.first.value.items) c.and-self-inside.result.calls new.slots.items new.kept.items new.last.items
+          (ap (λ s. map Some s.first.value.items) w.self-inside-is)
+          (search rules)
+          (ap (λ s. s.slots.items) w.self-inside-is)
+          (ap (λ s. s.kept.items) w.self-inside-is ∙ (search rules))
+          (ap (λ s. s.last.items) w.self-inside-is ∙ (search rules))
+      | else-passed w ↦
+          not_synced first old.past.calls old.slots.items old.kept.items old.last.items held (map Some new.first.value.items) c.and-self-inside.result.calls new.slots.items new.kept.items new.last.items
+          (ap (λ s. map Some s.first.value.items) w.self-inside-is)
+          (search rules)
+          (subst (λ slots. AreTorn old.kept.items old.last.items slots) (sym (ap (λ s. s.slots.items) w.self-inside-is)) (search rules))
+          (ap (λ s. s.kept.items) w.self-inside-is)
+          (ap (λ s. s.last.items) w.self-inside-is)
+    ]

@@ -1,0 +1,250 @@
+//! Pages over slots in memory, which keep the rules of a file: a slot torn at each octet; and the scenario of the stops, with a call
+//! of the file that fails, or the power that stops, at each of them, and again while the file is opened.
+
+use crate::asked::{Came, get};
+use crate::report::Report;
+use crate::scripts::FORMATS;
+use crate::stops::{accepted, settled_in};
+use anyhow::Result;
+use dlms_pages::{FilePages, MemorySlots, Pages, SLOT_BYTES, Tear, Tears};
+use dlms_store::{PAGES, Store};
+use std::alloc::{AllocError, Global};
+
+/// Pages over slots in memory.
+type SlotPages = FilePages<MemorySlots>;
+
+/// The calls by which pages are opened: a read and a write of each slot, and a sync.
+const OPENS: u64 = 2 * PAGES as u64 + 1;
+
+/// The calls of the scenario, and of the store that is closed behind it.
+const CALLS: u64 = 16;
+
+/// How the file fails behind so many calls.
+#[derive(Clone, Copy, Debug, PartialEq, Eq)]
+enum Fault {
+    /// Every later call fails, and then the power stops.
+    Stop,
+    /// The next call fails, and the same program goes on.
+    GoesOn,
+    /// The next call fails, and another program opens the file.
+    Another,
+}
+
+const FAULTS: [Fault; 3] = [Fault::Stop, Fault::GoesOn, Fault::Another];
+
+/// What is left of a slot on its way: of the failed call's, and of all where the power stops.
+const TEARS: [Tear; 6] = [
+    Tear::Old,
+    Tear::New,
+    Tear::Front(272),
+    Tear::Front(540),
+    Tear::Back(512),
+    Tear::EverySecond,
+];
+
+/// The pages of slots in memory, where they can be opened.
+fn opened(alloc: Global, slots: MemorySlots) -> Option<SlotPages> {
+    FilePages::over(alloc, slots, PAGES).ok()
+}
+
+/// Slots that fail so, behind so many calls of a formatted store.
+fn slots_of(
+    alloc: Global,
+    fault: Fault,
+    calls: u64,
+    tear: Tear,
+) -> std::result::Result<MemorySlots, AllocError> {
+    let mut slots = MemorySlots::new(alloc, PAGES)?;
+    slots.fail_as(tear);
+    let calls = (OPENS + FORMATS).saturating_add(calls);
+    match fault {
+        Fault::Stop => slots.fuse(calls),
+        Fault::GoesOn | Fault::Another => slots.fail_once(calls),
+    }
+    Ok(slots)
+}
+
+/// Pages of which a call failed, with the least and the most pulses that they may stand for.
+#[derive(Drop)]
+struct Failed {
+    pages: SlotPages,
+    settled: u32,
+    most: u32,
+}
+
+/// The scenario, up to the first fault.
+fn failed(
+    alloc: Global,
+    fault: Fault,
+    calls: u64,
+    tear: Tear,
+) -> std::result::Result<Option<Failed>, AllocError> {
+    let Some(pages) = opened(alloc, slots_of(alloc, fault, calls, tear)?) else {
+        return Ok(None);
+    };
+    let Ok(mut store) = Store::format(alloc, pages) else {
+        return Ok(None);
+    };
+    let settled = settled_in(&mut store);
+    let most = accepted(&store);
+    Ok(Some(Failed {
+        pages: store.close(),
+        settled,
+        most,
+    }))
+}
+
+/// How many pulses are found on pages, and the slots behind that.
+fn found_on(alloc: Global, pages: SlotPages) -> (Option<u32>, MemorySlots) {
+    match Store::open(alloc, pages) {
+        Ok(store) => (Some(accepted(&store)), store.close().into_slots()),
+        Err((pages, _)) => (None, pages.into_slots()),
+    }
+}
+
+/// How many are found where the slots are opened.
+fn found_in(alloc: Global, slots: MemorySlots) -> Option<u32> {
+    found_on(alloc, opened(alloc, slots)?).0
+}
+
+/// How many are found behind a fault: by this program or another one, or behind a stop.
+fn found_behind(alloc: Global, fault: Fault, pages: SlotPages, tear: Tear) -> Option<u32> {
+    match fault {
+        Fault::Stop => found_in(alloc, pages.into_slots().cut(Tears::All(tear))),
+        Fault::Another => found_in(alloc, pages.into_slots()),
+        Fault::GoesOn => {
+            let (found, slots) = found_on(alloc, pages);
+            let again = found_in(alloc, slots.cut(Tears::All(tear)));
+            if found == again { found } else { None }
+        }
+    }
+}
+
+/// What is left of slots where the power stops behind so many calls of their opening or of the recovery.
+fn stopped_again(alloc: Global, slots: MemorySlots, calls: u64, tear: Tear) -> MemorySlots {
+    let mut slots = slots;
+    slots.fuse(calls);
+    let slots = match FilePages::over(alloc, slots, PAGES) {
+        Ok(pages) => found_on(alloc, pages).1,
+        Err((slots, _)) => slots,
+    };
+    slots.cut(Tears::All(tear))
+}
+
+/// The calls of an opening and a recovery behind which the power stops again: at its first and last slots, at its sync, and in the
+/// recovery.
+const AGAIN: [u64; 12] = [
+    0,
+    1,
+    2,
+    3,
+    62,
+    63,
+    123,
+    OPENS - 1,
+    OPENS,
+    OPENS + 1,
+    OPENS + 14,
+    OPENS + 20,
+];
+
+/// As much is found behind a second stop.
+fn play_second_stops(
+    report: &mut Report<'_>,
+    calls: u64,
+    tear: Tear,
+    found: Option<u32>,
+) -> Result<()> {
+    let alloc = report.alloc();
+    for again in AGAIN {
+        if let Some(failed) = failed(alloc, Fault::Stop, calls, tear)? {
+            let left = failed.pages.into_slots().cut(Tears::All(tear));
+            let also = found_in(alloc, stopped_again(alloc, left, again, tear));
+            report.compare((calls, tear, again), also, found)?;
+        }
+    }
+    Ok(())
+}
+
+/// A call that fails, or behind which the power stops, at each place of the scenario: what is found has every pulse that was settled,
+/// and none that was not accepted.
+fn play_faults(report: &mut Report<'_>, fault: Fault, tear: Tear) -> Result<()> {
+    let alloc = report.alloc();
+    for calls in 0..CALLS {
+        let Some(failed) = failed(alloc, fault, calls, tear)? else {
+            report.compare((fault, tear, calls), false, true)?;
+            continue;
+        };
+        let (settled, most) = (failed.settled, failed.most);
+        let found = found_behind(alloc, fault, failed.pages, tear);
+        let is_between = match found {
+            Some(found) => settled <= found && found <= most,
+            None => false,
+        };
+        report.compare((fault, tear, calls, found), is_between, true)?;
+        if fault == Fault::Stop {
+            play_second_stops(report, calls, tear, found)?;
+        }
+    }
+    Ok(())
+}
+
+/// Three pages of which the middle one is written anew, and torn so by a stop.
+fn torn(alloc: Global, tear: Tear) -> Result<Option<[Came; 3]>> {
+    let Ok(mut pages) = FilePages::over(alloc, MemorySlots::new(alloc, 3)?, 3) else {
+        return Ok(None);
+    };
+    if pages.count() < 3 {
+        return Ok(None);
+    }
+    for index in 0..3u16 {
+        let _written = pages.write(index, &[0x11; 512]);
+    }
+    let _synced = pages.sync();
+    let _written = pages.write(1, &[0xee; 512]);
+    let left = pages.into_slots().cut(Tears::All(tear));
+    let Ok(mut pages) = FilePages::over(alloc, left, 3) else {
+        return Ok(None);
+    };
+    Ok(Some([get(&mut pages, 0), get(&mut pages, 1), get(&mut pages, 2)]))
+}
+
+/// What the middle page is to be: the old one where no octet came, the new one where all did, and else damaged.
+fn page_of(octets: usize) -> Came {
+    match octets {
+        0 => Came::Full(0x11),
+        SLOT_BYTES => Came::Full(0xee),
+        _ => Came::Damaged,
+    }
+}
+
+/// A slot torn at each octet, from either end; its neighbours stay.
+fn play_torn(report: &mut Report<'_>) -> Result<()> {
+    let alloc = report.alloc();
+    for octets in 0..=SLOT_BYTES {
+        let place = octets as u16;
+        let pages = Some([Came::Full(0x11), page_of(octets), Came::Full(0x11)]);
+        report.compare(place, torn(alloc, Tear::Front(place))?, pages)?;
+        let pages = Some([
+            Came::Full(0x11),
+            page_of(SLOT_BYTES - octets),
+            Came::Full(0x11),
+        ]);
+        report.compare(place, torn(alloc, Tear::Back(place))?, pages)?;
+    }
+    Ok(())
+}
+
+/// Slots that are torn, calls of a file that fail, and stops of its machine.
+pub fn play_slots(report: &mut Report<'_>) -> Result<()> {
+    report.begin("torn slots");
+    play_torn(report)?;
+    report.end()?;
+    report.begin("faults and stops of a file");
+    for fault in FAULTS {
+        for tear in TEARS {
+            play_faults(report, fault, tear)?;
+        }
+    }
+    Ok(report.end()?)
+}
