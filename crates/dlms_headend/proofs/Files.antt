@@ -1,5 +1,5 @@
 -- Lines and files.
-use Rattle.std.proofs.Common.{arith, refl, sym, ap, ◌∙◌, ◌≡◌, ◌<◌, ◌≤◌, ◌+◌, ◌^◌, ℕ, List, [], ◌∷◌, ◌++◌, length, append_assoc, All, length-append, slice_index, take, get_or, Result, Ok, Err, MatchResult}
+use Rattle.std.proofs.Common.{arith, refl, sym, ap, ◌∙◌, ◌≡◌, ◌<◌, ◌≤◌, ◌+◌, ◌^◌, ℕ, List, [], ◌∷◌, ◌++◌, length, append_assoc, All, length-append, slice_index, take, get_or, zero, suc, Bool, true, false, filter, if◌then◌else◌, subst, IfErr, OnErr, Result, Ok, Err, MatchResult}
 use Rattle.std.proofs.lemmas.List.Elements.{All-push, All-head, All-tail}
 use Rattle.dlms_headend.specs.declared.row.Row.{Row}
 use Rattle.dlms_headend.proofs.Fields.{same_field, field_is_longer}
@@ -8,6 +8,7 @@ use Rattle.dlms_headend.specs.Lines.{field, line, lines, text_of, IsFile, Begins
 use Rattle.dlms_headend.specs.declared.readings_fault.ReadingsFault.{ReadingsFault}
 use Rattle.dlms_headend.specs.declared.readings_fault.ReadingsFault.TheVariants.{Line, Memory}
 use Rattle.std.specs.Fmt.{decimal}
+use Rattle.std.specs.Prelude.{IsErrAnd}
 use Rattle.std.proofs.lemmas.List.{take_more}
 use Rattle.dlms_data.specs.declared.date_time.TheConstants.{LAST_SECOND}
 
@@ -165,6 +166,31 @@ keep_all text (b ∷ rest) rows h none = absurd (omega arith)
 
 pub keep_fault : (text rest : List ℕ) (rows : List Row) → HasKept text rows rest → 0 < length rest → ((row : Row) (behind : List ℕ) → BeginsWith rest row behind → ⊥) → IsFirstFault text (length rows + 1)
 keep_fault text rest rows h more none = record { rows = rows; rest = rest; spelled = h.spelled; readings = h.readings; counted = refl; more = more; no_line = none }
+
+-- a file of which something is left to be read has rows
+left_some : (kept : List Row) (rest : List ℕ) → 0 < length rest → 0 < length (lines kept rest)
+left_some [] rest more = more
+left_some (row ∷ kept) rest more = line_is_some row (lines kept rest)
+
+pub file_some : (text rest : List ℕ) (kept rows : List Row) → HasKept text kept rest → 0 < length rest → IsFile text rows → 0 < length rows
+file_some text rest kept [] h more is = absurd (omega (arith, left_some kept rest more, ap length (sym h.spelled ∙ is.spelled)))
+file_some text rest kept (row ∷ rows) h more is = omega arith
+
+-- memory was wanting
+pub wanted : {X : Type 0} (r : Result X ReadingsFault) (P : ReadingsFault → Type 0) → IsErrAnd r (λ fault. fault ≡ Memory) → P Memory → IfErr r P
+wanted (Ok x) P is h = absurd is
+wanted (Err fault) P is h = subst P (sym is) h
+
+pub on_err : {X E : Type 0} (r : Result X E) (P : Type 0) → P → OnErr r P
+on_err (Ok x) P h = tt
+on_err (Err fault) P h = h
+
+-- a row that passes is among those that pass
+pub passes_some : (passes : Row → Bool) (rows : List Row) (i : ℕ) (d : Row) → i < length rows → passes (get_or rows i d) ≡ true → 0 < length (filter passes rows)
+passes_some passes [] i d within is = absurd (omega arith)
+passes_some passes (row ∷ rows) zero d within is = rw is (omega arith)
+passes_some passes (row ∷ rows) (suc i) d within is =
+    elim (passes row) as (λ (b : Bool). 0 < length (if b then row ∷ filter passes rows else filter passes rows)) [ true ↦ omega arith | false ↦ passes_some passes rows i d (omega arith) is ]
 
 -- ---- what is read of a text
 

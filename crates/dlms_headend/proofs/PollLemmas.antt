@@ -14,15 +14,16 @@ use Rattle.dlms_headend.specs.declared.row.Row.{Row}
 use Rattle.dlms_headend.specs.declared.stage.Stage.{Stage}
 use Rattle.dlms_headend.specs.declared.stage.Stage.TheVariants.{Associating, Naming, Getting, Checking, Releasing, Leaving}
 use Rattle.dlms_headend.specs.Asking.{PlanValue}
-use Rattle.dlms_headend.specs.Poll.{Asks, associates, names, gets, goes_on, checks, releases, HasReleased}
+use Rattle.dlms_headend.specs.Poll.{Asks, associates, names, gets, goes_on, checks, releases, HasReleased, Needs}
 use Rattle.dlms_headend.specs.declared.plan.Columns.{Columns}
 use Rattle.dlms_headend.specs.TalkValue.{TalkValue}
-use Rattle.dlms_headend.specs.Talk.{FitsAt, FitsTalk, CanTake, IsGetting}
-use Rattle.dlms_headend.specs.Polling.{IsGet, IsDue, Goes, asks, leaves, StandsAt, WantsRequest, FitsIn, Fits, SendsOn, Continues, Answers, IsDone, GoesDown, PollsBy, PollsIn, Polls, with_link}
+use Rattle.dlms_headend.specs.Talk.{FitsAt, FitsTalk, CanTake, Ends}
+use Rattle.dlms_headend.specs.Polling.{IsGet, IsDue, Goes, asks, leaves, StandsAt, FitsIn, Fits, SendsOn, Answers, IsDone, GoesDown, PollsBy, PollsIn, Polls, with_link}
 use Rattle.dlms_headend.specs.PollerValue.{PollerValue}
 use Rattle.dlms_headend.specs.declared.step.PollStep.{PollStep}
 use Rattle.dlms_headend.specs.declared.step.PollStep.TheVariants as step
 use Rattle.dlms_headend.specs.declared.poll_fault.PollFault.{PollFault}
+use Rattle.dlms_headend.specs.declared.poll_fault.PollFault.TheVariants.{Memory}
 use Rattle.dlms_headend.proofs.Told.{stage_told}
 use Rattle.dlms_headend.specs.declared.stage.Course.{Course}
 use Rattle.dlms_headend.specs.declared.stage.Course.TheVariants.{Running}
@@ -52,18 +53,6 @@ due_stands plan Checking link new frame idle d = ap (λ (c : ClientRecord). c.ph
 due_stands plan (Getting taken) link new frame idle d = ap (λ (c : ClientRecord). c.phase) d.2.2 ∙ idle.0
 due_stands plan Releasing link new frame idle d = ap (λ (c : ClientRecord). c.phase) d.2 ∙ idle.0
 due_stands plan Leaving link new frame idle d = ap (λ (c : ClientRecord). c.phase) d.1
-
--- memory was wanting for a GET of the buffer
-wants-at : (columns : Columns) (apdus : List (List ℕ)) (stage : Stage) (blocks : Joining) (rows : List Row) → FitsAt columns stage blocks rows apdus → IsGetting stage → WantsRequest columns apdus
-wants-at columns apdus Associating blocks rows h g = absurd g
-wants-at columns apdus Naming blocks rows h g = absurd g
-wants-at columns apdus Checking blocks rows h g = absurd g
-wants-at columns apdus (Getting taken) blocks rows h g = (taken, blocks.joined, h.0)
-wants-at columns apdus Releasing blocks rows h g = absurd g
-wants-at columns apdus Leaving blocks rows h g = absurd g
-
-pub wants : (columns : Columns) (apdus : List (List ℕ)) (talk : TalkValue) → FitsTalk columns talk apdus → IsGetting talk.stage → WantsRequest columns apdus
-wants columns apdus talk h g = wants-at columns apdus talk.stage talk.blocks talk.rows h g
 
 -- ---- what an open link alone gives
 
@@ -146,23 +135,32 @@ opened_sends_on p u new apdus stage frame same running idle h at_stage d plan co
     let here : IsDue p.plan p.talk.stage p.link frame new.link = subst (λ (x : PollerValue). IsDue x.plan x.talk.stage x.link frame new.link) same there in
     sends_on p new apdus frame running idle h here (plan ∙ ap (λ (x : PollerValue). x.plan) same) (course ∙ ap (λ (x : PollerValue). x.course) same) (talk ∙ ap (λ (x : PollerValue). x.talk) same)
 
--- an APDU was taken, and the poll goes on or fails for want of memory
-pub took : (at mid new : PollerValue) (apdus : List (List ℕ)) (result : Result PollStep PollFault) → mid.plan ≡ at.plan → mid.link ≡ at.link
-    → Continues mid (apdus ++ at.link.apdu ∷ []) result new → IfErr result (λ _. IsGetting mid.talk.stage) → (IsGetting mid.talk.stage → mid.talk.rows ≡ at.talk.rows) → Answers at apdus result new
-took at mid new apdus (Ok step.Nothing) plan link k getting rows = k
-took at mid new apdus (Ok step.Done) plan link k getting rows = k
-took at mid new apdus (Ok (step.Send frame)) plan link k getting rows =
+-- an APDU was taken, and the poll goes on
+pub took : (at mid new : PollerValue) (apdus : List (List ℕ)) (frame : Parts) → mid.plan ≡ at.plan → mid.link ≡ at.link → SendsOn mid.plan (apdus ++ at.link.apdu ∷ []) mid.link frame new → Answers at apdus (Ok (step.Send frame)) new
+took at mid new apdus frame plan link k =
     subst (λ (c : ClientRecord). SendsOn at.plan (apdus ++ at.link.apdu ∷ []) c frame new) link
     (subst (λ (x : PlanValue). SendsOn x (apdus ++ at.link.apdu ∷ []) mid.link frame new) plan k)
-took at mid new apdus (Err fault) plan link k getting rows = (
-  inr (k.0, subst (λ (x : PlanValue). WantsRequest x.columns (apdus ++ at.link.apdu ∷ [])) plan k.1),
-  record {
-    course = ap (λ (p : PollerValue). p.course) k.2;
-    plan = ap (λ (p : PollerValue). p.plan) k.2 ∙ plan;
-    link = ap (λ (p : PollerValue). p.link) k.2 ∙ link;
-    rows = ap (λ (p : PollerValue). p.talk.rows) k.2 ∙ rows getting;
-  },
-)
+
+-- the link came up, and the poll goes on
+pub up_sends : (o : ClientOut) (link mid : ClientRecord) (apdus : List (List ℕ)) (at new : PollerValue) (frame : Parts) → out.Up ≡ o → mid ≡ link → SendsOn at.plan apdus mid frame new → PollsBy o link apdus at (Ok (step.Send frame)) new
+up_sends o link mid apdus at new frame is same k =
+    subst (λ (x : ClientOut). PollsBy x link apdus at (Ok (step.Send frame)) new) is (subst (λ (c : ClientRecord). SendsOn at.plan apdus c frame new) same k)
+
+-- ---- where memory was wanting
+
+-- an answer needs it
+pub wants_apdu : (result : Result PollStep PollFault) (columns : Columns) (apdus : List (List ℕ)) (apdu : List ℕ) → IfErr result (Ends columns apdus apdu) → result ≡ Err Memory → Needs columns apdus apdu
+wants_apdu (Ok taken) columns apdus apdu h e = absurd (cc)
+wants_apdu (Err fault) columns apdus apdu h e = let same : fault ≡ Memory = cc in subst (λ (f : PollFault). Ends columns apdus apdu f) same h
+
+-- a link that goes down does not
+pub down_wants_none : (stage : Stage) (at new : PollerValue) (result : Result PollStep PollFault) → GoesDown stage at result new → result ≡ Err Memory → ⊥
+down_wants_none Associating at new result h e = let told = h.answer in cc
+down_wants_none Naming at new result h e = let told = h.answer in cc
+down_wants_none (Getting taken) at new result h e = let told = h.answer in cc
+down_wants_none Checking at new result h e = let told = h.answer in cc
+down_wants_none Releasing at new result h e = let told = h.answer in cc
+down_wants_none Leaving at new result h e = let told = h.answer in cc
 
 -- ---- the poll is done where its list says so
 

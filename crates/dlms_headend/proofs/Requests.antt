@@ -1,10 +1,30 @@
--- How long the requests are.
-use Rattle.std.proofs.Common.{arith, ◌≡◌, ◌≤◌, ℕ, List, length, length-append, Option, unwrap_or, subst, sym}
+-- How the requests are spelled, and how long they are.
+use Rattle.std.proofs.Common.{arith, ◌≡◌, ◌≤◌, ◌∙◌, ℕ, List, [], ◌∷◌, ◌++◌, append_assoc, length, length-append, Option, unwrap_or, ap, subst, sym}
 use Rattle.dlms_data.specs.Value.{Value, octet_string}
 use Rattle.dlms_data.specs.Writing.{short_length, canonical}
 use Rattle.dlms_data.specs.Building.{IsTime}
 use Rattle.dlms_headend.specs.Asking.{IsBufferRequest, range, buffer_bytes}
+use Rattle.dlms_headend.specs.declared.asking.TheConstants.{RANGE_HEAD, ALL_COLUMNS}
 use Rattle.dlms_data.specs.declared.date_time.TheConstants.{LAST_SECOND}
+
+-- a date-time as an octet-string
+time_spelled : (before octets : List ℕ) → length octets ≡ 12 → (before ++ (0x09 ∷ 0x0C ∷ [])) ++ octets ≡ before ++ canonical (octet_string octets)
+unfolding short_length
+time_spelled before octets size =
+    append_assoc before (0x09 ∷ 0x0C ∷ []) octets ∙ ap (λ (n : ℕ). before ++ 0x09 ∷ (short_length n ++ octets)) (sym size)
+
+pub time_appended : (before head middle slice octets after : List ℕ) → middle ≡ before ++ head → head ≡ 0x09 ∷ 0x0C ∷ [] → after ≡ middle ++ slice → slice ≡ octets → length octets ≡ 12 → after ≡ before ++ canonical (octet_string octets)
+time_appended before head middle slice octets after first is second same size = let parts : after ≡ (before ++ (0x09 ∷ 0x0C ∷ [])) ++ octets = cc in parts ∙ time_spelled before octets size
+
+-- the parts of a GET of a range
+range_spelled : (first last : Value) → (((([] ++ RANGE_HEAD) ++ canonical first) ++ canonical last) ++ ALL_COLUMNS) ≡ buffer_bytes (range first last)
+unfolding short_length
+range_spelled first last = ap (λ (rest : List ℕ). RANGE_HEAD ++ rest) (append_assoc (canonical first) (canonical last) ALL_COLUMNS)
+
+pub range_appended : (first last : Value) (none a b c d head tail : List ℕ) → none ≡ [] → a ≡ none ++ head → head ≡ RANGE_HEAD → b ≡ a ++ canonical first → c ≡ b ++ canonical last → d ≡ c ++ tail → tail ≡ ALL_COLUMNS → d ≡ buffer_bytes (range first last)
+range_appended first last none a b c d head tail empty begun is_head from to ended is_tail =
+    let parts : d ≡ ((([] ++ RANGE_HEAD) ++ canonical first) ++ canonical last) ++ ALL_COLUMNS = cc in
+    parts ∙ range_spelled first last
 
 octets_length : (octets : List ℕ) → length octets ≡ 12 → length (canonical (octet_string octets)) ≡ 14
 unfolding short_length

@@ -1,8 +1,13 @@
 -- Values that are rows.
-use Rattle.std.proofs.Common.{◌≡◌, ◌+◌, ◌<◌, ℕ, List, [], ◌∷◌, ◌++◌, length, get_or, take, Option, Some, None, zero, suc, unwrap_or, Result, Ok, Err, IfErr, IfOk, refl, sym, ap, subst, ◌∙◌, arith}
+use Rattle.std.proofs.Common.{◌≡◌, ◌+◌, ◌<◌, ℕ, List, [], ◌∷◌, ◌++◌, length, get_or, take, Option, Some, None, zero, suc, append-nil, true, false, unwrap_or, Result, Ok, Err, IfErr, IfOk, refl, sym, ap, subst, ◌∙◌, arith}
 use Rattle.std.proofs.lemmas.List.{take_more}
 use Rattle.dlms_data.specs.declared.data.Data.{Data}
-use Rattle.dlms_data.specs.Value.{Value, structure}
+use Rattle.std.specs.Prelude.{IsErrAnd}
+use Rattle.dlms_data.proofs.WholeLaws.{reads_one_value}
+use Rattle.dlms_data.specs.Memory.{NeedsMemory, NeedsFirst}
+use Rattle.dlms_data.specs.Value.{Value, Values, array, structure, none, cons, count}
+use Rattle.dlms_data.specs.declared.fault.DataFault.{DataFault}
+use Rattle.dlms_data.specs.declared.fault.DataFault.TheVariants as data_fault
 use Rattle.dlms_data.specs.View.{value_of, values_of}
 use Rattle.dlms_data.specs.DateTime.{NamesSecond}
 use Rattle.dlms_headend.specs.declared.row.Row.{Row}
@@ -10,7 +15,7 @@ use Rattle.dlms_headend.specs.Rows.{four_in, fields_in, IsRow, AreRows, IsProfil
 use Rattle.dlms_headend.specs.declared.poll_fault.PollFault.{PollFault}
 use Rattle.dlms_headend.specs.declared.poll_fault.PollFault.TheVariants.{Refused, Result as BadResult, Line, Protocol, Columns, Memory}
 use Rattle.dlms_data.specs.Spelling.{IsSpelling}
-use Rattle.dlms_data.specs.Reading.{Fault}
+use Rattle.dlms_data.specs.Reading.{Fault, Wants}
 
 pub four_in_others : {A : Type 0} (ds : List (Data A)) → (length ds ≡ 4 → ⊥) → four_in (structure (values_of ds)) ≡ None
 four_in_others [] n = refl
@@ -65,7 +70,41 @@ no_rows-at ds i d within is missing rows h =
     let found = row_of_each ds i d rows within h in
     missing found.0 (subst (λ (x : _). IsRow (value_of x) found.0) (sym is) found.1)
 
+-- ---- rows that need memory
+
+rows_some : (vs : Values) (rows : List Row) → AreRows vs rows → 0 < count vs → 0 < length rows
+rows_some none rows h some = absurd (omega arith)
+rows_some (cons v vs) [] h some = absurd h
+rows_some (cons v vs) (row ∷ rows) h some = omega arith
+
+pub profile_some : (v : Value) (rows : List Row) → IsProfile v rows → NeedsMemory v → 0 < length rows
+profile_some (array vs) rows h some = rows_some vs rows h some
+profile_some _ rows h some = absurd h
+
+pub filled : (n : ℕ) → (n ≡ 0 → false ≡ true) → 0 < n
+filled zero h = let clash = h refl in cc
+filled (suc n) h = omega arith
+
+pub values_some : {A : Type 0} (ds : List (Data A)) (rows : List Row) → AreRows (values_of ds) rows → 0 < length ds → 0 < length rows
+values_some [] rows h some = absurd (omega arith)
+values_some (d ∷ ds) [] h some = absurd h
+values_some (d ∷ ds) (row ∷ rows) h some = omega arith
+
+-- ---- a fault that is passed on
+
+pub passed_on : {X : Type 0} (r : Result X PollFault) (fault : PollFault) (P : PollFault → Type 0) → IsErrAnd r (λ given. given ≡ fault) → P fault → IfErr r P
+passed_on (Ok x) fault P is h = absurd is
+passed_on (Err given) fault P is h = subst P (sym is) h
+
 -- ---- values of bytes
+
+-- the bytes spell a value that needs memory, where reading them wanted some
+pub wanted_value : (bytes : List ℕ) (v : Value) (n : ℕ) (fault : DataFault) → IsSpelling bytes v → Wants {Y = Value × ℕ} NeedsFirst fault (Ok (v, n)) → NoValue bytes Memory
+wanted_value bytes v n data_fault.Memory spelled h = (v, spelled, h)
+wanted_value bytes v n data_fault.Short spelled h = absurd (cc)
+wanted_value bytes v n data_fault.Tag spelled h = absurd (cc)
+wanted_value bytes v n data_fault.Length spelled h = absurd (cc)
+wanted_value bytes v n data_fault.Depth spelled h = absurd (cc)
 
 -- what bytes spell has rows, where their one value has
 pub not_encoded : (bytes : List ℕ) (v : Value) → ((w : Value) → IsSpelling bytes w → w ≡ v) → ((rows : List Row) → IsProfile v rows → ⊥) → (rows : List Row) → IsEncoded bytes rows → ⊥
@@ -73,7 +112,7 @@ not_encoded bytes v one missing rows h = missing rows (subst (λ (w : Value). Is
 
 not_encoded-at : (bytes : List ℕ) (v : Value) → IsSpelling bytes v → ((w : Value) → IsSpelling bytes w → w ≡ v) → (fault : PollFault) → NoProfile v fault → NoEncoding bytes fault
 not_encoded-at bytes v spelled one Protocol h = not_encoded bytes v one h
-not_encoded-at bytes v spelled one Memory h = (h.0, (v, spelled, h.1))
+not_encoded-at bytes v spelled one Memory h = (h.0, (v, spelled, h.1), h.2)
 not_encoded-at bytes v spelled one (Refused diagnostic) h = h
 not_encoded-at bytes v spelled one (BadResult code) h = h
 not_encoded-at bytes v spelled one Line h = h
@@ -86,7 +125,9 @@ encoded_err bytes v (Err fault) spelled one h = not_encoded-at bytes v spelled o
 -- bytes that are no value spell no rows
 pub none_encoded : (bytes : List ℕ) (fault : PollFault) → NoValue bytes fault → ((rows : List Row) × IsEncoded bytes rows) → NoEncoding bytes fault
 none_encoded bytes Protocol h there = λ rows k. h k.0 k.1
-none_encoded bytes Memory h there = there
+none_encoded bytes Memory (v, spelled, needs) (rows, (w, other, is)) =
+    let same = reads_one_value bytes bytes [] bytes [] v w (sym (append-nil bytes)) (sym (append-nil bytes)) spelled other in
+    (rows, (w, other, is), profile_some w rows is (subst NeedsMemory same.1 needs))
 none_encoded bytes (Refused diagnostic) h there = h
 none_encoded bytes (BadResult code) h there = h
 none_encoded bytes Line h there = h

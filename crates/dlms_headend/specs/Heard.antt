@@ -21,7 +21,7 @@ joined_on old taken bytes = record { joined = old.joined ++ bytes; taken = taken
 
 -- memory was wanting, where it may be, or the poll fails
 abbrev pub FailsOrWants : ℕ → List ℕ → Result ResponseForm Refusal → PollFault → Type 0
-FailsOrWants taken joined read Memory = NeedsBy taken read
+FailsOrWants taken joined read Memory = NeedsBy taken joined read
 FailsOrWants taken joined read (Refused diagnostic) = FailsBy taken joined read (Refused diagnostic)
 FailsOrWants taken joined read (BadResult code) = FailsBy taken joined read (BadResult code)
 FailsOrWants taken joined read Line = FailsBy taken joined read Line

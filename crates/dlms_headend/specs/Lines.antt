@@ -55,7 +55,7 @@ pub record IsFirstFault (text : List ℕ) (number : ℕ) : Type 0 where
   pub more : 0 < length rest
   pub no_line : (row : Row) (behind : List ℕ) → BeginsWith rest row behind → ⊥
 
--- what a refusal says of the text; memory is wanting only for a file
+-- what a refusal says of the text; memory is wanting only for a file that has rows
 abbrev pub Refuses : List ℕ → ReadingsFault → Type 0
 Refuses text (Line number) = IsFirstFault text number
-Refuses text Memory = (rows : List Row) × IsFile text rows
+Refuses text Memory = (rows : List Row) × IsFile text rows × (0 < length rows)

@@ -2,7 +2,7 @@
 -- answers to GET whose data, or whose blocks joined, spell an array of rows, then the answer to the release. Where the columns are
 -- asked for, an answer that tells them comes before the rows, and another one behind them. What a poll sends next, and why it
 -- fails, is said of the whole list of these APDUs.
-use Rattle.std.specs.Prelude.{◌≡◌, ℕ, ◌+◌, ◌<◌, ◌==◌, if◌then◌else◌, Bool, true, false, List, [], ◌∷◌, ◌++◌, Result, Ok, Err}
+use Rattle.std.specs.Prelude.{◌≡◌, ◌⊎◌, ℕ, ◌+◌, ◌<◌, ◌==◌, if◌then◌else◌, Bool, true, false, List, [], ◌∷◌, ◌++◌, length, Result, Ok, Err}
 use Rattle.dlms_acse.specs.declared.fault.AcseFault.{AcseFault}
 use Rattle.dlms_acse.specs.declared.outcome.Verdict.{Verdict}
 use Rattle.dlms_acse.specs.declared.outcome.Verdict.TheVariants.{Accepted, Refused as Rejected}
@@ -15,7 +15,7 @@ use Rattle.dlms_headend.specs.declared.answer.TheConstants.{EXCEPTION}
 use Rattle.dlms_headend.specs.declared.row.Row.{Row}
 use Rattle.dlms_headend.specs.declared.poll_fault.PollFault.{PollFault}
 use Rattle.dlms_headend.specs.declared.poll_fault.PollFault.TheVariants.{Refused, Result as BadResult, Protocol}
-use Rattle.dlms_headend.specs.Rows.{IsProfile, IsEncoded}
+use Rattle.dlms_headend.specs.Rows.{IsProfile, IsEncoded, HasSome}
 use Rattle.dlms_headend.specs.Asking.{PlanValue, association_bytes, columns_bytes, IsBufferRequest, next_bytes}
 use Rattle.dlms_headend.specs.Columns.{TellsColumns, MissesColumns}
 use Rattle.dlms_headend.specs.declared.plan.Columns.{Columns}
@@ -83,11 +83,12 @@ FailsBy taken joined read fault = (fault ≡ Protocol) × IsNeither taken joined
 abbrev pub Fails : ℕ → List ℕ → List ℕ → PollFault → Type 0
 Fails taken joined apdu fault = FailsBy taken joined (response_at apdu) fault
 
--- Memory may be wanting for data that is an array of rows, where no block came before, and for a block with the next number.
-abbrev pub NeedsBy : ℕ → Result ResponseForm Refusal → Type 0
-NeedsBy taken (Ok (get_data invoke v)) = (taken ≡ 0) × ((rows : List Row) × IsProfile v rows)
-NeedsBy taken (Ok (get_block invoke last number raw)) = number ≡ taken + 1
-NeedsBy taken _ = ⊥
+-- Memory may be wanting for data that is an array of rows, not of none, where no block came before; and for a block with the next
+-- number, where it has bytes to be joined, or where it is the last one and rows are spelled.
+abbrev pub NeedsBy : ℕ → List ℕ → Result ResponseForm Refusal → Type 0
+NeedsBy taken joined (Ok (get_data invoke v)) = (taken ≡ 0) × HasSome (IsProfile v)
+NeedsBy taken joined (Ok (get_block invoke last number raw)) = (number ≡ taken + 1) × ((0 < length raw) ⊎ ((last ≡ true) × HasSome (IsEncoded (joined ++ raw))))
+NeedsBy taken joined _ = ⊥
 
 -- the answer to the release, which is any APDU that begins so
 abbrev pub is_release : List ℕ → Bool
@@ -163,7 +164,7 @@ pub record Needs (columns : Columns) (before : List (List ℕ)) (apdu : List ℕ
   pub taken : ℕ
   pub joined : List ℕ
   pub blocks : HasBlocks columns before taken joined
-  pub needs : NeedsBy taken (response_at apdu)
+  pub needs : NeedsBy taken joined (response_at apdu)
 
 -- why the last of these ends a poll that had taken the others
 pub data Refuses (columns : Columns) (before : List (List ℕ)) (apdu : List ℕ) (fault : PollFault) : Type 0 where

@@ -17,7 +17,7 @@ use Rattle.dlms_headend.specs.declared.poll_fault.PollFault.{PollFault}
 use Rattle.dlms_headend.specs.declared.poll_fault.PollFault.TheVariants.{Line, Protocol, Memory}
 use Rattle.dlms_headend.specs.declared.row.Row.{Row}
 use Rattle.dlms_headend.specs.Asking.{PlanValue, association_bytes, columns_bytes, IsBufferRequest, next_bytes}
-use Rattle.dlms_headend.specs.Poll.{HasBlocks, HasReleased, Asks}
+use Rattle.dlms_headend.specs.Poll.{HasBlocks, HasReleased, Asks, Needs}
 use Rattle.dlms_headend.specs.Talk.{fresh_talk, FitsTalk, Ends}
 use Rattle.dlms_headend.specs.PollerValue.{PollerValue}
 use Rattle.dlms_headend.specs.declared.plan.Columns.{Columns}
@@ -153,6 +153,18 @@ PollsIn (Failed fault) apdus frame old result new = (result ≡ Err fault) × (n
 
 abbrev pub Polls : List (List ℕ) → Parts → PollerValue → Result PollStep PollFault → PollerValue → Type 0
 Polls apdus frame old result new = PollsIn old.course apdus frame old result new
+
+-- By what the link makes of a frame: memory is wanting only for an APDU that the link hands up, an answer to a GET of the buffer
+-- that needs some. What is asked next takes none.
+abbrev pub WantsBy : ClientOut → ClientRecord → Columns → List (List ℕ) → Type 0
+WantsBy out.Nothing link columns apdus = ⊥
+WantsBy out.Up link columns apdus = ⊥
+WantsBy (out.Send frame) link columns apdus = ⊥
+WantsBy out.Apdu link columns apdus = Needs columns apdus link.apdu
+WantsBy out.Down link columns apdus = ⊥
+
+abbrev pub WantsMemory : PollerValue → List (List ℕ) → Parts → Type 0
+WantsMemory old apdus frame = WantsBy (client_step old.link frame).1 (client_step old.link frame).0 old.plan.columns apdus
 
 -- the first frame
 abbrev pub BeginsIn : Course → PollerValue → Option Parts → PollerValue → Type 0

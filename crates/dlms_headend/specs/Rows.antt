@@ -2,6 +2,7 @@
 -- clock and three registers.
 use Rattle.std.specs.Prelude.{◌≡◌, ◌≤◌, ◌<◌, ◌^◌, ℕ, List, [], ◌∷◌, length, Option, Some, None, All}
 use Rattle.dlms_data.specs.DateTime.{NamesSecond}
+use Rattle.dlms_data.specs.Memory.{NeedsMemory}
 use Rattle.dlms_data.specs.Spelling.{IsSpelling}
 use Rattle.dlms_data.specs.Value.{Value, Values, array, structure, octet_string, double_long_unsigned, none, cons}
 use Rattle.dlms_headend.specs.declared.row.Row.{Row}
@@ -68,7 +69,11 @@ IsProfile _ rows = ⊥
 abbrev pub IsEncoded : List ℕ → List Row → Type 0
 IsEncoded bytes rows = (v : Value) × IsSpelling bytes v × IsProfile v rows
 
--- what a refusal says: there are no such rows, or there are but no memory for them
+-- there are such rows, and not none of them: a row needs memory
+abbrev pub HasSome : (List Row → Type 0) → Type 0
+HasSome are = (rows : List Row) × are rows × (0 < length rows)
+
+-- what a refusal says: there are no such rows, or there are some but no memory for them
 abbrev pub Without : (List Row → Type 0) → Type 0 → PollFault → Type 0
 Without are needs Protocol = (rows : List Row) → are rows → ⊥
 Without are needs Memory = needs
@@ -78,19 +83,19 @@ Without are needs Line = ⊥
 Without are needs Columns = ⊥
 
 abbrev pub NoRows : Values → PollFault → Type 0
-NoRows vs fault = Without (AreRows vs) ((rows : List Row) × AreRows vs rows) fault
+NoRows vs fault = Without (AreRows vs) (HasSome (AreRows vs)) fault
 
 abbrev pub NoProfile : Value → PollFault → Type 0
-NoProfile v fault = Without (IsProfile v) ((rows : List Row) × IsProfile v rows) fault
+NoProfile v fault = Without (IsProfile v) (HasSome (IsProfile v)) fault
 
--- the bytes are no value, or there is no memory for the one that they are
+-- the bytes are no value, or there is no memory for the one that they are, which needs some
 abbrev pub NoValue : List ℕ → PollFault → Type 0
 NoValue bytes Protocol = (v : Value) → IsSpelling bytes v → ⊥
-NoValue bytes Memory = (v : Value) × IsSpelling bytes v
+NoValue bytes Memory = (v : Value) × IsSpelling bytes v × NeedsMemory v
 NoValue bytes (Refused diagnostic) = ⊥
 NoValue bytes (BadResult code) = ⊥
 NoValue bytes Line = ⊥
 NoValue bytes Columns = ⊥
 
 abbrev pub NoEncoding : List ℕ → PollFault → Type 0
-NoEncoding bytes fault = Without (IsEncoded bytes) ((rows : List Row) × IsEncoded bytes rows) fault
+NoEncoding bytes fault = Without (IsEncoded bytes) (HasSome (IsEncoded bytes)) fault

@@ -1,82 +1,78 @@
 //! What a poll asks.
 
-ghost use Rattle.std.specs.Prelude.{◌≡◌, ◌≤◌, ◌<◌, ◌^◌, length, IfOk, IfSome};
-ghost use Rattle.dlms_data.specs.View.{value_of};
-ghost use Rattle.dlms_headend.specs.Asking.{columns_bytes, first_second, range, next_bytes, buffer_bytes, IsRange, IsBufferRequest};
-ghost use Rattle.dlms_headend.specs.Columns.{clock_column};
+ghost use Rattle.std.specs.Prelude.{◌≡◌, ◌≤◌, ◌<◌, ◌^◌, ◌+◌, ◌++◌, All, length, IfSome};
+ghost use Rattle.arrayvec.specs.ArrayVec.{array_vec_len};
+ghost use Rattle.dlms_data.specs.Building.{IsTime};
+ghost use Rattle.dlms_data.specs.Value.{Value};
+ghost use Rattle.dlms_data.specs.Writing.{canonical};
+ghost use Rattle.dlms_headend.specs.Asking.{columns_bytes, next_bytes, IsBufferRequest};
 ghost use Rattle.dlms_link.specs.declared.kept.TheConstants.{MOST_APDU};
 
-use dlms_apdu::{Request, write_request};
-use dlms_data::{Data, Descriptor, Items, LAST_SECOND, Selector, four, octet_string_of, time_of};
-use std::alloc::{AllocError, Allocator};
+use arrayvec::ArrayVec;
+use dlms_data::{LAST_SECOND, octets};
 
 /// The invoke-id-and-priority byte of each request: number 1, confirmed, high priority.
 pub const INVOKE: u8 = 0xc1;
 
-/// The load profile's buffer.
-const BUFFER: Descriptor = Descriptor {
-    class: 7,
-    name: [1, 0, 99, 1, 0, 255],
-    id: 2,
-};
-
 /// The clock's logical name.
 pub const CLOCK: [u8; 6] = [0, 0, 1, 0, 0, 255];
 
-/// The column of the clock's time: class, logical name, attribute and data index.
-fn column<A: Allocator + Copy>(alloc: A) -> Result<Data<A>, AllocError>
-    ensures { IfOk result (λ v. value_of v ≡ clock_column) }
+/// The most octets of a GET of the buffer: those of the first one.
+const MOST_OCTETS: usize = 64;
+
+/// A GET of the buffer, or of one of its blocks.
+pub type BufferRequest = ArrayVec<u8, MOST_OCTETS>;
+
+/// The GET of a range of the buffer, up to the first date-time: a GET (C0 01) with the invoke octet, of attribute 2 of class 7,
+/// 1.0.99.1.0.255, with selector 1 (01 01); of that a structure of four (02 04), and its column, a structure of four (02 04): class 8
+/// (12), 0.0.1.0.0.255 (09 06), attribute 2 (0F), data index 0 (12).
+const RANGE_HEAD: [u8; 34] = [
+    0xc0, 0x01, INVOKE, 0x00, 0x07, 1, 0, 99, 1, 0, 255, 0x02, 0x01, 0x01, 0x02, 0x04, 0x02, 0x04,
+    0x12, 0x00, 0x08, 0x09, 0x06, 0, 0, 1, 0, 0, 255, 0x0f, 0x02, 0x12, 0x00, 0x00,
+];
+
+/// All columns: an array (01) of none.
+const ALL_COLUMNS: [u8; 2] = [0x01, 0x00];
+
+/// The tag and the length of a date-time as an octet-string.
+const TIME_HEAD: [u8; 2] = [0x09, 0x0c];
+
+/// Appends octets.
+fn append(request: &mut BufferRequest, octets: &[u8])
+    requires { array_vec_len request.old + length octets.now ≤ MOST_OCTETS }
+    ensures items { request.new.items ≡ request.old.items ++ octets.now }
+    ensures len { array_vec_len request.new ≡ array_vec_len request.old + length octets.now }
+    ensures bytes { All (λ octet. octet < 2 ^ 8) octets.now }
 {
-    Ok(Data::Structure(four(
-        alloc,
-        Data::LongUnsigned(8),
-        octet_string_of(alloc, CLOCK.as_slice())?,
-        Data::Integer(2),
-        Data::LongUnsigned(0),
-    )?))
+    let _octets = octets;
+    let _ = request.try_extend_from_slice(octets);
 }
 
-/// The range of rows from a second on to the clock's last one.
-fn range_from<A: Allocator + Copy>(alloc: A, first: u32) -> Result<Data<A>, AllocError>
-    requires { first ≤ LAST_SECOND }
-    ensures { IfOk result (λ v. IsRange first (value_of v)) }
+/// Appends a second's date-time, as an octet-string.
+fn append_time(request: &mut BufferRequest, second: u32)
+    requires second { second ≤ LAST_SECOND }
+    requires room { array_vec_len request.old + 14 ≤ MOST_OCTETS }
+    ensures time { (time : Value) × IsTime second time × (request.new.items ≡ request.old.items ++ canonical time) }
+    ensures len { array_vec_len request.new ≡ array_vec_len request.old + 14 }
 {
-    let column = column(alloc)?;
-    let first = time_of(alloc, first)?;
-    let last = time_of(alloc, LAST_SECOND)?;
-    let columns = Data::Array(Items::new(alloc));
-    Ok(Data::Structure(four(alloc, column, first, last, columns)?))
+    let octets = octets(second);
+    append(request, TIME_HEAD.as_slice());
+    append(request, octets.as_slice());
 }
 
-/// The GET of the rows of a range.
-fn range_request<A: Allocator + Copy>(
-    alloc: A,
-    after: Option<u32>,
-) -> Result<Vec<u8, A>, AllocError>
-    requires { IfSome after (λ second. second ≤ LAST_SECOND) }
-    ensures { IfOk result (λ apdu. IsBufferRequest after apdu.items) }
-{
-    let value = range_from(alloc, after.unwrap_or(0))?;
-    let request = Request::GetNormal {
-        invoke: INVOKE,
-        descriptor: BUFFER,
-        selector: Some(Selector { number: 1, value }),
-    };
-    write_request(alloc, &request)
-}
-
-/// The GET of the rows from that second on; from 0 where there is none.
+/// The GET of the rows from that second on; from 0 where there is none. It takes no memory.
 #[tactic(auto, using(crate::proofs::Requests::request_is_short))]
-pub fn buffer_request<A: Allocator + Copy>(
-    alloc: A,
-    after: Option<u32>,
-) -> Result<Vec<u8, A>, AllocError>
+pub fn buffer_request(after: Option<u32>) -> BufferRequest
     requires { IfSome after (λ second. second ≤ LAST_SECOND) }
-    ensures asks { IfOk result (λ apdu. IsBufferRequest after apdu.items) }
-    ensures short { IfOk result (λ apdu. length apdu.items ≤ MOST_APDU) }
+    ensures asks { IsBufferRequest after result.items }
+    ensures short { length result.items ≤ MOST_APDU }
 {
-    let request = range_request(alloc, after)?;
-    Ok(request)
+    let mut request = ArrayVec::new();
+    append(&mut request, RANGE_HEAD.as_slice());
+    append_time(&mut request, after.unwrap_or(0));
+    append_time(&mut request, LAST_SECOND);
+    append(&mut request, ALL_COLUMNS.as_slice());
+    request
 }
 
 /// The GET of the load profile's capture objects: class 7, 1.0.99.1.0.255, attribute 3, no selector. It takes no memory.
@@ -88,14 +84,13 @@ pub fn columns_request() -> [u8; 13]
     ]
 }
 
-/// The GET of the block behind the one with this number.
-pub fn next_request<A: Allocator + Copy>(alloc: A, number: u32) -> Result<Vec<u8, A>, AllocError>
-    ensures asks { IfOk result (λ apdu. apdu.items ≡ next_bytes number) }
-    ensures short { IfOk result (λ apdu. length apdu.items ≤ MOST_APDU) }
+/// The GET of the block behind the one with this number: C0 02, the invoke octet, the number. It takes no memory.
+pub fn next_request(number: u32) -> BufferRequest
+    ensures asks { result.items ≡ next_bytes number }
+    ensures short { length result.items ≤ MOST_APDU }
 {
-    let request: Request<'_, A> = Request::GetNext {
-        invoke: INVOKE,
-        number,
-    };
-    write_request(alloc, &request)
+    let mut request = ArrayVec::new();
+    append(&mut request, &[0xc0, 0x02, INVOKE]);
+    append(&mut request, &number.to_be_bytes());
+    request
 }

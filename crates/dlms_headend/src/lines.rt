@@ -1,6 +1,6 @@
 //! Lines of a readings file, read.
 
-ghost use Rattle.std.specs.Prelude.{◌≡◌, ◌+◌, ◌<◌, ◌^◌, ◌∷◌, ◌++◌, ℕ, List, length, IfSome, IfNone, IfOk, IfErr, OnOk, [], string_bytes};
+ghost use Rattle.std.specs.Prelude.{◌≡◌, ◌+◌, ◌<◌, ◌^◌, ◌∷◌, ◌++◌, ℕ, List, length, IfSome, IfNone, IfOk, IfErr, OnOk, OnErr, [], string_bytes};
 ghost use Rattle.std.specs.Fmt.{decimal};
 ghost use Rattle.dlms_headend.specs.Lines.{is_plain, Lacks, field, line, text_of, IsFile, BeginsWith, Refuses};
 
@@ -97,9 +97,9 @@ pub fn count(text: &[u8]) -> Result<usize, ReadingsFault>
     Ok(count)
 }
 
-/// The rows of a text with so many lines.
+/// The rows of a text with so many lines. Memory is asked for only where there are some.
 pub fn rows<A: Allocator>(alloc: A, text: &[u8], count: usize) -> Result<Vec<Row, A>, ReadingsFault>
-    requires { (rows : List Row) × IsFile text.now rows }
+    requires { (rows : List Row) × IsFile text.now rows × (count ≡ length rows) }
     ensures ok { IfOk result (λ rows. IsFile text.now rows.items) }
     ensures err { IfErr result (λ fault. Refuses text.now fault) }
 {
@@ -124,10 +124,11 @@ fn write<A: Allocator>(text: &mut String<A>, row: &Row) -> Result<(), AllocError
     write!(text, "{clock},{first},{second},{third}\n")
 }
 
-/// The text of the rows.
+/// The text of the rows. That of none takes no memory.
 #[tactic(auto, using(crate::proofs::Files::text_of_more))]
 pub fn text<A: Allocator>(alloc: A, rows: &[Row]) -> Result<String<A>, AllocError>
-    ensures { IfOk result (λ text. string_bytes text ≡ text_of rows.now) }
+    ensures text { IfOk result (λ text. string_bytes text ≡ text_of rows.now) }
+    ensures memory { OnErr result (0 < length rows.now) }
 {
     let mut text = String::new(alloc);
     for row in rows {

@@ -5,28 +5,23 @@ ghost use Rattle.dlms_headend.specs.PollFault.{number_of};
 ghost use Rattle.dlms_headend.specs.declared.poll_fault.PollFault.TheVariants.{Memory};
 
 use std::alloc::AllocError;
+use std::fmt;
 use thiserror::Error;
 
-/// Why a poll failed.
+/// Why a poll failed. It is shown by its name in lower case, and by the number that it carries; other columns as `protocol`.
 #[derive(Clone, Copy, Debug, PartialEq, Eq, Error)]
 pub enum PollFault {
     /// The association was refused, with this diagnostic of the service user.
-    #[error("refused {0}")]
     Refused(u8),
     /// A request got this result in place of an answer; 250 stands for an exception too.
-    #[error("result {0}")]
     Result(u8),
     /// Nobody answers: the fourth time-out in a row.
-    #[error("line")]
     Line,
     /// The link went down before the poll asked for that, or an answer had another form than the awaited one.
-    #[error("protocol")]
     Protocol,
     /// The load profile has other columns than the clock and the three registers, in their order.
-    #[error("protocol")]
     Columns,
     /// A growth was refused.
-    #[error("memory")]
     Memory,
 }
 
@@ -41,6 +36,23 @@ impl PollFault {
             PollFault::Line => 3,
             PollFault::Protocol | PollFault::Columns => 4,
             PollFault::Memory => 5,
+        }
+    }
+}
+
+impl fmt::Display for PollFault {
+    ghost use Rattle.std.specs.Prelude.{Some};
+    ghost use Rattle.dlms_headend.specs.PollFault.{text_of};
+
+    ghost output = { λ fault. Some (text_of fault) };
+
+    fn fmt<W: fmt::Write>(&self, f: &mut fmt::Formatter<W>) -> fmt::Result {
+        match self {
+            PollFault::Refused(diagnostic) => write!(f, "refused {diagnostic}"),
+            PollFault::Result(result) => write!(f, "result {result}"),
+            PollFault::Line => f.write_str("line"),
+            PollFault::Protocol | PollFault::Columns => f.write_str("protocol"),
+            PollFault::Memory => f.write_str("memory"),
         }
     }
 }

@@ -1,6 +1,6 @@
 //! A poll of the load profile over the client's link.
 
-ghost use Rattle.std.specs.Prelude.{[], Ok, ◌≡◌, ◌≤◌, ◌↔◌, List, ℕ, IsTrue, IfSome, IfOk, IfErr, MatchResult, length};
+ghost use Rattle.std.specs.Prelude.{[], Ok, Err, ◌≡◌, ◌≤◌, ◌↔◌, List, ℕ, IsTrue, IfSome, IfErr, length};
 ghost use Rattle.dlms_link.specs.Client.{IsIdle, client_step};
 ghost use Rattle.dlms_headend.specs.declared.poll_fault.PollFault.TheVariants.{Memory};
 ghost use Rattle.dlms_headend.specs.declared.stage.Course.TheVariants.{Ready, Running};
@@ -11,11 +11,11 @@ ghost use Rattle.dlms_headend.specs.Poll.{HasReleased};
 ghost use Rattle.dlms_headend.specs.Asking.{association_bytes};
 ghost use Rattle.dlms_headend.specs.PollerValue.{plan_of};
 ghost use Rattle.dlms_headend.specs.Rows.{AreReadings};
-ghost use Rattle.dlms_headend.specs.Talk.{FitsTalk, CanTake, IsGetting};
-ghost use Rattle.dlms_headend.specs.Polling.{IsDone, fresh_poll, IsGet, IsDue, Fits, FitsIn, Begins, TimesOut, CanTimeOut, HasFailed, Continues, Answers, GoesDown, PollsEarly, PollsBy, Polls, with_link};
+ghost use Rattle.dlms_headend.specs.Talk.{FitsTalk, CanTake, Ends};
+ghost use Rattle.dlms_headend.specs.Polling.{IsDone, fresh_poll, IsGet, IsDue, Fits, FitsIn, Begins, TimesOut, CanTimeOut, HasFailed, Continues, Answers, GoesDown, PollsEarly, PollsBy, Polls, WantsBy, WantsMemory, with_link};
 ghost use Rattle.dlms_link.specs.declared.kept.TheConstants.{MOST_APDU};
 
-use crate::asking::{buffer_request, columns_request, next_request};
+use crate::asking::{BufferRequest, buffer_request, columns_request, next_request};
 use crate::plan::Plan;
 use crate::poll_fault::PollFault;
 use crate::row::Row;
@@ -27,7 +27,7 @@ use dlms_acse::{Conformance, write_aarq, write_rlrq};
 use dlms_data::LAST_SECOND;
 use dlms_frame::Frame;
 use dlms_link::{ClientLink, ClientOut};
-use std::alloc::{AllocError, Allocator, Global};
+use std::alloc::{Allocator, Global};
 use std::marker::Model;
 
 /// The services that are proposed.
@@ -40,7 +40,6 @@ const SIZE: u16 = 1200;
 /// again, releases and disconnects.
 #[derive(Drop)]
 pub struct Poller<A: Allocator = Global> {
-    alloc: A,
     plan: Plan,
     link: ClientLink,
     course: Course,
@@ -64,43 +63,31 @@ fn association(plan: &Plan) -> ArrayVec<u8, 128>
     write_aarq(plan.client, plan.secret.as_slice(), PROPOSED, SIZE)
 }
 
-/// The GET after so many blocks.
-fn get_request<A: Allocator + Copy>(
-    alloc: A,
-    plan: &Plan,
-    taken: u32,
-) -> Result<Vec<u8, A>, AllocError>
+/// The GET after so many blocks. It takes no memory.
+fn get_request(plan: &Plan, taken: u32) -> BufferRequest
     requires { IfSome plan.now.after (λ second. second ≤ LAST_SECOND) }
-    ensures asks { IfOk result (λ apdu. IsGet (plan_of plan.now) taken apdu.items) }
-    ensures short { IfOk result (λ apdu. length apdu.items ≤ MOST_APDU) }
+    ensures asks { IsGet (plan_of plan.now) taken result.items }
+    ensures short { length result.items ≤ MOST_APDU }
 {
     if taken == 0 {
-        buffer_request(alloc, plan.after)
+        buffer_request(plan.after)
     } else {
-        next_request(alloc, taken)
+        next_request(taken)
     }
 }
 
-/// The frame that goes out at this stage.
-fn due<A: Allocator + Copy>(
-    alloc: A,
-    plan: &Plan,
-    link: &mut ClientLink,
-    stage: Stage,
-) -> Result<Frame, PollFault>
+/// The frame that goes out at this stage. It takes no memory.
+fn due(plan: &Plan, link: &mut ClientLink, stage: Stage) -> Frame
     requires idle { IsIdle link.old }
     requires after { IfSome plan.now.after (λ second. second ≤ LAST_SECOND) }
-    ensures { MatchResult result (λ frame. IsDue (plan_of plan.now) stage link.old frame link.new) (λ fault. (fault ≡ Memory) × IsGetting stage × (link.new ≡ link.old)) }
+    ensures { IsDue (plan_of plan.now) stage link.old result link.new }
 {
     match stage {
-        Stage::Associating => Ok(link.send(association(plan).as_slice())),
-        Stage::Naming | Stage::Checking => Ok(link.send(columns_request().as_slice())),
-        Stage::Getting(taken) => {
-            let request = get_request(alloc, plan, taken)?;
-            Ok(link.send(&request))
-        }
-        Stage::Releasing => Ok(link.send(write_rlrq().as_slice())),
-        Stage::Leaving => Ok(link.disconnect()),
+        Stage::Associating => link.send(association(plan).as_slice()),
+        Stage::Naming | Stage::Checking => link.send(columns_request().as_slice()),
+        Stage::Getting(taken) => link.send(get_request(plan, taken).as_slice()),
+        Stage::Releasing => link.send(write_rlrq().as_slice()),
+        Stage::Leaving => link.disconnect(),
     }
 }
 
@@ -113,7 +100,6 @@ impl<A: Allocator + Copy> Poller<A> {
     {
         let link = ClientLink::new(plan.client);
         Poller {
-            alloc,
             plan,
             link,
             course: Course::Ready,
@@ -145,6 +131,8 @@ impl<A: Allocator + Copy> Poller<A> {
         // And it is done where they are, once the link goes down.
         ensures is_done { (apdus : List (List ℕ)) (rows : List RowOf) → Fits self.old apdus → self.old.course ≡ Running → HasReleased self.old.plan.columns apdus rows
             → (client_step self.old.link frame.now).1 ≡ Down → IsDone (with_link self.old (client_step self.old.link frame.now).0) result self.new × (self.new.talk.rows ≡ rows) }
+        // Memory is wanting only for an answer to a GET of the buffer that needs some; never for a request.
+        ensures memory { (apdus : List (List ℕ)) → Fits self.old apdus → self.old.course ≡ Running → result ≡ Err Memory → WantsMemory self.old apdus frame.now }
     {
         self.turn(frame)
     }
@@ -153,6 +141,7 @@ impl<A: Allocator + Copy> Poller<A> {
     fn turn(&mut self, frame: &Frame) -> Result<PollStep, PollFault>
         ensures polls { (apdus : List (List ℕ)) → Fits self.old apdus → Polls apdus frame.now self.old result self.new }
         ensures done { (apdus : List (List ℕ)) → Fits self.old apdus → result ≡ Ok Done → HasReleased self.old.plan.columns apdus self.new.talk.rows }
+        ensures memory { (apdus : List (List ℕ)) → Fits self.old apdus → self.old.course ≡ Running → result ≡ Err Memory → WantsMemory self.old apdus frame.now }
     {
         match self.course {
             Course::Failed(fault) => Err(fault),
@@ -184,40 +173,40 @@ impl<A: Allocator + Copy> Poller<A> {
     /// A frame.
     fn running(&mut self, frame: &Frame) -> Result<PollStep, PollFault>
         requires { self.old.course ≡ Running }
-        ensures { (apdus : List (List ℕ)) → FitsIn Running self.old apdus
+        ensures polls { (apdus : List (List ℕ)) → FitsIn Running self.old apdus
             → PollsBy (client_step self.old.link frame.now).1 (client_step self.old.link frame.now).0 apdus self.old result self.new }
+        ensures memory { (apdus : List (List ℕ)) → FitsIn Running self.old apdus → result ≡ Err Memory
+            → WantsBy (client_step self.old.link frame.now).1 (client_step self.old.link frame.now).0 self.old.plan.columns apdus }
     {
         match self.link.on(frame) {
             ClientOut::Nothing => Ok(PollStep::Nothing),
             ClientOut::Send(frame) => Ok(PollStep::Send(frame)),
-            ClientOut::Up => self.go_on(),
+            ClientOut::Up => Ok(PollStep::Send(self.go_on())),
             ClientOut::Apdu => self.take(),
             ClientOut::Down => self.down(),
         }
     }
 
-    /// Sends what is due.
-    fn go_on(&mut self) -> Result<PollStep, PollFault>
+    /// What is due goes out. It takes no memory.
+    fn go_on(&mut self) -> Frame
         requires running { self.old.course ≡ Running }
         requires idle { IsIdle self.old.link }
-        ensures continues { (apdus : List (List ℕ)) → FitsTalk self.old.plan.columns self.old.talk apdus → Continues self.old apdus result self.new }
-        ensures getting { IfErr result (λ _. IsGetting self.old.talk.stage) }
+        ensures { (apdus : List (List ℕ)) → FitsTalk self.old.plan.columns self.old.talk apdus → Continues self.old apdus (Ok (PollStep.Send result)) self.new }
     {
-        match due(self.alloc, &self.plan, &mut self.link, self.talk.stage()) {
-            Ok(frame) => Ok(PollStep::Send(frame)),
-            Err(fault) => self.fail(fault),
-        }
+        due(&self.plan, &mut self.link, self.talk.stage())
     }
 
-    /// An APDU was handed up.
+    /// An APDU was handed up. Only its own cause ends the poll: what is asked next takes no memory.
     fn take(&mut self) -> Result<PollStep, PollFault>
         requires running { self.old.course ≡ Running }
         requires idle { IsIdle self.old.link }
-        ensures { (apdus : List (List ℕ)) → FitsTalk self.old.plan.columns self.old.talk apdus → CanTake self.old.talk.stage
+        ensures answers { (apdus : List (List ℕ)) → FitsTalk self.old.plan.columns self.old.talk apdus → CanTake self.old.talk.stage
             → Answers self.old apdus result self.new }
+        ensures ends { (apdus : List (List ℕ)) → FitsTalk self.old.plan.columns self.old.talk apdus → CanTake self.old.talk.stage
+            → IfErr result (Ends self.old.plan.columns apdus self.old.link.apdu) }
     {
         match self.talk.take(self.plan.columns, self.link.apdu()) {
-            Ok(()) => self.go_on(),
+            Ok(()) => Ok(PollStep::Send(self.go_on())),
             Err(fault) => self.fail(fault),
         }
     }

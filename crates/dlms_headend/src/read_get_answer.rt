@@ -4,6 +4,7 @@ ghost use Rattle.std.specs.Prelude.{◌≡◌, ◌==◌, if◌then◌else◌, �
 ghost use Rattle.dlms_apdu.specs.Forms.{get_data, get_block};
 ghost use Rattle.dlms_apdu.specs.Reading.{response_at};
 ghost use Rattle.dlms_blocks.specs.Joining.{Joining};
+ghost use Rattle.dlms_data.specs.Memory.{NeedsMemory};
 ghost use Rattle.dlms_data.specs.Value.{Value};
 ghost use Rattle.dlms_data.specs.View.{value_of};
 ghost use Rattle.dlms_headend.specs.declared.poll_fault.PollFault.TheVariants.{Result as BadResult, Protocol};
@@ -86,7 +87,7 @@ pub fn behind_head(apdu: &[u8]) -> &[u8]
 
 /// There was no memory for data. Where blocks have come none is awaited; and where it is no array of rows, more memory is of no use.
 fn wanting(taken: u32, apdu: &[u8]) -> PollFault
-    ensures { (joined : List ℕ) (invoke : ℕ) (v : Value) → response_at apdu.now ≡ Ok (get_data invoke v)
+    ensures { (joined : List ℕ) (invoke : ℕ) (v : Value) → response_at apdu.now ≡ Ok (get_data invoke v) → NeedsMemory v
         → FailsOrWants taken joined (Ok (get_data invoke v)) result }
 {
     if taken != 0 {

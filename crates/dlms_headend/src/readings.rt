@@ -1,6 +1,6 @@
 //! The readings file: the rows of all polls, in the order in which they came.
 
-ghost use Rattle.std.specs.Prelude.{◌≡◌, ◌≤◌, ◌+◌, ◌++◌, List, length, take, filter, IfOk, IfErr, IfSome, OnOk, OnErr, MatchResult, string_bytes};
+ghost use Rattle.std.specs.Prelude.{◌≡◌, ◌≤◌, ◌<◌, ◌+◌, ◌++◌, List, length, take, filter, IfOk, IfErr, IfSome, OnOk, OnErr, MatchResult, string_bytes};
 ghost use Rattle.dlms_headend.specs.Lines.{line, text_of, IsFile, Refuses};
 ghost use Rattle.dlms_headend.specs.Rows.{AreReadings};
 ghost use Rattle.dlms_headend.specs.Merged.{last_clock, is_later, added, merged};
@@ -50,6 +50,7 @@ fn append<A: Allocator>(
 ) -> Result<(), AllocError>
     ensures ok { OnOk result (rows.new.items ≡ rows.old.items ++ filter (is_later last) given.now) }
     ensures err { (more : List RowOf) × (rows.new.items ≡ rows.old.items ++ more) }
+    ensures memory { OnErr result (0 < length (filter (is_later last) given.now)) }
 {
     for row in given {
         if is_later(last, row) {
@@ -70,13 +71,13 @@ fn read<A: Allocator>(alloc: A, text: &[u8]) -> Result<Readings<A>, ReadingsFaul
 
 impl<A: Allocator + Copy> Readings<A> {
     /// Reads a file's text: a line `clock,r0,r1,r2` for each row, in plain decimal, each line ended by a line feed. A line of
-    /// another form is told before memory is asked for.
+    /// another form is told before memory is asked for, and an empty text takes none.
     pub fn open(alloc: A, text: &str) -> Result<Self, ReadingsFault>
         // The text is that of the rows, and each row is one that a file may hold.
         ensures found { IfOk result (IsFile text.now) }
         // The rows of a file are read, unless memory runs out.
         ensures only { (rows : List RowOf) → IsFile text.now rows → MatchResult result (λ file. file ≡ rows) (λ fault. fault ≡ Memory) }
-        // Which fault it is.
+        // Which fault it is; memory is wanting only for a file that has rows.
         ensures fault { IfErr result (Refuses text.now) }
     {
         read(alloc, text.as_bytes())
@@ -89,6 +90,8 @@ impl<A: Allocator + Copy> Readings<A> {
         ensures ok { OnOk result (self.new ≡ merged self.old rows.now) }
         ensures count { IfOk result (λ count. count ≡ length (added self.old rows.now)) }
         ensures err { OnErr result (self.new ≡ self.old) }
+        // Memory is wanting only for rows that are to be appended.
+        ensures memory { OnErr result (0 < length (added self.old rows.now)) }
     {
         let before = self.rows.len();
         let last = self.last();
@@ -101,9 +104,10 @@ impl<A: Allocator + Copy> Readings<A> {
         }
     }
 
-    /// The file's text, which `open` reads again.
+    /// The file's text, which `open` reads again. That of no rows takes no memory.
     pub fn text(&self) -> Result<String<A>, AllocError>
-        ensures { IfOk result (λ text. IsFile (string_bytes text) self.now) }
+        ensures text { IfOk result (λ text. IsFile (string_bytes text) self.now) }
+        ensures memory { OnErr result (0 < length self.now) }
     {
         lines::text(*self.rows.allocator(), &self.rows)
     }

@@ -5,16 +5,16 @@ ghost use Rattle.dlms_headend.specs.ReadingsFault.{number_of};
 ghost use Rattle.dlms_headend.specs.declared.readings_fault.ReadingsFault.TheVariants.{Memory};
 
 use std::alloc::AllocError;
+use std::fmt;
 use thiserror::Error;
 
-/// Why a readings file could not be read. `Memory` stands behind the other.
+/// Why a readings file could not be read. `Memory` stands behind the other. It is shown by its name in lower case, and by the
+/// number that it carries.
 #[derive(Clone, Copy, Debug, PartialEq, Eq, Error)]
 pub enum ReadingsFault {
     /// The line of this number, counted from 1, is the first that has not the form of a line.
-    #[error("line {0}")]
     Line(usize),
     /// A growth was refused.
-    #[error("memory")]
     Memory,
 }
 
@@ -26,6 +26,20 @@ impl ReadingsFault {
         match self {
             ReadingsFault::Line(_) => 1,
             ReadingsFault::Memory => 2,
+        }
+    }
+}
+
+impl fmt::Display for ReadingsFault {
+    ghost use Rattle.std.specs.Prelude.{Some};
+    ghost use Rattle.dlms_headend.specs.ReadingsFault.{text_of};
+
+    ghost output = { λ fault. Some (text_of fault) };
+
+    fn fmt<W: fmt::Write>(&self, f: &mut fmt::Formatter<W>) -> fmt::Result {
+        match self {
+            ReadingsFault::Line(number) => write!(f, "line {number}"),
+            ReadingsFault::Memory => f.write_str("memory"),
         }
     }
 }

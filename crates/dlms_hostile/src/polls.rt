@@ -127,7 +127,8 @@ fn ended_by<A: Allocator + Copy>(poller: &mut Poller<A>, replies: &[Frame], rows
     }
 }
 
-/// Polls of so many rows by pollers on heaps, each larger by a step: how many were refused is noted.
+/// Polls of so many rows by pollers on heaps, each larger by a step from none on: how many were refused is noted. One of no row takes no
+/// memory.
 pub fn polls(alloc: Global, rows: u32, step: usize, cases: usize) -> Result<Tally, AllocError> {
     let mut tally = Tally::new();
     let mut replies = Vec::new(alloc);
@@ -138,7 +139,7 @@ pub fn polls(alloc: Global, rows: u32, step: usize, cases: usize) -> Result<Tall
         let ended = ended_by(&mut poller, replies.as_slice(), rows as usize);
         drop(poller);
         let is_right = match ended {
-            Ended::Done => case > 0,
+            Ended::Done => case > 0 || rows == 0,
             Ended::Refused => case.saturating_add(1) < cases,
             Ended::Otherwise => false,
         };

@@ -1,6 +1,9 @@
 use Rattle.std.proofs.lemmas.List.Elements.{All-push}
-use Rattle.dlms_headend.specs.Rows.{IsReading}
-use Rattle.dlms_headend.proofs.Values.{rows_more, no_rows-at}
+use Rattle.std.proofs.Common.{arith, length}
+use Rattle.dlms_data.specs.View.{values_of}
+use Rattle.dlms_headend.specs.declared.poll_fault.PollFault.TheVariants.{Memory}
+use Rattle.dlms_headend.specs.Rows.{IsReading, NoRows}
+use Rattle.dlms_headend.proofs.Values.{rows_more, no_rows-at, passed_on, filled, values_some}
 use Rattle.dlms_headend.proofs.buffer.collected.Goals as goal
 
 pub loop-value-preserved : goal.loop-value-preserved
@@ -12,3 +15,13 @@ loop-value-preserved g c =
 
 pub returns-in_default-clause-err : goal.returns-in_default-clause-err
 returns-in_default-clause-err g c = no_rows-at c.args.values.now c.loop-value.value-index c.value-item.result c.loop-value-test.true c.value-item.is c.in_default.ensures.none
+
+pub returns-in_err-rows-clause-err : goal.returns-in_err-rows-clause-err
+returns-in_err-rows-clause-err g c =
+    let there = c.if-not-are_rows.ensures in
+    passed_on c.from_residual.result Memory (NoRows (values_of c.args.values.now)) c.from_residual.ensures.1 (there.0, there.1, values_some c.args.values.now there.0 there.1 (filled (length c.args.values.now) c.in_err-rows.ensures.succeeds))
+
+pub returns-in_err-keep-clause-err : goal.returns-in_err-keep-clause-err
+returns-in_err-keep-clause-err g c =
+    let there = c.if-not-are_rows.ensures in
+    passed_on c.from_residual-in_err-keep.result Memory (NoRows (values_of c.args.values.now)) c.from_residual-in_err-keep.ensures.1 (there.0, there.1, values_some c.args.values.now there.0 there.1 (omega arith))
