@@ -1,5 +1,5 @@
 -- What is kept of a talk was asked for, and since then nothing was missing.
-use Rattle.std.proofs.Common.{◌≡◌, ◌⊎◌, inl, inr, ℕ, ◌==◌, ◌&&◌, ◌||◌, not, if◌then◌else◌, Bool, true, false, List, [], ◌∷◌, Option, Some, None, refl}
+use Rattle.std.proofs.Common.{◌≡◌, ◌⊎◌, inl, inr, ℕ, ◌==◌, ◌&&◌, not, if◌then◌else◌, Bool, true, false, List, [], ◌∷◌, Option, Some, None, refl}
 use Rattle.dlms_apdu.specs.declared.request.Request.{Request}
 use Rattle.dlms_apdu.specs.declared.request.Request.TheVariants.{GetNormal, GetNext, SetNormal, SetFirst, SetBlock, ActionNormal, ActionFirst, ActionBlock}
 use Rattle.dlms_apdu.specs.declared.response.Response.{Response}

@@ -1,6 +1,7 @@
 -- What an APDU is told as is what the reader of its kind reads.
 use Rattle.std.specs.Prelude.{◌≡◌, ◌==◌, ◌&&◌, ◌||◌, ℕ, List, Option, Some, None, IsOkAnd, get_or, if◌then◌else◌, length, nat_lt}
 use Rattle.dlms_acse.specs.declared.outcome.Verdict.{Verdict}
+use Rattle.dlms_acse.specs.Reading.{aarq_at, aare_at}
 use Rattle.dlms_acse.specs.Spelling.{IsAarq, IsAare}
 use Rattle.dlms_acse.specs.Verdict.{Request, request_of as said_by}
 use Rattle.dlms_apdu.specs.Forms.{RequestForm, ResponseForm}
@@ -13,6 +14,7 @@ use Rattle.dlms_talks.specs.declared.apdus.Kind.TheVariants as kind
 use Rattle.dlms_talks.specs.declared.parties.Side.{Side}
 use Rattle.dlms_talks.specs.declared.parties.Side.TheVariants.{Client, Meter}
 use Rattle.dlms_talks.specs.declared.apdus.Apdu.TheVariants as apdu
+use Rattle.dlms_talks.specs.Places.{IsAcseFault, IsRefusal}
 
 -- the bytes are none of a kind
 abbrev pub IsNoAarq : List ℕ → Type 0
@@ -27,25 +29,26 @@ IsNoRequest bytes = (r : RequestForm) → SpellsRequest bytes r → ⊥
 abbrev pub IsNoResponse : List ℕ → Type 0
 IsNoResponse bytes = (r : ResponseForm) → SpellsResponse bytes r → ⊥
 
--- What is told of an association request that begins these bytes: what it says, or that they are none. So of the others.
+-- What is told of an association request that begins these bytes: what it says, or that they are none. So of the others. It is
+-- told too what is wrong, and of a service's APDU where.
 abbrev pub IsToldOfAarq : {A : Type 0} → List ℕ → Apdu A → Type 0
 IsToldOfAarq bytes (apdu.AssociationRequest a) = IsAarq bytes (said_by a)
-IsToldOfAarq bytes (apdu.Unreadable f) = IsNoAarq bytes
+IsToldOfAarq bytes (apdu.Unreadable f) = IsNoAarq bytes × IsAcseFault (aarq_at bytes) f
 IsToldOfAarq bytes _ = ⊥
 
 abbrev pub IsToldOfAare : {A : Type 0} → List ℕ → Apdu A → Type 0
 IsToldOfAare bytes (apdu.AssociationResponse v) = IsAare bytes v
-IsToldOfAare bytes (apdu.Unreadable f) = IsNoAare bytes
+IsToldOfAare bytes (apdu.Unreadable f) = IsNoAare bytes × IsAcseFault (aare_at bytes) f
 IsToldOfAare bytes _ = ⊥
 
 abbrev pub IsToldOfRequest : {A : Type 0} → List ℕ → Apdu A → Type 0
 IsToldOfRequest bytes (apdu.Request r) = SpellsRequest bytes (request_of r)
-IsToldOfRequest bytes (apdu.Unreadable f) = IsNoRequest bytes
+IsToldOfRequest bytes (apdu.Unreadable f) = IsNoRequest bytes × IsRefusal Client bytes f
 IsToldOfRequest bytes _ = ⊥
 
 abbrev pub IsToldOfResponse : {A : Type 0} → List ℕ → Apdu A → Type 0
 IsToldOfResponse bytes (apdu.Response r) = SpellsResponse bytes (response_of r)
-IsToldOfResponse bytes (apdu.Unreadable f) = IsNoResponse bytes
+IsToldOfResponse bytes (apdu.Unreadable f) = IsNoResponse bytes × IsRefusal Meter bytes f
 IsToldOfResponse bytes _ = ⊥
 
 -- by whom it was sent
@@ -54,8 +57,9 @@ kind_by None = kind.Request
 kind_by (Some Client) = kind.Request
 kind_by (Some Meter) = kind.Response
 
--- Which reader an APDU is given to, by its first octet (IEC 62056-5-3: the tags of AARQ 60, AARE 61, RLRQ 62 and RLRE 63, of the
--- requests C0, C1, C3, of the responses C4, C5, C7, and of the exception D8), and where that is none of these by the side that sent it.
+-- Which reader an APDU is given to, by its first octet (IEC 62056-5-3: the tags of AARQ 0x60, AARE 0x61, RLRQ 0x62 and RLRE
+-- 0x63, of the requests 0xC0, 0xC1, 0xC3, of the responses 0xC4, 0xC5, 0xC7, and of the exception 0xD8), and where that is none
+-- of these by the side that sent it.
 abbrev pub kind_of : Option Side → ℕ → Kind
 kind_of side octet =
     if octet == 0x60 then kind.AssociationRequest
@@ -66,7 +70,7 @@ kind_of side octet =
     else (if (octet == 0xC0) || (octet == 0xC1) || (octet == 0xC3) then kind.Request
     else kind_by side)))))
 
--- the reason of a release, where one stands behind the tag 80 and its length 1
+-- the reason of a release, where one stands behind the tag 0x80 and its length 0x01
 abbrev pub reason_of : List ℕ → Option ℕ
 reason_of bytes = if nat_lt 4 (length bytes) && (get_or bytes 2 0 == 0x80) && (get_or bytes 3 0 == 1) then Some (get_or bytes 4 0) else None
 

@@ -1,5 +1,5 @@
 -- What a further APDU goes on with (IEC 62056-5-3: the invoke-id-and-priority of a request stands in each APDU that belongs to it).
-use Rattle.std.specs.Prelude.{ℕ, ◌==◌, if◌then◌else◌, Bool, true, false, not, Option, Some, None}
+use Rattle.std.specs.Prelude.{ℕ, ◌==◌, if◌then◌else◌, Bool, true, false, Option, Some, None}
 use Rattle.dlms_talks.specs.declared.named.Asked.{Asked}
 
 abbrev pub of_invoke : Option Asked → ℕ → Option Asked

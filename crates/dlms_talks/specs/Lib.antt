@@ -6,11 +6,16 @@ pub mod Following
 pub mod Heading
 pub mod History
 pub mod Joining
+pub mod Lines
 pub mod Names
+pub mod Parameters
+pub mod Parties
+pub mod Places
 pub mod Said
 pub mod Secrets
 pub mod Segments
 pub mod Services
+pub mod Stretch
 pub mod Talks
 pub mod Transfers
 pub mod Veiled

@@ -7,7 +7,6 @@ use Rattle.dlms_apdu.specs.declared.request.Request.{Request}
 use Rattle.dlms_apdu.specs.declared.request.Request.TheVariants.{GetNormal, GetNext, SetNormal, SetFirst, SetBlock, ActionNormal, ActionFirst, ActionBlock}
 use Rattle.dlms_apdu.specs.declared.response.Response.{Response}
 use Rattle.dlms_apdu.specs.declared.response.Response.TheVariants as answer
-use Rattle.dlms_talks.specs.declared.named.Named.{Named}
 use Rattle.dlms_talks.specs.declared.named.Asked.{Asked}
 use Rattle.dlms_talks.specs.declared.secrecy.Secrecy.{Secrecy}
 use Rattle.dlms_talks.specs.declared.secrecy.Secrecy.TheVariants.{Open, Unknown, Secret}

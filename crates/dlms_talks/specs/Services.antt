@@ -1,9 +1,9 @@
 -- What is kept of the services of a talk, from one APDU to the next.
-use Rattle.std.specs.Prelude.{◌≡◌, ◌<◌, ℕ, ◌==◌, if◌then◌else◌, length, Bool, true, false, Option, Some, None}
+use Rattle.std.specs.Prelude.{◌≡◌, ◌<◌, length, Bool, true, false, Option, Some, None}
 use Rattle.dlms_blocks.specs.Coming.{first_answer, first_after, more_answer, more_after}
-use Rattle.dlms_blocks.specs.Joining.{empty, is_next}
+use Rattle.dlms_blocks.specs.Joining.{is_next}
 use Rattle.dlms_apdu.specs.declared.request.Request.{Request}
-use Rattle.dlms_apdu.specs.declared.request.Request.TheVariants.{GetNormal, GetNext, SetNormal, SetFirst, SetBlock, ActionNormal, ActionFirst, ActionBlock}
+use Rattle.dlms_apdu.specs.declared.request.Request.TheVariants.{GetNormal, GetNext, SetFirst, SetBlock, ActionFirst, ActionBlock}
 use Rattle.dlms_apdu.specs.declared.response.Response.{Response}
 use Rattle.dlms_apdu.specs.declared.response.Response.TheVariants as answer
 use Rattle.dlms_talks.specs.declared.joining.Joined.{Joined}

@@ -1,6 +1,6 @@
 -- What is known of a talk, from one frame to the next (IEC 62056-46, 6.4.3: each end's information frames are numbered modulo
 -- 8, and each frame says which number its end awaits next).
-use Rattle.std.specs.Prelude.{ℕ, ◌==◌, ◌&&◌, ◌||◌, not, if◌then◌else◌, Bool, true, false, List, Option, Some, None, nat_le, bytes_eq, [], ◌∷◌, ◌++◌, length, position, remove}
+use Rattle.std.specs.Prelude.{◌≡◌, ℕ, ◌==◌, ◌&&◌, ◌||◌, not, if◌then◌else◌, Bool, true, false, List, Option, Some, None, nat_le, bytes_eq, [], ◌∷◌, ◌++◌, length, position, remove}
 use Rattle.dlms_talks.specs.declared.parties.Parties.{Parties}
 use Rattle.dlms_talks.specs.declared.parties.Side.{Side}
 use Rattle.dlms_talks.specs.declared.parties.Side.TheVariants.{Client, Meter}
@@ -10,7 +10,7 @@ use Rattle.dlms_talks.specs.declared.talks.Numbers.{Numbers}
 use Rattle.dlms_talks.specs.declared.talks.TheConstants.{MOST_TALKS}
 use Rattle.dlms_talks.specs.declared.talks.Talk.{Talk}
 use Rattle.dlms_talks.specs.Following.{Following}
-use Rattle.dlms_talks.specs.Segments.{begun, behind_llc, expected, is_again, is_known, is_next, opened, passed, taken, without_rest}
+use Rattle.dlms_talks.specs.Segments.{JoinsFrame, begun, behind_llc, expected, is_again, is_known, is_next, opened, passed, taken, without_rest}
 use Rattle.dlms_talks.specs.Services.{idle, unasked}
 
 -- before its first frame
@@ -80,6 +80,16 @@ taken_of t None n follows info = taken_of_either t n follows info
 -- A frame is taken. Where frames are missing before it, what was asked for is forgotten first.
 abbrev pub talk_behind : {A : Type 0} → Talk A → Option Side → Numbers → Bool → List ℕ → Came × Talk A
 talk_behind t side n follows info = taken_of (if is_certain t side n info then t else uncertain t) side n follows info
+
+-- Octets of a frame are joined to those of its APDU: of a frame of the client, where the meter takes it.
+abbrev pub JoinsOfClient : {A : Type 0} → Talk A → Numbers → List ℕ → Type 0
+JoinsOfClient t n info =
+    (n.poll ≡ true) × (is_next t.client.next n.send ≡ true) × (is_next t.meter.next n.receive ≡ true) × JoinsFrame t.client (Some Client) n.send info
+
+abbrev pub JoinsOctets : {A : Type 0} → Talk A → Option Side → Numbers → List ℕ → Type 0
+JoinsOctets t (Some Client) n info = JoinsOfClient t n info
+JoinsOctets t (Some Meter) n info = JoinsFrame (awaited t n.receive).meter (Some Meter) n.send info
+JoinsOctets t None n info = JoinsFrame t.client None n.send info
 
 -- The same ends: the lower part of the meter's address tells two meters on one line apart, where each frame has it.
 abbrev pub may_be : Option ℕ → Option ℕ → Bool

@@ -3,21 +3,27 @@ use Rattle.std.specs.Prelude.{◌≡◌, ℕ, List, IsOkAnd}
 use Rattle.dlms_data.specs.Memory.{NeedsFirst}
 use Rattle.dlms_data.specs.Reading.{data_at}
 use Rattle.dlms_data.specs.Spelling.{IsSpelling}
+use Rattle.dlms_data.specs.Value.{Value}
 use Rattle.dlms_data.specs.View.{value_of}
+use Rattle.dlms_talks.specs.Places.{IsValueFault, refused_value}
 use Rattle.dlms_talks.specs.declared.secrecy.Secrecy.{Secrecy}
 use Rattle.dlms_talks.specs.declared.secrecy.Secrecy.TheVariants.{Open, Unknown, Secret}
 use Rattle.dlms_talks.specs.declared.whole.Whole.{Whole}
 use Rattle.dlms_talks.specs.declared.whole.Whole.TheVariants as told
 
--- of a secret, that it is one; of other octets the value that they spell, veiled where it may be one, or a fault, of which
--- nothing is said here
+-- the octets spell no value
+abbrev pub IsNoValue : List ℕ → Type 0
+IsNoValue octets = (v : Value) → IsSpelling octets v → ⊥
+
+-- Of a secret it is told that it is one; of other octets the value that they spell, veiled where it may be one, or a fault, where
+-- they spell none.
 abbrev pub IsToldOfWhole : {A : Type 0} → Secrecy → List ℕ → Whole A → Type 0
 IsToldOfWhole Secret octets whole = whole ≡ told.Secret
 IsToldOfWhole Unknown octets (told.Unknown covered) = IsSpelling octets (value_of covered.value)
-IsToldOfWhole Unknown octets (told.Unreadable fault) = Unit {0}
+IsToldOfWhole Unknown octets (told.Unreadable fault) = IsNoValue octets × IsValueFault (refused_value octets) octets 0 fault
 IsToldOfWhole Unknown octets _ = ⊥
 IsToldOfWhole Open octets (told.Value value) = IsSpelling octets (value_of value)
-IsToldOfWhole Open octets (told.Unreadable fault) = Unit {0}
+IsToldOfWhole Open octets (told.Unreadable fault) = IsNoValue octets × IsValueFault (refused_value octets) octets 0 fault
 IsToldOfWhole Open octets _ = ⊥
 
 -- memory is asked for: of what is no secret, where a value that needs some begins the octets

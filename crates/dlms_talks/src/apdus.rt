@@ -90,8 +90,10 @@ fn request<A: Allocator + Copy>(alloc: A, bytes: &[u8]) -> Result<Apdu<'_, A>, A
 {
     match read_request(alloc, bytes) {
         Ok(request) => Ok(Apdu::Request(request)),
-        Err(ApduFault::Memory) => Err(AllocError),
-        Err(fault) => Ok(Apdu::Unreadable(apdu_fault(alloc, Side::Client, fault, bytes))),
+        Err(fault) => match fault {
+            ApduFault::Memory => Err(AllocError),
+            _ => Ok(Apdu::Unreadable(apdu_fault(alloc, Side::Client, fault, bytes))),
+        },
     }
 }
 
@@ -102,8 +104,10 @@ fn response<A: Allocator + Copy>(alloc: A, bytes: &[u8]) -> Result<Apdu<'_, A>, 
 {
     match read_response(alloc, bytes) {
         Ok(response) => Ok(Apdu::Response(response)),
-        Err(ApduFault::Memory) => Err(AllocError),
-        Err(fault) => Ok(Apdu::Unreadable(apdu_fault(alloc, Side::Meter, fault, bytes))),
+        Err(fault) => match fault {
+            ApduFault::Memory => Err(AllocError),
+            _ => Ok(Apdu::Unreadable(apdu_fault(alloc, Side::Meter, fault, bytes))),
+        },
     }
 }
 

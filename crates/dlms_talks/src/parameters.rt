@@ -1,6 +1,13 @@
 //! The parameters of a link, which an SNRM proposes and a UA answers.
 
-ghost use Rattle.std.specs.Prelude.{◌<◌, length, IfSome};
+ghost use Rattle.std.specs.Prelude.{◌≡◌, ℕ, ◌<◌, ◌∷◌, ◌++◌, length, option_map, List, true, IfSome, MatchOption};
+ghost use Rattle.dlms_talks.specs.Parameters.{AreParameters, IsInformation, Parameter, group_in, has_lawful_length, nothing, number_of, parameter_octets, told_of, with_number};
+
+/// The format of the information in which a link's parameters stand.
+const FORMAT: u8 = 0x81;
+
+/// The group of these parameters.
+const GROUP: u8 = 0x80;
 
 /// What a group of parameters says of a link (IEC 62056-46, HDLC parameter negotiation); of one that stands twice, the last.
 #[derive(Clone, Copy)]
@@ -17,7 +24,9 @@ pub struct Parameters {
 
 impl Parameters {
     /// No parameter yet.
-    fn none() -> Parameters {
+    fn none() -> Parameters
+        ensures { result ≡ nothing }
+    {
         Parameters {
             sent: None,
             received: None,
@@ -27,7 +36,9 @@ impl Parameters {
     }
 
     /// The same with one parameter more; others than the four are passed over.
-    fn with(self, id: u8, value: u32) -> Parameters {
+    fn with(self, id: u8, value: u32) -> Parameters
+        ensures { result ≡ with_number self id value }
+    {
         match id {
             5 => Parameters {
                 sent: Some(value),
@@ -51,7 +62,9 @@ impl Parameters {
 }
 
 /// Whether a parameter may have a value of this length.
-fn has_lawful_length(id: u8, len: usize) -> bool {
+fn has_lawful_length(id: u8, len: usize) -> bool
+    ensures { result ≡ has_lawful_length id len }
+{
     if 5 <= id && id <= 8 {
         len == 1 || len == 2 || len == 4
     } else {
@@ -60,7 +73,9 @@ fn has_lawful_length(id: u8, len: usize) -> bool {
 }
 
 /// The number of one, two or four octets; 0 of others.
-fn number_of(octets: &[u8]) -> u32 {
+fn number_of(octets: &[u8]) -> u32
+    ensures { result ≡ number_of octets.now }
+{
     match octets {
         [a] => u32::from(*a),
         [a, b] => u32::from(*a) * 256 + u32::from(*b),
@@ -73,7 +88,8 @@ fn number_of(octets: &[u8]) -> u32 {
 
 /// The parameter at the front, as its identifier and its value, and the bytes behind it.
 fn first_parameter(bytes: &[u8]) -> Option<(u8, &[u8], &[u8])>
-    ensures { IfSome result (λ r. length r.2.now < length bytes.now) }
+    ensures found { MatchOption result ((p : Parameter) (rest : List ℕ) → has_lawful_length p.id (length p.value) ≡ true → bytes.now ≡ parameter_octets p ++ rest → ⊥) (λ r. (has_lawful_length r.0 (length r.1.now) ≡ true) × (bytes.now ≡ r.0 ∷ length r.1.now ∷ (r.1.now ++ r.2.now))) }
+    ensures shorter { IfSome result (λ r. length r.2.now < length bytes.now) }
 {
     let (id, rest) = bytes.split_first()?;
     let (len, rest) = rest.split_first()?;
@@ -86,7 +102,9 @@ fn first_parameter(bytes: &[u8]) -> Option<(u8, &[u8], &[u8])>
 }
 
 /// What a group's parameters say, one after another.
-fn group(bytes: &[u8]) -> Option<Parameters> {
+fn group(bytes: &[u8]) -> Option<Parameters>
+    ensures { MatchOption result ((ps : List Parameter) → AreParameters bytes.now ps → ⊥) (λ told. (ps : List Parameter) × (AreParameters bytes.now ps × (told ≡ told_of nothing ps))) }
+{
     let mut parameters = Parameters::none();
     let mut rest = bytes;
     'group: while !rest.is_empty() {
@@ -97,11 +115,25 @@ fn group(bytes: &[u8]) -> Option<Parameters> {
     Some(parameters)
 }
 
-/// What the information of an SNRM or a UA says: nothing, or a group of parameters and nothing behind it.
-pub fn parameters_of(info: &[u8]) -> Option<Parameters> {
+/// The octets of a group that is all of the information.
+fn group_in(info: &[u8]) -> Option<&[u8]>
+    ensures { option_map (λ octets. octets.now) result ≡ group_in info.now }
+{
     match info {
-        [] => Some(Parameters::none()),
-        [0x81, 0x80, len, bytes @ ..] if usize::from(*len) == bytes.len() => group(bytes),
+        [format, id, len, octets @ ..]
+            if *format == FORMAT && *id == GROUP && usize::from(*len) == octets.len() => {
+            Some(octets)
+        }
         _ => None,
     }
+}
+
+/// What the information of an SNRM or a UA says: nothing, or a group of parameters and nothing behind it.
+pub fn parameters_of(info: &[u8]) -> Option<Parameters>
+    ensures { MatchOption result ((ps : List Parameter) → IsInformation info.now ps → ⊥) (λ told. (ps : List Parameter) × (IsInformation info.now ps × (told ≡ told_of nothing ps))) }
+{
+    if info.is_empty() {
+        return Some(Parameters::none());
+    }
+    group(group_in(info)?)
 }

@@ -1,6 +1,7 @@
 //! Who sends a frame, and to whom.
 
 ghost use Rattle.std.specs.Prelude.{◌≡◌};
+ghost use Rattle.dlms_talks.specs.Parties.{lower, parties_of, side_by_content, side_by_form, side_by_management, side_of, upper};
 ghost use Rattle.dlms_talks.specs.Talks.{are_same, may_be};
 
 use crate::control::{Control, read};
@@ -50,7 +51,9 @@ const FROM_CLIENT: u8 = 0xe6;
 const FROM_METER: u8 = 0xe7;
 
 /// The upper part of an address.
-pub fn upper(address: Address) -> u16 {
+pub fn upper(address: Address) -> u16
+    ensures { result ≡ upper address }
+{
     match address {
         Address::One(upper) => u16::from(upper),
         Address::Two(upper, _) => u16::from(upper),
@@ -59,7 +62,9 @@ pub fn upper(address: Address) -> u16 {
 }
 
 /// The lower part of an address, if it has one.
-pub fn lower(address: Address) -> Option<u16> {
+pub fn lower(address: Address) -> Option<u16>
+    ensures { result ≡ lower address }
+{
     match address {
         Address::One(_) => None,
         Address::Two(_, lower) => Some(u16::from(lower)),
@@ -68,7 +73,9 @@ pub fn lower(address: Address) -> Option<u16> {
 }
 
 /// Who sends the frame, told by the forms of its addresses: a client's has one byte.
-fn side_by_form(frame: &Frame) -> Option<Side> {
+fn side_by_form(frame: &Frame) -> Option<Side>
+    ensures { result ≡ side_by_form frame.now }
+{
     match (lower(frame.dest), lower(frame.src)) {
         (Some(_), None) => Some(Side::Client),
         (None, Some(_)) => Some(Side::Meter),
@@ -77,7 +84,9 @@ fn side_by_form(frame: &Frame) -> Option<Side> {
 }
 
 /// Who sends the frame, told by which address is that of a meter's management.
-fn side_by_number(frame: &Frame) -> Option<Side> {
+fn side_by_number(frame: &Frame) -> Option<Side>
+    ensures { result ≡ side_by_management frame.now }
+{
     match (upper(frame.dest), upper(frame.src)) {
         (MANAGEMENT, MANAGEMENT) => None,
         (MANAGEMENT, _) => Some(Side::Client),
@@ -87,7 +96,9 @@ fn side_by_number(frame: &Frame) -> Option<Side> {
 }
 
 /// Who sends the frame, told by what it says.
-fn side_by_content(frame: &Frame) -> Option<Side> {
+fn side_by_content(frame: &Frame) -> Option<Side>
+    ensures { result ≡ side_by_content frame.now }
+{
     match read(frame.control) {
         Control::Snrm | Control::Disc => return Some(Side::Client),
         Control::Ua | Control::Dm | Control::Frmr => return Some(Side::Meter),
@@ -101,14 +112,18 @@ fn side_by_content(frame: &Frame) -> Option<Side> {
 }
 
 /// Who sends the frame: the side that the line says, or else what its addresses and its content tell.
-pub fn side_of(said: Option<Side>, frame: &Frame) -> Option<Side> {
+pub fn side_of(said: Option<Side>, frame: &Frame) -> Option<Side>
+    ensures { result ≡ side_of said frame.now }
+{
     said.or(side_by_form(frame))
         .or(side_by_number(frame))
         .or(side_by_content(frame))
 }
 
 /// The two ends of a frame that this side sends; where it is not known, it is taken as the client's.
-pub fn parties_of(side: Option<Side>, frame: &Frame) -> Parties {
+pub fn parties_of(side: Option<Side>, frame: &Frame) -> Parties
+    ensures { result ≡ parties_of side frame.now }
+{
     match side {
         Some(Side::Meter) => Parties {
             client: upper(frame.dest),

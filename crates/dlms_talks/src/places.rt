@@ -1,6 +1,7 @@
 //! Where a fault stands in bytes that a reader refused.
 
-ghost use Rattle.std.specs.Prelude.{◌≤◌, length};
+ghost use Rattle.std.specs.Prelude.{◌≡◌, [], Some};
+ghost use Rattle.dlms_talks.specs.Places.{IsApduFault, IsShown, IsValueFault, IsValuesFault, Shows, ShowsValue, acse_words, data_words, is_refused, is_shown, reason_of, refused, refused_value};
 
 use crate::parties::Side;
 use dlms_acse::AcseFault;
@@ -15,31 +16,53 @@ pub struct Fault {
     pub octet: usize,
 }
 
-/// What a beginning of the bytes is to the reader of one end's APDUs.
-fn fault_of<A: Allocator + Copy>(alloc: A, side: Side, bytes: &[u8]) -> Option<ApduFault> {
+/// Why bytes are refused, by what their reader told: want of memory is no reason, as it is told only of what is an APDU.
+fn reason_of(told: ApduFault) -> Option<ApduFault>
+    ensures { result ≡ reason_of told }
+{
+    match told {
+        ApduFault::Memory => None,
+        _ => Some(told),
+    }
+}
+
+/// Why the reader of one end's APDUs refuses the bytes, if it does.
+fn refused<A: Allocator + Copy>(alloc: A, side: Side, bytes: &[u8]) -> Option<ApduFault>
+    ensures { result ≡ refused side bytes.now }
+{
     match side {
-        Side::Client => read_request(alloc, bytes).err(),
-        Side::Meter => read_response(alloc, bytes).err(),
+        Side::Client => match read_request(alloc, bytes) {
+            Ok(_) => None,
+            Err(told) => reason_of(told),
+        },
+        Side::Meter => match read_response(alloc, bytes) {
+            Ok(_) => None,
+            Err(told) => reason_of(told),
+        },
     }
 }
 
-/// Whether a beginning shows the fault already: it is told of it too, or, of bytes behind the APDU, the APDU is whole there.
-fn shows<A: Allocator + Copy>(alloc: A, side: Side, fault: ApduFault, bytes: &[u8]) -> bool {
-    match fault_of(alloc, side, bytes) {
-        Some(told) => told == fault,
-        None => fault == ApduFault::Trailing,
+/// Whether bytes that are refused so show the fault already: by the fault, or, of bytes behind the APDU, by being the APDU.
+fn is_shown(fault: ApduFault, told: Option<ApduFault>) -> bool
+    ensures { result ≡ is_shown fault told }
+{
+    match told {
+        Some(told) => told.number() == fault.number(),
+        None => fault.number() == ApduFault::Trailing.number(),
     }
 }
 
-/// How many octets the shortest beginning has that shows the fault; the whole shows it, and no octets show none.
+/// How many octets the shortest beginning has that shows the fault.
 fn shortest<A: Allocator + Copy>(alloc: A, side: Side, fault: ApduFault, bytes: &[u8]) -> usize
-    ensures { result ≤ length bytes.now }
+    requires shown { Shows side fault bytes.now }
+    requires none { Shows side fault [] → ⊥ }
+    ensures { IsShown (Shows side fault) bytes.now result }
 {
     let mut low = 0usize;
     let mut high = bytes.len();
-    'halving: while low < high && high - low > 1 {
+    'halving: while high - low > 1 {
         let middle = low + (high - low) / 2;
-        if shows(alloc, side, fault, &bytes[..middle]) {
+        if is_shown(fault, refused(alloc, side, &bytes[..middle])) {
             high = middle;
         } else {
             low = middle;
@@ -49,7 +72,9 @@ fn shortest<A: Allocator + Copy>(alloc: A, side: Side, fault: ApduFault, bytes: 
 }
 
 /// What is said of a fault of a value.
-fn data_words(fault: DataFault) -> &'static str {
+fn data_words(fault: DataFault) -> &'static str
+    ensures { result.now ≡ data_words fault }
+{
     match fault {
         DataFault::Short => "the value is cut short",
         DataFault::Tag => "no type has this tag",
@@ -59,15 +84,27 @@ fn data_words(fault: DataFault) -> &'static str {
     }
 }
 
+/// Whether the reader of values refuses the bytes so.
+fn shows_value(fault: DataFault, bytes: &[u8]) -> bool
+    ensures { result ≡ is_refused fault (refused_value bytes.now) }
+{
+    match span(bytes) {
+        Ok(_) => false,
+        Err(told) => told.number() == fault.number(),
+    }
+}
+
 /// How many octets the shortest beginning has that is refused with this fault.
 fn shortest_value(fault: DataFault, bytes: &[u8]) -> usize
-    ensures { result ≤ length bytes.now }
+    requires shown { ShowsValue fault bytes.now }
+    requires none { ShowsValue fault [] → ⊥ }
+    ensures { IsShown (ShowsValue fault) bytes.now result }
 {
     let mut low = 0usize;
     let mut high = bytes.len();
-    'halving: while low < high && high - low > 1 {
+    'halving: while high - low > 1 {
         let middle = low + (high - low) / 2;
-        if span(&bytes[..middle]) == Err(fault) {
+        if shows_value(fault, &bytes[..middle]) {
             high = middle;
         } else {
             low = middle;
@@ -76,41 +113,45 @@ fn shortest_value(fault: DataFault, bytes: &[u8]) -> usize
     high
 }
 
-/// What is said of bytes that stand behind a value of so many, which begins behind so many octets.
-fn behind_value(len: usize, before: usize) -> Fault {
-    Fault {
-        words: "bytes stand behind the value",
-        octet: before.saturating_add(len).saturating_add(1),
-    }
-}
-
-/// The fault of bytes that are to be one value and are not, behind so many octets.
-pub fn value_fault(bytes: &[u8], before: usize) -> Fault {
-    match span(bytes) {
-        Ok(len) => behind_value(len, before),
-        Err(DataFault::Short) => Fault {
-            words: data_words(DataFault::Short),
+/// What is said of bytes that the reader of values refuses so, behind so many octets.
+fn refused_value(fault: DataFault, bytes: &[u8], before: usize) -> Fault
+    requires { ShowsValue fault bytes.now }
+    ensures { IsValueFault (Some fault) bytes.now before result }
+{
+    match fault {
+        DataFault::Short => Fault {
+            words: data_words(fault),
             octet: before.saturating_add(bytes.len()).saturating_add(1),
         },
-        Err(fault) => Fault {
+        _ => Fault {
             words: data_words(fault),
             octet: before.saturating_add(shortest_value(fault, bytes)),
         },
     }
 }
 
+/// The fault of bytes that are to be one value and are not, behind so many octets.
+pub fn value_fault(bytes: &[u8], before: usize) -> Fault
+    ensures { IsValueFault (refused_value bytes.now) bytes.now before result }
+{
+    match span(bytes) {
+        Ok(len) => Fault {
+            words: "bytes stand behind the value",
+            octet: before.saturating_add(len).saturating_add(1),
+        },
+        Err(fault) => refused_value(fault, bytes, before),
+    }
+}
+
 /// The fault of the first of the values, one behind another, that is none; the values begin behind so many octets.
-fn first_value_fault(bytes: &[u8], before: usize) -> Fault {
+fn first_value_fault(bytes: &[u8], before: usize) -> Fault
+    ensures { IsValuesFault bytes.now before result }
+{
     let mut rest = bytes;
     let mut place = before;
-    for _ in 0..bytes.len() {
-        match span(rest) {
-            Ok(len) => {
-                place = place.saturating_add(len);
-                rest = &rest[len..];
-            }
-            Err(_) => break,
-        }
+    'values: while let Ok(len) = span(rest) {
+        place = place.saturating_add(len);
+        rest = &rest[len..];
     }
     value_fault(rest, place)
 }
@@ -121,7 +162,10 @@ pub fn apdu_fault<A: Allocator + Copy>(
     side: Side,
     fault: ApduFault,
     bytes: &[u8],
-) -> Fault {
+) -> Fault
+    requires { refused side bytes.now ≡ Some fault }
+    ensures { IsApduFault side fault bytes.now result }
+{
     match fault {
         ApduFault::Short => Fault {
             words: "the bytes end within the APDU",
@@ -147,7 +191,9 @@ pub fn apdu_fault<A: Allocator + Copy>(
 }
 
 /// What is said of a fault of an association's APDU.
-fn acse_words(fault: AcseFault) -> &'static str {
+fn acse_words(fault: AcseFault) -> &'static str
+    ensures { result.now ≡ acse_words fault }
+{
     match fault {
         AcseFault::Short => "the bytes end too soon, or a field is missing",
         AcseFault::Tag => "another APDU",
@@ -178,7 +224,9 @@ fn octets_before(fields: &[u8]) -> usize {
 }
 
 /// The fault that the reader of an association's APDUs told of these bytes, and the field at which it stands.
-pub fn acse_fault(fault: AcseFault, bytes: &[u8]) -> Fault {
+pub fn acse_fault(fault: AcseFault, bytes: &[u8]) -> Fault
+    ensures { result.words.now ≡ acse_words fault }
+{
     let words = acse_words(fault);
     let octet = match bytes {
         [_, rest @ ..] => match counted(rest) {

@@ -1,7 +1,9 @@
 //! The bytes that come from one end, and the frames among them.
 
-ghost use Rattle.std.specs.Prelude.{◌≡◌, ◌<◌, ◌≤◌, [], length, take, option_map, IfOk};
+ghost use Rattle.std.specs.Prelude.{◌≡◌, ◌<◌, ◌≤◌, ◌-◌, ◌++◌, [], length, min, take, drop, nat_lt, option_map, if◌then◌else◌, IfNone, IfOk, IfSome, IsErr, OnErr};
+ghost use Rattle.dlms_frame.specs.Frame.{frame_len};
 ghost use Rattle.dlms_frame.specs.Stream.{Fits, Takes};
+ghost use Rattle.dlms_talks.specs.Stretch.{place_behind};
 
 use dlms_frame::{Deframer, Frame};
 use std::alloc::{AllocError, Allocator};
@@ -31,7 +33,10 @@ pub struct Stretch<A: Allocator> {
 impl<A: Allocator> Stretch<A> {
     /// At the start of a stretch.
     pub fn new(alloc: A) -> Self
-        ensures { Fits result.deframer [] 0 }
+        ensures fits { Fits result.deframer [] 0 }
+        ensures kept { result.kept.items ≡ [] }
+        ensures place { result.place ≡ 0 }
+        ensures told { result.told ≡ 0 }
     {
         Stretch {
             deframer: Deframer::new(),
@@ -43,7 +48,10 @@ impl<A: Allocator> Stretch<A> {
 
     /// A new stretch begins.
     pub fn reset(&mut self)
-        ensures { Fits self.new.deframer [] 0 }
+        ensures fits { Fits self.new.deframer [] 0 }
+        ensures kept { self.new.kept.items ≡ [] }
+        ensures place { self.new.place ≡ 0 }
+        ensures told { self.new.told ≡ 0 }
     {
         self.deframer.idle();
         self.kept.clear();
@@ -51,12 +59,21 @@ impl<A: Allocator> Stretch<A> {
         self.told = 0;
     }
 
-    /// Takes bytes up to the closing flag of the next frame, or all of them, and says how many.
+    /// Takes bytes up to the closing flag of the next frame, or all of them, and says how many. Memory is wanted only where there
+    /// are bytes; where it is refused none of them is kept.
     pub fn feed(&mut self, bytes: &[u8]) -> Result<(usize, Option<Found>), AllocError>
         ensures some { IfOk result (λ fed. 0 < length bytes.now → 0 < fed.0) }
         ensures within { IfOk result (λ fed. fed.0 ≤ length bytes.now) }
         // The frame is the next one of the stretch.
         ensures takes { IfOk result (λ fed. Takes self.old.deframer (take fed.0 bytes.now) (option_map (λ found. found.frame) fed.1) self.new.deframer) }
+        ensures all { IfOk result (λ fed. IfNone fed.1 (fed.0 ≡ length bytes.now)) }
+        ensures kept { IfOk result (λ fed. self.new.kept.items ≡ self.old.kept.items ++ take fed.0 bytes.now) }
+        // A frame has its two flags besides.
+        ensures before { IfOk result (λ fed. IfSome fed.1 (λ found. found.before ≡ length self.new.kept.items - frame_len found.frame - 2)) }
+        ensures err { OnErr result (self.new.kept.items ≡ self.old.kept.items) }
+        ensures memory { IsErr result → 0 < length bytes.now }
+        ensures place { self.new.place ≡ self.old.place }
+        ensures told { self.new.told ≡ self.old.told }
     {
         let (taken, frame) = self.deframer.feed(bytes);
         self.kept.extend_from_slice(&bytes[..taken])?;
@@ -72,7 +89,10 @@ impl<A: Allocator> Stretch<A> {
     }
 
     /// The kept bytes before this many that were not told yet, and the place in the stretch where they begin.
-    pub fn stray(&self, before: usize) -> (u64, &[u8]) {
+    pub fn stray(&self, before: usize) -> (u64, &[u8])
+        ensures place { result.0 ≡ place_behind self.now.place (min self.now.told (min before (length self.now.kept.items))) }
+        ensures bytes { result.1.now ≡ drop self.now.told (take before self.now.kept.items) }
+    {
         let before = before.min(self.kept.len());
         let told = self.told.min(before);
         (
@@ -82,7 +102,9 @@ impl<A: Allocator> Stretch<A> {
     }
 
     /// How many of the kept bytes are too old to belong to a frame that is still to come.
-    pub fn old(&self) -> usize {
+    pub fn old(&self) -> usize
+        ensures { result ≡ (if nat_lt MOST_KEPT (length self.now.kept.items) then length self.now.kept.items - MOST_FRAME else 0) }
+    {
         if self.kept.len() > MOST_KEPT {
             self.kept.len() - MOST_FRAME
         } else {
@@ -91,13 +113,18 @@ impl<A: Allocator> Stretch<A> {
     }
 
     /// How many bytes are kept.
-    pub fn len(&self) -> usize {
+    pub fn len(&self) -> usize
+        ensures { result ≡ length self.now.kept.items }
+    {
         self.kept.len()
     }
 
     /// Lets go of the first bytes, which were told.
     pub fn drop_front(&mut self, count: usize)
-        ensures { self.new.deframer ≡ self.old.deframer }
+        ensures deframer { self.new.deframer ≡ self.old.deframer }
+        ensures kept { self.new.kept.items ≡ drop count self.old.kept.items }
+        ensures place { self.new.place ≡ place_behind self.old.place (min count (length self.old.kept.items)) }
+        ensures told { self.new.told ≡ self.old.told - min count (length self.old.kept.items) }
     {
         let count = count.min(self.kept.len());
         let left = self.kept.len() - count;
@@ -109,7 +136,10 @@ impl<A: Allocator> Stretch<A> {
 
     /// Lets go of all bytes but the closing flag of a frame that was told.
     pub fn pass_frame(&mut self)
-        ensures { self.new.deframer ≡ self.old.deframer }
+        ensures deframer { self.new.deframer ≡ self.old.deframer }
+        ensures kept { self.new.kept.items ≡ drop (length self.old.kept.items - 1) self.old.kept.items }
+        ensures place { self.new.place ≡ place_behind self.old.place (length self.old.kept.items - 1) }
+        ensures told { self.new.told ≡ 1 }
     {
         let len = self.kept.len();
         self.drop_front(len.saturating_sub(1));

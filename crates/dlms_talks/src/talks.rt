@@ -1,8 +1,8 @@
 //! The talks of the clients with the meters.
 
-ghost use Rattle.std.specs.Prelude.{◌≡◌, [], None, Some, remove, slice_index_or, IfOk, MatchOption, OnOk};
+ghost use Rattle.std.specs.Prelude.{◌≡◌, [], None, Some, remove, slice_index_or, IfOk, IsErr, MatchOption, OnErr, OnOk};
 ghost use Rattle.dlms_talks.specs.Segments.{behind_llc};
-ghost use Rattle.dlms_talks.specs.Talks.{are_same, awaited, forgotten, is_apdu, is_certain, is_repeated, may_be, new_talk, opened_talk, place_of, talk_behind, taken_of, taken_of_client, uncertain, with_talk};
+ghost use Rattle.dlms_talks.specs.Talks.{JoinsOctets, JoinsOfClient, are_same, awaited, forgotten, is_apdu, is_certain, is_repeated, may_be, new_talk, opened_talk, place_of, talk_behind, taken_of, taken_of_client, uncertain, with_talk};
 
 use crate::parties::{Parties, Side};
 use crate::segments::{Came, Segments, behind_llc};
@@ -117,6 +117,7 @@ impl<A: Allocator + Copy> Talk<A> {
     ) -> Result<Came, AllocError>
         ensures came { IfOk result (λ came. came ≡ (taken_of_client self.old numbers follows info.now).0) }
         ensures after { IfOk result (λ came. self.new ≡ (taken_of_client self.old numbers follows info.now).1) }
+        ensures memory { IsErr result → JoinsOfClient self.old numbers info.now }
     {
         let side = Some(Side::Client);
         if !numbers.poll {
@@ -144,6 +145,7 @@ impl<A: Allocator + Copy> Talk<A> {
     ) -> Result<Came, AllocError>
         ensures came { IfOk result (λ came. came ≡ (taken_of self.old side numbers follows info.now).0) }
         ensures after { IfOk result (λ came. self.new ≡ (taken_of self.old side numbers follows info.now).1) }
+        ensures memory { IsErr result → JoinsOctets self.old side numbers info.now }
     {
         match side {
             Some(Side::Meter) => {
@@ -156,7 +158,8 @@ impl<A: Allocator + Copy> Talk<A> {
     }
 
     /// Takes an information frame of this side; `follows` says that another segment of its APDU does. Where frames are missing
-    /// before it, what was asked for is forgotten. Where memory is refused nothing is said of what is kept.
+    /// before it, what was asked for is forgotten. Memory is wanted only where octets are joined; where it is refused nothing is
+    /// said of what is kept.
     pub fn take(
         &mut self,
         alloc: A,
@@ -167,6 +170,7 @@ impl<A: Allocator + Copy> Talk<A> {
     ) -> Result<Came, AllocError>
         ensures came { IfOk result (λ came. came ≡ (talk_behind self.old side numbers follows info.now).0) }
         ensures after { IfOk result (λ came. self.new ≡ (talk_behind self.old side numbers follows info.now).1) }
+        ensures memory { IsErr result → JoinsOctets self.old side numbers info.now }
     {
         if !self.is_certain(side, numbers, info) {
             self.lose(alloc);
@@ -223,15 +227,17 @@ impl<A: Allocator + Copy> Talks<A> {
         }
     }
 
-    /// Puts a talk back. Where there are too many, the one that was longest silent is let go.
+    /// Puts a talk back. Where there are too many, the one that was longest silent is let go. Where memory is refused, the talk
+    /// is let go, and the others stay as they were.
     pub fn put(&mut self, talk: Talk<A>) -> Result<(), AllocError>
         ensures talks { OnOk result (self.new.talks.items ≡ with_talk self.old.talks.items talk) }
+        ensures err { OnErr result (self.new.talks.items ≡ self.old.talks.items) }
         ensures raw { self.new.raw ≡ self.old.raw }
     {
-        if self.talks.len() >= MOST_TALKS {
+        self.talks.push(talk)?;
+        if self.talks.len() > MOST_TALKS {
             let _oldest = self.talks.remove(0);
         }
-        self.talks.push(talk)?;
         Ok(())
     }
 }

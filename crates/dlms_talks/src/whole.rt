@@ -42,7 +42,10 @@ pub fn whole_of<A: Allocator + Copy>(
         } else {
             Whole::Value(value)
         }),
-        Err(DataFault::Memory) => Err(AllocError),
-        _ => Ok(Whole::Unreadable(value_fault(octets, 0))),
+        Ok(_) => Ok(Whole::Unreadable(value_fault(octets, 0))),
+        Err(fault) => match fault {
+            DataFault::Memory => Err(AllocError),
+            _ => Ok(Whole::Unreadable(value_fault(octets, 0))),
+        },
     }
 }
