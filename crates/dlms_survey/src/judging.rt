@@ -1,13 +1,15 @@
 //! Whether each page of an image serves a recovery, and why not.
-ghost use Rattle.std.specs.Prelude.{◌≡◌, ◌≢◌, ◌≤◌, ◌<◌, ◌+◌, ◌-◌, ◌%◌, ◌^◌, ◌↔◌, ◌==◌, ◌||◌, ℕ, List, IfErr, IfSome, IsTrue, MatchResult, Ok, Some};
-ghost use Rattle.dlms_journal.specs.Page.{head_of as said_by};
+ghost use Rattle.std.specs.Prelude.{◌≡◌, ◌≢◌, ◌≤◌, ◌<◌, ◌+◌, ◌-◌, ◌%◌, ◌^◌, ◌↔◌, ◌==◌, ◌||◌, ℕ, List, IfErr, IfSome, IsTrue, MatchResult, Ok, Err, Some, is_some};
+ghost use Rattle.dlms_journal.specs.Page.{head_of as said_by, payload_at};
 ghost use Rattle.dlms_pages.specs.declared.device.PageRead.{PageRead as PageReadOf};
 ghost use Rattle.dlms_pages.specs.declared.device.PageRead.TheVariants.{Content};
 ghost use Rattle.dlms_store.specs.Layout.{gate_of};
 ghost use Rattle.dlms_store.specs.declared.layout.Slot.{Slot as SlotOf};
 ghost use Rattle.dlms_store.specs.declared.layout.TheConstants.{BODIES, JOURNAL, JOURNAL_PAGES, RING, RING_PAGES};
 ghost use Rattle.dlms_store.specs.declared.page.Edition.{Edition as EditionOf};
-ghost use Rattle.dlms_survey.specs.Judging.{CountsGate, CountsJournal, IsBefore, IsBehindNamed, IsKind, MayCountBody, MayCountRing, Says, SaysOf};
+ghost use Rattle.dlms_survey.specs.Judging.{CountsGate, CountsJournal, CountsRing, IsBefore, IsBehindNamed, IsJournalTold, IsKind, IsRecordsTold, IsToldAt, MayCountBody, Says, SaysOf, asks_by, asks_for_more, body_at, body_told, gate_told, number_from, refuses, ring_at, ring_told};
+ghost use Rattle.dlms_survey.specs.Own.{fit, is_for, of_edition, own, payload_of};
+ghost use Rattle.dlms_survey.specs.Places.{index_at, place_at};
 ghost use Rattle.dlms_survey.specs.Image.{ImageValue};
 
 use crate::head::{Head, head_of};
@@ -17,23 +19,27 @@ use crate::survey::Survey;
 use crate::verdict::Verdict;
 use dlms_checkpoint::{RING_ROWS, Refilling, Restoring, Version};
 use dlms_journal::{PageKind, payload_of, records_of};
-use dlms_pages::PageRead;
+use dlms_pages::{PAGE_BYTES, PageRead};
 use dlms_state::State;
 use dlms_store::{BODIES, Edition, Found, OpenFault, RING, RING_PAGES, Slot};
 use std::alloc::{Allocator, Global};
 
 /// Whether the place is for pages of this kind.
-fn is_for(place: Place, kind: PageKind) -> bool {
+fn is_for(place: Place, kind: PageKind) -> bool
+    ensures { result ≡ is_for place kind }
+{
     match place {
-        Place::Gate(_) => kind == PageKind::OpenGate || kind == PageKind::ClosedGate,
-        Place::Body(..) => kind == PageKind::Body,
-        Place::Journal(_) => kind == PageKind::Journal,
-        Place::Ring(_) => kind == PageKind::Ring,
+        Place::Gate(_) => matches!(kind, PageKind::OpenGate | PageKind::ClosedGate),
+        Place::Body(..) => matches!(kind, PageKind::Body),
+        Place::Journal(_) => matches!(kind, PageKind::Journal),
+        Place::Ring(_) => matches!(kind, PageKind::Ring),
     }
 }
 
 /// The index that a place asks for. That of a gate is not looked at.
-fn index_at(place: Place) -> Option<u16> {
+fn index_at(place: Place) -> Option<u16>
+    ensures { result ≡ index_at place }
+{
     match place {
         Place::Gate(_) => None,
         Place::Body(_, index) | Place::Journal(index) | Place::Ring(index) => Some(index),
@@ -43,8 +49,9 @@ fn index_at(place: Place) -> Option<u16> {
 /// Whether a page of this kind has what its place asks for, whatever counts.
 fn fits_place(place: Place, kind: PageKind, head: Head) -> Verdict
     ensures counts { result ≢ Verdict.Counts }
-    ensures says { (image : ImageValue) (page : ℕ) (bytes : List ℕ) → IsKind (Some kind) (said_by bytes) → head.version ≡ (said_by bytes).version → head.index ≡ (said_by bytes).index
+    ensures says { (image : ImageValue) (page : ℕ) (bytes : List ℕ) → IsKind (Some kind) (said_by bytes) → head.version ≡ (said_by bytes).version → head.index ≡ (said_by bytes).index → head.has_payload ≡ is_some (payload_at bytes)
         → SaysOf image page (Content bytes) result }
+    ensures exact { result ≡ fit place kind head.version head.index head.has_payload }
 {
     if kind == PageKind::Empty {
         return Verdict::Empty;
@@ -69,6 +76,7 @@ fn fits_place(place: Place, kind: PageKind, head: Head) -> Verdict
 fn at_place<A: Allocator + Copy>(image: &Image<A>, page: u16) -> Verdict
     ensures counts { result ≢ Verdict.Counts }
     ensures says { Says image.now page result }
+    ensures exact { result ≡ own image.now page }
 {
     match image.page(page) {
         PageRead::Damaged if image.is_cut(page) => Verdict::Cut,
@@ -83,22 +91,12 @@ fn at_place<A: Allocator + Copy>(image: &Image<A>, page: u16) -> Verdict
     }
 }
 
-/// The payload of a page that has what its place asks for and is of this edition; else why it is not.
-fn payload_in<A: Allocator + Copy>(
-    image: &Image<A>,
-    page: u16,
-    edition: Edition,
-) -> Result<&[u8], Verdict>
+/// The payload of a page that has what its place asks for, if it is of this edition; else why it is not.
+fn of_edition(bytes: &[u8; PAGE_BYTES], edition: Edition) -> Result<&[u8], Verdict>
     ensures counts { IfErr result (λ verdict. verdict ≢ Verdict.Counts) }
-    ensures says { IfErr result (Says image.now page) }
+    ensures says { (image : ImageValue) (page : ℕ) → IfErr result (SaysOf image page (Content bytes.now)) }
+    ensures exact { MatchResult result (λ payload. of_edition edition bytes.now ≡ Ok payload.now) (λ told. of_edition edition bytes.now ≡ Err told) }
 {
-    let found = at_place(image, page);
-    let PageRead::Content(bytes) = image.page(page) else {
-        return Err(found);
-    };
-    if found != Verdict::Unused {
-        return Err(found);
-    }
     let head = head_of(bytes);
     if head.generation != edition.generation {
         return Err(Verdict::OtherCheckpoint(head.generation));
@@ -110,6 +108,26 @@ fn payload_in<A: Allocator + Copy>(
         Some(payload) => Ok(payload),
         None => Err(Verdict::Overlong),
     }
+}
+
+/// The payload of a page that has what its place asks for and is of this edition; else why it is not.
+fn payload_in<A: Allocator + Copy>(
+    image: &Image<A>,
+    page: u16,
+    edition: Edition,
+) -> Result<&[u8], Verdict>
+    ensures counts { IfErr result (λ verdict. verdict ≢ Verdict.Counts) }
+    ensures says { IfErr result (Says image.now page) }
+    ensures exact { MatchResult result (λ payload. payload_of image.now page edition ≡ Ok payload.now) (λ told. payload_of image.now page edition ≡ Err told) }
+{
+    let found = at_place(image, page);
+    let PageRead::Content(bytes) = image.page(page) else {
+        return Err(found);
+    };
+    if found != Verdict::Unused {
+        return Err(found);
+    }
+    of_edition(bytes, edition)
 }
 
 /// A slot's bodies, where they are those of a state.
@@ -135,7 +153,9 @@ fn bodies_of<A: Allocator + Copy>(
 }
 
 /// Whether a slot's first body asks for a second one.
-fn asks_for_more<A: Allocator + Copy>(image: &Image<A>, slot: Slot, edition: Edition) -> bool {
+fn asks_for_more<A: Allocator + Copy>(image: &Image<A>, slot: Slot, edition: Edition) -> bool
+    ensures { result ≡ asks_by edition.version (payload_of image.now (gate_of slot + 1) edition) }
+{
     let Ok(body) = payload_in(image, slot.gate() + 1, edition) else {
         return false;
     };
@@ -154,6 +174,7 @@ fn body_reason<A: Allocator + Copy>(
 ) -> Verdict
     ensures counts { result ≢ Verdict.Counts }
     ensures says { Says image.now page result }
+    ensures exact { result ≡ body_told index edition.version (payload_of image.now page edition) }
 {
     let body = match payload_in(image, page, edition) {
         Ok(body) => body,
@@ -172,6 +193,7 @@ fn body_reason<A: Allocator + Copy>(
 fn records_reason<A: Allocator + Copy>(state: &State<A>, payload: &[u8]) -> Verdict
     ensures counts { result ≢ Verdict.Counts }
     ensures says { (image : ImageValue) (page : ℕ) (read : PageReadOf) → SaysOf image page read result }
+    ensures exact { IsRecordsTold state.now payload.now result }
 {
     let Some(events) = records_of(payload) else {
         return Verdict::NoRecords;
@@ -202,6 +224,8 @@ struct Named {
 fn number_at(first: u64, index: u16) -> u64
     ensures from { first ≤ result }
     ensures place { result < 2 ^ 64 - 1 → index < RING_PAGES → result % RING_PAGES ≡ index }
+    ensures least { (n : ℕ) → index < RING_PAGES → first ≤ n → n < 2 ^ 64 → n % RING_PAGES ≡ index → result ≤ n }
+    ensures exact { result ≡ number_from first index }
 {
     let pages = u64::from(RING_PAGES);
     let ahead = (u64::from(index) + pages - first % pages) % pages;
@@ -239,6 +263,7 @@ impl<'a, A: Allocator + Copy> Judge<'a, A> {
     pub fn new(image: &'a Image<A>, survey: &'a Survey<A>) -> Self
         ensures image { result.image.now ≡ image.now }
         ensures survey { result.survey.now ≡ survey.now }
+        ensures more { result.more ≡ asks_for_more image.now survey.now.active }
         ensures named { IfSome result.named (λ named. IsBehindNamed named.first survey.now.found named.behind) }
     {
         let Ok((slot, edition)) = survey.active else {
@@ -257,11 +282,14 @@ impl<'a, A: Allocator + Copy> Judge<'a, A> {
         }
     }
 
-    /// The page that a recovery names where it refuses.
-    fn unfit(&self) -> Option<u16> {
+    /// Whether a recovery refuses this very page.
+    fn is_unfit(&self, page: u16) -> bool
+        ensures exact { result ≡ refuses page self.now.survey.now.found }
+        ensures page { IsTrue result ↔ (self.now.survey.now.found ≡ Err (OpenFault.Corrupt page)) }
+    {
         match &self.survey.found {
-            Err(OpenFault::Corrupt(page)) => Some(*page),
-            _ => None,
+            Err(OpenFault::Corrupt(unfit)) => *unfit == page,
+            _ => false,
         }
     }
 
@@ -269,6 +297,7 @@ impl<'a, A: Allocator + Copy> Judge<'a, A> {
     fn gate(&self, slot: Slot) -> Verdict
         ensures counts { (result ≡ Verdict.Counts) ↔ CountsGate slot self.now.survey.now }
         ensures says { Says self.now.image.now (gate_of slot) result }
+        ensures exact { result ≡ gate_told slot self.now.survey.now.active (own self.now.image.now (gate_of slot)) }
     {
         match self.survey.active {
             Ok((active, _)) if active == slot => Verdict::Counts,
@@ -284,6 +313,7 @@ impl<'a, A: Allocator + Copy> Judge<'a, A> {
     fn is_asked_for(&self, slot: Slot, index: u16) -> bool
         ensures slot { IsTrue result → CountsGate slot self.now.survey.now }
         ensures index { IsTrue result → IsTrue ((index == 0) || self.now.more) }
+        ensures all { CountsGate slot self.now.survey.now → IsTrue ((index == 0) || self.now.more) → IsTrue result }
     {
         match self.survey.active {
             Ok((active, _)) if active == slot => index == 0 || self.more,
@@ -293,7 +323,7 @@ impl<'a, A: Allocator + Copy> Judge<'a, A> {
 
     /// Whether a page stands before the one that a recovery names where it refuses.
     fn is_before(&self, page: u16) -> bool
-        ensures { IsTrue result → IsBefore page self.now.survey.now.found }
+        ensures { IsTrue result ↔ IsBefore page self.now.survey.now.found }
     {
         match &self.survey.found {
             Err(OpenFault::Corrupt(unfit)) => page < *unfit,
@@ -303,8 +333,9 @@ impl<'a, A: Allocator + Copy> Judge<'a, A> {
 
     /// Whether a body counts, and why not.
     fn body(&self, slot: Slot, index: u16, page: u16) -> Verdict
-        ensures counts { result ≡ Verdict.Counts → MayCountBody slot index page self.now.more self.now.survey.now }
+        ensures counts { (result ≡ Verdict.Counts) ↔ MayCountBody slot index page self.now.more self.now.survey.now }
         ensures says { Says self.now.image.now page result }
+        ensures exact { result ≡ body_at self.now.image.now self.now.survey.now.found self.now.more slot index page self.now.survey.now.active }
     {
         let Ok((_, edition)) = self.survey.active else {
             return at_place(self.image, page);
@@ -312,7 +343,7 @@ impl<'a, A: Allocator + Copy> Judge<'a, A> {
         if !self.is_asked_for(slot, index) {
             return at_place(self.image, page);
         }
-        if self.unfit() == Some(page) {
+        if self.is_unfit(page) {
             return body_reason(self.image, page, index, edition);
         }
         if self.is_before(page) {
@@ -326,6 +357,7 @@ impl<'a, A: Allocator + Copy> Judge<'a, A> {
     fn journal(&self, index: u16, page: u16) -> Verdict
         ensures counts { (result ≡ Verdict.Counts) ↔ CountsJournal index self.now.survey.now }
         ensures says { Says self.now.image.now page result }
+        ensures exact { IsJournalTold self.now.image.now index page self.now.survey.now.found result }
     {
         let Ok(found) = &self.survey.found else {
             return at_place(self.image, page);
@@ -344,9 +376,10 @@ impl<'a, A: Allocator + Copy> Judge<'a, A> {
     fn ring_reason(&self, page: u16, number: u64, named: Named) -> Verdict
         ensures counts { result ≢ Verdict.Counts }
         ensures says { Says self.now.image.now page result }
+        ensures exact { result ≡ ring_told self.now.image.now page number named self.now.survey.now.active }
     {
         let Ok((_, edition)) = self.survey.active else {
-            return Verdict::Unused;
+            return at_place(self.image, page);
         };
         let own = Edition {
             version: edition.version,
@@ -361,8 +394,9 @@ impl<'a, A: Allocator + Copy> Judge<'a, A> {
 
     /// Whether a ring page counts, and why not.
     fn ring(&self, index: u16, page: u16) -> Verdict
-        ensures counts { result ≡ Verdict.Counts → index < RING_PAGES → MayCountRing index self.now.named }
+        ensures counts { index < RING_PAGES → (result ≡ Verdict.Counts) ↔ CountsRing index page self.now.named self.now.survey.now }
         ensures says { Says self.now.image.now page result }
+        ensures exact { result ≡ ring_at self.now.image.now self.now.survey.now index page self.now.named }
     {
         let Some(named) = self.named else {
             return at_place(self.image, page);
@@ -371,19 +405,24 @@ impl<'a, A: Allocator + Copy> Judge<'a, A> {
         if number >= named.behind {
             return at_place(self.image, page);
         }
-        match self.unfit() {
-            Some(unfit) if unfit == page => self.ring_reason(page, number, named),
-            _ => Verdict::Counts,
+        if self.is_unfit(page) {
+            self.ring_reason(page, number, named)
+        } else {
+            Verdict::Counts
         }
     }
 
-    /// Whether a page serves, and why not. A gate counts exactly where its slot does, and a journal page exactly where a recovery
-    /// takes its events; a body and a ring page count only where they may. What it says of a page's bytes and head is so.
+    /// Whether a page serves, and why not. A gate counts exactly where its slot does, a body where it is one of those that the first
+    /// body asks for, a journal page where a recovery takes its events, and a ring page where the bodies name it. What it says of a
+    /// page's octets is so.
     pub fn verdict(&self, page: u16) -> Verdict
         ensures gate { (slot : SlotOf) → page ≡ gate_of slot → (result ≡ Verdict.Counts) ↔ CountsGate slot self.now.survey.now }
-        ensures body { (slot : SlotOf) (k : ℕ) → page ≡ gate_of slot + 1 + k → k < BODIES → result ≡ Verdict.Counts → MayCountBody slot k page self.now.more self.now.survey.now }
+        ensures body { (slot : SlotOf) (k : ℕ) → page ≡ gate_of slot + 1 + k → k < BODIES → (result ≡ Verdict.Counts) ↔ MayCountBody slot k page self.now.more self.now.survey.now }
         ensures journal { (k : ℕ) → page ≡ JOURNAL + k → k < JOURNAL_PAGES → (result ≡ Verdict.Counts) ↔ CountsJournal k self.now.survey.now }
-        ensures ring { (k : ℕ) → page ≡ RING + k → k < RING_PAGES → result ≡ Verdict.Counts → MayCountRing k self.now.named }
+        ensures ring { (k : ℕ) → page ≡ RING + k → k < RING_PAGES → (result ≡ Verdict.Counts) ↔ CountsRing k page self.now.named self.now.survey.now }
+        // What is told of a page, by its place.
+        ensures exact { IsToldAt self.now.image.now self.now.survey.now self.now.more self.now.named page (place_at page) result }
+        // What that says of its octets.
         ensures says { Says self.now.image.now page result }
     {
         match place_of(page) {

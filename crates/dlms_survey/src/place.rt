@@ -1,5 +1,6 @@
 //! What the places of pages are for.
-ghost use Rattle.dlms_survey.specs.Places.{IsPlace, IsInSlot};
+ghost use Rattle.std.specs.Prelude.{◌≡◌};
+ghost use Rattle.dlms_survey.specs.Places.{IsPlace, IsInSlot, in_slot, place_at};
 
 use dlms_store::{JOURNAL, RING, Slot};
 use std::fmt;
@@ -19,7 +20,8 @@ pub enum Place {
 
 /// What the page of this number, counted from its slot's gate, is for.
 fn in_slot(slot: Slot, number: u16) -> Place
-    ensures { IsInSlot slot number result }
+    ensures place { IsInSlot slot number result }
+    ensures exact { result ≡ in_slot slot number }
 {
     if number == 0 {
         Place::Gate(slot)
@@ -30,7 +32,8 @@ fn in_slot(slot: Slot, number: u16) -> Place
 
 /// What the place of a page is for.
 pub fn place_of(page: u16) -> Place
-    ensures { IsPlace page result }
+    ensures place { IsPlace page result }
+    ensures exact { result ≡ place_at page }
 {
     if page >= RING {
         return Place::Ring(page - RING);
