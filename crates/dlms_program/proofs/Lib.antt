@@ -1,4 +1,5 @@
 pub mod CallLemmas
+pub mod HealthLemmas
 pub mod LineLemmas
 pub mod NumberLemmas
 pub mod PutLemmas

@@ -1,5 +1,5 @@
 -- A text has one outcome, where memory is found.
-use Rattle.std.proofs.Common.{◌≡◌, ℕ, ◌+◌, ◌≤◌, Bool, List, [], ◌∷◌, ◌++◌, length, Option, Some, None, Result, Ok, Err, refl, sym, ap, subst, ◌∙◌, arith, inl, inr}
+use Rattle.std.proofs.Common.{◌≡◌, ℕ, ◌+◌, ◌≤◌, Bool, true, List, [], ◌∷◌, ◌++◌, length, Option, Some, None, Result, Ok, Err, refl, sym, ap, subst, ◌∙◌, arith, inl, inr}
 use Rattle.dlms_state.specs.declared.event.Event.{Event}
 use Rattle.dlms_state.specs.declared.event.Event.TheVariants.{Pulses as PulseEvent, Moment as MomentEvent}
 use Rattle.dlms_state.specs.declared.event.Refused.{Refused}
@@ -16,11 +16,12 @@ use Rattle.dlms_program.specs.Numbers.{IsNumberOf}
 use Rattle.dlms_program.specs.Orders.{SpellsBytes, SpellsMoment, SpellsPulses, Spells}
 use Rattle.dlms_program.specs.Printed.{reply_lines, state_line}
 use Rattle.dlms_meter.specs.Alike.{IsAlike}
-use Rattle.dlms_meter.specs.Run.{MeterWorld, Answers, Comes, FoundMemory, Judged, events_of, grown, recovered, silent}
+use Rattle.dlms_meter.specs.Healthy.{AreServed, IsDecided}
+use Rattle.dlms_meter.specs.Run.{MeterWorld, Answers, Comes, FoundMemory, Judged, Turn, events_of, grown, recovered, silent}
 use Rattle.dlms_meter.proofs.OneOutcome.{alike_comes}
 use Rattle.dlms_meter.proofs.Events.{added_one}
-use Rattle.dlms_program.specs.Replay.{Does, End, IsBad, Replays, TellsOutcome, outcome_line}
-use Rattle.dlms_program.specs.Outcome.{AlikeEnds, LineFound, AllFound, IsByTable}
+use Rattle.dlms_program.specs.Replay.{Does, End, GoesWell, IsBad, LineGoesWell, Replays, TellsOutcome, outcome_line}
+use Rattle.dlms_program.specs.Outcome.{AlikeEnds, LineFound, LineHadMemory, AllFound, AllHadMemory, FramesHadMemory}
 use Rattle.dlms_program.proofs.NumberLemmas.{pulses_parts, digits_no_space}
 
 -- ---- one piece of bytes
@@ -42,7 +43,7 @@ some_is e = cc
 alike_to : (w w' a b : MeterWorld) → IsAlike w w' → a ≡ w → b ≡ w' → IsAlike a b
 alike_to w w' a b alike e e' = subst (λ (x : MeterWorld). IsAlike x b) (sym e) (subst (λ (x : MeterWorld). IsAlike w x) (sym e') alike)
 
-same_judged : (w w' : MeterWorld) (event : Event) (x y : Result (Unit {0}) AddFault) (i j : StoreStep) (a b : MeterWorld) → IsAlike w w' → IsByTable x → IsByTable y
+same_judged : (w w' : MeterWorld) (event : Event) (x y : Result (Unit {0}) AddFault) (i j : StoreStep) (a b : MeterWorld) → IsAlike w w' → IsDecided x → IsDecided y
     → Judged w event x i a → Judged w' event y j b → (outcome_line x ≡ outcome_line y) × IsAlike a b
 same_judged w w' event (Ok d) (Ok d') i j a b alike t t' (free, is, now, next, same) (free', is', now', next', same') = (
   refl,
@@ -70,7 +71,7 @@ same_judged w w' event x (Err add.Stopped) i j a b alike t t' g h = absurd t'
 same_judged w w' event x (Err add.Exhausted) i j a b alike t t' g h = absurd t'
 
 same_told : (w w' : MeterWorld) (event event' : Event) (a b : MeterWorld) (s t : List ℕ) → IsAlike w w' → event ≡ event' → (c : TellsOutcome w event a s) (d : TellsOutcome w' event' b t)
-    → IsByTable c.0 → IsByTable d.0 → IsAlike a b × (s ≡ t)
+    → IsDecided c.0 → IsDecided d.0 → IsAlike a b × (s ≡ t)
 same_told w w' event event' a b s t alike is (x, i, judged, written) (y, j, judged', written') found found' =
     let moved : Judged w' event y j b = subst (λ (v : Event). Judged w' v y j b) (sym is) judged' in
     let one = same_judged w w' event x y i j a b alike found found' judged moved in
@@ -220,3 +221,34 @@ pub one_outcome_of : (honest : Bool) (lines : List (List ℕ)) (number : ℕ) (w
     → AllFound honest w number lines s end last a → AllFound honest w number lines t end' last' b → (s ≡ t) × (end ≡ end') × AlikeEnds last last'
 one_outcome_of honest lines number w s t end end' last last' a b e e' =
     same_run honest lines number w w s t end end' last last' (record { stretch = refl; place = refl; records = refl; events = refl }) a b e e'
+
+-- ---- where the device does not fail
+
+each_frame : (turns : List Turn) → AreServed turns → FramesHadMemory turns → FoundMemory turns
+each_frame [] are had = tt
+each_frame (turn ∷ turns) are had = ((had.0 are.0).0, each_frame turns are.1 had.1)
+
+line_found : (w : MeterWorld) (bytes : List ℕ) (order : Order) (w' : MeterWorld) (written : List ℕ) (does : Does true w bytes order w' written)
+    → LineGoesWell true w bytes order w' written does → LineHadMemory true w bytes order w' written does → LineFound true w bytes order w' written does
+line_found w bytes Skip w' written does well had = tt
+line_found w bytes Feed w' written (replies, comes, is) well had = each_frame comes.turns well had
+line_found w bytes (Pulses channel count) w' written (outcome, step, judged, is) well had = well
+line_found w bytes (Moment second) w' written (outcome, step, judged, is) well had = well
+line_found w bytes Silence w' written does well had = tt
+line_found w bytes Open w' written (found, finds, leads, is) well had = well
+line_found w bytes Show w' written does well had = tt
+
+all_found : (lines : List (List ℕ)) (number : ℕ) (w : MeterWorld) (s : List ℕ) (end : End) (last : Option MeterWorld) (a : Replays true w number lines s end last)
+    → GoesWell true w number lines s end last a → AllHadMemory true w number lines s end last a → AllFound true w number lines s end last a
+all_found [] number w s end last a well had = tt
+all_found (line ∷ lines) number w s end last (inl bad) well had = tt
+all_found (line ∷ lines) number w s end last (inr (inl (bytes, spells, fault, may, is, closed, none))) well had = had well
+all_found (line ∷ lines) number w s end last (inr (inr (short, bytes, order, w', first, rest, spells, does, replays, joins))) well had =
+    (line_found w bytes order w' first does well.0 had.0, all_found lines (number + 1) w' rest end last replays well.1 had.1)
+
+pub healthy_outcome_of : (lines : List (List ℕ)) (number : ℕ) (w : MeterWorld) (s t : List ℕ) (end end' : End) (last last' : Option MeterWorld)
+    → (a : Replays true w number lines s end last) (b : Replays true w number lines t end' last')
+    → GoesWell true w number lines s end last a → GoesWell true w number lines t end' last' b
+    → AllHadMemory true w number lines s end last a → AllHadMemory true w number lines t end' last' b → (s ≡ t) × (end ≡ end') × AlikeEnds last last'
+healthy_outcome_of lines number w s t end end' last last' a b well well' had had' =
+    one_outcome_of true lines number w s t end end' last last' a b (all_found lines number w s end last a well had) (all_found lines number w t end' last' b well' had')

@@ -1,6 +1,7 @@
 pub mod Outcome
 pub mod Addresses
 pub mod Calls
+pub mod Health
 pub mod Lines
 pub mod Numbers
 pub mod Orders

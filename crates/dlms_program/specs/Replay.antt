@@ -1,5 +1,6 @@
 -- What a transcript's lines mean, and what a replay of them writes.
-use Rattle.std.specs.Prelude.{◌≡◌, ◌⊎◌, ◌<◌, ◌≤◌, ◌+◌, ◌-◌, ◌^◌, ℕ, Bool, true, false, List, [], ◌∷◌, ◌++◌, length, Option, Some, None, Result, Ok, Err, MatchResult, ⊤}
+use Rattle.std.specs.Prelude.{◌≡◌, ◌≢◌, ◌⊎◌, ◌<◌, ◌≤◌, ◌+◌, ◌-◌, ◌^◌, ℕ, Bool, true, false, List, [], ◌∷◌, ◌++◌, length, Option, Some, None, Result, Ok, Err, MatchResult, ⊤}
+use Rattle.std.proofs.Common.{inl, inr}
 use Rattle.std.specs.Io.KnownBytes.{Appends}
 use Rattle.dlms_state.specs.declared.event.Event.{Event}
 use Rattle.dlms_state.specs.declared.event.Event.TheVariants.{Pulses as PulseEvent, Moment as MomentEvent}
@@ -10,9 +11,11 @@ use Rattle.dlms_store.specs.World.StoreWorld.{Runs}
 use Rattle.dlms_store.specs.World.StoreStep.{Closes, ClosesInDoubt, Opens}
 use Rattle.dlms_store.specs.Fitting.{StoreFits, IsRefusal}
 use Rattle.dlms_store.specs.declared.fault.OpenFault.{OpenFault}
+use Rattle.dlms_store.specs.declared.fault.OpenFault.TheVariants as opening
 use Rattle.dlms_store.specs.declared.fault.AddFault.{AddFault}
 use Rattle.dlms_store.specs.declared.fault.AddFault.TheVariants as add
 use Rattle.dlms_program.specs.Calls.{Calls, Fails, Passes}
+use Rattle.dlms_program.specs.Health.{IsGone, MeetsFault, Reaches}
 use Rattle.dlms_program.specs.declared.fault.ReplayFault.{ReplayFault}
 use Rattle.dlms_program.specs.declared.fault.ReplayFault.TheVariants.{Line, Io, Memory, Recovery}
 use Rattle.dlms_program.specs.declared.orders.Order.{Order}
@@ -22,7 +25,8 @@ use Rattle.dlms_meter.specs.declared.meter.Meter.{Meter}
 use Rattle.dlms_program.specs.Orders.{Spells}
 use Rattle.dlms_program.specs.Printed.{reply_line, reply_lines, refusal_line, fault_line, open_line, open_fault_line, state_line}
 use Rattle.dlms_program.specs.Written.{AppendsPart}
-use Rattle.dlms_meter.specs.Run.{MeterWorld, Comes, Judged, events_of, recovered, silent, Stands}
+use Rattle.dlms_meter.specs.Run.{MeterWorld, Comes, IsRunningIn, Judged, events_of, recovered, silent, Stands}
+use Rattle.dlms_meter.specs.Healthy.{AreServed, IsDecided}
 
 -- what is written of an event: nothing, why it was refused, or the number of the fault for which it was not taken
 abbrev pub outcome_line : Result (Unit {0}) AddFault → List ℕ
@@ -57,10 +61,30 @@ Does honest w bytes Silence w' written = (w' ≡ silent w) × (written ≡ [])
 Does honest w bytes Open w' written = (found : List Event) × Finds honest w.store found × (w' ≡ recovered found) × (written ≡ open_line)
 Does honest w bytes Show w' written = (w' ≡ w) × (written ≡ state_line (state_of (events_of w)))
 
+-- where the device keeps the rules, every accepted event is found
+abbrev pub FindsAll : Bool → MeterWorld → List Event → Type 0
+FindsAll true w found = found ≡ events_of w
+FindsAll false w found = Unit {0}
+
+-- No frame of it is answered with the device's fault, no event meets one, and a recovery finds all.
+abbrev pub LineGoesWell : (honest : Bool) (w : MeterWorld) (bytes : List ℕ) (order : Order) (w' : MeterWorld) (written : List ℕ) → Does honest w bytes order w' written → Type 0
+LineGoesWell honest w bytes Skip w' written does = Unit {0}
+LineGoesWell honest w bytes Feed w' written (replies, comes, is) = AreServed comes.turns
+LineGoesWell honest w bytes (Pulses channel count) w' written (outcome, step, judged, is) = IsDecided outcome
+LineGoesWell honest w bytes (Moment second) w' written (outcome, step, judged, is) = IsDecided outcome
+LineGoesWell honest w bytes Silence w' written does = Unit {0}
+LineGoesWell honest w bytes Open w' written (found, finds, leads, is) = FindsAll honest w found
+LineGoesWell honest w bytes Show w' written does = Unit {0}
+
 -- why a meter that was closed may not be recovered
 abbrev pub MayStayClosed : Bool → OpenFault → Type 0
 MayStayClosed true fault = IsRefusal fault
 MayStayClosed false fault = Unit {0}
+
+-- for want of memory, where the device keeps the rules; of another one only this is known, that it did not fail
+abbrev pub LacksMemory : Bool → OpenFault → Type 0
+LacksMemory true fault = fault ≡ opening.Memory
+LacksMemory false fault = fault ≢ opening.Device
 
 -- ---- what a meter stands for
 
@@ -75,11 +99,14 @@ IsLeft honest (Some meter) (Some w) = IsAt honest meter w
 IsLeft honest None None = Unit {0}
 IsLeft honest _ _ = ⊥
 
--- an order was done on a meter: the world that it then stands for, and what was written
-pub record Did {P A : Type 0} {ghosts : Ghosts P} (honest : Bool) (old new : Option (List ℕ)) (w : MeterWorld) (bytes : List ℕ) (order : Order) (meter : Option (Meter P A ghosts)) : Type 0 where
+-- An order was done on a meter: the world that it then stands for, and what was written. Where the store ran, it went well, or
+-- a call of it met a fault of the device.
+pub record Did {P A : Type 0} {ghosts : Ghosts P} (honest : Bool) (old new : Option (List ℕ)) (w : MeterWorld) (bytes : List ℕ) (order : Order) (start meter : Option (Meter P A ghosts)) : Type 0 where
   pub world : MeterWorld
   pub written : List ℕ
   pub does : Does honest w bytes order world written
+  pub reaches : Reaches start meter
+  pub well : IsRunningIn w.store → LineGoesWell honest w bytes order world written does ⊎ MeetsFault start meter
   pub left : IsLeft honest meter (Some world)
   pub appends : Appends old new written
 
@@ -91,35 +118,49 @@ DoesPart honest w bytes Feed w' before told =
     × Comes w front (replies ++ reply ∷ []) w' × (before ≡ reply_lines replies) × (told ≡ reply_line reply)
 DoesPart honest w bytes order w' before told = (before ≡ []) × Does honest w bytes order w' told
 
+-- it goes well up to there
+abbrev pub PartGoesWell : (honest : Bool) (w : MeterWorld) (bytes : List ℕ) (order : Order) (w' : MeterWorld) (before told : List ℕ) → DoesPart honest w bytes order w' before told → Type 0
+PartGoesWell honest w bytes Feed w' before told (front, rest, cut, replies, reply, comes, is, last) = AreServed comes.turns
+PartGoesWell honest w bytes Skip w' before told (none, does) = LineGoesWell honest w bytes Skip w' told does
+PartGoesWell honest w bytes (Pulses channel count) w' before told (none, does) = LineGoesWell honest w bytes (Pulses channel count) w' told does
+PartGoesWell honest w bytes (Moment second) w' before told (none, does) = LineGoesWell honest w bytes (Moment second) w' told does
+PartGoesWell honest w bytes Silence w' before told (none, does) = LineGoesWell honest w bytes Silence w' told does
+PartGoesWell honest w bytes Open w' before told (none, does) = LineGoesWell honest w bytes Open w' told does
+PartGoesWell honest w bytes Show w' before told (none, does) = LineGoesWell honest w bytes Show w' told does
+
 -- so it was done on a meter
-pub record DidPart {P A : Type 0} {ghosts : Ghosts P} (honest : Bool) (old new : Option (List ℕ)) (w : MeterWorld) (bytes : List ℕ) (order : Order) (meter : Option (Meter P A ghosts)) : Type 0 where
+pub record DidPart {P A : Type 0} {ghosts : Ghosts P} (honest : Bool) (old new : Option (List ℕ)) (w : MeterWorld) (bytes : List ℕ) (order : Order) (start meter : Option (Meter P A ghosts)) : Type 0 where
   pub world : MeterWorld
   pub before : List ℕ
   pub told : List ℕ
   pub does : DoesPart honest w bytes order world before told
+  pub reaches : Reaches start meter
+  pub well : IsRunningIn w.store → PartGoesWell honest w bytes order world before told does ⊎ MeetsFault start meter
   pub left : IsLeft honest meter (Some world)
   pub mid : Option (List ℕ)
   pub appends : Appends old mid before
   pub breaks : AppendsPart mid new told
 
 -- what came of an order on a meter that is there afterwards: the writer may have failed
-abbrev pub Obeyed : {P A : Type 0} → {ghosts : Ghosts P} → {T E : Type 0} → Bool → Option (List ℕ) → Option (List ℕ) → MeterWorld → List ℕ → Order → Result T E → Option (Meter P A ghosts) → Type 0
-Obeyed honest old new w bytes order result meter = MatchResult result (λ _. Did honest old new w bytes order meter) (λ _. DidPart honest old new w bytes order meter)
+abbrev pub Obeyed : {P A : Type 0} → {ghosts : Ghosts P} → {T E : Type 0} → Bool → Option (List ℕ) → Option (List ℕ) → MeterWorld → List ℕ → Order → Result T E → (start meter : Option (Meter P A ghosts)) → Type 0
+Obeyed honest old new w bytes order result start meter = MatchResult result (λ _. Did honest old new w bytes order start meter) (λ _. DidPart honest old new w bytes order start meter)
 
 -- the meter was closed and not recovered: it is gone, and this is left of writing why
-pub record Gone {P A : Type 0} {ghosts : Ghosts P} (honest : Bool) (Told : List ℕ → Type 0) (order : Order) (meter : Option (Meter P A ghosts)) : Type 0 where
+pub record Gone {P A : Type 0} {ghosts : Ghosts P} (honest : Bool) (Told : List ℕ → Type 0) (order : Order) (start meter : Option (Meter P A ghosts)) : Type 0 where
   pub opens : order ≡ Open
   pub fault : OpenFault
   pub may : MayStayClosed honest fault
+  pub gone : IsGone start fault
+  pub lacks : LacksMemory honest fault ⊎ MeetsFault start meter
   pub none : IsLeft honest meter None
   pub told : Told (open_fault_line fault)
 
 -- what came of an order
-abbrev pub Followed : {P A : Type 0} → {ghosts : Ghosts P} → Bool → Option (List ℕ) → Option (List ℕ) → MeterWorld → List ℕ → Order → Result (Unit {0}) ReplayFault → Option (Meter P A ghosts) → Type 0
-Followed honest old new w bytes order (Ok done) meter = Did honest old new w bytes order meter
-Followed honest old new w bytes order (Err Recovery) meter = Gone honest (Appends old new) order meter
-Followed honest old new w bytes order (Err Io) meter = DidPart honest old new w bytes order meter ⊎ Gone honest (AppendsPart old new) order meter
-Followed honest old new w bytes order (Err _) meter = ⊥
+abbrev pub Followed : {P A : Type 0} → {ghosts : Ghosts P} → Bool → Option (List ℕ) → Option (List ℕ) → MeterWorld → List ℕ → Order → Result (Unit {0}) ReplayFault → (start meter : Option (Meter P A ghosts)) → Type 0
+Followed honest old new w bytes order (Ok done) start meter = Did honest old new w bytes order start meter
+Followed honest old new w bytes order (Err Recovery) start meter = Gone honest (Appends old new) order start meter
+Followed honest old new w bytes order (Err Io) start meter = DidPart honest old new w bytes order start meter ⊎ Gone honest (AppendsPart old new) order start meter
+Followed honest old new w bytes order (Err _) start meter = ⊥
 
 -- ---- the lines of a text
 
@@ -131,59 +172,68 @@ IsBad line = (8192 < length line) ⊎ ((bytes : List ℕ) (order : Order) → Sp
 pub data End : Type 0 where
   Whole : End
   Bad : (number : ℕ) → End
-  Closed : End
+  Closed : (fault : OpenFault) → End
 
 -- From a world, the lines from that number on write this, up to such an end, and lead to that world, or to none where the meter is gone.
 abbrev pub Replays : Bool → MeterWorld → ℕ → List (List ℕ) → List ℕ → End → Option MeterWorld → Type 0
 Replays honest w number [] written end last = (written ≡ []) × (end ≡ Whole) × (last ≡ Some w)
 Replays honest w number (line ∷ lines) written end last =
     (IsBad line × (written ≡ []) × (end ≡ Bad number) × (last ≡ Some w))
-    ⊎ ((bytes : List ℕ) × Spells line bytes Open × (fault : OpenFault) × MayStayClosed honest fault × (written ≡ open_fault_line fault) × (end ≡ Closed) × (last ≡ None))
+    ⊎ ((bytes : List ℕ) × Spells line bytes Open × (fault : OpenFault) × MayStayClosed honest fault × (written ≡ open_fault_line fault) × (end ≡ Closed fault) × (last ≡ None))
     ⊎ ((length line ≤ 8192) × (bytes : List ℕ) × (order : Order) × (w' : MeterWorld) × (first : List ℕ) × (rest : List ℕ)
     × Spells line bytes order × Does honest w bytes order w' first × Replays honest w' (number + 1) lines rest end last × (written ≡ first ++ rest))
 
--- a replay of a known text came to such an end: it wrote what the text says, and nothing else, and the meter stands for where it led
-abbrev pub Ended : {P A : Type 0} → {ghosts : Ghosts P} → Bool → Option (List ℕ) → Option (List ℕ) → MeterWorld → Option (List ℕ) → End → Option (Meter P A ghosts) → Type 0
-Ended honest old new w None end meter = ⊤
-Ended honest old new w (Some text) end meter =
-    (written : List ℕ) × (last : Option MeterWorld) × Appends old new written × Replays honest w 1 (lines_of text) written end last × IsLeft honest meter last
+-- So goes each line that was done. A meter that was closed is not recovered for want of memory alone.
+abbrev pub GoesWell : (honest : Bool) (w : MeterWorld) (number : ℕ) (lines : List (List ℕ)) (written : List ℕ) (end : End) (last : Option MeterWorld) → Replays honest w number lines written end last → Type 0
+GoesWell honest w number [] written end last replays = Unit {0}
+GoesWell honest w number (line ∷ lines) written end last (inl bad) = Unit {0}
+GoesWell honest w number (line ∷ lines) written end last (inr (inl (bytes, spells, fault, may, is, closed, none))) = LacksMemory honest fault
+GoesWell honest w number (line ∷ lines) written end last (inr (inr (short, bytes, order, w', first, rest, spells, does, replays, joins))) =
+    LineGoesWell honest w bytes order w' first does × GoesWell honest w' (number + 1) lines rest end last replays
+
+-- Such a replay. Where the store runs at first, it goes well, or this is so.
+abbrev pub ReplaysOr : Type 0 → Bool → MeterWorld → ℕ → List (List ℕ) → List ℕ → End → Option MeterWorld → Type 0
+ReplaysOr Fault honest w number lines written end last =
+    (replays : Replays honest w number lines written end last) × (IsRunningIn w.store → GoesWell honest w number lines written end last replays ⊎ Fault)
+
+-- A replay of a known text came to such an end: it wrote what the text says, and nothing else, and the meter stands for where it
+-- led. Where the store ran at first, it went well, or a call of it met a fault of the device.
+abbrev pub Ended : {P A : Type 0} → {ghosts : Ghosts P} → Bool → Option (List ℕ) → Option (List ℕ) → MeterWorld → Option (List ℕ) → End → (start meter : Option (Meter P A ghosts)) → Type 0
+Ended honest old new w None end start meter = ⊤
+Ended honest old new w (Some text) end start meter =
+    (written : List ℕ) × (last : Option MeterWorld) × Appends old new written × ReplaysOr (MeetsFault start meter) honest w 1 (lines_of text) written end last × IsLeft honest meter last
 
 -- ---- a replay that is broken off
 
--- these lines are done one after another, and lead to that world and write this
-abbrev pub AreDone : Bool → MeterWorld → List (List ℕ) → MeterWorld → List ℕ → Type 0
-AreDone honest w [] m written = (m ≡ w) × (written ≡ [])
-AreDone honest w (line ∷ lines) m written =
-    (length line ≤ 8192) × (bytes : List ℕ) × (order : Order) × (w' : MeterWorld) × (first : List ℕ) × (rest : List ℕ)
-    × Spells line bytes order × Does honest w bytes order w' first × AreDone honest w' lines m rest × (written ≡ first ++ rest)
-
 -- The reader gave no more: lines were read and done, and of one more a part was read.
-pub record ReadNoMore {P A : Type 0} {ghosts : Ghosts P} (honest : Bool) (old new : Option (List ℕ)) (w : MeterWorld) (text left : List ℕ) (meter : Option (Meter P A ghosts)) : Type 0 where
+pub record ReadNoMore {P A : Type 0} {ghosts : Ghosts P} (honest : Bool) (old new : Option (List ℕ)) (w : MeterWorld) (text left : List ℕ) (start meter : Option (Meter P A ghosts)) : Type 0 where
   pub done : List (List ℕ)
   pub part : List ℕ
   pub cut : lines_of text ≡ done ++ lines_of (part ++ left)
   pub no_feed : HasNoFeed part
   pub world : MeterWorld
   pub written : List ℕ
-  pub are : AreDone honest w done world written
+  pub are : ReplaysOr (MeetsFault start meter) honest w 1 done written Whole (Some world)
   pub left_is : IsLeft honest meter (Some world)
   pub appends : Appends old new written
 
 -- The writer took no more: lines were read and done, and one more was read, whose answer was written in part.
-pub record WroteNoMore {P A : Type 0} {ghosts : Ghosts P} (honest : Bool) (old new : Option (List ℕ)) (w : MeterWorld) (text left : List ℕ) (meter : Option (Meter P A ghosts)) : Type 0 where
+pub record WroteNoMore {P A : Type 0} {ghosts : Ghosts P} (honest : Bool) (old new : Option (List ℕ)) (w : MeterWorld) (text left : List ℕ) (start meter : Option (Meter P A ghosts)) : Type 0 where
   pub done : List (List ℕ)
   pub line : List ℕ
   pub cut : lines_of text ≡ done ++ line ∷ lines_of left
   pub world : MeterWorld
   pub written : List ℕ
-  pub are : AreDone honest w done world written
+  pub behind : Option (Meter P A ghosts)
+  pub reaches : Reaches start behind
+  pub are : ReplaysOr (MeetsFault start behind) honest w 1 done written Whole (Some world)
   pub mid : Option (List ℕ)
   pub appends : Appends old mid written
   pub bytes : List ℕ
   pub order : Order
   pub spells : Spells line bytes order
   pub short : length line ≤ 8192
-  pub breaks : Followed honest mid new world bytes order (Err Io) meter
+  pub breaks : Followed honest mid new world bytes order (Err Io) behind meter
 
 -- of known bytes this is said, and of what is left of them
 abbrev pub IfKnown : Option (List ℕ) → Option (List ℕ) → (List ℕ → List ℕ → Type 0) → Type 0
@@ -192,19 +242,19 @@ IfKnown (Some text) None Said = ⊥
 IfKnown (Some text) (Some left) Said = Said text left
 
 -- 2^32 - 1 lines were done, and none of the next one was read
-pub record LinesUsedUp {P A : Type 0} {ghosts : Ghosts P} (honest : Bool) (old new : Option (List ℕ)) (w : MeterWorld) (text left : List ℕ) (meter : Option (Meter P A ghosts)) : Type 0 where
-  pub read : ReadNoMore honest old new w text left meter
+pub record LinesUsedUp {P A : Type 0} {ghosts : Ghosts P} (honest : Bool) (old new : Option (List ℕ)) (w : MeterWorld) (text left : List ℕ) (start meter : Option (Meter P A ghosts)) : Type 0 where
+  pub read : ReadNoMore honest old new w text left start meter
   pub none : read.part ≡ []
   pub many : length read.done ≡ 2 ^ 32 - 1
 
 -- A replay of a known text, of which this is left, by these calls of the reader and of the writer. `Io` is answered where the last
 -- call of one of them failed, or where 2^32 - 1 lines were done, by as many reads or more. In any other case no call failed.
-abbrev pub WroteReplay : {P A : Type 0} → {ghosts : Ghosts P} → Bool → (reads reads' writes writes' : Option Calls) → Option (List ℕ) → Option (List ℕ) → MeterWorld → Option (List ℕ) → Option (List ℕ) → Result (Unit {0}) ReplayFault → Option (Meter P A ghosts) → Type 0
-WroteReplay honest reads reads' writes writes' old new w text left (Ok done) meter = Passes 0 reads reads' × Passes 0 writes writes' × Ended honest old new w text Whole meter
-WroteReplay honest reads reads' writes writes' old new w text left (Err (Line number)) meter = Passes 0 reads reads' × Passes 0 writes writes' × Ended honest old new w text (Bad number) meter
-WroteReplay honest reads reads' writes writes' old new w text left (Err Recovery) meter = Passes 0 reads reads' × Passes 0 writes writes' × Ended honest old new w text Closed meter
-WroteReplay honest reads reads' writes writes' old new w text left (Err Memory) meter = ⊥
-WroteReplay honest reads reads' writes writes' old new w text left (Err Io) meter =
-    (Fails reads reads' × Passes 0 writes writes' × IfKnown text left (λ text left. ReadNoMore honest old new w text left meter))
-    ⊎ (Passes 0 reads reads' × Fails writes writes' × IfKnown text left (λ text left. WroteNoMore honest old new w text left meter))
-    ⊎ (Passes (2 ^ 32 - 1) reads reads' × Passes 0 writes writes' × IfKnown text left (λ text left. LinesUsedUp honest old new w text left meter))
+abbrev pub WroteReplay : {P A : Type 0} → {ghosts : Ghosts P} → Bool → (reads reads' writes writes' : Option Calls) → Option (List ℕ) → Option (List ℕ) → MeterWorld → Option (List ℕ) → Option (List ℕ) → Result (Unit {0}) ReplayFault → (start meter : Option (Meter P A ghosts)) → Type 0
+WroteReplay honest reads reads' writes writes' old new w text left (Ok done) start meter = Passes 0 reads reads' × Passes 0 writes writes' × Ended honest old new w text Whole start meter
+WroteReplay honest reads reads' writes writes' old new w text left (Err (Line number)) start meter = Passes 0 reads reads' × Passes 0 writes writes' × Ended honest old new w text (Bad number) start meter
+WroteReplay honest reads reads' writes writes' old new w text left (Err Recovery) start meter = Passes 0 reads reads' × Passes 0 writes writes' × (fault : OpenFault) × IsGone start fault × Ended honest old new w text (Closed fault) start meter
+WroteReplay honest reads reads' writes writes' old new w text left (Err Memory) start meter = ⊥
+WroteReplay honest reads reads' writes writes' old new w text left (Err Io) start meter =
+    (Fails reads reads' × Passes 0 writes writes' × IfKnown text left (λ text left. ReadNoMore honest old new w text left start meter))
+    ⊎ (Passes 0 reads reads' × Fails writes writes' × IfKnown text left (λ text left. WroteNoMore honest old new w text left start meter))
+    ⊎ (Passes (2 ^ 32 - 1) reads reads' × Passes 0 writes writes' × IfKnown text left (λ text left. LinesUsedUp honest old new w text left start meter))

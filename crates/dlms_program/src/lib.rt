@@ -4,6 +4,7 @@
 mod addresses;
 mod commands;
 mod fault;
+mod help;
 pub mod laws;
 mod lines;
 mod numbers;

@@ -28,7 +28,7 @@ fn feed<W: Sink, P: Pages, A: Allocator + Copy>(
     bytes: &[u8],
     writer: &mut W,
 ) -> io::Result<()>
-    ensures lines { (honest : Bool) (w : MeterWorld) → IsAt honest meter.old w → Obeyed honest (W.contents writer.old) (W.contents writer.new) w bytes.now Order.Feed result (Some meter.new) }
+    ensures lines { (honest : Bool) (w : MeterWorld) → IsAt honest meter.old w → Obeyed honest (W.contents writer.old) (W.contents writer.new) w bytes.now Order.Feed result (Some meter.old) (Some meter.new) }
     ensures calls { Called 0 (W.calls writer.old) (W.calls writer.new) result }
 {
     let mut rest = bytes;
@@ -79,7 +79,7 @@ fn reopen<W: Sink, P: Pages + Drop, A: Allocator + Copy>(
 ) -> Result<(), ReplayFault>
     requires { is_some meter.old ≡ true }
     ensures there { OnOk result (is_some meter.new ≡ true) }
-    ensures lines { (honest : Bool) (w : MeterWorld) (bytes : List ℕ) → IsLeft honest meter.old (Some w) → Followed honest (W.contents writer.old) (W.contents writer.new) w bytes Order.Open result meter.new }
+    ensures lines { (honest : Bool) (w : MeterWorld) (bytes : List ℕ) → IsLeft honest meter.old (Some w) → Followed honest (W.contents writer.old) (W.contents writer.new) w bytes Order.Open result meter.old meter.new }
     ensures calls { Told (W.calls writer.old) (W.calls writer.new) result }
 {
     let Some(running) = meter.take() else {
@@ -106,7 +106,7 @@ fn obey<W: Sink, P: Pages, A: Allocator + Copy>(
     writer: &mut W,
 ) -> io::Result<()>
     requires { order ≢ Order.Open }
-    ensures lines { (honest : Bool) (w : MeterWorld) → IsAt honest meter.old w → Obeyed honest (W.contents writer.old) (W.contents writer.new) w bytes.now order result (Some meter.new) }
+    ensures lines { (honest : Bool) (w : MeterWorld) → IsAt honest meter.old w → Obeyed honest (W.contents writer.old) (W.contents writer.new) w bytes.now order result (Some meter.old) (Some meter.new) }
     ensures calls { Called 0 (W.calls writer.old) (W.calls writer.new) result }
 {
     match order {
@@ -133,7 +133,7 @@ fn follow<W: Sink, P: Pages + Drop, A: Allocator + Copy>(
 ) -> Result<(), ReplayFault>
     requires { is_some meter.old ≡ true }
     ensures there { OnOk result (is_some meter.new ≡ true) }
-    ensures lines { (honest : Bool) (w : MeterWorld) → IsLeft honest meter.old (Some w) → Followed honest (W.contents writer.old) (W.contents writer.new) w bytes.now order result meter.new }
+    ensures lines { (honest : Bool) (w : MeterWorld) → IsLeft honest meter.old (Some w) → Followed honest (W.contents writer.old) (W.contents writer.new) w bytes.now order result meter.old meter.new }
     ensures calls { Told (W.calls writer.old) (W.calls writer.new) result }
 {
     if order == Order::Open {
@@ -153,6 +153,10 @@ fn follow<W: Sink, P: Pages + Drop, A: Allocator + Copy>(
 /// meter has done what the lines before that ask for, and of a line whose answer could not be written, that line too, up
 /// to that answer. A call that a signal interrupts is made again, up to 2^64 - 1 times. A `Read` is a `Source`, and a
 /// `Write` a `Sink`.
+///
+/// Where the store runs and no call of the meter meets a fault of its device, and no checkpoint is wanting, no line is a fault
+/// 2 to 4 and no frame is answered with the device's result; a line `O` finds every accepted event, and ends the replay for
+/// want of memory alone.
 pub fn replay<R: Source, W: Sink, P: Pages + Drop, A: Allocator + Copy>(
     alloc: A,
     reader: &mut R,
@@ -160,7 +164,7 @@ pub fn replay<R: Source, W: Sink, P: Pages + Drop, A: Allocator + Copy>(
     meter: &mut Option<Meter<P, A>>,
 ) -> Result<(), ReplayFault>
     requires { is_some meter.old ≡ true }
-    ensures { (honest : Bool) (w : MeterWorld) → IsLeft honest meter.old (Some w) → WroteReplay honest (R.calls reader.old) (R.calls reader.new) (W.calls writer.old) (W.calls writer.new) (W.contents writer.old) (W.contents writer.new) w (R.remaining reader.old) (R.remaining reader.new) result meter.new }
+    ensures { (honest : Bool) (w : MeterWorld) → IsLeft honest meter.old (Some w) → WroteReplay honest (R.calls reader.old) (R.calls reader.new) (W.calls writer.old) (W.calls writer.new) (W.contents writer.old) (W.contents writer.new) w (R.remaining reader.old) (R.remaining reader.new) result meter.old meter.new }
 {
     let mut line = ArrayVec::new();
     let mut bytes = Pairs::new();

@@ -2,9 +2,17 @@ use Rattle.std.proofs.Common.{arith, sym, subst, inl, inr, ◌+◌, ◌-◌, ◌
 use Rattle.dlms_program.specs.Lines.{LosesLine, TakesLine}
 use Rattle.dlms_program.specs.declared.lines.Taken.{Taken}
 use Rattle.std.proofs.lemmas.Result.{err_from_is_err_and}
-use Rattle.dlms_program.proofs.CallLemmas.{fails_behind, passes_least, passes_more}
-use Rattle.dlms_program.proofs.ReplayLemmas.{replay_cut, replay_fault, replay_used, replay_line, replay_end, replay_bad, unknown_first, long_first}
+use Rattle.dlms_program.proofs.CallLemmas.{fails_behind, passes_least, passes_more, passes_none}
+use Rattle.dlms_program.proofs.ReplayLemmas.{replay_cut, replay_fault, replay_used, replay_line, replay_end, replay_bad, replay_start, unknown_first, long_first}
 use Rattle.dlms_program.proofs.replaying.replay.Goals as goal
+
+pub lines-init : goal.lines-init
+lines-init g c = (
+  replay_start (g.W.Sink.contents c.args.writer.now) c.args.meter.now (g.R.Source.remaining c.args.reader.now),
+  c.requires,
+  passes_none (g.R.Source.calls c.args.reader.now),
+  passes_none (g.W.Sink.calls c.args.writer.now),
+)
 
 pub returns-in-End : goal.returns-in-End
 returns-in-End g c honest w at =

@@ -1,0 +1,74 @@
+-- What lies between two moments of a replay, and the faults that a call may meet there.
+use Rattle.std.specs.Prelude.{◌≡◌, ◌⊎◌, true, Option, Some, None}
+use Rattle.dlms_pages.specs.Device.{View, Rose}
+use Rattle.dlms_pages.specs.declared.device.Pages.{Ghosts}
+use Rattle.dlms_state.specs.declared.event.Event.{Event}
+use Rattle.dlms_store.specs.Cause.{IsAtLast, IsCause}
+use Rattle.dlms_store.specs.Fitting.{DeviceFits, GivesUp, OpensAs, StoreFits}
+use Rattle.dlms_store.specs.Store.{AddIsExhausted, CommitIsExhausted, IsTooSmall, view_of}
+use Rattle.dlms_store.specs.World.{StoreWorld}
+use Rattle.dlms_store.specs.World.StoreStep.{Closes, ClosesInDoubt}
+use Rattle.dlms_store.specs.declared.fault.OpenFault.{OpenFault}
+use Rattle.dlms_store.specs.declared.fault.OpenFault.TheVariants as opening
+use Rattle.dlms_store.specs.declared.store.Store.{Store}
+use Rattle.dlms_meter.specs.declared.meter.Meter.{Meter}
+use Rattle.dlms_meter.specs.Steps.{Call, IsCall}
+
+-- ---- from one moment to another
+
+-- what `close` says of the device that it gives back
+abbrev pub IsClosed : {P A : Type 0} → {ghosts : Ghosts P} → Meter P A ghosts → P → Type 0
+IsClosed {ghosts = ghosts} old device = (before : StoreWorld) → StoreFits old.store before
+    → GivesUp Closes before (view_of old.store) (ghosts.view device) ⊎ GivesUp ClosesInDoubt before (view_of old.store) (ghosts.view device)
+
+-- Why no meter was recovered from a device: what stands on it, or that it failed in that call, or that it is too small.
+pub record IsRefused (old new : View) (fault : OpenFault) : Type 0 where
+  pub exact : old.honest ≡ true → IsCause fault old.seen
+  pub device : fault ≡ opening.Device → Rose old.faults new.faults
+  pub size : fault ≡ opening.Size → IsTooSmall old
+
+-- what `recover` says of the meter that it makes of a device, or of why it makes none
+abbrev pub IsRecovered : {P A : Type 0} → {ghosts : Ghosts P} → P → Option (Meter P A ghosts) → Type 0
+IsRecovered {ghosts = ghosts} device (Some meter) = (before : StoreWorld) → DeviceFits (ghosts.view device) before → OpensAs before (ghosts.view device) meter.store
+IsRecovered {P} {A} {ghosts} device None = (back : P) × (fault : OpenFault) × IsRefused (ghosts.view device) (ghosts.view back) fault
+
+-- one call of a meter; or it is closed, and recovered or not
+abbrev pub Leads : {P A : Type 0} → {ghosts : Ghosts P} → Option (Meter P A ghosts) → Option (Meter P A ghosts) → Type 0
+Leads {P} {A} {ghosts} (Some old) (Some new) = ((call : Call) × IsCall old call new) ⊎ ((device : P) × IsClosed old device × IsRecovered device (Some new))
+Leads {P} {A} {ghosts} (Some old) None = (device : P) × IsClosed old device × IsRecovered {A = A} {ghosts = ghosts} device None
+Leads None meter = ⊥
+
+-- so it goes from one moment to another
+pub data Reaches {P A : Type 0} {ghosts : Ghosts P} (start : Option (Meter P A ghosts)) : Option (Meter P A ghosts) → Type 0 where
+  Here : Reaches start start
+  Further : (mid new : Option (Meter P A ghosts)) → Reaches start mid → Leads mid new → Reaches start new
+
+-- A meter was closed, and for this cause not recovered.
+pub record IsGone {P A : Type 0} {ghosts : Ghosts P} (start : Option (Meter P A ghosts)) (fault : OpenFault) : Type 0 where
+  pub old : Meter P A ghosts
+  pub reaches : Reaches start (Some old)
+  pub device : P
+  pub closed : IsClosed old device
+  pub back : P
+  pub refused : IsRefused (ghosts.view device) (ghosts.view back) fault
+
+-- ---- a device that fails
+
+-- a call met a fault of the device, or a checkpoint was wanting, or a number for a row
+abbrev pub ServesIll : {P A : Type 0} → {ghosts : Ghosts P} → Store P A ghosts → Store P A ghosts → Type 0
+ServesIll old new = Rose (view_of old).faults (view_of new).faults ⊎ CommitIsExhausted new ⊎ ((event : Event) × (AddIsExhausted old event ⊎ AddIsExhausted new event))
+
+-- so it was where a meter was closed
+abbrev pub ClosesIll : {P A : Type 0} → {ghosts : Ghosts P} → Store P A ghosts → View → Type 0
+ClosesIll old device = Rose (view_of old).faults device.faults ⊎ CommitIsExhausted old
+
+-- and where its device was opened
+abbrev pub OpensIll : View → View → Type 0
+OpensIll old new = Rose old.faults new.faults ⊎ IsAtLast old.seen
+
+-- Somewhere between these two moments of a replay it was so.
+pub data MeetsFault {P A : Type 0} {ghosts : Ghosts P} (start finish : Option (Meter P A ghosts)) : Type 0 where
+  InCall : (old new : Meter P A ghosts) (call : Call) → Reaches start (Some old) → IsCall old call new → Reaches (Some new) finish → ServesIll old.store new.store → MeetsFault start finish
+  InClose : (old : Meter P A ghosts) (device : P) (new : Option (Meter P A ghosts)) → Reaches start (Some old) → IsClosed old device → IsRecovered device new → Reaches new finish
+      → ClosesIll old.store (ghosts.view device) → MeetsFault start finish
+  InOpen : (fault : OpenFault) (gone : IsGone start fault) → Reaches None finish → OpensIll (ghosts.view gone.device) (ghosts.view gone.back) → MeetsFault start finish

@@ -1,0 +1,122 @@
+//! What the program prints of itself and of its commands where help is asked for.
+
+/// What the program is, for its help.
+pub const ABOUT: &str = "A DLMS/COSEM electricity meter, and a head end that polls one.
+
+Exit status: 0; 1 after a fault, named on standard error as in \"dlms: corrupt 1\"; 2 where the words ask for nothing that \
+the program does, and for this help.";
+
+/// What `format` does, for its help.
+pub const FORMAT_ABOUT: &str =
+    "Makes a new meter in FILE. Whatever FILE holds is written over and lost.
+
+Reads nothing. Prints \"formatted N pages\". The last step is a sync: from then on the meter outlasts a stop of the power. With \
+--demo the meter has a day of a household behind it, 96 rows a quarter of an hour apart, and \"captured 96 rows\" is printed too.
+
+Exit status: 0; 1 after a fault (dlms: io, with the file and the system's words on a second line; dlms: device; \
+dlms: memory); 2 for words that are not understood, and for this help.";
+
+/// What `replay` does, for its help.
+pub const REPLAY_ABOUT: &str =
+    "Replays standard input on the meter in FILE, and closes it at the end; without FILE on a new meter \
+in memory, which is gone then.
+
+Reads lines: \"> HEX\" brings bytes, \"P channel count\" pulses, \"M second\" the running second, \"I\" silence on the line, \
+\"O\" closes the meter and recovers it, \"S\" asks for the state. Empty lines and lines that begin with # are skipped.
+Prints \"< hex\" for each frame that goes out, \"refused k\" or \"fault n\" for an event that is not taken, \"open\" or \
+\"fault open n\" for O, and \"state r0 r1 r2 clock rows\" for S.
+
+Exit status: 0; 1 after a fault (dlms: line N for a line of no known form, or longer than 8192 bytes; dlms: io, with the file \
+and the system's words on a second line where it is FILE that fails; dlms: nocheckpoint or dlms: corrupt N for a FILE that \
+holds no meter, or a damaged one; dlms: device; dlms: exhausted; dlms: recovery; dlms: memory); 2 for words that are not \
+understood, and for this help.";
+
+/// What `loopback` does, for its help.
+pub const LOOPBACK_ABOUT: &str =
+    "Polls a meter over a socket of this machine, and prints the readings.
+
+Makes a meter in memory, gives it 42 pulses on channel 0 and captures at 900 and 1800 seconds, polls it over TCP on a port of \
+127.0.0.1 that the system chooses, and prints a line \"clock,r0,r1,r2\" for each row. With --readings the rows of FILE come \
+first, an absent FILE has none, and FILE gets the new text after each poll: a stop at any moment leaves the old text or the new \
+one. With --stops the meter then loses its power N times, comes back, captures once more and is polled again.
+
+Exit status: 0; 1 after a fault (dlms: io, with FILE and the system's words on a second line where it is FILE that fails; \
+dlms: line N for a line of FILE that is none of readings; dlms: line, dlms: protocol, dlms: refused N or dlms: result N for a \
+poll; dlms: memory); 2 for words that are not understood, and for this help.";
+
+/// What `serve` does, for its help.
+pub const SERVE_ABOUT: &str =
+    "Serves the meter in FILE on a TCP port, one client after another, until it is killed.
+
+Recovers the meter, listens on 127.0.0.1:4059 where no address is named, and prints \"listening on ADDRESS:PORT\"; of port 0 the \
+system chooses one. The meter's running second goes on from the last one that it recovered, a second of it each second of the \
+system's steady clock. With --load channel 0 gets a pulse a watt-hour. A line on standard error tells of the recovery, of the end \
+of each connection, and of a second that the meter refuses; one that cannot be written at once is dropped, and with --quiet \
+none is written. What was answered with \
+success or data outlasts a kill; of the seconds and pulses since then a kill takes 496 bytes of records at most. With --tick the \
+meter is told of its seconds in steps, each of them all the same: its clock is behind by less than a step, and its file is written \
+less often. The end of a connection is the end of its links. One on which no frame is answered for 120 seconds is closed, or for \
+those of --inactivity; where another waits, one on which no frame of an association is answered for 5 seconds, or for those of \
+--idle, and any after 60, or after those of --turn. So is one to which 5 associations were refused.
+
+Exit status: 1 after a fault (dlms: io, with FILE or the address and the system's words on a second line; dlms: nocheckpoint or \
+dlms: corrupt N for a FILE that holds no meter, or a damaged one; dlms: device or dlms: exhausted once FILE takes no more; \
+dlms: memory); 2 for words that are not understood, and for this help.";
+
+/// What `poll` does, for its help.
+pub const POLL_ABOUT: &str =
+    "Polls the load profile of the meter at ADDRESS:PORT once, over HDLC on TCP, and prints the rows that are new.
+
+Asks as management, with the secret that stands in the file of --secret-file (at most 16 bytes; one line feed at its end is none \
+of it), or with 12345678 where none is named; with --reader as the reader, with that secret or with 23456789; with --public as \
+the public client, which has no secret, whatever else is given. With --readings the rows \
+from the second of FILE's last row on are asked for, an absent FILE has none, and FILE gets the new text: a stop at any moment \
+leaves the old text or the new one. Prints a line \"clock,r0,r1,r2\" for each row that FILE did not have, before FILE has it: \
+what was printed and not filed comes again with the next poll. A line on standard error says how many rows were left out, not \
+later than FILE's last row. One poll at a time has FILE, by the lock of FILE.lock, which stays. A frame that is not \
+answered within two seconds goes out again, three times at most.
+
+Exit status: 0; 1 after a fault (dlms: io, with the file or ADDRESS:PORT and the system's words on a second line; dlms: line N \
+for a line of FILE that is none of readings; dlms: secret for one of more than 16 bytes; dlms: line, with ADDRESS:PORT on a \
+second line where the deadline is over; dlms: protocol (also for \
+rows of other columns than the clock and the three registers), dlms: refused N or dlms: result N for the poll; dlms: clock N \
+where row N is not later than the one before it; dlms: ahead N where row N is too far past the system's clock, of the poll or \
+of FILE, as a second line says; dlms: memory); \
+2 for words that are not understood, and for this help.";
+
+/// What `explain` does, for its help.
+pub const EXPLAIN_ABOUT: &str =
+    "Explains the HDLC frames that stand in FILE in hexadecimal digits, and what they carry; without FILE, and where it is \
+\"-\", those on standard input.
+
+Reads lines: \"> HEX\" for bytes to a meter and \"< HEX\" for bytes from it, as the transcript of a replay has them, or digits \
+alone. Prints each frame's direction, addresses and control, and of the APDU in it the parts by their names. Of a secret no byte \
+is printed; of a string that may be one, since no frame before it asked for it, the length is, and with --raw all of it. A line \
+that holds no bytes of a frame is printed as it stands.
+
+Exit status: 0, also where the reader of the output has had enough; 1 after a fault (dlms: io, with FILE or the stream and the \
+system's words on a second line; dlms: memory); 2 for words that are not understood, and for this help.";
+
+/// What `show` does, for its help.
+pub const SHOW_ABOUT: &str = "Shows what stands in the meter's file FILE, and changes nothing in it.
+
+Prints a line for each page (its place, what it says, and whether a recovery counts it, or why not), which slot counts, the \
+journal's events, what a recovery would do, and the state and the rows that it would find. With --plot the load profile is plotted \
+too, as text of at most 100 columns. Of a secret no byte is printed.
+
+Exit status: 0, for a damaged FILE too; 1 after a fault (dlms: io, with FILE and the system's words on a second line, also where \
+another program uses FILE; dlms: memory); 2 for words that are not understood, and for this help.";
+
+/// What `plot` does, for its help.
+pub const PLOT_ABOUT: &str =
+    "Plots the load profile of the readings file READINGS as a curve of steps, broken where captures are missing; where it is \
+\"-\", of the readings on standard input.
+
+Reads the lines \"clock,r0,r1,r2\" that loopback and poll leave in their --readings. Plots the first register whose first and \
+last rows differ, as the power between neighboring captures: plain text of at most 100 columns, each of them its greatest power. \
+With --svg an SVG that stands alone. The usual period is the step of the clock that stands most often between two captures; \
+where two stand further apart, captures are missing, at the end as well.
+
+Exit status: 0; 1 after a fault (dlms: io, with READINGS and the system's words on a second line where the system has any; \
+dlms: line N for a line of READINGS that is none of readings; dlms: memory); 2 for words that are not understood, and for this \
+help.";
