@@ -1,6 +1,7 @@
 //! What holds of all the seconds that a meter is told of.
 
 ghost use Rattle.std.specs.Prelude.{◌≡◌, ◌+◌, List, length, sum_by};
+ghost use Rattle.dlms_field.specs.declared.clocks.TheConstants.{YEAR_2000};
 ghost use Rattle.dlms_field.specs.declared.hanging_up.TheConstants.{DISC, METER};
 ghost use Rattle.dlms_field.specs.declared.secret.TheConstants.{MOST_SECRET};
 ghost use Rattle.dlms_field.specs.declared.telling.TheConstants.{CATCH_UP};
@@ -18,10 +19,11 @@ pub fn pulses_add_up()
     ensures seconds { (old new : TicksOf) (seconds : List SecondOf) → AreNext old seconds new → new.told ≡ old.told + length seconds }
 {}
 
-/// The numbers that clauses cite by name: the seconds of one look at the clock, the control octet of DISC and the meter's upper
-/// address, the octets of the longest secret, and the refusals after which a turn is over.
+/// The numbers that clauses cite by name: the seconds of one look at the clock, those from 1970 to 2000, the control octet of DISC and
+/// the meter's upper address, the octets of the longest secret, and the refusals after which a turn is over.
 pub fn the_numbers()
     ensures look { CATCH_UP ≡ 60 }
+    ensures year { YEAR_2000 ≡ 946684800 }
     ensures disc { (DISC ≡ 0x53) × (METER ≡ 1) }
     ensures secret { MOST_SECRET ≡ 16 }
     ensures turn { MOST_REFUSALS ≡ 5 }

@@ -1,7 +1,7 @@
 //! A client's secret, from a file.
 
-ghost use Rattle.std.specs.Prelude.{◌≡◌, ◌<◌, ℕ, List, length, MatchOption};
-ghost use Rattle.dlms_field.specs.Secret.{IsWithoutLineFeed};
+ghost use Rattle.std.specs.Prelude.{◌≡◌, ◌<◌, ℕ, List, [], None, length, MatchOption, MatchResult};
+ghost use Rattle.dlms_field.specs.Secret.{IsWithoutLineFeed, first_of};
 
 use crate::fault::{FieldFault, at};
 use arrayvec::ArrayVec;
@@ -54,7 +54,9 @@ fn first_bytes<R: Files>(rt: &R, path: &str) -> io::Result<ArrayVec<u8, MOST_REA
 }
 
 /// The secret that a new meter knows of a client; none where it has none.
-fn first_secret(client: Client) -> &'static [u8] {
+fn first_secret(client: Client) -> &'static [u8]
+    ensures { result.now ≡ first_of client }
+{
     match client {
         Client::Public => &[],
         Client::Management => b"12345678",
@@ -67,7 +69,10 @@ pub fn secret_of<'a, R: Files>(
     rt: &R,
     client: Client,
     file: Option<&'a str>,
-) -> Result<ArrayVec<u8, 16>, FieldFault<'a>> {
+) -> Result<ArrayVec<u8, 16>, FieldFault<'a>>
+    ensures first { file.entry ≡ None → MatchResult result (λ secret. secret.items ≡ first_of client) (λ _. ⊥) }
+    ensures public { client ≡ Client.Public → MatchResult result (λ secret. secret.items ≡ []) (λ _. ⊥) }
+{
     if !client.has_secret() {
         return Ok(ArrayVec::new());
     }
