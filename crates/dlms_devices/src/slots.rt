@@ -73,7 +73,7 @@ struct Failed {
 }
 
 /// The scenario, up to the first fault.
-fn failed(
+fn played(
     alloc: Global,
     fault: Fault,
     calls: u64,
@@ -157,7 +157,7 @@ fn play_second_stops(
 ) -> Result<()> {
     let alloc = report.alloc();
     for again in AGAIN {
-        if let Some(failed) = failed(alloc, Fault::Stop, calls, tear)? {
+        if let Some(failed) = played(alloc, Fault::Stop, calls, tear)? {
             let left = failed.pages.into_slots().cut(Tears::All(tear));
             let also = found_in(alloc, stopped_again(alloc, left, again, tear));
             report.compare((calls, tear, again), also, found)?;
@@ -171,7 +171,7 @@ fn play_second_stops(
 fn play_faults(report: &mut Report<'_>, fault: Fault, tear: Tear) -> Result<()> {
     let alloc = report.alloc();
     for calls in 0..CALLS {
-        let Some(failed) = failed(alloc, fault, calls, tear)? else {
+        let Some(failed) = played(alloc, fault, calls, tear)? else {
             report.compare((fault, tear, calls), false, true)?;
             continue;
         };

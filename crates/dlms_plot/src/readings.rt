@@ -1,5 +1,5 @@
 //! A readings file as a curve.
-ghost use Rattle.std.specs.Prelude.{◌≡◌, List, IfErr, IfOk, map};
+ghost use Rattle.std.specs.Prelude.{◌≡◌, ◌<◌, List, IfErr, IfOk, OnErr, length, map};
 ghost use Rattle.dlms_headend.specs.Lines.{IsFile, Refuses};
 ghost use Rattle.dlms_headend.specs.declared.row.Row.{Row as RowOf};
 ghost use Rattle.dlms_plot.specs.Curve.{IsPlotOf};
@@ -89,10 +89,14 @@ pub struct Curve<A: Allocator> {
 
 impl<A: Allocator + Copy> Curve<A> {
     /// The curve of these rows: of the first register of which the first row and the last one say different values, or of the
-    /// import. None where there is no period between two captures.
+    /// import. None where there is no period between two captures. No rows take no memory.
     fn of_rows(alloc: A, rows: &[Row]) -> Result<Option<Curve<A>>, AllocError>
-        ensures { IfOk result (IsPlotOf rows.now) }
+        ensures found { IfOk result (IsPlotOf rows.now) }
+        ensures memory { OnErr result (0 < length rows.now) }
     {
+        if rows.is_empty() {
+            return Ok(None);
+        }
         let quantity = counted(rows);
         let samples = samples_of(alloc, rows, quantity)?;
         match Series::of(alloc, &samples)? {
@@ -108,7 +112,10 @@ impl<A: Allocator + Copy> Curve<A> {
         ensures fault { IfErr result (Refuses text.now) }
     {
         let readings = Readings::open(alloc, text)?;
-        Ok(Curve::of_rows(alloc, readings.rows())?)
+        match Curve::of_rows(alloc, readings.rows()) {
+            Ok(found) => Ok(found),
+            Err(AllocError) => Err(ReadingsFault::Memory),
+        }
     }
 }
 
