@@ -1,12 +1,12 @@
 //! Pages over slots in memory, which keep the rules of a file: a slot torn at each octet; and the scenario of the stops, with a call
 //! of the file that fails, or the power that stops, at each of them, and again while the file is opened.
 
-use crate::asked::{Came, get};
+use crate::asked::{Ask, Came, asked, get};
 use crate::report::Report;
 use crate::scripts::FORMATS;
 use crate::stops::{accepted, settled_in};
 use anyhow::Result;
-use dlms_pages::{FilePages, MemorySlots, Pages, SLOT_BYTES, Tear, Tears};
+use dlms_pages::{FilePages, MemorySlots, SLOT_BYTES, Tear, Tears};
 use dlms_store::{PAGES, Store};
 use std::alloc::{AllocError, Global};
 
@@ -194,14 +194,11 @@ fn torn(alloc: Global, tear: Tear) -> Result<Option<[Came; 3]>> {
     let Ok(mut pages) = FilePages::over(alloc, MemorySlots::new(alloc, 3)?, 3) else {
         return Ok(None);
     };
-    if pages.count() < 3 {
-        return Ok(None);
-    }
     for index in 0..3u16 {
-        let _written = pages.write(index, &[0x11; 512]);
+        let _written = asked(&mut pages, Ask::Put(index, 0x11));
     }
-    let _synced = pages.sync();
-    let _written = pages.write(1, &[0xee; 512]);
+    let _synced = asked(&mut pages, Ask::Sync);
+    let _written = asked(&mut pages, Ask::Put(1, 0xee));
     let left = pages.into_slots().cut(Tears::All(tear));
     let Ok(mut pages) = FilePages::over(alloc, left, 3) else {
         return Ok(None);
