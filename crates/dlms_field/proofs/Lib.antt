@@ -1,4 +1,5 @@
 pub mod HangingUp
 pub mod ClockLemmas
 pub mod TellingLemmas
+pub mod ConnectionLemmas
 pub mod TickLemmas

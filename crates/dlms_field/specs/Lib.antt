@@ -7,3 +7,5 @@ pub mod Secret
 pub mod Telling
 pub mod Ticks
 pub mod Turns
+pub mod Connection
+pub mod Polled

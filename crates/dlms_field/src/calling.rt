@@ -1,9 +1,15 @@
 //! A meter is called, and polled over the connection.
+
+ghost use Rattle.std.specs.Prelude.{◌≡◌, IfOk, IfSome};
+ghost use Rattle.dlms_headend.specs.Asking.{PlanValue};
+ghost use Rattle.dlms_headend.specs.Polling.{fresh_poll};
+ghost use Rattle.dlms_loopback.specs.BothEnds.{IsDonePoll};
+
 use crate::deadline::Deadline;
 use crate::fault::{FieldFault, at};
 use crate::line::{Line, WAIT_SECONDS};
 use dlms_headend::{PollFault, Poller};
-use dlms_loopback::{HeadEnd, Heard, LoopFault, PIECE, TURNS, Turn, hear};
+use dlms_loopback::{End, HeadEnd, Heard, LoopFault, PIECE, TURNS, Turn};
 use std::io;
 use std::io::{ErrorKind, Read, Write};
 use std::net::{Net, OpenStream, TcpStream, ToSocketAddrs};
@@ -19,11 +25,11 @@ const QUIET_MILLISECONDS: u64 = 50;
 const QUIET_READS: u32 = 64;
 
 /// Drops what stands on the line: until nothing comes for a while, or so much has come that silence is not waited for.
-fn quiet<S: Read + OpenStream>(stream: &mut S) -> io::Result<()> {
+fn quiet<S: Read + Write + OpenStream>(stream: &mut S) -> io::Result<()> {
     stream.set_read_timeout(Some(Duration::from_millis(QUIET_MILLISECONDS)))?;
     let mut piece = [0u8; PIECE];
     for _ in 0..QUIET_READS {
-        match hear(stream, &mut piece) {
+        match stream.hear(&mut piece) {
             Ok(Heard::Bytes(_)) => {}
             Ok(Heard::Silence) => break,
             // The end of the stream is there for the next read too.
@@ -35,7 +41,7 @@ fn quiet<S: Read + OpenStream>(stream: &mut S) -> io::Result<()> {
 }
 
 /// The stream gives up after a while, sends bytes at once, and has nothing to be read.
-fn prepare<S: Read + OpenStream>(stream: &mut S) -> io::Result<()> {
+fn prepare<S: Read + Write + OpenStream>(stream: &mut S) -> io::Result<()> {
     stream.set_nodelay(true)?;
     quiet(stream)?;
     stream.set_read_timeout(Some(Duration::from_secs(WAIT_SECONDS)))?;
@@ -63,18 +69,21 @@ fn connected<R: Net, C: Clock>(
 }
 
 /// Does a poll over a line whose other end is the meter; none where the deadline is over.
-fn done<C: Clock, S: Read + Write>(
+fn done<C: Clock, S: End>(
     line: &mut S,
     deadline: &Deadline<'_, C>,
     poller: Poller,
-) -> Result<Option<Poller>, LoopFault> {
+) -> Result<Option<Poller>, LoopFault>
+    ensures { (plan : PlanValue) → poller ≡ fresh_poll plan → IfOk result (λ done. IfSome done (IsDonePoll plan)) }
+{
     let mut head_end = HeadEnd::begin(line, poller)?;
-    for _ in 0..TURNS {
+    'turns: for _turn in 0..TURNS {
         if deadline.is_over()? {
             return Ok(None);
         }
-        if head_end.turn(line)? == Turn::Done {
-            return Ok(Some(head_end.into_poller()));
+        match head_end.turn(line)? {
+            Turn::Done => return Ok(Some(head_end.into_poller())),
+            Turn::Sent => {}
         }
     }
     Err(LoopFault::Poll(PollFault::Line))
@@ -87,7 +96,9 @@ fn polled<'a, R: Clock, S: Read + Write + OpenStream + Drop>(
     deadline: &Deadline<'_, R>,
     stream: S,
     poller: Poller,
-) -> Result<Option<Poller>, FieldFault<'a>> {
+) -> Result<Option<Poller>, FieldFault<'a>>
+    ensures { (plan : PlanValue) → poller ≡ fresh_poll plan → IfOk result (λ done. IfSome done (IsDonePoll plan)) }
+{
     let mut stream = stream;
     at(address, prepare(&mut stream))?;
     let mut line = at(address, Line::new(rt, stream))?;
@@ -105,7 +116,9 @@ pub fn call<'a, R: Net + Clock>(
     address: &'a str,
     seconds: u32,
     poller: Poller,
-) -> Result<Option<Poller>, FieldFault<'a>> {
+) -> Result<Option<Poller>, FieldFault<'a>>
+    ensures { (plan : PlanValue) → poller ≡ fresh_poll plan → IfOk result (λ done. IfSome done (IsDonePoll plan)) }
+{
     let deadline = at(address, Deadline::new(rt, seconds))?;
     let Some(stream) = at(address, connected(rt, address, &deadline))? else {
         return Ok(None);

@@ -1,82 +1,39 @@
 //! The readings file of a poll.
 use crate::fault::{FieldFault, at};
 use dlms_headend::Readings;
-use dlms_loopback::{LoopFault, Place};
+use dlms_loopback::{FilePlace, Filing, FilingFault, LoopFault, OpeningFault, open_rows};
+use std::alloc::Global;
 use std::fs::{File, Files};
-use std::io::Write;
 
-/// A file of readings, which nobody else has.
-#[derive(Drop)]
-pub struct Kept<'a> {
-    file: &'a str,
-    place: Place,
-}
-
-/// The file, where one is named.
-pub fn held<'a, R: Files<File = File> + AllocGlobal>(
-    rt: &R,
+/// The file, where one is named. Nobody else has it then.
+pub fn held<'a, 'r, R: Files<File = File> + AllocGlobal>(
+    rt: &'r R,
     file: Option<&'a str>,
-) -> Result<Option<Kept<'a>>, FieldFault<'a>> {
+) -> Result<Option<FilePlace<'r, R>>, FieldFault<'a>> {
     match file {
-        Some(file) => {
-            let place = at(file, Place::open(rt, file))?;
-            Ok(Some(Kept { file, place }))
-        }
+        Some(file) => Ok(Some(at(file, FilePlace::open(rt, file))?)),
         None => Ok(None),
     }
 }
 
 /// The readings that the file holds; none where there is no file.
-pub fn opened<'a, R: Files + AllocGlobal>(
-    rt: &R,
-    kept: &Option<Kept<'a>>,
+pub fn opened<'a, F: Filing>(
+    alloc: Global,
+    file: Option<&'a str>,
+    place: &mut F,
 ) -> Result<Readings, FieldFault<'a>> {
-    let text = match kept {
-        Some(kept) => at(kept.file, kept.place.text(rt))?,
-        None => String::new(rt.alloc()),
-    };
-    match Readings::open(rt.alloc(), text.as_str()) {
+    match open_rows(alloc, place) {
         Ok(readings) => Ok(readings),
-        Err(fault) => Err(FieldFault::Other(LoopFault::Readings(fault))),
+        Err(OpeningFault::Place(error)) => Err(fault_of(file, FilingFault::Place(error))),
+        Err(OpeningFault::Readings(fault)) => Err(FieldFault::Other(LoopFault::Readings(fault))),
     }
 }
 
-/// Writes what stands behind so many bytes.
-fn print<W: Write>(output: &mut W, text: &str, before: usize) -> Result<(), LoopFault> {
-    output.write_all(text.as_bytes().get(before..).unwrap_or(&[]))?;
-    output.flush()?;
-    Ok(())
-}
-
-impl<'a> Kept<'a> {
-    /// Writes the text beside the file, prints what stands behind so many bytes, and puts the text in the place of the file's.
-    fn keep<R: Files<File = File> + AllocGlobal, W: Write>(
-        &self,
-        rt: &R,
-        text: &str,
-        before: usize,
-        output: &mut W,
-    ) -> Result<(), FieldFault<'a>> {
-        let beside = at(self.file, self.place.write(rt, text))?;
-        if let Err(fault) = print(output, text, before) {
-            beside.drop_text(rt);
-            return Err(FieldFault::Other(fault));
-        }
-        at(self.file, self.place.put(rt, beside))
-    }
-}
-
-/// Prints what stands behind so many bytes, and keeps the text where there is a file. A row is printed before the file has it: a
-/// poll that fails, or is killed, has printed each row that the file got, and one that was printed and not filed comes again.
-pub fn give<'a, R: Files<File = File> + AllocGlobal, W: Write>(
-    rt: &R,
-    kept: &Option<Kept<'a>>,
-    text: &str,
-    before: usize,
-    output: &mut W,
-) -> Result<(), FieldFault<'a>> {
-    match kept {
-        Some(kept) => kept.keep(rt, text, before, output),
-        None => Ok(print(output, text, before)?),
+/// Why the rows were not filed, where this file is named.
+pub fn fault_of<'a>(file: Option<&'a str>, fault: FilingFault) -> FieldFault<'a> {
+    match (file, fault) {
+        (Some(file), FilingFault::Place(error)) => FieldFault::System(file, error),
+        (_, FilingFault::Memory) => FieldFault::Other(LoopFault::Memory),
+        (_, _) => FieldFault::Other(LoopFault::Io),
     }
 }

@@ -1,13 +1,19 @@
 //! A head end that polls the meter at an address once.
 
+ghost use Rattle.std.specs.Prelude.{◌≡◌, IfOk, OnOk};
+ghost use Rattle.dlms_headend.specs.Asking.{PlanValue};
+ghost use Rattle.dlms_headend.specs.Polling.{fresh_poll};
+ghost use Rattle.dlms_loopback.specs.BothEnds.{IsDonePoll};
+ghost use Rattle.dlms_field.specs.Polled.{PrintsPoll};
+
 use crate::calling::call;
 use crate::clocks::{ClockFault, Limit, first_ahead, judge, left_out};
 use crate::fault::FieldFault;
-use crate::keeping::{give, held, opened};
+use crate::keeping::{fault_of, held, opened};
 use crate::secret::secret_of;
 use dlms_frame::Client;
-use dlms_headend::{Poller, Readings, Row};
-use dlms_loopback::{LoopFault, poller};
+use dlms_headend::{Poller, Row};
+use dlms_loopback::{LoopFault, file_rows, poller};
 use std::fs::{File, Files};
 use std::io::Write;
 use std::net::Net;
@@ -62,7 +68,9 @@ fn called<'a, R: Net + Clock + AllocGlobal>(
     polling: &Polling<'a>,
     poller: Poller,
     limit: Option<Limit>,
-) -> Result<Poller, FieldFault<'a>> {
+) -> Result<Poller, FieldFault<'a>>
+    ensures { (plan : PlanValue) → poller ≡ fresh_poll plan → IfOk result (IsDonePoll plan) }
+{
     let Some(poller) = call(rt, polling.address, polling.deadline, poller)? else {
         return Err(FieldFault::Late(polling.address, polling.deadline));
     };
@@ -86,31 +94,6 @@ fn tell<E: Write>(errors: &mut E, polling: &Polling<'_>, count: usize) -> Result
     }
 }
 
-/// The readings' text.
-fn text_of(readings: &Readings) -> Result<String, LoopFault> {
-    match readings.text() {
-        Ok(text) => Ok(text),
-        Err(_) => Err(LoopFault::Memory),
-    }
-}
-
-/// Merges the rows that were polled, and tells how many are left out. The new text comes back, and the length of the old one.
-fn merged<E: Write>(
-    polling: &Polling<'_>,
-    readings: Readings,
-    poller: &Poller,
-    errors: &mut E,
-) -> Result<(String, usize), LoopFault> {
-    let mut readings = readings;
-    let before = text_of(&readings)?.len();
-    let last = readings.rows().last().copied();
-    tell(errors, polling, left_out(last, poller.rows()))?;
-    match readings.merge(poller.rows()) {
-        Ok(_added) => Ok((text_of(&readings)?, before)),
-        Err(_) => Err(LoopFault::Memory),
-    }
-}
-
 /// Polls the meter at an address once over TCP, merges the rows into the file where one is named, and prints those that the file
 /// did not have. The secret and the file are read before the meter is called, and nobody else has the file until the end. Rows
 /// that do not rise, or are too far past the system's clock, are refused: nothing is filed then. How many rows are left out is
@@ -120,14 +103,20 @@ pub fn poll<'a, R: Net + Files<File = File> + Clock + AllocGlobal, W: Write, E: 
     polling: &Polling<'a>,
     output: &mut W,
     errors: &mut E,
-) -> Result<(), FieldFault<'a>> {
+) -> Result<(), FieldFault<'a>>
+    ensures { OnOk result (PrintsPoll polling.now.client (W.contents output.old) (W.contents output.new)) }
+{
     let secret = secret_of(rt, polling.client, polling.secret_file)?;
-    let kept = held(rt, polling.readings)?;
-    let readings = opened(rt, &kept)?;
+    let mut place = held(rt, polling.readings)?;
+    let mut readings = opened(rt.alloc(), polling.readings, &mut place)?;
     let limit = limit(rt, polling.ahead)?;
     judge_filed(polling, limit, readings.rows())?;
     let poller = poller(rt.alloc(), polling.client, secret, readings.last());
     let poller = called(rt, polling, poller, limit)?;
-    let (text, before) = merged(polling, readings, &poller, errors)?;
-    give(rt, &kept, text.as_str(), before, output)
+    let last = readings.rows().last().copied();
+    tell(errors, polling, left_out(last, poller.rows()))?;
+    match file_rows(&mut place, &mut readings, poller.rows(), output) {
+        Ok(()) => Ok(()),
+        Err(fault) => Err(fault_of(polling.readings, fault)),
+    }
 }

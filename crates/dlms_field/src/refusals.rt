@@ -5,8 +5,6 @@ ghost use Rattle.std.specs.Prelude.{◌≡◌, ◌≤◌};
 use arrayvec::ArrayVec;
 use dlms_acse::{Verdict, read_aare};
 use dlms_frame::Deframer;
-use std::io;
-use std::io::{Read, Write};
 use std::net::{IpAddr, Ipv4Addr};
 
 /// An address whose association requests were refused too often is not taken again for so many seconds.
@@ -19,7 +17,7 @@ const LLC: [u8; 3] = [0xe6, 0xe7, 0x00];
 const BARRED: usize = 64;
 
 /// Whether a frame of the meter refuses an association (IEC 62056-5-3, AARE).
-fn is_refusal(reply: &[u8]) -> bool {
+pub fn is_refusal(reply: &[u8]) -> bool {
     let mut deframer = Deframer::new();
     let (_taken, found) = deframer.feed(reply);
     let Some(frame) = found else {
@@ -29,43 +27,6 @@ fn is_refusal(reply: &[u8]) -> bool {
         return false;
     };
     matches!(read_aare(apdu), Ok(Verdict::Refused { .. }))
-}
-
-/// A stream that counts the refusals that go out. Each write begins with a frame.
-#[derive(Drop)]
-pub struct Counted<'s, S> {
-    stream: &'s mut S,
-    /// How many refusals went out.
-    pub refusals: u8,
-}
-
-impl<'s, S> Counted<'s, S> {
-    /// None has gone out.
-    pub fn new(stream: &'s mut S) -> Self {
-        Counted {
-            stream,
-            refusals: 0,
-        }
-    }
-}
-
-impl<S: Read> Read for Counted<'_, S> {
-    fn read(&mut self, buf: &mut [u8]) -> io::Result<usize> {
-        self.stream.read(buf)
-    }
-}
-
-impl<S: Write> Write for Counted<'_, S> {
-    fn write(&mut self, buf: &[u8]) -> io::Result<usize> {
-        if is_refusal(buf) {
-            self.refusals = self.refusals.saturating_add(1);
-        }
-        self.stream.write(buf)
-    }
-
-    fn flush(&mut self) -> io::Result<()> {
-        self.stream.flush()
-    }
 }
 
 /// An address that is not taken before this second.

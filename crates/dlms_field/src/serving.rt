@@ -1,14 +1,23 @@
 //! A meter that serves a TCP port, one client after another.
 
+ghost use Rattle.std.specs.Prelude.{◌≡◌, ◌≤◌, ◌<◌, ℕ, length, List, [], ◌∷◌, Option, Ok, IfOk};
+ghost use Rattle.dlms_loopback.specs.Moments.{Moment};
+ghost use Rattle.dlms_loopback.specs.Moments.Moment.{Broke};
+ghost use Rattle.dlms_loopback.specs.Serving.{AnswersFrame};
+ghost use Rattle.dlms_meter.specs.Steps.{Call, Calls};
+ghost use Rattle.dlms_field.specs.Connection.{AnswersEach, EndsFor, Goes, ReadsPiece, Talks};
+ghost use Rattle.dlms_field.specs.Turns.{Tells};
+ghost use Rattle.dlms_field.specs.declared.turns.Times.{Times as TimesOf};
+
 use crate::fault::FieldFault;
 use crate::hanging_up::hang_up;
 use crate::log::Log;
 use crate::pace::due;
-use crate::refusals::{Barred, Counted};
+use crate::refusals::{Barred, is_refusal};
 use crate::telling;
 use crate::ticks::Ticks;
 use crate::turns::{MOST_REFUSALS, Over, Times, Turn};
-use dlms_loopback::{Heard, LoopFault, PIECE, answer, bytes_of, hear};
+use dlms_loopback::{End, Heard, LoopFault, PIECE, Taken, bytes_behind, bytes_of};
 use dlms_meter::Meter;
 use dlms_pages::Pages;
 use dlms_store::AddFault;
@@ -65,11 +74,10 @@ struct Peer<S> {
     address: SocketAddr,
 }
 
-/// A meter at work: the clock, what the meter was told of it, and where is said what happens.
+/// Where a meter is at work: the clock, what the meter was told of it, and where is said what happens.
 #[derive(Drop)]
-struct Site<'r, 'm, 'e, R: Clock, S: Drop, P: Pages, E: Write> {
+struct Site<'r, 'e, R: Clock, S: Drop, E: Write> {
     rt: &'r R,
-    meter: &'m mut Meter<P>,
     ticks: Ticks,
     tick: u32,
     times: Times,
@@ -87,8 +95,60 @@ struct Site<'r, 'm, 'e, R: Clock, S: Drop, P: Pages, E: Write> {
     errors: &'e mut E,
 }
 
-/// The end that an error of a stream is.
-fn ending_of(error: io::Error) -> Ending {
+/// Reads once: how many bytes came, none where nothing came.
+fn read_piece<T: End>(stream: &mut T, piece: &mut [u8; PIECE]) -> io::Result<usize>
+    ensures fits { IfOk result (λ count. count ≤ PIECE) }
+    ensures reads { ReadsPiece (T.past stream.old) (T.past stream.new) result piece.new }
+{
+    match stream.hear(piece)? {
+        Heard::Bytes(count) => Ok(count),
+        Heard::Silence => Ok(0),
+    }
+}
+
+/// Gives the meter bytes through one frame at most, counts the reply where it refuses an association, and puts it. Where that
+/// cannot be put the meter has taken the frame all the same.
+fn answer<T: End, P: Pages>(
+    end: &mut T,
+    meter: &mut Meter<P>,
+    bytes: &[u8],
+    refusals: &mut u8,
+) -> io::Result<Taken>
+    ensures some { IfOk result (λ taken. (taken.count ≤ length bytes.now) × (0 < length bytes.now → 0 < taken.count)) }
+    ensures call { AnswersFrame (T.past end.old) (T.past end.new) meter.old bytes.now result meter.new }
+{
+    let (count, reply) = meter.feed(bytes);
+    match reply {
+        Some(reply) => {
+            if is_refusal(reply.as_slice()) {
+                *refusals = refusals.saturating_add(1);
+            }
+            end.put(reply.as_slice())?;
+            Ok(Taken {
+                count,
+                is_answered: true,
+            })
+        }
+        None => Ok(Taken {
+            count,
+            is_answered: false,
+        }),
+    }
+}
+
+/// The turn behind some bytes, at this second.
+fn noted<P: Pages>(turn: Turn, meter: &Meter<P>, is_answered: bool, now: u64) -> Turn {
+    if is_answered {
+        turn.answers(now, meter.is_associated())
+    } else {
+        turn
+    }
+}
+
+/// The end that an error of a read is.
+fn ending_of(error: io::Error) -> Ending
+    ensures { (times : TimesOf) → EndsFor times (Ok result) (Broke [] ∷ []) }
+{
     match error.kind() {
         ErrorKind::UnexpectedEof => Ending::Closed,
         _ => Ending::Failed(error),
@@ -138,7 +198,7 @@ fn tell_end<E: Write>(errors: &mut E, address: SocketAddr, times: Times, ending:
     };
 }
 
-impl<R: Clock, S: Drop, P: Pages, E: Write> Site<'_, '_, '_, R, S, P, E> {
+impl<R: Clock, S: Drop, E: Write> Site<'_, '_, R, S, E> {
     /// Tells that a second was refused.
     fn tell_refused(&mut self, number: u8) {
         if self.log.takes_line(self.errors) {
@@ -148,10 +208,12 @@ impl<R: Clock, S: Drop, P: Pages, E: Write> Site<'_, '_, '_, R, S, P, E> {
 
     /// Looks at the clock, and tells the meter of the seconds that are due, so many at most. The seconds of the clock since the
     /// beginning come back. A moment that is refused is said once, until one is taken again.
-    fn look(&mut self) -> Result<u64, LoopFault> {
+    fn look<P: Pages>(&mut self, meter: &mut Meter<P>) -> Result<u64, LoopFault>
+        ensures { (past : Option (List Moment)) (left : List ℕ) → Goes past past meter.old left left meter.new }
+    {
         let elapsed = self.start.elapsed(self.rt)?.as_secs();
         let told = self.ticks.told;
-        match telling::look(self.meter, &mut self.ticks, due(elapsed, self.tick)) {
+        match telling::look(meter, &mut self.ticks, due(elapsed, self.tick)) {
             Ok(()) => self.refused = self.refused && self.ticks.told == told,
             Err(AddFault::Refused(cause)) => {
                 if !self.refused {
@@ -191,40 +253,44 @@ impl<R: Clock, S: Drop, P: Pages, E: Write> Site<'_, '_, '_, R, S, P, E> {
     fn over<L: OpenListener<Stream = S>>(
         &mut self,
         listener: &L,
+        times: Times,
         turn: &mut Turn,
         now: u64,
-    ) -> Option<Over> {
+    ) -> Option<Over>
+        ensures { Tells times turn.new now result }
+    {
         if turn.waited.is_none() && self.asked != Some(now) && self.another_waits(listener, now) {
             turn.waited = Some(now);
         }
         self.asked = Some(now);
-        turn.over(self.times, now)
+        turn.over(times, now)
     }
 
     /// Answers the frames among the bytes, one after another, as long as the turn is not over. Behind each it looks at the clock.
-    fn answer_each<L: OpenListener<Stream = S>, T: Read + Write>(
+    fn answer_each<L: OpenListener<Stream = S>, T: End, P: Pages>(
         &mut self,
+        meter: &mut Meter<P>,
         listener: &L,
-        stream: &mut Counted<'_, T>,
+        stream: &mut T,
+        times: Times,
         turn: &mut Turn,
         bytes: &[u8],
-    ) -> Result<Option<Ending>, LoopFault> {
+    ) -> Result<Option<Ending>, LoopFault>
+        ensures { AnswersEach times (T.past stream.old) (T.past stream.new) meter.old bytes.now result meter.new }
+    {
         let mut rest = bytes;
-        for _ in 0..bytes.len() {
-            if rest.is_empty() {
-                break;
-            }
-            let taken = match answer(stream, self.meter, rest) {
+        while !rest.is_empty() {
+            let taken = match answer(stream, meter, rest, &mut turn.refusals) {
                 Ok(taken) => taken,
                 Err(error) => return Ok(Some(Ending::Failed(error))),
             };
-            rest = rest.get(taken.count..).unwrap_or(&[]);
-            let now = self.look()?;
-            if taken.is_answered {
-                *turn = turn.answers(now, self.meter.is_associated());
-            }
-            turn.refusals = stream.refusals;
-            if let Some(over) = self.over(listener, turn, now) {
+            rest = bytes_behind(rest, taken.count);
+            let now = match self.look(meter) {
+                Ok(now) => now,
+                Err(fault) => return Err(fault),
+            };
+            *turn = noted(*turn, meter, taken.is_answered, now);
+            if let Some(over) = self.over(listener, times, turn, now) {
                 return Ok(Some(Ending::Over(over)));
             }
         }
@@ -233,50 +299,77 @@ impl<R: Clock, S: Drop, P: Pages, E: Write> Site<'_, '_, '_, R, S, P, E> {
 
     /// Answers a client until the connection ends. Behind each frame, and once a second where no bytes come, it looks at the clock, and
     /// once in each of its seconds whether another connection waits.
-    fn talk<L: OpenListener<Stream = S>, T: Read + Write>(
+    fn talk<L: OpenListener<Stream = S>, T: End, P: Pages>(
         &mut self,
+        meter: &mut Meter<P>,
         listener: &L,
         stream: &mut T,
-    ) -> Result<Ending, LoopFault> {
+    ) -> Result<Ending, LoopFault>
+        ensures { Talks self.old.times (T.past stream.old) (T.past stream.new) meter.old result meter.new }
+    {
+        let times = self.times;
         let mut piece = [0u8; PIECE];
-        let mut stream = Counted::new(stream);
-        let mut turn = Turn::begins(self.look()?);
+        let first = match self.look(meter) {
+            Ok(first) => first,
+            Err(fault) => return Err(fault),
+        };
+        let mut turn = Turn::begins(first);
         self.asked = None;
-        for _ in 0..u64::MAX {
-            let now = self.look()?;
-            if let Some(over) = self.over(listener, &mut turn, now) {
+        'rounds: for _round in 0..u64::MAX {
+            let now = match self.look(meter) {
+                Ok(now) => now,
+                Err(fault) => return Err(fault),
+            };
+            if let Some(over) = self.over(listener, times, &mut turn, now) {
                 return Ok(Ending::Over(over));
             }
-            let count = match hear(&mut stream, &mut piece) {
-                Ok(Heard::Bytes(count)) => count,
-                Ok(Heard::Silence) => 0,
+            let count = match read_piece(stream, &mut piece) {
+                Ok(count) => count,
                 Err(error) => return Ok(ending_of(error)),
             };
             let bytes = bytes_of(&piece, count);
-            if let Some(ending) = self.answer_each(listener, &mut stream, &mut turn, bytes)? {
-                return Ok(ending);
+            match self.answer_each(meter, listener, stream, times, &mut turn, bytes) {
+                Ok(None) => {}
+                Ok(Some(ending)) => return Ok(ending),
+                Err(fault) => return Err(fault),
             }
         }
-        Ok(Ending::Over(Over::Inactive))
+        Err(LoopFault::Io)
+    }
+
+    /// Answers a client over a stream that takes its times.
+    fn answer_client<L: OpenListener<Stream = S>, P: Pages>(
+        &mut self,
+        meter: &mut Meter<P>,
+        listener: &L,
+        stream: &mut S,
+    ) -> Result<Ending, LoopFault>
+    where
+        S: Read + Write + OpenStream,
+        ensures calls { (calls : List Call) × Calls meter.old calls meter.new }
+    {
+        match prepare(stream) {
+            Ok(()) => self.talk(meter, listener, stream),
+            Err(error) => Ok(Ending::Failed(error)),
+        }
     }
 
     /// Serves one connection. No client's link is up when it begins, and none behind its end.
-    fn serve_one<L: OpenListener<Stream = S>>(
+    fn serve_one<L: OpenListener<Stream = S>, P: Pages>(
         &mut self,
+        meter: &mut Meter<P>,
         listener: &L,
         peer: Peer<S>,
     ) -> Result<(), LoopFault>
     where
         S: Read + Write + OpenStream,
+        ensures calls { (calls : List Call) × Calls meter.old calls meter.new }
     {
         let Peer { stream, address } = peer;
         let mut stream = stream;
-        hang_up(self.meter);
-        let ending = match prepare(&stream) {
-            Ok(()) => self.talk(listener, &mut stream)?,
-            Err(error) => Ending::Failed(error),
-        };
-        hang_up(self.meter);
+        hang_up(meter);
+        let ending = self.answer_client(meter, listener, &mut stream)?;
+        hang_up(meter);
         if matches!(ending, Ending::Over(Over::Refused)) {
             let now = self.start.elapsed(self.rt)?.as_secs();
             self.barred.bar(address.ip(), now);
@@ -332,31 +425,48 @@ fn announce<L: OpenListener, W: Write>(listener: &L, output: &mut W) -> io::Resu
     output.flush()
 }
 
-/// Serves one connection after another. While there is none, the clock is looked at a hundred times a second.
-fn serve_all<'f, R: Clock, L: OpenListener, P: Pages, E: Write>(
-    site: &mut Site<'_, '_, '_, R, L::Stream, P, E>,
+/// Looks at the clock, and serves a connection where there is one. While there is none, that takes a hundredth of a second.
+fn serve_next<'f, R: Clock, L: OpenListener, P: Pages, E: Write>(
+    site: &mut Site<'_, '_, R, L::Stream, E>,
+    meter: &mut Meter<P>,
     listener: &L,
     address: &'f str,
 ) -> Result<(), FieldFault<'f>>
 where
     L::Stream: Read + Write + OpenStream,
+    ensures calls { (calls : List Call) × Calls meter.old calls meter.new }
 {
-    for _ in 0..u64::MAX {
-        let now = site.look()?;
-        match site.next_connection(listener, now) {
-            Ok(Some(peer)) => {
-                site.stumbled = false;
-                site.serve_one(listener, peer)?;
-            }
-            Ok(None) => {}
-            Err(error) => {
-                if !passes(error) {
-                    return Err(FieldFault::System(address, error));
-                }
-                site.stumble(error);
-                thread::sleep(site.rt, Duration::from_millis(PAUSE_MILLISECONDS));
-            }
+    let now = site.look(meter)?;
+    match site.next_connection(listener, now) {
+        Ok(Some(peer)) => {
+            site.stumbled = false;
+            Ok(site.serve_one(meter, listener, peer)?)
         }
+        Ok(None) => Ok(()),
+        Err(error) => {
+            if !passes(error) {
+                return Err(FieldFault::System(address, error));
+            }
+            site.stumble(error);
+            thread::sleep(site.rt, Duration::from_millis(PAUSE_MILLISECONDS));
+            Ok(())
+        }
+    }
+}
+
+/// Serves one connection after another.
+fn serve_all<'f, R: Clock, L: OpenListener, P: Pages, E: Write>(
+    site: &mut Site<'_, '_, R, L::Stream, E>,
+    meter: &mut Meter<P>,
+    listener: &L,
+    address: &'f str,
+) -> Result<(), FieldFault<'f>>
+where
+    L::Stream: Read + Write + OpenStream,
+    ensures calls { (calls : List Call) × Calls meter.old calls meter.new }
+{
+    'connections: for _next in 0..u64::MAX {
+        serve_next(site, meter, listener, address)?;
     }
     Ok(())
 }
@@ -372,7 +482,9 @@ pub fn serve<'a, R: Net + Clock + AllocGlobal, P: Pages, W: Write, E: Write>(
     serving: &Serving<'a>,
     output: &mut W,
     errors: &mut E,
-) -> Result<(), FieldFault<'a>> {
+) -> Result<(), FieldFault<'a>>
+    ensures calls { (calls : List Call) × Calls meter.old calls meter.new }
+{
     let start = match Instant::now(rt) {
         Ok(start) => start,
         Err(error) => return Err(FieldFault::Other(LoopFault::from(error))),
@@ -392,7 +504,6 @@ pub fn serve<'a, R: Net + Clock + AllocGlobal, P: Pages, W: Write, E: Write>(
     };
     let mut site = Site {
         rt,
-        meter,
         ticks,
         tick: serving.tick,
         times: serving.times,
@@ -405,5 +516,5 @@ pub fn serve<'a, R: Net + Clock + AllocGlobal, P: Pages, W: Write, E: Write>(
         log,
         errors,
     };
-    serve_all(&mut site, &listener, serving.address)
+    serve_all(&mut site, meter, &listener, serving.address)
 }

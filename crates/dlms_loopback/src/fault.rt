@@ -1,5 +1,6 @@
 //! Why a loopback ended early.
 ghost use Rattle.std.specs.Prelude.{◌≡◌};
+ghost use Rattle.dlms_loopback.specs.Faults.{TellsError};
 ghost use Rattle.dlms_loopback.specs.declared.fault.LoopFault.TheVariants.{Open as OpenOf, Add as AddOf, Poll as PollOf, Readings as ReadingsOf, Memory as MemoryOf};
 
 use dlms_headend::{ColumnList, PollFault, ReadingsFault};
@@ -82,6 +83,8 @@ impl From<AllocError> for LoopFault {
 }
 
 impl From<io::Error> for LoopFault {
+    ghost from_gives = { TellsError };
+
     fn from(e: io::Error) -> LoopFault {
         if e.kind() == ErrorKind::OutOfMemory {
             LoopFault::Memory

@@ -1,198 +1,198 @@
-//! The place of a file of readings: one program at a time has it, and a whole text stands there, or none.
-use dlms_pages::{LockFile, sync_folder};
-use std::fs::{File, Files, Metadata, OpenOptions};
-use std::io::{ErrorKind, Read, Write};
-use std::os::fd::AsFd;
-use std::os::unix::fs::{MetadataExt, OpenOptionsExt, fchown};
-use std::{fs, io};
+//! The place where a readings file stands, and what is put there.
+ghost use Rattle.std.specs.Prelude.{◌≡◌, List, ℕ, Option, None, [], ◌∷◌, drop, string_bytes, OnOk};
+ghost use Rattle.std.specs.Io.KnownBytes.{Appends};
+ghost use Rattle.dlms_headend.specs.Rows.{AreReadings};
+ghost use Rattle.dlms_loopback.specs.Filing.{Asked, Asks, KeepsRows, FilesRows, MergesInto, OpensRows, Gives, IsPut, asked_of, has_passed, text_in};
+ghost use Rattle.dlms_loopback.specs.Filing.Asked.{Opens, Lays, Puts, Drops};
+ghost use Rattle.dlms_loopback.specs.declared.filing.FilingFault.TheVariants.{Memory as MemoryOf};
 
-/// The permissions of a lock, and of a new text that takes the place of an old one: its owner alone has it. Who may open a
-/// lock may keep others out.
-const OWNER_ALONE: u32 = 0o600;
+use dlms_headend::{Readings, ReadingsFault, Row};
+use std::alloc::{AllocError, Global};
+use std::io;
+use std::io::Write;
 
-/// The permissions of a text where there was none, less what the system's mask takes.
-const EVERYONE: u32 = 0o666;
-
-/// Where the system gives random octets.
-const RANDOM: &str = "/dev/urandom";
-
-/// How many names are tried for a new text.
-const NAMES: u64 = 16;
-
-/// The place of a file of readings: the file that its name stands for at the end of all links, be it there or not. It is
-/// locked as long as this is there, also where the program is killed: the lock is of a file beside it, to its name and
-/// `.lock`, which is made, and stays.
-#[derive(Drop)]
-pub struct Place {
-    path: String,
-    _lock: File,
+/// Why rows were not filed.
+#[derive(Clone, Copy, Debug)]
+pub enum FilingFault {
+    /// A growth was refused.
+    Memory,
+    /// What is new could not be printed.
+    Output,
+    /// A call of the place failed, for which the system has these words.
+    Place(io::Error),
 }
 
-/// A new text beside the file's, which outlasts a stop.
-#[derive(Drop)]
-pub struct Beside {
-    path: String,
-}
+impl From<AllocError> for FilingFault {
+    ghost from_gives = { λ fault given. given ≡ MemoryOf };
 
-/// The fault of a name that is no plain file's.
-fn no_plain_file() -> io::Error {
-    io::Error::new(ErrorKind::InvalidInput, "no plain file")
-}
-
-/// A name that leads to no file: its own, where its folder is there. A link that leads nowhere is a fault.
-fn absent<R: Files + AllocGlobal>(rt: &R, file: &str, missing: io::Error) -> io::Result<String> {
-    if fs::symlink_metadata(rt, file).is_ok() {
-        return Err(missing);
-    }
-    sync_folder(rt, file)?;
-    Ok(String::from_str(rt.alloc(), file)?)
-}
-
-/// The name at the end of the links that begin at this one.
-fn end_of<R: Files + AllocGlobal>(rt: &R, file: &str) -> io::Result<String> {
-    match fs::canonicalize(rt, file) {
-        Ok(path) => {
-            let path = path.into_string();
-            if fs::metadata(rt, path.as_str())?.is_file() {
-                Ok(path)
-            } else {
-                Err(no_plain_file())
-            }
-        }
-        Err(e) if e.kind() == ErrorKind::NotFound => absent(rt, file, e),
-        Err(e) => Err(e),
+    fn from(_fault: AllocError) -> FilingFault {
+        FilingFault::Memory
     }
 }
 
-/// Makes a file that was not there, of these permissions. No link is followed.
-fn made<R: Files<File = File>>(rt: &R, path: &str, mode: u32) -> io::Result<File> {
-    OpenOptions::new()
-        .write(true)
-        .create_new(true)
-        .mode(mode)
-        .open(rt, path)
+/// Why readings were not opened.
+#[derive(Clone, Copy, Debug)]
+pub enum OpeningFault {
+    /// The call of the place failed, for which the system has these words.
+    Place(io::Error),
+    /// The text is no file of readings, or memory ran out.
+    Readings(ReadingsFault),
 }
 
-/// The file of a lock, made where it is not there. No link is followed.
-fn lock_file<R: Files<File = File>>(rt: &R, path: &str) -> io::Result<File> {
-    match made(rt, path, OWNER_ALONE) {
-        Err(e) if e.kind() == ErrorKind::AlreadyExists => {}
-        made => return made,
-    }
-    if fs::symlink_metadata(rt, path)?.is_file() {
-        OpenOptions::new().write(true).open(rt, path)
-    } else {
-        Err(no_plain_file())
-    }
+/// Where a text of readings stands.
+pub trait Filing {
+    /// What was asked of it, in order, and what came of each call, where that is known. Of a file it is not; what code does that
+    /// takes any place holds of those of which it is known too.
+    ghost asked: { Self → Option (List Asked) } = { λ _. None };
+
+    /// The text that stands there. Where there is none it is empty.
+    fn text(&mut self, alloc: Global) -> io::Result<String>
+        ensures { Asks (asked self.old) (asked self.new) (Opens (text_in result) ∷ []) };
+
+    /// Lays a new text beside the one that stands there, and makes it outlast a stop.
+    fn lay(&mut self, text: &str) -> io::Result<()>
+        ensures { Asks (asked self.old) (asked self.new) (Lays text.now (has_passed result) ∷ []) };
+
+    /// Puts the text that was laid last in the place of the one that stands there, whole. Where that fails, or is stopped, either
+    /// stands there.
+    fn put(&mut self) -> io::Result<()>
+        ensures { Asks (asked self.old) (asked self.new) (Puts (has_passed result) ∷ []) };
+
+    /// Takes the text that was laid away.
+    fn drop_laid(&mut self)
+        ensures { Asks (asked self.old) (asked self.new) (Drops ∷ []) };
 }
 
-/// The lock beside a file, held.
-fn locked<R: Files<File = File> + AllocGlobal>(rt: &R, file: &str) -> io::Result<File> {
-    let path = format!(in rt.alloc(); "{file}.lock")?;
-    let lock = lock_file(rt, path.as_str())?;
-    lock.lock_alone()?;
-    Ok(lock)
-}
+/// Where there is no place the text is empty, and what is put stands nowhere.
+impl<F: Filing> Filing for Option<F> {
+    ghost asked = { asked_of F.asked };
 
-/// A number that nobody knows beforehand, where the system gives random octets.
-fn number<R: Files>(rt: &R) -> u64 {
-    let mut octets = [0u8; 8];
-    if let Ok(mut random) = fs::open(rt, RANDOM) {
-        let _filled = random.read_exact(&mut octets);
-    }
-    u64::from_be_bytes(octets)
-}
-
-/// A file beside this one that was not there, and its name, which has a number that nobody knows beforehand.
-fn made_beside<R: Files<File = File> + AllocGlobal>(
-    rt: &R,
-    path: &str,
-    mode: u32,
-) -> io::Result<(Beside, File)> {
-    let first = number(rt);
-    let mut taken = io::Error::from(ErrorKind::AlreadyExists);
-    for further in 0..NAMES {
-        let number = first.wrapping_add(further);
-        let name = format!(in rt.alloc(); "{path}.{number:016x}.new")?;
-        match made(rt, name.as_str(), mode) {
-            Ok(file) => return Ok((Beside { path: name }, file)),
-            Err(e) if e.kind() == ErrorKind::AlreadyExists => taken = e,
-            Err(e) => return Err(e),
-        }
-    }
-    Err(taken)
-}
-
-/// Gives a file the group and the owner of an old one, where the system lets it, and its permissions.
-fn take_after(file: &File, old: &Metadata) -> io::Result<()> {
-    let _group = fchown(file.as_fd(), None, Some(old.gid()));
-    let _owner = fchown(file.as_fd(), Some(old.uid()), None);
-    file.set_permissions(old.permissions())
-}
-
-/// Writes the text, and makes it outlast a stop.
-fn fill(file: &mut File, text: &str) -> io::Result<()> {
-    file.write_all(text.as_bytes())?;
-    file.sync_all()
-}
-
-impl Place {
-    /// The place that this name stands for, which nobody else has then. Another program that has it, a link that leads
-    /// nowhere, a name of no plain file, and a folder that is not there are faults.
-    pub fn open<R: Files<File = File> + AllocGlobal>(rt: &R, file: &str) -> io::Result<Place> {
-        let path = end_of(rt, file)?;
-        let lock = locked(rt, path.as_str())?;
-        Ok(Place { path, _lock: lock })
-    }
-
-    /// The text of the file; an absent one is empty. A file that is no UTF-8 is a fault.
-    pub fn text<R: Files + AllocGlobal>(&self, rt: &R) -> io::Result<String> {
-        match fs::read_to_string(rt, self.path.as_str()) {
-            Err(e) if e.kind() == ErrorKind::NotFound => Ok(String::new(rt.alloc())),
-            read => read,
+    fn text(&mut self, alloc: Global) -> io::Result<String> {
+        match self {
+            Some(place) => place.text(alloc),
+            None => Ok(String::new(alloc)),
         }
     }
 
-    /// Writes a new text beside the file's, and syncs it. It has the permissions of the old one, and its group and owner
-    /// where the system lets it. The file stays as it is; where a call fails, nothing stands beside it.
-    pub fn write<R: Files<File = File> + AllocGlobal>(
-        &self,
-        rt: &R,
-        text: &str,
-    ) -> io::Result<Beside> {
-        let old = fs::metadata(rt, self.path.as_str());
-        let mode = if old.is_ok() { OWNER_ALONE } else { EVERYONE };
-        let (beside, file) = made_beside(rt, self.path.as_str(), mode)?;
-        let mut file = file;
-        let taken = match &old {
-            Ok(old) => take_after(&file, old),
-            Err(_) => Ok(()),
-        };
-        match taken.and_then(|()| fill(&mut file, text)) {
-            Ok(()) => Ok(beside),
-            Err(e) => {
-                beside.drop_text(rt);
-                Err(e)
-            }
+    fn lay(&mut self, text: &str) -> io::Result<()> {
+        match self {
+            Some(place) => place.lay(text),
+            None => Ok(()),
         }
     }
 
-    /// Puts the new text in the place of the file's, and syncs the folder. A stop at any moment leaves the old text or the
-    /// new one, whole.
-    pub fn put<R: Files>(&self, rt: &R, beside: Beside) -> io::Result<()> {
-        match fs::rename(rt, beside.path.as_str(), self.path.as_str()) {
-            Ok(()) => sync_folder(rt, self.path.as_str()),
-            Err(e) => {
-                beside.drop_text(rt);
-                Err(e)
-            }
+    fn put(&mut self) -> io::Result<()> {
+        match self {
+            Some(place) => place.put(),
+            None => Ok(()),
+        }
+    }
+
+    fn drop_laid(&mut self) {
+        if let Some(place) = self {
+            place.drop_laid();
         }
     }
 }
 
-impl Beside {
-    /// Takes the new text away again.
-    pub fn drop_text<R: Files>(&self, rt: &R) {
-        let _removed = fs::remove_file(rt, self.path.as_str());
+/// The readings that stand there.
+pub fn open_rows<F: Filing>(alloc: Global, place: &mut F) -> Result<Readings, OpeningFault>
+    ensures { OpensRows (F.asked place.old) (F.asked place.new) result }
+{
+    let text = match place.text(alloc) {
+        Ok(text) => text,
+        Err(error) => return Err(OpeningFault::Place(error)),
+    };
+    match Readings::open(alloc, text.as_str()) {
+        Ok(readings) => Ok(readings),
+        Err(fault) => Err(OpeningFault::Readings(fault)),
     }
+}
+
+/// Lays a text, and puts it in its place.
+fn replace<F: Filing>(place: &mut F, text: &str) -> io::Result<()>
+    ensures { IsPut (F.asked place.old) (F.asked place.new) text.now result }
+{
+    place.lay(text)?;
+    place.put()
+}
+
+/// Merges the rows into the readings, and gives the text of the result. Where memory runs out the rows may have been merged.
+fn merged_text(readings: &mut Readings, rows: &[Row]) -> Result<String, FilingFault>
+    requires { AreReadings rows.now }
+    ensures { MergesInto readings.old rows.now result readings.new }
+{
+    let _added = readings.merge(rows)?;
+    Ok(readings.text()?)
+}
+
+/// Merges the rows of a poll that is done into the readings, and puts their text in the place of the one that stands there.
+pub fn keep_rows<F: Filing>(
+    place: &mut F,
+    readings: &mut Readings,
+    rows: &[Row],
+) -> Result<(), FilingFault>
+    requires { AreReadings rows.now }
+    ensures { KeepsRows (F.asked place.old) (F.asked place.new) readings.old rows.now result readings.new }
+{
+    let text = merged_text(readings, rows)?;
+    match replace(place, text.as_str()) {
+        Ok(()) => Ok(()),
+        Err(error) => Err(FilingFault::Place(error)),
+    }
+}
+
+/// Prints these bytes, and sends them out.
+fn print<W: Write>(output: &mut W, bytes: &[u8]) -> io::Result<()>
+    ensures { OnOk result (Appends (W.contents output.old) (W.contents output.new) bytes.now) }
+{
+    output.write_all(bytes)?;
+    output.flush()
+}
+
+/// Lays a text, prints what is new in it, and puts it in its place.
+fn give<F: Filing, W: Write>(
+    place: &mut F,
+    text: &str,
+    news: &[u8],
+    output: &mut W,
+) -> Result<(), FilingFault>
+    ensures { Gives (F.asked place.old) (F.asked place.new) (W.contents output.old) (W.contents output.new) text.now news.now result }
+{
+    if let Err(error) = place.lay(text) {
+        return Err(FilingFault::Place(error));
+    }
+    if print(output, news).is_err() {
+        place.drop_laid();
+        return Err(FilingFault::Output);
+    }
+    match place.put() {
+        Ok(()) => Ok(()),
+        Err(error) => Err(FilingFault::Place(error)),
+    }
+}
+
+/// What stands behind so many bytes.
+pub fn bytes_behind(bytes: &[u8], count: usize) -> &[u8]
+    ensures { result.now ≡ drop count bytes.now }
+{
+    bytes.get(count..).unwrap_or(&[])
+}
+
+/// Merges the rows of a poll that is done into the readings, prints the lines of those that are new, and puts the text in the
+/// place of the one that stands there. A row is printed before its text stands there: whoever stops in between, or fails, has
+/// printed each row that stands there, and one that was printed and does not stand there comes again.
+pub fn file_rows<F: Filing, W: Write>(
+    place: &mut F,
+    readings: &mut Readings,
+    rows: &[Row],
+    output: &mut W,
+) -> Result<(), FilingFault>
+    requires { AreReadings rows.now }
+    ensures { FilesRows (F.asked place.old) (F.asked place.new) (W.contents output.old) (W.contents output.new) readings.old rows.now result readings.new }
+{
+    let before = readings.text()?.len();
+    let text = merged_text(readings, rows)?;
+    let news = bytes_behind(text.as_bytes(), before);
+    give(place, text.as_str(), news, output)
 }

@@ -1,11 +1,17 @@
 //! The head end's end of a line.
-use crate::end::{Heard, PIECE, READS, bytes_of, hear};
+ghost use Rattle.std.specs.Prelude.{◌≡◌, ◌≤◌, ◌<◌, ◌-◌, None, [], IfErr, OnOk};
+ghost use Rattle.dlms_frame.specs.Frame.{spelling};
+ghost use Rattle.dlms_frame.specs.Stream.{Fits};
+ghost use Rattle.dlms_headend.specs.declared.poll_fault.PollFault.TheVariants.{Protocol};
+ghost use Rattle.dlms_loopback.specs.Moments.{Puts};
+ghost use Rattle.dlms_loopback.specs.Calling.{HeadWorld, IsAt, IsIn, Begins, Repeats, TakesFrame, TakesPiece, TakesTurn};
+
+use crate::end::{End, Heard, PIECE, READS, bytes_of};
 use crate::fault::LoopFault;
 use dlms_frame::{Deframer, Frame};
 use dlms_headend::{PollFault, PollStep, Poller, list_columns};
 use std::alloc::{Allocator, Global};
 use std::io;
-use std::io::{Read, Write};
 
 /// The most bytes of a poll, those of some sixty thousand rows: more than a year of quarters of an hour.
 pub const MOST_BYTES: usize = 2_097_152;
@@ -27,16 +33,21 @@ pub struct HeadEnd<A: Allocator = Global> {
     left: usize,
 }
 
-fn send<W: Write>(end: &mut W, frame: &Frame) -> io::Result<()> {
-    end.write_all(frame.put().as_slice())
+fn send<W: End>(end: &mut W, frame: &Frame) -> io::Result<()>
+    ensures { Puts (W.past end.old) (W.past end.new) (spelling frame.now) result }
+{
+    end.put(frame.put().as_slice())
 }
 
 impl<A: Allocator + Copy> HeadEnd<A> {
     /// Sends the poll's first frame.
-    pub fn begin<W: Write>(end: &mut W, poller: Poller<A>) -> io::Result<Self> {
+    pub fn begin<W: End>(end: &mut W, poller: Poller<A>) -> io::Result<Self>
+        ensures { Begins (W.past end.old) (W.past end.new) poller result }
+    {
         let mut poller = poller;
-        if let Some(frame) = poller.next() {
-            send(end, &frame)?;
+        match poller.next() {
+            Some(frame) => send(end, &frame)?,
+            None => {}
         }
         Ok(HeadEnd {
             deframer: Deframer::new(),
@@ -46,16 +57,18 @@ impl<A: Allocator + Copy> HeadEnd<A> {
     }
 
     /// The poll as it stands.
-    pub fn into_poller(self) -> Poller<A> {
+    pub fn into_poller(self) -> Poller<A>
+        ensures { result ≡ self.poller }
+    {
         self.poller
     }
 
     /// Takes a frame. Where the poll ends for the meter's columns, the answer tells which they are.
-    fn take_frame<W: Write>(
-        &mut self,
-        end: &mut W,
-        frame: &Frame,
-    ) -> Result<Option<Turn>, LoopFault> {
+    fn take_frame<W: End>(&mut self, end: &mut W, frame: &Frame) -> Result<Option<Turn>, LoopFault>
+        ensures frame { TakesFrame (W.past end.old) (W.past end.new) self.old.poller frame.now result self.new.poller }
+        ensures deframer { self.new.deframer ≡ self.old.deframer }
+        ensures left { self.new.left ≡ self.old.left }
+    {
         match self.poller.on(frame) {
             Ok(PollStep::Nothing) => Ok(None),
             Ok(PollStep::Send(next)) => {
@@ -72,27 +85,33 @@ impl<A: Allocator + Copy> HeadEnd<A> {
 
     /// Takes the frames among the bytes, up to the one that is answered or ends the poll. What stands behind it came before
     /// the question that is out now, and is dropped.
-    fn take<W: Write>(&mut self, end: &mut W, bytes: &[u8]) -> Result<Option<Turn>, LoopFault> {
+    fn take<W: End>(&mut self, end: &mut W, bytes: &[u8]) -> Result<Option<Turn>, LoopFault>
+        ensures { (h : HeadWorld) → IsAt self.old h → h.rest ≡ bytes.now → TakesPiece (W.past end.old) (W.past end.new) h self.new result }
+    {
         let mut rest = bytes;
-        for _ in 0..bytes.len() {
-            if rest.is_empty() {
-                break;
-            }
+        'frames: while !rest.is_empty() {
             let (taken, frame) = self.deframer.feed(rest);
-            rest = rest.get(taken..).unwrap_or(&[]);
-            let Some(frame) = frame else {
-                continue;
-            };
-            if let Some(turn) = self.take_frame(end, &frame)? {
-                self.deframer.idle();
-                return Ok(Some(turn));
+            match frame {
+                Some(frame) => match self.take_frame(end, &frame)? {
+                    Some(turn) => {
+                        self.deframer.idle();
+                        return Ok(Some(turn));
+                    }
+                    None => {}
+                },
+                None => {}
             }
+            rest = &rest[taken..];
         }
         Ok(None)
     }
 
     /// So many bytes more have come. More than a poll may have are a fault.
-    fn count(&mut self, bytes: usize) -> Result<(), LoopFault> {
+    fn count(&mut self, bytes: usize) -> Result<(), LoopFault>
+        ensures within { OnOk result (bytes ≤ self.old.left) }
+        ensures counted { OnOk result (self.new ≡ record self.old { left = self.old.left - bytes }) }
+        ensures more { IfErr result (λ fault. (fault ≡ LoopFault.Poll Protocol) × (self.old.left < bytes) × (self.new ≡ self.old)) }
+    {
         match self.left.checked_sub(bytes) {
             Some(left) => {
                 self.left = left;
@@ -103,7 +122,11 @@ impl<A: Allocator + Copy> HeadEnd<A> {
     }
 
     /// Nothing came: the frame that is out goes again, and the fourth time-out in a row is a fault.
-    fn repeat<W: Write>(&mut self, end: &mut W) -> Result<Turn, LoopFault> {
+    fn repeat<W: End>(&mut self, end: &mut W) -> Result<Turn, LoopFault>
+        ensures again { Repeats (W.past end.old) (W.past end.new) self.old.poller result self.new.poller }
+        ensures idle { Fits self.new.deframer [] 0 }
+        ensures left { self.new.left ≡ self.old.left }
+    {
         self.deframer.idle();
         if !self.poller.is_waiting() {
             return Err(LoopFault::Poll(PollFault::Line));
@@ -113,18 +136,24 @@ impl<A: Allocator + Copy> HeadEnd<A> {
         Ok(Turn::Sent)
     }
 
-    /// The head end takes what comes, until a frame of its own is out or the poll is done.
-    pub fn turn<S: Read + Write>(&mut self, end: &mut S) -> Result<Turn, LoopFault> {
+    /// The head end takes what comes, until a frame of its own is out or the poll is done. What comes in more than so many pieces
+    /// without one is a fault of the line.
+    pub fn turn<S: End>(&mut self, end: &mut S) -> Result<Turn, LoopFault>
+        ensures { (h : HeadWorld) → IsIn self.old h → TakesTurn (S.past end.old) (S.past end.new) h self.new result }
+    {
         let mut piece = [0u8; PIECE];
-        for _ in 0..READS {
-            let Heard::Bytes(count) = hear(end, &mut piece)? else {
-                break;
-            };
-            self.count(count)?;
-            if let Some(turn) = self.take(end, bytes_of(&piece, count))? {
-                return Ok(turn);
+        'reads: for _read in 0..READS {
+            match end.hear(&mut piece)? {
+                Heard::Silence => return self.repeat(end),
+                Heard::Bytes(count) => {
+                    self.count(count)?;
+                    match self.take(end, bytes_of(&piece, count))? {
+                        Some(turn) => return Ok(turn),
+                        None => {}
+                    }
+                }
             }
         }
-        self.repeat(end)
+        Err(LoopFault::Poll(PollFault::Line))
     }
 }

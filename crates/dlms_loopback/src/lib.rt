@@ -6,15 +6,21 @@ mod fault;
 mod filing;
 mod head_end;
 mod meter_end;
+mod place;
 mod polling;
 mod rounds;
+#[cfg(test)]
+mod script;
 mod socket;
 
-pub use end::{Heard, PIECE, bytes_of, hear};
+pub use end::{End, Heard, PIECE, bytes_of};
 pub use fault::LoopFault;
-pub use filing::{Beside, Place};
+pub use filing::{
+    Filing, FilingFault, OpeningFault, bytes_behind, file_rows, keep_rows, open_rows,
+};
 pub use head_end::{HeadEnd, MOST_BYTES, Turn};
 pub use meter_end::{Taken, answer};
+pub use place::FilePlace;
 pub use polling::{TURNS, poll, poller};
 pub use rounds::loopback;
 pub use socket::{Line, ends};

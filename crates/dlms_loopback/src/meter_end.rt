@@ -1,13 +1,13 @@
 //! The meter's end of a line.
-ghost use Rattle.std.specs.Prelude.{◌≡◌, ◌≤◌, ◌<◌, ◌↔◌, ℕ, List, Option, length, take, IfOk, IsSome, IsTrue};
-ghost use Rattle.dlms_meter.specs.Run.{Feeds};
+ghost use Rattle.std.specs.Prelude.{◌≤◌, ◌<◌, length, IfOk};
+ghost use Rattle.dlms_meter.specs.Run.{MeterWorld, Stands};
+ghost use Rattle.dlms_loopback.specs.Serving.{AnswersFrame, AnswersPiece, TakesTurn};
 
-use crate::end::{Heard, PIECE, READS, bytes_of, hear};
+use crate::end::{End, Heard, PIECE, READS, bytes_of};
 use dlms_meter::Meter;
 use dlms_pages::Pages;
 use std::alloc::Allocator;
 use std::io;
-use std::io::{Read, Write};
 
 /// What the meter took of some bytes.
 #[derive(Clone, Copy, Debug, PartialEq, Eq)]
@@ -18,21 +18,20 @@ pub struct Taken {
     pub is_answered: bool,
 }
 
-/// Gives the meter bytes through one frame at most, and writes its reply where there is one. Where that cannot be written the meter
+/// Gives the meter bytes through one frame at most, and puts its reply where there is one. Where that cannot be put the meter
 /// has taken the frame all the same.
-pub fn answer<W: Write, P: Pages, A: Allocator + Copy>(
+pub fn answer<W: End, P: Pages, A: Allocator + Copy>(
     end: &mut W,
     meter: &mut Meter<P, A>,
     bytes: &[u8],
 ) -> io::Result<Taken>
     ensures some { IfOk result (λ taken. (taken.count ≤ length bytes.now) × (0 < length bytes.now → 0 < taken.count)) }
-    ensures call { (count : ℕ) × (reply : Option (List ℕ)) × Feeds meter.old (take count bytes.now) reply meter.new
-        × IfOk result (λ taken. (taken.count ≡ count) × (IsTrue taken.is_answered ↔ IsSome reply)) }
+    ensures call { AnswersFrame (W.past end.old) (W.past end.new) meter.old bytes.now result meter.new }
 {
     let (count, reply) = meter.feed(bytes);
     match reply {
         Some(reply) => {
-            end.write_all(reply.as_slice())?;
+            end.put(reply.as_slice())?;
             Ok(Taken {
                 count,
                 is_answered: true,
@@ -45,39 +44,45 @@ pub fn answer<W: Write, P: Pages, A: Allocator + Copy>(
     }
 }
 
-/// Writes the meter's reply to each frame among the bytes, and says whether there was one.
-fn answer_all<W: Write, P: Pages, A: Allocator + Copy>(
+/// Puts the meter's reply to each frame among the bytes, and says whether there was one. Where a reply cannot be put, the bytes
+/// behind its frame are not fed.
+fn answer_all<W: End, P: Pages, A: Allocator + Copy>(
     end: &mut W,
     meter: &mut Meter<P, A>,
     bytes: &[u8],
-) -> io::Result<bool> {
+) -> io::Result<bool>
+    ensures { (w : MeterWorld) → Stands meter.old w → AnswersPiece (W.past end.old) (W.past end.new) w bytes.now result meter.new }
+{
     let mut rest = bytes;
     let mut is_answered = false;
-    for _ in 0..bytes.len() {
-        if rest.is_empty() {
-            break;
-        }
+    'frames: while !rest.is_empty() {
         let taken = answer(end, meter, rest)?;
-        rest = rest.get(taken.count..).unwrap_or(&[]);
-        is_answered = is_answered || taken.is_answered;
+        is_answered |= taken.is_answered;
+        rest = &rest[taken.count..];
     }
     Ok(is_answered)
 }
 
 /// The meter takes what comes, until it has answered or nothing more comes; then half a frame is forgotten.
-pub fn turn<S: Read + Write, P: Pages, A: Allocator + Copy>(
+pub fn turn<S: End, P: Pages, A: Allocator + Copy>(
     end: &mut S,
     meter: &mut Meter<P, A>,
-) -> io::Result<()> {
+) -> io::Result<()>
+    ensures { (w : MeterWorld) → Stands meter.old w → TakesTurn (S.past end.old) (S.past end.new) w result meter.new }
+{
     let mut piece = [0u8; PIECE];
-    for _ in 0..READS {
-        let Heard::Bytes(count) = hear(end, &mut piece)? else {
-            break;
-        };
-        if answer_all(end, meter, bytes_of(&piece, count))? {
-            return Ok(());
+    'reads: for _read in 0..READS {
+        match end.hear(&mut piece)? {
+            Heard::Silence => {
+                meter.idle();
+                return Ok(());
+            }
+            Heard::Bytes(count) => {
+                if answer_all(end, meter, bytes_of(&piece, count))? {
+                    return Ok(());
+                }
+            }
         }
     }
-    meter.idle();
     Ok(())
 }

@@ -1,9 +1,14 @@
 //! The loopback: a meter in memory, polled over a socket, and its readings filed.
 
-ghost use Rattle.std.specs.Prelude.{◌≤◌, IfSome};
+ghost use Rattle.std.specs.Prelude.{◌≡◌, ◌≤◌, ◌↔◌, ℕ, List, IfSome, IsOk};
+ghost use Rattle.dlms_headend.specs.Merged.{last_clock};
+ghost use Rattle.dlms_headend.specs.Polling.{fresh_poll};
+ghost use Rattle.dlms_loopback.specs.Filing.{ReadsRows, plan_from};
 
+use crate::end::End;
 use crate::fault::LoopFault;
-use crate::filing::Place;
+use crate::filing::{Filing, FilingFault, OpeningFault, keep_rows, open_rows};
+use crate::place::FilePlace;
 use crate::polling::{poll, poller};
 use crate::socket::{Line, ends};
 use arrayvec::ArrayVec;
@@ -16,7 +21,7 @@ use dlms_store::PAGES;
 use std::alloc::Global;
 use std::fs::{File, Files};
 use std::io;
-use std::io::{Read, Write};
+use std::io::Write;
 use std::net::Net;
 
 /// Management's first secret.
@@ -28,90 +33,58 @@ const PERIOD: u32 = 900;
 /// A meter over pages in memory.
 type MemoryMeter = Meter<MemoryPages<Global>, Global>;
 
-/// What was read so far, the place where it stands, and what the system said where that place failed.
-#[derive(Drop)]
-struct Filed<'a> {
-    readings: Readings,
-    place: Option<Place>,
-    told: &'a mut Option<io::Error>,
+/// Keeps what the system says of the file.
+fn tell(told: &mut Option<io::Error>, error: io::Error) -> LoopFault {
+    *told = Some(error);
+    LoopFault::from(error)
 }
 
-/// Keeps what the system says of the file.
-fn tell<T: Drop>(told: &mut Option<io::Error>, outcome: io::Result<T>) -> Result<T, LoopFault> {
+/// Whether rows were filed, and what the system says where they were not.
+fn filed(told: &mut Option<io::Error>, outcome: Result<(), FilingFault>) -> Result<(), LoopFault>
+    ensures { IsOk result ↔ IsOk outcome }
+{
     match outcome {
-        Ok(value) => Ok(value),
-        Err(e) => {
-            *told = Some(e);
-            Err(LoopFault::from(e))
-        }
+        Ok(()) => Ok(()),
+        Err(FilingFault::Place(error)) => Err(tell(told, error)),
+        Err(FilingFault::Memory) => Err(LoopFault::Memory),
+        Err(FilingFault::Output) => Err(LoopFault::Io),
     }
 }
 
-/// The readings that stand at a place; none where there is no place.
-fn opened<R: Files + AllocGlobal>(
-    rt: &R,
-    place: &Option<Place>,
+/// The readings that stand at a place.
+fn opened<F: Filing>(
+    alloc: Global,
+    place: &mut F,
     told: &mut Option<io::Error>,
 ) -> Result<Readings, LoopFault> {
-    let Some(place) = place else {
-        return Ok(Readings::open(rt.alloc(), "")?);
-    };
-    let text = tell(told, place.text(rt))?;
-    Ok(Readings::open(rt.alloc(), text.as_str())?)
+    match open_rows(alloc, place) {
+        Ok(readings) => Ok(readings),
+        Err(OpeningFault::Place(error)) => Err(tell(told, error)),
+        Err(OpeningFault::Readings(fault)) => Err(LoopFault::from(fault)),
+    }
 }
 
 /// The place of the file, where one is named.
-fn held<R: Files<File = File> + AllocGlobal>(
-    rt: &R,
+fn held<'r, R: Files<File = File> + AllocGlobal>(
+    rt: &'r R,
     file: Option<&str>,
     told: &mut Option<io::Error>,
-) -> Result<Option<Place>, LoopFault> {
+) -> Result<Option<FilePlace<'r, R>>, LoopFault> {
     match file {
-        Some(file) => Ok(Some(tell(told, Place::open(rt, file))?)),
+        Some(file) => match FilePlace::open(rt, file) {
+            Ok(place) => Ok(Some(place)),
+            Err(error) => Err(tell(told, error)),
+        },
         None => Ok(None),
     }
 }
 
-/// Puts the text in the place of the old one.
-fn replace<R: Files<File = File> + AllocGlobal>(
-    rt: &R,
-    place: &Place,
-    text: &str,
-) -> io::Result<()> {
-    let beside = place.write(rt, text)?;
-    place.put(rt, beside)
-}
-
-impl Filed<'_> {
-    /// Puts the readings in the place of the file's.
-    fn keep<R: Files<File = File> + AllocGlobal>(&mut self, rt: &R) -> Result<(), LoopFault> {
-        let Some(place) = &self.place else {
-            return Ok(());
-        };
-        let text = self.readings.text()?;
-        tell(self.told, replace(rt, place, text.as_str()))
-    }
-
-    /// Polls once, merges what came, and keeps it.
-    fn read<R: Files<File = File> + AllocGlobal, S: Read + Write>(
-        &mut self,
-        rt: &R,
-        line: &mut Line<S>,
-        meter: &mut MemoryMeter,
-    ) -> Result<(), LoopFault> {
-        let poller = managements_poller(rt.alloc(), self.readings.last());
-        let done = poll(&mut line.head, &mut line.tail, meter, poller)?;
-        let _added = self.readings.merge(done.rows())?;
-        self.keep(rt)
-    }
-
-    /// Writes the readings.
-    fn print<W: Write>(&self, writer: &mut W) -> Result<(), LoopFault> {
-        let text = self.readings.text()?;
-        writer.write_all(text.as_bytes())?;
-        writer.flush()?;
-        Ok(())
-    }
+/// Writes the readings.
+fn print<W: Write>(readings: &Readings, writer: &mut W) -> Result<(), LoopFault> {
+    let text = readings.text()?;
+    writer.write_all(text.as_bytes())?;
+    writer.flush()?;
+    Ok(())
 }
 
 /// A new meter with 42 pulses on channel 0 and two captures.
@@ -141,27 +114,29 @@ fn stopped(alloc: Global, meter: MemoryMeter, round: u8) -> Result<MemoryMeter, 
 /// A poll by management, from the last row's second on.
 fn managements_poller(alloc: Global, after: Option<u32>) -> Poller
     requires { IfSome after (λ second. second ≤ LAST_SECOND) }
+    ensures { (secret : List ℕ) × (result ≡ fresh_poll (plan_from secret after)) }
 {
     let mut secret = ArrayVec::new();
     let _fits = secret.try_extend_from_slice(SECRET);
     poller(alloc, Client::Management, secret, after)
 }
 
-/// Polls, and so many times more, each time behind a stop of the meter.
-fn rounds<R: Files<File = File> + AllocGlobal, S: Read + Write>(
-    rt: &R,
-    filed: &mut Filed<'_>,
+/// Polls once, from the last row's second on, merges what came, and keeps it.
+fn read<F: Filing, S: End>(
+    alloc: Global,
+    place: &mut F,
+    readings: &mut Readings,
+    told: &mut Option<io::Error>,
     line: &mut Line<S>,
-    meter: MemoryMeter,
-    stops: u8,
-) -> Result<(), LoopFault> {
-    let mut meter = meter;
-    filed.read(rt, line, &mut meter)?;
-    for round in 1..=stops {
-        meter = stopped(rt.alloc(), meter, round)?;
-        filed.read(rt, line, &mut meter)?;
+    meter: &mut MemoryMeter,
+) -> Result<(), LoopFault>
+    ensures { (secret : List ℕ) × ReadsRows (plan_from secret (last_clock readings.old)) (F.asked place.old) (F.asked place.new) readings.old result readings.new }
+{
+    let poller = managements_poller(alloc, readings.last());
+    match poll(&mut line.head, &mut line.tail, meter, poller) {
+        Ok(done) => filed(told, keep_rows(place, readings, done.rows())),
+        Err(fault) => Err(fault),
     }
-    Ok(())
 }
 
 /// Polls a new meter in memory over TCP, and prints the readings. The meter has 42 pulses on channel 0 and captures at 900 and
@@ -176,15 +151,28 @@ pub fn loopback<R: Net + Files<File = File> + AllocGlobal, W: Write>(
     writer: &mut W,
     told: &mut Option<io::Error>,
 ) -> Result<(), LoopFault> {
-    let place = held(rt, file, told)?;
-    let readings = opened(rt, &place, told)?;
-    let meter = new_meter(rt.alloc())?;
+    let mut place = held(rt, file, told)?;
+    let mut readings = opened(rt.alloc(), &mut place, told)?;
+    let mut meter = new_meter(rt.alloc())?;
     let mut line = ends(rt)?;
-    let mut filed = Filed {
-        readings,
-        place,
+    read(
+        rt.alloc(),
+        &mut place,
+        &mut readings,
         told,
-    };
-    rounds(rt, &mut filed, &mut line, meter, stops)?;
-    filed.print(writer)
+        &mut line,
+        &mut meter,
+    )?;
+    for round in 1..=stops {
+        meter = stopped(rt.alloc(), meter, round)?;
+        read(
+            rt.alloc(),
+            &mut place,
+            &mut readings,
+            told,
+            &mut line,
+            &mut meter,
+        )?;
+    }
+    print(&readings, writer)
 }

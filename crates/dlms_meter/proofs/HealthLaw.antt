@@ -53,14 +53,14 @@ pub go_well : {P A : Type 0} {ghosts : Ghosts P} (calls : List Call) (old new : 
     → (w' : MeterWorld) × (run : Run w (map step_of calls) w') × GoesWell w (map step_of calls) w' run × Stands new w'
 go_well [] old new w is healthy stands = (w, refl, tt, subst (λ m. Stands m w) (sym is) stands)
 go_well (FedCall taken reply ∷ calls) old new w (mid, call, rest) (healthy, others) stands =
-    let here = call w stands in
+    let here = call.0 w stands in
     let piece = fed old mid here.1 w taken reply here.0 healthy here.2 here.3 in
     let after = go_well calls mid new here.0 rest others here.3 in
     (after.0, (here.0, piece.0, after.1), (piece.1, after.2), after.3)
 go_well (Idled ∷ calls) old new w (mid, call, rest) (healthy, others) stands =
-    let after = go_well calls mid new (silent w) rest others (call w stands) in
+    let after = go_well calls mid new (silent w) rest others (call.0 w stands) in
     (after.0, (silent w, refl, after.1), after.2, after.3)
 go_well (Told event outcome ∷ calls) old new w (mid, call, rest) (healthy, others) stands =
-    let here = call w stands in
+    let here = call.0 w stands in
     let after = go_well calls mid new here.0 rest others here.4 in
     (after.0, (here.0, (here.1, here.2), after.1), (decided old mid event outcome here.1 w here.0 healthy stands here.2 here.3, after.2), after.3)

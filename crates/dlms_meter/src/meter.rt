@@ -9,6 +9,7 @@ ghost use Rattle.dlms_state.specs.declared.event.Event.{Event};
 ghost use Rattle.dlms_state.specs.StateValue.{IsStateOf};
 ghost use Rattle.dlms_store.specs.Cause.{IsCause};
 ghost use Rattle.dlms_store.specs.Fitting.{StoreFits, DeviceFits, IsOpened, OpensAs, GivesBack, GivesUp};
+ghost use Rattle.dlms_store.specs.Later.{GoesOn, IsLater, LeavesNoEarlier};
 ghost use Rattle.dlms_store.specs.Steady.{IsSpared};
 ghost use Rattle.dlms_store.specs.Store.{records_in, state_in, view_of, IsRunning, IsStopped, IsTooSmall, CommitIsExhausted, Remembers};
 ghost use Rattle.dlms_store.specs.Writing.{IsClear, IsFormatted, Leaves};
@@ -56,6 +57,7 @@ impl<P: Pages, A: Allocator + Copy> Meter<P, A> {
         ensures size { IfErr result (λ e. (e.1 ≡ OpenFault.Size) ↔ IsTooSmall (P.view device)) }
         ensures small { IfErr result (λ e. e.1 ≡ OpenFault.Size → e.0 ≡ device) }
         ensures device { IfErr result (λ e. e.1 ≡ OpenFault.Device → Rose (P.view device).faults (P.view e.0).faults) }
+        ensures later { MatchResult result (λ meter. GoesOn (P.view device) (view_of meter.store)) (λ e. GoesOn (P.view device) (P.view e.0)) }
         ensures faults { IfErr result (λ e. (e.1 ≢ OpenFault.NoCheckpoint) × ((page : ℕ) → e.1 ≢ OpenFault.Corrupt page) × (e.1 ≢ OpenFault.Exhausted)) }
         ensures memory { (P.view device).honest ≡ true → IfErr result (λ e. e.1 ≡ OpenFault.Memory → Leaves (P.view e.0) IsClear) }
     {
@@ -74,6 +76,7 @@ impl<P: Pages, A: Allocator + Copy> Meter<P, A> {
         ensures size { IfErr result (λ e. (e.1 ≡ OpenFault.Size) ↔ IsTooSmall (P.view device)) }
         ensures small { IfErr result (λ e. e.1 ≡ OpenFault.Size → e.0 ≡ device) }
         ensures device { IfErr result (λ e. e.1 ≡ OpenFault.Device → Rose (P.view device).faults (P.view e.0).faults) }
+        ensures later { MatchResult result (λ meter. GoesOn (P.view device) (view_of meter.store)) (λ e. GoesOn (P.view device) (P.view e.0)) }
     {
         let store = Store::open(alloc, device)?;
         Ok(Meter::over(alloc, store))
@@ -97,14 +100,16 @@ impl<P: Pages, A: Allocator + Copy> Meter<P, A> {
 
     /// Pulses on a channel.
     pub fn pulses(&mut self, channel: u8, count: u32) -> Result<(), AddFault>
-        ensures { Judges self.old (Event.Pulses channel count) result self.new }
+        ensures judges { Judges self.old (Event.Pulses channel count) result self.new }
+        ensures later { IsLater self.old.store self.new.store }
     {
         self.accept(Event::Pulses(channel, count))
     }
 
     /// The meter's own running second.
     pub fn moment(&mut self, second: u32) -> Result<(), AddFault>
-        ensures { Judges self.old (Event.Moment second) result self.new }
+        ensures judges { Judges self.old (Event.Moment second) result self.new }
+        ensures later { IsLater self.old.store self.new.store }
     {
         self.accept(Event::Moment(second))
     }
@@ -139,6 +144,8 @@ impl<P: Pages, A: Allocator + Copy> Meter<P, A> {
         ensures settles { (IsStopped self.store → ⊥) → (Rose (view_of self.store).faults (P.view result).faults → ⊥) → (CommitIsExhausted self.store → ⊥)
             → (before : StoreWorld) → StoreFits self.store before → GivesUp Closes before (view_of self.store) (P.view result) }
         ensures nothing { IsRunning self.store → records_in self.store ≡ [] → result ≡ self.store.device }
+        ensures later { GoesOn (view_of self.store) (P.view result) }
+        ensures from { IsRunning self.store → (Rose (view_of self.store).faults (P.view result).faults → ⊥) → (before : StoreWorld) → StoreFits self.store before → LeavesNoEarlier self.store (P.view result) }
     {
         self.store.close()
     }
@@ -152,6 +159,7 @@ impl<P: Pages, A: Allocator + Copy> Meter<P, A> {
         ensures all { (w : MeterWorld) → Stands self.old w → result.0 < length bytes.now → EndsFrame w (take result.0 bytes.now) }
         ensures feeds { Feeds self.old (take result.0 bytes.now) (option_map (λ reply. reply.items) result.1) self.new }
         ensures spares { SparesSlots self.old.store self.new.store }
+        ensures later { IsLater self.old.store self.new.store }
     {
         let (taken, frame) = self.deframer.feed(bytes);
         match frame {
@@ -162,7 +170,8 @@ impl<P: Pages, A: Allocator + Copy> Meter<P, A> {
 
     /// Accepts an event, or says why it is not accepted.
     fn accept(&mut self, event: Event) -> Result<(), AddFault>
-        ensures { Judges self.old event result self.new }
+        ensures judges { Judges self.old event result self.new }
+        ensures later { IsLater self.old.store self.new.store }
     {
         self.store.add(event)
     }
@@ -171,6 +180,7 @@ impl<P: Pages, A: Allocator + Copy> Meter<P, A> {
     fn answer(&mut self, frame: &Frame) -> Option<Reply>
         ensures replies { Replies self.old frame.now (option_map (λ reply. reply.items) result) self.new (client_at frame.now.src) }
         ensures spares { SparesSlots self.old.store self.new.store }
+        ensures later { IsLater self.old.store self.new.store }
     {
         match client_at(frame.src) {
             Some(Client::Public) => self.public.answer(self.alloc, &mut self.store, frame),

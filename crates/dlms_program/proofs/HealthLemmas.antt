@@ -183,7 +183,7 @@ found_all (Runs s p) closed now found next opens =
 found_all (InDoubt s p) closed now found next opens = absurd next
 found_all (Rests events) closed now found next opens = absurd next
 
-rose_or_not : (before now : ℕ) → Rose before now ⊎ (Rose before now → ⊥)
+pub rose_or_not : (before now : ℕ) → Rose before now ⊎ (Rose before now → ⊥)
 rose_or_not before now =
     elim (cases_lt now (min (before + 1) (2 ^ 64 - 1))) [
       | inl less ↦ inr (λ (rose : Rose before now). omega (arith, less, rose))
@@ -200,7 +200,7 @@ full_or_not store = cases_eq store.next _
 last_or_not : {P A : Type 0} {ghosts : Ghosts P} (store : Store P A ghosts) → IsLast store ⊎ (IsLast store → ⊥)
 last_or_not store = cases_eq store.generation _
 
-exhausted_or_not : {P A : Type 0} {ghosts : Ghosts P} (store : Store P A ghosts) → CommitIsExhausted store ⊎ (CommitIsExhausted store → ⊥)
+pub exhausted_or_not : {P A : Type 0} {ghosts : Ghosts P} (store : Store P A ghosts) → CommitIsExhausted store ⊎ (CommitIsExhausted store → ⊥)
 exhausted_or_not store =
     elim (none_or_some (records_in store)) [
       | inl none ↦ inr (λ (is : CommitIsExhausted store). is.0 none)

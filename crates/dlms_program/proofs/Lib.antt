@@ -4,5 +4,6 @@ pub mod LineLemmas
 pub mod NumberLemmas
 pub mod PutLemmas
 pub mod ReplayLemmas
+pub mod RiseLemmas
 pub mod OutcomeLemmas
 pub mod WordLemmas

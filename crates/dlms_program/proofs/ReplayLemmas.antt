@@ -1,10 +1,12 @@
 -- How a replay goes on: a call, an order, a line.
 use Rattle.std.proofs.Common.{arith, refl, sym, ap, subst, inl, inr, append-nil, append_assoc, ◌∙◌, ◌≡◌, ◌⊎◌, ◌≤◌, ◌+◌, ℕ, Bool, true, false, List, [], ◌∷◌, ◌++◌, ◌-◌, ◌^◌, length, length-append, IsErr, MatchResult}
-use Rattle.std.specs.Prelude.{◌↔◌, ◌≢◌, Option, Some, None, ⊤, Result, Ok, Err, OnOk}
+use Rattle.std.proofs.lemmas.List.{length-replicate}
+use Rattle.std.specs.Prelude.{◌↔◌, ◌≢◌, ◌<◌, replicate, Option, Some, None, ⊤, Result, Ok, Err, OnOk}
 use Rattle.std.specs.Io.KnownBytes.{Appends, IsAtEnd}
 use Rattle.dlms_frame.specs.Stream.{Fits}
 use Rattle.dlms_frame.proofs.LawLemmas.{next_stays}
 use Rattle.dlms_state.specs.declared.event.Event.TheVariants.{Pulses as PulseEvent, Moment as MomentEvent}
+use Rattle.dlms_store.specs.Later.{GoesOn}
 use Rattle.dlms_store.specs.declared.fault.AddFault.{AddFault}
 use Rattle.dlms_store.specs.declared.fault.OpenFault.{OpenFault}
 use Rattle.dlms_store.specs.declared.fault.OpenFault.TheVariants as opening
@@ -28,14 +30,14 @@ use Rattle.dlms_program.specs.Lines.{lines_of, HasLongLine, LosesLine, LosesPart
 use Rattle.dlms_pages.specs.declared.device.Pages.{Ghosts}
 use Rattle.dlms_meter.specs.declared.meter.Meter.{Meter}
 use Rattle.dlms_meter.specs.Healthy.{AreServed, IsDecided, IsServed}
-use Rattle.dlms_meter.specs.Steps.{Fed as FedCall, Idled, Told as ToldCall}
+use Rattle.dlms_meter.specs.Steps.{IsCall, Fed as FedCall, Idled, Told as ToldCall}
 use Rattle.dlms_program.specs.Orders.{Spells}
 use Rattle.dlms_program.specs.Printed.{reply_lines, reply_line, open_line, open_fault_line, state_line}
 use Rattle.dlms_program.specs.Replay.{Did, DidPart, Does, DoesPart, End, Ended, Finds, FindsAll, Followed, Gone, GoesWell, IfKnown, IsAt, IsBad, IsLeft, LacksMemory, LineGoesWell, LinesUsedUp, MayStayClosed, PartGoesWell, ReadNoMore, Replays, ReplaysOr, WroteNoMore, WroteReplay, outcome_line}
 use Rattle.dlms_program.specs.Replay.End.{Whole, Bad, Closed}
 use Rattle.dlms_program.specs.Written.{AppendsPart}
 use Rattle.dlms_state.specs.StateValue.{StateValue, IsStateOf, state_of}
-use Rattle.dlms_meter.specs.Run.{MeterWorld, Answers, Comes, Fed, IsRunningIn, IsTurn, Stands, Turn, Feeds, Judges, MayChoose, after_turn, events_of, grown, listed, recovered, silent}
+use Rattle.dlms_meter.specs.Run.{MeterWorld, Answers, Comes, Fed, IsRunningIn, IsTurn, Stands, Turn, MayChoose, after_turn, events_of, grown, listed, recovered, silent}
 use Rattle.dlms_meter.proofs.RunLemmas.{none_ended}
 use Rattle.dlms_program.proofs.CallLemmas.{told_behind}
 use Rattle.dlms_program.proofs.HealthLemmas.{at_once, closes_or_not, decided, fault_first, fault_in_call, fault_last, found_all, gone_behind, gone_reaches, honest_of, joined, lacks_memory, lines_run, no_fault_told, not_stopped, one_more, runs_or_not, served, turn_runs, well_or}
@@ -163,14 +165,14 @@ taken_further : (front taken left rest bytes : List ℕ) → taken ++ left ≡ r
 taken_further front taken left rest bytes cut whole = append_assoc front taken left ∙ ap (λ (t : List ℕ). front ++ t) cut ∙ whole
 
 pub fed_call : {P A : Type 0} {ghosts : Ghosts P} (old now new : Option (List ℕ)) (start meter meter' : Meter P A ghosts) (bytes rest taken left : List ℕ) (reply : Option (List ℕ))
-    → taken ++ left ≡ rest → FedSoFar old now start meter bytes rest → Feeds meter taken reply meter' → Appends now new (reply_lines (listed reply))
+    → taken ++ left ≡ rest → FedSoFar old now start meter bytes rest → IsCall meter (FedCall taken reply) meter' → Appends now new (reply_lines (listed reply))
     → FedSoFar old new start meter' bytes left
 fed_call old now new start meter meter' bytes rest taken left reply cut (before, so_far) feeds appends =
     let last = at_once (Some meter) (Some meter') (inl (FedCall taken reply, feeds)) in (
       joined (Some start) (Some meter) (Some meter') before last,
       λ honest w at.
           let here = so_far honest w at in
-          let call = feeds here.0 (stands_at honest meter here.0 here.2) in (
+          let call = feeds.0 here.0 (stands_at honest meter here.0 here.2) in (
             call.0,
             here.1 ++ listed reply,
             at_of honest meter meter' here.0 call.0 here.2 call.3 call.4.fits,
@@ -211,11 +213,11 @@ part_of_reply now new None part = absurd (nothing_missing part.part part.missing
 part_of_reply now new (Some bytes) part = (bytes, refl, subst (λ (t : List ℕ). AppendsPart now new t) (append-nil (reply_line bytes)) part)
 
 pub fed_part : {P A : Type 0} {ghosts : Ghosts P} (old now new : Option (List ℕ)) (start meter meter' : Meter P A ghosts) (bytes rest taken left : List ℕ) (reply : Option (List ℕ))
-    → taken ++ left ≡ rest → FedSoFar old now start meter bytes rest → Feeds meter taken reply meter' → AppendsPart now new (reply_lines (listed reply))
+    → taken ++ left ≡ rest → FedSoFar old now start meter bytes rest → IsCall meter (FedCall taken reply) meter' → AppendsPart now new (reply_lines (listed reply))
     → (honest : Bool) (w : MeterWorld) → IsAt honest start w → DidPart honest old new w bytes Feed (Some start) (Some meter')
 fed_part old now new start meter meter' bytes rest taken left reply cut (before, so_far) feeds part honest w at =
     let here = so_far honest w at in
-    let call = feeds here.0 (stands_at honest meter here.0 here.2) in
+    let call = feeds.0 here.0 (stands_at honest meter here.0 here.2) in
     let Fault : Type 0 = MeetsFault (Some start) (Some meter') in
     let last = at_once (Some meter) (Some meter') (inl (FedCall taken reply, feeds)) in
     let front = here.4 ++ taken in
@@ -241,7 +243,7 @@ fed_part old now new start meter meter' bytes rest taken left reply cut (before,
 -- ---- pulses and moments
 
 -- one call that judged an event
-pub told_once : {P A : Type 0} {ghosts : Ghosts P} (meter meter' : Meter P A ghosts) (event : Event) (outcome : Result (Unit {0}) AddFault) → Judges meter event outcome meter' → Reaches (Some meter) (Some meter')
+pub told_once : {P A : Type 0} {ghosts : Ghosts P} (meter meter' : Meter P A ghosts) (event : Event) (outcome : Result (Unit {0}) AddFault) → IsCall meter (ToldCall event outcome) meter' → Reaches (Some meter) (Some meter')
 told_once meter meter' event outcome judges = at_once (Some meter) (Some meter') (inl (ToldCall event outcome, judges))
 
 -- what an order did on a meter, whatever the writer holds
@@ -278,10 +280,10 @@ told_part old new honest w bytes order start meter one did part =
     }
 
 abbrev pub pulses_did : {P A : Type 0} → {ghosts : Ghosts P} → (meter meter' : Meter P A ghosts) (bytes : List ℕ) (channel count : ℕ) (outcome : Result (Unit {0}) AddFault)
-    → Judges meter (PulseEvent channel count) outcome meter' → (honest : Bool) (w : MeterWorld) → IsAt honest meter w → DidOn honest w bytes (Pulses channel count) meter meter'
+    → IsCall meter (ToldCall (PulseEvent channel count) outcome) meter' → (honest : Bool) (w : MeterWorld) → IsAt honest meter w → DidOn honest w bytes (Pulses channel count) meter meter'
 pulses_did meter meter' bytes channel count outcome judges honest w at =
     let stands = stands_at honest meter w at in
-    let call = judges w stands in
+    let call = judges.0 w stands in
     record {
       world = call.0;
       written = outcome_line outcome;
@@ -293,10 +295,10 @@ pulses_did meter meter' bytes channel count outcome judges honest w at =
     }
 
 abbrev pub moment_did : {P A : Type 0} → {ghosts : Ghosts P} → (meter meter' : Meter P A ghosts) (bytes : List ℕ) (second : ℕ) (outcome : Result (Unit {0}) AddFault)
-    → Judges meter (MomentEvent second) outcome meter' → (honest : Bool) (w : MeterWorld) → IsAt honest meter w → DidOn honest w bytes (Moment second) meter meter'
+    → IsCall meter (ToldCall (MomentEvent second) outcome) meter' → (honest : Bool) (w : MeterWorld) → IsAt honest meter w → DidOn honest w bytes (Moment second) meter meter'
 moment_did meter meter' bytes second outcome judges honest w at =
     let stands = stands_at honest meter w at in
-    let call = judges w stands in
+    let call = judges.0 w stands in
     record {
       world = call.0;
       written = outcome_line outcome;
@@ -327,7 +329,7 @@ silence_told contents meter meter' bytes quiet same honest w at =
       world = silent w;
       written = [];
       does = (refl, refl);
-      reaches = at_once (Some meter) (Some meter') (inl (Idled, quiet));
+      reaches = at_once (Some meter) (Some meter') (inl (Idled, (quiet, same)));
       well = λ running. inl tt;
       left = at_of honest meter meter' w (silent w) at (quiet w (stands_at honest meter w at)) (λ fits. subst (λ (store : _). StoreFits store w.store) (sym same) fits);
       appends = appends_none contents;
@@ -335,10 +337,10 @@ silence_told contents meter meter' bytes quiet same honest w at =
 
 -- ---- closed and recovered
 
-pub refused_for : (old new : View) (fault : OpenFault) → (old.honest ≡ true → IsCause fault old.seen) → (fault ≡ opening.Device → Rose old.faults new.faults) → (fault ≡ opening.Size) ↔ IsTooSmall old → IsRefused old new fault
-refused_for old new fault exact device size = record { exact = exact; device = device; size = size.0 }
+pub refused_for : (old new : View) (fault : OpenFault) → (old.honest ≡ true → IsCause fault old.seen) → (fault ≡ opening.Device → Rose old.faults new.faults) → (fault ≡ opening.Size) ↔ IsTooSmall old → GoesOn old new → IsRefused old new fault
+refused_for old new fault exact device size later = record { exact = exact; device = device; size = size.0; later = later }
 
-opened_runs : (before now : StoreWorld) (found : List Event) → Next before (Opens found) now → now ≡ Runs found []
+pub opened_runs : (before now : StoreWorld) (found : List Event) → Next before (Opens found) now → now ≡ Runs found []
 opened_runs (Runs s p) now found h = absurd h
 opened_runs (InDoubt s p) now found h = h.1
 opened_runs (Rests events) now found h = h.1
@@ -358,7 +360,7 @@ module _ {P A : Type 0} {ghosts : Ghosts P} (start : Meter P A ghosts) (device :
       → IsRecovered device (Some meter) → ((events : List Event) → Remembers events [] meter.store → Stands meter (recovered events))
       → ((now : StoreWorld) (found : List Event) → Next closed (Opens found) now → IsRunningIn w.store → (found ≡ events_of w) ⊎ Fault) → IsFound Fault true w meter
   found_in Fault meter w closed next fits opens stands all =
-      let given = opens closed fits in
+      let given = opens.opens closed fits in
       let runs : given.now ≡ Runs given.found [] = opened_runs closed given.now given.found given.next in
       let there : StoreFits meter.store (Runs given.found []) = subst (λ (x : StoreWorld). StoreFits meter.store x) runs given.fits in (
         given.found,
@@ -373,7 +375,7 @@ module _ {P A : Type 0} {ghosts : Ghosts P} (start : Meter P A ghosts) (device :
   reopened true meter w closed settled opens opened stands at =
       let Fault : Type 0 = MeetsFault (Some start) (Some meter) in
       let in_doubt : ((found : List Event) → IsRunningIn w.store → (found ≡ events_of w) ⊎ Fault) → IsFound Fault true w meter = λ all.
-      elim (closed w.store at.1) [
+      elim (closed.run w.store at.1) [
         | inl gives ↦ found_in Fault meter w gives.now (inl gives.next) gives.fits opens stands (λ now found next. all found)
         | inr gives ↦ found_in Fault meter w gives.now (inr gives.next) gives.fits opens stands (λ now found next. all found)
       ] in
@@ -421,14 +423,14 @@ module _ {P A : Type 0} {ghosts : Ghosts P} (start : Meter P A ghosts) (device :
   may_stay : (honest : Bool) (w : MeterWorld) (fault : OpenFault) → IsClosed start device → ((before : StoreWorld) → DeviceFits (ghosts.view device) before → IsRefusal fault) → IsAt honest start w → MayStayClosed honest fault
   may_stay false w fault closed refuses at = tt
   may_stay true w fault closed refuses at =
-      elim (closed w.store at.1) [
+      elim (closed.run w.store at.1) [
         | inl gives ↦ refuses gives.now gives.fits
         | inr gives ↦ refuses gives.now gives.fits
       ]
 
   keeps_rules : (w : MeterWorld) → IsClosed start device → IsAt true start w → (ghosts.view device).honest ≡ true
   keeps_rules w closed at =
-      elim (closed w.store at.1) [
+      elim (closed.run w.store at.1) [
         | inl gives ↦ honest_of (ghosts.view device) gives.now gives.fits
         | inr gives ↦ honest_of (ghosts.view device) gives.now gives.fits
       ]
@@ -560,10 +562,14 @@ replay_line old now new start meter meter' text rest left line bytes order numbe
 wrote : {P A : Type 0} {ghosts : Ghosts P} (honest : Bool) (text rest : Option (List ℕ)) (w m : MeterWorld) (written more : List ℕ) (done : List (List ℕ)) (number : ℕ) (end : End) (last : Option MeterWorld) (old now new : Option (List ℕ)) (start meter meter' : Option (Meter P A ghosts))
     → Reaches start meter → Reaches meter meter' → length done + 1 ≡ number → CutAt text rest done → ReplaysOr (MeetsFault start meter) honest w 1 done written Whole (Some m)
     → Appends old now written → Appends now new more → IsLeft honest meter' last
+    → (lines : List (List ℕ)) × ReplaysOr (MeetsFault meter meter') honest m number lines more end last
     → ((known : List ℕ) → rest ≡ Some known → ReplaysOr (MeetsFault meter meter') honest m number (lines_of known) more end last) → Ended honest old new w text end start meter'
-wrote honest None rest w m written more done number end last old now new start meter meter' before behind count cut are appends appends' left ends = tt
-wrote honest (Some text) None w m written more done number end last old now new start meter meter' before behind count cut are appends appends' left ends = absurd cut
-wrote honest (Some text) (Some rest) w m written more done number end last old now new start meter meter' before behind count cut are appends appends' left ends = (
+wrote honest None rest w m written more done number end last old now new start meter meter' before behind count cut are appends appends' left some ends = (
+  done ++ some.0,
+  (written ++ more, last, appends_more old now new written more appends appends', done_then start meter meter' honest done some.0 w m number written more end last before behind count are some.1, left),
+)
+wrote honest (Some text) None w m written more done number end last old now new start meter meter' before behind count cut are appends appends' left some ends = absurd cut
+wrote honest (Some text) (Some rest) w m written more done number end last old now new start meter meter' before behind count cut are appends appends' left some ends = (
   written ++ more,
   last,
   appends_more old now new written more appends appends',
@@ -581,20 +587,24 @@ pub replay_end : {P A : Type 0} {ghosts : Ghosts P} (old now : Option (List ℕ)
 replay_end old now start meter text rest number so_far at_end honest w at =
     let here = so_far honest w at in
     wrote honest text rest w here.0 here.1 [] here.2 number Whole (Some here.0) old now now start meter meter here.6 Here here.8 here.7 here.5 here.4 (appends_none now) here.3
+    ([], ((refl, refl, refl), λ running. inl tt))
     (λ known is. subst (λ (r : List ℕ). ReplaysOr (MeetsFault meter meter) honest here.0 number (lines_of r) [] Whole (Some here.0)) (sym (known_end rest known at_end is)) ((refl, refl, refl), λ running. inl tt))
 
--- the first line of a reader's known bytes is bad
+-- the first line of a reader's known bytes is bad, or there is a bad line where they are not known
 abbrev pub BeginsBad : Option (List ℕ) → Type 0
-BeginsBad None = ⊤
+BeginsBad None = (line : List ℕ) × IsBad line
 BeginsBad (Some rest) = (line : List ℕ) × (more : List (List ℕ)) × (lines_of rest ≡ line ∷ more) × IsBad line
 
 pub unknown_first : (rest left : Option (List ℕ)) (line : List ℕ) → LosesLine rest left line → ((bytes : List ℕ) (order : Order) → Spells line bytes order → ⊥) → BeginsBad rest
-unknown_first None left line loses none = tt
+unknown_first None left line loses none = (line, inr none)
 unknown_first (Some rest) None line loses none = absurd loses
 unknown_first (Some rest) (Some left) line loses none = (line, lines_of left, loses, inr none)
 
+longer : (most : ℕ) → (line : List ℕ) × (most < length line)
+longer most = (replicate (most + 1) 0, omega (arith, length-replicate {A = ℕ} (most + 1) 0))
+
 pub long_first : (rest : Option (List ℕ)) → HasLongLine rest 8192 → BeginsBad rest
-long_first None long = tt
+long_first None long = (let some = longer 8192 in (some.0, inl some.1))
 long_first (Some rest) long = (long.0, long.1, long.2, inl long.3)
 
 bad_known : (H : Type 0) (honest : Bool) (m : MeterWorld) (number : ℕ) (rest : Option (List ℕ)) → BeginsBad rest → (known : List ℕ) → rest ≡ Some known
@@ -606,11 +616,16 @@ bad_known H honest m number (Some rest) bad known is =
     subst (λ (t : List ℕ). ReplaysFor H honest m number (lines_of t) [] (Bad number) (Some m)) same
     (subst (λ (ls : List (List ℕ)). ReplaysFor H honest m number ls [] (Bad number) (Some m)) (sym bad.2) here)
 
+bad_some : (Fault : Type 0) (honest : Bool) (m : MeterWorld) (number : ℕ) (rest : Option (List ℕ)) → BeginsBad rest → (lines : List (List ℕ)) × ReplaysOr Fault honest m number lines [] (Bad number) (Some m)
+bad_some Fault honest m number None bad = (bad.0 ∷ [], (inl (bad.1, refl, refl, refl), λ running. inl tt))
+bad_some Fault honest m number (Some rest) bad = (bad.0 ∷ bad.1, (inl (bad.3, refl, refl, refl), λ running. inl tt))
+
 pub replay_bad : {P A : Type 0} {ghosts : Ghosts P} (old now : Option (List ℕ)) (start meter : Option (Meter P A ghosts)) (text rest : Option (List ℕ)) (number : ℕ)
     → ReplayedSoFar old now start meter text rest number → BeginsBad rest → (honest : Bool) (w : MeterWorld) → IsLeft honest start (Some w) → Ended honest old now w text (Bad number) start meter
 replay_bad old now start meter text rest number so_far bad honest w at =
     let here = so_far honest w at in
     wrote honest text rest w here.0 here.1 [] here.2 number (Bad number) (Some here.0) old now now start meter meter here.6 Here here.8 here.7 here.5 here.4 (appends_none now) here.3
+    (bad_some (MeetsFault meter meter) honest here.0 number rest bad)
     (λ known is. (let bad_end = bad_known ⊤ honest here.0 number rest bad known is in (bad_end.0, λ running. inl (bad_end.1 tt))))
 
 gone_known : (H : Type 0) (honest : Bool) (m : MeterWorld) (number : ℕ) (rest left : Option (List ℕ)) (line bytes : List ℕ) (fault : OpenFault) → LosesLine rest left line → Spells line bytes Open
@@ -639,6 +654,7 @@ replay_gone old now new start meter meter' text rest left line bytes order numbe
       went.fault,
       gone_behind start meter went.fault here.6 went.gone,
       wrote honest text rest w here.0 here.1 (open_fault_line went.fault) here.2 number (Closed went.fault) None old now new start meter meter' here.6 way here.8 here.7 here.5 here.4 went.told went.none
+          (line ∷ [], (inr (inl (bytes, opens, went.fault, went.may, refl, refl, refl)), λ running. well_or (λ (h : LacksMemory honest went.fault). h) (λ (f : MeetsFault meter meter'). f) went.lacks))
           (λ known is.
           let ends = gone_known (LacksMemory honest went.fault) honest here.0 number rest left line bytes went.fault loses opens went.may (λ (h : LacksMemory honest went.fault). h) known is in
           (ends.0, λ running. well_or ends.1 (λ (f : MeetsFault meter meter'). f) went.lacks)),

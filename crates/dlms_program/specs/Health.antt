@@ -1,35 +1,50 @@
 -- What lies between two moments of a replay, and the faults that a call may meet there.
-use Rattle.std.specs.Prelude.{◌≡◌, ◌⊎◌, true, Option, Some, None}
+use Rattle.std.specs.Prelude.{◌≡◌, ◌⊎◌, true, List, [], Option, Some, None}
 use Rattle.dlms_pages.specs.Device.{View, Rose}
 use Rattle.dlms_pages.specs.declared.device.Pages.{Ghosts}
 use Rattle.dlms_state.specs.declared.event.Event.{Event}
 use Rattle.dlms_store.specs.Cause.{IsAtLast, IsCause}
-use Rattle.dlms_store.specs.Fitting.{DeviceFits, GivesUp, OpensAs, StoreFits}
-use Rattle.dlms_store.specs.Store.{AddIsExhausted, CommitIsExhausted, IsTooSmall, view_of}
+use Rattle.dlms_store.specs.Fitting.{DeviceFits, GivesUp, IsOpened, OpensAs, StoreFits}
+use Rattle.dlms_store.specs.Later.{GoesOn, IsSpent, LeavesNoEarlier}
+use Rattle.dlms_store.specs.Store.{AddIsExhausted, CommitIsExhausted, IsRunning, IsStopped, IsTooSmall, Remembers, view_of}
 use Rattle.dlms_store.specs.World.{StoreWorld}
 use Rattle.dlms_store.specs.World.StoreStep.{Closes, ClosesInDoubt}
 use Rattle.dlms_store.specs.declared.fault.OpenFault.{OpenFault}
 use Rattle.dlms_store.specs.declared.fault.OpenFault.TheVariants as opening
 use Rattle.dlms_store.specs.declared.store.Store.{Store}
 use Rattle.dlms_meter.specs.declared.meter.Meter.{Meter}
+use Rattle.dlms_meter.specs.Run.{Stands, recovered}
 use Rattle.dlms_meter.specs.Steps.{Call, IsCall}
 
 -- ---- from one moment to another
 
--- what `close` says of the device that it gives back
-abbrev pub IsClosed : {P A : Type 0} → {ghosts : Ghosts P} → Meter P A ghosts → P → Type 0
-IsClosed {ghosts = ghosts} old device = (before : StoreWorld) → StoreFits old.store before
-    → GivesUp Closes before (view_of old.store) (ghosts.view device) ⊎ GivesUp ClosesInDoubt before (view_of old.store) (ghosts.view device)
+-- What `close` says of the device that it gives back.
+pub record IsClosed {P A : Type 0} {ghosts : Ghosts P} (old : Meter P A ghosts) (device : P) : Type 0 where
+  pub run : (before : StoreWorld) → StoreFits old.store before
+      → GivesUp Closes before (view_of old.store) (ghosts.view device) ⊎ GivesUp ClosesInDoubt before (view_of old.store) (ghosts.view device)
+  pub settles : (IsStopped old.store → ⊥) → (Rose (view_of old.store).faults (ghosts.view device).faults → ⊥) → (CommitIsExhausted old.store → ⊥)
+      → (before : StoreWorld) → StoreFits old.store before → GivesUp Closes before (view_of old.store) (ghosts.view device)
+  pub later : GoesOn (view_of old.store) (ghosts.view device)
+  pub from : IsRunning old.store → (Rose (view_of old.store).faults (ghosts.view device).faults → ⊥)
+      → (before : StoreWorld) → StoreFits old.store before → LeavesNoEarlier old.store (ghosts.view device)
 
 -- Why no meter was recovered from a device: what stands on it, or that it failed in that call, or that it is too small.
 pub record IsRefused (old new : View) (fault : OpenFault) : Type 0 where
   pub exact : old.honest ≡ true → IsCause fault old.seen
   pub device : fault ≡ opening.Device → Rose old.faults new.faults
   pub size : fault ≡ opening.Size → IsTooSmall old
+  pub later : GoesOn old new
 
--- what `recover` says of the meter that it makes of a device, or of why it makes none
+-- What `recover` says of the meter that it makes of a device.
+pub record IsMade {P A : Type 0} {ghosts : Ghosts P} (device : P) (meter : Meter P A ghosts) : Type 0 where
+  pub opens : (before : StoreWorld) → DeviceFits (ghosts.view device) before → OpensAs before (ghosts.view device) meter.store
+  pub stands : (events : List Event) → Remembers events [] meter.store → Stands meter (recovered events)
+  pub exact : (ghosts.view device).honest ≡ true → IsOpened (ghosts.view device).seen meter.store
+  pub later : GoesOn (ghosts.view device) (view_of meter.store)
+
+-- so it was recovered, or refused for such a cause
 abbrev pub IsRecovered : {P A : Type 0} → {ghosts : Ghosts P} → P → Option (Meter P A ghosts) → Type 0
-IsRecovered {ghosts = ghosts} device (Some meter) = (before : StoreWorld) → DeviceFits (ghosts.view device) before → OpensAs before (ghosts.view device) meter.store
+IsRecovered device (Some meter) = IsMade device meter
 IsRecovered {P} {A} {ghosts} device None = (back : P) × (fault : OpenFault) × IsRefused (ghosts.view device) (ghosts.view back) fault
 
 -- one call of a meter; or it is closed, and recovered or not
@@ -72,3 +87,10 @@ pub data MeetsFault {P A : Type 0} {ghosts : Ghosts P} (start finish : Option (M
   InClose : (old : Meter P A ghosts) (device : P) (new : Option (Meter P A ghosts)) → Reaches start (Some old) → IsClosed old device → IsRecovered device new → Reaches new finish
       → ClosesIll old.store (ghosts.view device) → MeetsFault start finish
   InOpen : (fault : OpenFault) (gone : IsGone start fault) → Reaches None finish → OpensIll (ghosts.view gone.device) (ghosts.view gone.back) → MeetsFault start finish
+
+-- ---- what a caller sees of it at the two ends
+
+-- A store was at its end: at the later moment, or where a meter was closed between the two.
+pub data MeetsEnd {P A : Type 0} {ghosts : Ghosts P} (start finish : Option (Meter P A ghosts)) : Type 0 where
+  AtLast : (meter : Meter P A ghosts) → finish ≡ Some meter → IsSpent meter.store → MeetsEnd start finish
+  AtClose : (old : Meter P A ghosts) (device : P) (new : Option (Meter P A ghosts)) → Reaches start (Some old) → IsClosed old device → IsRecovered device new → Reaches new finish → IsSpent old.store → MeetsEnd start finish

@@ -196,12 +196,16 @@ abbrev pub ReplaysOr : Type 0 → Bool → MeterWorld → ℕ → List (List ℕ
 ReplaysOr Fault honest w number lines written end last =
     (replays : Replays honest w number lines written end last) × (IsRunningIn w.store → GoesWell honest w number lines written end last replays ⊎ Fault)
 
--- A replay of a known text came to such an end: it wrote what the text says, and nothing else, and the meter stands for where it
--- led. Where the store ran at first, it went well, or a call of it met a fault of the device.
+-- A replay of these lines came to such an end: it wrote what they say, and nothing else, and the meter stands for where they led.
+-- Where the store ran at first, it went well, or a call of it met a fault of the device.
+abbrev pub EndedBy : {P A : Type 0} → {ghosts : Ghosts P} → Bool → Option (List ℕ) → Option (List ℕ) → MeterWorld → List (List ℕ) → End → (start meter : Option (Meter P A ghosts)) → Type 0
+EndedBy honest old new w lines end start meter =
+    (written : List ℕ) × (last : Option MeterWorld) × Appends old new written × ReplaysOr (MeetsFault start meter) honest w 1 lines written end last × IsLeft honest meter last
+
+-- so it was of the lines of a known text, and of some lines where the text is not known
 abbrev pub Ended : {P A : Type 0} → {ghosts : Ghosts P} → Bool → Option (List ℕ) → Option (List ℕ) → MeterWorld → Option (List ℕ) → End → (start meter : Option (Meter P A ghosts)) → Type 0
-Ended honest old new w None end start meter = ⊤
-Ended honest old new w (Some text) end start meter =
-    (written : List ℕ) × (last : Option MeterWorld) × Appends old new written × ReplaysOr (MeetsFault start meter) honest w 1 (lines_of text) written end last × IsLeft honest meter last
+Ended honest old new w None end start meter = (lines : List (List ℕ)) × EndedBy honest old new w lines end start meter
+Ended honest old new w (Some text) end start meter = EndedBy honest old new w (lines_of text) end start meter
 
 -- ---- a replay that is broken off
 
@@ -247,7 +251,7 @@ pub record LinesUsedUp {P A : Type 0} {ghosts : Ghosts P} (honest : Bool) (old n
   pub none : read.part ≡ []
   pub many : length read.done ≡ 2 ^ 32 - 1
 
--- A replay of a known text, of which this is left, by these calls of the reader and of the writer. `Io` is answered where the last
+-- A replay of a text, of which this is left, by these calls of the reader and of the writer. `Io` is answered where the last
 -- call of one of them failed, or where 2^32 - 1 lines were done, by as many reads or more. In any other case no call failed.
 abbrev pub WroteReplay : {P A : Type 0} → {ghosts : Ghosts P} → Bool → (reads reads' writes writes' : Option Calls) → Option (List ℕ) → Option (List ℕ) → MeterWorld → Option (List ℕ) → Option (List ℕ) → Result (Unit {0}) ReplayFault → (start meter : Option (Meter P A ghosts)) → Type 0
 WroteReplay honest reads reads' writes writes' old new w text left (Ok done) start meter = Passes 0 reads reads' × Passes 0 writes writes' × Ended honest old new w text Whole start meter

@@ -1,14 +1,21 @@
 //! Laws over whole texts. They make no call: the calls' own contracts cite the same definitions.
 
-ghost use Rattle.std.specs.Prelude.{◌≡◌, ℕ, Bool, true, List, Option};
-ghost use Rattle.dlms_meter.specs.Run.{MeterWorld};
+ghost use Rattle.std.specs.Prelude.{◌≡◌, ◌⊎◌, ℕ, Bool, true, List, Option, Some};
+ghost use Rattle.dlms_pages.specs.Device.{Rose};
+ghost use Rattle.dlms_store.specs.Later.{GoesOn, IsSpent};
+ghost use Rattle.dlms_store.specs.Store.{view_of};
+ghost use Rattle.dlms_meter.specs.Run.{IsRunningIn, MeterWorld};
+ghost use Rattle.dlms_program.specs.Health.{MeetsEnd, MeetsFault, Reaches};
 ghost use Rattle.dlms_program.specs.Outcome.{AllFound, AllHadMemory, AlikeEnds};
-ghost use Rattle.dlms_program.specs.Replay.{End, GoesWell, Replays};
+ghost use Rattle.dlms_program.specs.Replay.{End, GoesWell, IsAt, Replays, ReplaysOr};
 ghost use Rattle.dlms_program.specs.declared.words.TheConstants.{AHEAD, DEADLINE, IDLE, INACTIVITY, TICK, TURN};
 
+use dlms_meter::Meter;
+use dlms_pages::Pages;
 pub use dlms_world::laws::{
     calls_are_turns, calls_of_a_meter_are_turns, the_file_and_the_meter_agree,
 };
+use std::alloc::Allocator;
 
 /// Lines have one outcome, where memory is found, the device does not fail and each recovery finds every accepted event: what is
 /// written, how it ends, and the world that they lead to, but for which of its events are settled.
@@ -26,6 +33,35 @@ pub fn one_outcome_without_a_fault()
         → (a : Replays true w number lines s end last) (b : Replays true w number lines t end' last')
         → GoesWell true w number lines s end last a → GoesWell true w number lines t end' last' b
         → AllHadMemory true w number lines s end last a → AllHadMemory true w number lines t end' last' b → (s ≡ t) × (end ≡ end') × AlikeEnds last last' }
+{}
+
+/// What lies between two moments of a replay, by what a caller sees of the meter at both. The device stays as honest as it was, and
+/// its count of faults does not fall. Where a call between them met a fault, the count rose (at the greatest number it counts as
+/// risen), or a store was at its end: no further checkpoint could be made, or no further row got a number. Where the device keeps the
+/// rules and the store ran at first, the store at the later moment is then at its end.
+pub fn a_fault_is_counted<P: Pages, A: Allocator + Copy>(
+    _start: &Meter<P, A>,
+    _finish: &Meter<P, A>,
+)
+    ensures later { Reaches (Some _start.now) (Some _finish.now) → GoesOn (view_of _start.now.store) (view_of _finish.now.store) }
+    ensures any { MeetsFault (Some _start.now) (Some _finish.now)
+        → Rose (view_of _start.now.store).faults (view_of _finish.now.store).faults ⊎ MeetsEnd (Some _start.now) (Some _finish.now) }
+    ensures honest { (w : MeterWorld) → IsAt true _start.now w → IsRunningIn w.store → MeetsFault (Some _start.now) (Some _finish.now)
+        → Rose (view_of _start.now.store).faults (view_of _finish.now.store).faults ⊎ IsSpent _finish.now.store }
+{}
+
+/// So a replay from a running store goes well where the count did not rise and no store was at its end: on a device that keeps the
+/// rules it is enough to look at the two ends.
+pub fn a_replay_without_a_rise_goes_well<P: Pages, A: Allocator + Copy>(
+    _start: &Meter<P, A>,
+    _finish: &Meter<P, A>,
+)
+    ensures honest { (w : MeterWorld) (number : ℕ) (lines : List (List ℕ)) (written : List ℕ) (end : End) (last : Option MeterWorld) → IsAt true _start.now w → IsRunningIn w.store
+        → (Rose (view_of _start.now.store).faults (view_of _finish.now.store).faults → ⊥) → (IsSpent _finish.now.store → ⊥)
+        → (r : ReplaysOr (MeetsFault (Some _start.now) (Some _finish.now)) true w number lines written end last) → GoesWell true w number lines written end last r.0 }
+    ensures any { (honest : Bool) (w : MeterWorld) (number : ℕ) (lines : List (List ℕ)) (written : List ℕ) (end : End) (last : Option MeterWorld) → IsRunningIn w.store
+        → (Rose (view_of _start.now.store).faults (view_of _finish.now.store).faults → ⊥) → (MeetsEnd (Some _start.now) (Some _finish.now) → ⊥)
+        → (r : ReplaysOr (MeetsFault (Some _start.now) (Some _finish.now)) honest w number lines written end last) → GoesWell honest w number lines written end last r.0 }
 {}
 
 /// The numbers that clauses cite by name: what holds, in seconds, where the words say nothing.

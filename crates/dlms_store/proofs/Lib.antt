@@ -8,6 +8,7 @@ pub mod Going
 pub mod Images
 pub mod JournalPages
 pub mod Keeping
+pub mod Later
 pub mod Looking
 pub mod Opening
 pub mod Recovering

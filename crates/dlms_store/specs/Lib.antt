@@ -4,6 +4,7 @@ pub mod Fault
 pub mod Fitting
 pub mod Going
 pub mod Image
+pub mod Later
 pub mod Layout
 pub mod Migration
 pub mod Page

@@ -49,6 +49,7 @@ pub struct Store<P: Pages, A: Allocator = Global> {
 
 impl<P: Pages, A: Allocator + Copy> Store<P, A> {
     ghost use Rattle.dlms_store.specs.Store.{view_of, state_in, records_in, IsStopped, IsRunning, IsTooSmall, IsLast, refusal_in, HasRoom, JoinsPending, AddIsExhausted, CommitIsExhausted, RoomIsExhausted, Remembers, Settles, Joins, JoinsAlone, Fails, IsElsewhereSame, IsFull, IsRenewed, IsRingFull, MakesCheckpoint, TakesPage};
+    ghost use Rattle.dlms_store.specs.Later.{GoesOn, IsLater, LeavesNoEarlier};
     ghost use Rattle.dlms_store.specs.World.{StoreWorld};
     ghost use Rattle.dlms_store.specs.World.StoreWorld.{Runs, Rests};
     ghost use Rattle.dlms_store.specs.Active.{IsFound, IsFresh, IsStale};
@@ -67,7 +68,7 @@ impl<P: Pages, A: Allocator + Copy> Store<P, A> {
         ensures formatted { (P.view device).honest ≡ true → IfOk result (λ store. Leaves (view_of store) IsFormatted) }
         ensures size { IfErr result (λ e. (e.1 ≡ OpenFault.Size) ↔ IsTooSmall (P.view device)) }
         ensures small { IfErr result (λ e. e.1 ≡ OpenFault.Size → e.0 ≡ device) }
-        ensures later { MatchResult result (λ store. (P.view device).faults ≤ (view_of store).faults) (λ e. (P.view device).faults ≤ (P.view e.0).faults) }
+        ensures later { MatchResult result (λ store. GoesOn (P.view device) (view_of store)) (λ e. GoesOn (P.view device) (P.view e.0)) }
         ensures device { IfErr result (λ e. e.1 ≡ OpenFault.Device → Rose (P.view device).faults (P.view e.0).faults) }
         ensures faults { IfErr result (λ e. (e.1 ≢ OpenFault.NoCheckpoint) × ((page : ℕ) → e.1 ≢ OpenFault.Corrupt page) × (e.1 ≢ OpenFault.Exhausted)) }
         ensures memory { (P.view device).honest ≡ true → IfErr result (λ e. e.1 ≡ OpenFault.Memory → Leaves (P.view e.0) IsClear) }
@@ -109,7 +110,7 @@ impl<P: Pages, A: Allocator + Copy> Store<P, A> {
         ensures size { IfErr result (λ e. (e.1 ≡ OpenFault.Size) ↔ IsTooSmall (P.view device)) }
         ensures device { IfErr result (λ e. e.1 ≡ OpenFault.Device → Rose (P.view device).faults (P.view e.0).faults) }
         ensures small { IfErr result (λ e. e.1 ≡ OpenFault.Size → e.0 ≡ device) }
-        ensures later { MatchResult result (λ store. (P.view device).faults ≤ (view_of store).faults) (λ e. (P.view device).faults ≤ (P.view e.0).faults) }
+        ensures later { MatchResult result (λ store. GoesOn (P.view device) (view_of store)) (λ e. GoesOn (P.view device) (P.view e.0)) }
         ensures spared { (P.view device).honest ≡ true → IfErr result (λ e. IsSpared (P.view device) (P.view e.0) e.1) }
         ensures exact { (P.view device).honest ≡ true → MatchResult result (IsOpened (P.view device).seen) (λ e. IsCause e.1 (P.view device).seen) }
         ensures steady { (events : List EventOf) → (P.view device).honest ≡ true → ((image : Image) → (P.view device).may_leave image → StandsFor events image)
@@ -150,7 +151,7 @@ impl<P: Pages, A: Allocator + Copy> Store<P, A> {
         ensures device { IfErr result (λ e. e.1 ≡ OpenFault.Device → Rose (P.view device).faults (P.view e.0).faults) }
         ensures exhausted { IfErr result (λ e. e.1 ≡ OpenFault.Exhausted → (found.edition.generation ≡ LAST_GENERATION) × IsStale found) }
         ensures spares { IfErr result (λ e. e.1 ≡ OpenFault.Exhausted → e.0 ≡ device) }
-        ensures later { MatchResult result (λ store. (P.view device).faults ≤ (view_of store).faults) (λ e. (P.view device).faults ≤ (P.view e.0).faults) }
+        ensures later { MatchResult result (λ store. GoesOn (P.view device) (view_of store)) (λ e. GoesOn (P.view device) (P.view e.0)) }
         ensures faults { IfErr result (λ e. (e.1 ≡ OpenFault.Device) ⊎ (e.1 ≡ OpenFault.Exhausted)) }
     {
         let mut device = device;
@@ -209,7 +210,7 @@ impl<P: Pages, A: Allocator + Copy> Store<P, A> {
         ensures joins_in_memory { OnOk result (JoinsPending self.old event → IsElsewhereSame self.old self.new) }
         ensures takes_page { OnOk result ((JoinsPending self.old event → ⊥) → (IsRingFull self.old → ⊥) → (IsFull self.old → ⊥) → TakesPage self.old self.new) }
         ensures makes_checkpoint { OnOk result ((JoinsPending self.old event → ⊥) → IsRingFull self.old ⊎ IsFull self.old → MakesCheckpoint self.old self.new) }
-        ensures later { (view_of self.old).faults ≤ (view_of self.new).faults }
+        ensures later { IsLater self.old self.new }
     {
         if self.stopped {
             return Err(AddFault::Stopped);
@@ -244,7 +245,7 @@ impl<P: Pages, A: Allocator + Copy> Store<P, A> {
         ensures answers { (Rose (view_of self.old).faults (view_of self.new).faults → ⊥) → (RoomIsExhausted self.old event.now → ⊥) → IsOk result }
         ensures exhausted { (result ≡ Err StoreFault.Exhausted) ↔ RoomIsExhausted self.old event.now }
         ensures unchanged { OnErr result (result ≢ Err StoreFault.Device → self.new ≡ self.old) }
-        ensures later { (view_of self.old).faults ≤ (view_of self.new).faults }
+        ensures later { IsLater self.old self.new }
     {
         if self.captured == MOST_CAPTURED {
             return self.checkpoint();
@@ -264,6 +265,7 @@ impl<P: Pages, A: Allocator + Copy> Store<P, A> {
         ensures run { (before : StoreWorld) → IsRunning self.old → StoreFits self.old before → Moves (Adds event) before self.old self.new }
         ensures joins { Joins event self.old self.new }
         ensures same { IsElsewhereSame self.old self.new }
+        ensures number { (state_in self.old).rows.next ≤ (state_in self.new).rows.next }
         ensures page { length (records_in self.new) ≤ MOST_PAYLOAD }
     {
         self.join(event, spelled);
@@ -277,6 +279,7 @@ impl<P: Pages, A: Allocator + Copy> Store<P, A> {
         requires number { HasNumberFor (state_in self.old) event }
         ensures joins { Joins event self.old self.new }
         ensures same { IsElsewhereSame self.old self.new }
+        ensures number { (state_in self.old).rows.next ≤ (state_in self.new).rows.next }
         ensures captured { self.new.captured + (state_in self.old).rows.next ≡ self.old.captured + (state_in self.new).rows.next }
         ensures page { length (records_in self.new) ≤ MOST_PAYLOAD }
     {
@@ -302,7 +305,7 @@ impl<P: Pages, A: Allocator + Copy> Store<P, A> {
         ensures takes_page { OnOk result ((records_in self.old ≡ [] → ⊥) → (IsFull self.old → ⊥) → TakesPage self.old self.new) }
         ensures makes_checkpoint { OnOk result ((records_in self.old ≡ [] → ⊥) → IsFull self.old → MakesCheckpoint self.old self.new) }
         ensures page { (view_of self.old).honest ≡ true → OnOk result ((records_in self.old ≡ [] → ⊥) → (IsFull self.old → ⊥) → Leaves (view_of self.new) (HasJournalPage self.old.next self.old.generation (records_in self.old))) }
-        ensures later { (view_of self.old).faults ≤ (view_of self.new).faults }
+        ensures later { IsLater self.old self.new }
     {
         self.settle_pending()
     }
@@ -324,7 +327,7 @@ impl<P: Pages, A: Allocator + Copy> Store<P, A> {
         ensures takes_page { OnOk result ((records_in self.old ≡ [] → ⊥) → (IsFull self.old → ⊥) → TakesPage self.old self.new) }
         ensures makes_checkpoint { OnOk result ((records_in self.old ≡ [] → ⊥) → IsFull self.old → MakesCheckpoint self.old self.new) }
         ensures page { (view_of self.old).honest ≡ true → OnOk result ((records_in self.old ≡ [] → ⊥) → (IsFull self.old → ⊥) → Leaves (view_of self.new) (HasJournalPage self.old.next self.old.generation (records_in self.old))) }
-        ensures later { (view_of self.old).faults ≤ (view_of self.new).faults }
+        ensures later { IsLater self.old self.new }
     {
         if self.stopped {
             return Err(StoreFault::Stopped);
@@ -367,7 +370,7 @@ impl<P: Pages, A: Allocator + Copy> Store<P, A> {
         ensures answers { IsRunning self.old → (Rose (view_of self.old).faults (view_of self.new).faults → ⊥) → (IsLast self.old → ⊥) → IsOk result }
         ensures exhausted { (result ≡ Err StoreFault.Exhausted) ↔ (IsRunning self.old × IsLast self.old) }
         ensures unchanged { OnErr result (result ≢ Err StoreFault.Device → self.new ≡ self.old) }
-        ensures later { (view_of self.old).faults ≤ (view_of self.new).faults }
+        ensures later { IsLater self.old self.new }
     {
         if self.stopped {
             return Err(StoreFault::Stopped);
@@ -418,6 +421,8 @@ impl<P: Pages, A: Allocator + Copy> Store<P, A> {
         ensures settles { (IsStopped self → ⊥) → (Rose (view_of self).faults (P.view result).faults → ⊥) → (CommitIsExhausted self → ⊥)
             → (before : StoreWorld) → StoreFits self before → GivesUp Closes before (view_of self) (P.view result) }
         ensures nothing { IsRunning self → records_in self ≡ [] → result ≡ self.device }
+        ensures later { GoesOn (view_of self) (P.view result) }
+        ensures from { IsRunning self → (Rose (view_of self).faults (P.view result).faults → ⊥) → (before : StoreWorld) → StoreFits self before → LeavesNoEarlier self (P.view result) }
     {
         let mut store = self;
         let _in_doubt = store.commit();

@@ -11,7 +11,7 @@ use Rattle.dlms_service.specs.Session.{fresh}
 use Rattle.dlms_store.specs.World.StoreWorld.{Runs}
 use Rattle.dlms_world.specs.World.{World, first_world}
 use Rattle.dlms_world.specs.Turn.{Run, Stays, Goes, Begins, Arrives, Takes, silent}
-use Rattle.dlms_world.specs.Agree.{CanBegin}
+use Rattle.dlms_world.specs.Possible.{CanBegin}
 use Rattle.dlms_world.proofs.Lawful.{none_legal}
 
 abbrev begun : PlanValue → World

@@ -205,7 +205,7 @@ kept_after who (Ends w frame rest rows runs line down released) g still k =
 kept_after who (FailsAt w frame rest fault runs line fails) g still k = tt
 kept_after who (TimedOut w runs up) g still k = k
 kept_after who (GivesUp w fault runs closed) g still k = tt
-kept_after who (TurnsTo w plan over client) g still k = tt
+kept_after who (TurnsTo w plan up down) g still k = tt
 kept_after who (Merges w done) g still k = k
 kept_after who (LosesUp w) g still k = k
 kept_after who (LosesDown w) g still k = k
@@ -279,7 +279,7 @@ steady plan w Stays still asks = record { kept = tt; file = tt }
 steady plan w (Goes mid now run turn) still asks =
     let before = steady plan mid run still.0 asks.0 in
     let g = good tells plan mid run in
-    record { kept = kept_after plan.client turn g still.1 before.kept; file = named_after plan.client turn g asks.1 before.kept before.file }
+    record { kept = kept_after mid.plan.client turn g still.1 before.kept; file = named_after mid.plan.client turn g asks.1 before.kept before.file }
 
 pub readings_are_named : ReadingsAreNamed
 readings_are_named plan w run still asks = still_named (settled_in w.memory) (events_in w.memory) w.file (settled_begins w.memory) (steady plan w run still asks).file

@@ -30,6 +30,7 @@ use Rattle.dlms_world.specs.World.{World}
 use Rattle.dlms_world.specs.Turn.{Begins as BeginsTurn, GoesOn, AsksNext, Leaves, Ends, FailsAt, TimedOut, GivesUp, reached, gives, IsFree, IsOnItsOwn, Fails}
 use Rattle.dlms_world.specs.Calls.{IsPollerOf, IsUnderWay, taken_by, IsAsideSame, TurnsInto, sent_first, sent_on, sent_again, NewIsFirst, NextIsTurn, OnIsTurn, TimeoutIsTurn}
 use Rattle.dlms_world.proofs.Standing.{Stands, client_stands}
+use Rattle.dlms_world.proofs.Records.{same_records}
 
 -- ---- a poller and its world
 
@@ -104,7 +105,7 @@ record Behind (w : World) (rest : List Parts) (sent : List Parts) : Type 0 where
   meter : (reached w).meter ≡ w.link.meter
 
 aside : (w now : World) → now.plan.client ≡ w.plan.client → now.link.meter ≡ w.link.meter → now.session ≡ w.session → now.others ≡ w.others → now.memory ≡ w.memory → now.file ≡ w.file → IsAsideSame w now
-aside w now client meter session others memory file = record { client = client; meter = meter; session = session; others = others; memory = memory; file = file }
+aside w now client meter session others memory file = record { records = same_records w now client meter session others; memory = memory; file = file }
 
 -- a frame more goes out
 one_more : (w : World) (rest : List Parts) (frame : Parts) → Behind w rest [] → (reached w).up_line ++ frame ∷ [] ≡ w.link.up_line ++ frame ∷ []

@@ -8,7 +8,7 @@ use Rattle.dlms_link.specs.declared.phase.Phase.TheVariants.{Closed, Connecting}
 use Rattle.dlms_link.specs.declared.out.LinkOut.{LinkOut}
 use Rattle.dlms_link.specs.declared.out.LinkOut.TheVariants.{Nothing, Reply, Apdu, Oversize, BadLlc, Up, Down}
 use Rattle.dlms_link.specs.Server.{ServerRecord}
-use Rattle.dlms_link.specs.World.{LinkWorld as Link, connects, meter_does}
+use Rattle.dlms_link.specs.World.{LinkWorld as Link, start, connects, meter_does}
 use Rattle.dlms_meter.specs.Transfers.{Exchange, Asked, InTurn}
 use Rattle.dlms_meter.specs.Run.{Choice, Does}
 use Rattle.dlms_world.proofs.Clients.{by_link}
@@ -54,6 +54,20 @@ broken who link other ours session now served c same_served same_answers dead = 
   in_turn = c.in_turn;
   now = λ h. absurd (never h);
   alive = λ h. absurd (dead h);
+}
+  where
+    never : false ≡ true → ⊥
+    never h = cc
+
+-- a new client, of which nothing was served
+pub anew : (who : Client) (m : ServerRecord) (up down : List Parts) (session : SessionValue) → Chain who (record (start who) { meter = m; up_line = up; down_line = down }) false session []
+anew who m up down session = record {
+  apdus = refl;
+  answers = refl;
+  last = fresh who;
+  in_turn = refl;
+  now = λ h. absurd (never h);
+  alive = λ h. absurd (nothing_true m.up h);
 }
   where
     never : false ≡ true → ⊥

@@ -15,7 +15,7 @@ use Rattle.dlms_classes.specs.declared.access.AccessResult.TheVariants.{OtherRea
 use Rattle.dlms_classes.specs.Access.{number_of}
 use Rattle.dlms_data.specs.Value.{Value}
 use Rattle.dlms_data.specs.Writing.{canonical}
-use Rattle.dlms_link.specs.Server.{ServerRecord}
+use Rattle.dlms_link.specs.Server.{ServerRecord, by_row, row_of, server_on}
 use Rattle.dlms_link.specs.declared.out.LinkOut.{LinkOut}
 use Rattle.dlms_link.specs.declared.out.LinkOut.TheVariants.{Nothing, Reply, Apdu, Oversize, BadLlc, Up, Down}
 use Rattle.dlms_service.specs.Blocks.{Steps, ContinuesFor, open_for}
@@ -30,7 +30,11 @@ use Rattle.dlms_state.specs.declared.event.Event.{Event}
 use Rattle.dlms_service.specs.Stake.{Fails, fails, failing, stake_of}
 use Rattle.dlms_service.specs.declared.stake.Stake.{Stake}
 use Rattle.dlms_service.specs.declared.stake.Stake.TheVariants as stake
-use Rattle.dlms_meter.specs.Run.{Choice, Served, DeviceFails, Does, ByLink}
+use Rattle.dlms_meter.specs.Run.{Choice, Served, DeviceFails, Does, ByLink, Answered, Handled, Handles, replies, sends}
+use Rattle.dlms_meter.specs.ClientRecord.{ClientRecord}
+use Rattle.dlms_frame.specs.Frame.{Parts, spelling}
+use Rattle.dlms_link.specs.declared.server_row.ServerRow.{ServerRow}
+use Rattle.dlms_link.specs.declared.server_row.ServerRow.TheVariants.{Connects, Refuses, Disconnects, Keeps, HandsUp, Repeats, SendsNext, SaysReady, Ignores}
 use Rattle.dlms_service.specs.Session.{fresh, not_possible, unknown_service}
 use Rattle.dlms_world.specs.Turn.{Answers, silent}
 
@@ -142,3 +146,36 @@ answers_stay choice E r s (Up frame) o is = ap (λ (x : Outcome). x.own.client) 
 answers_stay choice E r s (Down frame) o is = ap (λ (x : Outcome). x.own.client) (by_link choice (o ≡ silent (fresh s.client)) is)
 answers_stay choice E r s Nothing o is = ap (λ (x : Outcome). x.own.client) (by_link choice (o ≡ silent s) is)
 answers_stay choice E r s (Reply frame) o is = ap (λ (x : Outcome). x.own.client) (by_link choice (o ≡ silent s) is)
+
+-- ---- and so does its whole record
+
+row_stays : (r : ServerRecord) (f : Parts) (row : ServerRow) → (by_row r f row).0.client ≡ r.client
+row_stays r f (Connects size) = refl
+row_stays r f Refuses = refl
+row_stays r f Disconnects = refl
+row_stays r f Keeps = refl
+row_stays r f HandsUp = refl
+row_stays r f Repeats = refl
+row_stays r f SendsNext = refl
+row_stays r f SaysReady = refl
+row_stays r f Ignores = refl
+
+abbrev IsOf : ServerRecord → SessionValue → Handled → Type 0
+IsOf r s h = (h.own.link.client ≡ r.client) × (h.own.session.client ≡ s.client)
+
+is_of : (r : ServerRecord) (s : SessionValue) (h other : Handled) → h ≡ other → IsOf r s other → IsOf r s h
+is_of r s h other is (link, session) = (ap (λ (x : Handled). x.own.link.client) is ∙ link, ap (λ (x : Handled). x.own.session.client) is ∙ session)
+
+answered_own : (choice : Choice) (E : List Event) (r : ServerRecord) (s : SessionValue) (result : LinkOut) (h : Handled) → Answered choice E r s result h → IsOf r s h
+answered_own choice E r s Nothing h is = is_of r s h (replies r s None) (by_link choice (h ≡ replies r s None) is) (refl, refl)
+answered_own choice E r s (Reply f) h is = is_of r s h (replies r s (Some (spelling f))) (by_link choice (h ≡ replies r s (Some (spelling f))) is) (refl, refl)
+answered_own choice E r s (Up f) h is = is_of r s h (replies r (fresh s.client) (Some (spelling f))) (by_link choice (h ≡ replies r (fresh s.client) (Some (spelling f))) is) (refl, refl)
+answered_own choice E r s (Down f) h is = is_of r s h (replies r (fresh s.client) (Some (spelling f))) (by_link choice (h ≡ replies r (fresh s.client) (Some (spelling f))) is) (refl, refl)
+answered_own choice E r s Apdu h (o, does, is) = is_of r s h (sends r o) is (refl, does_stay choice E s r.apdu o does)
+answered_own choice E r s Oversize h is = is_of r s h (sends r (not_possible s)) (by_link choice (h ≡ sends r (not_possible s)) is) (refl, refl)
+answered_own choice E r s BadLlc h is = is_of r s h (sends r (unknown_service s)) (by_link choice (h ≡ sends r (unknown_service s)) is) (refl, refl)
+
+pub handles_own : (choice : Choice) (E : List Event) (own : ClientRecord) (f : Parts) (h : Handled) → Handles choice E own f h → (h.own.link.client ≡ own.link.client) × (h.own.session.client ≡ own.session.client)
+handles_own choice E own f h handles =
+    let kept = answered_own choice E (server_on own.link f).0 own.session (server_on own.link f).1 h handles in
+    (kept.0 ∙ row_stays own.link f (row_of own.link f), kept.1)

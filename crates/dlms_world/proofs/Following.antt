@@ -120,10 +120,10 @@ times room some zero = omega arith
 times room some (suc n) = let more : n * room + room ≡ suc n * room = omega arith in omega (arith, more, times room some n, some)
 
 -- a block that is not the last one has a small number
-few_blocks : (encoding : List ℕ) (room n : ℕ) → IsSent encoding room → is_last encoding room n ≡ false → n < 65536
+pub few_blocks : (encoding : List ℕ) (room n : ℕ) → IsSent encoding room → is_last encoding room n ≡ false → n < 65536
 few_blocks encoding room n sent last = omega (arith, leb-false (length encoding) (n * room) last, sent.short, times room sent.some n)
 
-one_more : (encoding : List ℕ) (room k : ℕ) → blocks_up_to encoding room k ++ block_bytes encoding room (k + 1) ≡ blocks_up_to encoding room (k + 1)
+pub one_more : (encoding : List ℕ) (room k : ℕ) → blocks_up_to encoding room k ++ block_bytes encoding room (k + 1) ≡ blocks_up_to encoding room (k + 1)
 one_more encoding room k = ap (blocks_up_to encoding room) (sym (add-one k))
 
 pub spells_data : (taken : ℕ) (joined : List ℕ) (read : Result ResponseForm Refusal) (rows : List Row) → SpellsBy taken joined read rows → GivesDataBy read

@@ -63,7 +63,7 @@ no_data o s form reads short is given = dataless form short (subst GivesDataBy (
 
 -- ---- what is wanted
 
-whole_range : (second : ℕ) (value : Value) (r : IsRange second value) → value ≡ range (octet_string r.from_first.octets) (octet_string r.to_last.octets)
+pub whole_range : (second : ℕ) (value : Value) (r : IsRange second value) → value ≡ range (octet_string r.from_first.octets) (octet_string r.to_last.octets)
 whole_range second value r = r.is ∙ ap (λ v. range v r.last) r.from_first.value ∙ ap (λ v. range (octet_string r.from_first.octets) v) r.to_last.value
 
 -- a client is shown the rows between two date-times
@@ -165,7 +165,7 @@ range_fits first last size_first size_last = record {
     short : (l : List ℕ) → length l ≡ 12 → length l < 2 ^ 32
     short l e = omega (arith, e)
 
-get_read : (second : ℕ) (value : Value) → IsRange second value → request_at (buffer_bytes value) ≡ Ok (get_normal invoke buffer (range_part value))
+pub get_read : (second : ℕ) (value : Value) → IsRange second value → request_at (buffer_bytes value) ≡ Ok (get_normal invoke buffer (range_part value))
 get_read second value r =
     let fits : Fits value = subst Fits (sym (whole_range second value r)) (range_fits r.from_first.octets r.to_last.octets r.from_first.names.size r.to_last.names.size) in
     reads_written_requests (get_normal invoke buffer (range_part value)) fits (omega arith, refl)
@@ -179,7 +179,7 @@ table_shown E s second value o r g = wants E s.client (has g.a selective_access)
 
 -- ---- the GET of the columns
 
-columns_read : request_at columns_bytes ≡ Ok (get_normal invoke capture_objects None)
+pub columns_read : request_at columns_bytes ≡ Ok (get_normal invoke capture_objects None)
 columns_read = reads_written_requests (get_normal invoke capture_objects None) tt (omega arith, refl)
 
 pub columns_tell : (E : List Event) (s : SessionValue) (o : Outcome) → GivesData o.answer → (choice : Choice) → Does choice E s columns_bytes o → Gave capture_objects None E s o

@@ -9,12 +9,12 @@ use Rattle.dlms_headend.specs.declared.stage.Course.{Course}
 use Rattle.dlms_headend.specs.declared.stage.Course.TheVariants.{Ready, Running, Done, Failed}
 use Rattle.dlms_link.specs.Client.{ClientRecord}
 use Rattle.dlms_link.specs.Server.{ServerRecord, server_on}
-use Rattle.dlms_link.specs.World.{LinkWorld as Link, happens, LinkEvent, Connect, Give, Disconnect, ReachesMeter, ReachesClient, LostUp, LostDown, TimesOut, Restarts, Intrudes, TakesOver, reaches_meter, intrudes, takes_over}
+use Rattle.dlms_link.specs.World.{LinkWorld as Link, happens, LinkEvent, Connect, Give, Disconnect, ReachesMeter, ReachesClient, LostUp, LostDown, TimesOut, Restarts, Intrudes, start, reaches_meter, intrudes}
 use Rattle.dlms_link.specs.declared.phase.Phase.{Phase}
 use Rattle.dlms_link.specs.declared.phase.Phase.TheVariants.{Closed, Connecting, Open, Closing}
 use Rattle.dlms_link.specs.declared.out.LinkOut.{LinkOut}
 use Rattle.dlms_link.specs.declared.out.LinkOut.TheVariants.{Nothing, Reply, Apdu, Oversize, BadLlc, Up, Down}
-use Rattle.dlms_link.proofs.Sound.{Sound}
+use Rattle.dlms_link.proofs.Sound.{Sound, Away}
 use Rattle.dlms_link.proofs.Steps.{keep as link_keeps}
 use Rattle.dlms_meter.specs.Transfers.{Exchange}
 use Rattle.dlms_meter.specs.Run.{Choice}
@@ -28,7 +28,8 @@ use Rattle.dlms_world.specs.Turn.{Turn, Begins, GoesOn, AsksNext, Leaves, Ends, 
 use Rattle.dlms_world.proofs.Growing.{grows, run_grows, through, same as same_events, all_settled}
 use Rattle.dlms_world.proofs.Live.{live, allows, AllowsAt, server_stands, aside_same, live_before, IsAside, IsSame}
 use Rattle.dlms_link.proofs.LineLaws.{quiet, IsQuiet}
-use Rattle.dlms_world.proofs.Clients.{answers_stay}
+use Rattle.dlms_world.proofs.Clients.{answers_stay, handles_own}
+use Rattle.dlms_world.proofs.Records.{AreOwn, with_own}
 use Rattle.dlms_world.proofs.Standing.{client_stands, waited, WaitsAt, IsAwaited}
 use Rattle.dlms_world.proofs.Standing as standing
 use Rattle.std.proofs.Common.{None}
@@ -37,7 +38,7 @@ use Rattle.dlms_link.specs.Client.{client_step}
 use Rattle.dlms_link.specs.declared.out.ClientOut.{ClientOut}
 use Rattle.dlms_link.specs.World.{client_does, reaches_client}
 use Rattle.dlms_headend.specs.declared.poll_fault.PollFault.{PollFault}
-use Rattle.dlms_world.specs.Turn.{Fails, IsOver}
+use Rattle.dlms_world.specs.Turn.{Fails, IsOver, records_in}
 use Rattle.dlms_link.proofs.LineLaws.{silent, IsSilent, resting, IsResting}
 use Rattle.dlms_world.proofs.Chains as chain
 use Rattle.dlms_world.proofs.Chains.{Chain, asked_in, told_in}
@@ -58,7 +59,7 @@ settles_on (Ends w frame rest rows runs line down released) = same_events (settl
 settles_on (FailsAt w frame rest fault runs line fails) = same_events (settled_in w.memory)
 settles_on (TimedOut w runs up) = same_events (settled_in w.memory)
 settles_on (GivesUp w fault runs closed) = same_events (settled_in w.memory)
-settles_on (TurnsTo w plan over client) = same_events (settled_in w.memory)
+settles_on (TurnsTo w plan up down) = same_events (settled_in w.memory)
 settles_on (Merges w done) = same_events (settled_in w.memory)
 settles_on (LosesUp w) = same_events (settled_in w.memory)
 settles_on (LosesDown w) = same_events (settled_in w.memory)
@@ -77,35 +78,62 @@ pub record Linked (who : Client) (w : World) : Type 0 where
   pub sound : Sound who w.link
   pub plan : w.plan.client ≡ who
   pub session : w.session.client ≡ who
+  pub others : AreOwn w.others
 
-pub linked : (who : Client) {w now : World} → Turn w now → Linked who w → Linked who now
-linked who (Begins w ready) l = record { sound = link_keeps who Connect l.sound; plan = l.plan; session = l.session }
-linked who (GoesOn w frame rest runs line own) l = record { sound = link_keeps who ReachesClient l.sound; plan = l.plan; session = l.session }
-linked who (AsksNext w frame rest apdu short runs line free asks) l = record { sound = link_keeps who (Give apdu short) (link_keeps who ReachesClient l.sound); plan = l.plan; session = l.session }
-linked who (Leaves w frame rest rows runs line free released) l = record { sound = link_keeps who Disconnect (link_keeps who ReachesClient l.sound); plan = l.plan; session = l.session }
-linked who (Ends w frame rest rows runs line down released) l = record { sound = link_keeps who ReachesClient l.sound; plan = l.plan; session = l.session }
-linked who (FailsAt w frame rest fault runs line fails) l = record { sound = link_keeps who ReachesClient l.sound; plan = l.plan; session = l.session }
-linked who (TimedOut w runs up) l = record { sound = link_keeps who TimesOut l.sound; plan = l.plan; session = l.session }
-linked who (GivesUp w fault runs closed) l = record { sound = link_keeps who TimesOut l.sound; plan = l.plan; session = l.session }
-linked who (TurnsTo w plan over client) l = record { sound = link_keeps who TakesOver l.sound; plan = client ∙ l.plan; session = l.session }
-linked who (Merges w done) l = record { sound = l.sound; plan = l.plan; session = l.session }
-linked who (LosesUp w) l = record { sound = link_keeps who LostUp l.sound; plan = l.plan; session = l.session }
-linked who (LosesDown w) l = record { sound = link_keeps who LostDown l.sound; plan = l.plan; session = l.session }
+-- whose the poll is behind a step
+abbrev pub whose_after : Client → {w now : World} → Turn w now → Client
+whose_after who (TurnsTo w plan up down) = plan.client
+whose_after who _ = who
+
+-- the meter's end of a line is that of its client
+pub whose_meter : (who : Client) (link : Link) → Sound who link → link.meter.client ≡ who
+whose_meter who link (Away m x asked served answers taken ps pt) = refl
+whose_meter who link _ = refl
+
+-- and of a new one's
+new_sound : (who : Client) (m : ServerRecord) (up down : List Parts) → m.client ≡ who → up ≡ [] → down ≡ [] → Sound who (record (start who) { meter = m; up_line = up; down_line = down })
+new_sound who m up down is no_up no_down =
+    subst (λ (frames : List Parts). Sound who (record (start who) { meter = m; up_line = frames; down_line = down })) (sym no_up)
+    (subst (λ (frames : List Parts). Sound who (record (start who) { meter = m; down_line = frames })) (sym no_down)
+    (subst (λ (r : ServerRecord). Sound who (record (start who) { meter = r })) (ap (λ (c : Client). record m { client = c }) (sym is)) (Away m [] [] [] [] [] ([], refl) ([], refl))))
+
+pub all_own : (who : Client) (w : World) → Linked who w → AreOwn (records_in w)
+all_own who w l = with_own w.others w.plan.client (record { link = w.link.meter; session = w.session }) l.others (whose_meter who w.link l.sound ∙ sym l.plan) (l.session ∙ sym l.plan)
+
+pub linked : (who : Client) {w now : World} (turn : Turn w now) → Linked who w → Linked (whose_after who turn) now
+linked who (Begins w ready) l = record { sound = link_keeps who Connect l.sound; plan = l.plan; session = l.session; others = l.others }
+linked who (GoesOn w frame rest runs line own) l = record { sound = link_keeps who ReachesClient l.sound; plan = l.plan; session = l.session; others = l.others }
+linked who (AsksNext w frame rest apdu short runs line free asks) l = record { sound = link_keeps who (Give apdu short) (link_keeps who ReachesClient l.sound); plan = l.plan; session = l.session; others = l.others }
+linked who (Leaves w frame rest rows runs line free released) l = record { sound = link_keeps who Disconnect (link_keeps who ReachesClient l.sound); plan = l.plan; session = l.session; others = l.others }
+linked who (Ends w frame rest rows runs line down released) l = record { sound = link_keeps who ReachesClient l.sound; plan = l.plan; session = l.session; others = l.others }
+linked who (FailsAt w frame rest fault runs line fails) l = record { sound = link_keeps who ReachesClient l.sound; plan = l.plan; session = l.session; others = l.others }
+linked who (TimedOut w runs up) l = record { sound = link_keeps who TimesOut l.sound; plan = l.plan; session = l.session; others = l.others }
+linked who (GivesUp w fault runs closed) l = record { sound = link_keeps who TimesOut l.sound; plan = l.plan; session = l.session; others = l.others }
+linked who (TurnsTo w plan up down) l =
+    let own : AreOwn (records_in w) = all_own who w l in
+    record { sound = new_sound plan.client (records_in w plan.client).link w.link.up_line w.link.down_line (own plan.client).0 up down; plan = refl; session = (own plan.client).1; others = own }
+linked who (Merges w done) l = record { sound = l.sound; plan = l.plan; session = l.session; others = l.others }
+linked who (LosesUp w) l = record { sound = link_keeps who LostUp l.sound; plan = l.plan; session = l.session; others = l.others }
+linked who (LosesDown w) l = record { sound = link_keeps who LostDown l.sound; plan = l.plan; session = l.session; others = l.others }
 linked who (Arrives w frame rest choice o memory line takes) l = record {
   sound = link_keeps who (ReachesMeter o.answer takes.short) l.sound;
   plan = l.plan;
   session = answers_stay choice (events_in w.memory) (server_on w.link.meter frame).0 w.session (server_on w.link.meter frame).1 o takes.answers ∙ l.session;
+  others = l.others;
 }
 linked who (Intruded w frame choice o memory between closed takes) l = record {
   sound = link_keeps who (Intrudes frame o.answer) l.sound;
   plan = l.plan;
   session = answers_stay choice (events_in w.memory) (server_on w.link.meter frame).0 w.session (server_on w.link.meter frame).1 o takes.answers ∙ l.session;
+  others = l.others;
 }
-linked who (OtherSends w other frame choice own reply answer accepted memory on differs of handles remembers) l = record { sound = l.sound; plan = l.plan; session = l.session }
-linked who (Happens w event memory on follows remembers) l = record { sound = l.sound; plan = l.plan; session = l.session }
-linked who (Works w memory on remembers) l = record { sound = l.sound; plan = l.plan; session = l.session }
-linked who (StopsInside w accepted mid memory on remembers stops) l = record { sound = link_keeps who Restarts l.sound; plan = l.plan; session = l.session }
-linked who (Restarted w step memory unusual next) l = record { sound = link_keeps who Restarts l.sound; plan = l.plan; session = l.session }
+linked who (OtherSends w other frame choice own reply answer accepted memory on differs of handles remembers) l =
+    let kept = handles_own choice (events_in w.memory) (w.others other) frame (record { own = own; reply = reply; answer = answer; accepted = accepted }) handles in
+    record { sound = l.sound; plan = l.plan; session = l.session; others = with_own w.others other own l.others (kept.0 ∙ (l.others other).0) (kept.1 ∙ (l.others other).1) }
+linked who (Happens w event memory on follows remembers) l = record { sound = l.sound; plan = l.plan; session = l.session; others = l.others }
+linked who (Works w memory on remembers) l = record { sound = l.sound; plan = l.plan; session = l.session; others = l.others }
+linked who (StopsInside w accepted mid memory on remembers stops) l = record { sound = link_keeps who Restarts l.sound; plan = l.plan; session = l.session; others = λ c. (refl, refl) }
+linked who (Restarted w step memory unusual next) l = record { sound = link_keeps who Restarts l.sound; plan = l.plan; session = l.session; others = λ c. (refl, refl) }
 
 -- ---- where the poll stands
 
@@ -129,11 +157,6 @@ fits_run course plan link runs fit = subst (λ c. StandsBy c plan link) (sym run
 
 awaited : (who : Client) (link : Link) (frame : Parts) (rest : List Parts) → Sound who link → link.down_line ≡ frame ∷ rest → IsAwaited link.client.waits
 awaited who link frame rest sound line = subst (λ l. WaitsAt l link.client.waits) line (waited who sound)
-
-taken_over : (link : Link) (up down : List Parts) → up ≡ [] → down ≡ [] → (takes_over link up down).client.phase ≡ Closed
-taken_over link [] [] a b = refl
-taken_over link [] (g ∷ down) a b = cc
-taken_over link (f ∷ up) down a b = cc
 
 -- a poll that is over awaits nothing, and nothing is on the line
 over_waits : (course : Course) (plan : PlanValue) (link : Link) → IsOver course → StandsBy course plan link → link.client.waits ≡ None
@@ -180,9 +203,7 @@ stands who (FailsAt w frame rest fault runs line fails) l s =
     ap (λ (c : ClientRecord). c.waits) (reached_client w.link frame rest line) ∙ fails_waits w.link.client (client_step w.link.client frame).0 (client_step w.link.client frame).1 w.plan.columns w.link.taken (happens w.link ReachesClient) fault (client_stands w.link.client frame) fails
 stands who (TimedOut w runs up) l s = fits_run w.course w.plan (happens w.link TimesOut) runs (asking.late_fits w.plan w.link (runs_fit w.course w.plan w.link runs s) up)
 stands who (GivesUp w fault runs closed) l s = subst (λ p. IsResting p (happens w.link TimesOut).client.waits) closed (resting who (link_keeps who TimesOut l.sound))
-stands who (TurnsTo w plan over client) l s =
-    let none = over_silent who w.course w.plan w.link l.sound over s in
-    taken_over w.link w.link.up_line w.link.down_line none.0 none.1
+stands who (TurnsTo w plan up down) l s = refl
 stands who (Merges w done) l s = s
 stands who (LosesUp w) l s = same_stands w.course w.plan w.link (happens w.link LostUp) (record { client = refl; asked = refl; taken = refl }) s
 stands who (LosesDown w) l s = same_stands w.course w.plan w.link (happens w.link LostDown) (record { client = refl; asked = refl; taken = refl }) s
@@ -205,16 +226,6 @@ closed_silent who link sound closed = (subst (λ p. IsQuiet p link.up_line link.
 reached_aside : (who : Client) (link : Link) (e : LinkEvent) → IsAside e → Sound who link → (ours : Bool) (session : SessionValue) (served : List Exchange) → Chain who link ours session served → Chain who (happens link e) ours session served
 reached_aside who link e a sound ours session served c = chain.aside who link (happens link e) ours session served c (aside_same link e a) (live_before who e a sound)
 
-takes_over_dead : (link : Link) (up down : List Parts) → up ≡ [] → down ≡ [] → live (takes_over link up down) ≡ true → ⊥
-takes_over_dead link [] [] a b h = Rattle.dlms_world.proofs.Live.nothing_true link.meter.up h
-takes_over_dead link [] (g ∷ down) a b h = cc
-takes_over_dead link (f ∷ up) down a b h = cc
-
-takes_over_served : (link : Link) (up down : List Parts) → ((takes_over link up down).served ≡ link.served) × ((takes_over link up down).answers ≡ link.answers)
-takes_over_served link [] [] = (refl, refl)
-takes_over_served link [] (g ∷ down) = (refl, refl)
-takes_over_served link (f ∷ up) down = (refl, refl)
-
 intrudes_dead : (link : Link) (f : Parts) (answer : List ℕ) (phase : Phase) → link.client.phase ≡ phase → phase ≡ Closed → live (intrudes link f answer phase) ≡ true → ⊥
 intrudes_dead link f answer Closed is closed h =
     Rattle.dlms_world.proofs.Live.nothing_true (intrudes link f answer Closed).meter.up (subst (λ p. ((intrudes link f answer Closed).meter.up && Rattle.dlms_world.proofs.Live.is_linked p link.down_line) ≡ true) is h)
@@ -234,7 +245,7 @@ restarts_dead link h = cc
 abbrev pub Chained : Client → World → Type 0
 Chained who w = Chain who w.link w.ours w.session w.served
 
-pub chained : (who : Client) {w now : World} → Turn w now → Linked who w → StandsBy w.course w.plan w.link → Chained who w → Chained who now
+pub chained : (who : Client) {w now : World} (turn : Turn w now) → Linked who w → StandsBy w.course w.plan w.link → Chained who w → Chained (whose_after who turn) now
 chained who (Begins w ready) l s c =
     let closed : w.link.client.phase ≡ Closed = ready_closed w ready s in
     chain.begins who w.link w.session w.link.client.phase closed (closed_silent who w.link l.sound closed)
@@ -247,10 +258,7 @@ chained who (Ends w frame rest rows runs line down released) l s c = reached_asi
 chained who (FailsAt w frame rest fault runs line fails) l s c = reached_aside who w.link ReachesClient tt l.sound w.ours w.session w.served c
 chained who (TimedOut w runs up) l s c = reached_aside who w.link TimesOut tt l.sound w.ours w.session w.served c
 chained who (GivesUp w fault runs closed) l s c = reached_aside who w.link TimesOut tt l.sound w.ours w.session w.served c
-chained who (TurnsTo w plan over client) l s c =
-    let none = over_silent who w.course w.plan w.link l.sound over s in
-    let same = takes_over_served w.link w.link.up_line w.link.down_line in
-    chain.broken who w.link (happens w.link TakesOver) w.ours w.session w.session w.served c same.0 same.1 (takes_over_dead w.link w.link.up_line w.link.down_line none.0 none.1)
+chained who (TurnsTo w plan up down) l s c = chain.anew plan.client (records_in w plan.client).link w.link.up_line w.link.down_line (records_in w plan.client).session
 chained who (Merges w done) l s c = c
 chained who (LosesUp w) l s c = reached_aside who w.link LostUp tt l.sound w.ours w.session w.served c
 chained who (LosesDown w) l s c = reached_aside who w.link LostDown tt l.sound w.ours w.session w.served c
@@ -307,7 +315,7 @@ data_settled (Ends w frame rest rows runs line down released) d = d
 data_settled (FailsAt w frame rest fault runs line fails) d = d
 data_settled (TimedOut w runs up) d = d
 data_settled (GivesUp w fault runs closed) d = d
-data_settled (TurnsTo w plan over client) d = d
+data_settled (TurnsTo w plan up down) d = tt
 data_settled (Merges w done) d = d
 data_settled (LosesUp w) d = d
 data_settled (LosesDown w) d = d

@@ -2,6 +2,7 @@ pub mod Growing
 pub mod Readings
 pub mod Live
 pub mod Clients
+pub mod Records
 pub mod Standing
 pub mod Chains
 pub mod Asked
@@ -18,9 +19,15 @@ pub mod Telling
 pub mod Ties
 pub mod Lawful
 pub mod Beginning
+pub mod Rounds
+pub mod Captured
+pub mod Served
+pub mod Tabled
+pub mod Done
 pub mod Called
 pub mod Tied
 pub mod Renewed
 pub mod Stopping
+pub mod HeadEndStops
 pub mod LineFrames
 pub mod ProgramLaw

@@ -1,11 +1,11 @@
 -- What is on the way to the poller are frames.
-use Rattle.std.proofs.Common.{arith, ◌≡◌, ◌≤◌, ◌<◌, ◌+◌, ℕ, Bool, false, List, [], ◌∷◌, ◌++◌, length, ap, length-append}
+use Rattle.std.proofs.Common.{arith, ◌≤◌, ◌<◌, ℕ, Bool, false, List, [], ◌∷◌, ◌++◌, length, ap, length-append}
 use Rattle.dlms_frame.specs.declared.client.Client.{Client}
 use Rattle.dlms_frame.specs.declared.client.Client.TheVariants.{Public, Management, Reader}
 use Rattle.dlms_frame.specs.declared.frame.Address.TheVariants.{One}
 use Rattle.dlms_frame.specs.Client.{sap_of}
 use Rattle.dlms_frame.specs.Frame.{Parts, IsFrame, tail_len}
-use Rattle.dlms_link.specs.Kept.{Kept, Fresh, Good, TooLong, BadStart, from_meter, llc}
+use Rattle.dlms_link.specs.Kept.{Kept, Fresh, Good, TooLong, BadStart, from_meter}
 use Rattle.dlms_link.specs.Parameters.{information_of, own_parameters}
 use Rattle.dlms_link.specs.Server.{to_client}
 use Rattle.dlms_link.specs.World.{LinkWorld as Link}

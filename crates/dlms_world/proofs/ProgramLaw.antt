@@ -1,7 +1,6 @@
 -- A program that makes the calls of a meter, a poller and a readings file is a run of the world.
-use Rattle.std.proofs.Common.{◌≡◌, ◌≢◌, ◌⊎◌, ◌∙◌, inl, inr, refl, sym, ap, subst, append-nil, ℕ, ◌+◌, Bool, true, false, List, [], ◌∷◌, ◌++◌, length, Option, None, Some, Result, Ok, Err}
-use Rattle.dlms_frame.specs.Frame.{Parts, IsFrame, FrameSpelling, spelling}
-use Rattle.dlms_frame.specs.Stream.{IsNext}
+use Rattle.std.proofs.Common.{◌≡◌, ◌≢◌, ◌⊎◌, ◌∙◌, inl, inr, refl, sym, ap, subst, append-nil, ℕ, Bool, true, false, if◌then◌else◌, List, [], ◌∷◌, ◌++◌, Option, None, Some, Result, Ok, Err}
+use Rattle.dlms_frame.specs.Frame.{Parts, IsFrame}
 use Rattle.dlms_frame.specs.declared.client.Client.{Client}
 use Rattle.dlms_frame.proofs.LawLemmas.{one_frame, one_next}
 use Rattle.dlms_headend.specs.Asking.{PlanValue}
@@ -14,15 +13,15 @@ use Rattle.dlms_headend.specs.declared.stage.Course.TheVariants.{Ready, Running,
 use Rattle.dlms_link.specs.World.{happens, without_first, LostUp, LostDown}
 use Rattle.dlms_link.specs.declared.phase.Phase.TheVariants.{Closed}
 use Rattle.dlms_meter.specs.declared.meter.Meter.{Meter}
-use Rattle.dlms_meter.specs.Run.{MeterWorld, client_at, events_in, events_of, is_same, recovered, silent, first_world as first_of_meter, Stands, Feeds as FeedsMeter}
-use Rattle.dlms_meter.proofs.Apart.{is_itself, same-is}
+use Rattle.dlms_meter.specs.Run.{MeterWorld, client_at, events_in, events_of, is_same, recovered, silent, first_world as first_of_meter, Stands}
+use Rattle.dlms_meter.proofs.Apart.{is_itself, same-is, not_same}
+use Rattle.dlms_meter.specs.ClientRecord.{ClientRecord}
 use Rattle.dlms_pages.specs.Device.{Image, View}
-use Rattle.dlms_pages.specs.Stops.{IsFixed, LeavesOnly}
+use Rattle.dlms_pages.specs.Stops.{IsFixed}
 use Rattle.dlms_pages.specs.declared.device.Pages.{Ghosts}
 use Rattle.dlms_state.specs.declared.event.Event.{Event}
 use Rattle.dlms_store.specs.Fitting.{DeviceFits, StoreFits, LeftBy}
 use Rattle.dlms_store.specs.Image.{IsLeftFor}
-use Rattle.dlms_store.specs.Store.{view_of}
 use Rattle.dlms_store.specs.World.{StoreWorld}
 use Rattle.dlms_store.specs.World.StoreWorld.{Rests}
 use Rattle.dlms_store.specs.World.StoreStep.{Stops as StopsStore}
@@ -32,17 +31,18 @@ use Rattle.dlms_store.specs.declared.fault.AddFault.{AddFault}
 use Rattle.dlms_store.specs.declared.fault.AddFault.TheVariants as add
 use Rattle.dlms_world.specs.Agree.{AreCaptures}
 use Rattle.dlms_world.specs.World.{World, first_world}
-use Rattle.dlms_world.specs.Turn.{Turn, IsOver, LosesUp, LosesDown, Merges as MergesTurn, Restarted, Run, Stays, Goes, restarted}
+use Rattle.dlms_world.specs.Turn.{Turn, LosesUp, LosesDown, Merges as MergesTurn, Restarted, Run, Stays, Goes, restarted, records_in}
 use Rattle.dlms_world.specs.Calls.{IsPollerOf, IsUnderWay, taken_by, IsAsideSame, TurnsInto, sent_first, sent_on, sent_again}
-use Rattle.dlms_world.specs.Ties.{IsMeterOf, IsPollSame, AnswersTo, StepsTo, StepsFrom, StepsAt, EndsInStep, Puts, IsToldIn, IsLeftInStep}
-use Rattle.dlms_world.specs.Programs.{Held, EndsFrameOf, EndsNoneOf, IsReply, Opens, Recovers, Made, Failed, CutOff, CutOffMaking, Act, Begins, Hears, Waits, Renews, Merges, LosesGoing, LosesComing, Arrives, Feeds, Intrudes, Idles, Tells, Stops, StopsFeeding, StopsTelling, Acts, Begun, Then, IsFirst, FilesAreCaptures}
+use Rattle.dlms_world.specs.Ties.{IsMeterOf, IsPollSame, AnswersTo, StepsTo, StepsFrom, StepsAt, Puts, IsToldIn, IsLeftInStep}
+use Rattle.dlms_world.specs.Programs.{Held, IsReply, Recovers, Made, Failed, CutOff, CutOffMaking, Act, Begins, Hears, Waits, Renews, Merges, LosesGoing, LosesComing, Arrives, Feeds, Intrudes, Idles, Tells, Stops, StopsFeeding, StopsTelling, Acts, Begun, Then, IsFirst, FilesAreCaptures}
 use Rattle.dlms_world.proofs.Called.{new_is_first, next_is_turn, on_is_turn, timeout_is_turn}
 use Rattle.dlms_world.proofs.LineFrames.{AreFrames, are_frames}
+use Rattle.dlms_world.proofs.Records.{its_record, other_record}
 use Rattle.dlms_world.proofs.Renewed.{new_is_turn}
 use Rattle.dlms_world.proofs.Stopping.{stops_are_turns, recoveries_are_turns}
 use Rattle.dlms_world.proofs.Telling.{tells}
 use Rattle.dlms_world.proofs.Tied.{feeds_are_turns, events_are_turns}
-use Rattle.dlms_world.proofs.Whole.{good, line_is_silent, readings_are_captures}
+use Rattle.dlms_world.proofs.Whole.{good, readings_are_captures}
 
 -- a run of the world that stands for what such a program holds
 record Matches {P A : Type 0} {ghosts : Ghosts P} (plan : PlanValue) (h : Held P A ghosts) (w : World) : Type 0 where
@@ -58,12 +58,18 @@ record Matches {P A : Type 0} {ghosts : Ghosts P} (plan : PlanValue) (h : Held P
 
 -- ---- calls of the poller
 
+-- what the meter keeps of each client, together
+all_of : (m : MeterWorld) (w : World) → IsMeterOf m w → (who : Client) → m.records who ≡ records_in w who
+all_of m w at who = by_test (is_same w.plan.client who) refl
+  where
+    by_test : (b : Bool) → is_same w.plan.client who ≡ b → m.records who ≡ (let own : ClientRecord = record { link = w.link.meter; session = w.session } in if b then own else w.others who)
+    by_test true e = ap m.records (sym (same-is w.plan.client who e)) ∙ at.own
+    by_test false e = at.others who (not_same w.plan.client who e)
+
 still_meter : (m : MeterWorld) (w now : World) → IsMeterOf m w → IsAsideSame w now → IsMeterOf m now
-still_meter m w now at same = record {
-  own = ap m.records same.client ∙ at.own ∙ ap (λ l. record { link = l; session = w.session }) (sym same.meter) ∙ ap (λ s. record { link = now.link.meter; session = s }) (sym same.session);
-  others = λ other differs. at.others other (λ e. differs (e ∙ sym same.client)) ∙ ap (λ r. r other) (sym same.others);
-  store = at.store ∙ sym same.memory;
-}
+still_meter m w now at same =
+    let all : (who : Client) → m.records who ≡ records_in now who = λ who. all_of m w at who ∙ sym (same.records who) in
+    record { own = all now.plan.client ∙ its_record now; others = λ other differs. all other ∙ other_record now other differs; store = at.store ∙ sym same.memory }
 
 turned : {P A : Type 0} {ghosts : Ghosts P} (plan : PlanValue) (h now : Held P A ghosts) (w : World) (sent left : List Parts) → Matches plan h w → TurnsInto w sent left now.poller → now.meter ≡ h.meter → now.file ≡ h.file
     → w.link.up_line ++ sent ≡ now.going → left ≡ now.coming → (w' : World) × Matches plan now w'
@@ -109,7 +115,7 @@ put (Some reply) before after sent lawful (f, spells, puts) (g, is, one) =
     last_of (x ∷ front) f all = last_of front f all.1
 
 lawful : (plan : PlanValue) (now : World) → Run (first_world plan) now → AreFrames now.link.down_line
-lawful plan now run = are_frames plan.client now.link (good tells plan now run).link.sound
+lawful plan now run = are_frames now.plan.client now.link (good tells plan now run).link.sound
 
 answered : {P A : Type 0} {ghosts : Ghosts P} (plan : PlanValue) (h : Held P A ghosts) (w : World) (new : Meter P A ghosts) (m : MeterWorld) (left sent : List Parts) (reply : Option (List ℕ)) → Matches plan h w
     → AnswersTo w left reply m → IsReply reply sent → Stands new m → StoreFits new.store m.store → (w' : World) × Matches plan (record h { meter = new; going = left; coming = h.coming ++ sent }) w'
@@ -285,11 +291,9 @@ act plan h now w (Hears same frame rest result new running line polls) x =
 act plan h now w (Waits same result new running can none nothing times_out) x =
     turned plan h (record h { poller = new; going = sent_again result }) w (sent_again result) [] x
     (timeout_is_turn w result h.poller new x.poller (runs plan h w Running x running) can (x.going ∙ none) (x.coming ∙ nothing) times_out) refl refl (ap (λ (l : List Parts). l ++ sent_again result) (x.going ∙ none)) (sym nothing)
-act plan h now w (Renews same next over client) x =
-    let ends : IsOver w.course = subst IsOver x.poller.course over in
-    let none = line_is_silent plan w x.run ends in
+act plan h now w (Renews same next none nothing) x =
     turned plan h (record h { poller = fresh_poll next }) w [] [] x
-    (new_is_turn plan next w x.run ends (client ∙ ap (λ (p : PlanValue). p.client) x.poller.plan)) refl refl (append-nil w.link.up_line ∙ x.going) (sym none.1 ∙ x.coming)
+    (new_is_turn next w (x.going ∙ none) (x.coming ∙ nothing)) refl refl (append-nil w.link.up_line ∙ x.going) (sym nothing)
 act plan h now w (Merges same done) x =
     let over : w.course ≡ Done = runs plan h w Done x done in (
       record w { file = merged w.file w.rows },

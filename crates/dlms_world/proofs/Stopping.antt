@@ -1,34 +1,32 @@
 -- A stop inside a call, a recovery and a close are steps of the world.
-use Rattle.std.proofs.Common.{◌≡◌, ◌⊎◌, ◌∙◌, inl, inr, refl, sym, ap, subst, append-nil, append_assoc, List, [], ◌∷◌, ◌++◌, Option, None, Some, Bool, true, false, Result, Ok, Err, ℕ}
+use Rattle.std.proofs.Common.{◌≡◌, ◌∙◌, inl, inr, refl, sym, ap, subst, append-nil, append_assoc, List, [], ◌∷◌, ◌++◌, Option, Result, Ok, Err, ℕ}
 use Rattle.dlms_frame.specs.declared.client.Client.{Client}
 use Rattle.dlms_link.specs.Server.{fresh_server}
-use Rattle.dlms_link.specs.World.{LinkWorld as Link}
-use Rattle.dlms_link.proofs.Sound.{Sound, Away}
 use Rattle.dlms_meter.specs.ClientRecord.{ClientRecord}
-use Rattle.dlms_meter.specs.Run.{MeterWorld, Choice, Fed, Judged, MayChoose, events_in, recovered, Stands}
+use Rattle.dlms_meter.specs.Run.{MeterWorld, Choice, Fed, Judged, events_in}
 use Rattle.dlms_meter.specs.declared.meter.Meter.{Meter}
 use Rattle.dlms_meter.proofs.LifeLaw.{ends_opened}
-use Rattle.dlms_meter.proofs.StoreLaw.{runs_on, judged_run}
+use Rattle.dlms_meter.proofs.StoreLaw.{runs_on}
 use Rattle.dlms_pages.specs.Device.{Image}
 use Rattle.dlms_pages.specs.declared.device.Pages.{Ghosts}
 use Rattle.dlms_pages.proofs.Moments.{weaker}
-use Rattle.dlms_service.specs.Session.{SessionValue, fresh}
+use Rattle.dlms_service.specs.Session.{fresh}
 use Rattle.dlms_state.specs.Refusal.{IsLegal}
 use Rattle.dlms_state.specs.declared.event.Event.{Event}
-use Rattle.dlms_store.specs.Fitting.{LeftBy, StoreFits, GivesUp}
+use Rattle.dlms_store.specs.Fitting.{LeftBy, StoreFits}
 use Rattle.dlms_store.specs.Going.{LeftDuring}
-use Rattle.dlms_store.specs.Store.{Remembers as Recalls}
 use Rattle.dlms_store.specs.World.{StoreWorld as Store, StoreStep, Next, StoreRun, IsBeginning}
 use Rattle.dlms_store.specs.World.StoreWorld.{Runs, InDoubt, Rests}
 use Rattle.dlms_store.specs.World.StoreStep.{Adds, AddsBehind, Settles, Refuses, Fails, Closes, ClosesInDoubt, Stops, Opens, OpenFails}
 use Rattle.dlms_store.specs.declared.fault.AddFault.{AddFault}
 use Rattle.dlms_store.specs.declared.fault.AddFault.TheVariants as add
 use Rattle.dlms_world.specs.World.{World, IsOn, IsUsual, AreUsual, Remembers}
-use Rattle.dlms_world.specs.Turn.{StopsInside, Restarted, restarted}
-use Rattle.dlms_world.specs.Ties.{IsMeterOf, IsLeftInStep, StopsAreTurns, RecoveriesAreTurns, RestsAreTurns}
+use Rattle.dlms_world.specs.Turn.{StopsInside, Restarted}
+use Rattle.dlms_world.specs.Ties.{IsLeftInStep, StopsAreTurns, RecoveriesAreTurns, RestsAreTurns}
 use Rattle.dlms_world.proofs.Lawful.{beginning_legal}
 use Rattle.dlms_world.proofs.Telling.{tells}
 use Rattle.dlms_world.proofs.Tied.{known_on, known_legal, add_usual, stored_usual}
+use Rattle.dlms_world.proofs.Keeping.{whose_meter}
 use Rattle.dlms_world.proofs.Whole.{good}
 
 -- ---- what a store holds while the meter is on
@@ -159,18 +157,13 @@ stops_are_turns old new m w stands fits at =
 
 -- ---- recoveries
 
--- the meter's end of a line is that of its client
-whose : (who : Client) (link : Link) → Sound who link → link.meter.client ≡ who
-whose who link (Away m x asked served answers taken ps pt) = refl
-whose who link _ = refl
-
 pub recoveries_are_turns : {P A : Type 0} {ghosts : Ghosts P} (new : Meter P A ghosts) → RecoveriesAreTurns new
 recoveries_are_turns new first w device run opens stands =
     let all = good tells first w run in
     let here : opens.now ≡ Runs opens.found [] = ends_opened [] w.memory opens.now opens.found (opens.now, opens.next, refl) in
     let fits : StoreFits new.store (Runs opens.found []) = subst (λ (x : Store). StoreFits new.store x) here opens.fits in
-    let meter : w.plan.client ≡ w.link.meter.client = all.link.plan ∙ sym (whose first.client w.link all.link.sound) in
-    let session : w.plan.client ≡ w.session.client = all.link.plan ∙ sym all.link.session in (
+    let meter : w.plan.client ≡ w.link.meter.client = sym (whose_meter w.plan.client w.link all.link.sound) in
+    let session : w.plan.client ≡ w.session.client = sym all.link.session in (
       opens.found,
       opens.now,
       Restarted w (Opens opens.found) opens.now (λ none. none) opens.next,

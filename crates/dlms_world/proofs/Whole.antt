@@ -23,7 +23,7 @@ use Rattle.dlms_world.specs.Named.{IsNamed, PollsAreNamed}
 use Rattle.dlms_world.specs.Told.{IsTold, AnswersTell}
 use Rattle.dlms_world.proofs.Growing.{through, settled_begins}
 use Rattle.dlms_world.proofs.Readings.{still_captures, rose_before, merged_among, merged_rise, asked_are_captures, asked_rise}
-use Rattle.dlms_world.proofs.Keeping.{settles_on, Linked, linked, StandsBy, stands, Chained, chained, DataSettled, data_settled}
+use Rattle.dlms_world.proofs.Keeping.{settles_on, whose_after, Linked, linked, StandsBy, stands, Chained, chained, DataSettled, data_settled}
 use Rattle.dlms_world.proofs.Ending.{is_told, is_settled}
 use Rattle.dlms_world.proofs.Telling.{tells}
 use Rattle.dlms_world.proofs.Lawful.{legal_after, none_legal, beginning_legal}
@@ -101,7 +101,7 @@ done_after tell who (Ends w frame rest rows runs line down released) g =
 done_after tell who (FailsAt w frame rest fault runs line fails) g = tt
 done_after tell who (TimedOut w runs up) g = g.done
 done_after tell who (GivesUp w fault runs closed) g = tt
-done_after tell who (TurnsTo w plan over client) g = tt
+done_after tell who (TurnsTo w plan up down) g = tt
 done_after tell who (Merges w done) g = g.done
 done_after tell who (LosesUp w) g = g.done
 done_after tell who (LosesDown w) g = g.done
@@ -128,7 +128,7 @@ file_after (Ends w frame rest rows runs line down released) = inl refl
 file_after (FailsAt w frame rest fault runs line fails) = inl refl
 file_after (TimedOut w runs up) = inl refl
 file_after (GivesUp w fault runs closed) = inl refl
-file_after (TurnsTo w plan over client) = inl refl
+file_after (TurnsTo w plan up down) = inl refl
 file_after (Merges w done) = inr (done, refl)
 file_after (LosesUp w) = inl refl
 file_after (LosesDown w) = inl refl
@@ -169,7 +169,7 @@ rise_after who {w} {now} turn g rise =
     (λ is. subst Rise (sym is.1) (merged_rise w.file w.rows (g.order was) (brought_rise w.plan w.served w.memory w.rows (is_brought who w g is.0) was)))
     (file_after turn)
 
-pub keep : AnswersTell → (who : Client) {w now : World} → Turn w now → Good who w → Good who now
+pub keep : AnswersTell → (who : Client) {w now : World} (turn : Turn w now) → Good who w → Good (whose_after who turn) now
 keep tell who turn g = record {
   link = linked who turn g.link;
   poll = stands who turn g.link g.poll;
@@ -183,7 +183,7 @@ keep tell who turn g = record {
 
 first : (plan : PlanValue) → Good plan.client (first_world plan)
 first plan = record {
-  link = record { sound = sound plan.client []; plan = refl; session = refl };
+  link = record { sound = sound plan.client []; plan = refl; session = refl; others = λ who. (refl, refl) };
   poll = refl;
   chain = record { apdus = refl; answers = refl; last = fresh plan.client; in_turn = refl; now = λ h. refl; alive = λ h. cc };
   settled = tt;
@@ -193,20 +193,22 @@ first plan = record {
   legal = none_legal;
 }
 
-pub good : AnswersTell → (plan : PlanValue) (w : World) → Run (first_world plan) w → Good plan.client w
+pub good : AnswersTell → (plan : PlanValue) (w : World) → Run (first_world plan) w → Good w.plan.client w
 good tell plan w Stays = first plan
-good tell plan w (Goes mid now run turn) = keep tell plan.client turn (good tell plan mid run)
+good tell plan w (Goes mid now run turn) =
+    let kept = keep tell mid.plan.client turn (good tell plan mid run) in
+    subst (λ (who : Client). Good who w) (sym kept.link.plan) kept
 
 pub polls_are_told : PollsAreTold
 polls_are_told plan w run done =
     let all = good tells plan w run in
-    let brought = is_brought plan.client w all done in
+    let brought = is_brought w.plan.client w all done in
     let told = brought.told in
     let legal : IsLegal told.get.before = beginning_legal told.get.before (events_in w.memory) (through told.get.before (settled_in w.memory) (events_in w.memory) brought.settled (settled_begins w.memory)) all.legal in
     record { get = told.get; took = told.took; asked = told.asked; are = told.are ∙ whole_range (first_second w.plan.after) told.get.before (IsWithinLimits-legal told.get.before legal) }
 
 pub polls_are_named : PollsAreNamed
-polls_are_named plan w run done asked = (is_brought plan.client w (good tells plan w run) done).told.names asked
+polls_are_named plan w run done asked = (is_brought w.plan.client w (good tells plan w run) done).told.names asked
 
 held_grows : (m : Store) → IsBeginning (settled_in m) (events_in m)
 held_grows m = settled_begins m
@@ -220,4 +222,4 @@ readings_rise plan w run rise = (good tells plan w run).order (rose_before (sett
 pub line_is_silent : LineIsSilent
 line_is_silent plan w run over =
     let all = good tells plan w run in
-    over_silent plan.client w.course w.plan w.link all.link.sound over all.poll
+    over_silent w.plan.client w.course w.plan w.link all.link.sound over all.poll

@@ -1,8 +1,8 @@
 -- The file and the meter agree.
-use Rattle.std.specs.Prelude.{◌≡◌, ◌<◌, List, [], ◌∷◌, true, Contains}
+use Rattle.std.specs.Prelude.{◌≡◌, ◌<◌, List, [], ◌∷◌, Contains}
 use Rattle.dlms_headend.specs.Asking.{PlanValue, IsBufferRequest}
 use Rattle.dlms_headend.specs.declared.row.Row.{Row}
-use Rattle.dlms_headend.specs.declared.stage.Course.TheVariants.{Running, Done}
+use Rattle.dlms_headend.specs.declared.stage.Course.TheVariants.{Done}
 use Rattle.dlms_meter.specs.Transfers.{Exchange}
 use Rattle.dlms_state.specs.declared.event.Event.{Event}
 use Rattle.dlms_world.specs.World.{World, all_readings, rows_due, first_world}
@@ -47,10 +47,6 @@ ReadingsAreCaptures = (plan : PlanValue) (w : World) → Run (first_world plan) 
 abbrev pub ReadingsRise : Type 0
 ReadingsRise = (plan : PlanValue) (w : World) → Run (first_world plan) w → Rise (all_readings (events_in w.memory)) → Rise w.file
 
--- once a poll is over nothing is on the line, so a new poller may take its place at any time
+-- once a poll is over nothing is on the line, so a new poller may take its place at once
 abbrev pub LineIsSilent : Type 0
 LineIsSilent = (plan : PlanValue) (w : World) → Run (first_world plan) w → IsOver w.course → (w.link.up_line ≡ []) × (w.link.down_line ≡ [])
-
--- a poll can begin: the meter takes its SNRM, and the link is this connection's
-abbrev pub CanBegin : Type 0
-CanBegin = (plan : PlanValue) → (w : World) × Run (first_world plan) w × (w.course ≡ Running) × (w.ours ≡ true)

@@ -1,6 +1,7 @@
 -- What the calls of a poller are in the world.
 use Rattle.std.specs.Prelude.{◌≡◌, ℕ, List, [], ◌∷◌, ◌++◌, Option, None, Some, Result, Ok, Err}
 use Rattle.dlms_frame.specs.Frame.{Parts}
+use Rattle.dlms_frame.specs.declared.client.Client.{Client}
 use Rattle.dlms_headend.specs.Asking.{PlanValue}
 use Rattle.dlms_headend.specs.Merged.{merged}
 use Rattle.dlms_headend.specs.PollerValue.{PollerValue}
@@ -11,7 +12,7 @@ use Rattle.dlms_headend.specs.declared.stage.Course.TheVariants.{Ready, Running,
 use Rattle.dlms_headend.specs.declared.step.PollStep.{PollStep}
 use Rattle.dlms_headend.specs.declared.step.PollStep.TheVariants.{Send}
 use Rattle.dlms_world.specs.World.{World, first_world}
-use Rattle.dlms_world.specs.Turn.{Turn, IsOver, Run}
+use Rattle.dlms_world.specs.Turn.{Turn, records_in}
 
 -- the poll has not ended
 abbrev pub IsUnderWay : Course → Type 0
@@ -35,12 +36,9 @@ pub record IsPollerOf (p : PollerValue) (w : World) : Type 0 where
   pub rows : w.course ≡ Done → p.talk.rows ≡ w.rows
   pub fits : Fits p (taken_by w.course w.link.taken)
 
--- the meter, and what it keeps, are as they were, and so is the file
+-- what the meter keeps of each client, and what it holds, are as they were, and so is the file
 pub record IsAsideSame (w now : World) : Type 0 where
-  pub client : now.plan.client ≡ w.plan.client
-  pub meter : now.link.meter ≡ w.link.meter
-  pub session : now.session ≡ w.session
-  pub others : now.others ≡ w.others
+  pub records : (who : Client) → records_in now who ≡ records_in w who
   pub memory : now.memory ≡ w.memory
   pub file : now.file ≡ w.file
 
@@ -67,11 +65,9 @@ sent_again (Err fault) = []
 abbrev pub NewIsFirst : Type 0
 NewIsFirst = (plan : PlanValue) → IsPollerOf (fresh_poll plan) (first_world plan)
 
--- so is one behind a poll that is over, by whatever plan of this client
+-- so is one behind any poll, by whatever plan of whatever client, while nothing is on the line
 abbrev pub NewIsTurn : Type 0
-NewIsTurn =
-    (first plan : PlanValue) (w : World) → Run (first_world first) w → IsOver w.course → plan.client ≡ w.plan.client
-    → TurnsInto w [] [] (fresh_poll plan)
+NewIsTurn = (plan : PlanValue) (w : World) → w.link.up_line ≡ [] → w.link.down_line ≡ [] → TurnsInto w [] [] (fresh_poll plan)
 
 -- a merge of the rows of a poll that is done is a step: the file has its rows, and the later ones of the poll's
 abbrev pub MergeIsTurn : Type 0

@@ -23,7 +23,6 @@ use Rattle.dlms_store.specs.declared.fault.AddFault.{AddFault}
 use Rattle.dlms_store.specs.declared.fault.OpenFault.{OpenFault}
 use Rattle.dlms_world.specs.Agree.{AreCaptures}
 use Rattle.dlms_world.specs.Calls.{sent_first, sent_on, sent_again}
-use Rattle.dlms_world.specs.Turn.{IsOver}
 
 -- what such a program holds, with the frames that are on the line, the oldest first: going to the meter, and coming to the poller
 pub record Held (P A : Type 0) (ghosts : Ghosts P) : Type 0 where
@@ -82,8 +81,9 @@ pub data Act {P A : Type 0} {ghosts : Ghosts P} : Held P A ghosts → Held P A g
   -- it is told of a time-out, while nothing is on the line
   Waits : (h : Held P A ghosts) (result : Result Parts PollFault) (new : PollerValue) → h.poller.course ≡ Running → CanTimeOut h.poller → h.going ≡ [] → h.coming ≡ [] → TimesOut h.poller result new
       → Act h (record h { poller = new; going = sent_again result })
-  -- behind a poll that is over a new one is made, by a plan of the same client
-  Renews : (h : Held P A ghosts) (plan : PlanValue) → IsOver h.poller.course → plan.client ≡ h.poller.plan.client → Act h (record h { poller = fresh_poll plan })
+  -- While nothing is on the line a new poller is made, by a plan of whatever client, wherever the last one stands: its poll is over, or
+  -- the head end was stopped.
+  Renews : (h : Held P A ghosts) (plan : PlanValue) → h.going ≡ [] → h.coming ≡ [] → Act h (record h { poller = fresh_poll plan })
   -- the rows of a poll that is done are merged into the file
   Merges : (h : Held P A ghosts) → h.poller.course ≡ Done → Act h (record h { file = merged h.file h.poller.talk.rows })
   -- the oldest frame is lost

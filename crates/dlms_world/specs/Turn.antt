@@ -15,14 +15,14 @@ use Rattle.dlms_headend.specs.declared.stage.Course.{Course}
 use Rattle.dlms_headend.specs.declared.stage.Course.TheVariants.{Ready, Running, Done, Failed}
 use Rattle.dlms_link.specs.Client.{client_step}
 use Rattle.dlms_link.specs.Server.{ServerRecord, server_on}
-use Rattle.dlms_link.specs.World.{LinkWorld as Link, happens, Connect, Give, Disconnect, ReachesMeter, ReachesClient, LostUp, LostDown, TimesOut, Restarts, Intrudes, TakesOver}
+use Rattle.dlms_link.specs.World.{LinkWorld as Link, happens, Connect, Give, Disconnect, ReachesMeter, ReachesClient, LostUp, LostDown, TimesOut, Restarts, Intrudes, start as first_link}
 use Rattle.dlms_link.specs.declared.out.ClientOut.{ClientOut}
 use Rattle.dlms_link.specs.declared.out.ClientOut.TheVariants as out
 use Rattle.dlms_link.specs.declared.out.LinkOut.{LinkOut}
 use Rattle.dlms_link.specs.declared.out.LinkOut.TheVariants.{Nothing, Reply, Apdu, Oversize, BadLlc, Up, Down}
 use Rattle.dlms_link.specs.declared.phase.Phase.TheVariants.{Closed}
 use Rattle.dlms_meter.specs.ClientRecord.{ClientRecord, fresh_record}
-use Rattle.dlms_meter.specs.Run.{Choice, Does, ByLink, Handled, Handles, client_at, replies, sends, with_record}
+use Rattle.dlms_meter.specs.Run.{Choice, Does, ByLink, Handled, Handles, Records, client_at, replies, sends, with_record}
 use Rattle.dlms_meter.specs.Transfers.{Exchange}
 use Rattle.dlms_service.specs.Stake.{is_success}
 use Rattle.dlms_service.specs.Session.{SessionValue, Outcome, fresh, not_possible, unknown_service}
@@ -93,6 +93,26 @@ pub record Takes (w : World) (frame : Parts) (choice : Choice) (o : Outcome) (me
 abbrev pub restarted : World → Store → World
 restarted w memory = record w { link = happens w.link Restarts; ours = false; session = fresh w.session.client; others = fresh_record; memory = memory }
 
+-- ---- a new poll
+
+-- what the meter keeps of each client
+abbrev pub records_in : World → Records
+records_in w = with_record w.others w.plan.client (record { link = w.link.meter; session = w.session })
+
+-- A new poll, by a plan of the same client or of another: its end of the line is new, the meter's is what the meter keeps of that
+-- client, and what is on the line stays.
+abbrev pub turned : World → PlanValue → World
+turned w plan = record w {
+  link = record (first_link plan.client) { meter = (records_in w plan.client).link; up_line = w.link.up_line; down_line = w.link.down_line };
+  ours = false;
+  session = (records_in w plan.client).session;
+  others = records_in w;
+  served = [];
+  plan = plan;
+  course = Ready;
+  rows = [];
+}
+
 -- ---- the poller takes a frame
 
 -- the link as the oldest frame leaves it, and what it gives
@@ -154,9 +174,8 @@ pub data Turn : World → World → Type 0 where
   TimedOut : (w : World) → w.course ≡ Running → (happens w.link TimesOut).client.phase ≢ Closed → Turn w (record w { link = happens w.link TimesOut })
   GivesUp : (w : World) (fault : PollFault) → w.course ≡ Running → (happens w.link TimesOut).client.phase ≡ Closed →
       Turn w (record w { link = happens w.link TimesOut; course = Failed fault })
-  -- a new poll, once the last is over
-  TurnsTo : (w : World) (plan : PlanValue) → IsOver w.course → plan.client ≡ w.plan.client →
-      Turn w (record w { link = happens w.link TakesOver; ours = false; plan = plan; course = Ready; rows = [] })
+  -- A new poll, once nothing is on the line, wherever the last one stands: it is over, or its head end was stopped.
+  TurnsTo : (w : World) (plan : PlanValue) → w.link.up_line ≡ [] → w.link.down_line ≡ [] → Turn w (turned w plan)
   -- the rows of a poll that is done are merged
   Merges : (w : World) → w.course ≡ Done → Turn w (record w { file = merged w.file w.rows })
   -- a frame is lost

@@ -1,6 +1,9 @@
-//! Laws over whole runs of the world. They make no call.
+//! Laws over whole runs of the world. They call nothing, but for what one of them needs to know of the
+//! clock's seconds.
 
-ghost use Rattle.std.specs.Prelude.{◌≡◌, List, ℕ};
+ghost use Rattle.std.specs.Prelude.{◌≡◌, ◌≤◌, ◌<◌, ◌^◌, List, ℕ, All, IfSome};
+ghost use Rattle.dlms_data.specs.Building.{IsTime};
+ghost use Rattle.dlms_data.specs.Value.{Value};
 ghost use Rattle.dlms_link.specs.Server.{ServerRecord};
 ghost use Rattle.dlms_link.specs.declared.out.LinkOut.{LinkOut};
 ghost use Rattle.dlms_meter.specs.Run.{Answered, Choice};
@@ -15,8 +18,10 @@ ghost use Rattle.dlms_world.specs.Told.{AnswersTell};
 ghost use Rattle.dlms_world.specs.Calls.{NewIsFirst, NewIsTurn, MergeIsTurn, NextIsTurn, OnIsTurn, TimeoutIsTurn};
 ghost use Rattle.dlms_world.specs.Programs.{FilesAreCaptures};
 ghost use Rattle.dlms_world.specs.Ties.{FeedsAreTurns, EventsAreTurns, StopsAreTurns, RecoveriesAreTurns, RestsAreTurns};
-ghost use Rattle.dlms_world.specs.Agree.{PollsAreTold, ReadingsAreCaptures, ReadingsRise, LineIsSilent, CanBegin};
+ghost use Rattle.dlms_world.specs.Agree.{PollsAreTold, ReadingsAreCaptures, ReadingsRise, LineIsSilent};
+ghost use Rattle.dlms_world.specs.Possible.{CanBegin, CanBeDone, CanBeDoneAgain, CanStop};
 
+use dlms_data::{LAST_SECOND, octets};
 use dlms_meter::Meter;
 use dlms_pages::Pages;
 use std::alloc::Allocator;
@@ -72,14 +77,50 @@ pub fn the_line_is_silent_behind_a_poll()
     ensures { LineIsSilent }
 {}
 
+/// A head end may be stopped at any moment, wherever its poll stands, and another one takes its place, of the same client or of another:
+/// the file, what the meter keeps of each client, and what it holds, are as they were. What the laws say of every run they say of
+/// those that go on from there.
+pub fn a_head_end_can_stop()
+    ensures { CanStop }
+{}
+
 /// The first two steps of a poll can be taken.
 pub fn a_poll_can_begin()
     ensures { CanBegin }
 {}
 
-/// The calls of a poller are steps of the world: a new one is that of the first world, or of the one behind a poll that is over; the
-/// call that gives its first frame, one that is given the oldest frame on the way, and one that tells of a time-out while nothing
-/// is on the line; and a merge of the rows of one that is done.
+/// A poll can be done, of each client that has a secret, from whatever second of the clock on it asks, with the columns and without:
+/// at a formatted meter that has captured its first row, with that row; and wherever a run has come to, with all rows that are due
+/// then, in as many segments and blocks as they take.
+pub fn a_poll_can_be_done(after: Option<u32>)
+    requires { IfSome after (λ second. second ≤ LAST_SECOND) }
+    ensures first { CanBeDone after }
+    ensures again { CanBeDoneAgain after }
+{
+    seconds_have_times(900);
+    seconds_have_times(after.unwrap_or(0));
+    seconds_have_times(LAST_SECOND);
+}
+
+/// Each second of the clock has a date-time.
+pub fn seconds_have_times(second: u32)
+    requires { second ≤ LAST_SECOND }
+    ensures { (time : Value) × IsTime second time }
+{
+    let octets = octets(second);
+    bytes_fit(octets.as_slice());
+}
+
+/// Says what the type of bytes says, for a proof.
+fn bytes_fit(bytes: &[u8])
+    ensures { All (λ octet. octet < 2 ^ 8) bytes.now }
+{
+    let _bytes = bytes;
+}
+
+/// The calls of a poller are steps of the world: a new one, of whatever client, is that of the first world, or of one behind any poll while
+/// nothing is on the line; the call that gives its first frame, one that is given the oldest frame on the way, and one that tells of a
+/// time-out while nothing is on the line; and a merge of the rows of one that is done.
 pub fn calls_are_turns()
     ensures new { NewIsFirst }
     ensures again { NewIsTurn }

@@ -114,7 +114,7 @@ returns-in_err-commit-clause-settled g c before knows =
           let is : Committed (Err fault) between new = subst (λ z. Committed (Err fault) z new) w.store-is committed in
           subst (λ (o : Option Event). Settled (Err p.0) before (listed o) store new) (sym w.in-Some.is)
           (commit_behind_failed fault p.0 e before store between new (add_goes (Ok tt) e before store between knows added) is
-          (commit_may_fail (e ∷ []) fault store between new w.add.ensures.later (λ stopped. absurd (y.runs stopped)) is))
+          (commit_may_fail (e ∷ []) fault store between new w.add.ensures.later.device.faults (λ stopped. absurd (y.runs stopped)) is))
           )
       | in_default w ↦ (
           let is : Committed (Err fault) store new = subst (λ z. Committed (Err fault) z new) w.store-is committed in

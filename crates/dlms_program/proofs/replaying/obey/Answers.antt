@@ -16,7 +16,7 @@ returns-in-Skip-clause-lines g c honest w at =
 pub returns-in-Pulses-clause-lines : goal.returns-in-Pulses-clause-lines
 returns-in-Pulses-clause-lines g c honest w at =
     let contents = g.W.Sink.contents in
-    let did = pulses_did c.args.meter.now c.pulses.new.self c.args.bytes.now c.in-Pulses.channel c.in-Pulses.count c.pulses.result c.pulses.ensures honest w at in
+    let did = pulses_did c.args.meter.now c.pulses.new.self c.args.bytes.now c.in-Pulses.channel c.in-Pulses.count c.pulses.result (c.pulses.ensures.judges, c.pulses.ensures.later) honest w at in
     subst (λ (order : Order). Obeyed honest (contents c.args.writer.now) (contents c.answer.new.writer) w c.args.bytes.now order c.answer.result (Some c.args.meter.now) (Some c.pulses.new.self)) (sym c.in-Pulses.is)
     (either_way (contents c.args.writer.now) (contents c.answer.new.writer) _ c.answer.result c.answer.ensures.bytes
     (told_all _ _ honest w c.args.bytes.now (Pulses c.in-Pulses.channel c.in-Pulses.count) c.args.meter.now c.pulses.new.self did)
@@ -25,7 +25,7 @@ returns-in-Pulses-clause-lines g c honest w at =
 pub returns-in-Moment-clause-lines : goal.returns-in-Moment-clause-lines
 returns-in-Moment-clause-lines g c honest w at =
     let contents = g.W.Sink.contents in
-    let did = moment_did c.args.meter.now c.moment.new.self c.args.bytes.now c.in-Moment.second c.moment.result c.moment.ensures honest w at in
+    let did = moment_did c.args.meter.now c.moment.new.self c.args.bytes.now c.in-Moment.second c.moment.result (c.moment.ensures.judges, c.moment.ensures.later) honest w at in
     subst (λ (order : Order). Obeyed honest (contents c.args.writer.now) (contents c.answer-in-Moment.new.writer) w c.args.bytes.now order c.answer-in-Moment.result (Some c.args.meter.now) (Some c.moment.new.self)) (sym c.in-Moment.is)
     (either_way (contents c.args.writer.now) (contents c.answer-in-Moment.new.writer) _ c.answer-in-Moment.result c.answer-in-Moment.ensures.bytes
     (told_all _ _ honest w c.args.bytes.now (Moment c.in-Moment.second) c.args.meter.now c.moment.new.self did)

@@ -21,6 +21,7 @@ one_page w count n m long more = grind arith
 pub loop-init : goal.loop-init
 loop-init g c = record {
   count = refl;
+  honest = refl;
   later = omega arith;
   looks = λ image fixed. looks_nowhere (g.P.Pages.view c.args.device.now) image fixed (g.met.P.Pages.rules c.args.device.now fixed.honest);
   bodies = refl;
@@ -40,6 +41,7 @@ loop-preserved g c =
     let longer = c.in_ok-look_at_ring.ensures.longer in
     record {
       count = c.look_at_ring.ensures.count ∙ inv.count;
+      honest = c.look_at_ring.ensures.honest ∙ inv.honest;
       later = omega (arith, c.look_at_ring.ensures.later, inv.later);
       looks = λ image fixed. let so_far = inv.looks image fixed in looks_on _ _ _ image so_far (c.look_at_ring.ensures.looks image so_far.fixed);
       bodies = c.look_at_ring.ensures.bodies ∙ inv.bodies;

@@ -11,6 +11,7 @@ invariant-loop g l =
     let view = g.P.Pages.view in
     record {
       count : length (view l.device).seen ≡ length (view l.fn.device).seen;
+      honest : (view l.device).honest ≡ (view l.fn.device).honest;
       later : (view l.fn.device).faults ≤ (view l.device).faults;
       looks : (image : Image) → IsFixed (view l.fn.device) image → Looks (view l.fn.device) (view l.device) image;
       bodies : l.refilling.bytes ≡ l.fn.refilling.bytes;

@@ -4,8 +4,8 @@ use Rattle.dlms_frame.specs.declared.client.Client.TheVariants.{Public, Manageme
 use Rattle.dlms_meter.proofs.Judging.{judged}
 use Rattle.dlms_meter.proofs.meter.Meter.accept.Goals as goal
 
-pub returns : goal.returns
-returns g c w stands =
+pub returns-clause-judges : goal.returns-clause-judges
+returns-clause-judges g c w stands =
     let x = c.add.ensures in
     let old = c.args.self.now in
     let is : Added c.add.result c.args.event old.store c.add.new.self = record {

@@ -1,0 +1,8 @@
+use Rattle.std.proofs.Common.{subst, Some, Option}
+use Rattle.std.specs.Prelude.{IfSome}
+use Rattle.dlms_headend.specs.PollerValue.{PollerValue}
+use Rattle.dlms_loopback.specs.BothEnds.{IsDonePoll}
+use Rattle.dlms_field.proofs.polling.called.Goals as goal
+
+pub returns-in-Ok : goal.returns-in-Ok
+returns-in-Ok g c = λ plan fresh. subst (λ (done : Option PollerValue). IfSome done (IsDonePoll plan)) c.in-Some.is (c.in_ok-poller.ensures plan fresh)

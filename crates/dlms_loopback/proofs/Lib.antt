@@ -1,0 +1,6 @@
+pub mod EndLemmas
+pub mod MomentLemmas
+pub mod ServingLemmas
+pub mod CallingLemmas
+pub mod PollLemmas
+pub mod FilingLemmas
