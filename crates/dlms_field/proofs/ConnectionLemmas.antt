@@ -1,26 +1,27 @@
 -- What a meter does on a connection, piece by piece.
 use Rattle.std.proofs.Common.{refl, sym, ap, ◌∙◌, ◌≡◌, ℕ, zero, suc, arith, List, [], ◌∷◌, ◌++◌, append_assoc, take, drop, Option, Some, None, Result, Ok, Err, subst, inl, inr}
+use Rattle.std.specs.Prelude.{MatchResult}
 use Rattle.std.proofs.lemmas.List.{append-nil, take-append-drop}
-use Rattle.dlms_meter.specs.Steps.{Call, Calls, IsCall}
-use Rattle.dlms_meter.specs.Steps.Call.{Fed, Idled, Told}
+use Rattle.dlms_loopback.specs.Moments.{Moment as LineMoment, Adds}
+use Rattle.dlms_loopback.specs.Moments.Moment.{Went, Broke}
+use Rattle.dlms_loopback.specs.Serving.{AnswersFrame, Replies}
+use Rattle.dlms_loopback.specs.declared.fault.LoopFault.{LoopFault}
+use Rattle.dlms_loopback.specs.declared.meter_end.Taken.{Taken}
+use Rattle.dlms_meter.specs.Run.{Feeds, Judges}
+use Rattle.dlms_meter.specs.Steps.{Call, Calls}
+use Rattle.dlms_meter.specs.Steps.Call.{Fed, Told}
 use Rattle.dlms_meter.specs.declared.meter.Meter.{Meter}
 use Rattle.dlms_pages.specs.declared.device.Pages.{Ghosts}
-use Rattle.dlms_loopback.specs.Moments.{Moment as LineMoment, Adds}
-use Rattle.dlms_loopback.specs.Moments.Moment.{Came, Quiet, Went, Broke}
-use Rattle.dlms_field.specs.Connection.{Doing, Reads, Waits, Does, shown, moments_of, calls_of, given, Gives, Goes, Ends, Serves, AsIs, AtRead, AtReply, ReadsPiece, AnswersEach, EndsFor}
-use Rattle.dlms_field.specs.declared.serving.Ending.{Ending}
-use Rattle.dlms_field.specs.declared.turns.Times.{Times}
-use Rattle.dlms_loopback.specs.Serving.{AnswersFrame, Replies}
-use Rattle.dlms_loopback.specs.declared.meter_end.Taken.{Taken}
-use Rattle.dlms_meter.specs.Run.{Judges}
 use Rattle.dlms_state.specs.declared.event.Event.{Event}
 use Rattle.dlms_state.specs.declared.event.Event.TheVariants.{Pulses, Moment}
 use Rattle.dlms_store.specs.declared.fault.AddFault.{AddFault}
-use Rattle.dlms_field.specs.Telling.{Looks, Tells, TellsEach}
+use Rattle.dlms_field.specs.Connection.{At, Doing, Looks, Reads, Waits, Takes, Answers, Doings, Begun, Then, Goes, Ends, AsIs, AtRead, AtReply, ServesFor, EndsFor, AnswersEach, LooksOnce, ReadsPiece}
+use Rattle.dlms_field.specs.Telling.{Tells, TellsEach}
+use Rattle.dlms_field.specs.Telling.{Looks as LooksAt}
+use Rattle.dlms_field.specs.declared.serving.Ending.{Ending}
 use Rattle.dlms_field.specs.declared.ticks.Second.{Second}
 use Rattle.dlms_field.specs.declared.ticks.Ticks.{Ticks}
-use Rattle.std.specs.Prelude.{MatchResult}
-use Rattle.dlms_meter.specs.Run.{Feeds}
+use Rattle.dlms_field.specs.declared.turns.Times.{Times}
 
 pub Adds-nil : (a : Option (List LineMoment)) → Adds a a []
 Adds-nil None = tt
@@ -32,154 +33,165 @@ Adds-trans (Some x) None c xs ys p q = absurd p
 Adds-trans (Some x) (Some y) None xs ys p q = absurd q
 Adds-trans (Some x) (Some y) (Some z) xs ys p q = q ∙ ap (λ l. l ++ ys) p ∙ append_assoc x xs ys
 
-moments_of-append : (xs ys : List Doing) → moments_of (xs ++ ys) ≡ moments_of xs ++ moments_of ys
-moments_of-append [] ys = refl
-moments_of-append (Reads bytes ∷ xs) ys = ap (λ l. Came bytes ∷ l) (moments_of-append xs ys)
-moments_of-append (Waits ∷ xs) ys = ap (λ l. Quiet ∷ l) (moments_of-append xs ys)
-moments_of-append (Does call ∷ xs) ys = ap (λ l. shown call ++ l) (moments_of-append xs ys) ∙ sym (append_assoc (shown call) (moments_of xs) (moments_of ys))
-
-Gives-trans : (xs ys : List Doing) (before mid rest : List ℕ) → Gives before xs mid → Gives mid ys rest → Gives before (xs ++ ys) rest
-Gives-trans [] ys before mid rest p q = subst (λ l. Gives l ys rest) p q
-Gives-trans (Reads bytes ∷ xs) ys before mid rest p q = (p.0, Gives-trans xs ys bytes mid rest p.1 q)
-Gives-trans (Waits ∷ xs) ys before mid rest p q = (p.0, Gives-trans xs ys [] mid rest p.1 q)
-Gives-trans (Does call ∷ xs) ys before mid rest p q = (p.0, p.1, Gives-trans xs ys p.0 mid rest p.2 q)
-
-at_reply : (bytes taken behind reply part missing : List ℕ) → taken ++ behind ≡ bytes → part ++ missing ≡ reply → Ends bytes (Broke part ∷ []) (Fed taken (Some reply) ∷ [])
-at_reply bytes taken behind reply part missing cut joined = subst (λ l. Ends l (Broke part ∷ []) (Fed taken (Some reply) ∷ [])) cut (AtReply taken behind reply part missing joined)
-
 module _ {P A : Type 0} {ghosts : Ghosts P} where
-  pub Calls-trans : (xs ys : List Call) (a b c : Meter P A ghosts) → Calls a xs b → Calls b ys c → Calls a (xs ++ ys) c
-  Calls-trans [] ys a b c p q = subst (λ (m : Meter P A ghosts). Calls m ys c) p q
-  Calls-trans (x ∷ xs) ys a b c p q = (p.0, p.1, Calls-trans xs ys p.0 b c p.2 q)
+  pub goes_nothing : (past : Option (List LineMoment)) (s : At P A ghosts) → Goes past past s s
+  goes_nothing past s = record { moments = []; does = Begun; happened = Adds-nil past }
 
-  calls_of-trans : (xs ys : List Doing) (a b c : Meter P A ghosts) → Calls a (calls_of xs) b → Calls b (calls_of ys) c → Calls a (calls_of (xs ++ ys)) c
-  calls_of-trans [] ys a b c p q = subst (λ (m : Meter P A ghosts). Calls m (calls_of ys) c) p q
-  calls_of-trans (Reads bytes ∷ xs) ys a b c p q = calls_of-trans xs ys a b c p q
-  calls_of-trans (Waits ∷ xs) ys a b c p q = calls_of-trans xs ys a b c p q
-  calls_of-trans (Does call ∷ xs) ys a b c p q = (p.0, p.1, calls_of-trans xs ys p.0 b c p.2 q)
-
-  -- nothing has happened
-  pub goes_nothing : (past : Option (List LineMoment)) (meter : Meter P A ghosts) (before : List ℕ) → Goes past past meter before before meter
-  goes_nothing past meter before = record { doings = []; calls = refl; gives = refl; happened = Adds-nil past }
-
-  pub goes_on : (p q r : Option (List LineMoment)) (a b c : Meter P A ghosts) (before mid rest : List ℕ) → Goes p q a before mid b → Goes q r b mid rest c → Goes p r a before rest c
-  goes_on p q r a b c before mid rest first second = record {
-    doings = first.doings ++ second.doings;
-    calls = calls_of-trans first.doings second.doings a b c first.calls second.calls;
-    gives = Gives-trans first.doings second.doings before mid rest first.gives second.gives;
-    happened = subst (Adds p r) (sym (moments_of-append first.doings second.doings)) (Adds-trans p q r (moments_of first.doings) (moments_of second.doings) first.happened second.happened);
+  -- and then one thing more
+  pub goes_and : (p q r : Option (List LineMoment)) (s mid after : At P A ghosts) (moments : List LineMoment) → Goes p q s mid → Doing mid moments after → Adds q r moments → Goes p r s after
+  goes_and p q r s mid after moments goes doing adds = record {
+    moments = goes.moments ++ moments;
+    does = Then goes.moments moments mid after goes.does doing;
+    happened = Adds-trans p q r goes.moments moments goes.happened adds;
   }
 
-  -- bytes came
-  pub goes_reads : (p q : Option (List LineMoment)) (a : Meter P A ghosts) (bytes : List ℕ) → Adds p q (Came bytes ∷ []) → Goes p q a [] bytes a
-  goes_reads p q a bytes adds = record { doings = Reads bytes ∷ []; calls = refl; gives = (refl, refl); happened = adds }
+  join_does : (s mid after : At P A ghosts) (xs ys : List LineMoment) → Doings s xs mid → Doings mid ys after → Doings s (xs ++ ys) after
+  join_does s mid after xs ys first Begun = subst (λ l. Doings s l mid) (sym (append-nil xs)) first
+  join_does s mid after xs ys first (Then before moments m a does doing) =
+      subst (λ l. Doings s l after) (append_assoc xs before moments) (Then (xs ++ before) moments m after (join_does s mid m xs before first does) doing)
 
-  -- nothing came
-  pub goes_waits : (p q : Option (List LineMoment)) (a : Meter P A ghosts) → Adds p q (Quiet ∷ []) → Goes p q a [] [] a
-  goes_waits p q a adds = record { doings = Waits ∷ []; calls = refl; gives = (refl, refl); happened = adds }
-
-  -- a frame was answered, or bytes were taken that end none
-  goes_fed : (p q : Option (List LineMoment)) (a b : Meter P A ghosts) (bytes : List ℕ) (count : ℕ) (reply : Option (List ℕ)) → Feeds a (take count bytes) reply b → Adds p q (shown (Fed (take count bytes) reply) ++ [])
-      → Goes p q a bytes (drop count bytes) b
-  goes_fed p q a b bytes count reply feeds adds = record {
-    doings = Does (Fed (take count bytes) reply) ∷ [];
-    calls = (b, feeds, refl);
-    gives = (drop count bytes, sym (take-append-drop count bytes), refl);
-    happened = adds;
+  pub goes_on : (p q r : Option (List LineMoment)) (s mid after : At P A ghosts) → Goes p q s mid → Goes q r mid after → Goes p r s after
+  goes_on p q r s mid after first second = record {
+    moments = first.moments ++ second.moments;
+    does = join_does s mid after first.moments second.moments first.does second.does;
+    happened = Adds-trans p q r first.moments second.moments first.happened second.happened;
   }
 
-  pub goes_answering : {E : Type 0} (p q : Option (List LineMoment)) (a b : Meter P A ghosts) (bytes : List ℕ) (taken : Taken) → AnswersFrame {E = E} p q a bytes (Ok taken) b → Goes p q a bytes (drop taken.count bytes) b
-  goes_answering {E} p q a b bytes taken is = answered is.reply is.feeds is.replies where
-    answered : (reply : Option (List ℕ)) → Feeds a (take is.count bytes) reply b → Replies {E = E} p q is.count reply (Ok taken) → Goes p q a bytes (drop taken.count bytes) b
-    answered None feeds (same, adds) = subst (λ (t : Taken). Goes p q a bytes (drop t.count bytes) b) (sym same) (goes_fed p q a b bytes is.count None feeds adds)
-    answered (Some reply) feeds (same, adds) = subst (λ (t : Taken). Goes p q a bytes (drop t.count bytes) b) (sym same) (goes_fed p q a b bytes is.count (Some reply) feeds adds)
+  -- ---- steps
+
+  pub looks_once : (meter meter' : Meter P A ghosts) (ticks ticks' found : Ticks) (elapsed : ℕ) (outcome : Result (Unit {0}) AddFault) → LooksAt elapsed ticks meter outcome found meter' → ticks' ≡ found
+      → LooksOnce meter ticks meter' ticks'
+  looks_once meter meter' ticks ticks' found elapsed outcome looks same = inl (elapsed, outcome, subst (λ (t : Ticks). LooksAt elapsed ticks meter outcome t meter') (sym same) looks)
+
+  pub goes_looking : (p q : Option (List LineMoment)) (s : At P A ghosts) (meter meter' : Meter P A ghosts) (ticks ticks' : Ticks) (left : List ℕ)
+      → Goes p q s (record { meter = meter; ticks = ticks; left = left }) → LooksOnce meter ticks meter' ticks' → Goes p q s (record { meter = meter'; ticks = ticks'; left = left })
+  goes_looking p q s meter meter' ticks ticks' left goes (inl (elapsed, outcome, looks)) =
+      goes_and p q q s (record { meter = meter; ticks = ticks; left = left }) (record { meter = meter'; ticks = ticks'; left = left }) [] goes (Looks elapsed outcome ticks' meter' looks) (Adds-nil q)
+  goes_looking p q s meter meter' ticks ticks' left goes (inr (same, still)) =
+      subst (λ (m : Meter P A ghosts). Goes p q s (record { meter = m; ticks = ticks'; left = left })) (sym same) (subst (λ (t : Ticks). Goes p q s (record { meter = meter; ticks = t; left = left })) (sym still) goes)
+
+  -- the same, with the clock or the bytes under another name
+  pub goes_still : (p q : Option (List LineMoment)) (s : At P A ghosts) (meter : Meter P A ghosts) (ticks ticks' : Ticks) (left left' : List ℕ)
+      → Goes p q s (record { meter = meter; ticks = ticks; left = left }) → ticks' ≡ ticks → left' ≡ left → Goes p q s (record { meter = meter; ticks = ticks'; left = left' })
+  goes_still p q s meter ticks ticks' left left' goes still same =
+      subst (λ (l : List ℕ). Goes p q s (record { meter = meter; ticks = ticks'; left = l })) (sym same) (subst (λ (t : Ticks). Goes p q s (record { meter = meter; ticks = t; left = left })) (sym still) goes)
+
+  pub goes_reading : (E : Type 0) (p q r : Option (List LineMoment)) (s : At P A ghosts) (meter : Meter P A ghosts) (ticks : Ticks) (count : ℕ) (piece bytes : List ℕ)
+      → Goes p q s (record { meter = meter; ticks = ticks; left = [] }) → bytes ≡ take count piece → ReadsPiece {E = E} q r (Ok count) piece → Goes p r s (record { meter = meter; ticks = ticks; left = bytes })
+  goes_reading E p q r s meter ticks count piece bytes goes is (inl adds) =
+      subst (λ l. Goes p r s (record { meter = meter; ticks = ticks; left = l })) (sym is)
+      (goes_and p q r s (record { meter = meter; ticks = ticks; left = [] }) (record { meter = meter; ticks = ticks; left = take count piece }) _ goes (Reads (take count piece) refl) adds)
+  goes_reading E p q r s meter ticks count piece bytes goes is (inr (none, adds)) =
+      let nothing : bytes ≡ [] = is ∙ ap (λ n. take n piece) none in
+      subst (λ l. Goes p r s (record { meter = meter; ticks = ticks; left = l })) (sym nothing)
+      (goes_and p q r s (record { meter = meter; ticks = ticks; left = [] }) (record { meter = meter; ticks = ticks; left = [] }) _ goes (Waits refl) adds)
+
+  pub goes_answering : (E : Type 0) (p q r : Option (List LineMoment)) (s : At P A ghosts) (meter meter' : Meter P A ghosts) (ticks : Ticks) (bytes : List ℕ) (taken : Taken)
+      → Goes p q s (record { meter = meter; ticks = ticks; left = bytes }) → AnswersFrame {E = E} q r meter bytes (Ok taken) meter' → Goes p r s (record { meter = meter'; ticks = ticks; left = drop taken.count bytes })
+  goes_answering E p q r s meter meter' ticks bytes taken goes is = answered is.reply is.feeds is.replies where
+    answered : (reply : Option (List ℕ)) → Feeds meter (take is.count bytes) reply meter' → Replies {E = E} q r is.count reply (Ok taken) → Goes p r s (record { meter = meter'; ticks = ticks; left = drop taken.count bytes })
+    answered None feeds (same, adds) =
+        subst (λ (t : Taken). Goes p r s (record { meter = meter'; ticks = ticks; left = drop t.count bytes })) (sym same)
+        (goes_and p q r s (record { meter = meter; ticks = ticks; left = bytes }) (record { meter = meter'; ticks = ticks; left = drop is.count bytes }) [] goes
+        (Takes (take is.count bytes) (drop is.count bytes) meter' (sym (take-append-drop is.count bytes)) feeds) adds)
+    answered (Some reply) feeds (same, adds) =
+        subst (λ (t : Taken). Goes p r s (record { meter = meter'; ticks = ticks; left = drop t.count bytes })) (sym same)
+        (goes_and p q r s (record { meter = meter; ticks = ticks; left = bytes }) (record { meter = meter'; ticks = ticks; left = drop is.count bytes }) (Went reply ∷ []) goes
+        (Answers (take is.count bytes) (drop is.count bytes) reply meter' (sym (take-append-drop is.count bytes)) feeds) adds)
 
   -- ---- ends
 
-  pub serves_as_is : (p q : Option (List LineMoment)) (a b : Meter P A ghosts) (before rest : List ℕ) → Goes p q a before rest b → Serves p q before a b []
-  serves_as_is p q a b before rest goes = record { now = q; last = b; rest = rest; goes = goes; calls = []; ends = AsIs rest; made = refl; happened = Adds-nil q }
+  pub serves_as_is : (times : Times) (p q : Option (List LineMoment)) (s : At P A ghosts) (meter : Meter P A ghosts) (ticks : Ticks) (left : List ℕ) (result : Result Ending LoopFault)
+      → Goes p q s (record { meter = meter; ticks = ticks; left = left }) → EndsFor times result [] → ServesFor times p q s result meter ticks
+  serves_as_is times p q s meter ticks left result goes why = ([], left, record { now = q; last = record { meter = meter; ticks = ticks; left = left }; goes = goes; ends = AsIs; happened = Adds-nil q }, why)
 
-  pub serves_to_a_read : (p q r : Option (List LineMoment)) (a b : Meter P A ghosts) (before : List ℕ) → Goes p q a before [] b → Adds q r (Broke [] ∷ []) → Serves p r before a b (Broke [] ∷ [])
-  serves_to_a_read p q r a b before goes adds = record { now = q; last = b; rest = []; goes = goes; calls = []; ends = AtRead; made = refl; happened = adds }
+  pub serves_to_a_read : (times : Times) (p q r : Option (List LineMoment)) (s : At P A ghosts) (meter : Meter P A ghosts) (ticks : Ticks) (result : Result Ending LoopFault)
+      → Goes p q s (record { meter = meter; ticks = ticks; left = [] }) → Adds q r (Broke [] ∷ []) → EndsFor times result (Broke [] ∷ []) → ServesFor times p r s result meter ticks
+  serves_to_a_read times p q r s meter ticks result goes adds why =
+      (Broke [] ∷ [], [], record { now = q; last = record { meter = meter; ticks = ticks; left = [] }; goes = goes; ends = AtRead refl; happened = adds }, why)
 
-  pub serves_to_a_reply : {E : Type 0} (p q : Option (List LineMoment)) (a b : Meter P A ghosts) (bytes : List ℕ) (e : E) → AnswersFrame p q a bytes (Err e) b → (part : List ℕ) × Serves p q bytes a b (Broke part ∷ [])
-  serves_to_a_reply {E} p q a b bytes e is = broken is.reply is.feeds is.replies where
-    broken : (reply : Option (List ℕ)) → Feeds a (take is.count bytes) reply b → Replies {E = E} p q is.count reply (Err e) → (part : List ℕ) × Serves p q bytes a b (Broke part ∷ [])
+  pub serves_to_a_reply : {E : Type 0} (times : Times) (p q r : Option (List LineMoment)) (s : At P A ghosts) (meter meter' : Meter P A ghosts) (ticks : Ticks) (bytes : List ℕ) (e : E) (result : Result Ending LoopFault)
+      → Goes p q s (record { meter = meter; ticks = ticks; left = bytes }) → AnswersFrame q r meter bytes (Err e) meter' → ((part : List ℕ) → EndsFor times result (Broke part ∷ [])) → ServesFor times p r s result meter' ticks
+  serves_to_a_reply {E} times p q r s meter meter' ticks bytes e result goes is why = broken is.reply is.feeds is.replies where
+    broken : (reply : Option (List ℕ)) → Feeds meter (take is.count bytes) reply meter' → Replies {E = E} q r is.count reply (Err e) → ServesFor times p r s result meter' ticks
     broken None feeds none = absurd none
     broken (Some reply) feeds (part, missing, joined, adds) = (
-      part,
+      Broke part ∷ [],
+      drop is.count bytes,
       record {
-        now = p;
-        last = a;
-        rest = bytes;
-        goes = goes_nothing p a bytes;
-        calls = Fed (take is.count bytes) (Some reply) ∷ [];
-        ends = at_reply bytes (take is.count bytes) (drop is.count bytes) reply part missing (take-append-drop is.count bytes) joined;
-        made = (b, feeds, refl);
+        now = q;
+        last = record { meter = meter; ticks = ticks; left = bytes };
+        goes = goes;
+        ends = AtReply (take is.count bytes) (drop is.count bytes) reply part missing meter' (sym (take-append-drop is.count bytes)) joined feeds;
         happened = adds;
       },
+      why part,
     )
 
   -- what went before
-  pub serves_behind : (p q r : Option (List LineMoment)) (a b c : Meter P A ghosts) (before mid : List ℕ) (moments : List LineMoment) → Goes p q a before mid b → Serves q r mid b c moments → Serves p r before a c moments
-  serves_behind p q r a b c before mid moments goes serves = record {
-    now = serves.now;
-    last = serves.last;
-    rest = serves.rest;
-    goes = goes_on p q serves.now a b serves.last before mid serves.rest goes serves.goes;
-    calls = serves.calls;
-    ends = serves.ends;
-    made = serves.made;
-    happened = serves.happened;
-  }
+  pub serves_behind : (times : Times) (p q r : Option (List LineMoment)) (s mid : At P A ghosts) (meter : Meter P A ghosts) (ticks : Ticks) (result : Result Ending LoopFault)
+      → Goes p q s mid → ServesFor times q r mid result meter ticks → ServesFor times p r s result meter ticks
+  serves_behind times p q r s mid meter ticks result goes (moments, rest, serves, why) =
+      (moments, rest, record { now = serves.now; last = serves.last; goes = goes_on p q serves.now s mid serves.last goes serves.goes; ends = serves.ends; happened = serves.happened }, why)
 
-  -- a read
-  pub goes_reading : (E : Type 0) (p q : Option (List LineMoment)) (a : Meter P A ghosts) (count : ℕ) (piece : List ℕ) → ReadsPiece {E = E} p q (Ok count) piece → Goes p q a [] (take count piece) a
-  goes_reading E p q a count piece (inl adds) = goes_reads p q a (take count piece) adds
-  goes_reading E p q a count piece (inr (none, adds)) = subst (λ n. Goes p q a [] (take n piece) a) (sym none) (goes_waits p q a adds)
+  pub ended : (times : Times) (p q : Option (List LineMoment)) (s : At P A ghosts) (meter : Meter P A ghosts) (ticks : Ticks) (found : Option Ending) (ending : Ending) → found ≡ Some ending
+      → AnswersEach times p q s (Ok found) meter ticks → ServesFor times p q s (Ok ending) meter ticks
+  ended times p q s meter ticks found ending is each = subst (λ (o : Option Ending). AnswersEach times p q s (Ok o) meter ticks) is each
 
-  -- the frames of a piece that came
-  pub ended : (times : Times) (p q : Option (List LineMoment)) (a b : Meter P A ghosts) (bytes : List ℕ) (found : Option Ending) (ending : Ending) → found ≡ Some ending → AnswersEach times p q a bytes (Ok found) b
-      → (moments : List LineMoment) × Serves p q bytes a b moments × EndsFor times (Ok ending) moments
-  ended times p q a b bytes found ending is each = subst (λ (o : Option Ending). AnswersEach times p q a bytes (Ok o) b) is each
-
-  pub went_on : (times : Times) (p q : Option (List LineMoment)) (a b : Meter P A ghosts) (bytes : List ℕ) (found : Option Ending) → found ≡ None → AnswersEach times p q a bytes (Ok found) b → Goes p q a bytes [] b
-  went_on times p q a b bytes found is each = subst (λ (o : Option Ending). AnswersEach times p q a bytes (Ok o) b) is each
-
-  pub goes_reading_as : (E : Type 0) (p q : Option (List LineMoment)) (a : Meter P A ghosts) (count : ℕ) (piece bytes : List ℕ) → bytes ≡ take count piece → ReadsPiece {E = E} p q (Ok count) piece → Goes p q a [] bytes a
-  goes_reading_as E p q a count piece bytes is read = subst (λ l. Goes p q a [] l a) (sym is) (goes_reading E p q a count piece read)
-
-  -- the meter was told of a pulse event or of a second
-  pub goes_told : (past : Option (List LineMoment)) (a b : Meter P A ghosts) (left : List ℕ) (event : Event) (outcome : Result (Unit {0}) AddFault) → Judges a event outcome b → Goes past past a left left b
-  goes_told past a b left event outcome is = record { doings = Does (Told event outcome) ∷ []; calls = (b, is, refl); gives = (left, refl, refl); happened = Adds-nil past }
-
-  behind : (past : Option (List LineMoment)) (a b : Meter P A ghosts) (left : List ℕ) (second : Second) (counted outcome : Result (Unit {0}) AddFault)
-      → MatchResult counted (λ _. Judges a (Moment second.moment) outcome b) (λ fault. (outcome ≡ Err fault) × (b ≡ a)) → Goes past past a left left b
-  behind past a b left second (Ok done) outcome is = goes_told past a b left (Moment second.moment) outcome is
-  behind past a b left second (Err fault) outcome is = subst (λ (m : Meter P A ghosts). Goes past past a left left m) (sym is.1) (goes_nothing past a left)
-
-  one_second : (past : Option (List LineMoment)) (a b : Meter P A ghosts) (left : List ℕ) (second : Second) (n : ℕ) (outcome : Result (Unit {0}) AddFault) → second.pulses ≡ n → Tells a second outcome b → Goes past past a left left b
-  one_second past a b left second zero outcome e tells = goes_told past a b left (Moment second.moment) outcome (tells.0 e)
-  one_second past a b left second (suc n) outcome e tells =
-      let (counted, between, judged, then) = tells.1 (omega (arith, e)) in
-      goes_on past past past a between b left left left (goes_told past a between left (Pulses 0 second.pulses) counted judged) (behind past between b left second counted outcome then)
-
-  each_second : (past : Option (List LineMoment)) (a b : Meter P A ghosts) (left : List ℕ) (said outcome : Result (Unit {0}) AddFault) (seconds : List Second) → TellsEach a said seconds outcome b → Goes past past a left left b
-  each_second past a b left said outcome [] is = subst (λ (m : Meter P A ghosts). Goes past past a left left m) (sym is.0) (goes_nothing past a left)
-  each_second past a b left said outcome (second ∷ seconds) is =
-      goes_on past past past a is.2 b left left left (one_second past a is.2 left second second.pulses is.1 refl is.3) (each_second past is.2 b left is.1 outcome seconds is.4)
-
-  -- a look at the clock
-  pub goes_looking : (past : Option (List LineMoment)) (a b : Meter P A ghosts) (left : List ℕ) (elapsed : ℕ) (before after : Ticks) (outcome : Result (Unit {0}) AddFault) → Looks elapsed before a outcome after b → Goes past past a left left b
-  goes_looking past a b left elapsed before after outcome looks = each_second past a b left (Ok tt) outcome looks.1.seconds looks.1.each
+  pub went_on : (times : Times) (p q : Option (List LineMoment)) (s : At P A ghosts) (meter : Meter P A ghosts) (ticks : Ticks) (found : Option Ending) → found ≡ None → AnswersEach times p q s (Ok found) meter ticks
+      → Goes p q s (record { meter = meter; ticks = ticks; left = [] })
+  went_on times p q s meter ticks found is each = subst (λ (o : Option Ending). AnswersEach times p q s (Ok o) meter ticks) is each
 
   -- ---- the calls of a meter
 
-  pub joined : (a b c : Meter P A ghosts) → ((calls : List Call) × Calls a calls b) → ((calls : List Call) × Calls b calls c) → (calls : List Call) × Calls a calls c
-  joined a b c (xs, first) (ys, second) = (xs ++ ys, Calls-trans xs ys a b c first second)
+  abbrev Made : Meter P A ghosts → Meter P A ghosts → Type 0
+  Made a b = (calls : List Call) × Calls a calls b
 
-  pub looking_calls : (a b : Meter P A ghosts) → Goes None None a [] [] b → (calls : List Call) × Calls a calls b
-  looking_calls a b goes = (calls_of goes.doings, goes.calls)
+  Calls-trans : (xs ys : List Call) (a b c : Meter P A ghosts) → Calls a xs b → Calls b ys c → Calls a (xs ++ ys) c
+  Calls-trans [] ys a b c p q = subst (λ (m : Meter P A ghosts). Calls m ys c) p q
+  Calls-trans (x ∷ xs) ys a b c p q = (p.0, p.1, Calls-trans xs ys p.0 b c p.2 q)
 
-  pub serving_calls : (p q : Option (List LineMoment)) (a b : Meter P A ghosts) (before : List ℕ) (moments : List LineMoment) → Serves p q before a b moments → (calls : List Call) × Calls a calls b
-  serving_calls p q a b before moments serves = (calls_of serves.goes.doings ++ serves.calls, Calls-trans (calls_of serves.goes.doings) serves.calls a serves.last b serves.goes.calls serves.made)
+  pub joined : (a b c : Meter P A ghosts) → Made a b → Made b c → Made a c
+  joined a b c p q = (p.0 ++ q.0, Calls-trans p.0 q.0 a b c p.1 q.1)
+
+  one_told : (a b : Meter P A ghosts) (event : Event) (outcome : Result (Unit {0}) AddFault) → Judges a event outcome b → Made a b
+  one_told a b event outcome is = (Told event outcome ∷ [], (b, is, refl))
+
+  behind_pulses : (a b : Meter P A ghosts) (second : Second) (counted outcome : Result (Unit {0}) AddFault)
+      → MatchResult counted (λ _. Judges a (Moment second.moment) outcome b) (λ fault. (outcome ≡ Err fault) × (b ≡ a)) → Made a b
+  behind_pulses a b second (Ok done) outcome is = one_told a b (Moment second.moment) outcome is
+  behind_pulses a b second (Err fault) outcome is = subst (λ (m : Meter P A ghosts). Made a m) (sym is.1) ([], refl)
+
+  one_second : (a b : Meter P A ghosts) (second : Second) (n : ℕ) (outcome : Result (Unit {0}) AddFault) → second.pulses ≡ n → Tells a second outcome b → Made a b
+  one_second a b second zero outcome e tells = one_told a b (Moment second.moment) outcome (tells.0 e)
+  one_second a b second (suc n) outcome e tells =
+      let (counted, between, judged, then) = tells.1 (omega (arith, e)) in
+      joined a between b (one_told a between (Pulses 0 second.pulses) counted judged) (behind_pulses between b second counted outcome then)
+
+  each_second : (a b : Meter P A ghosts) (said outcome : Result (Unit {0}) AddFault) (seconds : List Second) → TellsEach a said seconds outcome b → Made a b
+  each_second a b said outcome [] is = subst (λ (m : Meter P A ghosts). Made a m) (sym is.0) ([], refl)
+  each_second a b said outcome (second ∷ seconds) is = joined a is.2 b (one_second a is.2 second second.pulses is.1 refl is.3) (each_second is.2 b is.1 outcome seconds is.4)
+
+  pub looking_calls : (a b : Meter P A ghosts) (ticks ticks' : Ticks) → LooksOnce a ticks b ticks' → Made a b
+  looking_calls a b ticks ticks' (inl (elapsed, outcome, looks)) = each_second a b (Ok tt) outcome looks.1.seconds looks.1.each
+  looking_calls a b ticks ticks' (inr (same, still)) = subst (λ (m : Meter P A ghosts). Made a m) (sym same) ([], refl)
+
+  doing_calls : (s after : At P A ghosts) (moments : List LineMoment) → Doing s moments after → Made s.meter after.meter
+  doing_calls s after moments (Looks elapsed outcome ticks meter looks) = each_second s.meter meter (Ok tt) outcome looks.1.seconds looks.1.each
+  doing_calls s after moments (Reads bytes none) = ([], refl)
+  doing_calls s after moments (Waits none) = ([], refl)
+  doing_calls s after moments (Takes taken behind meter cut feeds) = (Fed taken None ∷ [], (meter, feeds, refl))
+  doing_calls s after moments (Answers taken behind reply meter cut feeds) = (Fed taken (Some reply) ∷ [], (meter, feeds, refl))
+
+  doings_calls : (s after : At P A ghosts) (moments : List LineMoment) → Doings s moments after → Made s.meter after.meter
+  doings_calls s after moments Begun = ([], refl)
+  doings_calls s after moments (Then before more mid a does doing) = joined s.meter mid.meter after.meter (doings_calls s mid before does) (doing_calls mid after more doing)
+
+  end_calls : (s after : At P A ghosts) (moments : List LineMoment) → Ends s moments after → Made s.meter after.meter
+  end_calls s after moments AsIs = ([], refl)
+  end_calls s after moments (AtRead none) = ([], refl)
+  end_calls s after moments (AtReply taken behind reply part missing meter cut begins feeds) = (Fed taken (Some reply) ∷ [], (meter, feeds, refl))
+
+  pub serving_calls : (times : Times) (p q : Option (List LineMoment)) (s : At P A ghosts) (meter : Meter P A ghosts) (ticks : Ticks) (result : Result Ending LoopFault) → ServesFor times p q s result meter ticks → Made s.meter meter
+  serving_calls times p q s meter ticks result (moments, rest, serves, why) =
+      joined s.meter serves.last.meter meter (doings_calls s serves.last serves.goes.moments serves.goes.does) (end_calls serves.last (record { meter = meter; ticks = ticks; left = rest }) moments serves.ends)

@@ -2,8 +2,7 @@
 use Rattle.std.proofs.Common.{◌≡◌, ◌≢◌, ℕ, ◌+◌, ◌-◌, ◌<◌, ◌≤◌, Bool, true, false, List, [], ◌∷◌, ◌++◌, length, refl, sym, ap, subst, ◌∙◌, inl, inr, arith, ◌⊎◌, if◌then◌else◌, Option, Some, None, take, drop}
 use Rattle.std.proofs.lemmas.Bool.{cases_lt}
 use Rattle.std.proofs.lemmas.List.{append-nil, length-drop, length-append, nil_from_length, length-take-le, take_all}
-use Rattle.dlms_frame.specs.Client.{sap_of}
-use Rattle.dlms_frame.specs.Frame.{Parts, FrameSpelling, address_bytes, frame_len, spelling, tail_len}
+use Rattle.dlms_frame.specs.Frame.{Parts, FrameSpelling, address_bytes, spelling, tail_len}
 use Rattle.dlms_frame.specs.Stream.{FrameAt}
 use Rattle.dlms_frame.specs.declared.client.Client.{Client}
 use Rattle.dlms_frame.specs.declared.client.Client.TheVariants.{Public, Management, Reader}

@@ -1,63 +1,48 @@
 -- What a meter that serves does on a connection, one thing after another.
-use Rattle.std.specs.Prelude.{◌≡◌, ℕ, List, [], ◌∷◌, ◌++◌, ◌⊎◌, take, Option, Some, None, Result, Ok, Err}
-use Rattle.dlms_meter.specs.Steps.{Call, Calls}
-use Rattle.dlms_meter.specs.Steps.Call.{Fed, Idled, Told}
-use Rattle.dlms_meter.specs.declared.meter.Meter.{Meter}
-use Rattle.dlms_pages.specs.declared.device.Pages.{Ghosts}
-use Rattle.dlms_loopback.specs.declared.fault.LoopFault.{LoopFault}
+use Rattle.std.specs.Prelude.{◌≡◌, ◌⊎◌, ℕ, List, [], ◌∷◌, ◌++◌, take, Option, Some, None, Result, Ok, Err}
 use Rattle.dlms_loopback.specs.Moments.{Moment, Adds}
 use Rattle.dlms_loopback.specs.Moments.Moment.{Came, Quiet, Went, Broke}
+use Rattle.dlms_loopback.specs.declared.fault.LoopFault.{LoopFault}
+use Rattle.dlms_meter.specs.Run.{Feeds}
+use Rattle.dlms_meter.specs.declared.meter.Meter.{Meter}
+use Rattle.dlms_pages.specs.declared.device.Pages.{Ghosts}
+use Rattle.dlms_store.specs.declared.fault.AddFault.{AddFault}
+use Rattle.dlms_field.specs.Telling.{Looks as LooksAt}
 use Rattle.dlms_field.specs.Turns.{Tells}
 use Rattle.dlms_field.specs.declared.serving.Ending.{Ending}
 use Rattle.dlms_field.specs.declared.serving.Ending.TheVariants.{Closed, Failed, Over}
+use Rattle.dlms_field.specs.declared.ticks.Ticks.{Ticks}
 use Rattle.dlms_field.specs.declared.turns.Times.{Times}
 use Rattle.dlms_field.specs.declared.turns.Turn.{Turn}
 
--- It reads, and these bytes come, none where the call was interrupted; it reads, and nothing comes for as long as a read waits; or it
--- makes a call of the meter.
-pub data Doing : Type 0 where
-  Reads : (bytes : List ℕ) → Doing
-  Waits : Doing
-  Does : (call : Call) → Doing
+-- how far the meter was told of the clock, and the bytes that came and that it was not given yet
+pub record At (P A : Type 0) (ghosts : Ghosts P) : Type 0 where
+  pub meter : Meter P A ghosts
+  pub ticks : Ticks
+  pub left : List ℕ
 
--- what is seen of a call on the line: the reply, which goes out whole
-abbrev pub shown : Call → List Moment
-shown (Fed taken None) = []
-shown (Fed taken (Some reply)) = Went reply ∷ []
-shown Idled = []
-shown (Told event outcome) = []
+-- One thing that it does, and what is seen of it on the line. It looks at the clock, and tells the meter of the seconds that are due; it
+-- reads, and bytes come, none where the call was interrupted, or nothing comes for as long as a read waits, and before that it has
+-- given the meter all that came; it gives the meter of those bytes, and the reply goes out, whole, or there is none.
+pub data Doing {P A : Type 0} {ghosts : Ghosts P} (s : At P A ghosts) : List Moment → At P A ghosts → Type 0 where
+  Looks : (elapsed : ℕ) (outcome : Result (Unit {0}) AddFault) (ticks : Ticks) (meter : Meter P A ghosts) → LooksAt elapsed s.ticks s.meter outcome ticks meter
+      → Doing s [] (record s { meter = meter; ticks = ticks })
+  Reads : (bytes : List ℕ) → s.left ≡ [] → Doing s (Came bytes ∷ []) (record s { left = bytes })
+  Waits : s.left ≡ [] → Doing s (Quiet ∷ []) s
+  Takes : (taken behind : List ℕ) (meter : Meter P A ghosts) → s.left ≡ taken ++ behind → Feeds s.meter taken None meter → Doing s [] (record s { meter = meter; left = behind })
+  Answers : (taken behind reply : List ℕ) (meter : Meter P A ghosts) → s.left ≡ taken ++ behind → Feeds s.meter taken (Some reply) meter
+      → Doing s (Went reply ∷ []) (record s { meter = meter; left = behind })
 
-abbrev pub moments_of : List Doing → List Moment
-moments_of [] = []
-moments_of (Reads bytes ∷ doings) = Came bytes ∷ moments_of doings
-moments_of (Waits ∷ doings) = Quiet ∷ moments_of doings
-moments_of (Does call ∷ doings) = shown call ++ moments_of doings
+-- one after another
+pub data Doings {P A : Type 0} {ghosts : Ghosts P} (s : At P A ghosts) : List Moment → At P A ghosts → Type 0 where
+  Begun : Doings s [] s
+  Then : (before moments : List Moment) (mid after : At P A ghosts) → Doings s before mid → Doing mid moments after → Doings s (before ++ moments) after
 
-abbrev pub calls_of : List Doing → List Call
-calls_of [] = []
-calls_of (Reads bytes ∷ doings) = calls_of doings
-calls_of (Waits ∷ doings) = calls_of doings
-calls_of (Does call ∷ doings) = call ∷ calls_of doings
-
--- the bytes that a call is given
-abbrev pub given : Call → List ℕ
-given (Fed taken reply) = taken
-given Idled = []
-given (Told event outcome) = []
-
--- The meter is given the bytes that came, in their order, and all of them before more are read. Of some that had come this is left.
-abbrev pub Gives : List ℕ → List Doing → List ℕ → Type 0
-Gives before [] rest = rest ≡ before
-Gives before (Reads bytes ∷ doings) rest = (before ≡ []) × Gives bytes doings rest
-Gives before (Waits ∷ doings) rest = (before ≡ []) × Gives [] doings rest
-Gives before (Does call ∷ doings) rest = (behind : List ℕ) × (before ≡ given call ++ behind) × Gives behind doings rest
-
--- So it went on from one moment of the connection to another: these were calls of the meter, and this was seen on the line.
-pub record Goes {P A : Type 0} {ghosts : Ghosts P} (old new : Option (List Moment)) (meter : Meter P A ghosts) (before rest : List ℕ) (meter' : Meter P A ghosts) : Type 0 where
-  pub doings : List Doing
-  pub calls : Calls meter (calls_of doings) meter'
-  pub gives : Gives before doings rest
-  pub happened : Adds old new (moments_of doings)
+-- So it went on, and this was seen on the line.
+pub record Goes {P A : Type 0} {ghosts : Ghosts P} (old new : Option (List Moment)) (s after : At P A ghosts) : Type 0 where
+  pub moments : List Moment
+  pub does : Doings s moments after
+  pub happened : Adds old new moments
 
 -- one read: bytes came, or nothing did, which counts for none; or it failed
 abbrev pub ReadsPiece : {E : Type 0} → Option (List Moment) → Option (List Moment) → Result ℕ E → List ℕ → Type 0
@@ -65,20 +50,18 @@ ReadsPiece old new (Ok count) piece = Adds old new (Came (take count piece) ∷ 
 ReadsPiece old new (Err e) piece = Adds old new (Broke [] ∷ [])
 
 -- How it ends: as it is; with a read that failed; or with a reply of which a beginning went out.
-pub data Ends : List ℕ → List Moment → List Call → Type 0 where
-  AsIs : (rest : List ℕ) → Ends rest [] []
-  AtRead : Ends [] (Broke [] ∷ []) []
-  AtReply : (taken behind reply part missing : List ℕ) → part ++ missing ≡ reply → Ends (taken ++ behind) (Broke part ∷ []) (Fed taken (Some reply) ∷ [])
+pub data Ends {P A : Type 0} {ghosts : Ghosts P} (s : At P A ghosts) : List Moment → At P A ghosts → Type 0 where
+  AsIs : Ends s [] s
+  AtRead : s.left ≡ [] → Ends s (Broke [] ∷ []) s
+  AtReply : (taken behind reply part missing : List ℕ) (meter : Meter P A ghosts) → s.left ≡ taken ++ behind → part ++ missing ≡ reply → Feeds s.meter taken (Some reply) meter
+      → Ends s (Broke part ∷ []) (record s { meter = meter; left = behind })
 
 -- From there it went on, and ended in one of these ways.
-pub record Serves {P A : Type 0} {ghosts : Ghosts P} (old new : Option (List Moment)) (before : List ℕ) (meter meter' : Meter P A ghosts) (moments : List Moment) : Type 0 where
+pub record Serves {P A : Type 0} {ghosts : Ghosts P} (old new : Option (List Moment)) (s after : At P A ghosts) (moments : List Moment) : Type 0 where
   pub now : Option (List Moment)
-  pub last : Meter P A ghosts
-  pub rest : List ℕ
-  pub goes : Goes old now meter before rest last
-  pub calls : List Call
-  pub ends : Ends rest moments calls
-  pub made : Calls last calls meter'
+  pub last : At P A ghosts
+  pub goes : Goes old now s last
+  pub ends : Ends last moments after
   pub happened : Adds now new moments
 
 -- The last moment says why: a call of the line failed, of which only a read that found no end tells a close; or the turn was over, or
@@ -89,12 +72,18 @@ EndsFor times (Ok (Failed error)) moments = (part : List ℕ) × (moments ≡ Br
 EndsFor times (Ok (Over over)) moments = (moments ≡ []) × (turn : Turn) × (second : ℕ) × Tells times turn second (Some over)
 EndsFor times (Err fault) moments = moments ≡ []
 
--- a connection, from its first look at the clock to its end
-abbrev pub Talks : {P A : Type 0} → {ghosts : Ghosts P} → Times → Option (List Moment) → Option (List Moment) → Meter P A ghosts → Result Ending LoopFault → Meter P A ghosts → Type 0
-Talks times old new meter result meter' = (moments : List Moment) × Serves old new [] meter meter' moments × EndsFor times result moments
+-- so it ended for this
+abbrev pub ServesFor : {P A : Type 0} → {ghosts : Ghosts P} → Times → Option (List Moment) → Option (List Moment) → At P A ghosts → Result Ending LoopFault → Meter P A ghosts → Ticks → Type 0
+ServesFor times old new s result meter ticks =
+    (moments : List Moment) × (rest : List ℕ) × Serves old new s (record { meter = meter; ticks = ticks; left = rest }) moments × EndsFor times result moments
 
 -- the frames among some bytes: all of them are answered, or the connection ends there
-abbrev pub AnswersEach : {P A : Type 0} → {ghosts : Ghosts P} → Times → Option (List Moment) → Option (List Moment) → Meter P A ghosts → List ℕ → Result (Option Ending) LoopFault → Meter P A ghosts → Type 0
-AnswersEach times old new meter bytes (Ok None) meter' = Goes old new meter bytes [] meter'
-AnswersEach times old new meter bytes (Ok (Some ending)) meter' = (moments : List Moment) × Serves old new bytes meter meter' moments × EndsFor times (Ok ending) moments
-AnswersEach times old new meter bytes (Err fault) meter' = (moments : List Moment) × Serves old new bytes meter meter' moments × EndsFor times (Err fault) moments
+abbrev pub AnswersEach : {P A : Type 0} → {ghosts : Ghosts P} → Times → Option (List Moment) → Option (List Moment) → At P A ghosts → Result (Option Ending) LoopFault → Meter P A ghosts → Ticks → Type 0
+AnswersEach times old new s (Ok None) meter ticks = Goes old new s (record { meter = meter; ticks = ticks; left = [] })
+AnswersEach times old new s (Ok (Some ending)) meter ticks = ServesFor times old new s (Ok ending) meter ticks
+AnswersEach times old new s (Err fault) meter ticks = ServesFor times old new s (Err fault) meter ticks
+
+-- a look at the clock, or the clock failed before it
+abbrev pub LooksOnce : {P A : Type 0} → {ghosts : Ghosts P} → Meter P A ghosts → Ticks → Meter P A ghosts → Ticks → Type 0
+LooksOnce meter ticks meter' ticks' =
+    ((elapsed : ℕ) × (outcome : Result (Unit {0}) AddFault) × LooksAt elapsed ticks meter outcome ticks' meter') ⊎ ((meter' ≡ meter) × (ticks' ≡ ticks))

@@ -1,5 +1,5 @@
 -- A connection's end is the end of its links: no client's link is up at the first octet of the next one.
-use Rattle.std.specs.Prelude.{◌≡◌, ◌≢◌, ℕ, List, [], false}
+use Rattle.std.specs.Prelude.{◌≡◌, ◌≢◌, [], false}
 use Rattle.dlms_frame.specs.Client.{sap_of}
 use Rattle.dlms_frame.specs.Frame.{Parts}
 use Rattle.dlms_frame.specs.declared.client.Client.{Client}

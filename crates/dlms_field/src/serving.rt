@@ -5,7 +5,7 @@ ghost use Rattle.dlms_loopback.specs.Moments.{Moment};
 ghost use Rattle.dlms_loopback.specs.Moments.Moment.{Broke};
 ghost use Rattle.dlms_loopback.specs.Serving.{AnswersFrame};
 ghost use Rattle.dlms_meter.specs.Steps.{Call, Calls};
-ghost use Rattle.dlms_field.specs.Connection.{AnswersEach, EndsFor, Goes, ReadsPiece, Talks};
+ghost use Rattle.dlms_field.specs.Connection.{AnswersEach, EndsFor, LooksOnce, ReadsPiece, ServesFor};
 ghost use Rattle.dlms_field.specs.Turns.{Tells};
 ghost use Rattle.dlms_field.specs.declared.turns.Times.{Times as TimesOf};
 
@@ -199,9 +199,13 @@ fn tell_end<E: Write>(errors: &mut E, address: SocketAddr, times: Times, ending:
 }
 
 impl<R: Clock, S: Drop, E: Write> Site<'_, '_, R, S, E> {
-    /// Tells that a second was refused.
-    fn tell_refused(&mut self, number: u8) {
-        if self.log.takes_line(self.errors) {
+    /// Tells that a second was refused, once until one is taken again.
+    fn tell_refused(&mut self, number: u8)
+        ensures { self.new.ticks ≡ self.old.ticks }
+    {
+        let is_new = !self.refused;
+        self.refused = true;
+        if is_new && self.log.takes_line(self.errors) {
             let _said = writeln!(self.errors, "refused {number}");
         }
     }
@@ -209,18 +213,13 @@ impl<R: Clock, S: Drop, E: Write> Site<'_, '_, R, S, E> {
     /// Looks at the clock, and tells the meter of the seconds that are due, so many at most. The seconds of the clock since the
     /// beginning come back. A moment that is refused is said once, until one is taken again.
     fn look<P: Pages>(&mut self, meter: &mut Meter<P>) -> Result<u64, LoopFault>
-        ensures { (past : Option (List Moment)) (left : List ℕ) → Goes past past meter.old left left meter.new }
+        ensures { LooksOnce meter.old self.old.ticks meter.new self.new.ticks }
     {
         let elapsed = self.start.elapsed(self.rt)?.as_secs();
         let told = self.ticks.told;
         match telling::look(meter, &mut self.ticks, due(elapsed, self.tick)) {
             Ok(()) => self.refused = self.refused && self.ticks.told == told,
-            Err(AddFault::Refused(cause)) => {
-                if !self.refused {
-                    self.tell_refused(cause.number());
-                }
-                self.refused = true;
-            }
+            Err(AddFault::Refused(cause)) => self.tell_refused(cause.number()),
             Err(AddFault::Exhausted) => return Err(LoopFault::Add(AddFault::Exhausted)),
             Err(_) => return Err(LoopFault::Add(AddFault::Device)),
         }
@@ -232,7 +231,9 @@ impl<R: Clock, S: Drop, E: Write> Site<'_, '_, R, S, E> {
         &mut self,
         listener: &L,
         now: u64,
-    ) -> io::Result<Option<Peer<S>>> {
+    ) -> io::Result<Option<Peer<S>>>
+        ensures { self.new.ticks ≡ self.old.ticks }
+    {
         let (stream, address) = listener.accept()?;
         if self.barred.takes(address.ip(), now) {
             Ok(Some(Peer { stream, address }))
@@ -242,7 +243,9 @@ impl<R: Clock, S: Drop, E: Write> Site<'_, '_, R, S, E> {
     }
 
     /// Whether a connection waits for the line.
-    fn another_waits<L: OpenListener<Stream = S>>(&mut self, listener: &L, now: u64) -> bool {
+    fn another_waits<L: OpenListener<Stream = S>>(&mut self, listener: &L, now: u64) -> bool
+        ensures { self.new.ticks ≡ self.old.ticks }
+    {
         if self.next.is_none() {
             self.next = self.accepted(listener, now).unwrap_or(None);
         }
@@ -257,7 +260,8 @@ impl<R: Clock, S: Drop, E: Write> Site<'_, '_, R, S, E> {
         turn: &mut Turn,
         now: u64,
     ) -> Option<Over>
-        ensures { Tells times turn.new now result }
+        ensures tells { Tells times turn.new now result }
+        ensures ticks { self.new.ticks ≡ self.old.ticks }
     {
         if turn.waited.is_none() && self.asked != Some(now) && self.another_waits(listener, now) {
             turn.waited = Some(now);
@@ -276,7 +280,7 @@ impl<R: Clock, S: Drop, E: Write> Site<'_, '_, R, S, E> {
         turn: &mut Turn,
         bytes: &[u8],
     ) -> Result<Option<Ending>, LoopFault>
-        ensures { AnswersEach times (T.past stream.old) (T.past stream.new) meter.old bytes.now result meter.new }
+        ensures { AnswersEach times (T.past stream.old) (T.past stream.new) (record { meter = meter.old; ticks = self.old.ticks; left = bytes.now }) result meter.new self.new.ticks }
     {
         let mut rest = bytes;
         while !rest.is_empty() {
@@ -305,7 +309,7 @@ impl<R: Clock, S: Drop, E: Write> Site<'_, '_, R, S, E> {
         listener: &L,
         stream: &mut T,
     ) -> Result<Ending, LoopFault>
-        ensures { Talks self.old.times (T.past stream.old) (T.past stream.new) meter.old result meter.new }
+        ensures { ServesFor self.old.times (T.past stream.old) (T.past stream.new) (record { meter = meter.old; ticks = self.old.ticks; left = [] }) result meter.new self.new.ticks }
     {
         let times = self.times;
         let mut piece = [0u8; PIECE];

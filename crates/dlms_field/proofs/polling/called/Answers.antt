@@ -1,4 +1,4 @@
-use Rattle.std.proofs.Common.{subst, Some, Option}
+use Rattle.std.proofs.Common.{subst, Option}
 use Rattle.std.specs.Prelude.{IfSome}
 use Rattle.dlms_headend.specs.PollerValue.{PollerValue}
 use Rattle.dlms_loopback.specs.BothEnds.{IsDonePoll}

@@ -1,6 +1,5 @@
 use Rattle.std.proofs.Common.{◌≡◌, ◌∙◌, ap, subst, ℕ, List, Option}
 use Rattle.std.specs.Io.KnownBytes.{Appends}
-use Rattle.dlms_headend.specs.Asking.{PlanValue}
 use Rattle.dlms_headend.specs.Lines.{text_of}
 use Rattle.dlms_headend.specs.Merged.{added}
 use Rattle.dlms_headend.specs.Polling.{fresh_poll}

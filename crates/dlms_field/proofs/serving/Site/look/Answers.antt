@@ -1,14 +1,15 @@
-use Rattle.dlms_field.proofs.ConnectionLemmas.{goes_looking}
+use Rattle.std.proofs.Common.{refl}
+use Rattle.dlms_field.proofs.ConnectionLemmas.{looks_once}
 use Rattle.dlms_field.proofs.serving.Site.look.Goals as goal
 
+pub returns-in-Err-Refused : goal.returns-in-Err-Refused
+returns-in-Err-Refused g c = looks_once _ _ _ _ _ _ _ c.look.ensures c.tell_refused.ensures
+
 pub returns-in-Err-Exhausted : goal.returns-in-Err-Exhausted
-returns-in-Err-Exhausted g c = λ past left. goes_looking past _ _ left _ _ _ _ c.look.ensures
+returns-in-Err-Exhausted g c = looks_once _ _ _ _ _ _ _ c.look.ensures refl
 
 pub returns-in-Err : goal.returns-in-Err
-returns-in-Err g c = λ past left. goes_looking past _ _ left _ _ _ _ c.look.ensures
+returns-in-Err g c = looks_once _ _ _ _ _ _ _ c.look.ensures refl
 
 pub returns-after-self : goal.returns-after-self
-returns-after-self g c = λ past left. goes_looking past _ _ left _ _ _ _ c.look.ensures
-
-pub returns-after-not-self : goal.returns-after-not-self
-returns-after-not-self g c = λ past left. goes_looking past _ _ left _ _ _ _ c.look.ensures
+returns-after-self g c = looks_once _ _ _ _ _ _ _ c.look.ensures refl
