@@ -7,8 +7,9 @@ use Rattle.dlms_loopback.specs.Moments.Moment.{Went, Broke}
 use Rattle.dlms_loopback.specs.Serving.{AnswersFrame, Replies}
 use Rattle.dlms_loopback.specs.declared.fault.LoopFault.{LoopFault}
 use Rattle.dlms_loopback.specs.declared.meter_end.Taken.{Taken}
-use Rattle.dlms_meter.specs.Run.{Feeds, Judges}
-use Rattle.dlms_meter.specs.Steps.{Call, Calls}
+use Rattle.dlms_meter.specs.Run.{Feeds}
+use Rattle.dlms_store.specs.Later.{IsLater}
+use Rattle.dlms_meter.specs.Steps.{Call, Calls, IsCall}
 use Rattle.dlms_meter.specs.Steps.Call.{Fed, Told}
 use Rattle.dlms_meter.specs.declared.meter.Meter.{Meter}
 use Rattle.dlms_pages.specs.declared.device.Pages.{Ghosts}
@@ -87,17 +88,17 @@ module _ {P A : Type 0} {ghosts : Ghosts P} where
       (goes_and p q r s (record { meter = meter; ticks = ticks; left = [] }) (record { meter = meter; ticks = ticks; left = [] }) _ goes (Waits refl) adds)
 
   pub goes_answering : (E : Type 0) (p q r : Option (List LineMoment)) (s : At P A ghosts) (meter meter' : Meter P A ghosts) (ticks : Ticks) (bytes : List ℕ) (taken : Taken)
-      → Goes p q s (record { meter = meter; ticks = ticks; left = bytes }) → AnswersFrame {E = E} q r meter bytes (Ok taken) meter' → Goes p r s (record { meter = meter'; ticks = ticks; left = drop taken.count bytes })
-  goes_answering E p q r s meter meter' ticks bytes taken goes is = answered is.reply is.feeds is.replies where
+      → Goes p q s (record { meter = meter; ticks = ticks; left = bytes }) → AnswersFrame {E = E} q r meter bytes (Ok taken) meter' → IsLater meter.store meter'.store → Goes p r s (record { meter = meter'; ticks = ticks; left = drop taken.count bytes })
+  goes_answering E p q r s meter meter' ticks bytes taken goes is later = answered is.reply is.feeds is.replies where
     answered : (reply : Option (List ℕ)) → Feeds meter (take is.count bytes) reply meter' → Replies {E = E} q r is.count reply (Ok taken) → Goes p r s (record { meter = meter'; ticks = ticks; left = drop taken.count bytes })
     answered None feeds (same, adds) =
         subst (λ (t : Taken). Goes p r s (record { meter = meter'; ticks = ticks; left = drop t.count bytes })) (sym same)
         (goes_and p q r s (record { meter = meter; ticks = ticks; left = bytes }) (record { meter = meter'; ticks = ticks; left = drop is.count bytes }) [] goes
-        (Takes (take is.count bytes) (drop is.count bytes) meter' (sym (take-append-drop is.count bytes)) feeds) adds)
+        (Takes (take is.count bytes) (drop is.count bytes) meter' (sym (take-append-drop is.count bytes)) (feeds, later)) adds)
     answered (Some reply) feeds (same, adds) =
         subst (λ (t : Taken). Goes p r s (record { meter = meter'; ticks = ticks; left = drop t.count bytes })) (sym same)
         (goes_and p q r s (record { meter = meter; ticks = ticks; left = bytes }) (record { meter = meter'; ticks = ticks; left = drop is.count bytes }) (Went reply ∷ []) goes
-        (Answers (take is.count bytes) (drop is.count bytes) reply meter' (sym (take-append-drop is.count bytes)) feeds) adds)
+        (Answers (take is.count bytes) (drop is.count bytes) reply meter' (sym (take-append-drop is.count bytes)) (feeds, later)) adds)
 
   -- ---- ends
 
@@ -111,8 +112,8 @@ module _ {P A : Type 0} {ghosts : Ghosts P} where
       (Broke [] ∷ [], [], record { now = q; last = record { meter = meter; ticks = ticks; left = [] }; goes = goes; ends = AtRead refl; happened = adds }, why)
 
   pub serves_to_a_reply : {E : Type 0} (times : Times) (p q r : Option (List LineMoment)) (s : At P A ghosts) (meter meter' : Meter P A ghosts) (ticks : Ticks) (bytes : List ℕ) (e : E) (result : Result Ending LoopFault)
-      → Goes p q s (record { meter = meter; ticks = ticks; left = bytes }) → AnswersFrame q r meter bytes (Err e) meter' → ((part : List ℕ) → EndsFor times result (Broke part ∷ [])) → ServesFor times p r s result meter' ticks
-  serves_to_a_reply {E} times p q r s meter meter' ticks bytes e result goes is why = broken is.reply is.feeds is.replies where
+      → Goes p q s (record { meter = meter; ticks = ticks; left = bytes }) → AnswersFrame q r meter bytes (Err e) meter' → IsLater meter.store meter'.store → ((part : List ℕ) → EndsFor times result (Broke part ∷ [])) → ServesFor times p r s result meter' ticks
+  serves_to_a_reply {E} times p q r s meter meter' ticks bytes e result goes is later why = broken is.reply is.feeds is.replies where
     broken : (reply : Option (List ℕ)) → Feeds meter (take is.count bytes) reply meter' → Replies {E = E} q r is.count reply (Err e) → ServesFor times p r s result meter' ticks
     broken None feeds none = absurd none
     broken (Some reply) feeds (part, missing, joined, adds) = (
@@ -122,7 +123,7 @@ module _ {P A : Type 0} {ghosts : Ghosts P} where
         now = q;
         last = record { meter = meter; ticks = ticks; left = bytes };
         goes = goes;
-        ends = AtReply (take is.count bytes) (drop is.count bytes) reply part missing meter' (sym (take-append-drop is.count bytes)) joined feeds;
+        ends = AtReply (take is.count bytes) (drop is.count bytes) reply part missing meter' (sym (take-append-drop is.count bytes)) joined (feeds, later);
         happened = adds;
       },
       why part,
@@ -154,11 +155,11 @@ module _ {P A : Type 0} {ghosts : Ghosts P} where
   pub joined : (a b c : Meter P A ghosts) → Made a b → Made b c → Made a c
   joined a b c p q = (p.0 ++ q.0, Calls-trans p.0 q.0 a b c p.1 q.1)
 
-  one_told : (a b : Meter P A ghosts) (event : Event) (outcome : Result (Unit {0}) AddFault) → Judges a event outcome b → Made a b
+  one_told : (a b : Meter P A ghosts) (event : Event) (outcome : Result (Unit {0}) AddFault) → IsCall a (Told event outcome) b → Made a b
   one_told a b event outcome is = (Told event outcome ∷ [], (b, is, refl))
 
   behind_pulses : (a b : Meter P A ghosts) (second : Second) (counted outcome : Result (Unit {0}) AddFault)
-      → MatchResult counted (λ _. Judges a (Moment second.moment) outcome b) (λ fault. (outcome ≡ Err fault) × (b ≡ a)) → Made a b
+      → MatchResult counted (λ _. IsCall a (Told (Moment second.moment) outcome) b) (λ fault. (outcome ≡ Err fault) × (b ≡ a)) → Made a b
   behind_pulses a b second (Ok done) outcome is = one_told a b (Moment second.moment) outcome is
   behind_pulses a b second (Err fault) outcome is = subst (λ (m : Meter P A ghosts). Made a m) (sym is.1) ([], refl)
 

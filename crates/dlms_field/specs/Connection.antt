@@ -3,7 +3,8 @@ use Rattle.std.specs.Prelude.{◌≡◌, ◌⊎◌, ℕ, List, [], ◌∷◌, �
 use Rattle.dlms_loopback.specs.Moments.{Moment, Adds}
 use Rattle.dlms_loopback.specs.Moments.Moment.{Came, Quiet, Went, Broke}
 use Rattle.dlms_loopback.specs.declared.fault.LoopFault.{LoopFault}
-use Rattle.dlms_meter.specs.Run.{Feeds}
+use Rattle.dlms_meter.specs.Steps.{IsCall}
+use Rattle.dlms_meter.specs.Steps.Call.{Fed}
 use Rattle.dlms_meter.specs.declared.meter.Meter.{Meter}
 use Rattle.dlms_pages.specs.declared.device.Pages.{Ghosts}
 use Rattle.dlms_store.specs.declared.fault.AddFault.{AddFault}
@@ -29,8 +30,8 @@ pub data Doing {P A : Type 0} {ghosts : Ghosts P} (s : At P A ghosts) : List Mom
       → Doing s [] (record s { meter = meter; ticks = ticks })
   Reads : (bytes : List ℕ) → s.left ≡ [] → Doing s (Came bytes ∷ []) (record s { left = bytes })
   Waits : s.left ≡ [] → Doing s (Quiet ∷ []) s
-  Takes : (taken behind : List ℕ) (meter : Meter P A ghosts) → s.left ≡ taken ++ behind → Feeds s.meter taken None meter → Doing s [] (record s { meter = meter; left = behind })
-  Answers : (taken behind reply : List ℕ) (meter : Meter P A ghosts) → s.left ≡ taken ++ behind → Feeds s.meter taken (Some reply) meter
+  Takes : (taken behind : List ℕ) (meter : Meter P A ghosts) → s.left ≡ taken ++ behind → IsCall s.meter (Fed taken None) meter → Doing s [] (record s { meter = meter; left = behind })
+  Answers : (taken behind reply : List ℕ) (meter : Meter P A ghosts) → s.left ≡ taken ++ behind → IsCall s.meter (Fed taken (Some reply)) meter
       → Doing s (Went reply ∷ []) (record s { meter = meter; left = behind })
 
 -- one after another
@@ -53,7 +54,7 @@ ReadsPiece old new (Err e) piece = Adds old new (Broke [] ∷ [])
 pub data Ends {P A : Type 0} {ghosts : Ghosts P} (s : At P A ghosts) : List Moment → At P A ghosts → Type 0 where
   AsIs : Ends s [] s
   AtRead : s.left ≡ [] → Ends s (Broke [] ∷ []) s
-  AtReply : (taken behind reply part missing : List ℕ) (meter : Meter P A ghosts) → s.left ≡ taken ++ behind → part ++ missing ≡ reply → Feeds s.meter taken (Some reply) meter
+  AtReply : (taken behind reply part missing : List ℕ) (meter : Meter P A ghosts) → s.left ≡ taken ++ behind → part ++ missing ≡ reply → IsCall s.meter (Fed taken (Some reply)) meter
       → Ends s (Broke part ∷ []) (record s { meter = meter; left = behind })
 
 -- From there it went on, and ended in one of these ways.

@@ -9,3 +9,4 @@ pub mod Ticks
 pub mod Turns
 pub mod Connection
 pub mod Polled
+pub mod Captures

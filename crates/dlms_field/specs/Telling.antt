@@ -5,7 +5,8 @@ use Rattle.dlms_field.specs.declared.telling.TheConstants.{CATCH_UP}
 use Rattle.dlms_field.specs.declared.ticks.Second.{Second}
 use Rattle.dlms_field.specs.declared.ticks.Ticks.{Ticks}
 use Rattle.dlms_meter.specs.declared.meter.Meter.{Meter}
-use Rattle.dlms_meter.specs.Run.{Judges}
+use Rattle.dlms_meter.specs.Steps.{IsCall}
+use Rattle.dlms_meter.specs.Steps.Call.{Told as ToldOf}
 use Rattle.dlms_pages.specs.declared.device.Pages.{Ghosts}
 use Rattle.dlms_state.specs.declared.event.Event.TheVariants.{Pulses, Moment}
 use Rattle.dlms_store.specs.declared.fault.AddFault.{AddFault}
@@ -15,9 +16,9 @@ use Rattle.dlms_store.specs.declared.fault.AddFault.TheVariants.{Refused}
 -- pulses, of the second alone.
 abbrev pub Tells : {P A : Type 0} → {ghosts : Ghosts P} → Meter P A ghosts → Second → Result (Unit {0}) AddFault → Meter P A ghosts → Type 0
 Tells {P} {A} {ghosts} old second outcome new =
-    (second.pulses ≡ 0 → Judges old (Moment second.moment) outcome new)
-    × (0 < second.pulses → (counted : Result (Unit {0}) AddFault) × (between : Meter P A ghosts) × Judges old (Pulses 0 second.pulses) counted between
-    × MatchResult counted (λ _. Judges between (Moment second.moment) outcome new) (λ fault. (outcome ≡ Err fault) × (new ≡ between)))
+    (second.pulses ≡ 0 → IsCall old (ToldOf (Moment second.moment) outcome) new)
+    × (0 < second.pulses → (counted : Result (Unit {0}) AddFault) × (between : Meter P A ghosts) × IsCall old (ToldOf (Pulses 0 second.pulses) counted) between
+    × MatchResult counted (λ _. IsCall between (ToldOf (Moment second.moment) outcome) new) (λ fault. (outcome ≡ Err fault) × (new ≡ between)))
 
 -- the store goes on: the last second was taken, or the table refused it
 abbrev pub GoesOn : Result (Unit {0}) AddFault → Type 0

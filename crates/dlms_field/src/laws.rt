@@ -1,4 +1,4 @@
-//! What holds of all the seconds that a meter is told of.
+//! What holds of all the seconds that a meter is told of, and of what is filed of it.
 
 ghost use Rattle.std.specs.Prelude.{◌≡◌, ◌+◌, List, length, sum_by};
 ghost use Rattle.dlms_field.specs.declared.clocks.TheConstants.{YEAR_2000};
@@ -6,10 +6,16 @@ ghost use Rattle.dlms_field.specs.declared.hanging_up.TheConstants.{DISC, METER}
 ghost use Rattle.dlms_field.specs.declared.secret.TheConstants.{MOST_SECRET};
 ghost use Rattle.dlms_field.specs.declared.telling.TheConstants.{CATCH_UP};
 ghost use Rattle.dlms_field.specs.declared.turns.TheConstants.{MOST_REFUSALS};
+ghost use Rattle.dlms_field.specs.Captures.{PlaceHoldsCaptures};
 ghost use Rattle.dlms_field.specs.Load.{pulses_after};
 ghost use Rattle.dlms_field.specs.Ticks.{AreNext};
 ghost use Rattle.dlms_field.specs.declared.ticks.Ticks.{Ticks as TicksOf};
 ghost use Rattle.dlms_field.specs.declared.ticks.Second.{Second as SecondOf};
+
+use dlms_meter::Meter;
+use dlms_pages::Pages;
+use dlms_world::laws::programs_are_runs;
+use std::alloc::Allocator;
 
 /// The pulses of the seconds that a meter is told of add up to those of the load in all that time: none is lost, none comes
 /// twice, and what is less than a pulse is kept for the next second. No second is left out.
@@ -18,6 +24,14 @@ pub fn pulses_add_up()
         → pulses_after old.watts old.told + sum_by (λ second. second.pulses) seconds ≡ pulses_after old.watts new.told }
     ensures seconds { (old new : TicksOf) (seconds : List SecondOf) → AreNext old seconds new → new.told ≡ old.told + length seconds }
 {}
+
+/// Whatever a program has done that polls a meter and files what it read, however often and as whichever client, and wherever the power
+/// or the head end stopped: what it puts in the place of the readings are captures that the meter holds.
+pub fn the_place_holds_captures<P: Pages, A: Allocator + Copy>(meter: &Meter<P, A>)
+    ensures { PlaceHoldsCaptures meter.now }
+{
+    programs_are_runs(meter);
+}
 
 /// The numbers that clauses cite by name: the seconds of one look at the clock, those from 1970 to 2000, the control octet of DISC and
 /// the meter's upper address, the octets of the longest secret, and the refusals after which a turn is over.

@@ -5,6 +5,7 @@ ghost use Rattle.dlms_loopback.specs.Moments.{Moment};
 ghost use Rattle.dlms_loopback.specs.Moments.Moment.{Broke};
 ghost use Rattle.dlms_loopback.specs.Serving.{AnswersFrame};
 ghost use Rattle.dlms_meter.specs.Steps.{Call, Calls};
+ghost use Rattle.dlms_store.specs.Later.{IsLater};
 ghost use Rattle.dlms_field.specs.Connection.{AnswersEach, EndsFor, LooksOnce, ReadsPiece, ServesFor};
 ghost use Rattle.dlms_field.specs.Turns.{Tells};
 ghost use Rattle.dlms_field.specs.declared.turns.Times.{Times as TimesOf};
@@ -116,6 +117,7 @@ fn answer<T: End, P: Pages>(
 ) -> io::Result<Taken>
     ensures some { IfOk result (λ taken. (taken.count ≤ length bytes.now) × (0 < length bytes.now → 0 < taken.count)) }
     ensures call { AnswersFrame (T.past end.old) (T.past end.new) meter.old bytes.now result meter.new }
+    ensures later { IsLater meter.old.store meter.new.store }
 {
     let (count, reply) = meter.feed(bytes);
     match reply {

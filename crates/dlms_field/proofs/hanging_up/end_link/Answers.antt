@@ -16,4 +16,4 @@ returns-clause-ends g c = λ w stands own.
     (fed.0, fed.3, record { down = ended.down; others = ended.others; own = ended.own; store = ended.store })
 
 pub returns-clause-calls : goal.returns-clause-calls
-returns-clause-calls g c = (Idled ∷ Fed _ _ ∷ [], (c.idle.new.self, c.idle.ensures.run, (c.feed-answered.new.self, c.feed-answered.ensures.feeds, refl)))
+returns-clause-calls g c = (Idled ∷ Fed _ _ ∷ [], (c.idle.new.self, (c.idle.ensures.run, c.idle.ensures.store), (c.feed-answered.new.self, (c.feed-answered.ensures.feeds, c.feed-answered.ensures.later), refl)))

@@ -16,6 +16,6 @@ returns-clause-calls g c =
     let one = c.end_link.ensures.calls in
     let two = c.end_link-2.ensures.calls in
     let three = c.end_link-3.ensures.calls in
-    let third = calls_append three.0 (Idled ∷ []) c.end_link-2.new.meter c.end_link-3.new.meter c.idle.new.self three.1 (c.idle.new.self, c.idle.ensures.run, refl) in
+    let third = calls_append three.0 (Idled ∷ []) c.end_link-2.new.meter c.end_link-3.new.meter c.idle.new.self three.1 (c.idle.new.self, (c.idle.ensures.run, c.idle.ensures.store), refl) in
     let second = calls_append two.0 (three.0 ++ Idled ∷ []) c.end_link.new.meter c.end_link-2.new.meter c.idle.new.self two.1 third in
     (one.0 ++ (two.0 ++ (three.0 ++ Idled ∷ [])), calls_append one.0 (two.0 ++ (three.0 ++ Idled ∷ [])) c.args.meter.now c.end_link.new.meter c.idle.new.self one.1 second)
