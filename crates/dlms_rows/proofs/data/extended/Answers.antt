@@ -1,5 +1,0 @@
-use Rattle.std.proofs.Common.{refl}
-use Rattle.dlms_rows.proofs.data.extended.Goals as goal
-
-pub same-items : goal.same-items
-same-items c = refl

@@ -1,0 +1,86 @@
+//! A client's end of the line.
+
+use crate::plan::SECRET;
+use arrayvec::ArrayVec;
+use dlms_acse::{Conformance, write_aarq};
+use dlms_frame::{Client, Deframer, Frame};
+use dlms_link::{ClientLink, ClientOut};
+use dlms_meter::Meter;
+use dlms_pages::Pages;
+use std::alloc::Allocator;
+
+/// An APDU.
+pub type Apdu = ArrayVec<u8, 1024>;
+
+/// What the client proposes.
+const PROPOSED: Conformance = Conformance(0x7e_1f);
+
+/// The most bytes of an APDU that a client takes. The object list is longer than the public one's.
+fn size_of(client: Client) -> u16 {
+    match client {
+        Client::Public => 512,
+        Client::Management | Client::Reader => 1024,
+    }
+}
+
+/// The meter's reply to a frame; none where it has none.
+pub fn reply_to<P: Pages, A: Allocator + Copy>(
+    meter: &mut Meter<P, A>,
+    frame: &Frame,
+) -> Option<Frame> {
+    let bytes = frame.put();
+    let (_, reply) = meter.feed(bytes.as_slice());
+    let reply = reply?;
+    Deframer::new().feed(reply.as_slice()).1
+}
+
+/// Sends an APDU of at most 1024 bytes, and takes its answer, in as many frames as it comes in; none where the link is busy or no
+/// answer comes.
+pub fn exchange<P: Pages, A: Allocator + Copy>(
+    meter: &mut Meter<P, A>,
+    link: &mut ClientLink,
+    apdu: &[u8],
+) -> Option<Apdu> {
+    if !link.is_idle() || apdu.len() > 1024 {
+        return None;
+    }
+    let mut frame = link.send(apdu);
+    'frames: for _ in 0..32u8 {
+        let reply = reply_to(meter, &frame)?;
+        match link.on(&reply) {
+            ClientOut::Send(next) => frame = next,
+            ClientOut::Apdu => {
+                let mut answer = ArrayVec::new();
+                let _fits = answer.try_extend_from_slice(link.apdu());
+                return Some(answer);
+            }
+            _ => return None,
+        }
+    }
+    None
+}
+
+/// A client's link, with an association that takes the client's usual APDUs.
+pub fn associated<P: Pages, A: Allocator + Copy>(
+    meter: &mut Meter<P, A>,
+    client: Client,
+) -> Option<ClientLink> {
+    associated_by(meter, client, size_of(client))
+}
+
+/// A client's link, with an association that takes APDUs of at most so many bytes; none where it is refused.
+pub fn associated_by<P: Pages, A: Allocator + Copy>(
+    meter: &mut Meter<P, A>,
+    client: Client,
+    size: u16,
+) -> Option<ClientLink> {
+    let mut link = ClientLink::new(client);
+    let frame = link.connect();
+    let reply = reply_to(meter, &frame)?;
+    let ClientOut::Up = link.on(&reply) else {
+        return None;
+    };
+    let request = write_aarq(client, SECRET, PROPOSED, size);
+    let answer = exchange(meter, &mut link, request.as_slice())?;
+    (answer.len() == 43).then_some(link)
+}

@@ -1,0 +1,102 @@
+//! The whole meter on one heap of a fixed size: it is made, it captures 960 rows, one client reads them in blocks while the
+//! other has a transfer open too, and it is recovered.
+
+use crate::life::seen_in;
+use crate::polls::{are_captures, meter_with};
+use dlms_frame::Client;
+use dlms_headend::{Columns, PollStep, Poller};
+use dlms_link::ClientLink;
+use dlms_meter::Meter;
+use dlms_pages::{MemoryPages, Pages};
+use dlms_store::PAGES;
+use linked_list_allocator::LocalHeap;
+use std::alloc::{AllocError, Allocator, Global};
+use test_client::{associated, exchange, managements_plan, reply_to};
+
+/// The rows of a full buffer.
+const ROWS: u32 = 960;
+
+/// GET of the object list, and of its second block.
+const GET_LIST: [u8; 13] = [0xc0, 0x01, 0xc1, 0, 15, 0, 0, 40, 0, 0, 255, 2, 0];
+
+const GET_SECOND: [u8; 7] = [0xc0, 0x02, 0xc1, 0, 0, 0, 1];
+
+/// Whether the public client is given this block of the object list.
+fn is_given<P: Pages + Drop, A: Allocator + Copy>(
+    meter: &mut Meter<P, A>,
+    link: &mut ClientLink,
+    request: &[u8],
+    number: u8,
+) -> bool {
+    match exchange(meter, link, request) {
+        Some(answer) => {
+            matches!(answer.as_slice(), [0xc4, 0x02, _, _, 0, 0, 0, last, 0, ..] if *last == number)
+        }
+        None => false,
+    }
+}
+
+/// Whether management polls so many rows, in blocks. The head end's memory is its own.
+fn is_polled<P: Pages + Drop, A: Allocator + Copy>(
+    alloc: Global,
+    meter: &mut Meter<P, A>,
+    rows: usize,
+) -> bool {
+    let mut poller = Poller::new(alloc, managements_plan(None, Columns::Trusted));
+    let Some(mut frame) = poller.next() else {
+        return false;
+    };
+    for _ in 0..400u16 {
+        let Some(reply) = reply_to(meter, &frame) else {
+            return false;
+        };
+        match poller.on(&reply) {
+            Ok(PollStep::Send(next)) => frame = next,
+            Ok(PollStep::Done) => return are_captures(poller.rows(), rows),
+            _ => return false,
+        }
+    }
+    false
+}
+
+/// Whether both clients are served at once: the poll stands between two blocks of the public client's transfer.
+fn serves_both<P: Pages + Drop, A: Allocator + Copy>(
+    alloc: Global,
+    meter: &mut Meter<P, A>,
+) -> bool {
+    let Some(mut link) = associated(meter, Client::Public) else {
+        return false;
+    };
+    is_given(meter, &mut link, &GET_LIST, 1)
+        && is_polled(alloc, meter, ROWS as usize)
+        && is_given(meter, &mut link, &GET_SECOND, 2)
+}
+
+/// Whether a meter over this device, with memory from this allocator, does all that, and is found again behind its close.
+fn lives<P: Pages + Drop, A: Allocator + Copy>(alloc: Global, own: A, device: P) -> bool {
+    let Some(mut meter) = meter_with(own, device, ROWS) else {
+        return false;
+    };
+    let is_served = serves_both(alloc, &mut meter);
+    let seen = seen_in(&meter);
+    match Meter::recover(own, meter.close()) {
+        Ok(meter) => is_served && seen_in(&meter) == seen,
+        Err(_) => false,
+    }
+}
+
+/// Whether a heap of so many bytes suffices a meter whose device has memory of its own.
+pub fn suffices(alloc: Global, size: usize) -> Result<bool, AllocError> {
+    let heap = LocalHeap::new(alloc, size)?;
+    let device = MemoryPages::new(alloc, PAGES)?;
+    Ok(lives(alloc, &heap, device))
+}
+
+/// Whether a heap of so many bytes suffices a meter and the pages of its device.
+pub fn suffices_with_pages(alloc: Global, size: usize) -> Result<bool, AllocError> {
+    let heap = LocalHeap::new(alloc, size)?;
+    match MemoryPages::new(&heap, PAGES) {
+        Ok(device) => Ok(lives(alloc, &heap, device)),
+        Err(_) => Ok(false),
+    }
+}

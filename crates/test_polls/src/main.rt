@@ -1,0 +1,26 @@
+//! Polls a meter: over lines that lose, cut and repeat frames; over a socket of this machine; and around stops of its power.
+#![tactic(auto)]
+
+mod lines;
+mod poll;
+mod site;
+mod stops;
+mod tally;
+mod wire;
+
+use anyhow::Result;
+use dlms_loopback::loopback;
+use std::io;
+use std::process::ExitCode;
+
+fn main(rt: HostRuntime) -> Result<ExitCode> {
+    let differing = lines::run(&rt)?;
+    let mut told = None;
+    let looped = loopback(&rt, None, 2, &mut io::writer(&rt), &mut told);
+    let stopped = stops::run(&rt)?;
+    if differing == 0 && looped.is_ok() && stopped == 0 {
+        Ok(ExitCode::SUCCESS)
+    } else {
+        Ok(ExitCode::from(1))
+    }
+}
