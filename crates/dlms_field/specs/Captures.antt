@@ -6,6 +6,7 @@ use Rattle.dlms_headend.specs.declared.row.Row.{Row}
 use Rattle.dlms_headend.specs.declared.stage.Course.TheVariants.{Done}
 use Rattle.dlms_loopback.specs.Filing.{Asked, Asks, FilesRows}
 use Rattle.dlms_loopback.specs.Filing.Asked.{Lays, Puts}
+use Rattle.dlms_loopback.specs.Printing.{Printed}
 use Rattle.dlms_meter.specs.Run.{MeterWorld, Stands, events_of}
 use Rattle.dlms_meter.specs.declared.meter.Meter.{Meter}
 use Rattle.dlms_pages.specs.declared.device.Pages.{Ghosts}
@@ -28,5 +29,5 @@ pub record HoldsCaptures {P A : Type 0} {ghosts : Ghosts P} (asked asked' : Opti
 abbrev pub PlaceHoldsCaptures : {P A : Type 0} → {ghosts : Ghosts P} → Meter P A ghosts → Type 0
 PlaceHoldsCaptures {P} {A} {ghosts} meter =
     (plan : PlanValue) (first now : Held P A ghosts) → IsFirst plan first → Acts first now → now.meter ≡ meter → now.poller.course ≡ Done
-    → (asked asked' : Option (List Asked)) (printed printed' : Option (List ℕ)) (after : List Row) → FilesRows {T = Unit {0}} asked asked' printed printed' now.file now.poller.talk.rows (Ok tt) after
+    → (asked asked' : Option (List Asked)) (printed printed' : Printed) (after : List Row) → FilesRows {T = Unit {0}} asked asked' printed printed' now.file now.poller.talk.rows (Ok tt) after
     → HoldsCaptures asked asked' after meter

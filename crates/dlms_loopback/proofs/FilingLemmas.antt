@@ -7,6 +7,7 @@ use Rattle.dlms_headend.specs.declared.row.Row.{Row}
 use Rattle.dlms_headend.specs.Lines.{field, line, lines, text_of, IsFile}
 use Rattle.dlms_headend.specs.Merged.{added, merged}
 use Rattle.dlms_loopback.specs.Filing.{Asked, Gives, FilesRows}
+use Rattle.dlms_loopback.specs.Printing.{Printed}
 use Rattle.dlms_loopback.specs.declared.filing.FilingFault.{FilingFault}
 use Rattle.dlms_loopback.specs.declared.filing.FilingFault.TheVariants.{Memory, Output, Place}
 
@@ -41,10 +42,11 @@ news_are before rows first text old new =
     let whole : text ≡ text_of before ++ text_of (added before rows) = new.spelled ∙ text_of-append before (added before rows) in
     ap (drop (length first)) whole ∙ ap (λ t. drop (length t) (text_of before ++ text_of (added before rows))) old.spelled ∙ drop-append_seam (text_of before) (text_of (added before rows))
 
-pub files : {T : Type 0} (old new : Option (List Asked)) (printed printed' : Option (List ℕ)) (before rows after : List Row) (text news : List ℕ) (result : Result T FilingFault)
+pub files : {T : Type 0} (old new : Option (List Asked)) (printed printed' : Printed) (before rows after : List Row) (text news : List ℕ) (result : Result T FilingFault)
     → after ≡ merged before rows → IsFile text after → news ≡ text_of (added before rows) → Gives old new printed printed' text news result → FilesRows old new printed printed' before rows result after
 files {T} old new printed printed' before rows after text news (Ok done) same is lines gives = (same, text, is, subst (λ n. Gives {T = T} old new printed printed' text n (Ok done)) lines gives)
 files {T} old new printed printed' before rows after text news (Err Memory) same is lines gives = absurd gives
-files {T} old new printed printed' before rows after text news (Err Output) same is lines gives = (same, text, is, gives)
+files {T} old new printed printed' before rows after text news (Err Output) same is lines gives =
+    (same, text, is, subst (λ n. Gives {T = T} old new printed printed' text n (Err Output)) lines gives)
 files {T} old new printed printed' before rows after text news (Err (Place e)) same is lines gives =
     (same, text, is, subst (λ n. Gives {T = T} old new printed printed' text n (Err (Place e))) lines gives)

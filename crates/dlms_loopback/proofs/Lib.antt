@@ -4,3 +4,4 @@ pub mod ServingLemmas
 pub mod CallingLemmas
 pub mod PollLemmas
 pub mod FilingLemmas
+pub mod RoundLemmas

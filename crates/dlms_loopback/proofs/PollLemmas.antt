@@ -219,7 +219,7 @@ done_poll old new plan poller done fresh is =
 
 -- ---- how a poll ends
 
-system_told : (fault : LoopFault) (error : Error) → TellsError error fault → IsOfSystem fault
+pub system_told : (fault : LoopFault) (error : Error) → TellsError error fault → IsOfSystem fault
 system_told fault error (inl told) = inl told.1
 system_told fault error (inr told) = inr told.1
 

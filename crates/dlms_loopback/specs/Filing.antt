@@ -1,14 +1,9 @@
 -- What is asked of the place where a readings file stands, and what is put there behind a poll.
-use Rattle.std.specs.Prelude.{◌≡◌, ◌⊎◌, ℕ, Bool, true, false, List, [], ◌∷◌, ◌++◌, Option, Some, None, Result, Ok, Err, String, string_bytes, IsOk, ◌↔◌}
-use Rattle.std.specs.Io.KnownBytes.{Appends, Keeps}
-use Rattle.dlms_frame.specs.declared.client.Client.TheVariants.{Management}
-use Rattle.dlms_headend.specs.Asking.{PlanValue}
+use Rattle.std.specs.Prelude.{◌≡◌, ◌⊎◌, ◌<◌, length, ℕ, Bool, true, false, List, [], ◌∷◌, ◌++◌, Option, Some, None, Result, Ok, Err, String, string_bytes}
 use Rattle.dlms_headend.specs.Lines.{IsFile, Refuses, text_of}
 use Rattle.dlms_headend.specs.Merged.{added, merged}
-use Rattle.dlms_headend.specs.PollerValue.{PollerValue}
-use Rattle.dlms_headend.specs.declared.plan.Columns.TheVariants.{Asked as AsksColumns}
 use Rattle.dlms_headend.specs.declared.row.Row.{Row}
-use Rattle.dlms_loopback.specs.BothEnds.{IsDonePoll}
+use Rattle.dlms_loopback.specs.Printing.{Printed, Prints, PrintsNothing, PrintsPart}
 use Rattle.dlms_loopback.specs.declared.filing.FilingFault.{FilingFault}
 use Rattle.dlms_loopback.specs.declared.filing.FilingFault.TheVariants.{Memory, Output, Place}
 use Rattle.dlms_loopback.specs.declared.filing.OpeningFault.{OpeningFault}
@@ -52,10 +47,14 @@ abbrev pub IsPut : {T E : Type 0} → Option (List Asked) → Option (List Asked
 IsPut old new text (Ok done) = Asks old new (Lays text true ∷ Puts true ∷ [])
 IsPut old new text (Err e) = Asks old new (Lays text false ∷ []) ⊎ Asks old new (Lays text true ∷ Puts false ∷ [])
 
+-- What memory was wanted for: rows that were to be added, and none was; or the text of readings that have rows.
+abbrev pub WantsMemory : (before rows after : List Row) → Type 0
+WantsMemory before rows after = ((after ≡ before) × (0 < length (added before rows))) ⊎ ((after ≡ merged before rows) × (0 < length after))
+
 -- The rows were merged into these readings, and the text is that of the result; or memory ran out.
 abbrev pub MergesInto : {A : Type 0} → List Row → List Row → Result (String A) FilingFault → List Row → Type 0
 MergesInto before rows (Ok text) after = (after ≡ merged before rows) × IsFile (string_bytes text) after
-MergesInto before rows (Err Memory) after = (after ≡ before) ⊎ (after ≡ merged before rows)
+MergesInto before rows (Err Memory) after = WantsMemory before rows after
 MergesInto before rows (Err Output) after = ⊥
 MergesInto before rows (Err (Place e)) after = ⊥
 
@@ -64,42 +63,32 @@ MergesInto before rows (Err (Place e)) after = ⊥
 abbrev pub KeepsRows : {T : Type 0} → Option (List Asked) → Option (List Asked) → List Row → List Row → Result T FilingFault → List Row → Type 0
 KeepsRows old new before rows (Ok done) after =
     (after ≡ merged before rows) × (text : List ℕ) × IsFile text after × Asks old new (Lays text true ∷ Puts true ∷ [])
-KeepsRows old new before rows (Err Memory) after = Asks old new [] × ((after ≡ before) ⊎ (after ≡ merged before rows))
+KeepsRows old new before rows (Err Memory) after = Asks old new [] × WantsMemory before rows after
 KeepsRows old new before rows (Err Output) after = ⊥
 KeepsRows old new before rows (Err (Place e)) after =
     (after ≡ merged before rows) × (text : List ℕ) × IsFile text after
     × (Asks old new (Lays text false ∷ []) ⊎ Asks old new (Lays text true ∷ Puts false ∷ []))
 
 -- The text was laid beside the old one, what is new was printed, and then the text was put in its place. Where it could not be laid
--- nothing was printed; where not all was printed it was taken away again; and where it could not be put all was printed.
-abbrev pub Gives : {T : Type 0} → (old new : Option (List Asked)) (printed printed' : Option (List ℕ)) → (text news : List ℕ) → Result T FilingFault → Type 0
-Gives old new printed printed' text news (Ok done) = Asks old new (Lays text true ∷ Puts true ∷ []) × Appends printed printed' news
+-- nothing was printed; where the output failed it was taken away again; and where it could not be put all was printed.
+abbrev pub Gives : {T : Type 0} → (old new : Option (List Asked)) (printed printed' : Printed) → (text news : List ℕ) → Result T FilingFault → Type 0
+Gives old new printed printed' text news (Ok done) = Asks old new (Lays text true ∷ Puts true ∷ []) × Prints printed printed' news
 Gives old new printed printed' text news (Err Memory) = ⊥
-Gives old new printed printed' text news (Err Output) = Asks old new (Lays text true ∷ Drops ∷ [])
+Gives old new printed printed' text news (Err Output) = Asks old new (Lays text true ∷ Drops ∷ []) × PrintsPart printed printed' news
 Gives old new printed printed' text news (Err (Place e)) =
-    (Asks old new (Lays text false ∷ []) × Keeps printed printed')
-    ⊎ (Asks old new (Lays text true ∷ Puts false ∷ []) × Appends printed printed' news)
+    (Asks old new (Lays text false ∷ []) × PrintsNothing printed printed')
+    ⊎ (Asks old new (Lays text true ∷ Puts false ∷ []) × Prints printed printed' news)
 
 -- The text of the readings that these rows were merged into was given so, and what is new in it are the lines of the added rows.
-abbrev pub GivesRows : {T : Type 0} → (old new : Option (List Asked)) (printed printed' : Option (List ℕ)) → (before rows : List Row) → Result T FilingFault → (after : List Row) → Type 0
+abbrev pub GivesRows : {T : Type 0} → (old new : Option (List Asked)) (printed printed' : Printed) → (before rows : List Row) → Result T FilingFault → (after : List Row) → Type 0
 GivesRows old new printed printed' before rows result after =
     (after ≡ merged before rows) × (text : List ℕ) × IsFile text after × Gives old new printed printed' text (text_of (added before rows)) result
 
--- So it was; or memory ran out, before anything was asked of the place or printed.
-abbrev pub FilesRows : {T : Type 0} → (old new : Option (List Asked)) (printed printed' : Option (List ℕ)) → (before rows : List Row) → Result T FilingFault → (after : List Row) → Type 0
+-- So it was; or memory ran out, before anything was asked of the place or printed: for the text of the readings as they were, or as
+-- they are merged.
+abbrev pub FilesRows : {T : Type 0} → (old new : Option (List Asked)) (printed printed' : Printed) → (before rows : List Row) → Result T FilingFault → (after : List Row) → Type 0
 FilesRows old new printed printed' before rows (Ok done) after = GivesRows old new printed printed' before rows (Ok done) after
-FilesRows old new printed printed' before rows (Err Memory) after = Asks old new [] × Keeps printed printed'
+FilesRows old new printed printed' before rows (Err Memory) after =
+    Asks old new [] × PrintsNothing printed printed' × (((after ≡ before) × (0 < length before)) ⊎ WantsMemory before rows after)
 FilesRows old new printed printed' before rows (Err Output) after = GivesRows {T = Unit {0}} old new printed printed' before rows (Err Output) after
 FilesRows old new printed printed' before rows (Err (Place e)) after = GivesRows {T = Unit {0}} old new printed printed' before rows (Err (Place e)) after
-
--- ---- a poll of the loopback
-
--- what management polls: the rows from a second on, and the columns that they have
-abbrev pub plan_from : List ℕ → Option ℕ → PlanValue
-plan_from secret after = record { client = Management; secret = secret; after = after; columns = AsksColumns }
-
--- A poll by this plan was done, and its rows were kept, or could not be; or it failed, and nothing was asked.
-abbrev pub ReadsRows : {T E : Type 0} → PlanValue → Option (List Asked) → Option (List Asked) → List Row → Result T E → List Row → Type 0
-ReadsRows plan old new before result after =
-    ((done : PollerValue) × IsDonePoll plan done × (kept : Result (Unit {0}) FilingFault) × (IsOk result ↔ IsOk kept) × KeepsRows old new before done.talk.rows kept after)
-    ⊎ ((IsOk result → ⊥) × Asks old new [] × (after ≡ before))

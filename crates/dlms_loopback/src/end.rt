@@ -61,7 +61,7 @@ pub fn hear<R: Read>(end: &mut R, piece: &mut [u8; PIECE]) -> io::Result<Heard>
 }
 
 /// Writes all of these bytes, or fails behind a beginning of them. A write that was interrupted is made again.
-fn put<W: Write>(end: &mut W, bytes: &[u8]) -> io::Result<()>
+pub fn put<W: Write>(end: &mut W, bytes: &[u8]) -> io::Result<()>
     ensures { Writes (W.contents end.old) (W.contents end.new) bytes.now result }
 {
     let mut rest = bytes;

@@ -1,15 +1,14 @@
 //! The place where a readings file stands, and what is put there.
-ghost use Rattle.std.specs.Prelude.{◌≡◌, List, ℕ, Option, None, [], ◌∷◌, drop, string_bytes, OnOk};
-ghost use Rattle.std.specs.Io.KnownBytes.{Appends};
+ghost use Rattle.std.specs.Prelude.{◌≡◌, List, ℕ, Option, None, [], ◌∷◌, drop, string_bytes};
 ghost use Rattle.dlms_headend.specs.Rows.{AreReadings};
 ghost use Rattle.dlms_loopback.specs.Filing.{Asked, Asks, KeepsRows, FilesRows, MergesInto, OpensRows, Gives, IsPut, asked_of, has_passed, text_in};
 ghost use Rattle.dlms_loopback.specs.Filing.Asked.{Opens, Lays, Puts, Drops};
 ghost use Rattle.dlms_loopback.specs.declared.filing.FilingFault.TheVariants.{Memory as MemoryOf};
 
+use crate::output::Output;
 use dlms_headend::{Readings, ReadingsFault, Row};
 use std::alloc::{AllocError, Global};
 use std::io;
-use std::io::Write;
 
 /// Why rows were not filed.
 #[derive(Clone, Copy, Debug)]
@@ -142,27 +141,19 @@ pub fn keep_rows<F: Filing>(
     }
 }
 
-/// Prints these bytes, and sends them out.
-fn print<W: Write>(output: &mut W, bytes: &[u8]) -> io::Result<()>
-    ensures { OnOk result (Appends (W.contents output.old) (W.contents output.new) bytes.now) }
-{
-    output.write_all(bytes)?;
-    output.flush()
-}
-
 /// Lays a text, prints what is new in it, and puts it in its place.
-fn give<F: Filing, W: Write>(
+fn give<F: Filing, O: Output>(
     place: &mut F,
     text: &str,
     news: &[u8],
-    output: &mut W,
+    output: &mut O,
 ) -> Result<(), FilingFault>
-    ensures { Gives (F.asked place.old) (F.asked place.new) (W.contents output.old) (W.contents output.new) text.now news.now result }
+    ensures { Gives (F.asked place.old) (F.asked place.new) (O.printed output.old) (O.printed output.new) text.now news.now result }
 {
     if let Err(error) = place.lay(text) {
         return Err(FilingFault::Place(error));
     }
-    if print(output, news).is_err() {
+    if output.print(news).is_err() {
         place.drop_laid();
         return Err(FilingFault::Output);
     }
@@ -182,14 +173,14 @@ pub fn bytes_behind(bytes: &[u8], count: usize) -> &[u8]
 /// Merges the rows of a poll that is done into the readings, prints the lines of those that are new, and puts the text in the
 /// place of the one that stands there. A row is printed before its text stands there: whoever stops in between, or fails, has
 /// printed each row that stands there, and one that was printed and does not stand there comes again.
-pub fn file_rows<F: Filing, W: Write>(
+pub fn file_rows<F: Filing, O: Output>(
     place: &mut F,
     readings: &mut Readings,
     rows: &[Row],
-    output: &mut W,
+    output: &mut O,
 ) -> Result<(), FilingFault>
     requires { AreReadings rows.now }
-    ensures { FilesRows (F.asked place.old) (F.asked place.new) (W.contents output.old) (W.contents output.new) readings.old rows.now result readings.new }
+    ensures { FilesRows (F.asked place.old) (F.asked place.new) (O.printed output.old) (O.printed output.new) readings.old rows.now result readings.new }
 {
     let before = readings.text()?.len();
     let text = merged_text(readings, rows)?;

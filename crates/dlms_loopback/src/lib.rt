@@ -5,12 +5,11 @@ mod end;
 mod fault;
 mod filing;
 mod head_end;
-mod meter_end;
+pub mod meter_end;
+mod output;
 mod place;
 mod polling;
 mod rounds;
-#[cfg(test)]
-mod script;
 mod socket;
 
 pub use end::{End, Heard, PIECE, bytes_of};
@@ -20,6 +19,7 @@ pub use filing::{
 };
 pub use head_end::{HeadEnd, MOST_BYTES, Turn};
 pub use meter_end::{Taken, answer};
+pub use output::Output;
 pub use place::FilePlace;
 pub use polling::{TURNS, poll, poller};
 pub use rounds::loopback;

@@ -1,13 +1,15 @@
 //! The loopback: a meter in memory, polled over a socket, and its readings filed.
 
-ghost use Rattle.std.specs.Prelude.{◌≡◌, ◌≤◌, ◌↔◌, ℕ, List, IfSome, IsOk};
+ghost use Rattle.std.specs.Prelude.{◌≡◌, ◌≤◌, ◌+◌, Some, IfErr, IfOk, IfSome, MatchResult};
 ghost use Rattle.dlms_headend.specs.Merged.{last_clock};
 ghost use Rattle.dlms_headend.specs.Polling.{fresh_poll};
-ghost use Rattle.dlms_loopback.specs.Filing.{ReadsRows, plan_from};
+ghost use Rattle.dlms_loopback.specs.Faults.{TellsError};
+ghost use Rattle.dlms_loopback.specs.Rounds.{ArePolled, IsOfMeter, Loops, OpensReadings, PrintsText, ReadsRows, Rounds, Seen, TellsKept, Unlooped, plan_from};
 
 use crate::end::End;
 use crate::fault::LoopFault;
 use crate::filing::{Filing, FilingFault, OpeningFault, keep_rows, open_rows};
+use crate::output::Output;
 use crate::place::FilePlace;
 use crate::polling::{poll, poller};
 use crate::socket::{Line, ends};
@@ -21,7 +23,6 @@ use dlms_store::PAGES;
 use std::alloc::Global;
 use std::fs::{File, Files};
 use std::io;
-use std::io::Write;
 use std::net::Net;
 
 /// Management's first secret.
@@ -34,14 +35,17 @@ const PERIOD: u32 = 900;
 type MemoryMeter = Meter<MemoryPages<Global>, Global>;
 
 /// Keeps what the system says of the file.
-fn tell(told: &mut Option<io::Error>, error: io::Error) -> LoopFault {
+fn tell(told: &mut Option<io::Error>, error: io::Error) -> LoopFault
+    ensures fault { TellsError error result }
+    ensures told { told.new ≡ Some error }
+{
     *told = Some(error);
     LoopFault::from(error)
 }
 
 /// Whether rows were filed, and what the system says where they were not.
 fn filed(told: &mut Option<io::Error>, outcome: Result<(), FilingFault>) -> Result<(), LoopFault>
-    ensures { IsOk result ↔ IsOk outcome }
+    ensures { TellsKept told.old told.new outcome result }
 {
     match outcome {
         Ok(()) => Ok(()),
@@ -56,7 +60,9 @@ fn opened<F: Filing>(
     alloc: Global,
     place: &mut F,
     told: &mut Option<io::Error>,
-) -> Result<Readings, LoopFault> {
+) -> Result<Readings, LoopFault>
+    ensures { OpensReadings (F.asked place.old) (F.asked place.new) told.old told.new result }
+{
     match open_rows(alloc, place) {
         Ok(readings) => Ok(readings),
         Err(OpeningFault::Place(error)) => Err(tell(told, error)),
@@ -79,11 +85,12 @@ fn held<'r, R: Files<File = File> + AllocGlobal>(
     }
 }
 
-/// Writes the readings.
-fn print<W: Write>(readings: &Readings, writer: &mut W) -> Result<(), LoopFault> {
+/// Prints the readings.
+fn print<O: Output>(readings: &Readings, output: &mut O) -> Result<(), LoopFault>
+    ensures { PrintsText (O.printed output.old) (O.printed output.new) readings.now result }
+{
     let text = readings.text()?;
-    writer.write_all(text.as_bytes())?;
-    writer.flush()?;
+    output.print(text.as_bytes())?;
     Ok(())
 }
 
@@ -101,7 +108,9 @@ fn new_meter(alloc: Global) -> Result<MemoryMeter, LoopFault> {
 }
 
 /// The meter as it comes back from a stop of the power, with one more pulse and one more capture.
-fn stopped(alloc: Global, meter: MemoryMeter, round: u8) -> Result<MemoryMeter, LoopFault> {
+fn stopped(alloc: Global, meter: MemoryMeter, round: u8) -> Result<MemoryMeter, LoopFault>
+    ensures { IfErr result IsOfMeter }
+{
     let mut meter = match Meter::recover(alloc, meter.close().cut(Pick::AllOld)) {
         Ok(meter) => meter,
         Err((_, fault)) => return Err(LoopFault::Open(fault)),
@@ -114,7 +123,7 @@ fn stopped(alloc: Global, meter: MemoryMeter, round: u8) -> Result<MemoryMeter, 
 /// A poll by management, from the last row's second on.
 fn managements_poller(alloc: Global, after: Option<u32>) -> Poller
     requires { IfSome after (λ second. second ≤ LAST_SECOND) }
-    ensures { (secret : List ℕ) × (result ≡ fresh_poll (plan_from secret after)) }
+    ensures { result ≡ fresh_poll (plan_from SECRET.now after) }
 {
     let mut secret = ArrayVec::new();
     let _fits = secret.try_extend_from_slice(SECRET);
@@ -130,7 +139,9 @@ fn read<F: Filing, S: End>(
     line: &mut Line<S>,
     meter: &mut MemoryMeter,
 ) -> Result<(), LoopFault>
-    ensures { (secret : List ℕ) × ReadsRows (plan_from secret (last_clock readings.old)) (F.asked place.old) (F.asked place.new) readings.old result readings.new }
+    ensures { let before : Seen = record { head = S.past line.old.head; tail = S.past line.old.tail; asked = F.asked place.old } in
+        let after : Seen = record { head = S.past line.new.head; tail = S.past line.new.tail; asked = F.asked place.new } in
+        ReadsRows (plan_from SECRET.now (last_clock readings.old)) before after meter.old meter.new told.old told.new readings.old result readings.new }
 {
     let poller = managements_poller(alloc, readings.last());
     match poll(&mut line.head, &mut line.tail, meter, poller) {
@@ -139,40 +150,68 @@ fn read<F: Filing, S: End>(
     }
 }
 
-/// Polls a new meter in memory over TCP, and prints the readings. The meter has 42 pulses on channel 0 and captures at 900 and
-/// 1800 seconds. Where a file is named its readings come first, and they and what is new stand in it after each poll that is
-/// done; nobody else has the file meanwhile. So many times then the meter is stopped, what it has not synced is lost, it comes back, gets one more pulse and one
-/// more capture, and is polled again. The file is read before anything else is done. Where the file is what failed, `told` gets
-/// what the system says of it.
-pub fn loopback<R: Net + Files<File = File> + AllocGlobal, W: Write>(
+/// Polls the meter, and so many times then stops it and polls it again. What came of each poll that is done is kept.
+fn rounds<F: Filing, S: End>(
+    alloc: Global,
+    place: &mut F,
+    readings: &mut Readings,
+    told: &mut Option<io::Error>,
+    line: &mut Line<S>,
+    meter: MemoryMeter,
+    stops: u8,
+) -> Result<(), LoopFault>
+    ensures { let before : Seen = record { head = S.past line.old.head; tail = S.past line.old.tail; asked = F.asked place.old } in
+        let after : Seen = record { head = S.past line.new.head; tail = S.past line.new.tail; asked = F.asked place.new } in
+        Rounds meter SECRET.now stops before after told.old told.new readings.old result readings.new }
+{
+    let mut meter = meter;
+    read(alloc, place, readings, told, line, &mut meter)?;
+    'stops: for round in 0..stops {
+        meter = stopped(alloc, meter, round + 1)?;
+        read(alloc, place, readings, told, line, &mut meter)?;
+    }
+    Ok(())
+}
+
+/// The readings of a file, and what a new meter in memory was polled for over TCP. The file is read before anything else is done.
+fn polled<R: Net + Files<File = File> + AllocGlobal>(
     rt: &R,
     file: Option<&str>,
     stops: u8,
-    writer: &mut W,
     told: &mut Option<io::Error>,
-) -> Result<(), LoopFault> {
+) -> Result<Readings, LoopFault>
+    ensures { IfOk result (ArePolled SECRET.now (stops + 1)) }
+{
     let mut place = held(rt, file, told)?;
     let mut readings = opened(rt.alloc(), &mut place, told)?;
-    let mut meter = new_meter(rt.alloc())?;
+    let meter = new_meter(rt.alloc())?;
     let mut line = ends(rt)?;
-    read(
+    rounds(
         rt.alloc(),
         &mut place,
         &mut readings,
         told,
         &mut line,
-        &mut meter,
+        meter,
+        stops,
     )?;
-    for round in 1..=stops {
-        meter = stopped(rt.alloc(), meter, round)?;
-        read(
-            rt.alloc(),
-            &mut place,
-            &mut readings,
-            told,
-            &mut line,
-            &mut meter,
-        )?;
-    }
-    print(&readings, writer)
+    Ok(readings)
+}
+
+/// Polls a new meter in memory over TCP, and prints the readings. The meter has 42 pulses on channel 0 and captures at 900 and
+/// 1800 seconds. Where a file is named its readings come first, and they and what is new stand in it after each poll that is
+/// done; nobody else has the file meanwhile. So many times then the meter is stopped, what it has not synced is lost, it comes
+/// back, gets one more pulse and one more capture, and is polled again. The file is read before anything else is done. Where the
+/// file is what failed, `told` gets what the system says of it.
+pub fn loopback<R: Net + Files<File = File> + AllocGlobal, O: Output>(
+    rt: &R,
+    file: Option<&str>,
+    stops: u8,
+    output: &mut O,
+    told: &mut Option<io::Error>,
+) -> Result<(), LoopFault>
+    ensures { MatchResult result (λ _. Loops SECRET.now (stops + 1) (O.printed output.old) (O.printed output.new)) (Unlooped (O.printed output.old) (O.printed output.new)) }
+{
+    let readings = polled(rt, file, stops, told)?;
+    print(&readings, output)
 }

@@ -17,7 +17,7 @@ returns-in-Ok g c =
     let fresh : c.poller-poller.result ≡ fresh_poll (plan_behind client secret before) =
     c.poller-poller.ensures ∙ ap (λ (after : Option ℕ). fresh_poll (record { client = client; secret = secret; after = after; columns = Asked })) c.last.ensures.last in
     let (same, text, file, gives) = c.in-Ok.ensures in
-    let (asks, adds) = gives in
+    let adds = gives.1.1 in
     record {
       secret = secret;
       before = before;

@@ -16,4 +16,4 @@ returns g c =
     let new : IsFile text (merged before rows) = rw same at is in
     let count : c.bytes_behind-news.result.now ≡ drop (length first) text = search rules in
     let news : c.bytes_behind-news.result.now ≡ text_of (added before rows) = count ∙ news_are before rows first text old new in
-    files _ _ _ _ before rows _ text _ c.give.result same is news (search rules)
+    files (g.F.Filing.asked c.args.place.now) (g.F.Filing.asked c.give.new.place) (g.O.Output.printed c.args.output.now) (g.O.Output.printed c.give.new.output) before rows c.merged_text.new.readings text c.bytes_behind-news.result.now c.give.result same is news (search rules)

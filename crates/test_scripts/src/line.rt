@@ -2,13 +2,11 @@
 ghost use Rattle.std.specs.Prelude.{◌≡◌, [], ◌∷◌, ◌++◌, Some, map, if◌then◌else◌};
 ghost use Rattle.dlms_loopback.specs.Moments.Moment.{Came, Quiet, Went, Broke};
 
-use crate::end::{End, Heard, PIECE};
-use crate::fault::LoopFault;
-use crate::head_end::{HeadEnd, Turn};
-use crate::meter_end::turn;
 use arrayvec::ArrayVec;
 use dlms_frame::Client;
 use dlms_headend::{Columns, Plan, Poller};
+use dlms_loopback::meter_end::turn;
+use dlms_loopback::{End, HeadEnd, Heard, LoopFault, PIECE, Turn};
 use dlms_meter::Meter;
 use dlms_pages::MemoryPages;
 use dlms_store::PAGES;
@@ -97,7 +95,7 @@ impl<'a, R: Abort> Script<'a, R> {
 impl<R: Abort> End for Script<'_, R> {
     ghost past = { λ s. Some (map (λ m. if m.is_coming then (if m.is_well then Came m.bytes.items else Quiet) else (if m.is_well then Went m.bytes.items else Broke m.bytes.items)) s.happened.items) };
 
-    #[tactic(auto, using(crate::proofs::MomentLemmas::map_append))]
+    #[tactic(auto, using(crate::proofs::Lists::map_append))]
     fn hear(&mut self, piece: &mut [u8; PIECE]) -> io::Result<Heard> {
         let play = self.plays.get(self.next).copied();
         self.next = self.next.saturating_add(1);
@@ -134,7 +132,7 @@ impl<R: Abort> End for Script<'_, R> {
         }
     }
 
-    #[tactic(auto, using(crate::proofs::MomentLemmas::map_append))]
+    #[tactic(auto, using(crate::proofs::Lists::map_append))]
     fn put(&mut self, bytes: &[u8]) -> io::Result<()> {
         let bytes = self.copied(bytes);
         self.add(Happened {

@@ -1,0 +1,137 @@
+-- The rounds of the loopback.
+use Rattle.std.proofs.Common.{arith, refl, sym, ◌∙◌, ◌≡◌, ◌<◌, ◌+◌, ℕ, List, [], ◌∷◌, length, subst, inl, inr}
+use Rattle.std.specs.Prelude.{Option, Result, Ok, Err, IfOk, IsErrAnd, MatchResult}
+use Rattle.std.specs.declared.io.Error.{Error}
+use Rattle.dlms_headend.specs.Lines.{text_of}
+use Rattle.dlms_headend.specs.Merged.{last_clock, merged}
+use Rattle.dlms_headend.specs.PollerValue.{PollerValue}
+use Rattle.dlms_headend.specs.declared.row.Row.{Row}
+use Rattle.dlms_meter.specs.declared.meter.Meter.{Meter}
+use Rattle.dlms_pages.specs.declared.device.Pages.{Ghosts}
+use Rattle.dlms_loopback.specs.BothEnds.{IsDonePoll}
+use Rattle.dlms_loopback.specs.Faults.{TellsError}
+use Rattle.dlms_loopback.specs.Filing.{KeepsRows}
+use Rattle.dlms_loopback.specs.Printing.{Printed, PrintsPart}
+use Rattle.dlms_loopback.specs.Rounds.{ArePolled, Loops, Unlooped, Seen, Reads, IsOfMeter, Rounds, ReadsRows, KeepsPolled, KeepsNothing, TellsKept, Polled, PrintsText, plan_from}
+use Rattle.dlms_loopback.specs.Rounds.Reads.{Begun, Then}
+use Rattle.dlms_loopback.specs.declared.fault.LoopFault.{LoopFault}
+use Rattle.dlms_loopback.specs.declared.filing.FilingFault.{FilingFault}
+use Rattle.dlms_loopback.proofs.PollLemmas.{system_told}
+
+pub prints_part : {T : Type 0} (printed printed' : Printed) (rows : List Row) (bytes : List ℕ) (r : Result T LoopFault) (error : Error)
+    → IsErrAnd r (TellsError error) → bytes ≡ text_of rows → PrintsPart printed printed' bytes → PrintsText printed printed' rows r
+prints_part printed printed' rows bytes (Ok done) error told is part = absurd told
+prints_part printed printed' rows bytes (Err fault) error told is part = inr (system_told fault error told, subst (λ (t : List ℕ). PrintsPart printed printed' t) is part)
+
+kept_rows : (seen seen' : Seen) (told told' : Option Error) (done : PollerValue) (before after : List Row) (kept : Result (Unit {0}) FilingFault)
+    → KeepsRows seen.asked seen'.asked before done.talk.rows kept after → TellsKept {U = Unit {0}} told told' kept (Ok tt) → after ≡ merged before done.talk.rows
+kept_rows seen seen' told told' done before after (Ok x) keeps tells = keeps.0
+kept_rows seen seen' told told' done before after (Err why) keeps tells = absurd tells
+
+-- a round that went well
+one_round : (secret : List ℕ) (seen seen' : Seen) (told told' : Option Error) (before after : List Row) (polled : Result PollerValue LoopFault)
+    → IfOk polled (IsDonePoll (plan_from secret (last_clock before)))
+    → MatchResult polled (λ done. KeepsPolled {T = Unit {0}} seen seen' told told' done before (Ok tt) after) (λ fault. KeepsNothing {T = Unit {0}} seen seen' told told' fault before (Ok tt) after)
+    → (done : PollerValue) × IsDonePoll (plan_from secret (last_clock before)) done × (after ≡ merged before done.talk.rows)
+one_round secret seen seen' told told' before after (Ok done) is (kept, keeps, tells) = (done, is, kept_rows seen seen' told told' done before after kept keeps tells)
+one_round secret seen seen' told told' before after (Err fault) is kept = absurd (cc kept.0)
+
+polled_in : {P A : Type 0} {ghosts : Ghosts P} (first : Meter P A ghosts) (secret : List ℕ) (seen : Seen) (before : List Row) (now : Seen) (rows : List Row) (count : ℕ)
+    → Reads first secret seen before count now rows → (polls : List PollerValue) × (length polls ≡ count) × Polled secret polls before rows
+polled_in first secret seen before now rows count Begun = ([], refl, refl)
+polled_in first secret seen before now rows count (Then n mid new was after meter meter' told reads is_first round) =
+    let (polls, counted, polled) = polled_in first secret seen before mid was n reads in
+    let (done, is, same) = one_round secret mid new told told was after round.polled round.done round.kept in
+    (done ∷ polls, omega (arith, counted), (was, polled, is, same))
+
+pub rounds_poll : {P A : Type 0} {ghosts : Ghosts P} (first : Meter P A ghosts) (secret : List ℕ) (stops : ℕ) (seen now : Seen) (told told' : Option Error) (before after : List Row)
+    → Rounds {T = Unit {0}} first secret stops seen now told told' before (Ok tt) after → ArePolled secret (stops + 1) after
+rounds_poll first secret stops seen now told told' before after went =
+    let (polls, counted, polled) = polled_in first secret seen before now after (stops + 1) went.0 in record { before = before; polls = polls; counted = counted; polled = polled }
+
+pub loops : {T : Type 0} (secret : List ℕ) (count : ℕ) (printed printed' : Printed) (after : List Row) (r : Result T LoopFault)
+    → ArePolled secret count after → PrintsText printed printed' after r → MatchResult r (λ _. Loops secret count printed printed') (Unlooped printed printed')
+loops secret count printed printed' after (Ok done) are prints = (after, are, prints)
+loops secret count printed printed' after (Err fault) are (inl none) = inl none.2
+loops secret count printed printed' after (Err fault) are (inr part) = inr (part.0, after, part.1)
+
+-- ---- round by round
+
+untold : (seen seen' : Seen) (told told' : Option Error) (before after : List Row) (polled : Result PollerValue LoopFault)
+    → MatchResult polled (λ done. KeepsPolled {T = Unit {0}} seen seen' told told' done before (Ok tt) after) (λ fault. KeepsNothing {T = Unit {0}} seen seen' told told' fault before (Ok tt) after) → told' ≡ told
+untold seen seen' told told' before after (Ok done) (kept, keeps, tells) = still kept tells where
+  still : (kept : Result (Unit {0}) FilingFault) → TellsKept {U = Unit {0}} told told' kept (Ok tt) → told' ≡ told
+  still (Ok x) tells = tells.0
+  still (Err why) tells = absurd tells
+untold seen seen' told told' before after (Err fault) kept = absurd (cc kept.0)
+
+module _ {P A : Type 0} {ghosts : Ghosts P} where
+  -- so many rounds went well, and the system said nothing
+  abbrev pub SoFar : Meter P A ghosts → List ℕ → Seen → List Row → Option Error → ℕ → Seen → List Row → Option Error → Type 0
+  SoFar first secret seen before told count now rows told' = Reads first secret seen before count now rows × (told' ≡ told)
+
+  pub first_round : (secret : List ℕ) (seen new : Seen) (meter meter' : Meter P A ghosts) (told told' : Option Error) (before after : List Row)
+      → ReadsRows {T = Unit {0}} (plan_from secret (last_clock before)) seen new meter meter' told told' before (Ok tt) after → SoFar meter secret seen before told 1 new after told'
+  first_round secret seen new meter meter' told told' before after round =
+      let same : told' ≡ told = untold seen new told told' before after round.polled round.kept in
+      let is = subst (λ (t : Option Error). ReadsRows {T = Unit {0}} (plan_from secret (last_clock before)) seen new meter meter' told t before (Ok tt) after) same round in
+      (Then 0 seen new before after meter meter' told Begun (λ zero. refl) is, same)
+
+  pub next_round : (first : Meter P A ghosts) (secret : List ℕ) (seen mid new : Seen) (meter meter' : Meter P A ghosts) (told told' told'' : Option Error) (before rows after : List Row) (count : ℕ)
+      → SoFar first secret seen before told (count + 1) mid rows told' → ReadsRows {T = Unit {0}} (plan_from secret (last_clock rows)) mid new meter meter' told' told'' rows (Ok tt) after
+      → SoFar first secret seen before told (count + 1 + 1) new after told''
+  next_round first secret seen mid new meter meter' told told' told'' before rows after count (reads, was) round =
+      let same : told'' ≡ told' = untold mid new told' told'' rows after round.polled round.kept in
+      let is = subst (λ (t : Option Error). ReadsRows {T = Unit {0}} (plan_from secret (last_clock rows)) mid new meter meter' told' t rows (Ok tt) after) same round in
+      (Then (count + 1) mid new rows after meter meter' told' reads (λ none. absurd (omega (arith, none))) is, same ∙ was)
+
+  pub first_fails : (secret : List ℕ) (stops : ℕ) (seen new : Seen) (meter meter' : Meter P A ghosts) (told told' : Option Error) (before after : List Row) (fault : LoopFault) (r : Result (Unit {0}) LoopFault)
+      → IsErrAnd r (λ given. given ≡ fault) → ReadsRows {T = Unit {0}} (plan_from secret (last_clock before)) seen new meter meter' told told' before (Err fault) after
+      → Rounds meter secret stops seen new told told' before r after
+  first_fails secret stops seen new meter meter' told told' before after fault (Ok done) is round = absurd is
+  first_fails secret stops seen new meter meter' told told' before after fault (Err given) is round = (
+    0,
+    seen,
+    before,
+    Begun,
+    omega arith,
+    inl
+        (record {
+          meter = meter;
+          meter' = meter';
+          is_first = λ zero. refl;
+          reads = subst (λ (f : LoopFault). ReadsRows {T = Unit {0}} (plan_from secret (last_clock before)) seen new meter meter' told told' before (Err f) after) (sym is) round;
+        }),
+  )
+
+  pub round_fails : (first : Meter P A ghosts) (secret : List ℕ) (stops : ℕ) (seen mid new : Seen) (meter meter' : Meter P A ghosts) (told told' told'' : Option Error) (before rows after : List Row) (count : ℕ) (fault : LoopFault) (r : Result (Unit {0}) LoopFault)
+      → IsErrAnd r (λ given. given ≡ fault) → count < stops → SoFar first secret seen before told (count + 1) mid rows told' → ReadsRows {T = Unit {0}} (plan_from secret (last_clock rows)) mid new meter meter' told' told'' rows (Err fault) after
+      → Rounds first secret stops seen new told told'' before r after
+  round_fails first secret stops seen mid new meter meter' told told' told'' before rows after count fault (Ok done) is below so_far round = absurd is
+  round_fails first secret stops seen mid new meter meter' told told' told'' before rows after count fault (Err given) is below (reads, was) round = (
+    count + 1,
+    mid,
+    rows,
+    reads,
+    omega (arith, below),
+    inl
+        (record {
+          meter = meter;
+          meter' = meter';
+          is_first = λ none. absurd (omega (arith, none));
+          reads = subst (λ (t : Option Error). ReadsRows {T = Unit {0}} (plan_from secret (last_clock rows)) mid new meter meter' t told'' rows (Err given) after) was
+              (subst (λ (f : LoopFault). ReadsRows {T = Unit {0}} (plan_from secret (last_clock rows)) mid new meter meter' told' told'' rows (Err f) after) (sym is) round);
+        }),
+  )
+
+  pub stop_fails : (first : Meter P A ghosts) (secret : List ℕ) (stops : ℕ) (seen mid : Seen) (told told' : Option Error) (before rows : List Row) (count : ℕ) (fault : LoopFault) (r : Result (Unit {0}) LoopFault)
+      → IsErrAnd r (λ given. given ≡ fault) → count < stops → SoFar first secret seen before told (count + 1) mid rows told' → IsOfMeter fault → Rounds first secret stops seen mid told told' before r rows
+  stop_fails first secret stops seen mid told told' before rows count fault (Ok done) is below so_far of_meter = absurd is
+  stop_fails first secret stops seen mid told told' before rows count fault (Err given) is below (reads, was) of_meter = (
+    count + 1,
+    mid,
+    rows,
+    reads,
+    omega (arith, below),
+    inr (record { stopped = omega arith; of_meter = subst IsOfMeter (sym is) of_meter; unseen = refl; untold = was; unread = refl }),
+  )

@@ -1,0 +1,139 @@
+-- The rounds of the loopback: polls of a meter, one after another, and what came of each is kept.
+use Rattle.std.specs.Prelude.{◌≡◌, ◌⊎◌, ◌+◌, ◌<◌, ◌≤◌, ℕ, List, [], ◌∷◌, length, Option, Some, Result, Ok, Err, IsOk, IfOk, MatchResult}
+use Rattle.std.specs.declared.io.Error.{Error}
+use Rattle.dlms_frame.specs.declared.client.Client.TheVariants.{Management}
+use Rattle.dlms_headend.specs.Asking.{PlanValue}
+use Rattle.dlms_headend.specs.Lines.{text_of}
+use Rattle.dlms_headend.specs.Merged.{last_clock, merged}
+use Rattle.dlms_headend.specs.PollerValue.{PollerValue}
+use Rattle.dlms_headend.specs.Polling.{fresh_poll}
+use Rattle.dlms_headend.specs.declared.plan.Columns.TheVariants.{Asked as AsksColumns}
+use Rattle.dlms_headend.specs.declared.row.Row.{Row}
+use Rattle.dlms_meter.specs.Run.{MeterWorld, Stands}
+use Rattle.dlms_meter.specs.declared.meter.Meter.{Meter}
+use Rattle.dlms_pages.specs.declared.device.Pages.{Ghosts}
+use Rattle.dlms_store.specs.declared.fault.AddFault.{AddFault}
+use Rattle.dlms_store.specs.declared.fault.OpenFault.{OpenFault}
+use Rattle.dlms_loopback.specs.BothEnds.{IsDonePoll, Polls}
+use Rattle.dlms_loopback.specs.Faults.{IsOfSystem, TellsError}
+use Rattle.dlms_loopback.specs.Filing.{Asked, Asks, KeepsRows, OpensRows}
+use Rattle.dlms_loopback.specs.Moments.{Moment}
+use Rattle.dlms_loopback.specs.Printing.{Printed, Prints, PrintsNothing, PrintsPart}
+use Rattle.dlms_loopback.specs.declared.fault.LoopFault.{LoopFault}
+use Rattle.dlms_loopback.specs.declared.fault.LoopFault.TheVariants.{Open, Add, Readings, Io, Memory}
+use Rattle.dlms_loopback.specs.declared.filing.FilingFault.{FilingFault}
+use Rattle.dlms_loopback.specs.declared.filing.FilingFault.TheVariants as filing
+use Rattle.dlms_loopback.specs.declared.filing.OpeningFault.{OpeningFault}
+use Rattle.dlms_loopback.specs.declared.filing.OpeningFault.TheVariants as opening
+
+-- what is known of the two ends of a line, and of the place of the readings
+pub record Seen : Type 0 where
+  pub head : Option (List Moment)
+  pub tail : Option (List Moment)
+  pub asked : Option (List Asked)
+
+-- what management polls: the rows from a second on, and the columns that they have
+abbrev pub plan_from : List ℕ → Option ℕ → PlanValue
+plan_from secret after = record { client = Management; secret = secret; after = after; columns = AsksColumns }
+
+-- ---- what is told of the place
+
+-- what is told of rows that were not kept, and what the system said of the place
+abbrev pub TellsKeeping : Option Error → Option Error → FilingFault → LoopFault → Type 0
+TellsKeeping told told' filing.Memory fault = (told' ≡ told) × (fault ≡ Memory)
+TellsKeeping told told' filing.Output fault = (told' ≡ told) × (fault ≡ Io)
+TellsKeeping told told' (filing.Place e) fault = (told' ≡ Some e) × TellsError e fault
+
+abbrev pub TellsKept : {T U : Type 0} → Option Error → Option Error → Result T FilingFault → Result U LoopFault → Type 0
+TellsKept told told' (Ok kept) result = (told' ≡ told) × IsOk result
+TellsKept told told' (Err why) result = MatchResult result (λ _. ⊥) (λ fault. TellsKeeping told told' why fault)
+
+-- what is told of readings that were not opened
+abbrev pub TellsOpening : Option Error → Option Error → OpeningFault → LoopFault → Type 0
+TellsOpening told told' (opening.Place e) fault = (told' ≡ Some e) × TellsError e fault
+TellsOpening told told' (opening.Readings why) fault = (told' ≡ told) × (fault ≡ Readings why)
+
+-- the readings of the place, or why they were not opened
+abbrev pub OpensReadings : Option (List Asked) → Option (List Asked) → Option Error → Option Error → Result (List Row) LoopFault → Type 0
+OpensReadings old new told told' (Ok rows) = OpensRows old new (Ok rows) × (told' ≡ told)
+OpensReadings old new told told' (Err fault) = (why : OpeningFault) × OpensRows old new (Err why) × TellsOpening told told' why fault
+
+-- ---- a round
+
+-- the rows of the poll that is done were kept, or could not be
+abbrev pub KeepsPolled : {T : Type 0} → Seen → Seen → Option Error → Option Error → PollerValue → List Row → Result T LoopFault → List Row → Type 0
+KeepsPolled seen seen' told told' done before result after =
+    (kept : Result (Unit {0}) FilingFault) × KeepsRows seen.asked seen'.asked before done.talk.rows kept after × TellsKept told told' kept result
+
+-- the poll failed with this fault: nothing was asked of the place
+abbrev pub KeepsNothing : {T : Type 0} → Seen → Seen → Option Error → Option Error → LoopFault → List Row → Result T LoopFault → List Row → Type 0
+KeepsNothing seen seen' told told' fault before result after = (result ≡ Err fault) × Asks seen.asked seen'.asked [] × (told' ≡ told) × (after ≡ before)
+
+-- A new poll by this plan ran over both ends of the line, and was done or failed for what happened there; and its rows were kept.
+pub record ReadsRows {P A T : Type 0} {ghosts : Ghosts P} (plan : PlanValue) (seen seen' : Seen) (meter meter' : Meter P A ghosts) (told told' : Option Error) (before : List Row) (result : Result T LoopFault) (after : List Row) : Type 0 where
+  pub polled : Result PollerValue LoopFault
+  pub ends : (w : MeterWorld) → Stands meter w → Polls seen.head seen'.head seen.tail seen'.tail (fresh_poll plan) w meter' polled
+  pub done : IfOk polled (IsDonePoll plan)
+  pub kept : MatchResult polled (λ done. KeepsPolled seen seen' told told' done before result after) (λ fault. KeepsNothing seen seen' told told' fault before result after)
+
+-- ---- rounds, one after another
+
+-- So many polls, each from the last row of the one before on, were done and kept, the first of them of this meter.
+pub data Reads {P A : Type 0} {ghosts : Ghosts P} (first : Meter P A ghosts) (secret : List ℕ) (seen : Seen) (before : List Row) : ℕ → Seen → List Row → Type 0 where
+  Begun : Reads first secret seen before 0 seen before
+  Then : (count : ℕ) (mid new : Seen) (rows after : List Row) (meter meter' : Meter P A ghosts) (told : Option Error) → Reads first secret seen before count mid rows → (count ≡ 0 → meter ≡ first)
+      → ReadsRows {T = Unit {0}} (plan_from secret (last_clock rows)) mid new meter meter' told told rows (Ok tt) after → Reads first secret seen before (count + 1) new after
+
+-- the meter did not come back from a stop, or did not take what it was told then
+abbrev pub IsOfMeter : LoopFault → Type 0
+IsOfMeter fault = ((why : OpenFault) × (fault ≡ Open why)) ⊎ ((why : AddFault) × (fault ≡ Add why))
+
+-- behind so many rounds the next one failed
+pub record RoundFails {P A : Type 0} {ghosts : Ghosts P} (first : Meter P A ghosts) (secret : List ℕ) (count : ℕ) (mid new : Seen) (told told' : Option Error) (rows : List Row) (fault : LoopFault) (after : List Row) : Type 0 where
+  pub meter : Meter P A ghosts
+  pub meter' : Meter P A ghosts
+  pub is_first : count ≡ 0 → meter ≡ first
+  pub reads : ReadsRows {T = Unit {0}} (plan_from secret (last_clock rows)) mid new meter meter' told told' rows (Err fault) after
+
+-- behind a stop the meter failed
+pub record StopFails (count : ℕ) (mid new : Seen) (told told' : Option Error) (rows : List Row) (fault : LoopFault) (after : List Row) : Type 0 where
+  pub stopped : 0 < count
+  pub of_meter : IsOfMeter fault
+  pub unseen : new ≡ mid
+  pub untold : told' ≡ told
+  pub unread : after ≡ rows
+
+-- All rounds went well; or behind some of them one failed, or the meter did behind a stop.
+abbrev pub Rounds : {P A T : Type 0} → {ghosts : Ghosts P} → Meter P A ghosts → List ℕ → ℕ → Seen → Seen → Option Error → Option Error → List Row → Result T LoopFault → List Row → Type 0
+Rounds first secret stops seen new told told' before (Ok done) after = Reads first secret seen before (stops + 1) new after × (told' ≡ told)
+Rounds first secret stops seen new told told' before (Err fault) after =
+    (count : ℕ) × (mid : Seen) × (rows : List Row) × Reads first secret seen before count mid rows × (count ≤ stops)
+    × (RoundFails first secret count mid new told told' rows fault after ⊎ StopFails count mid new told told' rows fault after)
+
+-- the polls of such rounds: each is done, from the last row on, and its rows are merged
+abbrev pub Polled : List ℕ → List PollerValue → List Row → List Row → Type 0
+Polled secret [] before after = after ≡ before
+Polled secret (done ∷ polls) before after = (mid : List Row) × Polled secret polls before mid × IsDonePoll (plan_from secret (last_clock mid)) done × (after ≡ merged mid done.talk.rows)
+
+-- ---- what is printed at the end
+
+-- The text of the readings went out; or memory ran out for it, or the output failed.
+abbrev pub PrintsText : {T : Type 0} → Printed → Printed → List Row → Result T LoopFault → Type 0
+PrintsText printed printed' rows (Ok done) = Prints printed printed' (text_of rows)
+PrintsText printed printed' rows (Err fault) =
+    ((fault ≡ Memory) × (0 < length rows) × PrintsNothing printed printed') ⊎ (IsOfSystem fault × PrintsPart printed printed' (text_of rows))
+
+-- these are readings that so many such polls, the last one first, have led to
+pub record ArePolled (secret : List ℕ) (count : ℕ) (after : List Row) : Type 0 where
+  pub before : List Row
+  pub polls : List PollerValue
+  pub counted : length polls ≡ count
+  pub polled : Polled secret polls before after
+
+-- A loopback: so many polls were done, and what the readings then are was printed.
+abbrev pub Loops : List ℕ → ℕ → Printed → Printed → Type 0
+Loops secret count printed printed' = (after : List Row) × ArePolled secret count after × Prints printed printed' (text_of after)
+
+-- Or it failed: nothing was printed, or the output failed at the readings.
+abbrev pub Unlooped : Printed → Printed → LoopFault → Type 0
+Unlooped printed printed' fault = PrintsNothing printed printed' ⊎ (IsOfSystem fault × (rows : List Row) × PrintsPart printed printed' (text_of rows))

@@ -1,0 +1,293 @@
+//! A place of readings and an output for tests, whose past is known: of their calls one is to fail, and what was asked of them is
+//! kept.
+ghost use Rattle.std.specs.Prelude.{◌≡◌, [], ◌∷◌, ◌++◌, Some, None, map, if◌then◌else◌};
+ghost use Rattle.dlms_loopback.specs.Filing.Asked.{Opens, Lays, Puts, Drops};
+ghost use Rattle.dlms_loopback.specs.Moments.Moment.{Went, Broke};
+
+use dlms_headend::{Readings, Row};
+use dlms_loopback::{Filing, FilingFault, Output, file_rows, keep_rows, open_rows};
+use std::alloc::Global;
+use std::io;
+use std::process::Abort;
+
+/// What was asked: for the text, that one is laid, that it is put, or that it is taken away; the text, and whether it went well.
+#[derive(Drop)]
+struct Call {
+    is_text: bool,
+    is_laid: bool,
+    is_put: bool,
+    is_well: bool,
+    text: Vec<u8>,
+}
+
+/// A place whose call of this number, counted from 0, fails.
+#[derive(Drop)]
+struct Shelf<'a, R: Abort> {
+    rt: &'a R,
+    alloc: Global,
+    fails: usize,
+    standing: String,
+    laid: String,
+    calls: Vec<Call>,
+}
+
+impl<'a, R: Abort> Shelf<'a, R> {
+    /// Where this text stands.
+    fn new(rt: &'a R, alloc: Global, standing: &str, fails: usize) -> Self {
+        Shelf {
+            rt,
+            alloc,
+            fails,
+            standing: String::from_str(alloc, standing).expect(rt, "memory"),
+            laid: String::new(alloc),
+            calls: Vec::new(alloc),
+        }
+    }
+
+    /// Whether the next call goes well.
+    fn is_well(&self) -> bool {
+        self.calls.len() != self.fails
+    }
+
+    /// This was asked.
+    fn add(&mut self, call: Call)
+        ensures { self.new.calls.items ≡ self.old.calls.items ++ call ∷ [] }
+    {
+        self.calls.push(call).expect(self.rt, "memory");
+    }
+
+    /// A copy of these bytes.
+    fn copied(&self, bytes: &[u8]) -> Vec<u8>
+        ensures { result.items ≡ bytes.now }
+    {
+        let mut copy = Vec::new(self.alloc);
+        copy.extend_from_slice(bytes).expect(self.rt, "memory");
+        copy
+    }
+
+    /// Whether these were the calls behind the first one: a text was laid, and put or taken away, or it was not, and how the last
+    /// of them went.
+    fn has(&self, count: usize, text: &str, is_put: bool, is_well: bool) -> bool {
+        let is_laid = match self.calls.get(0) {
+            Some(call) => call.is_laid && call.text.as_slice() == text.as_bytes(),
+            None => false,
+        };
+        let is_ended = match self.calls.last() {
+            Some(call) => call.is_put == is_put && call.is_well == is_well,
+            None => false,
+        };
+        is_laid && is_ended && self.calls.len() == count
+    }
+}
+
+impl<R: Abort> Filing for Shelf<'_, R> {
+    ghost asked = { λ s. Some (map (λ c. if c.is_text then (Opens (if c.is_well then Some c.text.items else None)) else (if c.is_laid then (Lays c.text.items c.is_well) else (if c.is_put then (Puts c.is_well) else Drops))) s.calls.items) };
+
+    #[tactic(auto, using(crate::proofs::Lists::map_append))]
+    fn text(&mut self, alloc: Global) -> io::Result<String> {
+        let is_well = self.is_well();
+        let text = self.copied(self.standing.as_bytes());
+        let standing = String::from_str(alloc, self.standing.as_str()).expect(self.rt, "memory");
+        self.add(Call {
+            is_text: true,
+            is_laid: false,
+            is_put: false,
+            is_well,
+            text,
+        });
+        if is_well {
+            Ok(standing)
+        } else {
+            Err(io::Error::other("no text"))
+        }
+    }
+
+    #[tactic(auto, using(crate::proofs::Lists::map_append))]
+    fn lay(&mut self, text: &str) -> io::Result<()> {
+        let is_well = self.is_well();
+        let copy = self.copied(text.as_bytes());
+        self.laid = String::from_str(self.alloc, text).expect(self.rt, "memory");
+        self.add(Call {
+            is_text: false,
+            is_laid: true,
+            is_put: false,
+            is_well,
+            text: copy,
+        });
+        if is_well {
+            Ok(())
+        } else {
+            Err(io::Error::other("not laid"))
+        }
+    }
+
+    #[tactic(auto, using(crate::proofs::Lists::map_append))]
+    fn put(&mut self) -> io::Result<()> {
+        let is_well = self.is_well();
+        let text = self.copied(&[]);
+        if is_well {
+            self.standing = String::from_str(self.alloc, self.laid.as_str()).expect(
+                self.rt, "memory",
+            );
+        }
+        self.add(Call {
+            is_text: false,
+            is_laid: false,
+            is_put: true,
+            is_well,
+            text,
+        });
+        if is_well {
+            Ok(())
+        } else {
+            Err(io::Error::other("not put"))
+        }
+    }
+
+    #[tactic(auto, using(crate::proofs::Lists::map_append))]
+    fn drop_laid(&mut self) {
+        let text = self.copied(&[]);
+        self.add(Call {
+            is_text: false,
+            is_laid: false,
+            is_put: false,
+            is_well: true,
+            text,
+        });
+    }
+}
+
+/// What went out to an output: these bytes, or that it failed behind these.
+#[derive(Drop)]
+struct Print {
+    is_well: bool,
+    bytes: Vec<u8>,
+}
+
+/// An output that takes what is printed, or fails before any of it.
+#[derive(Drop)]
+struct Sheet<'a, R: Abort> {
+    rt: &'a R,
+    alloc: Global,
+    is_well: bool,
+    prints: Vec<Print>,
+}
+
+impl<'a, R: Abort> Sheet<'a, R> {
+    /// Nothing was printed.
+    fn new(rt: &'a R, alloc: Global, is_well: bool) -> Self {
+        Sheet {
+            rt,
+            alloc,
+            is_well,
+            prints: Vec::new(alloc),
+        }
+    }
+
+    /// Whether these bytes alone were printed.
+    fn has(&self, bytes: &[u8]) -> bool {
+        match self.prints.as_slice() {
+            [print] => print.is_well && print.bytes.as_slice() == bytes,
+            _ => false,
+        }
+    }
+}
+
+impl<R: Abort> Output for Sheet<'_, R> {
+    ghost printed = { λ s. record { moments = Some (map (λ p. if p.is_well then (Went p.bytes.items) else (Broke p.bytes.items)) s.prints.items); bytes = None } };
+
+    #[tactic(auto, using(crate::proofs::Lists::map_append))]
+    fn print(&mut self, bytes: &[u8]) -> io::Result<()> {
+        let is_well = self.is_well;
+        let mut copy = Vec::new(self.alloc);
+        if is_well {
+            copy.extend_from_slice(bytes).expect(self.rt, "memory");
+        }
+        self.prints
+            .push(Print {
+                is_well,
+                bytes: copy,
+            })
+            .expect(self.rt, "memory");
+        if is_well {
+            Ok(())
+        } else {
+            Err(io::Error::other("no output"))
+        }
+    }
+}
+
+/// The text that stands in the tests, and that of the row that is filed behind it (docs/READINGS.md).
+const OLD: &str = "900,42,0,0\n";
+
+const BOTH: &str = "900,42,0,0\n1800,43,0,7\n";
+
+/// The row that is filed, behind one that stands there.
+const ROWS: [Row; 2] = [
+    Row {
+        clock: 900,
+        registers: [42, 0, 0],
+    },
+    Row {
+        clock: 1_800,
+        registers: [43, 0, 7],
+    },
+];
+
+/// Readings with the old row.
+fn opened<R: Abort>(rt: &R, alloc: Global) -> Readings {
+    let mut shelf = Shelf::new(rt, alloc, OLD, usize::MAX);
+    match open_rows(alloc, &mut shelf) {
+        Ok(readings) => readings,
+        Err(_) => panic!(rt; "no readings"),
+    }
+}
+
+/// A text of readings that stands at a place is opened, and a call that fails is told.
+#[test]
+fn readings_are_opened(rt: HostRuntime) {
+    assert_eq!(rt; opened(&rt, rt.alloc()).rows(), &ROWS[..1]);
+    let mut broken = Shelf::new(&rt, rt.alloc(), OLD, 0);
+    assert!(rt; open_rows(rt.alloc(), &mut broken).is_err());
+}
+
+/// The rows that are new stand there, and were printed before; where a call fails what stood there stands.
+#[test]
+fn rows_are_filed(rt: HostRuntime) {
+    for (fails, count, is_put, is_well) in [
+        (usize::MAX, 2, true, true),
+        (0, 1, false, false),
+        (1, 2, true, false),
+    ] {
+        let mut readings = opened(&rt, rt.alloc());
+        let mut shelf = Shelf::new(&rt, rt.alloc(), OLD, fails);
+        let mut sheet = Sheet::new(&rt, rt.alloc(), true);
+        let filed = file_rows(&mut shelf, &mut readings, &ROWS, &mut sheet);
+        assert_eq!(rt; filed.is_ok(), is_well);
+        assert!(rt; shelf.has(count, BOTH, is_put, is_well));
+        assert_eq!(rt; sheet.has(b"1800,43,0,7\n"), is_put);
+        assert_eq!(rt; shelf.standing.as_str(), if is_well { BOTH } else { OLD });
+    }
+}
+
+/// Where the output fails, the text that was laid is taken away again, and the old one stands.
+#[test]
+fn an_output_fails(rt: HostRuntime) {
+    let mut readings = opened(&rt, rt.alloc());
+    let mut shelf = Shelf::new(&rt, rt.alloc(), OLD, usize::MAX);
+    let mut sheet = Sheet::new(&rt, rt.alloc(), false);
+    let filed = file_rows(&mut shelf, &mut readings, &ROWS, &mut sheet);
+    assert!(rt; matches!(filed, Err(FilingFault::Output)));
+    assert!(rt; shelf.has(2, BOTH, false, true));
+    assert_eq!(rt; shelf.standing.as_str(), OLD);
+}
+
+/// Rows that are kept alone stand there too.
+#[test]
+fn rows_are_kept(rt: HostRuntime) {
+    let mut readings = opened(&rt, rt.alloc());
+    let mut shelf = Shelf::new(&rt, rt.alloc(), OLD, usize::MAX);
+    assert!(rt; keep_rows(&mut shelf, &mut readings, &ROWS).is_ok());
+    assert!(rt; shelf.has(2, BOTH, true, true));
+    assert_eq!(rt; shelf.standing.as_str(), BOTH);
+}
