@@ -3,7 +3,8 @@
 
 ghost use Rattle.std.specs.Prelude.{◌≡◌, ◌≢◌, ◌⊎◌, [], map, IfOk, MatchResult};
 ghost use Rattle.clap.specs.Words.{fault_of, subcommand_of};
-ghost use Rattle.dlms_program.specs.Words.{dlms, AsksBoth, IsClear, NamesNoAddress};
+ghost use Rattle.dlms_program.specs.Grammar.{dlms};
+ghost use Rattle.dlms_program.specs.Words.{AsksBoth, IsClear, NamesNoAddress};
 
 use clap::error::ErrorKind;
 use dlms_explain::{ExplainFault, explain};

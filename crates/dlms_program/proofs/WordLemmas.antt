@@ -10,7 +10,7 @@ use Rattle.clap.specs.Faults.{check_fault, defaults_fault, entered_fault, level_
 use Rattle.clap.specs.Takes.{is_given}
 use Rattle.clap.specs.Walk.{Held, Names, answers_to, finished, nothing_held, settled, walk, walk_from}
 use Rattle.clap.specs.Kinds.{Kinds, check_kinds, or_else}
-use Rattle.dlms_program.specs.Words.{dlms}
+use Rattle.dlms_program.specs.Grammar.{dlms}
 
 -- ---- where no fault is met, a command is
 
@@ -122,7 +122,3 @@ pub matched : (a : App) (words : List Text) (m : ArgMatches) → a ≡ dlms → 
 matched a words m is has =
     let found : HasMatchesOf dlms words m = subst (λ (b : App). HasMatchesOf b words m) is has in
     (found refl).1
-
--- neither of two is global
-pub no_global : (a b : Bool) → a ≡ false → b ≡ false → (a || b) ≡ false
-no_global a b first second = rw (first, second) refl

@@ -8,5 +8,6 @@ pub mod Orders
 pub mod Pairs
 pub mod Printed
 pub mod Replay
+pub mod Grammar
 pub mod Words
 pub mod Written

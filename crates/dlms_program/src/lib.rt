@@ -2,8 +2,10 @@
 #![tactic(auto)]
 
 mod addresses;
+mod arguments;
 mod commands;
 mod fault;
+mod grammar;
 mod help;
 pub mod laws;
 mod lines;

@@ -1,7 +1,7 @@
 use Rattle.std.proofs.Common.{◌≡◌, List, ap, map, subst, true}
 use Rattle.std.proofs.lemmas.Result.{IfOk-weaker}
 use Rattle.clap.specs.Words.{App, FailsBy, HasMatchesOf, Text, app_of, fault_of, is_simple_and_free, subcommand_of, subcommand_rows_of}
-use Rattle.dlms_program.specs.Words.{dlms}
+use Rattle.dlms_program.specs.Grammar.{dlms}
 use Rattle.dlms_program.proofs.WordLemmas.{matched}
 use Rattle.dlms_program.proofs.words.parsed.Goals as goal
 
