@@ -3,9 +3,9 @@
 use crate::date_text::{write_date, write_date_time, write_time};
 use crate::names_text::write_code;
 use crate::words::{begin, end, number, octets, signed};
-use dlms_data::{Bits, Data, secs};
+use dlms_data::{Bits, Data};
 use dlms_names::code_name;
-use dlms_talks::{Part, Veiled};
+use dlms_talks::{Part, Veiled, is_date_time};
 use std::alloc::{AllocError, Allocator};
 
 /// How many levels of arrays and structures a value has at most.
@@ -33,11 +33,10 @@ fn write_string<A: Allocator>(text: &mut String<A>, bytes: &[u8]) -> Result<(), 
     text.push_str("\"")
 }
 
-/// The twelve octets of a second of the clock.
+/// The twelve octets of a date-time.
 fn date_time_in(bytes: &[u8]) -> Option<[u8; 12]> {
-    secs(bytes)?;
     let mut octets = [0; 12];
-    if bytes.len() != 12 {
+    if bytes.len() != 12 || !is_date_time(bytes) {
         return None;
     }
     octets.copy_from_slice(bytes);

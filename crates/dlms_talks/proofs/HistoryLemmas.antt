@@ -13,7 +13,7 @@ use Rattle.dlms_talks.specs.declared.talks.Numbers.{Numbers}
 use Rattle.dlms_talks.specs.declared.talks.Talk.{Talk}
 use Rattle.dlms_talks.specs.Asked.{of_invoke, of_kind, of_service}
 use Rattle.dlms_talks.specs.Segments.{begun, is_known, is_next, opened, without_rest}
-use Rattle.dlms_talks.specs.Talks.{asked_anew, awaited, is_certain, taken_next, taken_of, uncertain}
+use Rattle.dlms_talks.specs.Talks.{asked_anew, asks_anew, awaited, is_certain, taken_next, taken_of, taken_of_client, uncertain, without_answer}
 use Rattle.dlms_talks.specs.History.{Step, frame, asks, answers, says, awaits, goes_down, comes_up, talk_after, talk_after_all, IsUnbroken, AreUnbroken, Names, WasAsked, IsKept}
 
 -- ---- what goes on is of what was begun
@@ -67,10 +67,17 @@ lost-kept {A} t number a k =
     let met : Talk A = record t { client = begun (Some number); meter = without_rest t.meter } in
     kept-awaited t (is_known t.client.next number) (uncertain met) a (none-kept met a) k
 
+kept-anew : {A : Type 0} (t : Talk A) (anew : Bool) (a : Asked) → IsKept (if anew then without_answer t else t) a → IsKept t a
+kept-anew t true a k = k
+kept-anew t false a k = k
+
+kept-client : {A : Type 0} (t : Talk A) (n : Numbers) (follows : Bool) (info : List ℕ) (a : Asked) → IsKept (taken_of_client t n follows info).1 a → IsKept t a
+kept-client t n follows info a k =
+    kept-if t (not n.poll) (is_next t.client.next n.send && is_next t.meter.next n.receive) came.NoPoll _ (taken_next t n follows info) a (kept-asked_anew _ follows a) k
+
 kept-taken : {A : Type 0} (t : Talk A) (side : Option Side) (n : Numbers) (follows : Bool) (info : List ℕ) (a : Asked)
     → IsKept (taken_of t side n follows info).1 a → IsKept t a
-kept-taken t (Some Client) n follows info a k =
-    kept-if t (not n.poll) (is_next t.client.next n.send && is_next t.meter.next n.receive) came.NoPoll _ (taken_next t n follows info) a (kept-asked_anew _ follows a) k
+kept-taken t (Some Client) n follows info a k = kept-anew t (asks_anew t.client n.send info) a (kept-client _ n follows info a k)
 kept-taken t (Some Meter) n follows info a k = (lost-kept t n.receive a k).0
 kept-taken t None n follows info a k = k
 

@@ -2,6 +2,7 @@ pub mod Apdus
 pub mod Asked
 pub mod Association
 pub mod Control
+pub mod Dates
 pub mod Following
 pub mod Heading
 pub mod History

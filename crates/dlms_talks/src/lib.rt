@@ -5,6 +5,7 @@
 mod apdus;
 mod association;
 mod control;
+mod dates;
 mod heading;
 mod joining;
 pub mod laws;
@@ -26,6 +27,7 @@ mod whole;
 pub use apdus::{Apdu, read_apdu};
 pub use association::{Association, without_secret};
 pub use control::{Control, has_poll, name_of, read};
+pub use dates::is_date_time;
 pub use heading::{Heading, heading_of};
 pub use joining::Joined;
 pub use lines::{Line, first_pair, line_of};
