@@ -3,12 +3,17 @@ pub mod Asked
 pub mod Association
 pub mod Control
 pub mod Dates
+pub mod Fields
 pub mod Following
+pub mod Foreign
+pub mod Forms
 pub mod Heading
 pub mod History
+pub mod Items
 pub mod Joining
 pub mod Lines
 pub mod Names
+pub mod Nodes
 pub mod Parameters
 pub mod Parties
 pub mod Places
@@ -17,7 +22,9 @@ pub mod Secrets
 pub mod Segments
 pub mod Services
 pub mod Stretch
+pub mod Survey
 pub mod Talks
 pub mod Transfers
 pub mod Veiled
+pub mod Walk
 pub mod Whole
