@@ -1,11 +1,11 @@
 //! Values as an indented tree.
 
 use crate::date_text::{write_date, write_date_time, write_time};
-use crate::names_text::write_code;
+use crate::names_text::{is_quantity, write_code};
 use crate::words::{begin, end, number, octets, signed};
-use dlms_data::{Bits, Data, secs};
+use dlms_data::{Bits, Data};
 use dlms_names::code_name;
-use dlms_talks::{Part, Veiled};
+use dlms_talks::{Part, Veiled, is_date_time};
 use std::alloc::{AllocError, Allocator};
 
 /// How many levels of arrays and structures a value has at most.
@@ -33,11 +33,10 @@ fn write_string<A: Allocator>(text: &mut String<A>, bytes: &[u8]) -> Result<(), 
     text.push_str("\"")
 }
 
-/// The twelve octets of a second of the clock.
+/// The twelve octets of a date-time.
 fn date_time_in(bytes: &[u8]) -> Option<[u8; 12]> {
-    secs(bytes)?;
     let mut octets = [0; 12];
-    if bytes.len() != 12 {
+    if bytes.len() != 12 || !is_date_time(bytes) {
         return None;
     }
     octets.copy_from_slice(bytes);
@@ -51,8 +50,11 @@ fn code_in(bytes: &[u8]) -> Option<[u8; 6]> {
     }
     let mut code = [0; 6];
     code.copy_from_slice(bytes);
-    code_name(code)?;
-    Some(code)
+    if code_name(code).is_some() || is_quantity(code) {
+        Some(code)
+    } else {
+        None
+    }
 }
 
 /// The octets, and behind them the date-time, the OBIS code or the text that they are.
@@ -71,6 +73,17 @@ fn write_octets<A: Allocator>(text: &mut String<A>, bytes: &[u8]) -> Result<(), 
         write_string(text, bytes)?;
     }
     Ok(())
+}
+
+/// The date-time of an octet-string, or its octets where it is none.
+pub fn write_string_time<A: Allocator>(
+    text: &mut String<A>,
+    bytes: &[u8],
+) -> Result<(), AllocError> {
+    match date_time_in(bytes) {
+        Some(octets) => write_date_time(text, octets),
+        None => octets(text, bytes),
+    }
 }
 
 /// Bits, the first one first.
@@ -136,7 +149,7 @@ fn write_number<A: Allocator>(text: &mut String<A>, value: &Data<A>) -> Result<(
 }
 
 /// The line of a value that holds no other values.
-fn write_plain<A: Allocator>(text: &mut String<A>, value: &Data<A>) -> Result<(), AllocError> {
+pub fn write_plain<A: Allocator>(text: &mut String<A>, value: &Data<A>) -> Result<(), AllocError> {
     match value {
         Data::BitString(bits) => {
             text.push_str("bit-string ")?;
@@ -171,7 +184,7 @@ fn write_plain<A: Allocator>(text: &mut String<A>, value: &Data<A>) -> Result<()
 }
 
 /// The line of what has so many parts.
-fn write_count<A: Allocator>(
+pub fn write_count<A: Allocator>(
     text: &mut String<A>,
     depth: u8,
     kind: &str,

@@ -2,6 +2,7 @@
 //! which see no octet.
 
 use crate::association_text;
+use crate::foreign_text::write_foreign;
 use crate::frame_text::{write_came, write_frame, write_information, write_no_llc, write_stray};
 use crate::service_text::{write_fault, write_joined, write_said, write_whole};
 use crate::words::line;
@@ -10,9 +11,9 @@ use dlms_apdu::{Request, Response};
 use dlms_frame::Frame;
 use dlms_names::apdu_name;
 use dlms_talks::{
-    Apdu, Came, Control, Found, Joined, Line, Numbers, Services, Side, Stretch, Talk, Talks,
-    behind_llc, first_pair, first_piece, has_poll, heading_of, line_of, parameters_of, parties_of,
-    read, read_apdu, side_of, without_secret,
+    Apdu, Came, Control, Fault, Found, Joined, Line, Numbers, Services, Side, Stretch, Talk, Talks,
+    behind_llc, first_pair, first_piece, has_poll, heading_of, line_of, misfit, parameters_of,
+    parties_of, read, read_apdu, side_of, without_secret,
 };
 use std::alloc::{AllocError, Allocator, Global};
 use std::str;
@@ -68,6 +69,23 @@ fn explain_response<A: Allocator + Copy>(
     }
 }
 
+/// The line of an APDU that is not readable. What the meter's readers refuse at its first two octets may be of a form of the
+/// standard, and does not fit that.
+fn write_unreadable<A: Allocator>(
+    text: &mut String<A>,
+    bytes: &[u8],
+    fault: Fault,
+) -> Result<(), AllocError> {
+    if fault.octet <= 2
+        && let Some((form, octet)) = misfit(bytes)
+    {
+        let words = "not of this form";
+        return write_fault(text, Some(form.name), Fault { words, octet });
+    }
+    let name = bytes.first().and_then(|octet| apdu_name(*octet));
+    write_fault(text, name, fault)
+}
+
 /// The lines of an APDU.
 fn explain_apdu<A: Allocator + Copy>(
     text: &mut String<A>,
@@ -85,9 +103,16 @@ fn explain_apdu<A: Allocator + Copy>(
         Apdu::ReleaseResponse(reason) => association_text::write_release_response(text, reason),
         Apdu::Request(request) => explain_request(text, alloc, services, &request),
         Apdu::Response(response) => explain_response(text, alloc, services, &response),
+        Apdu::Foreign(foreign) => {
+            let of = services.answered_with(foreign);
+            let secrecy = services.hear(alloc, foreign);
+            write_foreign(text, alloc, foreign, of, secrecy)
+        }
         Apdu::Unreadable(fault) => {
-            let name = bytes.first().and_then(|octet| apdu_name(*octet));
-            write_fault(text, name, fault)
+            if side != Some(Side::Meter) {
+                services.forget(alloc);
+            }
+            write_unreadable(text, bytes, fault)
         }
     }
 }

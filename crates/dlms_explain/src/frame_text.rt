@@ -136,6 +136,18 @@ fn write_parameter<A: Allocator>(
     }
 }
 
+/// The line of octets behind the parameters, where there are some.
+fn write_behind<A: Allocator>(text: &mut String<A>, count: usize) -> Result<(), AllocError> {
+    if count == 0 {
+        return Ok(());
+    }
+    begin(text, 2)?;
+    text.push_str("behind the parameters: ")?;
+    number(text, count as u64)?;
+    text.push_str(" octets")?;
+    end(text)
+}
+
 /// The lines of a link's parameters.
 fn write_parameters<A: Allocator>(
     text: &mut String<A>,
@@ -153,7 +165,13 @@ fn write_parameters<A: Allocator>(
         parameters.received,
     )?;
     write_parameter(text, "window size, transmit: ", parameters.window_sent)?;
-    write_parameter(text, "window size, receive: ", parameters.window_received)
+    write_parameter(text, "window size, receive: ", parameters.window_received)?;
+    write_parameter(
+        text,
+        "not readable: parameter ",
+        parameters.wrong.map(|id| u32::from(id)),
+    )?;
+    write_behind(text, parameters.behind)
 }
 
 /// The lines of the information of an SNRM or a UA; none is what is not readable.

@@ -2,10 +2,77 @@
 
 use crate::words::{begin, end, number};
 use dlms_acse::Conformance;
-use dlms_names::{code_name, service_name};
+use dlms_names::{
+    code_name, medium_name, phase_name, processing_name, quantity_name, service_name,
+};
 use std::alloc::{AllocError, Allocator};
 
-/// A code as `1.0.1.8.0.255`, and behind it what it names, where that is known.
+/// A number behind a label, where it is another one than this.
+fn write_unless<A: Allocator>(
+    text: &mut String<A>,
+    label: &str,
+    value: u8,
+    usual: u8,
+) -> Result<(), AllocError> {
+    if value == usual {
+        return Ok(());
+    }
+    text.push_str(label)?;
+    number(text, u64::from(value))
+}
+
+/// The value group D of what is measured now, of which value group E names no rate.
+const NOW: u8 = 7;
+
+/// What the value groups C, D and E of a code of electricity name.
+fn write_quantity<A: Allocator>(
+    text: &mut String<A>,
+    quantity: &str,
+    group_c: u8,
+    group_d: u8,
+    group_e: u8,
+) -> Result<(), AllocError> {
+    text.push_str(": ")?;
+    text.push_str(quantity)?;
+    if let Some(phase) = phase_name(group_c) {
+        text.push_str(" ")?;
+        text.push_str(phase)?;
+    }
+    if let Some(processing) = processing_name(group_d) {
+        text.push_str(", ")?;
+        text.push_str(processing)?;
+    }
+    if group_d == NOW {
+        return Ok(());
+    }
+    write_unless(text, ", rate ", group_e, 0)
+}
+
+/// What the value groups of a code name: the medium, the quantity with its phase, its processing and its rate, the billing period
+/// and the channel.
+fn write_groups<A: Allocator>(text: &mut String<A>, code: [u8; 6]) -> Result<(), AllocError> {
+    let [a, b, c, d, e, f] = code;
+    let Some(medium) = medium_name(a) else {
+        return Ok(());
+    };
+    text.push_str(" ")?;
+    text.push_str(medium)?;
+    if a == 1
+        && let Some(quantity) = quantity_name(c)
+    {
+        write_quantity(text, quantity, c, d, e)?;
+    }
+    write_unless(text, ", billing period ", f, 0xff)?;
+    write_unless(text, ", channel ", b, 0)
+}
+
+/// Whether the value groups of a code name a quantity of electricity, and how it is processed.
+pub fn is_quantity(code: [u8; 6]) -> bool {
+    let [a, _, c, d, _, f] = code;
+    a == 1 && quantity_name(c).is_some() && processing_name(d).is_some() && f == 0xff
+}
+
+/// A code as `1.0.1.8.0.255`, and behind it what it names, or what its value groups do.
 pub fn write_code<A: Allocator>(text: &mut String<A>, code: [u8; 6]) -> Result<(), AllocError> {
     for (at, group) in code.iter().enumerate() {
         if at > 0 {
@@ -13,11 +80,13 @@ pub fn write_code<A: Allocator>(text: &mut String<A>, code: [u8; 6]) -> Result<(
         }
         number(text, u64::from(*group))?;
     }
-    if let Some(name) = code_name(code) {
-        text.push_str(" ")?;
-        text.push_str(name)?;
+    match code_name(code) {
+        Some(name) => {
+            text.push_str(" ")?;
+            text.push_str(name)
+        }
+        None => write_groups(text, code),
     }
-    Ok(())
 }
 
 /// The value of the first of the 24 bits of a conformance block.

@@ -2,14 +2,14 @@
 
 use crate::data_text::{write_inline, write_value, write_veiled};
 use crate::names_text::write_code;
-use crate::words::{begin, end, line, named, number};
+use crate::words::{begin, end, line, named, number, signed};
 use dlms_data::{Data, Selector};
-use dlms_names::{access_result, action_result, class_of, service_error, state_error};
+use dlms_names::{access_result, action_result, class_of, service_error, state_error, unit_name};
 use dlms_talks::{Content, Fault, Joined, Named, Said, Whole};
 use std::alloc::{AllocError, Allocator};
 
 /// The line of a form with its invoke-id-and-priority.
-fn write_form<A: Allocator>(
+pub fn write_form<A: Allocator>(
     text: &mut String<A>,
     form: &str,
     invoke: Option<u8>,
@@ -56,7 +56,7 @@ fn write_member<A: Allocator>(text: &mut String<A>, named_one: Named) -> Result<
 }
 
 /// The line of what a service names, as `1.0.1.8.0.255 active energy import, value`, with its numbers.
-fn write_named<A: Allocator>(
+pub fn write_named<A: Allocator>(
     text: &mut String<A>,
     label: &str,
     named_one: Option<Named>,
@@ -135,7 +135,7 @@ fn write_selector<A: Allocator>(
 }
 
 /// The line of a block: its number, whether it is the last one, how many octets it has.
-fn write_block<A: Allocator>(
+pub fn write_block<A: Allocator>(
     text: &mut String<A>,
     last: bool,
     block: u32,
@@ -154,7 +154,7 @@ fn write_block<A: Allocator>(
 }
 
 /// A line of a number's name.
-fn write_result<A: Allocator>(
+pub fn write_result<A: Allocator>(
     text: &mut String<A>,
     label: &str,
     name: Option<&str>,
@@ -167,7 +167,7 @@ fn write_result<A: Allocator>(
 }
 
 /// The line of the number of a block that was taken, or is asked for.
-fn write_number<A: Allocator>(
+pub fn write_number<A: Allocator>(
     text: &mut String<A>,
     label: &str,
     block: u32,
@@ -179,7 +179,7 @@ fn write_number<A: Allocator>(
 }
 
 /// The line of a Data-Access-Result.
-fn write_access<A: Allocator>(text: &mut String<A>, code: u8) -> Result<(), AllocError> {
+pub fn write_access<A: Allocator>(text: &mut String<A>, code: u8) -> Result<(), AllocError> {
     write_result(text, "data-access-result ", access_result(code), code)
 }
 
@@ -195,7 +195,7 @@ fn write_end<A: Allocator>(
 }
 
 /// The lines of an exception.
-fn write_exception<A: Allocator>(
+pub fn write_exception<A: Allocator>(
     text: &mut String<A>,
     state: u8,
     service: u8,
@@ -233,6 +233,42 @@ fn write_content<A: Allocator>(
     }
 }
 
+/// Whether this attribute is a scaler and a unit.
+fn is_scaler_unit(named_one: Option<Named>) -> bool {
+    match named_one {
+        Some(
+            Named {
+                descriptor,
+                method: false,
+            },
+        ) => {
+            class_of(descriptor.class).and_then(|class| class.attribute(descriptor.id))
+                == Some("scaler_unit")
+        }
+        _ => false,
+    }
+}
+
+/// The line of what a scaler and a unit say, where the value is one.
+fn write_scaler_unit<A: Allocator>(
+    text: &mut String<A>,
+    named_one: Option<Named>,
+    value: &Data<A>,
+) -> Result<(), AllocError> {
+    if let Data::Structure(items) = value
+        && let [Data::Integer(scaler), Data::Enum(unit)] = items.as_slice()
+        && is_scaler_unit(named_one)
+    {
+        begin(text, 3)?;
+        text.push_str("times 10^")?;
+        signed(text, i64::from(*scaler))?;
+        text.push_str(", unit ")?;
+        named(text, unit_name(*unit), "number", u64::from(*unit))?;
+        return end(text);
+    }
+    Ok(())
+}
+
 /// The lines of a request or a response, but for what its blocks join to; `label` stands before what it names.
 pub fn write_said<A: Allocator>(
     text: &mut String<A>,
@@ -242,7 +278,11 @@ pub fn write_said<A: Allocator>(
     write_form(text, said.form, said.invoke)?;
     write_named(text, label, said.named)?;
     write_selector(text, said.selector)?;
-    write_content(text, &said.content)
+    write_content(text, &said.content)?;
+    match &said.content {
+        Content::Value(value) => write_scaler_unit(text, said.named, value),
+        _ => Ok(()),
+    }
 }
 
 /// Why something is not read, and at which octet that stands.

@@ -220,5 +220,149 @@ exchange_classes = (
     )
     ∷ []
 
+-- classes for local ports, modems and networks, and others
+abbrev pub communication_classes : List (ℕ × Names)
+communication_classes = (
+  19,
+  record {
+    class = codes "IEC local port setup";
+    attributes = codes "logical_name" ∷ codes "default_mode" ∷ codes "default_baud" ∷ codes "prop_baud" ∷ codes "response_time" ∷ codes "device_addr" ∷ codes "pass_p1" ∷ codes "pass_p2" ∷ codes "pass_w5" ∷ [];
+    methods = [];
+  },
+)
+    ∷ (
+      25,
+      record {
+        class = codes "M-Bus slave port setup";
+        attributes = codes "logical_name" ∷ codes "default_baud" ∷ codes "avail_baud" ∷ codes "addr_state" ∷ codes "bus_address" ∷ [];
+        methods = [];
+      },
+    )
+    ∷ (
+      26,
+      record {
+        class = codes "Utility tables";
+        attributes = codes "logical_name" ∷ codes "table_ID" ∷ codes "length" ∷ codes "buffer" ∷ [];
+        methods = [];
+      },
+    )
+    ∷ (
+      27,
+      record {
+        class = codes "Modem configuration";
+        attributes = codes "logical_name" ∷ codes "comm_speed" ∷ codes "initialization_string" ∷ codes "modem_profile" ∷ [];
+        methods = [];
+      },
+    )
+    ∷ (
+      28,
+      record {
+        class = codes "Auto answer";
+        attributes = codes "logical_name" ∷ codes "mode" ∷ codes "listening_window" ∷ codes "status" ∷ codes "number_of_calls" ∷ codes "number_of_rings" ∷ codes "list_of_allowed_callers" ∷ [];
+        methods = [];
+      },
+    )
+    ∷ (
+      29,
+      record {
+        class = codes "Auto connect";
+        attributes = codes "logical_name" ∷ codes "mode" ∷ codes "repetitions" ∷ codes "repetition_delay" ∷ codes "calling_window" ∷ codes "destination_list" ∷ [];
+        methods = codes "connect" ∷ [];
+      },
+    )
+    ∷ (
+      42,
+      record {
+        class = codes "IPv4 setup";
+        attributes = codes "logical_name" ∷ codes "DL_reference" ∷ codes "IP_address" ∷ codes "multicast_IP_address" ∷ codes "IP_options" ∷ codes "subnet_mask" ∷ codes "gateway_IP_address" ∷ codes "use_DHCP_flag" ∷ codes "primary_DNS_address" ∷ codes "secondary_DNS_address" ∷ [];
+        methods = codes "add_mc_IP_address" ∷ codes "delete_mc_IP_address" ∷ codes "get_nbof_mc_IP_addresses" ∷ [];
+      },
+    )
+    ∷ (
+      43,
+      record {
+        class = codes "MAC address setup";
+        attributes = codes "logical_name" ∷ codes "MAC_address" ∷ [];
+        methods = [];
+      },
+    )
+    ∷ (
+      44,
+      record {
+        class = codes "PPP setup";
+        attributes = codes "logical_name" ∷ codes "PHY_reference" ∷ codes "LCP_options" ∷ codes "IPCP_options" ∷ codes "PPP_authentication" ∷ [];
+        methods = [];
+      },
+    )
+    ∷ (
+      45,
+      record {
+        class = codes "GPRS modem setup";
+        attributes = codes "logical_name" ∷ codes "APN" ∷ codes "PIN_code" ∷ codes "quality_of_service" ∷ [];
+        methods = [];
+      },
+    )
+    ∷ (
+      47,
+      record {
+        class = codes "GSM diagnostic";
+        attributes = codes "logical_name" ∷ codes "operator" ∷ codes "status" ∷ codes "cs_attachment" ∷ codes "ps_status" ∷ codes "cell_info" ∷ codes "adjacent_cells" ∷ codes "capture_time" ∷ [];
+        methods = [];
+      },
+    )
+    ∷ (
+      48,
+      record {
+        class = codes "IPv6 setup";
+        attributes = codes "logical_name" ∷ codes "DL_reference" ∷ codes "address_config_mode" ∷ codes "unicast_IPv6_addresses" ∷ codes "multicast_IPv6_addresses" ∷ codes "gateway_IPv6_addresses" ∷ codes "primary_DNS_address" ∷ codes "secondary_DNS_address" ∷ codes "traffic_class" ∷ codes "neighbor_discovery_setup" ∷ [];
+        methods = codes "add_IPv6_address" ∷ codes "remove_IPv6_address" ∷ [];
+      },
+    )
+    ∷ (
+      62,
+      record {
+        class = codes "Compact data";
+        attributes = codes "logical_name" ∷ codes "compact_buffer" ∷ codes "capture_objects" ∷ codes "template_id" ∷ codes "template_description" ∷ codes "capture_method" ∷ [];
+        methods = codes "reset" ∷ codes "capture" ∷ [];
+      },
+    )
+    ∷ (
+      63,
+      record {
+        class = codes "Status mapping";
+        attributes = codes "logical_name" ∷ codes "status_word" ∷ codes "mapping_table" ∷ [];
+        methods = [];
+      },
+    )
+    ∷ (
+      65,
+      record {
+        class = codes "Parameter monitor";
+        attributes = codes "logical_name" ∷ codes "changed_parameter" ∷ codes "capture_time" ∷ codes "parameters" ∷ [];
+        methods = codes "add_parameter" ∷ codes "delete_parameter" ∷ [];
+      },
+    )
+    ∷ (
+      68,
+      record {
+        class = codes "Arbitrator";
+        attributes = codes "logical_name" ∷ codes "actions" ∷ codes "permissions_table" ∷ codes "weightings_table" ∷ codes "most_recent_requests_table" ∷ codes "last_outcome" ∷ [];
+        methods = codes "request_action" ∷ codes "reset" ∷ [];
+      },
+    )
+    ∷ (
+      72,
+      record {
+        class = codes "M-Bus client";
+        attributes = codes "logical_name" ∷ codes "mbus_port_reference" ∷ codes "capture_definition" ∷ codes "capture_period" ∷ codes "primary_address" ∷ codes "identification_number" ∷ codes "manufacturer_id" ∷ codes "version" ∷ codes "device_type" ∷ codes "access_number" ∷ codes "status" ∷ codes "alarm" ∷ codes "configuration" ∷ codes "encryption_key_status" ∷ [];
+        methods = codes "slave_install" ∷ codes "slave_deinstall" ∷ codes "capture" ∷ codes "reset_alarm" ∷ codes "synchronize_clock" ∷ codes "data_send" ∷ codes "set_encryption_key" ∷ codes "transfer_key" ∷ [];
+      },
+    )
+    ∷ []
+
+-- classes for an exchange of data
+abbrev pub setup_classes : List (ℕ × Names)
+setup_classes = exchange_classes ++ communication_classes
+
 abbrev pub classes : List (ℕ × Names)
-classes = measurement_classes ++ (management_classes ++ (control_classes ++ exchange_classes))
+classes = measurement_classes ++ (management_classes ++ (control_classes ++ setup_classes))

@@ -12,9 +12,14 @@ use Rattle.dlms_talks.specs.declared.segments.Came.TheVariants as came
 use Rattle.dlms_talks.specs.declared.talks.Numbers.{Numbers}
 use Rattle.dlms_talks.specs.declared.talks.Talk.{Talk}
 use Rattle.dlms_talks.specs.Asked.{of_invoke, of_kind, of_service}
+use Rattle.dlms_talks.specs.Foreign.{asked_by, role_of}
+use Rattle.dlms_talks.specs.Services.{heard_as}
+use Rattle.dlms_talks.specs.declared.foreign.Foreign.{Foreign}
+use Rattle.dlms_talks.specs.declared.foreign.Role.{Role}
+use Rattle.dlms_talks.specs.declared.foreign.Role.TheVariants.{Asks, Answers, AnswersUnfollowed, Says}
 use Rattle.dlms_talks.specs.Segments.{begun, is_known, is_next, opened, without_rest}
-use Rattle.dlms_talks.specs.Talks.{asked_anew, awaited, is_certain, taken_next, taken_of, uncertain}
-use Rattle.dlms_talks.specs.History.{Step, frame, asks, answers, says, awaits, goes_down, comes_up, talk_after, talk_after_all, IsUnbroken, AreUnbroken, Names, WasAsked, IsKept}
+use Rattle.dlms_talks.specs.Talks.{asked_anew, asks_anew, awaited, is_certain, taken_next, taken_of, taken_of_client, uncertain, without_answer}
+use Rattle.dlms_talks.specs.History.{Step, frame, asks, answers, hears, unread, says, awaits, goes_down, comes_up, talk_after, talk_after_all, IsUnbroken, AreUnbroken, Names, WasAsked, IsKept}
 
 -- ---- what goes on is of what was begun
 
@@ -67,10 +72,17 @@ lost-kept {A} t number a k =
     let met : Talk A = record t { client = begun (Some number); meter = without_rest t.meter } in
     kept-awaited t (is_known t.client.next number) (uncertain met) a (none-kept met a) k
 
+kept-anew : {A : Type 0} (t : Talk A) (anew : Bool) (a : Asked) → IsKept (if anew then without_answer t else t) a → IsKept t a
+kept-anew t true a k = k
+kept-anew t false a k = k
+
+kept-client : {A : Type 0} (t : Talk A) (n : Numbers) (follows : Bool) (info : List ℕ) (a : Asked) → IsKept (taken_of_client t n follows info).1 a → IsKept t a
+kept-client t n follows info a k =
+    kept-if t (not n.poll) (is_next t.client.next n.send && is_next t.meter.next n.receive) came.NoPoll _ (taken_next t n follows info) a (kept-asked_anew _ follows a) k
+
 kept-taken : {A : Type 0} (t : Talk A) (side : Option Side) (n : Numbers) (follows : Bool) (info : List ℕ) (a : Asked)
     → IsKept (taken_of t side n follows info).1 a → IsKept t a
-kept-taken t (Some Client) n follows info a k =
-    kept-if t (not n.poll) (is_next t.client.next n.send && is_next t.meter.next n.receive) came.NoPoll _ (taken_next t n follows info) a (kept-asked_anew _ follows a) k
+kept-taken t (Some Client) n follows info a k = kept-anew t (asks_anew t.client n.send info) a (kept-client _ n follows info a k)
 kept-taken t (Some Meter) n follows info a k = (lost-kept t n.receive a k).0
 kept-taken t None n follows info a k = k
 
@@ -104,6 +116,17 @@ kept-asks t (ActionBlock i last n raw) a (inl h) = inl (inr (inr (of_service-som
 kept-asks t (ActionBlock i last n raw) a (inr (inl h)) = inl (inr (inl h))
 kept-asks t (ActionBlock i last n raw) a (inr (inr h)) = inl (inr (inr (of_service-some t.services.transfers.put_of i true a h)))
 
+-- an APDU of another form
+kept-heard : {A : Type 0} (t : Talk A) (role : Role) (f : Foreign) (a : Asked) → IsKept (record t { services = heard_as role t.services f.survey }) a → IsKept t a ⊎ (asked_by f.survey ≡ Some a)
+kept-heard t Asks f a (inl h) = inr h
+kept-heard t Asks f a (inr (inl h)) = cc
+kept-heard t Asks f a (inr (inr h)) = cc
+kept-heard t Answers f a (inl h) = cc
+kept-heard t Answers f a (inr k) = inl (inr k)
+kept-heard t AnswersUnfollowed f a (inl h) = cc
+kept-heard t AnswersUnfollowed f a (inr k) = inl (inr k)
+kept-heard t Says f a k = inl k
+
 -- a block that is read is of what was asked for, or of what its first one is
 kept-either : {A : Type 0} (t : Talk A) (first : Bool) (a : Asked) → (if first then t.services.asked else t.services.transfers.got_of) ≡ Some a → IsKept t a
 kept-either t true a h = inl h
@@ -122,6 +145,8 @@ kept-step : {A : Type 0} (t : Talk A) (s : Step A) (a : Asked) → IsKept (talk_
 kept-step t (frame side n follows info) a k = inl (kept-frame t (is_certain t side n info) side n follows info a k)
 kept-step t (asks request) a k = elim (kept-asks t request a k) [ inl h ↦ inl (h, tt) | inr h ↦ inr h ]
 kept-step t (answers response) a k = inl (kept-answers t response a k, tt)
+kept-step t (hears f) a k = elim (kept-heard t (role_of f.tag) f a k) [ inl h ↦ inl (h, tt) | inr h ↦ inr h ]
+kept-step t unread a k = absurd (none-kept t a k)
 kept-step t says a (inl h) = cc
 kept-step t says a (inr k) = inl (inr k, tt)
 kept-step t (awaits number) a k = inl (lost-kept t number a k)

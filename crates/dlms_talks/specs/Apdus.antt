@@ -14,6 +14,7 @@ use Rattle.dlms_talks.specs.declared.apdus.Kind.TheVariants as kind
 use Rattle.dlms_talks.specs.declared.parties.Side.{Side}
 use Rattle.dlms_talks.specs.declared.parties.Side.TheVariants.{Client, Meter}
 use Rattle.dlms_talks.specs.declared.apdus.Apdu.TheVariants as apdu
+use Rattle.dlms_talks.specs.Foreign.{IsForeign, IsNoForm}
 use Rattle.dlms_talks.specs.Places.{IsAcseFault, IsRefusal}
 
 -- the bytes are none of a kind
@@ -43,12 +44,14 @@ IsToldOfAare bytes _ = ⊥
 
 abbrev pub IsToldOfRequest : {A : Type 0} → List ℕ → Apdu A → Type 0
 IsToldOfRequest bytes (apdu.Request r) = SpellsRequest bytes (request_of r)
-IsToldOfRequest bytes (apdu.Unreadable f) = IsNoRequest bytes × IsRefusal Client bytes f
+IsToldOfRequest bytes (apdu.Foreign f) = IsNoRequest bytes × IsForeign bytes (Some f)
+IsToldOfRequest bytes (apdu.Unreadable f) = IsNoRequest bytes × IsNoForm bytes × IsRefusal Client bytes f
 IsToldOfRequest bytes _ = ⊥
 
 abbrev pub IsToldOfResponse : {A : Type 0} → List ℕ → Apdu A → Type 0
 IsToldOfResponse bytes (apdu.Response r) = SpellsResponse bytes (response_of r)
-IsToldOfResponse bytes (apdu.Unreadable f) = IsNoResponse bytes × IsRefusal Meter bytes f
+IsToldOfResponse bytes (apdu.Foreign f) = IsNoResponse bytes × IsForeign bytes (Some f)
+IsToldOfResponse bytes (apdu.Unreadable f) = IsNoResponse bytes × IsNoForm bytes × IsRefusal Meter bytes f
 IsToldOfResponse bytes _ = ⊥
 
 -- by whom it was sent

@@ -15,9 +15,9 @@ is_association _ = false
 abbrev pub is_of_association : Descriptor → Bool
 is_of_association d = (d.class == 15) || is_association d.name
 
--- attribute 7, or as a method method 2
+-- attribute 7, or as a method method 2, and method 1, whose parameter and answer are reckoned from it
 abbrev pub is_secret : Descriptor → Bool → Bool
-is_secret d method = is_of_association d && (d.id == (if method then 2 else 7))
+is_secret d method = is_of_association d && (if method then (d.id == 1) || (d.id == 2) else d.id == 7)
 
 -- attribute 0 stands for all attributes
 abbrev pub holds_secret : Descriptor → Bool → Bool

@@ -10,6 +10,11 @@ use Rattle.dlms_talks.specs.declared.joining.Joined.{Joined}
 use Rattle.dlms_talks.specs.declared.named.Asked.{Asked}
 use Rattle.dlms_talks.specs.declared.services.Services.{Services}
 use Rattle.dlms_talks.specs.Asked.{of_invoke, of_service}
+use Rattle.dlms_talks.specs.Foreign.{asked_by, role_of}
+use Rattle.dlms_talks.specs.declared.foreign.Foreign.{Foreign}
+use Rattle.dlms_talks.specs.declared.foreign.Role.{Role}
+use Rattle.dlms_talks.specs.declared.foreign.Role.TheVariants.{Asks, Answers, AnswersUnfollowed, Says}
+use Rattle.dlms_talks.specs.declared.survey.Survey.{Survey}
 use Rattle.dlms_talks.specs.Joining.{begun, dropped, got_after, got_answer, none, put_answer, read_of}
 use Rattle.dlms_talks.specs.Said.{asked_of, asks}
 use Rattle.dlms_talks.specs.Transfers.{TwoTransfers}
@@ -66,3 +71,13 @@ JoinsBlock t _ = ⊥
 abbrev pub got_joined : {A : Type 0} → TwoTransfers → Response A → Option Joined
 got_joined t (answer.GetBlock invoke last n raw) = Some (got_answer (begun t.got n) last n raw.now)
 got_joined t _ = None
+
+-- Behind a request of another form nothing goes on in blocks, and what it asks for is awaited; behind such a response nothing is.
+abbrev pub heard_as : {A : Type 0} → Role → Services A → Survey → Services A
+heard_as Asks s survey = record (idle s.raw) { asked = asked_by survey }
+heard_as Answers s survey = unasked s
+heard_as AnswersUnfollowed s survey = unasked s
+heard_as Says s survey = s
+
+abbrev pub heard : {A : Type 0} → Services A → Foreign → Services A
+heard s f = heard_as (role_of f.tag) s f.survey

@@ -1,6 +1,6 @@
 -- What is known of a talk, from one frame to the next (IEC 62056-46, 6.4.3: each end's information frames are numbered modulo
 -- 8, and each frame says which number its end awaits next).
-use Rattle.std.specs.Prelude.{◌≡◌, ℕ, ◌==◌, ◌&&◌, ◌||◌, not, if◌then◌else◌, Bool, true, false, List, Option, Some, None, nat_le, bytes_eq, [], ◌∷◌, ◌++◌, length, position, remove}
+use Rattle.std.specs.Prelude.{◌≡◌, ℕ, ◌==◌, ◌&&◌, ◌||◌, not, if◌then◌else◌, Bool, true, false, List, Option, Some, None, is_some, nat_le, bytes_eq, [], ◌∷◌, ◌++◌, length, position, remove}
 use Rattle.dlms_talks.specs.declared.parties.Parties.{Parties}
 use Rattle.dlms_talks.specs.declared.parties.Side.{Side}
 use Rattle.dlms_talks.specs.declared.parties.Side.TheVariants.{Client, Meter}
@@ -72,8 +72,16 @@ taken_of_meter t n follows info = let c = taken t.meter (Some Meter) n.send foll
 abbrev pub taken_of_either : {A : Type 0} → Talk A → Numbers → Bool → List ℕ → Came × Talk A
 taken_of_either t n follows info = let c = taken t.client None n.send follows info in (c.0, record t { client = c.1 })
 
+-- A frame of the client that begins an APDU and is not its last one again: whether or not it is taken, no segment of an older
+-- answer is awaited any more.
+abbrev pub asks_anew : Following → ℕ → List ℕ → Bool
+asks_anew f number info = is_some (behind_llc (Some Client) info) && not (is_repeated f number info)
+
+abbrev pub without_answer : {A : Type 0} → Talk A → Talk A
+without_answer t = record t { meter = without_rest t.meter }
+
 abbrev pub taken_of : {A : Type 0} → Talk A → Option Side → Numbers → Bool → List ℕ → Came × Talk A
-taken_of t (Some Client) n follows info = taken_of_client t n follows info
+taken_of t (Some Client) n follows info = taken_of_client (if asks_anew t.client n.send info then without_answer t else t) n follows info
 taken_of t (Some Meter) n follows info = taken_of_meter (awaited t n.receive) n follows info
 taken_of t None n follows info = taken_of_either t n follows info
 

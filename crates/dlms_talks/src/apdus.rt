@@ -3,6 +3,7 @@
 ghost use Rattle.std.specs.Prelude.{◌≡◌, ◌⊎◌, IfOk, IsErr, get_or};
 ghost use Rattle.dlms_talks.specs.Apdus.{kind_of, reason_of, IsToldAs, IsToldOfAarq, IsToldOfAare, IsToldOfRequest, IsToldOfResponse, RequestNeedsMemory, ResponseNeedsMemory};
 
+use crate::foreign::{Foreign, read_foreign};
 use crate::parties::Side;
 use crate::places::{Fault, acse_fault, apdu_fault};
 use dlms_acse::{Aarq, Verdict, read_aare, read_aarq};
@@ -19,7 +20,9 @@ pub enum Apdu<'a, A: Allocator> {
     ReleaseResponse(Option<u8>),
     Request(Request<'a, A>),
     Response(Response<'a, A>),
-    /// The reader of its kind refuses it.
+    /// The reader of its kind refuses it, and it has another form of the standard.
+    Foreign(Foreign<'a>),
+    /// It has none.
     Unreadable(Fault),
 }
 
@@ -92,7 +95,10 @@ fn request<A: Allocator + Copy>(alloc: A, bytes: &[u8]) -> Result<Apdu<'_, A>, A
         Ok(request) => Ok(Apdu::Request(request)),
         Err(fault) => match fault {
             ApduFault::Memory => Err(AllocError),
-            _ => Ok(Apdu::Unreadable(apdu_fault(alloc, Side::Client, fault, bytes))),
+            _ => Ok(match read_foreign(bytes) {
+                Some(foreign) => Apdu::Foreign(foreign),
+                None => Apdu::Unreadable(apdu_fault(alloc, Side::Client, fault, bytes)),
+            }),
         },
     }
 }
@@ -106,7 +112,10 @@ fn response<A: Allocator + Copy>(alloc: A, bytes: &[u8]) -> Result<Apdu<'_, A>, 
         Ok(response) => Ok(Apdu::Response(response)),
         Err(fault) => match fault {
             ApduFault::Memory => Err(AllocError),
-            _ => Ok(Apdu::Unreadable(apdu_fault(alloc, Side::Meter, fault, bytes))),
+            _ => Ok(match read_foreign(bytes) {
+                Some(foreign) => Apdu::Foreign(foreign),
+                None => Apdu::Unreadable(apdu_fault(alloc, Side::Meter, fault, bytes)),
+            }),
         },
     }
 }

@@ -8,6 +8,11 @@ ghost use Rattle.dlms_talks.specs.declared.segments.TheConstants.{MOST_APDU};
 ghost use Rattle.dlms_talks.specs.declared.talks.TheConstants.{MOST_TALKS};
 ghost use Rattle.dlms_talks.specs.Association.{told_of};
 ghost use Rattle.dlms_talks.specs.History.{AreUnbroken, IsKept, Step, WasAsked, talk_after_all};
+ghost use Rattle.dlms_talks.specs.Secrets.{secrecy_at};
+ghost use Rattle.dlms_talks.specs.Survey.{Names, noted_all, nothing, secrecy_of_named};
+ghost use Rattle.dlms_talks.specs.Walk.{Told};
+ghost use Rattle.dlms_talks.specs.declared.named.Named.{Named};
+ghost use Rattle.dlms_talks.specs.declared.secrecy.Secrecy.TheVariants.{Secret};
 
 use crate::talks::Talk;
 use std::alloc::Allocator;
@@ -22,6 +27,11 @@ pub fn secrets_are_told_alike()
 /// known before.
 pub fn only_what_was_asked<A: Allocator>(_talk: &Talk<A>)
     ensures { (steps : List (Step A)) (a : Asked) → IsKept (talk_after_all _talk.now steps) a → (IsKept _talk.now a × AreUnbroken _talk.now steps) ⊎ WasAsked _talk.now steps a }
+{}
+
+/// Where a field of an APDU names a secret, all its values are told as secrets, in whichever order it names others.
+pub fn one_secret_hides_all()
+    ensures { (ts : List Told) (n : Named) → Names ts n → secrecy_at n ≡ Secret → secrecy_of_named (noted_all nothing ts).chief ≡ Secret }
 {}
 
 /// The numbers of this crate.

@@ -27,6 +27,9 @@ const ASSOCIATION: u16 = 15;
 /// Its attribute that is a secret.
 const SECRET: u8 = 7;
 
+/// Its method that takes the client's answer of high-level security, and returns the meter's.
+const REPLY: u8 = 1;
+
 /// Its method that takes a new secret.
 const CHANGE_SECRET: u8 = 2;
 
@@ -55,12 +58,17 @@ impl Named {
         self.descriptor.class == ASSOCIATION || is_association(self.descriptor.name)
     }
 
-    /// Whether a secret stands there: the attribute or the method of an Association LN.
+    /// Whether a secret stands there: the attribute or the methods of an Association LN.
     pub fn is_secret(self) -> bool
         ensures { result ≡ is_secret self.descriptor self.method }
     {
-        let id = if self.method { CHANGE_SECRET } else { SECRET };
-        self.is_of_association() && self.descriptor.id == id
+        let id = self.descriptor.id;
+        let secret = if self.method {
+            id == REPLY || id == CHANGE_SECRET
+        } else {
+            id == SECRET
+        };
+        self.is_of_association() && secret
     }
 
     /// Whether a secret stands there among others: all attributes of an Association LN.

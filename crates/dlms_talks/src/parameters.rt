@@ -1,7 +1,7 @@
 //! The parameters of a link, which an SNRM proposes and a UA answers.
 
-ghost use Rattle.std.specs.Prelude.{◌≡◌, ℕ, ◌<◌, ◌∷◌, ◌++◌, length, option_map, List, true, IfSome, MatchOption};
-ghost use Rattle.dlms_talks.specs.Parameters.{AreParameters, IsInformation, Parameter, group_in, has_lawful_length, nothing, number_of, parameter_octets, told_of, with_number};
+ghost use Rattle.std.specs.Prelude.{◌≡◌, ℕ, ◌<◌, ◌+◌, ◌∷◌, ◌++◌, length, option_map, List, IfSome, MatchOption};
+ghost use Rattle.dlms_talks.specs.Parameters.{AreTold, BeginsNone, IsTold, Parameter, group_in, has_lawful_length, nothing, number_of, with_number};
 
 /// The format of the information in which a link's parameters stand.
 const FORMAT: u8 = 0x81;
@@ -20,6 +20,10 @@ pub struct Parameters {
     pub window_sent: Option<u32>,
     /// 08: how many it receives.
     pub window_received: Option<u32>,
+    /// The identifier of the last one of these whose value has another length than one, two or four octets.
+    pub wrong: Option<u8>,
+    /// How many octets stand behind the last parameter.
+    pub behind: usize,
 }
 
 impl Parameters {
@@ -32,28 +36,37 @@ impl Parameters {
             received: None,
             window_sent: None,
             window_received: None,
+            wrong: None,
+            behind: 0,
         }
     }
 
-    /// The same with one parameter more; others than the four are passed over.
-    fn with(self, id: u8, value: u32) -> Parameters
-        ensures { result ≡ with_number self id value }
+    /// The same with one parameter more; others than the four are passed over, and so is a value of a wrong length.
+    fn with(self, id: u8, value: &[u8]) -> Parameters
+        ensures { result ≡ with_number self id value.now }
     {
+        if !has_lawful_length(id, value.len()) {
+            return Parameters {
+                wrong: Some(id),
+                ..self
+            };
+        }
+        let number = number_of(value);
         match id {
             5 => Parameters {
-                sent: Some(value),
+                sent: Some(number),
                 ..self
             },
             6 => Parameters {
-                received: Some(value),
+                received: Some(number),
                 ..self
             },
             7 => Parameters {
-                window_sent: Some(value),
+                window_sent: Some(number),
                 ..self
             },
             8 => Parameters {
-                window_received: Some(value),
+                window_received: Some(number),
                 ..self
             },
             _ => self,
@@ -88,52 +101,55 @@ fn number_of(octets: &[u8]) -> u32
 
 /// The parameter at the front, as its identifier and its value, and the bytes behind it.
 fn first_parameter(bytes: &[u8]) -> Option<(u8, &[u8], &[u8])>
-    ensures found { MatchOption result ((p : Parameter) (rest : List ℕ) → has_lawful_length p.id (length p.value) ≡ true → bytes.now ≡ parameter_octets p ++ rest → ⊥) (λ r. (has_lawful_length r.0 (length r.1.now) ≡ true) × (bytes.now ≡ r.0 ∷ length r.1.now ∷ (r.1.now ++ r.2.now))) }
+    ensures found { MatchOption result (BeginsNone bytes.now) (λ r. bytes.now ≡ r.0 ∷ length r.1.now ∷ (r.1.now ++ r.2.now)) }
     ensures shorter { IfSome result (λ r. length r.2.now < length bytes.now) }
 {
     let (id, rest) = bytes.split_first()?;
     let (len, rest) = rest.split_first()?;
     let len = usize::from(*len);
-    if has_lawful_length(*id, len) && len <= rest.len() {
+    if len <= rest.len() {
         Some((*id, &rest[..len], &rest[len..]))
     } else {
         None
     }
 }
 
-/// What a group's parameters say, one after another.
-fn group(bytes: &[u8]) -> Option<Parameters>
-    ensures { MatchOption result ((ps : List Parameter) → AreParameters bytes.now ps → ⊥) (λ told. (ps : List Parameter) × (AreParameters bytes.now ps × (told ≡ told_of nothing ps))) }
+/// What a group's parameters say, one after another, and how many octets stand behind them.
+fn group(bytes: &[u8], surplus: usize) -> Parameters
+    ensures { AreTold bytes.now surplus result }
 {
     let mut parameters = Parameters::none();
     let mut rest = bytes;
-    'group: while !rest.is_empty() {
-        let (id, value, behind) = first_parameter(rest)?;
-        parameters = parameters.with(id, number_of(value));
+    'group: while let Some((id, value, behind)) = first_parameter(rest) {
+        parameters = parameters.with(id, value);
         rest = behind;
     }
-    Some(parameters)
+    Parameters {
+        behind: rest.len().saturating_add(surplus),
+        ..parameters
+    }
 }
 
-/// The octets of a group that is all of the information.
-fn group_in(info: &[u8]) -> Option<&[u8]>
-    ensures { option_map (λ octets. octets.now) result ≡ group_in info.now }
+/// The octets of a group, and how many of the information stand behind it.
+fn group_in(info: &[u8]) -> Option<(&[u8], usize)>
+    ensures { option_map (λ found. (found.0.now, found.1)) result ≡ group_in info.now }
 {
     match info {
-        [format, id, len, octets @ ..]
-            if *format == FORMAT && *id == GROUP && usize::from(*len) == octets.len() => {
-            Some(octets)
+        [format, id, len, octets @ ..] if *format == FORMAT && *id == GROUP => {
+            let len = usize::from(*len).min(octets.len());
+            Some((&octets[..len], octets.len() - len))
         }
         _ => None,
     }
 }
 
-/// What the information of an SNRM or a UA says: nothing, or a group of parameters and nothing behind it.
+/// What the information of an SNRM or a UA says: nothing, or a group of parameters. One that is wrong hides no other.
 pub fn parameters_of(info: &[u8]) -> Option<Parameters>
-    ensures { MatchOption result ((ps : List Parameter) → IsInformation info.now ps → ⊥) (λ told. (ps : List Parameter) × (IsInformation info.now ps × (told ≡ told_of nothing ps))) }
+    ensures { IsTold info.now result }
 {
     if info.is_empty() {
         return Some(Parameters::none());
     }
-    group(group_in(info)?)
+    let (octets, surplus) = group_in(info)?;
+    Some(group(octets, surplus))
 }

@@ -2,6 +2,7 @@
 
 ghost use Rattle.std.specs.Prelude.{◌≡◌};
 ghost use Rattle.dlms_talks.specs.Secrets.{secrecy_at, secrecy_of, told_as};
+ghost use Rattle.dlms_talks.specs.Survey.{secrecy_of_named};
 
 use crate::named::{Asked, Named};
 
@@ -47,4 +48,14 @@ pub fn told_as(raw: bool, secrecy: Secrecy) -> Secrecy
         Secrecy::Unknown if raw => Secrecy::Open,
         other => other,
     }
+}
+
+/// What is known of the values of an APDU, by the one of what it names of which most is kept secret.
+pub fn secrecy_of_named(named: Option<Named>) -> Secrecy
+    ensures { result ≡ secrecy_of_named named }
+{
+    let Some(named) = named else {
+        return Secrecy::Unknown;
+    };
+    secrecy_at(named)
 }

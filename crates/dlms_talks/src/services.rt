@@ -1,17 +1,30 @@
 //! What is kept of the services of a talk, from one APDU to the next.
 
 ghost use Rattle.std.specs.Prelude.{◌≡◌, Some, None, length, option_map, IfOk, OnErr};
+ghost use Rattle.dlms_talks.specs.Foreign.{answered_by, of_answer, role_of, values_of};
 ghost use Rattle.dlms_talks.specs.Said.{ShowsRequest, ShowsResponse, answered, asked_of, request_form, request_invoke, request_selector, response_form, response_invoke};
 ghost use Rattle.dlms_talks.specs.Secrets.{secrecy_of, told_as};
-ghost use Rattle.dlms_talks.specs.Services.{awaited_behind, behind_request, behind_response, got_joined, JoinsBlock, idle, put_joined, transfers_behind, transfers_behind_response, unasked};
+ghost use Rattle.dlms_talks.specs.Services.{awaited_behind, behind_request, behind_response, got_joined, heard, JoinsBlock, idle, put_joined, transfers_behind, transfers_behind_response, unasked};
 ghost use Rattle.dlms_talks.specs.Whole.{IsToldOfWhole, WantsMemory};
 
+use crate::foreign::{Foreign, Role};
 use crate::joining::{Joined, Transfers};
-use crate::named::Asked;
+use crate::named::{Asked, Named, of_invoke};
 use crate::said::{Said, asked_by, request_said, response_said};
+use crate::secrecy::{Secrecy, secrecy_of, secrecy_of_named, told_as};
 use crate::whole::Whole;
 use dlms_apdu::{Request, Response};
 use std::alloc::{AllocError, Allocator};
+
+/// What an answer with this invoke-id-and-priority is of.
+fn answered_by(asked: Option<Asked>, invoke: Option<u8>) -> Option<Asked>
+    ensures { result ≡ answered_by asked invoke }
+{
+    match invoke {
+        Some(invoke) => of_invoke(asked, invoke),
+        None => None,
+    }
+}
 
 /// What is kept of the services of a talk.
 #[derive(Drop)]
@@ -168,6 +181,49 @@ impl<A: Allocator + Copy> Services<A> {
         let joined = self.get(alloc, response)?;
         self.asked = None;
         Ok(Heard { said, joined })
+    }
+
+    /// What was asked for is not known any more, and nothing goes on in blocks: an APDU of the client is not readable.
+    pub fn forget(&mut self, alloc: A)
+        ensures { self.new ≡ idle self.old.raw }
+    {
+        *self = Services::new(alloc, self.raw);
+    }
+
+    /// What such an APDU answers, where that is known.
+    pub fn answered_with(&self, foreign: Foreign<'_>) -> Option<Named>
+        ensures { result ≡ option_map (λ asked. asked.named) (of_answer (role_of foreign.entry.tag) self.now.asked foreign.entry.survey) }
+    {
+        match foreign.role() {
+            Role::Answers => {
+                answered_by(self.asked, foreign.survey.invoke).map(|asked| asked.named)
+            }
+            _ => None,
+        }
+    }
+
+    /// Takes an APDU that the reader of other forms gave: how its values are told.
+    pub fn hear(&mut self, alloc: A, foreign: Foreign<'_>) -> Secrecy
+        ensures values { result ≡ values_of (role_of foreign.entry.tag) self.old.raw self.old.asked foreign.entry.survey }
+        ensures after { self.new ≡ heard self.old foreign.entry }
+    {
+        match foreign.role() {
+            Role::Asks => {
+                self.forget(alloc);
+                self.asked = foreign.asked();
+                told_as(self.raw, secrecy_of_named(foreign.survey.chief))
+            }
+            Role::Answers => {
+                let of = answered_by(self.asked, foreign.survey.invoke);
+                self.asked = None;
+                told_as(self.raw, secrecy_of(of))
+            }
+            Role::AnswersUnfollowed => {
+                self.asked = None;
+                Secrecy::Unknown
+            }
+            Role::Says => told_as(self.raw, secrecy_of_named(foreign.survey.chief)),
+        }
     }
 
     /// How many octets were joined of a value to set or of a parameter.

@@ -2,7 +2,7 @@
 
 ghost use Rattle.std.specs.Prelude.{◌≡◌, [], None, Some, remove, slice_index_or, IfOk, IsErr, MatchOption, OnErr, OnOk};
 ghost use Rattle.dlms_talks.specs.Segments.{behind_llc};
-ghost use Rattle.dlms_talks.specs.Talks.{JoinsOctets, JoinsOfClient, are_same, awaited, forgotten, is_apdu, is_certain, is_repeated, may_be, new_talk, opened_talk, place_of, talk_behind, taken_of, taken_of_client, uncertain, with_talk};
+ghost use Rattle.dlms_talks.specs.Talks.{JoinsOctets, JoinsOfClient, are_same, asks_anew, awaited, forgotten, is_apdu, is_certain, is_repeated, may_be, new_talk, opened_talk, place_of, talk_behind, taken_of, taken_of_client, uncertain, with_talk};
 
 use crate::parties::{Parties, Side};
 use crate::segments::{Came, Segments, behind_llc};
@@ -90,6 +90,13 @@ impl<A: Allocator + Copy> Talk<A> {
         }
     }
 
+    /// Whether a frame of the client begins an APDU and is not its last one again: it awaits no older answer any more.
+    fn asks_anew(&self, number: u8, info: &[u8]) -> bool
+        ensures { result ≡ asks_anew self.now.client number info.now }
+    {
+        behind_llc(Some(Side::Client), info).is_some() && !self.is_repeated(number, info)
+    }
+
     /// Whether no frame is missing before this one.
     fn is_certain(&self, side: Option<Side>, numbers: Numbers, info: &[u8]) -> bool
         ensures { result ≡ is_certain self.now side numbers info.now }
@@ -152,7 +159,12 @@ impl<A: Allocator + Copy> Talk<A> {
                 self.expect(alloc, numbers.receive);
                 self.meter.take(side, numbers.send, follows, info)
             }
-            Some(Side::Client) => self.take_from_client(numbers, follows, info),
+            Some(Side::Client) => {
+                if self.asks_anew(numbers.send, info) {
+                    self.meter.drop_unsent();
+                }
+                self.take_from_client(numbers, follows, info)
+            }
             None => self.client.take(side, numbers.send, follows, info),
         }
     }

@@ -1,0 +1,134 @@
+//! Values by their octets, a line each.
+
+use crate::data_text::{write_count, write_plain};
+use crate::words::{begin, end, line, number, octets, signed};
+use dlms_data::read;
+use dlms_talks::{Field, Shown, front_at, length_at};
+use ryu::Buffer;
+use std::alloc::{AllocError, Allocator};
+use std::num::{f32_from_bits_with_nan, f64_from_bits_with_nan};
+
+/// The name of a string's type, and of what it is counted in.
+fn string_name(tag: u8) -> (&'static str, &'static str) {
+    match tag {
+        4 => ("bit-string of ", " bits"),
+        9 => ("octet-string of ", " octets"),
+        10 => ("visible-string of ", " octets"),
+        12 => ("utf8-string of ", " octets"),
+        _ => ("compact-array", ""),
+    }
+}
+
+/// A float of four octets; digits where it is no number.
+fn write_float32<A: Allocator>(text: &mut String<A>, fields: [u8; 4]) -> Result<(), AllocError> {
+    text.push_str("float32 ")?;
+    let value = f32_from_bits_with_nan(u32::from_be_bytes(fields));
+    if value.is_finite() {
+        text.push_str(Buffer::new().format_finite(value))
+    } else {
+        octets(text, &fields)
+    }
+}
+
+/// A float of eight octets; digits where it is no number.
+fn write_float64<A: Allocator>(text: &mut String<A>, fields: [u8; 8]) -> Result<(), AllocError> {
+    text.push_str("float64 ")?;
+    let value = f64_from_bits_with_nan(u64::from_be_bytes(fields));
+    if value.is_finite() {
+        text.push_str(Buffer::new().format_finite(value))
+    } else {
+        octets(text, &fields)
+    }
+}
+
+/// A difference to a value before it, of one, two or four octets.
+fn write_delta<A: Allocator>(
+    text: &mut String<A>,
+    tag: u8,
+    fields: &[u8],
+) -> Result<(), AllocError> {
+    text.push_str("delta ")?;
+    match (tag, fields) {
+        (28, [a]) => signed(text, i64::from(i8::from_be_bytes([*a]))),
+        (29, [a, b]) => signed(text, i64::from(i16::from_be_bytes([*a, *b]))),
+        (30, [a, b, c, d]) => signed(text, i64::from(i32::from_be_bytes([*a, *b, *c, *d]))),
+        (31, [a]) => number(text, u64::from(*a)),
+        (32, [a, b]) => number(text, u64::from(u16::from_be_bytes([*a, *b]))),
+        (33, [a, b, c, d]) => number(text, u64::from(u32::from_be_bytes([*a, *b, *c, *d]))),
+        _ => octets(text, fields),
+    }
+}
+
+/// How many values an array or a structure has.
+fn count_in(bytes: &[u8]) -> usize {
+    match front_at(Field::Value, bytes) {
+        Some(front) => front.values,
+        None => 0,
+    }
+}
+
+/// A value of a type that holds no others.
+fn write_leaf<A: Allocator + Copy>(
+    text: &mut String<A>,
+    alloc: A,
+    bytes: &[u8],
+) -> Result<(), AllocError> {
+    match bytes {
+        [23, a, b, c, d] => write_float32(text, [*a, *b, *c, *d]),
+        [24, a, b, c, d, e, f, g, h] => write_float64(text, [*a, *b, *c, *d, *e, *f, *g, *h]),
+        [255] => text.push_str("dont-care"),
+        [19, rest @ ..] => {
+            text.push_str("compact-array ")?;
+            octets(text, rest)
+        }
+        [tag, rest @ ..] if 28 <= *tag && *tag <= 33 => write_delta(text, *tag, rest),
+        _ => match read(alloc, bytes) {
+            Ok((value, _)) => write_plain(text, &value),
+            Err(_) => octets(text, bytes),
+        },
+    }
+}
+
+/// The line of a value by its octets, without the values that it holds.
+fn write_open<A: Allocator + Copy>(
+    text: &mut String<A>,
+    alloc: A,
+    depth: u8,
+    bytes: &[u8],
+) -> Result<(), AllocError> {
+    match bytes {
+        [1, ..] => write_count(text, depth, "array of ", count_in(bytes), ""),
+        [2, ..] => write_count(text, depth, "structure of ", count_in(bytes), ""),
+        _ => {
+            begin(text, depth)?;
+            write_leaf(text, alloc, bytes)?;
+            end(text)
+        }
+    }
+}
+
+/// The line of what is shown of a value.
+pub fn write_shown<A: Allocator + Copy>(
+    text: &mut String<A>,
+    alloc: A,
+    depth: u8,
+    shown: Shown<'_>,
+) -> Result<(), AllocError> {
+    match shown {
+        Shown::Secret => line(text, depth, "(secret)"),
+        Shown::Veiled { tag: 19, .. } => line(text, depth, "compact-array"),
+        Shown::Veiled { tag, count } => {
+            let (kind, parts) = string_name(tag);
+            write_count(text, depth, kind, count as usize, parts)
+        }
+        Shown::Open(bytes) => write_open(text, alloc, depth, bytes),
+    }
+}
+
+/// The octets behind a length.
+pub fn behind_length(bytes: &[u8]) -> &[u8] {
+    match length_at(bytes) {
+        Some(length) => &bytes[length.octets.min(bytes.len())..],
+        None => bytes,
+    }
+}
