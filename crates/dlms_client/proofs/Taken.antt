@@ -13,7 +13,7 @@ use Rattle.dlms_client.specs.declared.step.Step.{Step}
 
 -- it answers a request
 pub takes_asking : (at new : ClientValue) (result : Result Step Fault) (stage : Stage) (asked : Asked) (apdu : List ℕ) (heard : Result Heard Fault) (blocks : Joining) → stage ≡ Asking asked → apdu ≡ at.link.apdu
-    → Hears asked at.blocks apdu heard blocks → GoesOn heard stage (record at { blocks = blocks }) result new → TakesAt stage at result new
+    → Hears asked at.blocks apdu heard blocks → GoesOn heard asked (record at { blocks = blocks }) result new → TakesAt stage at result new
 takes_asking at new result stage asked apdu heard blocks is same hears goes =
     subst (λ (s : Stage). TakesAt s at result new) (sym is)
-    (heard, blocks, subst (λ (bytes : List ℕ). Hears asked at.blocks bytes heard blocks) same hears, subst (λ (s : Stage). GoesOn heard s (record at { blocks = blocks }) result new) is goes)
+    (heard, blocks, subst (λ (bytes : List ℕ). Hears asked at.blocks bytes heard blocks) same hears, goes)

@@ -14,14 +14,14 @@ use Rattle.dlms_client.specs.declared.fault.Fault.{Fault}
 use Rattle.dlms_client.specs.declared.fault.Fault.TheVariants.{Refused, Denied, Association, Form}
 use Rattle.dlms_client.specs.declared.granted.Granted.{Granted}
 
--- The request proposes blocks with get, set and action, get, set, selective access and action, and APDUs of 1,024 bytes. A secret
--- goes with the low-level mechanism, and without one no mechanism is named.
-abbrev pub request_by : Option (List ℕ) → List ℕ
-request_by None = aarq_bytes Public [] 0x1C1D 1024
-request_by (Some secret) = aarq_bytes Management secret 0x1C1D 1024
+-- The request proposes blocks with get, set and action, get, set, selective access and action, and APDUs of this size. A secret goes
+-- with the low-level mechanism, and without one no mechanism is named.
+abbrev pub request_by : Option (List ℕ) → ℕ → List ℕ
+request_by None size = aarq_bytes Public [] 0x1C1D size
+request_by (Some secret) size = aarq_bytes Management secret 0x1C1D size
 
 abbrev pub association_bytes : PlanValue → List ℕ
-association_bytes plan = request_by plan.secret
+association_bytes plan = request_by plan.secret plan.size
 
 -- an exception: its tag, the state error and the service error; or a confirmed service error: its tag, the service, the class and
 -- the value

@@ -1,7 +1,7 @@
 -- What an APDU says in answer to a request, where these blocks of a GET were joined before it.
 use Rattle.std.specs.Prelude.{◌≡◌, ℕ, ◌<◌, Bool, true, false, List, ◌++◌, length, drop, Option, Some, None, Result, Ok, Err}
 use Rattle.dlms_apdu.specs.Fault.{fault_of}
-use Rattle.dlms_apdu.specs.Forms.{ResponseForm, get_data, get_result, get_block, get_block_result, set_result, action_result}
+use Rattle.dlms_apdu.specs.Forms.{ResponseForm, get_data, get_result, get_block, get_block_result, set_result, set_block_taken, set_last, action_result, action_block_taken}
 use Rattle.dlms_apdu.specs.Reading.{response_at}
 use Rattle.dlms_apdu.specs.declared.fault.ApduFault.TheVariants.{Data}
 use Rattle.dlms_apdu.specs.declared.fault.Refusal.{Refusal}
@@ -45,15 +45,18 @@ GetHears old apdu (Ok (get_block_result invoke number code)) result new = (resul
 GetHears old apdu (Ok form) result new = (result ≡ Err Form) × (new ≡ old)
 GetHears old apdu (Err refusal) result new = (result ≡ Err (Unread (fault_of refusal))) × (new ≡ old)
 
--- to a SET
+-- to a SET: where a block was taken, the next one is asked for
 abbrev pub set_heard : Result ResponseForm Refusal → Result Heard Fault
 set_heard (Ok (set_result invoke code)) = Ok (Told (HasResult code))
+set_heard (Ok (set_last invoke code number)) = Ok (Told (HasResult code))
+set_heard (Ok (set_block_taken invoke number)) = Ok (More number)
 set_heard (Ok form) = Err Form
 set_heard (Err refusal) = Err (Unread (fault_of refusal))
 
 -- to an ACTION
 abbrev pub action_heard : Result ResponseForm Refusal → Result Heard Fault
 action_heard (Ok (action_result invoke code)) = Ok (Told (HasResult code))
+action_heard (Ok (action_block_taken invoke number)) = Ok (More number)
 action_heard (Ok form) = Err Form
 action_heard (Err refusal) = Err (Unread (fault_of refusal))
 

@@ -1,13 +1,14 @@
 -- A client, call by call, whatever frames come and whichever are lost: each answer is what the APDUs say that were taken since its
 -- request.
-use Rattle.std.specs.Prelude.{◌≡◌, ℕ, Bool, true, false, List, [], ◌∷◌, ◌++◌, Option, Some, None, Result, Ok, Err}
+use Rattle.std.specs.Prelude.{◌≡◌, ℕ, Bool, true, false, List, [], ◌∷◌, ◌++◌, Option, Some, None, IfSome, Result, Ok, Err}
 use Rattle.dlms_apdu.specs.Forms.{RequestForm, get_normal, get_next, set_normal, set_first, set_block, action_normal, action_first, action_block}
+use Rattle.dlms_blocks.specs.Going.{Going}
 use Rattle.dlms_frame.specs.Frame.{Parts}
 use Rattle.dlms_link.specs.Client.{ClientRecord, client_step}
 use Rattle.dlms_link.specs.declared.out.ClientOut.{ClientOut}
 use Rattle.dlms_link.specs.declared.out.ClientOut.TheVariants as out
 use Rattle.dlms_client.specs.Addresses.{inward, is_ours}
-use Rattle.dlms_client.specs.Calls.{fresh, Begins, Comes, TimesOut, CanTimeOut, IsFree, Asks, Releases, Leaves}
+use Rattle.dlms_client.specs.Calls.{fresh, Begins, Comes, TimesOut, CanTimeOut, IsFree, Asks, Releases, Leaves, long_value}
 use Rattle.dlms_client.specs.ClientValue.{ClientValue}
 use Rattle.dlms_client.specs.Plan.{PlanValue}
 use Rattle.dlms_client.specs.Saying.{Says}
@@ -16,6 +17,7 @@ use Rattle.dlms_client.specs.declared.ask_fault.AskFault.{AskFault}
 use Rattle.dlms_client.specs.declared.fault.Fault.{Fault}
 use Rattle.dlms_client.specs.declared.stage.Asked.{Asked}
 use Rattle.dlms_client.specs.declared.stage.Asked.TheVariants.{Get, Set, Action}
+use Rattle.dlms_client.specs.declared.stage.Stage.TheVariants.{Asking}
 use Rattle.dlms_client.specs.declared.step.Step.{Step}
 use Rattle.dlms_client.specs.declared.step.Step.TheVariants as step
 
@@ -107,3 +109,13 @@ pub record IsAnswered (since : Since) (at : ClientValue) (frame : Parts) (answer
 abbrev pub AnswersAreSaid : Type 0
 AnswersAreSaid = (plan : PlanValue) (calls : List Call) (at new : ClientValue) (since : Since) (frame : Parts) (answer : Answer) → Runs (fresh plan) nothing_yet calls at since → Comes at frame (Ok (step.Answered answer)) new
     → IsAnswered since at frame answer new
+
+-- What goes out in blocks is the encoding of the value in the last request.
+pub record IsOfTheRequest (since : Since) (sent : Option Going) : Type 0 where
+  pub form : RequestForm
+  pub request : since.request ≡ Some form
+  pub goes : IfSome sent (λ going. long_value form ≡ Some going.encoding)
+
+-- So it is while the answer to a request is awaited.
+abbrev pub BlocksAreOfTheRequest : Type 0
+BlocksAreOfTheRequest = (plan : PlanValue) (calls : List Call) (at : ClientValue) (since : Since) (asked : Asked) → Runs (fresh plan) nothing_yet calls at since → at.failed ≡ None → at.stage ≡ Asking asked → IsOfTheRequest since at.sent

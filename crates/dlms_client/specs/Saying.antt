@@ -1,6 +1,6 @@
 -- What the APDUs that were taken since a request say in answer to it (IEC 62056-5-3): the last of them this one.
 use Rattle.std.specs.Prelude.{◌≡◌, ℕ, ◌+◌, true, List, [], ◌++◌, Some, Result, Ok}
-use Rattle.dlms_apdu.specs.Forms.{ResponseForm, get_data, get_result, get_block, get_block_result, set_result, action_result}
+use Rattle.dlms_apdu.specs.Forms.{ResponseForm, get_data, get_result, get_block, get_block_result, set_result, set_last, action_result}
 use Rattle.dlms_apdu.specs.Reading.{response_at}
 use Rattle.dlms_apdu.specs.declared.fault.Refusal.{Refusal}
 use Rattle.dlms_data.specs.Spelling.{IsSpelling}
@@ -13,11 +13,12 @@ use Rattle.dlms_client.specs.declared.answer.Denial.{Denial}
 use Rattle.dlms_client.specs.declared.stage.Asked.{Asked}
 use Rattle.dlms_client.specs.declared.stage.Asked.TheVariants.{Get, Set, Action}
 
--- a response has this result: of a GET in place of its value or of a block of it, of a SET, of an ACTION
+-- a response has this result: of a GET in place of its value or of a block of it, of a SET in one piece or in blocks, of an ACTION
 abbrev pub GivesResult : Asked → Result ResponseForm Refusal → ℕ → Type 0
 GivesResult Get (Ok (get_result invoke r)) code = r ≡ code
 GivesResult Get (Ok (get_block_result invoke number r)) code = r ≡ code
 GivesResult Set (Ok (set_result invoke r)) code = r ≡ code
+GivesResult Set (Ok (set_last invoke r number)) code = r ≡ code
 GivesResult Action (Ok (action_result invoke r)) code = r ≡ code
 GivesResult asked read code = ⊥
 

@@ -15,16 +15,13 @@ use dlms_frame::Client;
 /// The services that are proposed: those that the client has.
 const PROPOSED: Conformance = Conformance(0x1c1d);
 
-/// The size in bytes of the largest APDU that the link carries.
-const SIZE: u16 = 1024;
-
 /// The association request.
 pub fn association(plan: &Plan) -> ArrayVec<u8, 128>
     ensures { result.items ≡ association_bytes (plan_of plan.now) }
 {
     match &plan.secret {
-        None => write_aarq(Client::Public, &[], PROPOSED, SIZE),
-        Some(secret) => write_aarq(Client::Management, secret.as_slice(), PROPOSED, SIZE),
+        None => write_aarq(Client::Public, &[], PROPOSED, plan.size),
+        Some(secret) => write_aarq(Client::Management, secret.as_slice(), PROPOSED, plan.size),
     }
 }
 

@@ -1,17 +1,16 @@
 //! A client: one association with a meter, over the link.
 
-ghost use Rattle.std.specs.Prelude.{◌≡◌, ◌≤◌, ◌≢◌, ◌↔◌, IsTrue, IsSome, Ok, Err, None, option_map, length};
-ghost use Rattle.dlms_acse.specs.Verdict.{size_in_use};
+ghost use Rattle.std.specs.Prelude.{◌≡◌, ◌≤◌, ◌<◌, ◌≢◌, ◌↔◌, IsTrue, IsSome, IfSome, IfOk, Ok, Err, None, option_map, length};
 ghost use Rattle.dlms_apdu.specs.Forms.{get_normal, set_normal, action_normal};
 ghost use Rattle.dlms_apdu.specs.View.{request_of, selection_of};
-ghost use Rattle.dlms_apdu.specs.Writing.{RequestFits, SelectorFits, ParameterFits};
+ghost use Rattle.dlms_apdu.specs.Writing.{RequestFits, SelectorFits, ParameterFits, request_bytes};
 ghost use Rattle.dlms_data.specs.View.{value_of};
-ghost use Rattle.dlms_data.specs.Writing.{Fits};
-ghost use Rattle.dlms_headend.specs.Asking.{next_bytes};
+ghost use Rattle.dlms_blocks.specs.BlockView.{view_of};
+ghost use Rattle.dlms_data.specs.Writing.{Fits, canonical};
 ghost use Rattle.dlms_link.specs.Client.{IsIdle, IsDown, client_step};
 ghost use Rattle.dlms_client.specs.Addresses.{inward};
 ghost use Rattle.dlms_client.specs.Association.{association_bytes, granted_at, released_at};
-ghost use Rattle.dlms_client.specs.Calls.{fresh, with_link, Begins, Comes, ComesBy, HasFailed, OpensBy, ReleasesBy, TakesAt, GoesDownAt, GoesOn, IsAsking, Sends, Leaves, TimesOut, CanTimeOut, IsFree, Asks, Releases};
+ghost use Rattle.dlms_client.specs.Calls.{fresh, with_link, Begins, Comes, ComesBy, HasFailed, OpensBy, ReleasesBy, TakesAt, GoesDownAt, GoesOn, AsksMore, HasNext, Starts, most_bytes, Sends, Leaves, TimesOut, CanTimeOut, IsFree, Asks, Releases};
 ghost use Rattle.dlms_client.specs.Plan.{IsPlan, plan_of};
 ghost use Rattle.dlms_client.specs.declared.stage.Asked.TheVariants.{Get, Set, Action};
 ghost use Rattle.dlms_client.specs.declared.stage.Stage.TheVariants.{Closed, Associating, Asking};
@@ -23,19 +22,19 @@ use crate::fault::Fault;
 use crate::granted::Granted;
 use crate::hearing::{Heard, hear};
 use crate::plan::Plan;
+use crate::requests::{
+    INVOKE, MOST_RAW, first_of_action, first_of_set, next_of_action, next_of_set, next_request,
+};
 use crate::stage::{Asked, Stage};
 use crate::step::Step;
 use dlms_acse::{Conformance, write_rlrq};
 use dlms_apdu::{Request, write_request};
-use dlms_blocks::GetIn;
-use dlms_data::{Data, Descriptor, Selector};
+use dlms_blocks::{Block, GetIn, LEAST_SIZE, MOST_SIZE, PutOut};
+use dlms_data::{Data, Descriptor, Selector, write};
 use dlms_frame::Frame;
 use dlms_link::{ClientLink, ClientOut};
 use std::alloc::{Allocator, Global};
 use std::marker::Model;
-
-/// The invoke-id-and-priority byte of each request: number 1, confirmed, high priority.
-const INVOKE: u8 = 0xc1;
 
 /// A client: one association with a meter. It takes and gives frames.
 #[derive(Drop)]
@@ -47,6 +46,7 @@ pub struct Client<A: Allocator = Global> {
     failed: Option<Fault>,
     granted: Granted,
     blocks: GetIn<A>,
+    sent: Option<PutOut<A>>,
 }
 
 impl<A: Allocator> Model for Client<A> {
@@ -55,29 +55,9 @@ impl<A: Allocator> Model for Client<A> {
 
     ghost Value = { ClientValue };
 
-    ghost view = { λ c. record { plan = plan_of c.plan; link = c.link; stage = c.stage; failed = c.failed; granted = c.granted; blocks = c.blocks } };
+    ghost view = { λ c. record { plan = plan_of c.plan; link = c.link; stage = c.stage; failed = c.failed; granted = c.granted; blocks = c.blocks; sent = c.sent } };
 
-    ghost invariant = { λ c. IsStanding c.plan c.link c.stage c.failed };
-}
-
-/// The GET of the block behind the one with this number: `c0 02`, the invoke octet, the number.
-fn next_request(number: u32) -> [u8; 7]
-    ensures { result ≡ next_bytes number }
-{
-    let [a, b, c, d] = number.to_be_bytes();
-    [0xc0, 0x02, INVOKE, a, b, c, d]
-}
-
-/// The most bytes of a request, where the meter takes APDUs of this size.
-fn most_bytes(size: u16) -> usize
-    ensures value { result ≡ size_in_use size }
-    ensures carried { result ≤ 1024 }
-{
-    if size == 0 || size > 1024 {
-        1024
-    } else {
-        size as usize
-    }
+    ghost invariant = { λ c. IsStanding c.plan c.link c.stage c.failed c.sent };
 }
 
 impl<A: Allocator + Copy> Client<A> {
@@ -97,6 +77,7 @@ impl<A: Allocator + Copy> Client<A> {
                 size: 0,
             },
             blocks: GetIn::new(alloc),
+            sent: None,
         }
     }
 
@@ -153,7 +134,7 @@ impl<A: Allocator + Copy> Client<A> {
         requires idle { IsIdle self.old.link }
         requires short { length apdu.now ≤ 1024 }
         requires later { stage ≢ Closed }
-        ensures { Sends self.old apdu.now stage self.old.blocks result self.new }
+        ensures { Sends self.old apdu.now stage result self.new }
     {
         self.stage = stage;
         let frame = self.link.send(apdu);
@@ -177,7 +158,7 @@ impl<A: Allocator + Copy> Client<A> {
             Stage::Associating => self.opens(),
             Stage::Asking(asked) => {
                 let heard = hear(self.alloc, asked, &mut self.blocks, self.link.apdu());
-                self.goes_on(heard)
+                self.goes_on(asked, heard)
             }
             Stage::Releasing => self.releases(),
             Stage::Closed | Stage::Free | Stage::Leaving => self.fail(Fault::Form),
@@ -199,21 +180,55 @@ impl<A: Allocator + Copy> Client<A> {
     }
 
     /// What was made of the answer to a request.
-    fn goes_on(&mut self, heard: Result<Heard, Fault>) -> Result<Step, Fault>
-        requires idle { IsIdle self.old.link }
-        requires asking { IsAsking self.old.stage }
-        ensures { GoesOn heard self.old.stage self.old result self.new }
+    fn goes_on(&mut self, asked: Asked, heard: Result<Heard, Fault>) -> Result<Step, Fault>
+        requires { IsIdle self.old.link }
+        ensures { GoesOn heard asked self.old result self.new }
     {
         match heard {
-            Ok(Heard::More(number)) => {
-                let request = next_request(number);
-                Ok(Step::Send(self.send(self.stage, request.as_slice())))
-            }
+            Ok(Heard::More(number)) => self.asks_more(asked, number),
             Ok(Heard::Told(answer)) => {
                 self.stage = Stage::Free;
                 Ok(Step::Answered(answer))
             }
             Err(fault) => self.fail(fault),
+        }
+    }
+
+    /// What is asked behind a block with this number.
+    fn asks_more(&mut self, asked: Asked, number: u32) -> Result<Step, Fault>
+        requires { IsIdle self.old.link }
+        ensures { AsksMore asked number self.old result self.new }
+    {
+        match asked {
+            Asked::Get => {
+                let request = next_request(number);
+                Ok(Step::Send(self.send(Stage::Asking(Asked::Get), request.as_slice())))
+            }
+            Asked::Set => match self.next_block(number) {
+                Some(block) => {
+                    let request = next_of_set(&block);
+                    Ok(Step::Send(self.send(Stage::Asking(Asked::Set), request.as_slice())))
+                }
+                None => self.fail(Fault::Block),
+            },
+            Asked::Action => match self.next_block(number) {
+                Some(block) => {
+                    let request = next_of_action(&block);
+                    Ok(Step::Send(self.send(Stage::Asking(Asked::Action), request.as_slice())))
+                }
+                None => self.fail(Fault::Block),
+            },
+        }
+    }
+
+    /// The block of the request behind the one with this number, if that was the last one that went and another one follows.
+    fn next_block(&mut self, number: u32) -> Option<Block>
+        ensures next { HasNext self.old.sent number (option_map view_of result) self.old self.new }
+        ensures short { IfSome result (λ block. length block.bytes.items ≤ MOST_RAW) }
+    {
+        match &mut self.sent {
+            Some(sent) => sent.next(number).ok(),
+            None => None,
         }
     }
 
@@ -353,7 +368,20 @@ impl<A: Allocator + Copy> Client<A> {
         )
     }
 
-    /// A request goes out in one piece.
+    /// The most bytes of an APDU that goes out.
+    fn most_bytes(&self) -> u16
+        ensures value { result ≡ most_bytes self.now }
+        ensures carried { result ≤ MOST_SIZE }
+    {
+        let granted = self.granted.size;
+        if granted == 0 {
+            self.plan.size
+        } else {
+            granted.min(self.plan.size)
+        }
+    }
+
+    /// A request goes out in one piece; or in blocks, the first of them now.
     fn ask<B: Allocator>(
         &mut self,
         asked: Asked,
@@ -364,11 +392,67 @@ impl<A: Allocator + Copy> Client<A> {
         ensures { Asks asked (request_of request.now) self.old result self.new }
     {
         let text = write_request(self.alloc, request)?;
-        if text.len() > most_bytes(self.granted.size) {
+        if text.len() <= usize::from(self.most_bytes()) {
+            self.blocks = GetIn::new(self.alloc);
+            self.sent = None;
+            return Ok(self.send(Stage::Asking(asked), text.as_slice()));
+        }
+        self.ask_in_blocks(asked, request)
+    }
+
+    /// A request that is too long for one piece goes in blocks, the first of them now.
+    fn ask_in_blocks<B: Allocator>(
+        &mut self,
+        asked: Asked,
+        request: &Request<'_, B>,
+    ) -> Result<Frame, AskFault>
+        requires free { IsFree self.old }
+        requires fits { RequestFits (request_of request.now) }
+        requires long { most_bytes self.old < length (request_bytes (request_of request.now)) }
+        ensures { Asks asked (request_of request.now) self.old result self.new }
+    {
+        match request {
+            Request::SetNormal {
+                descriptor,
+                selector: None,
+                value,
+                ..
+            } => {
+                let block = self.starts(value)?;
+                let request = first_of_set(*descriptor, &block);
+                Ok(self.send(Stage::Asking(asked), request.as_slice()))
+            }
+            Request::ActionNormal {
+                descriptor,
+                parameter: Some(value),
+                ..
+            } => {
+                let block = self.starts(value)?;
+                let request = first_of_action(*descriptor, &block);
+                Ok(self.send(Stage::Asking(asked), request.as_slice()))
+            }
+            _ => Err(AskFault::TooLong),
+        }
+    }
+
+    /// A value is to go in blocks: the first one.
+    fn starts<B: Allocator>(&mut self, value: &Data<B>) -> Result<Block, AskFault>
+        requires { Fits (value_of value.now) }
+        ensures starts { Starts (canonical (value_of value.now)) self.old result self.new }
+        ensures short { IfOk result (λ block. length block.bytes.items ≤ MOST_RAW) }
+    {
+        let encoding = write(self.alloc, value)?;
+        let most = self.most_bytes();
+        if most < LEAST_SIZE || encoding.len() > 65_536 {
             return Err(AskFault::TooLong);
         }
+        let mut sent = PutOut::start(encoding, most);
+        let Ok(block) = sent.next(0) else {
+            unreachable!();
+        };
         self.blocks = GetIn::new(self.alloc);
-        Ok(self.send(Stage::Asking(asked), text.as_slice()))
+        self.sent = Some(sent);
+        Ok(block)
     }
 
     /// Releases the association; the link's end is asked for once that is answered.

@@ -16,7 +16,7 @@ use std::alloc::Allocator;
 /// What an APDU says in answer to a request.
 #[derive(Clone, Copy, Debug, PartialEq, Eq)]
 pub enum Heard {
-    /// The block of this number has come, behind which others are to come.
+    /// The block of this number has come, or was taken, behind which others are to come or to go.
     More(u32),
     /// The request has this answer.
     Told(Answer),
@@ -79,23 +79,27 @@ fn get<A: Allocator + Copy>(alloc: A, blocks: &mut GetIn<A>, apdu: &[u8]) -> Res
     }
 }
 
-/// The answer to a SET.
+/// The answer to a SET, or to a block of one.
 fn set<A: Allocator + Copy>(alloc: A, apdu: &[u8]) -> Result<Heard, Fault>
     ensures { result ≡ set_heard (response_at apdu.now) }
 {
     match read_response(alloc, apdu) {
-        Ok(Response::SetResult { result, .. }) => Ok(Heard::Told(Answer::Result(result))),
+        Ok(Response::SetResult { result, .. }) | Ok(Response::SetLast { result, .. }) => {
+            Ok(Heard::Told(Answer::Result(result)))
+        }
+        Ok(Response::SetBlock { number, .. }) => Ok(Heard::More(number)),
         Ok(_) | Err(ApduFault::Memory) => Err(Fault::Form),
         Err(fault) => Err(Fault::Unread(fault)),
     }
 }
 
-/// The answer to an ACTION.
+/// The answer to an ACTION, or to a block of one.
 fn action<A: Allocator + Copy>(alloc: A, apdu: &[u8]) -> Result<Heard, Fault>
     ensures { result ≡ action_heard (response_at apdu.now) }
 {
     match read_response(alloc, apdu) {
         Ok(Response::ActionResult { result, .. }) => Ok(Heard::Told(Answer::Result(result))),
+        Ok(Response::ActionBlock { number, .. }) => Ok(Heard::More(number)),
         Ok(_) | Err(ApduFault::Memory) => Err(Fault::Form),
         Err(fault) => Err(Fault::Unread(fault)),
     }

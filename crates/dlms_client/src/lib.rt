@@ -11,6 +11,7 @@ mod granted;
 mod hearing;
 pub mod laws;
 mod plan;
+mod requests;
 mod stage;
 mod step;
 

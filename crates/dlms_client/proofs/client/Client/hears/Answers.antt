@@ -13,5 +13,6 @@ pub invariant_of-self-in-Send : goal.invariant_of-self-in-Send
 invariant_of-self-in-Send g c = record {
   is_plan = c.self.invariant.is_plan;
   short = subst (λ (link : ClientRecord). IfSome link.waits (λ frame. length frame.info ≤ MOST_BYTES)) (sym c.on.ensures.after) (step_short c.self.inside.link c.args.frame.now c.self.invariant.short);
+  room = c.self.invariant.room;
   down = λ whole closed. absurd (never_closed c.self.inside.link (subst (λ (v : ClientValue). IsSome v.link.waits) (sym c.self.view_is) c.requires.waits) (c.self.invariant.down whole closed));
 }

@@ -12,5 +12,6 @@ pub invariant_of-self : goal.invariant_of-self
 invariant_of-self g c = record {
   is_plan = c.self.invariant.is_plan;
   short = subst (λ (link : ClientRecord). IfSome link.waits (λ frame. length frame.info ≤ MOST_BYTES)) (sym c.send-frame.ensures.after) (short_sent c.self.inside.link c.args.apdu.now);
+  room = c.self.invariant.room;
   down = λ whole closed. absurd (c.requires.later closed);
 }
