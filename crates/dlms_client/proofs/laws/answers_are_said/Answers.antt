@@ -1,0 +1,5 @@
+use Rattle.dlms_client.proofs.Running.{answers_are_said}
+use Rattle.dlms_client.proofs.laws.answers_are_said.Goals as goal
+
+pub returns : goal.returns
+returns c = answers_are_said

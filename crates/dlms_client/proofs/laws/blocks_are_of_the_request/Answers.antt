@@ -1,0 +1,5 @@
+use Rattle.dlms_client.proofs.Running.{blocks_are_of_the_request}
+use Rattle.dlms_client.proofs.laws.blocks_are_of_the_request.Goals as goal
+
+pub returns : goal.returns
+returns c = blocks_are_of_the_request

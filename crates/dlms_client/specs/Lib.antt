@@ -1,0 +1,8 @@
+pub mod Plan
+pub mod Addresses
+pub mod Association
+pub mod Hearing
+pub mod ClientValue
+pub mod Calls
+pub mod Saying
+pub mod Run

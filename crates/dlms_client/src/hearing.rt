@@ -1,0 +1,125 @@
+//! What an APDU says in answer to a request.
+
+ghost use Rattle.std.specs.Prelude.{◌≡◌, drop};
+ghost use Rattle.dlms_apdu.specs.Reading.{response_at};
+ghost use Rattle.dlms_client.specs.Hearing.{Joins, GetHears, Hears, set_heard, action_heard};
+
+use crate::answer::Answer;
+use crate::association::denial;
+use crate::fault::Fault;
+use crate::stage::Asked;
+use dlms_apdu::{ApduFault, Response, read_response};
+use dlms_blocks::{GetIn, UNKNOWN_BLOCK};
+use dlms_data::is_value;
+use std::alloc::Allocator;
+
+/// What an APDU says in answer to a request.
+#[derive(Clone, Copy, Debug, PartialEq, Eq)]
+pub enum Heard {
+    /// The block of this number has come, or was taken, behind which others are to come or to go.
+    More(u32),
+    /// The request has this answer.
+    Told(Answer),
+}
+
+/// What stands behind the first four bytes.
+fn behind_head(apdu: &[u8]) -> &[u8]
+    ensures { result.now ≡ drop 4 apdu.now }
+{
+    if apdu.len() < 4 {
+        return &[];
+    }
+    &apdu[4..]
+}
+
+/// A block; a value in one piece is a first block, and the last.
+fn block<A: Allocator>(
+    blocks: &mut GetIn<A>,
+    last: bool,
+    number: u32,
+    bytes: &[u8],
+) -> Result<Heard, Fault>
+    ensures { Joins blocks.old last number bytes.now result blocks.new }
+{
+    match blocks.more(last, number, bytes) {
+        Ok(false) => Ok(Heard::More(number)),
+        Ok(true) => {
+            if is_value(blocks.bytes()) {
+                Ok(Heard::Told(Answer::Value))
+            } else {
+                Err(Fault::Unread(ApduFault::Data))
+            }
+        }
+        Err(UNKNOWN_BLOCK) => Err(Fault::Block),
+        Err(_) => Err(Fault::Memory),
+    }
+}
+
+/// The answer to a GET. Where there is no memory for its value as a tree, it is joined all the same.
+fn get<A: Allocator + Copy>(alloc: A, blocks: &mut GetIn<A>, apdu: &[u8]) -> Result<Heard, Fault>
+    ensures { GetHears blocks.old apdu.now (response_at apdu.now) result blocks.new }
+{
+    match read_response(alloc, apdu) {
+        Ok(Response::GetData { .. }) | Err(ApduFault::Memory) => {
+            block(blocks, true, 1, behind_head(apdu))
+        }
+        Ok(
+            Response::GetBlock {
+                last,
+                number,
+                raw,
+                ..
+            },
+        ) => block(blocks, last, number, raw),
+        Ok(Response::GetResult { result, .. }) | Ok(Response::GetBlockResult { result, .. }) => {
+            Ok(Heard::Told(Answer::Result(result)))
+        }
+        Ok(_) => Err(Fault::Form),
+        Err(fault) => Err(Fault::Unread(fault)),
+    }
+}
+
+/// The answer to a SET, or to a block of one.
+fn set<A: Allocator + Copy>(alloc: A, apdu: &[u8]) -> Result<Heard, Fault>
+    ensures { result ≡ set_heard (response_at apdu.now) }
+{
+    match read_response(alloc, apdu) {
+        Ok(Response::SetResult { result, .. }) | Ok(Response::SetLast { result, .. }) => {
+            Ok(Heard::Told(Answer::Result(result)))
+        }
+        Ok(Response::SetBlock { number, .. }) => Ok(Heard::More(number)),
+        Ok(_) | Err(ApduFault::Memory) => Err(Fault::Form),
+        Err(fault) => Err(Fault::Unread(fault)),
+    }
+}
+
+/// The answer to an ACTION, or to a block of one.
+fn action<A: Allocator + Copy>(alloc: A, apdu: &[u8]) -> Result<Heard, Fault>
+    ensures { result ≡ action_heard (response_at apdu.now) }
+{
+    match read_response(alloc, apdu) {
+        Ok(Response::ActionResult { result, .. }) => Ok(Heard::Told(Answer::Result(result))),
+        Ok(Response::ActionBlock { number, .. }) => Ok(Heard::More(number)),
+        Ok(_) | Err(ApduFault::Memory) => Err(Fault::Form),
+        Err(fault) => Err(Fault::Unread(fault)),
+    }
+}
+
+/// The answer to what was asked. An exception or a service error answers each request.
+pub fn hear<A: Allocator + Copy>(
+    alloc: A,
+    asked: Asked,
+    blocks: &mut GetIn<A>,
+    apdu: &[u8],
+) -> Result<Heard, Fault>
+    ensures { Hears asked blocks.old apdu.now result blocks.new }
+{
+    if let Some(denial) = denial(apdu) {
+        return Ok(Heard::Told(Answer::Denied(denial)));
+    }
+    match asked {
+        Asked::Get => get(alloc, blocks, apdu),
+        Asked::Set => set(alloc, apdu),
+        Asked::Action => action(alloc, apdu),
+    }
+}

@@ -1,0 +1,19 @@
+//! What comes of a frame.
+
+use crate::answer::Answer;
+use dlms_frame::Frame;
+
+/// What a client makes of a frame.
+#[derive(Drop)]
+pub enum Step {
+    /// Nothing is to be done.
+    Nothing,
+    /// This frame goes out.
+    Send(Frame),
+    /// The association is open: a request may be made.
+    Associated,
+    /// The request has this answer: another one may be made.
+    Answered(Answer),
+    /// The link is down, as was asked for.
+    Down,
+}
