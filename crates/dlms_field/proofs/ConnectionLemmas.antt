@@ -1,198 +1,281 @@
--- What a meter does on a connection, piece by piece.
-use Rattle.std.proofs.Common.{refl, sym, ap, ◌∙◌, ◌≡◌, ℕ, zero, suc, arith, List, [], ◌∷◌, ◌++◌, append_assoc, take, drop, Option, Some, None, Result, Ok, Err, subst, inl, inr}
-use Rattle.std.specs.Prelude.{MatchResult}
-use Rattle.std.proofs.lemmas.List.{append-nil, take-append-drop}
-use Rattle.dlms_loopback.specs.Moments.{Moment as LineMoment, Adds}
-use Rattle.dlms_loopback.specs.Moments.Moment.{Went, Broke}
-use Rattle.dlms_loopback.specs.Serving.{AnswersFrame, Replies}
+-- A connection, one thing after another, to its end.
+use Rattle.std.proofs.Common.{refl, sym, ap, ◌∙◌, ◌≡◌, ◌≤◌, ◌<◌, ◌+◌, ◌-◌, ◌^◌, ◌==◌, ℕ, Bool, false, arith, List, [], ◌∷◌, ◌++◌, append_assoc, length, take, drop, Option, Some, None, Result, Ok, Err, subst, inl, inr}
+use Rattle.std.specs.declared.io.Error.{Error}
+use Rattle.std.proofs.lemmas.Bool.{false≢true}
+use Rattle.std.proofs.lemmas.List.{append-nil, length-take-le, take-append-drop}
+use Rattle.dlms_loopback.specs.Moments.{Moment, Adds}
+use Rattle.dlms_loopback.specs.Moments.Moment.{Came, Quiet, Broke}
 use Rattle.dlms_loopback.specs.declared.fault.LoopFault.{LoopFault}
+use Rattle.dlms_loopback.specs.declared.fault.LoopFault.TheVariants.{Io}
 use Rattle.dlms_loopback.specs.declared.meter_end.Taken.{Taken}
-use Rattle.dlms_meter.specs.Run.{Feeds}
-use Rattle.dlms_store.specs.Later.{IsLater}
-use Rattle.dlms_meter.specs.Steps.{Call, Calls, IsCall}
-use Rattle.dlms_meter.specs.Steps.Call.{Fed, Told}
+use Rattle.dlms_loopback.proofs.MomentLemmas.{adds_none, adds_more}
+use Rattle.dlms_meter.specs.Steps.{IsCall}
+use Rattle.dlms_meter.specs.Steps.Call.{Fed}
 use Rattle.dlms_meter.specs.declared.meter.Meter.{Meter}
 use Rattle.dlms_pages.specs.declared.device.Pages.{Ghosts}
-use Rattle.dlms_state.specs.declared.event.Event.{Event}
-use Rattle.dlms_state.specs.declared.event.Event.TheVariants.{Pulses, Moment}
-use Rattle.dlms_store.specs.declared.fault.AddFault.{AddFault}
-use Rattle.dlms_field.specs.Connection.{At, Doing, Looks, Reads, Waits, Takes, Answers, Doings, Begun, Then, Goes, Ends, AsIs, AtRead, AtReply, ServesFor, EndsFor, AnswersEach, LooksOnce, ReadsPiece}
-use Rattle.dlms_field.specs.Telling.{Tells, TellsEach}
-use Rattle.dlms_field.specs.Telling.{Looks as LooksAt}
-use Rattle.dlms_field.specs.declared.serving.Ending.{Ending}
-use Rattle.dlms_field.specs.declared.ticks.Second.{Second}
+use Rattle.dlms_field.specs.Connection.{At, AnswersEach, Behind, ToRead, Checks, ChecksOnce, Connection, Unbegun, Begun, Counts, Doing, Reads, Answers, Doings, Nothing, Then, Ends, IsOver, LookEnds, ReadEnds, ReplyEnds, Tires, Gives, GivesFrame, Goes, GoesToEnd, IsOfRead, LooksOnce, ReadsPiece, Replied, begins, goes_out}
+use Rattle.dlms_field.specs.Turns.{Tells}
+use Rattle.dlms_field.specs.Watching.{Sight, Sees, has_any}
+use Rattle.dlms_field.specs.Watching.Sight.{Second}
+use Rattle.dlms_field.specs.declared.talking.Ending.{Ending}
+use Rattle.dlms_field.specs.declared.talking.Ending.TheVariants.{Over, Failed}
+use Rattle.dlms_field.specs.declared.talking.Rules.{Rules}
+use Rattle.dlms_field.specs.declared.talking.Stay.{Stay}
 use Rattle.dlms_field.specs.declared.ticks.Ticks.{Ticks}
-use Rattle.dlms_field.specs.declared.turns.Times.{Times}
+use Rattle.dlms_field.specs.declared.turns.Over.{Over as Why}
+use Rattle.dlms_field.proofs.TalkLemmas.{sees_nothing, sees_more}
 
-pub Adds-nil : (a : Option (List LineMoment)) → Adds a a []
-Adds-nil None = tt
-Adds-nil (Some x) = sym (append-nil x)
-
-pub Adds-trans : (a b c : Option (List LineMoment)) (xs ys : List LineMoment) → Adds a b xs → Adds b c ys → Adds a c (xs ++ ys)
-Adds-trans None b c xs ys p q = tt
-Adds-trans (Some x) None c xs ys p q = absurd p
-Adds-trans (Some x) (Some y) None xs ys p q = absurd q
-Adds-trans (Some x) (Some y) (Some z) xs ys p q = q ∙ ap (λ l. l ++ ys) p ∙ append_assoc x xs ys
+pub some_left : (rest : List ℕ) (r : Bool) → r ≡ (length rest == 0) → r ≡ false → 0 < length rest
+some_left [] r is none = absurd (false≢true (sym none ∙ is))
+some_left (x ∷ rest) r is none = omega arith
 
 module _ {P A : Type 0} {ghosts : Ghosts P} where
-  pub goes_nothing : (past : Option (List LineMoment)) (s : At P A ghosts) → Goes past past s s
-  goes_nothing past s = record { moments = []; does = Begun; happened = Adds-nil past }
+  -- a connection as it stands
+  abbrev pub at : Meter P A ghosts → Ticks → List ℕ → Stay → ℕ → At P A ghosts
+  at meter ticks left stay reads = record { meter = meter; ticks = ticks; left = left; stay = stay; reads = reads }
 
-  -- and then one thing more
-  pub goes_and : (p q r : Option (List LineMoment)) (s mid after : At P A ghosts) (moments : List LineMoment) → Goes p q s mid → Doing mid moments after → Adds q r moments → Goes p r s after
-  goes_and p q r s mid after moments goes doing adds = record {
+  -- ---- it goes on
+
+  pub goes_nothing : (rules : Rules) (past : Option (List Moment)) (seen : Option (List Sight)) (s : At P A ghosts) → Goes rules past past seen seen s s
+  goes_nothing rules past seen s = record { moments = []; sights = []; does = Nothing; happened = adds_none past; watched = sees_nothing seen }
+
+  goes_and : (rules : Rules) (p q r : Option (List Moment)) (v w x : Option (List Sight)) (s mid after : At P A ghosts) (moments : List Moment) (sights : List Sight)
+      → Goes rules p q v w s mid → Doing rules mid moments sights after → Adds q r moments → Sees w x sights → Goes rules p r v x s after
+  goes_and rules p q r v w x s mid after moments sights goes doing adds sees = record {
     moments = goes.moments ++ moments;
-    does = Then goes.moments moments mid after goes.does doing;
-    happened = Adds-trans p q r goes.moments moments goes.happened adds;
+    sights = goes.sights ++ sights;
+    does = Then goes.moments moments goes.sights sights mid after goes.does doing;
+    happened = adds_more p q r goes.moments moments goes.happened adds;
+    watched = sees_more v w x goes.sights sights goes.watched sees;
   }
 
-  join_does : (s mid after : At P A ghosts) (xs ys : List LineMoment) → Doings s xs mid → Doings mid ys after → Doings s (xs ++ ys) after
-  join_does s mid after xs ys first Begun = subst (λ l. Doings s l mid) (sym (append-nil xs)) first
-  join_does s mid after xs ys first (Then before moments m a does doing) =
-      subst (λ l. Doings s l after) (append_assoc xs before moments) (Then (xs ++ before) moments m after (join_does s mid m xs before first does) doing)
+  join_does : (rules : Rules) (s mid after : At P A ghosts) (xs ys : List Moment) (vs ws : List Sight) → Doings rules s xs vs mid → Doings rules mid ys ws after → Doings rules s (xs ++ ys) (vs ++ ws) after
+  join_does rules s mid after xs ys vs ws first Nothing =
+      subst (λ (l : List Moment). Doings rules s l (vs ++ []) mid) (sym (append-nil xs)) (subst (λ (l : List Sight). Doings rules s xs l mid) (sym (append-nil vs)) first)
+  join_does rules s mid after xs ys vs ws first (Then before moments asked sights m a does doing) =
+      subst (λ (l : List Moment). Doings rules s l (vs ++ (asked ++ sights)) after) (append_assoc xs before moments)
+      (subst (λ (l : List Sight). Doings rules s ((xs ++ before) ++ moments) l after) (append_assoc vs asked sights)
+      (Then (xs ++ before) moments (vs ++ asked) sights m after (join_does rules s mid m xs before vs asked first does) doing))
 
-  pub goes_on : (p q r : Option (List LineMoment)) (s mid after : At P A ghosts) → Goes p q s mid → Goes q r mid after → Goes p r s after
-  goes_on p q r s mid after first second = record {
+  pub goes_on : (rules : Rules) (p q r : Option (List Moment)) (v w x : Option (List Sight)) (s mid after : At P A ghosts) → Goes rules p q v w s mid → Goes rules q r w x mid after → Goes rules p r v x s after
+  goes_on rules p q r v w x s mid after first second = record {
     moments = first.moments ++ second.moments;
-    does = join_does s mid after first.moments second.moments first.does second.does;
-    happened = Adds-trans p q r first.moments second.moments first.happened second.happened;
+    sights = first.sights ++ second.sights;
+    does = join_does rules s mid after first.moments second.moments first.sights second.sights first.does second.does;
+    happened = adds_more p q r first.moments second.moments first.happened second.happened;
+    watched = sees_more v w x first.sights second.sights first.watched second.watched;
   }
 
-  -- ---- steps
+  -- ---- bytes are given
 
-  pub looks_once : (meter meter' : Meter P A ghosts) (ticks ticks' found : Ticks) (elapsed : ℕ) (outcome : Result (Unit {0}) AddFault) → LooksAt elapsed ticks meter outcome found meter' → ticks' ≡ found
-      → LooksOnce meter ticks meter' ticks'
-  looks_once meter meter' ticks ticks' found elapsed outcome looks same = inl (elapsed, outcome, subst (λ (t : Ticks). LooksAt elapsed ticks meter outcome t meter') (sym same) looks)
+  -- what a call that went well did
+  record Given (q r : Option (List Moment)) (s given : At P A ghosts) (is_answered : Bool) : Type 0 where
+    reply : Option (List ℕ)
+    gives : Gives s reply given
+    adds : Adds q r (goes_out reply)
+    same : is_answered ≡ has_any reply
 
-  pub goes_looking : (p q : Option (List LineMoment)) (s : At P A ghosts) (meter meter' : Meter P A ghosts) (ticks ticks' : Ticks) (left : List ℕ)
-      → Goes p q s (record { meter = meter; ticks = ticks; left = left }) → LooksOnce meter ticks meter' ticks' → Goes p q s (record { meter = meter'; ticks = ticks'; left = left })
-  goes_looking p q s meter meter' ticks ticks' left goes (inl (elapsed, outcome, looks)) =
-      goes_and p q q s (record { meter = meter; ticks = ticks; left = left }) (record { meter = meter'; ticks = ticks'; left = left }) [] goes (Looks elapsed outcome ticks' meter' looks) (Adds-nil q)
-  goes_looking p q s meter meter' ticks ticks' left goes (inr (same, still)) =
-      subst (λ (m : Meter P A ghosts). Goes p q s (record { meter = m; ticks = ticks'; left = left })) (sym same) (subst (λ (t : Ticks). Goes p q s (record { meter = meter; ticks = t; left = left })) (sym still) goes)
+  gives_of : (meter meter' : Meter P A ghosts) (ticks : Ticks) (bytes : List ℕ) (stay : Stay) (reads count refusals : ℕ) (reply : Option (List ℕ)) → 0 < length bytes → (0 < length bytes → 0 < count) → count ≤ length bytes
+      → IsCall meter (Fed (take count bytes) reply) meter' → Counts reply stay.turn.refusals refusals → Gives (at meter ticks bytes stay reads) reply (at meter' ticks (drop count bytes) (record stay { turn = record stay.turn { refusals = refusals } }) reads)
+  gives_of meter meter' ticks bytes stay reads count refusals reply some gave within call counts = record {
+    taken = take count bytes;
+    behind = drop count bytes;
+    refusals = refusals;
+    cut = sym (take-append-drop count bytes);
+    some = omega (arith, gave some, length-take-le count bytes within);
+    call = call;
+    counts = counts;
+    same = refl;
+  }
 
-  -- the same, with the clock or the bytes under another name
-  pub goes_still : (p q : Option (List LineMoment)) (s : At P A ghosts) (meter : Meter P A ghosts) (ticks ticks' : Ticks) (left left' : List ℕ)
-      → Goes p q s (record { meter = meter; ticks = ticks; left = left }) → ticks' ≡ ticks → left' ≡ left → Goes p q s (record { meter = meter; ticks = ticks'; left = left' })
-  goes_still p q s meter ticks ticks' left left' goes still same =
-      subst (λ (l : List ℕ). Goes p q s (record { meter = meter; ticks = ticks'; left = l })) (sym same) (subst (λ (t : Ticks). Goes p q s (record { meter = meter; ticks = t; left = left })) (sym still) goes)
+  given_by : {E : Type 0} (q r : Option (List Moment)) (meter meter' : Meter P A ghosts) (ticks : Ticks) (bytes rest : List ℕ) (stay : Stay) (reads refusals : ℕ) (taken : Taken) → 0 < length bytes → rest ≡ drop taken.count bytes
+      → GivesFrame {E = E} q r meter bytes stay.turn.refusals refusals (Ok taken) meter'
+      → Given q r (at meter ticks bytes stay reads) (at meter' ticks rest (record stay { turn = record stay.turn { refusals = refusals } }) reads) taken.is_answered
+  given_by {E} q r meter meter' ticks bytes rest stay reads refusals taken some left is =
+      by_reply is.reply is.call is.counts is.replies where
+        by_reply : (reply : Option (List ℕ)) → IsCall meter (Fed (take is.count bytes) reply) meter' → Counts reply stay.turn.refusals refusals → Replied {E = E} q r is.count reply (Ok taken)
+            → Given q r (at meter ticks bytes stay reads) (at meter' ticks rest (record stay { turn = record stay.turn { refusals = refusals } }) reads) taken.is_answered
+        by_reply None call counts (same, adds) =
+            let same_rest : rest ≡ drop is.count bytes = left ∙ ap (λ (t : Taken). drop t.count bytes) same in
+            record {
+              reply = None;
+              gives = subst (λ (l : List ℕ). Gives (at meter ticks bytes stay reads) None (at meter' ticks l (record stay { turn = record stay.turn { refusals = refusals } }) reads)) (sym same_rest)
+                  (gives_of meter meter' ticks bytes stay reads is.count refusals None some is.some is.within call counts);
+              adds = adds;
+              same = ap (λ (t : Taken). t.is_answered) same;
+            }
+        by_reply (Some reply) call counts (same, adds) =
+            let same_rest : rest ≡ drop is.count bytes = left ∙ ap (λ (t : Taken). drop t.count bytes) same in
+            record {
+              reply = Some reply;
+              gives = subst (λ (l : List ℕ). Gives (at meter ticks bytes stay reads) (Some reply) (at meter' ticks l (record stay { turn = record stay.turn { refusals = refusals } }) reads)) (sym same_rest)
+                  (gives_of meter meter' ticks bytes stay reads is.count refusals (Some reply) some is.some is.within call counts);
+              adds = adds;
+              same = ap (λ (t : Taken). t.is_answered) same;
+            }
 
-  pub goes_reading : (E : Type 0) (p q r : Option (List LineMoment)) (s : At P A ghosts) (meter : Meter P A ghosts) (ticks : Ticks) (count : ℕ) (piece bytes : List ℕ)
-      → Goes p q s (record { meter = meter; ticks = ticks; left = [] }) → bytes ≡ take count piece → ReadsPiece {E = E} q r (Ok count) piece → Goes p r s (record { meter = meter; ticks = ticks; left = bytes })
-  goes_reading E p q r s meter ticks count piece bytes goes is (inl adds) =
-      subst (λ l. Goes p r s (record { meter = meter; ticks = ticks; left = l })) (sym is)
-      (goes_and p q r s (record { meter = meter; ticks = ticks; left = [] }) (record { meter = meter; ticks = ticks; left = take count piece }) _ goes (Reads (take count piece) refl) adds)
-  goes_reading E p q r s meter ticks count piece bytes goes is (inr (none, adds)) =
-      let nothing : bytes ≡ [] = is ∙ ap (λ n. take n piece) none in
-      subst (λ l. Goes p r s (record { meter = meter; ticks = ticks; left = l })) (sym nothing)
-      (goes_and p q r s (record { meter = meter; ticks = ticks; left = [] }) (record { meter = meter; ticks = ticks; left = [] }) _ goes (Waits refl) adds)
+  -- the bytes are answered, and the turn is not over
+  pub goes_answering : {E : Type 0} (rules : Rules) (p q r : Option (List Moment)) (v w x : Option (List Sight)) (s : At P A ghosts) (meter given meter' : Meter P A ghosts) (ticks ticks' : Ticks) (bytes rest : List ℕ) (stay stay' : Stay)
+      (reads refusals : ℕ) (taken : Taken) (found : Option Why) → 0 < length bytes → rest ≡ drop taken.count bytes → Goes rules p q v w s (at meter ticks bytes stay reads)
+      → GivesFrame {E = E} q r meter bytes stay.turn.refusals refusals (Ok taken) given → found ≡ None
+      → ChecksOnce rules w x (at given ticks rest (record stay { turn = record stay.turn { refusals = refusals } }) reads) taken.is_answered (Ok found) (at meter' ticks' rest stay' reads)
+      → Goes rules p r v x s (at meter' ticks' rest stay' reads)
+  goes_answering {E} rules p q r v w x s meter given meter' ticks ticks' bytes rest stay stay' reads refusals taken found some left goes is none (now, sights, sees, checks, tells) =
+      let g = given_by {E = E} q r meter given ticks bytes rest stay reads refusals taken some left is in
+      let mid = at given ticks rest (record stay { turn = record stay.turn { refusals = refusals } }) reads in
+      let after = at meter' ticks' rest stay' reads in
+      goes_and rules p q r v w x s (at meter ticks bytes stay reads) after (goes_out g.reply) (Second (Some now) ∷ sights) goes
+      (Answers g.reply mid now sights after g.gives (subst (λ (b : Bool). Checks rules mid b now sights after) g.same checks) (subst (λ (o : Option Why). Tells rules.times stay'.turn now o) none tells))
+      g.adds sees
 
-  pub goes_answering : (E : Type 0) (p q r : Option (List LineMoment)) (s : At P A ghosts) (meter meter' : Meter P A ghosts) (ticks : Ticks) (bytes : List ℕ) (taken : Taken)
-      → Goes p q s (record { meter = meter; ticks = ticks; left = bytes }) → AnswersFrame {E = E} q r meter bytes (Ok taken) meter' → IsLater meter.store meter'.store → Goes p r s (record { meter = meter'; ticks = ticks; left = drop taken.count bytes })
-  goes_answering E p q r s meter meter' ticks bytes taken goes is later = answered is.reply is.feeds is.replies where
-    answered : (reply : Option (List ℕ)) → Feeds meter (take is.count bytes) reply meter' → Replies {E = E} q r is.count reply (Ok taken) → Goes p r s (record { meter = meter'; ticks = ticks; left = drop taken.count bytes })
-    answered None feeds (same, adds) =
-        subst (λ (t : Taken). Goes p r s (record { meter = meter'; ticks = ticks; left = drop t.count bytes })) (sym same)
-        (goes_and p q r s (record { meter = meter; ticks = ticks; left = bytes }) (record { meter = meter'; ticks = ticks; left = drop is.count bytes }) [] goes
-        (Takes (take is.count bytes) (drop is.count bytes) meter' (sym (take-append-drop is.count bytes)) (feeds, later)) adds)
-    answered (Some reply) feeds (same, adds) =
-        subst (λ (t : Taken). Goes p r s (record { meter = meter'; ticks = ticks; left = drop t.count bytes })) (sym same)
-        (goes_and p q r s (record { meter = meter; ticks = ticks; left = bytes }) (record { meter = meter'; ticks = ticks; left = drop is.count bytes }) (Went reply ∷ []) goes
-        (Answers (take is.count bytes) (drop is.count bytes) reply meter' (sym (take-append-drop is.count bytes)) (feeds, later)) adds)
+  -- ---- a read
 
-  -- ---- ends
+  reads_as : (rules : Rules) (p q r : Option (List Moment)) (v w x : Option (List Sight)) (s mid after : At P A ghosts) (now : ℕ) (sights : List Sight) (piece bytes : List ℕ) (count : ℕ) → mid.left ≡ []
+      → Goes rules p q v w s mid → Sees w x (Second (Some now) ∷ sights) → Checks rules mid false now sights after → Tells rules.times after.stay.turn now None → bytes ≡ take count piece → ReadsPiece {E = Error} q r (Ok count) piece
+      → Goes rules p r v x s (record after { left = bytes; reads = after.reads + 1 })
+  reads_as rules p q r v w x s mid after now sights piece bytes count given goes sees checks tells is (inl adds) =
+      goes_and rules p q r v w x s mid (record after { left = bytes; reads = after.reads + 1 }) (Came (take count piece) ∷ []) (Second (Some now) ∷ sights) goes
+      (Reads now sights after (Came (take count piece)) bytes given checks tells is) adds sees
+  reads_as rules p q r v w x s mid after now sights piece bytes count given goes sees checks tells is (inr (none, adds)) =
+      goes_and rules p q r v w x s mid (record after { left = bytes; reads = after.reads + 1 }) (Quiet ∷ []) (Second (Some now) ∷ sights) goes
+      (Reads now sights after Quiet bytes given checks tells (is ∙ ap (λ (n : ℕ). take n piece) none)) adds sees
 
-  pub serves_as_is : (times : Times) (p q : Option (List LineMoment)) (s : At P A ghosts) (meter : Meter P A ghosts) (ticks : Ticks) (left : List ℕ) (result : Result Ending LoopFault)
-      → Goes p q s (record { meter = meter; ticks = ticks; left = left }) → EndsFor times result [] → ServesFor times p q s result meter ticks
-  serves_as_is times p q s meter ticks left result goes why = ([], left, record { now = q; last = record { meter = meter; ticks = ticks; left = left }; goes = goes; ends = AsIs; happened = Adds-nil q }, why)
+  pub goes_reading : (rules : Rules) (p q r : Option (List Moment)) (v w x : Option (List Sight)) (s : At P A ghosts) (meter meter' : Meter P A ghosts) (ticks ticks' : Ticks) (stay stay' : Stay) (reads : ℕ) (found : Option Why)
+      (piece bytes : List ℕ) (count : ℕ) → Goes rules p q v w s (at meter ticks [] stay reads) → found ≡ None → ChecksOnce rules w x (at meter ticks [] stay reads) false (Ok found) (at meter' ticks' [] stay' reads)
+      → bytes ≡ take count piece → ReadsPiece {E = Error} q r (Ok count) piece → Goes rules p r v x s (at meter' ticks' bytes stay' (reads + 1))
+  goes_reading rules p q r v w x s meter meter' ticks ticks' stay stay' reads found piece bytes count goes none (now, sights, sees, checks, tells) is read =
+      reads_as rules p q r v w x s (at meter ticks [] stay reads) (at meter' ticks' [] stay' reads) now sights piece bytes count refl goes sees checks (subst (λ (o : Option Why). Tells rules.times stay'.turn now o) none tells) is read
 
-  pub serves_to_a_read : (times : Times) (p q r : Option (List LineMoment)) (s : At P A ghosts) (meter : Meter P A ghosts) (ticks : Ticks) (result : Result Ending LoopFault)
-      → Goes p q s (record { meter = meter; ticks = ticks; left = [] }) → Adds q r (Broke [] ∷ []) → EndsFor times result (Broke [] ∷ []) → ServesFor times p r s result meter ticks
-  serves_to_a_read times p q r s meter ticks result goes adds why =
-      (Broke [] ∷ [], [], record { now = q; last = record { meter = meter; ticks = ticks; left = [] }; goes = goes; ends = AtRead refl; happened = adds }, why)
+  -- ---- it ends
 
-  pub serves_to_a_reply : {E : Type 0} (times : Times) (p q r : Option (List LineMoment)) (s : At P A ghosts) (meter meter' : Meter P A ghosts) (ticks : Ticks) (bytes : List ℕ) (e : E) (result : Result Ending LoopFault)
-      → Goes p q s (record { meter = meter; ticks = ticks; left = bytes }) → AnswersFrame q r meter bytes (Err e) meter' → IsLater meter.store meter'.store → ((part : List ℕ) → EndsFor times result (Broke part ∷ [])) → ServesFor times p r s result meter' ticks
-  serves_to_a_reply {E} times p q r s meter meter' ticks bytes e result goes is later why = broken is.reply is.feeds is.replies where
-    broken : (reply : Option (List ℕ)) → Feeds meter (take is.count bytes) reply meter' → Replies {E = E} q r is.count reply (Err e) → ServesFor times p r s result meter' ticks
-    broken None feeds none = absurd none
-    broken (Some reply) feeds (part, missing, joined, adds) = (
-      Broke part ∷ [],
-      drop is.count bytes,
-      record {
-        now = q;
-        last = record { meter = meter; ticks = ticks; left = bytes };
-        goes = goes;
-        ends = AtReply (take is.count bytes) (drop is.count bytes) reply part missing meter' (sym (take-append-drop is.count bytes)) joined (feeds, later);
-        happened = adds;
-      },
-      why part,
-    )
+  pub ends_behind : (rules : Rules) (p q r : Option (List Moment)) (v w x : Option (List Sight)) (s mid : At P A ghosts) (result : Result Ending LoopFault) (meter : Meter P A ghosts) (ticks : Ticks)
+      → Goes rules p q v w s mid → GoesToEnd rules q r w x mid result meter ticks → GoesToEnd rules p r v x s result meter ticks
+  ends_behind rules p q r v w x s mid result meter ticks goes ends = record {
+    now = ends.now;
+    seen_now = ends.seen_now;
+    last = ends.last;
+    goes = goes_on rules p q ends.now v w ends.seen_now s mid ends.last goes ends.goes;
+    moments = ends.moments;
+    sights = ends.sights;
+    ends = ends.ends;
+    happened = ends.happened;
+    watched = ends.watched;
+  }
 
-  -- what went before
-  pub serves_behind : (times : Times) (p q r : Option (List LineMoment)) (s mid : At P A ghosts) (meter : Meter P A ghosts) (ticks : Ticks) (result : Result Ending LoopFault)
-      → Goes p q s mid → ServesFor times q r mid result meter ticks → ServesFor times p r s result meter ticks
-  serves_behind times p q r s mid meter ticks result goes (moments, rest, serves, why) =
-      (moments, rest, record { now = serves.now; last = serves.last; goes = goes_on p q serves.now s mid serves.last goes serves.goes; ends = serves.ends; happened = serves.happened }, why)
+  ends_so : (rules : Rules) (p q r : Option (List Moment)) (v w x : Option (List Sight)) (s last : At P A ghosts) (result : Result Ending LoopFault) (moments : List Moment) (sights : List Sight) (meter : Meter P A ghosts) (ticks : Ticks)
+      → Goes rules p q v w s last → Ends rules last result moments sights meter ticks → Adds q r moments → Sees w x sights → GoesToEnd rules p r v x s result meter ticks
+  ends_so rules p q r v w x s last result moments sights meter ticks goes ends adds sees =
+      record { now = q; seen_now = w; last = last; goes = goes; moments = moments; sights = sights; ends = ends; happened = adds; watched = sees }
 
-  pub ended : (times : Times) (p q : Option (List LineMoment)) (s : At P A ghosts) (meter : Meter P A ghosts) (ticks : Ticks) (found : Option Ending) (ending : Ending) → found ≡ Some ending
-      → AnswersEach times p q s (Ok found) meter ticks → ServesFor times p q s (Ok ending) meter ticks
-  ended times p q s meter ticks found ending is each = subst (λ (o : Option Ending). AnswersEach times p q s (Ok o) meter ticks) is each
+  -- before a read
+  pub over_at_read : (rules : Rules) (p q : Option (List Moment)) (v w x : Option (List Sight)) (s : At P A ghosts) (meter meter' : Meter P A ghosts) (ticks ticks' : Ticks) (stay stay' : Stay) (reads : ℕ) (found : Option Why) (why : Why)
+      → Goes rules p q v w s (at meter ticks [] stay reads) → found ≡ Some why → ChecksOnce rules w x (at meter ticks [] stay reads) false (Ok found) (at meter' ticks' [] stay' reads)
+      → GoesToEnd rules p q v x s (Ok (Over why)) meter' ticks'
+  over_at_read rules p q v w x s meter meter' ticks ticks' stay stay' reads found why goes is (now, sights, sees, checks, tells) =
+      ends_so rules p q q v w x s (at meter ticks [] stay reads) (Ok (Over why)) [] (Second (Some now) ∷ sights) meter' ticks' goes
+      (IsOver [] false (at meter ticks [] stay reads) now sights (at meter' ticks' [] stay' reads) why (ToRead refl) checks (subst (λ (o : Option Why). Tells rules.times stay'.turn now o) is tells)) (adds_none q) sees
 
-  pub went_on : (times : Times) (p q : Option (List LineMoment)) (s : At P A ghosts) (meter : Meter P A ghosts) (ticks : Ticks) (found : Option Ending) → found ≡ None → AnswersEach times p q s (Ok found) meter ticks
-      → Goes p q s (record { meter = meter; ticks = ticks; left = [] })
-  went_on times p q s meter ticks found is each = subst (λ (o : Option Ending). AnswersEach times p q s (Ok o) meter ticks) is each
+  pub look_fails_at_read : (rules : Rules) (p q : Option (List Moment)) (v w x : Option (List Sight)) (s : At P A ghosts) (meter meter' : Meter P A ghosts) (ticks ticks' : Ticks) (stay stay' : Stay) (reads : ℕ) (fault : LoopFault)
+      → Goes rules p q v w s (at meter ticks [] stay reads) → ChecksOnce rules w x (at meter ticks [] stay reads) false (Err fault) (at meter' ticks' [] stay' reads) → GoesToEnd rules p q v x s (Err fault) meter' ticks'
+  look_fails_at_read rules p q v w x s meter meter' ticks ticks' stay stay' reads fault goes (sights, sees, fails, left, staying, counted) =
+      ends_so rules p q q v w x s (at meter ticks [] stay reads) (Err fault) [] sights meter' ticks' goes (LookEnds [] false (at meter ticks [] stay reads) fault sights meter' ticks' (ToRead refl) fails) (adds_none q) sees
 
-  -- ---- the calls of a meter
+  pub read_breaks : (rules : Rules) (p q r : Option (List Moment)) (v w x : Option (List Sight)) (s : At P A ghosts) (meter meter' : Meter P A ghosts) (ticks ticks' : Ticks) (stay stay' : Stay) (reads : ℕ) (found : Option Why) (ending : Ending)
+      → Goes rules p q v w s (at meter ticks [] stay reads) → found ≡ None → ChecksOnce rules w x (at meter ticks [] stay reads) false (Ok found) (at meter' ticks' [] stay' reads) → Adds q r (Broke [] ∷ []) → IsOfRead ending
+      → GoesToEnd rules p r v x s (Ok ending) meter' ticks'
+  read_breaks rules p q r v w x s meter meter' ticks ticks' stay stay' reads found ending goes none (now, sights, sees, checks, tells) adds of_read =
+      ends_so rules p q r v w x s (at meter ticks [] stay reads) (Ok ending) (Broke [] ∷ []) (Second (Some now) ∷ sights) meter' ticks' goes
+      (ReadEnds now sights (at meter' ticks' [] stay' reads) ending refl checks (subst (λ (o : Option Why). Tells rules.times stay'.turn now o) none tells) of_read) adds sees
 
-  abbrev Made : Meter P A ghosts → Meter P A ghosts → Type 0
-  Made a b = (calls : List Call) × Calls a calls b
+  pub tires : (rules : Rules) (p q : Option (List Moment)) (v w : Option (List Sight)) (s : At P A ghosts) (meter : Meter P A ghosts) (ticks : Ticks) (stay : Stay) (reads : ℕ) → reads ≡ 2 ^ 64 - 1
+      → Goes rules p q v w s (at meter ticks [] stay reads) → GoesToEnd rules p q v w s (Err Io) meter ticks
+  tires rules p q v w s meter ticks stay reads all goes = ends_so rules p q q v w w s (at meter ticks [] stay reads) (Err Io) [] [] meter ticks goes (Tires refl all) (adds_none q) (sees_nothing w)
 
-  Calls-trans : (xs ys : List Call) (a b c : Meter P A ghosts) → Calls a xs b → Calls b ys c → Calls a (xs ++ ys) c
-  Calls-trans [] ys a b c p q = subst (λ (m : Meter P A ghosts). Calls m ys c) p q
-  Calls-trans (x ∷ xs) ys a b c p q = (p.0, p.1, Calls-trans xs ys p.0 b c p.2 q)
+  -- behind bytes
+  pub reply_breaks : {E : Type 0} (rules : Rules) (p q r : Option (List Moment)) (v w : Option (List Sight)) (s : At P A ghosts) (meter given : Meter P A ghosts) (ticks : Ticks) (bytes : List ℕ) (stay : Stay) (reads refusals : ℕ) (e : E) (error : Error)
+      → 0 < length bytes → Goes rules p q v w s (at meter ticks bytes stay reads) → GivesFrame {E = E} q r meter bytes stay.turn.refusals refusals (Err e) given → GoesToEnd rules p r v w s (Ok (Failed error)) given ticks
+  reply_breaks {E} rules p q r v w s meter given ticks bytes stay reads refusals e error some goes is = by_reply is.reply is.call is.counts is.replies where
+    by_reply : (reply : Option (List ℕ)) → IsCall meter (Fed (take is.count bytes) reply) given → Counts reply stay.turn.refusals refusals → Replied {E = E} q r is.count reply (Err e)
+        → GoesToEnd rules p r v w s (Ok (Failed error)) given ticks
+    by_reply None call counts none = absurd none
+    by_reply (Some reply) call counts (part, missing, joined, adds) =
+        ends_so rules p q r v w w s (at meter ticks bytes stay reads) (Ok (Failed error)) (Broke part ∷ []) [] given ticks goes
+        (ReplyEnds reply part missing (at given ticks (drop is.count bytes) (record stay { turn = record stay.turn { refusals = refusals } }) reads) error
+        (gives_of meter given ticks bytes stay reads is.count refusals (Some reply) some is.some is.within call counts) joined) adds (sees_nothing w)
 
-  pub joined : (a b c : Meter P A ghosts) → Made a b → Made b c → Made a c
-  joined a b c p q = (p.0 ++ q.0, Calls-trans p.0 q.0 a b c p.1 q.1)
+  pub over_behind : {E : Type 0} (rules : Rules) (p q r : Option (List Moment)) (v w x : Option (List Sight)) (s : At P A ghosts) (meter given meter' : Meter P A ghosts) (ticks ticks' : Ticks) (bytes rest : List ℕ) (stay stay' : Stay)
+      (reads refusals : ℕ) (taken : Taken) (found : Option Why) (why : Why) → 0 < length bytes → rest ≡ drop taken.count bytes → Goes rules p q v w s (at meter ticks bytes stay reads)
+      → GivesFrame {E = E} q r meter bytes stay.turn.refusals refusals (Ok taken) given → found ≡ Some why
+      → ChecksOnce rules w x (at given ticks rest (record stay { turn = record stay.turn { refusals = refusals } }) reads) taken.is_answered (Ok found) (at meter' ticks' rest stay' reads)
+      → GoesToEnd rules p r v x s (Ok (Over why)) meter' ticks'
+  over_behind {E} rules p q r v w x s meter given meter' ticks ticks' bytes rest stay stay' reads refusals taken found why some left goes is told (now, sights, sees, checks, tells) =
+      let g = given_by {E = E} q r meter given ticks bytes rest stay reads refusals taken some left is in
+      let mid = at given ticks rest (record stay { turn = record stay.turn { refusals = refusals } }) reads in
+      let after = at meter' ticks' rest stay' reads in
+      ends_so rules p q r v w x s (at meter ticks bytes stay reads) (Ok (Over why)) (goes_out g.reply) (Second (Some now) ∷ sights) meter' ticks' goes
+      (IsOver (goes_out g.reply) (has_any g.reply) mid now sights after why (Behind g.reply mid g.gives) (subst (λ (b : Bool). Checks rules mid b now sights after) g.same checks)
+      (subst (λ (o : Option Why). Tells rules.times stay'.turn now o) told tells)) g.adds sees
 
-  one_told : (a b : Meter P A ghosts) (event : Event) (outcome : Result (Unit {0}) AddFault) → IsCall a (Told event outcome) b → Made a b
-  one_told a b event outcome is = (Told event outcome ∷ [], (b, is, refl))
+  pub look_fails_behind : {E : Type 0} (rules : Rules) (p q r : Option (List Moment)) (v w x : Option (List Sight)) (s : At P A ghosts) (meter given meter' : Meter P A ghosts) (ticks ticks' : Ticks) (bytes rest : List ℕ) (stay stay' : Stay)
+      (reads refusals : ℕ) (taken : Taken) (fault : LoopFault) → 0 < length bytes → rest ≡ drop taken.count bytes → Goes rules p q v w s (at meter ticks bytes stay reads)
+      → GivesFrame {E = E} q r meter bytes stay.turn.refusals refusals (Ok taken) given
+      → ChecksOnce rules w x (at given ticks rest (record stay { turn = record stay.turn { refusals = refusals } }) reads) taken.is_answered (Err fault) (at meter' ticks' rest stay' reads)
+      → GoesToEnd rules p r v x s (Err fault) meter' ticks'
+  look_fails_behind {E} rules p q r v w x s meter given meter' ticks ticks' bytes rest stay stay' reads refusals taken fault some left goes is (sights, sees, fails, same, staying, counted) =
+      let g = given_by {E = E} q r meter given ticks bytes rest stay reads refusals taken some left is in
+      let mid = at given ticks rest (record stay { turn = record stay.turn { refusals = refusals } }) reads in
+      ends_so rules p q r v w x s (at meter ticks bytes stay reads) (Err fault) (goes_out g.reply) sights meter' ticks' goes
+      (LookEnds (goes_out g.reply) (has_any g.reply) mid fault sights meter' ticks' (Behind g.reply mid g.gives) fails) g.adds sees
 
-  behind_pulses : (a b : Meter P A ghosts) (second : Second) (counted outcome : Result (Unit {0}) AddFault)
-      → MatchResult counted (λ _. IsCall a (Told (Moment second.moment) outcome) b) (λ fault. (outcome ≡ Err fault) × (b ≡ a)) → Made a b
-  behind_pulses a b second (Ok done) outcome is = one_told a b (Moment second.moment) outcome is
-  behind_pulses a b second (Err fault) outcome is = subst (λ (m : Meter P A ghosts). Made a m) (sym is.1) ([], refl)
+  -- ---- from the beginning
 
-  one_second : (a b : Meter P A ghosts) (second : Second) (n : ℕ) (outcome : Result (Unit {0}) AddFault) → second.pulses ≡ n → Tells a second outcome b → Made a b
-  one_second a b second zero outcome e tells = one_told a b (Moment second.moment) outcome (tells.0 e)
-  one_second a b second (suc n) outcome e tells =
-      let (counted, between, judged, then) = tells.1 (omega (arith, e)) in
-      joined a between b (one_told a between (Pulses 0 second.pulses) counted judged) (behind_pulses between b second counted outcome then)
+  pub unbegun : (rules : Rules) (past : Option (List Moment)) (v w : Option (List Sight)) (meter meter' : Meter P A ghosts) (ticks ticks' : Ticks) (fault : LoopFault) → LooksOnce rules.tick v w meter ticks (Err fault) meter' ticks'
+      → Connection rules past past v w meter ticks (Err fault) meter' ticks'
+  unbegun rules past v w meter meter' ticks ticks' fault (sights, sees, fails) = Unbegun fault sights meter' ticks' fails (adds_none past) sees
 
-  each_second : (a b : Meter P A ghosts) (said outcome : Result (Unit {0}) AddFault) (seconds : List Second) → TellsEach a said seconds outcome b → Made a b
-  each_second a b said outcome [] is = subst (λ (m : Meter P A ghosts). Made a m) (sym is.0) ([], refl)
-  each_second a b said outcome (second ∷ seconds) is = joined a is.2 b (one_second a is.2 second second.pulses is.1 refl is.3) (each_second is.2 b is.1 outcome seconds is.4)
+  pub from_start : (rules : Rules) (p q : Option (List Moment)) (v w x : Option (List Sight)) (meter mid meter' : Meter P A ghosts) (ticks told ticks' : Ticks) (first : ℕ) (result : Result Ending LoopFault)
+      → LooksOnce rules.tick v w meter ticks (Ok first) mid told → GoesToEnd rules p q w x (begins mid told first) result meter' ticks' → Connection rules p q v x meter ticks result meter' ticks'
+  from_start rules p q v w x meter mid meter' ticks told ticks' first result (sees, look) ends = Begun first w mid meter' told ticks' result look sees ends
 
-  pub looking_calls : (a b : Meter P A ghosts) (ticks ticks' : Ticks) → LooksOnce a ticks b ticks' → Made a b
-  looking_calls a b ticks ticks' (inl (elapsed, outcome, looks)) = each_second a b (Ok tt) outcome looks.1.seconds looks.1.each
-  looking_calls a b ticks ticks' (inr (same, still)) = subst (λ (m : Meter P A ghosts). Made a m) (sym same) ([], refl)
+  pub each_ends : (rules : Rules) (p q : Option (List Moment)) (v w : Option (List Sight)) (s : At P A ghosts) (meter : Meter P A ghosts) (ticks : Ticks) (stay : Stay) (found : Option Ending) (ending : Ending) → found ≡ Some ending
+      → AnswersEach rules p q v w s (Ok found) meter ticks stay → GoesToEnd rules p q v w s (Ok ending) meter ticks
+  each_ends rules p q v w s meter ticks stay found ending is each = subst (λ (o : Option Ending). AnswersEach rules p q v w s (Ok o) meter ticks stay) is each
 
-  doing_calls : (s after : At P A ghosts) (moments : List LineMoment) → Doing s moments after → Made s.meter after.meter
-  doing_calls s after moments (Looks elapsed outcome ticks meter looks) = each_second s.meter meter (Ok tt) outcome looks.1.seconds looks.1.each
-  doing_calls s after moments (Reads bytes none) = ([], refl)
-  doing_calls s after moments (Waits none) = ([], refl)
-  doing_calls s after moments (Takes taken behind meter cut feeds) = (Fed taken None ∷ [], (meter, feeds, refl))
-  doing_calls s after moments (Answers taken behind reply meter cut feeds) = (Fed taken (Some reply) ∷ [], (meter, feeds, refl))
+  pub each_goes : (rules : Rules) (p q : Option (List Moment)) (v w : Option (List Sight)) (s : At P A ghosts) (meter : Meter P A ghosts) (ticks : Ticks) (stay : Stay) (found : Option Ending) → found ≡ None
+      → AnswersEach rules p q v w s (Ok found) meter ticks stay → Goes rules p q v w s (at meter ticks [] stay s.reads)
+  each_goes rules p q v w s meter ticks stay found is each = subst (λ (o : Option Ending). AnswersEach rules p q v w s (Ok o) meter ticks stay) is each
 
-  doings_calls : (s after : At P A ghosts) (moments : List LineMoment) → Doings s moments after → Made s.meter after.meter
-  doings_calls s after moments Begun = ([], refl)
-  doings_calls s after moments (Then before more mid a does doing) = joined s.meter mid.meter after.meter (doings_calls s mid before does) (doing_calls mid after more doing)
+  -- a connection of which so often was read
+  pub record Under (rules : Rules) (p q : Option (List Moment)) (v x : Option (List Sight)) (meter : Meter P A ghosts) (ticks : Ticks) (meter' : Meter P A ghosts) (ticks' : Ticks) (stay : Stay) (reads : ℕ) : Type 0 where
+    pub first : ℕ
+    pub seen : Option (List Sight)
+    pub mid : Meter P A ghosts
+    pub told : Ticks
+    pub look : LooksOnce rules.tick v seen meter ticks (Ok first) mid told
+    pub goes : Goes rules p q seen x (begins mid told first) (at meter' ticks' [] stay reads)
 
-  end_calls : (s after : At P A ghosts) (moments : List LineMoment) → Ends s moments after → Made s.meter after.meter
-  end_calls s after moments AsIs = ([], refl)
-  end_calls s after moments (AtRead none) = ([], refl)
-  end_calls s after moments (AtReply taken behind reply part missing meter cut begins feeds) = (Fed taken (Some reply) ∷ [], (meter, feeds, refl))
+  pub under_ends : (rules : Rules) (p q r : Option (List Moment)) (v w x : Option (List Sight)) (meter mid meter' : Meter P A ghosts) (ticks told ticks' : Ticks) (stay : Stay) (reads : ℕ) (result : Result Ending LoopFault)
+      → (u : Under rules p q v w meter ticks mid told stay reads) → GoesToEnd rules p r u.seen x (begins u.mid u.told u.first) result meter' ticks' → Connection rules p r v x meter ticks result meter' ticks'
+  under_ends rules p q r v w x meter mid meter' ticks told ticks' stay reads result u ends = from_start rules p r v u.seen x meter u.mid meter' ticks u.told ticks' u.first result u.look ends
 
-  pub serving_calls : (times : Times) (p q : Option (List LineMoment)) (s : At P A ghosts) (meter : Meter P A ghosts) (ticks : Ticks) (result : Result Ending LoopFault) → ServesFor times p q s result meter ticks → Made s.meter meter
-  serving_calls times p q s meter ticks result (moments, rest, serves, why) =
-      joined s.meter serves.last.meter meter (doings_calls s serves.last serves.goes.moments serves.goes.does) (end_calls serves.last (record { meter = meter; ticks = ticks; left = rest }) moments serves.ends)
+  pub under_begins : (rules : Rules) (p : Option (List Moment)) (v w : Option (List Sight)) (meter mid : Meter P A ghosts) (ticks told : Ticks) (first : ℕ) (stay : Stay) → LooksOnce rules.tick v w meter ticks (Ok first) mid told
+      → stay ≡ record { turn = record { answered = first; held = first; waited = None; refusals = 0 }; asked = None } → Under rules p p v w meter ticks mid told stay 0
+  under_begins rules p v w meter mid ticks told first stay look is = record {
+    first = first;
+    seen = w;
+    mid = mid;
+    told = told;
+    look = look;
+    goes = subst (λ (t : Stay). Goes rules p p w w (begins mid told first) (at mid told [] t 0)) (sym is) (goes_nothing rules p w (begins mid told first));
+  }
+
+  pub under_goes : (rules : Rules) (p q r : Option (List Moment)) (v w x : Option (List Sight)) (meter mid meter' : Meter P A ghosts) (ticks told ticks' : Ticks) (stay stay' : Stay) (reads reads' : ℕ)
+      → (u : Under rules p q v w meter ticks mid told stay reads) → Goes rules q r w x (at mid told [] stay reads) (at meter' ticks' [] stay' reads') → Under rules p r v x meter ticks meter' ticks' stay' reads'
+  under_goes rules p q r v w x meter mid meter' ticks told ticks' stay stay' reads reads' u goes = record {
+    first = u.first;
+    seen = u.seen;
+    mid = u.mid;
+    told = u.told;
+    look = u.look;
+    goes = goes_on rules p q r u.seen w x (begins u.mid u.told u.first) (at mid told [] stay reads) (at meter' ticks' [] stay' reads') u.goes goes;
+  }

@@ -1,5 +1,9 @@
 pub mod HangingUp
 pub mod ClockLemmas
 pub mod TellingLemmas
-pub mod ConnectionLemmas
 pub mod TickLemmas
+pub mod RefusalLemmas
+pub mod TalkLemmas
+pub mod ConnectionLemmas
+pub mod CallLemmas
+pub mod ServeLemmas

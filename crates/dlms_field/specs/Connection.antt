@@ -1,90 +1,246 @@
 -- What a meter that serves does on a connection, one thing after another.
-use Rattle.std.specs.Prelude.{◌≡◌, ◌⊎◌, ℕ, List, [], ◌∷◌, ◌++◌, take, Option, Some, None, Result, Ok, Err}
-use Rattle.dlms_loopback.specs.Moments.{Moment, Adds}
+use Rattle.std.specs.Prelude.{◌≡◌, ◌≢◌, ◌⊎◌, ◌↔◌, ◌+◌, ◌-◌, ◌^◌, ◌<◌, ◌≤◌, ℕ, Bool, true, false, IsTrue, IsSome, List, [], ◌∷◌, ◌++◌, length, max, min, take, Option, Some, None, Result, Ok, Err, if◌then◌else◌}
+use Rattle.std.specs.declared.io.Error.{Error}
+use Rattle.dlms_frame.specs.declared.client.Client.{Client}
+use Rattle.dlms_loopback.specs.Faults.{IsOfSystem}
+use Rattle.dlms_loopback.specs.Moments.{Moment, Adds, Breaks}
 use Rattle.dlms_loopback.specs.Moments.Moment.{Came, Quiet, Went, Broke}
 use Rattle.dlms_loopback.specs.declared.fault.LoopFault.{LoopFault}
+use Rattle.dlms_loopback.specs.declared.fault.LoopFault.TheVariants.{Add, Io}
+use Rattle.dlms_loopback.specs.declared.meter_end.Taken.{Taken}
+use Rattle.dlms_meter.specs.Run.{record_for}
 use Rattle.dlms_meter.specs.Steps.{IsCall}
 use Rattle.dlms_meter.specs.Steps.Call.{Fed}
 use Rattle.dlms_meter.specs.declared.meter.Meter.{Meter}
 use Rattle.dlms_pages.specs.declared.device.Pages.{Ghosts}
 use Rattle.dlms_store.specs.declared.fault.AddFault.{AddFault}
-use Rattle.dlms_field.specs.Telling.{Looks as LooksAt}
+use Rattle.dlms_store.specs.declared.fault.AddFault.TheVariants as add
+use Rattle.dlms_field.specs.Pace.{AreDue}
+use Rattle.dlms_field.specs.Refusals.{RefusesAssociation}
+use Rattle.dlms_field.specs.Telling.{GoesOn, Looks}
 use Rattle.dlms_field.specs.Turns.{Tells}
-use Rattle.dlms_field.specs.declared.serving.Ending.{Ending}
-use Rattle.dlms_field.specs.declared.serving.Ending.TheVariants.{Closed, Failed, Over}
+use Rattle.dlms_field.specs.Watching.{Sight, Sees, has_any}
+use Rattle.dlms_field.specs.Watching.Sight.{Second, Another}
+use Rattle.dlms_field.specs.declared.talking.Ending.{Ending}
+use Rattle.dlms_field.specs.declared.talking.Ending.TheVariants.{Closed, Failed, Over}
+use Rattle.dlms_field.specs.declared.talking.Rules.{Rules}
+use Rattle.dlms_field.specs.declared.talking.Stay.{Stay}
 use Rattle.dlms_field.specs.declared.ticks.Ticks.{Ticks}
-use Rattle.dlms_field.specs.declared.turns.Times.{Times}
+use Rattle.dlms_field.specs.declared.turns.Over.{Over as Why}
 use Rattle.dlms_field.specs.declared.turns.Turn.{Turn}
 
--- how far the meter was told of the clock, and the bytes that came and that it was not given yet
+-- ---- a look at the clock
+
+-- So many seconds have gone by; the meter is told of those that are due, and its store goes on.
+pub record Looked {P A : Type 0} {ghosts : Ghosts P} (step : ℕ) (meter : Meter P A ghosts) (ticks : Ticks) (now : ℕ) (meter' : Meter P A ghosts) (ticks' : Ticks) : Type 0 where
+  pub due : ℕ
+  pub is_due : AreDue (max step 1) now due
+  pub outcome : Result (Unit {0}) AddFault
+  pub looks : Looks due ticks meter outcome ticks' meter'
+  pub goes_on : GoesOn outcome
+
+-- as what it is told that a store does not go on
+abbrev pub TellsStop : AddFault → LoopFault → Type 0
+TellsStop (add.Refused cause) fault = ⊥
+TellsStop add.Exhausted fault = fault ≡ Add add.Exhausted
+TellsStop add.Device fault = fault ≡ Add add.Device
+TellsStop add.Stopped fault = fault ≡ Add add.Device
+
+-- The clock failed; or the store, when the meter was told of the seconds that are due.
+pub data LookFails {P A : Type 0} {ghosts : Ghosts P} (step : ℕ) (meter : Meter P A ghosts) (ticks : Ticks) (fault : LoopFault) : List Sight → Meter P A ghosts → Ticks → Type 0 where
+  NoClock : IsOfSystem fault → LookFails step meter ticks fault (Second None ∷ []) meter ticks
+  NoStore : (now due : ℕ) (why : AddFault) (meter' : Meter P A ghosts) (ticks' : Ticks) → AreDue (max step 1) now due → Looks due ticks meter (Err why) ticks' meter' → TellsStop why fault
+      → LookFails step meter ticks fault (Second (Some now) ∷ []) meter' ticks'
+
+abbrev pub LooksOnce : {P A : Type 0} → {ghosts : Ghosts P} → ℕ → Option (List Sight) → Option (List Sight) → Meter P A ghosts → Ticks → Result ℕ LoopFault → Meter P A ghosts → Ticks → Type 0
+LooksOnce step seen seen' meter ticks (Ok now) meter' ticks' = Sees seen seen' (Second (Some now) ∷ []) × Looked step meter ticks now meter' ticks'
+LooksOnce step seen seen' meter ticks (Err fault) meter' ticks' = (sights : List Sight) × Sees seen seen' sights × LookFails step meter ticks fault sights meter' ticks'
+
+-- ---- a connection as it stands
+
+-- the meter, and how far it was told of the clock; the bytes that came and that it was not given yet; the turn, and when it was asked
+-- last whether another connection waits; and how often was read
 pub record At (P A : Type 0) (ghosts : Ghosts P) : Type 0 where
   pub meter : Meter P A ghosts
   pub ticks : Ticks
   pub left : List ℕ
+  pub stay : Stay
+  pub reads : ℕ
 
--- One thing that it does, and what is seen of it on the line. It looks at the clock, and tells the meter of the seconds that are due; it
--- reads, and bytes come, none where the call was interrupted, or nothing comes for as long as a read waits, and before that it has
--- given the meter all that came; it gives the meter of those bytes, and the reply goes out, whole, or there is none.
-pub data Doing {P A : Type 0} {ghosts : Ghosts P} (s : At P A ghosts) : List Moment → At P A ghosts → Type 0 where
-  Looks : (elapsed : ℕ) (outcome : Result (Unit {0}) AddFault) (ticks : Ticks) (meter : Meter P A ghosts) → LooksAt elapsed s.ticks s.meter outcome ticks meter
-      → Doing s [] (record s { meter = meter; ticks = ticks })
-  Reads : (bytes : List ℕ) → s.left ≡ [] → Doing s (Came bytes ∷ []) (record s { left = bytes })
-  Waits : s.left ≡ [] → Doing s (Quiet ∷ []) s
-  Takes : (taken behind : List ℕ) (meter : Meter P A ghosts) → s.left ≡ taken ++ behind → IsCall s.meter (Fed taken None) meter → Doing s [] (record s { meter = meter; left = behind })
-  Answers : (taken behind reply : List ℕ) (meter : Meter P A ghosts) → s.left ≡ taken ++ behind → IsCall s.meter (Fed taken (Some reply)) meter
-      → Doing s (Went reply ∷ []) (record s { meter = meter; left = behind })
+-- a connection that begins at this second
+abbrev pub begins : {P A : Type 0} → {ghosts : Ghosts P} → Meter P A ghosts → Ticks → ℕ → At P A ghosts
+begins meter ticks first =
+    record { meter = meter; ticks = ticks; left = []; stay = record { turn = record { answered = first; held = first; waited = None; refusals = 0 }; asked = None }; reads = 0 }
 
--- one after another
-pub data Doings {P A : Type 0} {ghosts : Ghosts P} (s : At P A ghosts) : List Moment → At P A ghosts → Type 0 where
-  Begun : Doings s [] s
-  Then : (before moments : List Moment) (mid after : At P A ghosts) → Doings s before mid → Doing mid moments after → Doings s (before ++ moments) after
+-- ---- bytes are given to the meter
 
--- So it went on, and this was seen on the line.
-pub record Goes {P A : Type 0} {ghosts : Ghosts P} (old new : Option (List Moment)) (s after : At P A ghosts) : Type 0 where
-  pub moments : List Moment
-  pub does : Doings s moments after
-  pub happened : Adds old new moments
+-- a reply that refuses an association is one refusal more, as far as they are counted
+abbrev pub Counts : Option (List ℕ) → ℕ → ℕ → Type 0
+Counts None before after = after ≡ before
+Counts (Some reply) before after = (refuses : Bool) × (IsTrue refuses ↔ RefusesAssociation reply) × (after ≡ (if refuses then (min (before + 1) 255) else before))
+
+-- The meter is given of the bytes in one call, and what it replies is counted.
+pub record Gives {P A : Type 0} {ghosts : Ghosts P} (s : At P A ghosts) (reply : Option (List ℕ)) (given : At P A ghosts) : Type 0 where
+  pub taken : List ℕ
+  pub behind : List ℕ
+  pub refusals : ℕ
+  pub cut : s.left ≡ taken ++ behind
+  pub some : 0 < length taken
+  pub call : IsCall s.meter (Fed taken reply) given.meter
+  pub counts : Counts reply s.stay.turn.refusals refusals
+  pub same : given ≡ record s { meter = given.meter; left = behind; stay = record s.stay { turn = record s.stay.turn { refusals = refusals } } }
+
+-- the reply goes out, whole, and it is told how many bytes were taken and whether there was one; or the line breaks at it
+abbrev pub Replied : {E : Type 0} → Option (List Moment) → Option (List Moment) → ℕ → Option (List ℕ) → Result Taken E → Type 0
+Replied old new count None (Ok taken) = (taken ≡ record { count = count; is_answered = false }) × Adds old new []
+Replied old new count None (Err e) = ⊥
+Replied old new count (Some reply) (Ok taken) = (taken ≡ record { count = count; is_answered = true }) × Adds old new (Went reply ∷ [])
+Replied old new count (Some reply) (Err e) = Breaks old new reply
+
+-- the same of one call, as its caller sees it
+pub record GivesFrame {P A E : Type 0} {ghosts : Ghosts P} (old new : Option (List Moment)) (before : Meter P A ghosts) (bytes : List ℕ) (refusals refusals' : ℕ) (result : Result Taken E) (after : Meter P A ghosts) : Type 0 where
+  pub count : ℕ
+  pub reply : Option (List ℕ)
+  pub some : 0 < length bytes → 0 < count
+  pub within : count ≤ length bytes
+  pub call : IsCall before (Fed (take count bytes) reply) after
+  pub counts : Counts reply refusals refusals'
+  pub replies : Replied old new count reply result
+
+-- ---- the turn
+
+-- a client has an association
+abbrev pub HasAssociation : {P A : Type 0} → {ghosts : Ghosts P} → Meter P A ghosts → Type 0
+HasAssociation meter = (who : Client) × IsSome (record_for meter who).session.opened
+
+-- the turn behind bytes that were answered, or were not
+abbrev pub noted : Turn → Bool → ℕ → Bool → Turn
+noted turn false now associated = turn
+noted turn true now associated = record turn { answered = now; held = if associated then now else turn.held }
+
+-- it is asked at this second whether another connection waits: none is known to, and it was not asked in this second yet
+abbrev pub IsDue : Stay → ℕ → Type 0
+IsDue stay now = (stay.turn.waited ≡ None) × (stay.asked ≢ Some now)
+
+-- the turn behind the answer
+abbrev pub behind_answer : Turn → ℕ → Bool → Turn
+behind_answer turn now waits = if waits then (record turn { waited = Some now }) else turn
+
+-- Where that is due it is asked.
+pub data AsksFor (stay : Stay) (now : ℕ) : List Sight → Turn → Type 0 where
+  NotDue : (IsDue stay now → ⊥) → AsksFor stay now [] stay.turn
+  Asks : IsDue stay now → (waits : Bool) → AsksFor stay now (Another now waits ∷ []) (behind_answer stay.turn now waits)
+
+-- so it was, where it is known what was asked
+abbrev pub AsksOnce : Option (List Sight) → Option (List Sight) → Stay → ℕ → Stay → Type 0
+AsksOnce seen seen' stay now stay' = (sights : List Sight) × Sees seen seen' sights × AsksFor stay now sights stay'.turn × (stay'.asked ≡ Some now)
+
+-- A look at the clock, behind bytes that were answered or were not, and at the turn at that second.
+pub record Checks {P A : Type 0} {ghosts : Ghosts P} (rules : Rules) (s : At P A ghosts) (is_answered : Bool) (now : ℕ) (sights : List Sight) (after : At P A ghosts) : Type 0 where
+  pub look : Looked rules.tick s.meter s.ticks now after.meter after.ticks
+  pub associated : Bool
+  pub has : IsTrue associated ↔ HasAssociation after.meter
+  pub asks : AsksFor (record s.stay { turn = noted s.stay.turn is_answered now associated }) now sights after.stay.turn
+  pub asked : after.stay.asked ≡ Some now
+  pub left : after.left ≡ s.left
+  pub reads : after.reads ≡ s.reads
+
+-- so it was, and this is told of the turn; or the look failed
+abbrev pub ChecksOnce : {P A : Type 0} → {ghosts : Ghosts P} → Rules → Option (List Sight) → Option (List Sight) → At P A ghosts → Bool → Result (Option Why) LoopFault → At P A ghosts → Type 0
+ChecksOnce rules seen seen' s is_answered (Ok why) after =
+    (now : ℕ) × (sights : List Sight) × Sees seen seen' (Second (Some now) ∷ sights) × Checks rules s is_answered now sights after × Tells rules.times after.stay.turn now why
+ChecksOnce rules seen seen' s is_answered (Err fault) after =
+    (sights : List Sight) × Sees seen seen' sights × LookFails rules.tick s.meter s.ticks fault sights after.meter after.ticks × (after.left ≡ s.left) × (after.stay ≡ s.stay) × (after.reads ≡ s.reads)
+
+-- ---- one thing after another
+
+-- bytes came, none where the call was interrupted; or nothing came for as long as a read waits
+abbrev pub IsRead : Moment → List ℕ → Type 0
+IsRead (Came came) bytes = bytes ≡ came
+IsRead Quiet bytes = bytes ≡ []
+IsRead (Went out) bytes = ⊥
+IsRead (Broke part) bytes = ⊥
 
 -- one read: bytes came, or nothing did, which counts for none; or it failed
 abbrev pub ReadsPiece : {E : Type 0} → Option (List Moment) → Option (List Moment) → Result ℕ E → List ℕ → Type 0
 ReadsPiece old new (Ok count) piece = Adds old new (Came (take count piece) ∷ []) ⊎ ((count ≡ 0) × Adds old new (Quiet ∷ []))
 ReadsPiece old new (Err e) piece = Adds old new (Broke [] ∷ [])
 
--- How it ends: as it is; with a read that failed; or with a reply of which a beginning went out.
-pub data Ends {P A : Type 0} {ghosts : Ghosts P} (s : At P A ghosts) : List Moment → At P A ghosts → Type 0 where
-  AsIs : Ends s [] s
-  AtRead : s.left ≡ [] → Ends s (Broke [] ∷ []) s
-  AtReply : (taken behind reply part missing : List ℕ) (meter : Meter P A ghosts) → s.left ≡ taken ++ behind → part ++ missing ≡ reply → IsCall s.meter (Fed taken (Some reply)) meter
-      → Ends s (Broke part ∷ []) (record s { meter = meter; left = behind })
+abbrev pub goes_out : Option (List ℕ) → List Moment
+goes_out None = []
+goes_out (Some reply) = Went reply ∷ []
 
--- From there it went on, and ended in one of these ways.
-pub record Serves {P A : Type 0} {ghosts : Ghosts P} (old new : Option (List Moment)) (s after : At P A ghosts) (moments : List Moment) : Type 0 where
+-- One thing that it does, what is seen of it on the line, and what it asks. Where all bytes that came were given it looks at the clock,
+-- and reads, since its turn is not over. Where some were not it gives the meter of them, whose reply goes out, whole; and then it looks at
+-- the clock, and its turn is not over.
+pub data Doing {P A : Type 0} {ghosts : Ghosts P} (rules : Rules) (s : At P A ghosts) : List Moment → List Sight → At P A ghosts → Type 0 where
+  Reads : (now : ℕ) (sights : List Sight) (mid : At P A ghosts) (moment : Moment) (bytes : List ℕ) → s.left ≡ [] → Checks rules s false now sights mid → Tells rules.times mid.stay.turn now None → IsRead moment bytes
+      → Doing rules s (moment ∷ []) (Second (Some now) ∷ sights) (record mid { left = bytes; reads = mid.reads + 1 })
+  Answers : (reply : Option (List ℕ)) (given : At P A ghosts) (now : ℕ) (sights : List Sight) (after : At P A ghosts) → Gives s reply given → Checks rules given (has_any reply) now sights after
+      → Tells rules.times after.stay.turn now None → Doing rules s (goes_out reply) (Second (Some now) ∷ sights) after
+
+-- one after another
+pub data Doings {P A : Type 0} {ghosts : Ghosts P} (rules : Rules) (s : At P A ghosts) : List Moment → List Sight → At P A ghosts → Type 0 where
+  Nothing : Doings rules s [] [] s
+  Then : (before moments : List Moment) (asked sights : List Sight) (mid after : At P A ghosts) → Doings rules s before asked mid → Doing rules mid moments sights after
+      → Doings rules s (before ++ moments) (asked ++ sights) after
+
+-- So it went on; this was seen on the line, and this was asked.
+pub record Goes {P A : Type 0} {ghosts : Ghosts P} (rules : Rules) (old new : Option (List Moment)) (seen seen' : Option (List Sight)) (s after : At P A ghosts) : Type 0 where
+  pub moments : List Moment
+  pub sights : List Sight
+  pub does : Doings rules s moments sights after
+  pub happened : Adds old new moments
+  pub watched : Sees seen seen' sights
+
+-- ---- the end
+
+-- It comes to a look at the clock: before a read, or behind bytes that the meter was given, whose reply went out.
+pub data Arrives {P A : Type 0} {ghosts : Ghosts P} (s : At P A ghosts) : List Moment → Bool → At P A ghosts → Type 0 where
+  ToRead : s.left ≡ [] → Arrives s [] false s
+  Behind : (reply : Option (List ℕ)) (given : At P A ghosts) → Gives s reply given → Arrives s (goes_out reply) (has_any reply) given
+
+-- of a read that failed
+abbrev pub IsOfRead : Ending → Type 0
+IsOfRead Closed = Unit {0}
+IsOfRead (Failed error) = Unit {0}
+IsOfRead (Over why) = ⊥
+
+-- How it ends, and why: at a look at the clock its turn is over, or the look failed; a read failed; a reply did not go out whole; or it
+-- has read as often as it may.
+pub data Ends {P A : Type 0} {ghosts : Ghosts P} (rules : Rules) (s : At P A ghosts) : Result Ending LoopFault → List Moment → List Sight → Meter P A ghosts → Ticks → Type 0 where
+  IsOver : (moments : List Moment) (is_answered : Bool) (given : At P A ghosts) (now : ℕ) (sights : List Sight) (after : At P A ghosts) (why : Why) → Arrives s moments is_answered given
+      → Checks rules given is_answered now sights after → Tells rules.times after.stay.turn now (Some why) → Ends rules s (Ok (Over why)) moments (Second (Some now) ∷ sights) after.meter after.ticks
+  LookEnds : (moments : List Moment) (is_answered : Bool) (given : At P A ghosts) (fault : LoopFault) (sights : List Sight) (meter : Meter P A ghosts) (ticks : Ticks) → Arrives s moments is_answered given
+      → LookFails rules.tick given.meter given.ticks fault sights meter ticks → Ends rules s (Err fault) moments sights meter ticks
+  ReadEnds : (now : ℕ) (sights : List Sight) (after : At P A ghosts) (ending : Ending) → s.left ≡ [] → Checks rules s false now sights after → Tells rules.times after.stay.turn now None → IsOfRead ending
+      → Ends rules s (Ok ending) (Broke [] ∷ []) (Second (Some now) ∷ sights) after.meter after.ticks
+  ReplyEnds : (reply part missing : List ℕ) (given : At P A ghosts) (error : Error) → Gives s (Some reply) given → part ++ missing ≡ reply → Ends rules s (Ok (Failed error)) (Broke part ∷ []) [] given.meter given.ticks
+  Tires : s.left ≡ [] → s.reads ≡ 2 ^ 64 - 1 → Ends rules s (Err Io) [] [] s.meter s.ticks
+
+-- From there it went on, and ended so.
+pub record GoesToEnd {P A : Type 0} {ghosts : Ghosts P} (rules : Rules) (old new : Option (List Moment)) (seen seen' : Option (List Sight)) (s : At P A ghosts) (result : Result Ending LoopFault) (meter : Meter P A ghosts) (ticks : Ticks) : Type 0 where
   pub now : Option (List Moment)
+  pub seen_now : Option (List Sight)
   pub last : At P A ghosts
-  pub goes : Goes old now s last
-  pub ends : Ends last moments after
+  pub goes : Goes rules old now seen seen_now s last
+  pub moments : List Moment
+  pub sights : List Sight
+  pub ends : Ends rules last result moments sights meter ticks
   pub happened : Adds now new moments
-
--- The last moment says why: a call of the line failed, of which only a read that found no end tells a close; or the turn was over, or
--- the clock or the store failed, and the line did not.
-abbrev pub EndsFor : Times → Result Ending LoopFault → List Moment → Type 0
-EndsFor times (Ok Closed) moments = moments ≡ Broke [] ∷ []
-EndsFor times (Ok (Failed error)) moments = (part : List ℕ) × (moments ≡ Broke part ∷ [])
-EndsFor times (Ok (Over over)) moments = (moments ≡ []) × (turn : Turn) × (second : ℕ) × Tells times turn second (Some over)
-EndsFor times (Err fault) moments = moments ≡ []
-
--- so it ended for this
-abbrev pub ServesFor : {P A : Type 0} → {ghosts : Ghosts P} → Times → Option (List Moment) → Option (List Moment) → At P A ghosts → Result Ending LoopFault → Meter P A ghosts → Ticks → Type 0
-ServesFor times old new s result meter ticks =
-    (moments : List Moment) × (rest : List ℕ) × Serves old new s (record { meter = meter; ticks = ticks; left = rest }) moments × EndsFor times result moments
+  pub watched : Sees seen_now seen' sights
 
 -- the frames among some bytes: all of them are answered, or the connection ends there
-abbrev pub AnswersEach : {P A : Type 0} → {ghosts : Ghosts P} → Times → Option (List Moment) → Option (List Moment) → At P A ghosts → Result (Option Ending) LoopFault → Meter P A ghosts → Ticks → Type 0
-AnswersEach times old new s (Ok None) meter ticks = Goes old new s (record { meter = meter; ticks = ticks; left = [] })
-AnswersEach times old new s (Ok (Some ending)) meter ticks = ServesFor times old new s (Ok ending) meter ticks
-AnswersEach times old new s (Err fault) meter ticks = ServesFor times old new s (Err fault) meter ticks
+abbrev pub AnswersEach : {P A : Type 0} → {ghosts : Ghosts P} → Rules → Option (List Moment) → Option (List Moment) → Option (List Sight) → Option (List Sight) → At P A ghosts → Result (Option Ending) LoopFault
+    → Meter P A ghosts → Ticks → Stay → Type 0
+AnswersEach rules old new seen seen' s (Ok None) meter ticks stay = Goes rules old new seen seen' s (record { meter = meter; ticks = ticks; left = []; stay = stay; reads = s.reads })
+AnswersEach rules old new seen seen' s (Ok (Some ending)) meter ticks stay = GoesToEnd rules old new seen seen' s (Ok ending) meter ticks
+AnswersEach rules old new seen seen' s (Err fault) meter ticks stay = GoesToEnd rules old new seen seen' s (Err fault) meter ticks
 
--- a look at the clock, or the clock failed before it
-abbrev pub LooksOnce : {P A : Type 0} → {ghosts : Ghosts P} → Meter P A ghosts → Ticks → Meter P A ghosts → Ticks → Type 0
-LooksOnce meter ticks meter' ticks' =
-    ((elapsed : ℕ) × (outcome : Result (Unit {0}) AddFault) × LooksAt elapsed ticks meter outcome ticks' meter') ⊎ ((meter' ≡ meter) × (ticks' ≡ ticks))
+-- A connection, from its first look at the clock to its end.
+pub data Connection {P A : Type 0} {ghosts : Ghosts P} (rules : Rules) (old new : Option (List Moment)) (seen seen' : Option (List Sight)) (meter : Meter P A ghosts) (ticks : Ticks) : Result Ending LoopFault
+    → Meter P A ghosts → Ticks → Type 0 where
+  Unbegun : (fault : LoopFault) (sights : List Sight) (meter' : Meter P A ghosts) (ticks' : Ticks) → LookFails rules.tick meter ticks fault sights meter' ticks' → Adds old new [] → Sees seen seen' sights
+      → Connection rules old new seen seen' meter ticks (Err fault) meter' ticks'
+  Begun : (first : ℕ) (now : Option (List Sight)) (mid after : Meter P A ghosts) (told ended : Ticks) (result : Result Ending LoopFault) → Looked rules.tick meter ticks first mid told → Sees seen now (Second (Some first) ∷ [])
+      → GoesToEnd rules old new now seen' (begins mid told first) result after ended → Connection rules old new seen seen' meter ticks result after ended

@@ -10,3 +10,6 @@ pub mod Turns
 pub mod Connection
 pub mod Polled
 pub mod Captures
+pub mod Refusals
+pub mod Watching
+pub mod Serving

@@ -4,6 +4,7 @@
 mod calling;
 mod clocks;
 mod deadline;
+mod door;
 mod fault;
 mod hanging_up;
 mod keeping;
@@ -15,9 +16,11 @@ mod polling;
 mod refusals;
 mod secret;
 mod serving;
+mod talking;
 mod telling;
 mod ticks;
 mod turns;
+mod watch;
 
 pub use clocks::{ClockFault, Limit, first_ahead, judge, left_out};
 pub use deadline::{Deadline, is_over, left};

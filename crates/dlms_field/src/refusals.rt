@@ -1,10 +1,11 @@
 //! Who tries secrets: how many association requests were refused, and whose connections are not taken for a while.
 
-ghost use Rattle.std.specs.Prelude.{◌≡◌, ◌≤◌};
+ghost use Rattle.std.specs.Prelude.{◌↔◌, IsTrue};
+ghost use Rattle.dlms_field.specs.Refusals.{CarriesRefusal, IsFirstFrame, RefusesAssociation, SaysRefused};
 
 use arrayvec::ArrayVec;
 use dlms_acse::{Verdict, read_aare};
-use dlms_frame::Deframer;
+use dlms_frame::{Deframer, Frame};
 use std::net::{IpAddr, Ipv4Addr};
 
 /// An address whose association requests were refused too often is not taken again for so many seconds.
@@ -16,17 +17,46 @@ const LLC: [u8; 3] = [0xe6, 0xe7, 0x00];
 /// How many addresses are kept; where more are barred at once, the one that was barred first is let go.
 const BARRED: usize = 64;
 
-/// Whether a frame of the meter refuses an association (IEC 62056-5-3, AARE).
-pub fn is_refusal(reply: &[u8]) -> bool {
+/// The first frame of some bytes.
+fn first_frame(bytes: &[u8]) -> Option<Frame>
+    ensures { IsFirstFrame bytes.now result }
+{
     let mut deframer = Deframer::new();
-    let (_taken, found) = deframer.feed(reply);
-    let Some(frame) = found else {
+    let (_taken, found) = deframer.feed(bytes);
+    found
+}
+
+/// Whether an association is refused.
+fn is_refused(verdict: Verdict) -> bool
+    ensures { IsTrue result ↔ SaysRefused verdict }
+{
+    match verdict {
+        Verdict::Accepted { .. } => false,
+        Verdict::Refused { .. } => true,
+    }
+}
+
+/// Whether an information field of the meter refuses an association (IEC 62056-5-3, AARE).
+fn carries_refusal(info: &[u8]) -> bool
+    ensures { IsTrue result ↔ CarriesRefusal info.now }
+{
+    let Some(apdu) = info.strip_prefix(&LLC) else {
         return false;
     };
-    let Some(apdu) = frame.info.as_slice().strip_prefix(&LLC) else {
-        return false;
-    };
-    matches!(read_aare(apdu), Ok(Verdict::Refused { .. }))
+    match read_aare(apdu) {
+        Ok(verdict) => is_refused(verdict),
+        Err(_) => false,
+    }
+}
+
+/// Whether a reply of the meter refuses an association: its first frame does.
+pub fn is_refusal(reply: &[u8]) -> bool
+    ensures { IsTrue result ↔ RefusesAssociation reply.now }
+{
+    match first_frame(reply) {
+        Some(frame) => carries_refusal(frame.info.as_slice()),
+        None => false,
+    }
 }
 
 /// An address that is not taken before this second.

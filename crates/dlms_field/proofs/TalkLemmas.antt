@@ -1,0 +1,130 @@
+-- A meter that serves talks with a client, one thing after another.
+use Rattle.std.proofs.Common.{refl, sym, ap, ◌∙◌, ◌≡◌, ◌↔◌, ◌≤◌, ◌<◌, ◌+◌, ℕ, Bool, true, false, List, [], ◌∷◌, ◌++◌, append_assoc, append-nil, length, max, min, take, Option, Some, None, Result, Ok, Err, subst}
+use Rattle.std.specs.Prelude.{IsErr, IsErrAnd, IsTrue}
+use Rattle.std.specs.declared.io.Error.{Error}
+use Rattle.std.proofs.lemmas.Bool.{false≢true}
+use Rattle.dlms_loopback.specs.Faults.{TellsError}
+use Rattle.dlms_loopback.specs.Moments.{Moment, Adds, Breaks}
+use Rattle.dlms_loopback.specs.Moments.Moment.{Went}
+use Rattle.dlms_loopback.specs.declared.fault.LoopFault.{LoopFault}
+use Rattle.dlms_loopback.specs.declared.meter_end.Taken.{Taken}
+use Rattle.dlms_loopback.proofs.MomentLemmas.{adds_none}
+use Rattle.dlms_loopback.proofs.PollLemmas.{system_told}
+use Rattle.dlms_meter.specs.Steps.{IsCall}
+use Rattle.dlms_meter.specs.Steps.Call.{Fed}
+use Rattle.dlms_meter.specs.declared.meter.Meter.{Meter}
+use Rattle.dlms_pages.specs.declared.device.Pages.{Ghosts}
+use Rattle.dlms_store.specs.declared.fault.AddFault.{AddFault}
+use Rattle.dlms_field.specs.Connection.{Counts, GivesFrame, ChecksOnce, HasAssociation, noted, TellsStop, NoClock, NoStore, LooksOnce, Looked, IsDue, AsksFor, NotDue, Asks, AsksOnce, behind_answer}
+use Rattle.dlms_field.specs.Pace.{AreDue}
+use Rattle.dlms_field.specs.Refusals.{RefusesAssociation}
+use Rattle.dlms_field.specs.Turns.{Tells}
+use Rattle.dlms_field.specs.declared.talking.Rules.{Rules}
+use Rattle.dlms_field.specs.declared.turns.Over.{Over as Why}
+use Rattle.dlms_field.specs.Telling.{Looks}
+use Rattle.dlms_field.specs.Watching.{Sight, Sees}
+use Rattle.dlms_field.specs.Watching.Sight.{Second, Another}
+use Rattle.dlms_field.specs.declared.talking.Stay.{Stay}
+use Rattle.dlms_field.specs.declared.ticks.Ticks.{Ticks}
+use Rattle.dlms_field.specs.declared.turns.Turn.{Turn}
+
+-- ---- what was asked
+
+pub sees_nothing : (a : Option (List Sight)) → Sees a a []
+sees_nothing None = tt
+sees_nothing (Some x) = sym (append-nil x)
+
+pub sees_more : (a b c : Option (List Sight)) (xs ys : List Sight) → Sees a b xs → Sees b c ys → Sees a c (xs ++ ys)
+sees_more None b c xs ys p q = tt
+sees_more (Some x) None c xs ys p q = absurd p
+sees_more (Some x) (Some y) None xs ys p q = absurd q
+sees_more (Some x) (Some y) (Some z) xs ys p q = q ∙ ap (λ (l : List Sight). l ++ ys) p ∙ append_assoc x xs ys
+
+pub is_false : {X : Type 0} (b : Bool) → b ≡ false → (IsTrue b ↔ X) → X → ⊥
+is_false b is iff x = absurd (false≢true (sym is ∙ iff.1 x))
+
+pub is_true : {X : Type 0} (b : Bool) → b ≡ true → (IsTrue b ↔ X) → X
+is_true b is iff = iff.0 is
+
+pub not_due : (seen : Option (List Sight)) (stay : Stay) (now : ℕ) → (IsDue stay now → ⊥) → AsksOnce seen seen stay now (record stay { asked = Some now })
+not_due seen stay now not = ([], sees_nothing seen, NotDue not, refl)
+
+pub is_asked : (seen seen' : Option (List Sight)) (stay : Stay) (now : ℕ) (waits : Bool) (turn : Turn) → IsDue stay now → Sees seen seen' (Another now waits ∷ []) → turn ≡ behind_answer stay.turn now waits
+    → AsksOnce seen seen' stay now (record { turn = turn; asked = Some now })
+is_asked seen seen' stay now waits turn due sees is = (Another now waits ∷ [], sees, subst (λ (t : Turn). AsksFor stay now (Another now waits ∷ []) t) (sym is) (Asks due waits), refl)
+
+-- ---- a look at the clock
+
+module _ {P A : Type 0} {ghosts : Ghosts P} where
+  pub no_clock : (step : ℕ) (seen seen' : Option (List Sight)) (meter : Meter P A ghosts) (ticks : Ticks) (error : Error) (r : Result ℕ LoopFault) → IsErrAnd r (TellsError error) → Sees seen seen' (Second None ∷ [])
+      → LooksOnce step seen seen' meter ticks r meter ticks
+  no_clock step seen seen' meter ticks error (Ok now) told sees = absurd told
+  no_clock step seen seen' meter ticks error (Err fault) told sees = (Second None ∷ [], sees, NoClock (system_told fault error told))
+
+  pub no_store : (step now due : ℕ) (seen seen' : Option (List Sight)) (meter meter' : Meter P A ghosts) (ticks ticks' : Ticks) (why named : AddFault) (fault : LoopFault) → why ≡ named → TellsStop named fault → Sees seen seen' (Second (Some now) ∷ [])
+      → AreDue (max step 1) now due → Looks due ticks meter (Err why) ticks' meter' → LooksOnce step seen seen' meter ticks (Err fault) meter' ticks'
+  no_store step now due seen seen' meter meter' ticks ticks' why named fault is tells sees is_due looks =
+      (Second (Some now) ∷ [], sees, NoStore now due named meter' ticks' is_due (subst (λ (w : AddFault). Looks due ticks meter (Err w) ticks' meter') is looks) tells)
+
+  -- a look, and what is told of the turn then
+  pub checks : (rules : Rules) (seen mid seen' : Option (List Sight)) (meter meter' : Meter P A ghosts) (ticks ticks' : Ticks) (stay stay' : Stay) (is_answered : Bool) (now : ℕ) (associated : Bool) (turn : Turn) (why : Option Why)
+      → Sees seen mid (Second (Some now) ∷ []) → Looked rules.tick meter ticks now meter' ticks' → IsTrue associated ↔ HasAssociation meter' → turn ≡ noted stay.turn is_answered now associated
+      → AsksOnce mid seen' (record stay { turn = turn }) now stay' → Tells rules.times stay'.turn now why
+      → (left : List ℕ) (reads : ℕ) → ChecksOnce rules seen seen' (record { meter = meter; ticks = ticks; left = left; stay = stay; reads = reads }) is_answered (Ok why)
+      (record { meter = meter'; ticks = ticks'; left = left; stay = stay'; reads = reads })
+  checks rules seen mid seen' meter meter' ticks ticks' stay stay' is_answered now associated turn why sees look has is (sights, more, asks, asked) tells left reads = (
+    now,
+    sights,
+    sees_more seen mid seen' (Second (Some now) ∷ []) sights sees more,
+    record {
+      look = look;
+      associated = associated;
+      has = has;
+      asks = subst (λ (t : Turn). AsksFor (record stay { turn = t }) now sights stay'.turn) is asks;
+      asked = asked;
+      left = refl;
+      reads = refl;
+    },
+    tells,
+  )
+
+-- ---- bytes are given
+
+pub counts_one : (reply : List ℕ) (refuses : Bool) (before after : ℕ) → refuses ≡ true → (IsTrue refuses ↔ RefusesAssociation reply) → after ≡ min (before + 1) 255 → Counts (Some reply) before after
+counts_one reply refuses before after is iff same = (true, subst (λ (b : Bool). IsTrue b ↔ RefusesAssociation reply) is iff, same)
+
+pub counts_none : (reply : List ℕ) (refuses : Bool) (before : ℕ) → refuses ≡ false → (IsTrue refuses ↔ RefusesAssociation reply) → Counts (Some reply) before before
+counts_none reply refuses before is iff = (false, subst (λ (b : Bool). IsTrue b ↔ RefusesAssociation reply) is iff, refl)
+
+module _ {P A : Type 0} {ghosts : Ghosts P} where
+  pub given_breaks : {E : Type 0} (old new : Option (List Moment)) (before after : Meter P A ghosts) (bytes : List ℕ) (count : ℕ) (reply one two : List ℕ) (refusals refusals' : ℕ) (r : Result Taken E)
+      → (0 < length bytes → 0 < count) → count ≤ length bytes → IsCall before (Fed (take count bytes) (Some reply)) after → IsErr r → one ≡ reply → Counts (Some one) refusals refusals' → two ≡ reply → Breaks old new two
+      → GivesFrame old new before bytes refusals refusals' r after
+  given_breaks old new before after bytes count reply one two refusals refusals' (Ok taken) some within call is same counts alike broke = absurd (cc is)
+  given_breaks old new before after bytes count reply one two refusals refusals' (Err e) some within call is same counts alike broke = record {
+    count = count;
+    reply = Some reply;
+    some = some;
+    within = within;
+    call = call;
+    counts = subst (λ (t : List ℕ). Counts (Some t) refusals refusals') same counts;
+    replies = subst (λ (t : List ℕ). Breaks old new t) alike broke;
+  }
+
+  pub given_goes : (E : Type 0) (old new : Option (List Moment)) (before after : Meter P A ghosts) (bytes : List ℕ) (count : ℕ) (reply one two : List ℕ) (refusals refusals' : ℕ)
+      → (0 < length bytes → 0 < count) → count ≤ length bytes → IsCall before (Fed (take count bytes) (Some reply)) after → one ≡ reply → Counts (Some one) refusals refusals' → two ≡ reply → Adds old new (Went two ∷ [])
+      → GivesFrame {E = E} old new before bytes refusals refusals' (Ok (record { count = count; is_answered = true })) after
+  given_goes E old new before after bytes count reply one two refusals refusals' some within call same counts alike went = record {
+    count = count;
+    reply = Some reply;
+    some = some;
+    within = within;
+    call = call;
+    counts = subst (λ (t : List ℕ). Counts (Some t) refusals refusals') same counts;
+    replies = (refl, subst (λ (t : List ℕ). Adds old new (Went t ∷ [])) alike went);
+  }
+
+  pub given_none : (E : Type 0) (past : Option (List Moment)) (before after : Meter P A ghosts) (bytes : List ℕ) (count refusals : ℕ)
+      → (0 < length bytes → 0 < count) → count ≤ length bytes → IsCall before (Fed (take count bytes) None) after
+      → GivesFrame {E = E} past past before bytes refusals refusals (Ok (record { count = count; is_answered = false })) after
+  given_none E past before after bytes count refusals some within call = record { count = count; reply = None; some = some; within = within; call = call; counts = refl; replies = (refl, adds_none past) }

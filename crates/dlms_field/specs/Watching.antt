@@ -1,0 +1,37 @@
+-- What a meter that serves asks of the world beside the line, one question after another.
+use Rattle.std.specs.Prelude.{◌≡◌, ◌++◌, ℕ, Bool, true, false, List, Option, Some, None, Result, Ok, Err}
+use Rattle.std.specs.declared.io.Error.{Error}
+
+-- The clock was looked at: so many whole seconds have gone by, or it failed. It was asked at this second whether another connection
+-- waits; the next connection was taken at this second, if there was one, or that failed; it was made ready, or that failed; its address is
+-- not taken for a while from this second on; and a while went by.
+pub data Sight : Type 0 where
+  Second : (now : Option ℕ) → Sight
+  Another : (now : ℕ) (waits : Bool) → Sight
+  Next : (now : ℕ) (came : Result Bool Error) → Sight
+  Prepares : (failed : Option Error) → Sight
+  Bars : (now : ℕ) → Sight
+  Pauses : Sight
+
+-- where it is known what was asked, this came behind it
+abbrev pub Sees : Option (List Sight) → Option (List Sight) → List Sight → Type 0
+Sees None new sights = Unit {0}
+Sees (Some before) None sights = ⊥
+Sees (Some before) (Some after) sights = after ≡ before ++ sights
+
+abbrev pub ok_in : {X E : Type 0} → Result X E → Option X
+ok_in (Ok x) = Some x
+ok_in (Err e) = None
+
+abbrev pub error_in : {X E : Type 0} → Result X E → Option E
+error_in (Ok x) = None
+error_in (Err e) = Some e
+
+abbrev pub has_any : {X : Type 0} → Option X → Bool
+has_any None = false
+has_any (Some x) = true
+
+-- whether a connection came
+abbrev pub came_in : {X E : Type 0} → Result (Option X) E → Result Bool E
+came_in (Ok found) = Ok (has_any found)
+came_in (Err e) = Err e

@@ -1,0 +1,50 @@
+//! What a meter that serves asks of the world beside the line.
+
+ghost use Rattle.std.specs.Prelude.{List, Option, None, Ok, [], ◌∷◌};
+ghost use Rattle.dlms_field.specs.Watching.{Sight, Sees, came_in, error_in, ok_in};
+ghost use Rattle.dlms_field.specs.Watching.Sight.{Second, Another, Next, Prepares, Bars, Pauses};
+
+use dlms_loopback::End;
+use std::io;
+use std::net::SocketAddr;
+
+/// A connection that was taken, and whose it is.
+#[derive(Drop)]
+pub struct Peer<S> {
+    pub stream: S,
+    pub address: SocketAddr,
+}
+
+/// A clock, and a port at which connections come.
+pub trait Watch {
+    /// A connection's end here.
+    type Stream: End + Drop;
+
+    /// What was asked, in order, and what came of it, where that is known. Of the system it is not; what code does that takes any
+    /// watch holds of those of which it is known too.
+    ghost seen: { Self → Option (List Sight) } = { λ _. None };
+
+    /// How many whole seconds have gone by since the beginning.
+    fn seconds(&mut self) -> io::Result<u64>
+        ensures { Sees (seen self.old) (seen self.new) (Second (ok_in result) ∷ []) };
+
+    /// Whether another connection waits at this second.
+    fn another_waits(&mut self, now: u64) -> bool
+        ensures { Sees (seen self.old) (seen self.new) (Another now result ∷ []) };
+
+    /// The next connection at this second: the one that has waited longest, if there is one.
+    fn next(&mut self, now: u64) -> io::Result<Option<Peer<Self::Stream>>>
+        ensures { Sees (seen self.old) (seen self.new) (Next now (came_in result) ∷ []) };
+
+    /// Makes a connection ready: no call on it waits for long.
+    fn prepare(&mut self, stream: &mut Self::Stream) -> io::Result<()>
+        ensures { Sees (seen self.old) (seen self.new) (Prepares (error_in result) ∷ []) };
+
+    /// Connections from this address are not taken for a while from this second on.
+    fn bar(&mut self, address: SocketAddr, now: u64)
+        ensures { Sees (seen self.old) (seen self.new) (Bars now ∷ []) };
+
+    /// Lets a while go by.
+    fn pause(&mut self)
+        ensures { Sees (seen self.old) (seen self.new) (Pauses ∷ []) };
+}
