@@ -12,8 +12,8 @@ use dlms_frame::Frame;
 use dlms_names::apdu_name;
 use dlms_talks::{
     Apdu, Came, Control, Fault, Found, Joined, Line, Numbers, Services, Side, Stretch, Talk, Talks,
-    behind_llc, first_pair, first_piece, has_poll, heading_of, line_of, misfit, parameters_of,
-    parties_of, read, read_apdu, side_of, without_secret,
+    acse_of, behind_llc, first_pair, first_piece, has_poll, heading_of, is_counted, line_of,
+    misfit, parameters_of, parties_of, read, read_apdu, side_of, without_secret,
 };
 use std::alloc::{AllocError, Allocator, Global};
 use std::str;
@@ -69,8 +69,11 @@ fn explain_response<A: Allocator + Copy>(
     }
 }
 
+/// The tag of an association response.
+const ASSOCIATION_RESPONSE: u8 = 0x61;
+
 /// The line of an APDU that is not readable. What the meter's readers refuse at its first two octets may be of a form of the
-/// standard, and does not fit that.
+/// standard, and does not fit that; of an association response the initiate response may be ciphered.
 fn write_unreadable<A: Allocator>(
     text: &mut String<A>,
     bytes: &[u8],
@@ -81,6 +84,12 @@ fn write_unreadable<A: Allocator>(
     {
         let words = "not of this form";
         return write_fault(text, Some(form.name), Fault { words, octet });
+    }
+    if bytes.first() == Some(&ASSOCIATION_RESPONSE) && is_counted(bytes) {
+        let acse = acse_of(bytes);
+        if let (Some(outcome), Some(initiate)) = (acse.outcome, acse.ciphered) {
+            return association_text::write_ciphered_response(text, acse, outcome, initiate);
+        }
     }
     let name = bytes.first().and_then(|octet| apdu_name(*octet));
     write_fault(text, name, fault)
@@ -96,9 +105,11 @@ fn explain_apdu<A: Allocator + Copy>(
 ) -> Result<(), AllocError> {
     match read_apdu(alloc, side, bytes)? {
         Apdu::AssociationRequest(request) => {
-            association_text::write_request(text, without_secret(&request))
+            association_text::write_request(text, without_secret(&request), acse_of(bytes))
         }
-        Apdu::AssociationResponse(response) => association_text::write_response(text, response),
+        Apdu::AssociationResponse(response) => {
+            association_text::write_response(text, response, acse_of(bytes))
+        }
         Apdu::ReleaseRequest(reason) => association_text::write_release_request(text, reason),
         Apdu::ReleaseResponse(reason) => association_text::write_release_response(text, reason),
         Apdu::Request(request) => explain_request(text, alloc, services, &request),

@@ -179,7 +179,7 @@ fn write_field<A: Allocator>(
 }
 
 /// The line of what is ciphered, with its security header (IEC 62056-5-3, 9.2.7.2.4.1).
-fn write_ciphered<A: Allocator>(
+pub fn write_ciphered<A: Allocator>(
     text: &mut String<A>,
     control: u8,
     counter: u32,

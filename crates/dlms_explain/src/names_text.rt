@@ -92,6 +92,17 @@ pub fn write_code<A: Allocator>(text: &mut String<A>, code: [u8; 6]) -> Result<(
 /// The value of the first of the 24 bits of a conformance block.
 const FIRST_BIT: u32 = 0x80_0000;
 
+/// The name of the service that a bit stands for.
+fn write_service<A: Allocator>(text: &mut String<A>, bit: u8) -> Result<(), AllocError> {
+    match service_name(bit) {
+        Some(name) => text.push_str(name),
+        None => {
+            text.push_str("reserved bit ")?;
+            number(text, u64::from(bit))
+        }
+    }
+}
+
 /// A line with the names of the services that are there.
 pub fn write_conformance<A: Allocator>(
     text: &mut String<A>,
@@ -103,11 +114,9 @@ pub fn write_conformance<A: Allocator>(
     let mut weight = FIRST_BIT;
     let mut parting = " ";
     for bit in 0..24u8 {
-        if conformance.0 & weight != 0
-            && let Some(name) = service_name(bit)
-        {
+        if conformance.0 & weight != 0 {
             text.push_str(parting)?;
-            text.push_str(name)?;
+            write_service(text, bit)?;
             parting = ", ";
         }
         weight /= 2;

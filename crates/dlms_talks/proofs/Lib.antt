@@ -1,3 +1,4 @@
+pub mod AcseLemmas
 pub mod HistoryLemmas
 pub mod LineLemmas
 pub mod ParameterLemmas

@@ -1,5 +1,5 @@
 -- What an APDU is told as is what the reader of its kind reads.
-use Rattle.std.specs.Prelude.{◌≡◌, ◌==◌, ◌&&◌, ◌||◌, ℕ, List, Option, Some, None, IsOkAnd, get_or, if◌then◌else◌, length, nat_lt}
+use Rattle.std.specs.Prelude.{◌≡◌, Bool, true, false, codes, ◌==◌, ◌&&◌, ◌||◌, ℕ, List, Option, Some, None, IsOkAnd, get_or, if◌then◌else◌, length, nat_lt}
 use Rattle.dlms_acse.specs.declared.outcome.Verdict.{Verdict}
 use Rattle.dlms_acse.specs.Reading.{aarq_at, aare_at}
 use Rattle.dlms_acse.specs.Spelling.{IsAarq, IsAare}
@@ -14,6 +14,7 @@ use Rattle.dlms_talks.specs.declared.apdus.Kind.TheVariants as kind
 use Rattle.dlms_talks.specs.declared.parties.Side.{Side}
 use Rattle.dlms_talks.specs.declared.parties.Side.TheVariants.{Client, Meter}
 use Rattle.dlms_talks.specs.declared.apdus.Apdu.TheVariants as apdu
+use Rattle.dlms_talks.specs.Acse.{is_counted}
 use Rattle.dlms_talks.specs.Foreign.{IsForeign, IsNoForm}
 use Rattle.dlms_talks.specs.Places.{IsAcseFault, IsRefusal}
 
@@ -77,12 +78,21 @@ kind_of side octet =
 abbrev pub reason_of : List ℕ → Option ℕ
 reason_of bytes = if nat_lt 4 (length bytes) && (get_or bytes 2 0 == 0x80) && (get_or bytes 3 0 == 1) then Some (get_or bytes 4 0) else None
 
+-- a release is told where its length counts all that stands behind it
+abbrev pub IsUncounted : {A : Type 0} → Apdu A → Type 0
+IsUncounted (apdu.Unreadable f) = (f.words.now ≡ codes "no length counts what stands behind it") × (f.octet ≡ 2)
+IsUncounted _ = ⊥
+
+abbrev pub IsRelease : {A : Type 0} → Bool → Apdu A → Apdu A → Type 0
+IsRelease true release told = told ≡ release
+IsRelease false release told = IsUncounted told
+
 -- What is told of bytes is what the reader of this kind reads of them, or that it reads nothing.
 abbrev pub IsToldAs : {A : Type 0} → Kind → List ℕ → Apdu A → Type 0
 IsToldAs kind.AssociationRequest bytes a = IsToldOfAarq bytes a
 IsToldAs kind.AssociationResponse bytes a = IsToldOfAare bytes a
-IsToldAs kind.ReleaseRequest bytes a = a ≡ apdu.ReleaseRequest (reason_of bytes)
-IsToldAs kind.ReleaseResponse bytes a = a ≡ apdu.ReleaseResponse (reason_of bytes)
+IsToldAs kind.ReleaseRequest bytes a = IsRelease (is_counted bytes) (apdu.ReleaseRequest (reason_of bytes)) a
+IsToldAs kind.ReleaseResponse bytes a = IsRelease (is_counted bytes) (apdu.ReleaseResponse (reason_of bytes)) a
 IsToldAs kind.Request bytes a = IsToldOfRequest bytes a
 IsToldAs kind.Response bytes a = IsToldOfResponse bytes a
 

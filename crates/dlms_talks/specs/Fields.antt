@@ -1,10 +1,10 @@
 -- The fields of the APDUs (IEC 62056-5-3, the ASN.1 of the services, in A-XDR), by how many octets each has of its own, and how
 -- many values stand behind these in it.
-use Rattle.std.specs.Prelude.{ℕ, ◌+◌, ◌==◌, ◌||◌, if◌then◌else◌, List, [], ◌∷◌, drop, Option, Some, None, option_and_then}
+use Rattle.std.specs.Prelude.{ℕ, ◌+◌, ◌==◌, ◌||◌, nat_lt, if◌then◌else◌, List, [], ◌∷◌, drop, Option, Some, None, option_and_then}
 use Rattle.dlms_talks.specs.declared.fields.Field.{Field}
 use Rattle.dlms_talks.specs.declared.fields.Field.TheVariants as field
 use Rattle.dlms_talks.specs.declared.nodes.Front.{Front}
-use Rattle.dlms_talks.specs.Nodes.{node_at, text_behind}
+use Rattle.dlms_talks.specs.Nodes.{length_at, node_at, text_behind}
 
 abbrev pub spans : ℕ → ℕ → Option Front
 spans own values = Some (record { own = own; values = values })
@@ -93,6 +93,10 @@ abbrev pub none_at : List ℕ → Option Front
 none_at (option ∷ rest) = if option == 0 then spans 1 0 else None
 none_at _ = None
 
+-- a text that begins with a security header, which has five octets (IEC 62056-5-3, 9.2.7.2.4.1)
+abbrev pub ciphered_at : List ℕ → Option Front
+ciphered_at bytes = option_and_then (λ l. if nat_lt l.number 5 then None else text_behind 0 bytes) (length_at bytes)
+
 -- Access-Request-Specification: 01 get, 02 set, 03 action; 04 and 05 get and set with a selection
 abbrev pub access_at : List ℕ → Option Front
 access_at (choice ∷ rest) =
@@ -138,7 +142,7 @@ front_at field.BlockResult bytes = block_result_at bytes
 front_at field.Time bytes = text_behind 0 bytes
 front_at field.Title bytes = text_behind 0 bytes
 front_at field.Octets bytes = text_behind 0 bytes
-front_at field.Ciphered bytes = text_behind 0 bytes
+front_at field.Ciphered bytes = ciphered_at bytes
 front_at field.OptionalTime bytes = optional_text bytes
 front_at field.Key bytes = key_at bytes
 front_at field.Access bytes = access_at bytes

@@ -1,3 +1,4 @@
+pub mod Acse
 pub mod Apdus
 pub mod Asked
 pub mod Association

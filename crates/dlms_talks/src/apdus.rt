@@ -1,8 +1,10 @@
 //! What an APDU is.
 
 ghost use Rattle.std.specs.Prelude.{◌≡◌, ◌⊎◌, IfOk, IsErr, get_or};
-ghost use Rattle.dlms_talks.specs.Apdus.{kind_of, reason_of, IsToldAs, IsToldOfAarq, IsToldOfAare, IsToldOfRequest, IsToldOfResponse, RequestNeedsMemory, ResponseNeedsMemory};
+ghost use Rattle.dlms_talks.specs.Acse.{is_counted};
+ghost use Rattle.dlms_talks.specs.Apdus.{IsRelease, IsUncounted, kind_of, reason_of, IsToldAs, IsToldOfAarq, IsToldOfAare, IsToldOfRequest, IsToldOfResponse, RequestNeedsMemory, ResponseNeedsMemory};
 
+use crate::acse::is_counted;
 use crate::foreign::{Foreign, read_foreign};
 use crate::parties::Side;
 use crate::places::{Fault, acse_fault, apdu_fault};
@@ -63,6 +65,38 @@ fn reason(bytes: &[u8]) -> Option<u8>
         Some(bytes[4])
     } else {
         None
+    }
+}
+
+/// What is told of a release whose length does not count what stands behind it.
+fn uncounted<'a, A: Allocator>() -> Apdu<'a, A>
+    ensures { IsUncounted result }
+{
+    Apdu::Unreadable(Fault {
+        words: "no length counts what stands behind it",
+        octet: 2,
+    })
+}
+
+/// A release request.
+fn release_request<'a, A: Allocator>(bytes: &'a [u8]) -> Apdu<'a, A>
+    ensures { IsRelease (is_counted bytes.now) (Apdu.ReleaseRequest (reason_of bytes.now)) result }
+{
+    if is_counted(bytes) {
+        Apdu::ReleaseRequest(reason(bytes))
+    } else {
+        uncounted()
+    }
+}
+
+/// The response to one.
+fn release_response<'a, A: Allocator>(bytes: &'a [u8]) -> Apdu<'a, A>
+    ensures { IsRelease (is_counted bytes.now) (Apdu.ReleaseResponse (reason_of bytes.now)) result }
+{
+    if is_counted(bytes) {
+        Apdu::ReleaseResponse(reason(bytes))
+    } else {
+        uncounted()
     }
 }
 
@@ -134,8 +168,8 @@ pub fn read_apdu<A: Allocator + Copy>(
     match kind_of(side, octet) {
         Kind::AssociationRequest => Ok(association_request(bytes)),
         Kind::AssociationResponse => Ok(association_response(bytes)),
-        Kind::ReleaseRequest => Ok(Apdu::ReleaseRequest(reason(bytes))),
-        Kind::ReleaseResponse => Ok(Apdu::ReleaseResponse(reason(bytes))),
+        Kind::ReleaseRequest => Ok(release_request(bytes)),
+        Kind::ReleaseResponse => Ok(release_response(bytes)),
         Kind::Request => request(alloc, bytes),
         Kind::Response => response(alloc, bytes),
     }

@@ -1,9 +1,9 @@
 //! The fields of the APDUs, by what each is.
 
 ghost use Rattle.std.specs.Prelude.{◌≡◌};
-ghost use Rattle.dlms_talks.specs.Fields.{access_at, agreed_at, attribute_at, block_result_at, choice_at, exception_at, fixed_len, front_at, key_at, none_at, optional_text, result_at, return_at, short_data_at, short_name_at, short_result_at, spans};
+ghost use Rattle.dlms_talks.specs.Fields.{access_at, agreed_at, attribute_at, block_result_at, choice_at, ciphered_at, exception_at, fixed_len, front_at, key_at, none_at, optional_text, result_at, return_at, short_data_at, short_name_at, short_result_at, spans};
 
-use crate::nodes::{Front, node_at, text_behind};
+use crate::nodes::{Front, length_at, node_at, text_behind};
 
 /// A field of an APDU (IEC 62056-5-3, the ASN.1 of the services, in A-XDR).
 #[derive(Clone, Copy, Debug, PartialEq, Eq)]
@@ -201,6 +201,16 @@ fn none_at(bytes: &[u8]) -> Option<Front>
     }
 }
 
+/// A text that begins with a security header, of five octets at least.
+fn ciphered_at(bytes: &[u8]) -> Option<Front>
+    ensures { result ≡ ciphered_at bytes.now }
+{
+    if length_at(bytes)?.number < 5 {
+        return None;
+    }
+    text_behind(0, bytes)
+}
+
 /// What an access does and of what: 01 gets, 02 sets, 03 acts, 04 and 05 get and set with a selection.
 fn access_at(bytes: &[u8]) -> Option<Front>
     ensures { result ≡ access_at bytes.now }
@@ -262,7 +272,8 @@ pub fn front_at(field: Field, bytes: &[u8]) -> Option<Front>
         Field::Exception => exception_at(bytes),
         Field::Block => text_behind(5, bytes),
         Field::BlockResult => block_result_at(bytes),
-        Field::Time | Field::Title | Field::Octets | Field::Ciphered => text_behind(0, bytes),
+        Field::Time | Field::Title | Field::Octets => text_behind(0, bytes),
+        Field::Ciphered => ciphered_at(bytes),
         Field::OptionalTime => optional_text(bytes),
         Field::Key => key_at(bytes),
         Field::Access => access_at(bytes),

@@ -2,6 +2,7 @@
 //! reader gives. What is told of an APDU has no octet of a secret.
 #![tactic(auto)]
 
+mod acse;
 mod apdus;
 mod association;
 mod control;
@@ -31,6 +32,7 @@ mod veiled;
 mod walk;
 mod whole;
 
+pub use acse::{Acse, CipheredInitiate, acse_of, is_counted};
 pub use apdus::{Apdu, read_apdu};
 pub use association::{Association, without_secret};
 pub use control::{Control, has_poll, name_of, read};
