@@ -7,3 +7,4 @@ pub mod TalkLemmas
 pub mod ConnectionLemmas
 pub mod CallLemmas
 pub mod ServeLemmas
+pub mod PollingLemmas

@@ -13,3 +13,5 @@ pub mod Captures
 pub mod Refusals
 pub mod Watching
 pub mod Serving
+pub mod Calling
+pub mod Faults

@@ -1,11 +1,13 @@
 //! A meter is called, and polled over the connection.
 
-ghost use Rattle.std.specs.Prelude.{◌≡◌, IfOk, IfSome};
+ghost use Rattle.std.specs.Prelude.{◌≡◌, ◌↔◌, IfNone, IfOk, IfSome, IsTrue};
 ghost use Rattle.dlms_headend.specs.Asking.{PlanValue};
 ghost use Rattle.dlms_headend.specs.Polling.{fresh_poll};
 ghost use Rattle.dlms_loopback.specs.BothEnds.{IsDonePoll};
+ghost use Rattle.dlms_field.specs.Calling.{Calls, Does, HasPassed};
+ghost use Rattle.dlms_field.specs.Deadline.{IsOver};
 
-use crate::deadline::Deadline;
+use crate::deadline::{Deadline, Timer, is_over};
 use crate::fault::{FieldFault, at};
 use crate::line::{Line, WAIT_SECONDS};
 use dlms_headend::{PollFault, Poller};
@@ -53,7 +55,9 @@ fn connected<R: Net, C: Clock>(
     rt: &R,
     address: &str,
     deadline: &Deadline<'_, C>,
-) -> io::Result<Option<R::Stream>> {
+) -> io::Result<Option<R::Stream>>
+    ensures { IfOk result (λ stream. IfNone stream (HasPassed deadline.now.seconds)) }
+{
     let mut last = io::Error::from(ErrorKind::AddrNotAvailable);
     for place in address.to_socket_addrs(rt)? {
         let seconds = deadline.left()?.min(CONNECT_SECONDS);
@@ -68,17 +72,28 @@ fn connected<R: Net, C: Clock>(
     Err(last)
 }
 
-/// Does a poll over a line whose other end is the meter; none where the deadline is over.
-fn done<C: Clock, S: End>(
+/// Whether a poll that may take so many seconds has to end at this one.
+fn has_to_end(seconds: u32, time: u64) -> bool
+    ensures { IsTrue result ↔ IsOver seconds time }
+{
+    is_over(u64::from(seconds), time)
+}
+
+/// Does a poll over a line whose other end is the meter; none where the deadline, so many seconds, is over. The clock is looked at
+/// before each turn.
+fn done<T: Timer, S: End>(
     line: &mut S,
-    deadline: &Deadline<'_, C>,
+    timer: &mut T,
+    seconds: u32,
     poller: Poller,
 ) -> Result<Option<Poller>, LoopFault>
-    ensures { (plan : PlanValue) → poller ≡ fresh_poll plan → IfOk result (λ done. IfSome done (IsDonePoll plan)) }
+    ensures does { Does seconds (S.past line.old) (S.past line.new) (T.seen timer.old) (T.seen timer.new) poller result }
+    ensures done { (plan : PlanValue) → poller ≡ fresh_poll plan → IfOk result (λ done. IfSome done (IsDonePoll plan)) }
 {
     let mut head_end = HeadEnd::begin(line, poller)?;
     'turns: for _turn in 0..TURNS {
-        if deadline.is_over()? {
+        let time = timer.seconds()?;
+        if has_to_end(seconds, time) {
             return Ok(None);
         }
         match head_end.turn(line)? {
@@ -93,16 +108,18 @@ fn done<C: Clock, S: End>(
 fn polled<'a, R: Clock, S: Read + Write + OpenStream + Drop>(
     rt: &R,
     address: &'a str,
-    deadline: &Deadline<'_, R>,
+    deadline: &mut Deadline<'_, R>,
+    seconds: u32,
     stream: S,
     poller: Poller,
 ) -> Result<Option<Poller>, FieldFault<'a>>
-    ensures { (plan : PlanValue) → poller ≡ fresh_poll plan → IfOk result (λ done. IfSome done (IsDonePoll plan)) }
+    ensures calls { Calls address.now seconds poller result }
+    ensures done { (plan : PlanValue) → poller ≡ fresh_poll plan → IfOk result (λ done. IfSome done (IsDonePoll plan)) }
 {
     let mut stream = stream;
     at(address, prepare(&mut stream))?;
     let mut line = at(address, Line::new(rt, stream))?;
-    match (done(&mut line, deadline, poller), line.failure()) {
+    match (done(&mut line, deadline, seconds, poller), line.failure()) {
         (Ok(poller), _) => Ok(poller),
         (Err(LoopFault::Io), Some(error)) => Err(FieldFault::System(address, error)),
         (Err(fault), _) => Err(FieldFault::Other(fault)),
@@ -117,11 +134,12 @@ pub fn call<'a, R: Net + Clock>(
     seconds: u32,
     poller: Poller,
 ) -> Result<Option<Poller>, FieldFault<'a>>
-    ensures { (plan : PlanValue) → poller ≡ fresh_poll plan → IfOk result (λ done. IfSome done (IsDonePoll plan)) }
+    ensures calls { Calls address.now seconds poller result }
+    ensures done { (plan : PlanValue) → poller ≡ fresh_poll plan → IfOk result (λ done. IfSome done (IsDonePoll plan)) }
 {
-    let deadline = at(address, Deadline::new(rt, seconds))?;
+    let mut deadline = at(address, Deadline::new(rt, seconds))?;
     let Some(stream) = at(address, connected(rt, address, &deadline))? else {
         return Ok(None);
     };
-    polled(rt, address, &deadline, stream, poller)
+    polled(rt, address, &mut deadline, seconds, stream, poller)
 }

@@ -1,10 +1,23 @@
 //! The deadline of a poll.
 
-ghost use Rattle.std.specs.Prelude.{◌≡◌, ◌-◌, ◌↔◌, IsTrue};
+ghost use Rattle.std.specs.Prelude.{◌≡◌, ◌-◌, ◌↔◌, ℕ, IfOk, IsTrue, List, Option, None, [], ◌∷◌};
 ghost use Rattle.dlms_field.specs.Deadline.{IsOver};
+ghost use Rattle.dlms_field.specs.Watching.{Sight, Sees, ok_in};
+ghost use Rattle.dlms_field.specs.Watching.Sight.{Second};
 
 use std::io;
 use std::time::{Clock, Instant};
+
+/// A steady clock since a beginning.
+pub trait Timer {
+    /// The looks at it, in order, and what came of each, where that is known. Of the system's clock it is not; what code does that
+    /// takes any timer holds of those of which it is known too.
+    ghost seen: { Self → Option (List Sight) } = { λ _. None };
+
+    /// How many whole seconds have gone by since the beginning.
+    fn seconds(&mut self) -> io::Result<u64>
+        ensures { Sees (seen self.old) (seen self.new) (Second (ok_in result) ∷ []) };
+}
 
 /// Until when a poll may go on, by the system's steady clock.
 #[derive(Drop)]
@@ -30,7 +43,9 @@ pub fn left(seconds: u64, elapsed: u64) -> u64
 
 impl<'a, C: Clock> Deadline<'a, C> {
     /// So many seconds from now on.
-    pub fn new(clock: &'a C, seconds: u32) -> io::Result<Self> {
+    pub fn new(clock: &'a C, seconds: u32) -> io::Result<Self>
+        ensures { IfOk result (λ deadline. deadline.seconds ≡ seconds) }
+    {
         let start = Instant::now(clock)?;
         Ok(Deadline {
             clock,
@@ -43,13 +58,16 @@ impl<'a, C: Clock> Deadline<'a, C> {
         Ok(self.start.elapsed(self.clock)?.as_secs())
     }
 
-    /// Whether the poll has to end.
-    pub fn is_over(&self) -> io::Result<bool> {
-        Ok(is_over(u64::from(self.seconds), self.elapsed()?))
-    }
-
     /// How many seconds are left; 0 where the poll has to end.
-    pub fn left(&self) -> io::Result<u64> {
+    pub fn left(&self) -> io::Result<u64>
+        ensures { IfOk result (λ left. (elapsed : ℕ) × (left ≡ self.now.seconds - elapsed)) }
+    {
         Ok(left(u64::from(self.seconds), self.elapsed()?))
+    }
+}
+
+impl<C: Clock> Timer for Deadline<'_, C> {
+    fn seconds(&mut self) -> io::Result<u64> {
+        self.elapsed()
     }
 }

@@ -1,9 +1,11 @@
 //! A head end that polls the meter at an address once.
 
-ghost use Rattle.std.specs.Prelude.{◌≡◌, IfOk, OnOk};
+ghost use Rattle.std.specs.Prelude.{◌≡◌, IfErr, IfOk, OnOk};
 ghost use Rattle.dlms_headend.specs.Asking.{PlanValue};
 ghost use Rattle.dlms_headend.specs.Polling.{fresh_poll};
 ghost use Rattle.dlms_loopback.specs.BothEnds.{IsDonePoll};
+ghost use Rattle.dlms_field.specs.Calling.{FailsCalled, HasDone};
+ghost use Rattle.dlms_field.specs.Clocks.{Takes};
 ghost use Rattle.dlms_field.specs.Polled.{PrintsPoll};
 
 use crate::calling::call;
@@ -69,7 +71,9 @@ fn called<'a, R: Net + Clock + AllocGlobal>(
     poller: Poller,
     limit: Option<Limit>,
 ) -> Result<Poller, FieldFault<'a>>
-    ensures { (plan : PlanValue) → poller ≡ fresh_poll plan → IfOk result (IsDonePoll plan) }
+    ensures fails { IfErr result (FailsCalled polling.now.address.now polling.now.deadline limit poller) }
+    ensures takes { IfOk result (λ done. HasDone poller done × Takes limit done.talk.rows) }
+    ensures done { (plan : PlanValue) → poller ≡ fresh_poll plan → IfOk result (IsDonePoll plan) }
 {
     let Some(poller) = call(rt, polling.address, polling.deadline, poller)? else {
         return Err(FieldFault::Late(polling.address, polling.deadline));

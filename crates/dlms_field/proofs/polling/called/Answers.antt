@@ -4,5 +4,5 @@ use Rattle.dlms_headend.specs.PollerValue.{PollerValue}
 use Rattle.dlms_loopback.specs.BothEnds.{IsDonePoll}
 use Rattle.dlms_field.proofs.polling.called.Goals as goal
 
-pub returns-in-Ok : goal.returns-in-Ok
-returns-in-Ok g c = λ plan fresh. subst (λ (done : Option PollerValue). IfSome done (IsDonePoll plan)) c.in-Some.is (c.in_ok-poller.ensures plan fresh)
+pub returns-in-Ok-clause-done : goal.returns-in-Ok-clause-done
+returns-in-Ok-clause-done g c = λ plan fresh. subst (λ (done : Option PollerValue). IfSome done (IsDonePoll plan)) c.in-Some.is (c.in_ok-poller.ensures.done plan fresh)

@@ -22,6 +22,6 @@ returns-in-Ok g c =
       secret = secret;
       before = before;
       done = done;
-      polled = c.in_ok-poller.ensures (plan_behind client secret before) fresh;
+      polled = c.in_ok-poller.ensures.done (plan_behind client secret before) fresh;
       appends = subst (λ (rows : List Row). Appends (g.W.Write.contents c.args.output.now) (g.W.Write.contents c.file_rows.new.output) (text_of (added before rows))) c.rows-4.ensures.rows adds;
     }

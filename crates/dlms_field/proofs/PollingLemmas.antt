@@ -1,0 +1,130 @@
+-- A poll over a line, until a deadline.
+use Rattle.std.proofs.Common.{refl, sym, ap, ◌∙◌, ◌≡◌, ◌+◌, ℕ, arith, List, [], ◌∷◌, ◌++◌, map, Option, Some, None, Result, Ok, Err, subst}
+use Rattle.std.specs.Prelude.{IfErr, IsErrAnd}
+use Rattle.std.specs.declared.io.Error.{Error}
+use Rattle.std.proofs.lemmas.List.{append-nil, length-append}
+use Rattle.dlms_frame.specs.Frame.{Parts, spelling}
+use Rattle.dlms_headend.specs.PollRun.{IsCall}
+use Rattle.dlms_headend.specs.PollRun.Call.{Next}
+use Rattle.dlms_headend.specs.PollerValue.{PollerValue}
+use Rattle.dlms_headend.specs.declared.poll_fault.PollFault.TheVariants as poll
+use Rattle.dlms_loopback.specs.BothEnds.{CallFails, IsPolled}
+use Rattle.dlms_loopback.specs.Faults.{TellsError}
+use Rattle.dlms_loopback.specs.Moments.{Moment, Breaks}
+use Rattle.dlms_loopback.specs.declared.fault.LoopFault.{LoopFault}
+use Rattle.dlms_loopback.specs.declared.fault.LoopFault.TheVariants.{Poll}
+use Rattle.dlms_loopback.specs.declared.head_end.HeadEnd.{HeadEnd}
+use Rattle.dlms_loopback.specs.declared.polling.TheConstants.{TURNS}
+use Rattle.dlms_loopback.proofs.MomentLemmas.{map_append}
+use Rattle.dlms_loopback.proofs.PollLemmas.{HeadSide, system_told}
+use Rattle.dlms_field.specs.Calling.{AreWithin, ClockFails, Does, Calls, Drives, FailsCalled, HeadFails, Looks, Tires, Unbegun}
+use Rattle.dlms_field.specs.Deadline.{IsOver}
+use Rattle.dlms_field.specs.Faults.{IsAt}
+use Rattle.dlms_field.specs.Watching.{Sight, Sees}
+use Rattle.dlms_field.specs.Watching.Sight.{Second}
+use Rattle.dlms_field.specs.declared.clocks.Limit.{Limit}
+use Rattle.dlms_field.specs.declared.fault.FieldFault.{FieldFault}
+use Rattle.dlms_field.specs.declared.fault.FieldFault.TheVariants.{System, Secret, Late, Clock, Other}
+use Rattle.dlms_field.proofs.TalkLemmas.{sees_more, sees_nothing}
+
+pub looks_none : (seconds : ℕ) (seen : Option (List Sight)) → Looks seconds seen seen 0 []
+looks_none seconds seen = record { times = []; counted = refl; within = tt; watched = sees_nothing seen }
+
+-- and at last this came
+pub looks_last : (seconds : ℕ) (v w x : Option (List Sight)) (count : ℕ) (last : List Sight) → Looks seconds v w count [] → Sees w x last → Looks seconds v x count last
+looks_last seconds v w x count last looks sees =
+    let front : Sees v w (map (λ time. Second (Some time)) looks.times) = subst (λ (l : List Sight). Sees v w l) (append-nil (map (λ time. Second (Some time)) looks.times)) looks.watched in
+    record { times = looks.times; counted = looks.counted; within = looks.within; watched = sees_more v w x (map (λ time. Second (Some time)) looks.times) last front sees }
+
+within_more : (seconds : ℕ) (times : List ℕ) (time : ℕ) → AreWithin seconds times → (IsOver seconds time → ⊥) → AreWithin seconds (times ++ time ∷ [])
+within_more seconds [] time all not = (not, tt)
+within_more seconds (t ∷ times) time all not = (all.0, within_more seconds times time all.1 not)
+
+-- one look more
+pub looks_more : (seconds : ℕ) (v w x : Option (List Sight)) (count time : ℕ) → Looks seconds v w count [] → Sees w x (Second (Some time) ∷ []) → (IsOver seconds time → ⊥) → Looks seconds v x (count + 1) []
+looks_more seconds v w x count time looks sees not =
+    let later = looks_last seconds v w x count (Second (Some time) ∷ []) looks sees in
+    let whole : map (λ t. Second (Some t)) looks.times ++ Second (Some time) ∷ [] ≡ map (λ t. Second (Some t)) (looks.times ++ time ∷ []) ++ [] =
+    sym (map_append (λ t. Second (Some t)) looks.times (time ∷ [])) ∙ sym (append-nil (map (λ t. Second (Some t)) (looks.times ++ time ∷ []))) in
+    record {
+      times = looks.times ++ time ∷ [];
+      counted = length-append looks.times (time ∷ []) ∙ ap (λ (n : ℕ). n + 1) looks.counted;
+      within = within_more seconds looks.times time looks.within not;
+      watched = subst (λ (l : List Sight). Sees v x l) whole
+          (sees_more v w x (map (λ t. Second (Some t)) looks.times) (Second (Some time) ∷ []) (subst (λ (l : List Sight). Sees v w l) (append-nil (map (λ t. Second (Some t)) looks.times)) looks.watched) sees);
+    }
+
+-- a poll so far, and the looks at the clock
+pub record Under {A : Type 0} (seconds : ℕ) (old now : Option (List Moment)) (v w : Option (List Sight)) (poller : PollerValue) (head : HeadEnd A) (count : ℕ) : Type 0 where
+  pub side : HeadSide old now poller head count
+  pub looks : Looks seconds v w count []
+
+pub unbegun : (seconds : ℕ) (old new : Option (List Moment)) (v : Option (List Sight)) (poller : PollerValue) (error : Error) (r : Result (Option PollerValue) LoopFault) → IsErrAnd r (TellsError error)
+    → (frame : Parts) (begun : PollerValue) → IsCall poller (Next (Some frame)) begun → Breaks old new (spelling frame) → Does seconds old new v v poller r
+unbegun seconds old new v poller error (Ok found) told frame begun call broke = absurd told
+unbegun seconds old new v poller error (Err fault) told frame begun call broke = Unbegun (system_told fault error told) frame begun call broke (sees_nothing v)
+
+pub clock_fails : {A : Type 0} (seconds : ℕ) (old now : Option (List Moment)) (v w x : Option (List Sight)) (poller : PollerValue) (head : HeadEnd A) (count : ℕ) (error : Error) (r : Result (Option PollerValue) LoopFault)
+    → IsErrAnd r (TellsError error) → Under seconds old now v w poller head count → Sees w x (Second None ∷ []) → Does seconds old now v x poller r
+clock_fails seconds old now v w x poller head count error (Ok found) told under sees = absurd told
+clock_fails seconds old now v w x poller head count error (Err fault) told under sees =
+    ClockFails (system_told fault error told) under.side.acts under.side.world under.side.called
+    (subst (λ (n : ℕ). Looks seconds v x n (Second None ∷ [])) (sym under.side.sent) (looks_last seconds v w x count (Second None ∷ []) under.looks sees))
+
+pub is_late : {A : Type 0} (seconds : ℕ) (old now : Option (List Moment)) (v w x : Option (List Sight)) (poller : PollerValue) (head : HeadEnd A) (count last : ℕ) → Under seconds old now v w poller head count
+    → Sees w x (Second (Some last) ∷ []) → IsOver seconds last → Does seconds old now v x poller (Ok None)
+is_late seconds old now v w x poller head count last under sees over = (
+  under.side.acts,
+  under.side.world,
+  under.side.called,
+  last,
+  over,
+  subst (λ (n : ℕ). Looks seconds v x n (Second (Some last) ∷ [])) (sym under.side.sent) (looks_last seconds v w x count (Second (Some last) ∷ []) under.looks sees),
+)
+
+pub head_fails : (seconds : ℕ) (old new : Option (List Moment)) (v w x : Option (List Sight)) (poller : PollerValue) (count time : ℕ) (fault : LoopFault) (r : Result (Option PollerValue) LoopFault)
+    → IsErrAnd r (λ given. given ≡ fault) → Looks seconds v w count [] → Sees w x (Second (Some time) ∷ []) → (IsOver seconds time → ⊥) → CallFails old new poller fault → Does seconds old new v x poller r
+head_fails seconds old new v w x poller count time fault (Ok found) is looks sees not fails = absurd is
+head_fails seconds old new v w x poller count time fault (Err given) is looks sees not fails =
+    HeadFails (subst (λ (f : LoopFault). CallFails old new poller f) (sym is) fails) (count + 1) (omega arith) (looks_more seconds v w x count time looks sees not)
+
+pub is_done : (seconds : ℕ) (old new : Option (List Moment)) (v w x : Option (List Sight)) (poller done : PollerValue) (count time : ℕ) → Looks seconds v w count [] → Sees w x (Second (Some time) ∷ [])
+    → (IsOver seconds time → ⊥) → IsPolled old new poller done → Does seconds old new v x poller (Ok (Some done))
+is_done seconds old new v w x poller done count time looks sees not is = (is, count + 1, omega arith, looks_more seconds v w x count time looks sees not)
+
+pub has_tired : {A : Type 0} (seconds : ℕ) (old now : Option (List Moment)) (v w : Option (List Sight)) (poller : PollerValue) (head : HeadEnd A) (count : ℕ) → count ≡ TURNS
+    → Under seconds old now v w poller head count → Does seconds old now v w poller (Err (Poll poll.Line))
+has_tired seconds old now v w poller head count all under =
+    Tires refl under.side.acts under.side.world under.side.called (under.side.sent ∙ all) (subst (λ (n : ℕ). Looks seconds v w n []) all under.looks)
+
+-- ---- a call
+
+pub has_done : (seconds : ℕ) (old new : Option (List Moment)) (v w : Option (List Sight)) (poller : PollerValue) (address : List ℕ) (found : Option PollerValue) → Does seconds old new v w poller (Ok found)
+    → Calls address seconds poller (Ok found)
+has_done seconds old new v w poller address (Some done) does = (old, new, does.0)
+has_done seconds old new v w poller address None does = (does.3, does.4)
+
+pub at_address : (address : List ℕ) (seconds : ℕ) (poller : PollerValue) (fault : FieldFault) (r : Result (Option PollerValue) FieldFault) → IsErrAnd r (λ given. given ≡ fault) → IsAt address fault → Calls address seconds poller r
+at_address address seconds poller fault (Ok found) is at = absurd is
+at_address address seconds poller fault (Err given) is at = failed given (subst (λ (f : FieldFault). IsAt address f) (sym is) at) where
+  failed : (f : FieldFault) → IsAt address f → Calls address seconds poller (Err f)
+  failed (System place error) at = at
+  failed Secret at = absurd at
+  failed (Late place deadline) at = absurd at
+  failed (Clock place clock) at = absurd at
+  failed (Other other) at = absurd at
+
+pub fails_called : (address : List ℕ) (seconds : ℕ) (limit : Option Limit) (poller : PollerValue) (fault : FieldFault) → Calls address seconds poller (Err fault) → FailsCalled address seconds limit poller fault
+fails_called address seconds limit poller (System place error) fails = fails
+fails_called address seconds limit poller Secret fails = absurd fails
+fails_called address seconds limit poller (Late place deadline) fails = absurd fails
+fails_called address seconds limit poller (Clock place clock) fails = absurd fails
+fails_called address seconds limit poller (Other fault) fails = fails
+
+pub fails_as : (address : List ℕ) (seconds : ℕ) (limit : Option Limit) (poller : PollerValue) (fault : FieldFault) (r : Result PollerValue FieldFault) → IsErrAnd r (λ given. given ≡ fault) → Calls address seconds poller (Err fault)
+    → IfErr r (FailsCalled address seconds limit poller)
+fails_as address seconds limit poller fault (Ok found) is fails = absurd is
+fails_as address seconds limit poller fault (Err given) is fails = fails_called address seconds limit poller given (subst (λ (f : FieldFault). Calls address seconds poller (Err f)) (sym is) fails)
+
+pub drives : (seconds : ℕ) (old new : Option (List Moment)) (v w : Option (List Sight)) (poller : PollerValue) (fault : LoopFault) → Does seconds old new v w poller (Err fault) → Drives seconds poller fault
+drives seconds old new v w poller fault fails = record { old = old; new = new; seen = v; seen' = w; fails = fails }
