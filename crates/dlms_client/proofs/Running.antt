@@ -203,8 +203,8 @@ times_out_fits (Some fault) old new result since fits h = fits_at new old since 
 
 none_of : (asked : Asked) → AreOf asked [] empty
 none_of Get = (refl, refl)
-none_of Set = tt
-none_of Action = tt
+none_of Set = refl
+none_of Action = refl
 
 begun_fits : (form : RequestForm) (at new : ClientValue) (apdu : List ℕ) (frame : Parts) (sent : Option Going) → at.failed ≡ None → IfSome sent (λ going. long_value form ≡ Some going.encoding)
     → Sends (emptied at sent) apdu (Asking (asked_of form)) frame new → Fits new (record { request = Some form; taken = [] })
@@ -273,16 +273,17 @@ more_none Set number at new answer h = next_none at.sent number next_of_set Set 
 more_none Action number at new answer h = next_none at.sent number next_of_action Action at new answer h
 
 -- what an answer is, at an APDU that this link handed up
-record Tells (since : Since) (link : ClientRecord) (answer : Answer) (new : ClientValue) : Type 0 where
+record Tells (stage : Stage) (since : Since) (link : ClientRecord) (answer : Answer) (new : ClientValue) : Type 0 where
   form : RequestForm
   request : since.request ≡ Some form
+  awaited : stage ≡ Asking (asked_of form)
   says : Says (asked_of form) since.taken link.apdu answer new.blocks.joined
   whole : new.failed ≡ None
   free : new.stage ≡ Free
   link_is : new.link ≡ link
 
 answer_told : (heard : Result Heard Fault) (blocks : Joining) (asked : Asked) (at new : ClientValue) (answer : Answer) (since : Since) → at.failed ≡ None → HasJoined asked at.blocks at.sent since → Hears asked at.blocks at.link.apdu heard blocks
-    → GoesOn heard asked (record at { blocks = blocks }) (Ok (step.Answered answer)) new → Tells since at.link answer new
+    → GoesOn heard asked (record at { blocks = blocks }) (Ok (step.Answered answer)) new → Tells (Asking asked) since at.link answer new
 answer_told (Ok (More number)) blocks asked at new answer since whole joined hears goes = absurd (more_none asked number (record at { blocks = blocks }) new answer goes)
 answer_told (Ok (Told other)) blocks asked at new answer since whole joined hears goes =
     let one = goes.0 in
@@ -292,6 +293,7 @@ answer_told (Ok (Told other)) blocks asked at new answer since whole joined hear
     record {
       form = joined.form;
       request = joined.request;
+      awaited = ap (λ (a : Asked). Asking a) joined.same;
       says = subst (λ (a : Asked). Says a since.taken at.link.apdu answer new.blocks.joined) joined.same
           (subst (λ (bytes : List ℕ). Says asked since.taken at.link.apdu answer bytes) same (subst (λ (a : Answer). Says asked since.taken at.link.apdu a blocks.joined) is spelled));
       whole = ap (λ (v : ClientValue). v.failed) goes.1 ∙ whole;
@@ -300,7 +302,7 @@ answer_told (Ok (Told other)) blocks asked at new answer since whole joined hear
     }
 answer_told (Err fault) blocks asked at new answer since whole joined hears goes = absurd (failed_none fault (record at { blocks = blocks }) new answer goes)
 
-takes_told : (stage : Stage) (at new : ClientValue) (answer : Answer) (since : Since) → at.failed ≡ None → FitsAt stage at.blocks at.sent since → TakesAt stage at (Ok (step.Answered answer)) new → Tells since at.link answer new
+takes_told : (stage : Stage) (at new : ClientValue) (answer : Answer) (since : Since) → at.failed ≡ None → FitsAt stage at.blocks at.sent since → TakesAt stage at (Ok (step.Answered answer)) new → Tells stage since at.link answer new
 takes_told Associating at new answer since whole fits h = absurd (opens_none (granted_at at.link.apdu) at new answer h)
 takes_told (Asking asked) at new answer since whole fits h = answer_told h.0 h.1 asked at new answer since whole fits h.2 h.3
 takes_told Releasing at new answer since whole fits h = absurd (releases_none (released_at at.link.apdu) at new answer h)
@@ -309,42 +311,42 @@ takes_told Free at new answer since whole fits h = absurd (failed_none _ at new 
 takes_told Leaving at new answer since whole fits h = absurd (failed_none _ at new answer h)
 
 -- with the list of APDUs that the frame brought
-abbrev IsTold : Since → List (List ℕ) → Answer → ClientValue → Type 0
-IsTold since brought answer new =
-    (form : RequestForm) × (apdu : List ℕ) × (since.request ≡ Some form) × (brought ≡ apdu ∷ []) × Says (asked_of form) since.taken apdu answer new.blocks.joined × IsFree new
+abbrev IsTold : Stage → Since → List (List ℕ) → Answer → ClientValue → Type 0
+IsTold stage since brought answer new =
+    (form : RequestForm) × (apdu : List ℕ) × (since.request ≡ Some form) × (stage ≡ Asking (asked_of form)) × (brought ≡ apdu ∷ []) × Says (asked_of form) since.taken apdu answer new.blocks.joined × IsFree new
 
-is_told : (since : Since) (link : ClientRecord) (answer : Answer) (new : ClientValue) → IsIdle link → Tells since link answer new → IsTold since (link.apdu ∷ []) answer new
-is_told since link answer new idle t = (t.form, link.apdu, t.request, refl, t.says, record { whole = t.whole; free = t.free; idle = subst IsIdle (sym t.link_is) idle })
+is_told : (stage : Stage) (since : Since) (link : ClientRecord) (answer : Answer) (new : ClientValue) → IsIdle link → Tells stage since link answer new → IsTold stage since (link.apdu ∷ []) answer new
+is_told stage since link answer new idle t = (t.form, link.apdu, t.request, t.awaited, refl, t.says, record { whole = t.whole; free = t.free; idle = subst IsIdle (sym t.link_is) idle })
 
-told-by : (o : ClientOut) (link : ClientRecord) (old new : ClientValue) (answer : Answer) (since : Since) → (o ≡ out.Apdu → IsIdle link) → old.failed ≡ None → Fits old since → ComesBy o link old (Ok (step.Answered answer)) new → IsTold since (handed_by o link) answer new
+told-by : (o : ClientOut) (link : ClientRecord) (old new : ClientValue) (answer : Answer) (since : Since) → (o ≡ out.Apdu → IsIdle link) → old.failed ≡ None → Fits old since → ComesBy o link old (Ok (step.Answered answer)) new → IsTold old.stage since (handed_by o link) answer new
 told-by out.Nothing link old new answer since idle whole fits h = absurd (passed_none old new answer h)
 told-by out.Up link old new answer since idle whole fits h = let clash = h.1 in absurd (cc)
 told-by (out.Send frame) link old new answer since idle whole fits h = let clash = h.0 in absurd (cc)
 told-by out.Apdu link old new answer since idle whole fits h =
-    is_told since link answer new (idle refl)
+    is_told old.stage since link answer new (idle refl)
     (takes_told old.stage (with_link old link) new answer since whole (subst (λ (failed : Option Fault). FitsUnless failed old.stage old.blocks old.sent since) whole fits) h)
 told-by out.Down link old new answer since idle whole fits h = absurd (down_none old.stage (with_link old link) new answer h)
 
-told-to : (ours : Bool) (old new : ClientValue) (frame : Parts) (answer : Answer) (since : Since) → old.failed ≡ None → Fits old since → ComesTo ours old frame (Ok (step.Answered answer)) new → IsTold since (handed_to ours old frame) answer new
+told-to : (ours : Bool) (old new : ClientValue) (frame : Parts) (answer : Answer) (since : Since) → old.failed ≡ None → Fits old since → ComesTo ours old frame (Ok (step.Answered answer)) new → IsTold old.stage since (handed_to ours old frame) answer new
 told-to true old new frame answer since whole fits h =
     told-by (client_step old.link (inward frame)).1 (client_step old.link (inward frame)).0 old new answer since (apdu_idle old.link (inward frame)) whole fits h
 told-to false old new frame answer since whole fits h = absurd (passed_none old new answer h)
 
 told-while : (waits : Option Parts) (old new : ClientValue) (frame : Parts) (answer : Answer) (since : Since) → old.failed ≡ None → Fits old since → ComesWhile waits old frame (Ok (step.Answered answer)) new
-    → IsTold since (handed_while waits old frame) answer new
+    → IsTold old.stage since (handed_while waits old frame) answer new
 told-while (Some waits) old new frame answer since whole fits h = told-to (is_ours old.plan frame) old new frame answer since whole fits h
 told-while None old new frame answer since whole fits h = absurd (passed_none old new answer h)
 
 told-unless : (failed : Option Fault) (old new : ClientValue) (frame : Parts) (answer : Answer) (since : Since) → old.failed ≡ failed → Fits old since → ComesUnless failed old frame (Ok (step.Answered answer)) new
-    → IsTold since (handed_unless failed old frame) answer new
+    → IsTold old.stage since (handed_unless failed old frame) answer new
 told-unless None old new frame answer since whole fits h = told-while old.link.waits old new frame answer since whole fits h
 told-unless (Some fault) old new frame answer since over fits h = let clash = h.0 in absurd (cc)
 
 pub answers_are_said : AnswersAreSaid
 answers_are_said plan calls at new since frame answer runs h =
     let fits : Fits at since = runs_fits calls (fresh plan) at nothing_yet since tt runs in
-    let told : IsTold since (handed at frame) answer new = told-unless at.failed at new frame answer since refl fits h in
-    record { form = told.0; apdu = told.1; request = told.2; came = told.3; says = told.4; free = told.5 }
+    let told : IsTold at.stage since (handed at frame) answer new = told-unless at.failed at new frame answer since refl fits h in
+    record { form = told.0; apdu = told.1; request = told.2; awaited = told.3; came = told.4; says = told.5; free = told.6 }
 
 -- ---- blocks of a request
 

@@ -3,15 +3,16 @@ use Rattle.std.proofs.Common.{◌≡◌, ◌∙◌, ◌+◌, ◌≤◌, refl, sy
 use Rattle.dlms_apdu.specs.Forms.{ResponseForm, get_data, get_result, get_block, get_block_result, set_result, set_last, action_result}
 use Rattle.dlms_apdu.specs.Reading.{response_at}
 use Rattle.dlms_apdu.specs.declared.fault.Refusal.{Refusal}
-use Rattle.dlms_blocks.specs.Joining.{Joining}
+use Rattle.dlms_blocks.specs.Joining.{Joining, empty}
+use Rattle.dlms_data.specs.Spelling.{IsSpelling}
 use Rattle.dlms_data.specs.Value.{Value}
 use Rattle.dlms_headend.specs.Poll.{IsMore, IsMoreBy, AreBlocks}
 use Rattle.dlms_headend.proofs.HeardLemmas.{data_behind, next_number}
 use Rattle.dlms_client.specs.Association.{denial_of}
-use Rattle.dlms_client.specs.Hearing.{Joins, GetHears, HearsBy, Hears, set_heard, action_heard}
-use Rattle.dlms_client.specs.Saying.{GivesResult, Says, in_one_piece, in_blocks, by_result, denied}
+use Rattle.dlms_client.specs.Hearing.{Joins, GetHears, returned_at, ActionHears, HearsBy, Hears, set_heard, action_heard}
+use Rattle.dlms_client.specs.Saying.{GivesResult, Says, in_one_piece, in_blocks, by_result, returned, denied}
 use Rattle.dlms_client.specs.declared.answer.Answer.{Answer}
-use Rattle.dlms_client.specs.declared.answer.Answer.TheVariants.{Result as HasResult}
+use Rattle.dlms_client.specs.declared.answer.Answer.TheVariants.{Value as ValueCame, Result as HasResult}
 use Rattle.dlms_client.specs.declared.answer.Denial.{Denial}
 use Rattle.dlms_client.specs.declared.hearing.Heard.TheVariants.{More, Told}
 use Rattle.dlms_client.specs.declared.stage.Asked.{Asked}
@@ -37,23 +38,23 @@ one_more before taken [] joined bytes apdu h m =
 one_more before taken (first ∷ apdus) joined bytes apdu h m =
     (h.0, h.1 ++ bytes, h.2, ap (λ (j : List ℕ). j ++ bytes) h.3 ∙ append_assoc h.0 h.1 bytes, one_more (before + 1) taken apdus h.1 bytes apdu h.4 m)
 
--- what was joined of a GET is what came
+-- what was joined of a GET is what came; nothing was of a SET and an ACTION
 abbrev pub AreOf : Asked → List (List ℕ) → Joining → Type 0
 AreOf Get before joined = AreBlocks 0 before joined.taken joined.joined
-AreOf Set before joined = Unit {0}
-AreOf Action before joined = Unit {0}
+AreOf Set before joined = joined ≡ empty
+AreOf Action before joined = joined ≡ empty
 
 -- ---- an answer was told
 
 module _ (before : List (List ℕ)) (apdu : List ℕ) (old new : Joining) (answer : Answer) where
-  in_one : (invoke : ℕ) (v : Value) → AreBlocks 0 before old.taken old.joined → response_at apdu ≡ Ok (get_data invoke v) → Joins old true 1 (drop 4 apdu) (Ok (Told answer)) new → Says Get before apdu answer new.joined
+  in_one : (invoke : ℕ) (v : Value) → AreBlocks 0 before old.taken old.joined → response_at apdu ≡ Ok (get_data invoke v) → Joins old true 1 (drop 4 apdu) ValueCame (Ok (Told answer)) new → Says Get before apdu answer new.joined
   in_one invoke v come read h =
       let next : 1 ≡ old.taken + 1 = next_number old 1 h.2 in
       let none : (before ≡ []) × (old.joined ≡ []) = none_came old.taken before old.joined come (omega arith) in
       let joined : new.joined ≡ drop 4 apdu = ap (λ (j : Joining). j.joined) h.3 ∙ ap (λ (front : List ℕ). front ++ drop 4 apdu) none.1 in
       in_one_piece invoke v refl none.0 read (rw joined (data_behind apdu invoke v read)) h.0
 
-  last_of : (invoke number : ℕ) (last : Bool) (raw : List ℕ) → AreBlocks 0 before old.taken old.joined → response_at apdu ≡ Ok (get_block invoke last number raw) → Joins old last number raw (Ok (Told answer)) new → Says Get before apdu answer new.joined
+  last_of : (invoke number : ℕ) (last : Bool) (raw : List ℕ) → AreBlocks 0 before old.taken old.joined → response_at apdu ≡ Ok (get_block invoke last number raw) → Joins old last number raw ValueCame (Ok (Told answer)) new → Says Get before apdu answer new.joined
   last_of invoke number last raw come read h =
       let next : number ≡ old.taken + 1 = next_number old number h.2 in
       let joined : new.joined ≡ old.joined ++ raw = ap (λ (j : Joining). j.joined) h.3 in
@@ -82,11 +83,21 @@ module _ (before : List (List ℕ)) (apdu : List ℕ) (old new : Joining) (answe
   action_said (Ok _) e h = cc
   action_said (Err refusal) e h = cc
 
+  with_value : (code : ℕ) (bytes : List ℕ) → old ≡ empty → returned_at apdu ≡ Some (code, bytes) → Joins old true 1 bytes (HasResult code) (Ok (Told answer)) new → Says Action before apdu answer new.joined
+  with_value code bytes none e h =
+      let joined : new.joined ≡ bytes = ap (λ (j : Joining). j.joined) h.3 ∙ ap (λ (j : Joining). j.joined ++ bytes) none in
+      let spelled : IsSpelling bytes h.4.0 = subst (λ (j : Joining). IsSpelling (j.joined ++ bytes) h.4.0) none h.4.1 in
+      returned code bytes h.4.0 refl e joined (rw joined spelled) h.0
+
+  action_said_by : (given : Option (ℕ × List ℕ)) → old ≡ empty → returned_at apdu ≡ given → ActionHears given old (response_at apdu) (Ok (Told answer)) new → Says Action before apdu answer new.joined
+  action_said_by (Some (code, bytes)) none e h = with_value code bytes none e h
+  action_said_by None none e h = action_said (response_at apdu) refl h.0
+
   said_by : (denial : Option Denial) (asked : Asked) → AreOf asked before old → denial_of apdu ≡ denial → HearsBy denial asked old apdu (Ok (Told answer)) new → Says asked before apdu answer new.joined
   said_by (Some denial) asked come e h = let told = h.0 in denied denial e cc
   said_by None Get come e h = get_said (response_at apdu) come refl h
   said_by None Set come e h = set_said (response_at apdu) refl h.0
-  said_by None Action come e h = action_said (response_at apdu) refl h.0
+  said_by None Action come e h = action_said_by (returned_at apdu) come refl h
 
 pub said : (before : List (List ℕ)) (apdu : List ℕ) (old new : Joining) (answer : Answer) (asked : Asked) → AreOf asked before old → Hears asked old apdu (Ok (Told answer)) new → Says asked before apdu answer new.joined
 said before apdu old new answer asked come h = said_by before apdu old new answer (denial_of apdu) asked come refl h
@@ -94,7 +105,7 @@ said before apdu old new answer asked come h = said_by before apdu old new answe
 -- ---- a block was joined, and others are to come
 
 block_came : (before : List (List ℕ)) (apdu : List ℕ) (old new : Joining) (n number invoke : ℕ) (last : Bool) (raw : List ℕ) → response_at apdu ≡ Ok (get_block invoke last number raw) → AreBlocks 0 before old.taken old.joined
-    → Joins old last number raw (Ok (More n)) new → AreBlocks 0 (before ++ apdu ∷ []) new.taken new.joined
+    → Joins old last number raw ValueCame (Ok (More n)) new → AreBlocks 0 (before ++ apdu ∷ []) new.taken new.joined
 block_came before apdu old new n number invoke last raw read come h =
     let next : number ≡ old.taken + 1 = next_number old number h.2 in
     let more : IsMore old.taken apdu raw = subst (λ (r : Result ResponseForm Refusal). IsMoreBy old.taken r raw) (sym read) (h.1, next, refl) in
@@ -109,11 +120,15 @@ get_more (Ok (get_block invoke last number raw)) before apdu old new n e come h 
 get_more (Ok _) before apdu old new n e come h = let clash = h.0 in cc
 get_more (Err refusal) before apdu old new n e come h = let clash = h.0 in cc
 
+given_more : (given : Option (ℕ × List ℕ)) (read : Result ResponseForm Refusal) (old new : Joining) (n : ℕ) → old ≡ empty → ActionHears given old read (Ok (More n)) new → new ≡ empty
+given_more (Some (code, bytes)) read old new n none h = let clash = h.1 in absurd (cc)
+given_more None read old new n none h = h.1 ∙ none
+
 more_by : (denial : Option Denial) (asked : Asked) (before : List (List ℕ)) (apdu : List ℕ) (old new : Joining) (n : ℕ) → AreOf asked before old → HearsBy denial asked old apdu (Ok (More n)) new → AreOf asked (before ++ apdu ∷ []) new
 more_by (Some denial) asked before apdu old new n come h = let clash = h.0 in absurd (cc)
 more_by None Get before apdu old new n come h = get_more (response_at apdu) before apdu old new n refl come h
-more_by None Set before apdu old new n come h = tt
-more_by None Action before apdu old new n come h = tt
+more_by None Set before apdu old new n come h = h.1 ∙ come
+more_by None Action before apdu old new n come h = given_more (returned_at apdu) (response_at apdu) old new n come h
 
 pub more_came : (asked : Asked) (before : List (List ℕ)) (apdu : List ℕ) (old new : Joining) (n : ℕ) → AreOf asked before old → Hears asked old apdu (Ok (More n)) new → AreOf asked (before ++ apdu ∷ []) new
 more_came asked before apdu old new n come h = more_by (denial_of apdu) asked before apdu old new n come h

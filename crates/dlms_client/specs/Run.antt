@@ -95,12 +95,13 @@ abbrev pub Runs : ClientValue → Since → List Call → ClientValue → Since 
 Runs old since [] new now = (new ≡ old) × (now ≡ since)
 Runs old since (call ∷ calls) new now = (mid : ClientValue) × IsCall old call mid × Runs mid (since_after old call since) calls new now
 
--- An answer that a frame brings is what the APDUs say that were taken since the last request, and that frame's APDU; it leaves the
--- client with this value, and free for another request.
+-- An answer that a frame brings was awaited, and is what the APDUs say that were taken since the last request, and that frame's
+-- APDU; it leaves the client with this value, and free for another request.
 pub record IsAnswered (since : Since) (at : ClientValue) (frame : Parts) (answer : Answer) (new : ClientValue) : Type 0 where
   pub form : RequestForm
   pub apdu : List ℕ
   pub request : since.request ≡ Some form
+  pub awaited : at.stage ≡ Asking (asked_of form)
   pub came : handed at frame ≡ apdu ∷ []
   pub says : Says (asked_of form) since.taken apdu answer new.blocks.joined
   pub free : IsFree new

@@ -7,6 +7,7 @@ use Rattle.dlms_data.specs.Spelling.{IsSpelling}
 use Rattle.dlms_data.specs.Value.{Value}
 use Rattle.dlms_headend.specs.Poll.{AreBlocks}
 use Rattle.dlms_client.specs.Association.{denial_of}
+use Rattle.dlms_client.specs.Hearing.{returned_at}
 use Rattle.dlms_client.specs.declared.answer.Answer.{Answer}
 use Rattle.dlms_client.specs.declared.answer.Answer.TheVariants.{Value as ValueCame, Result as HasResult, Denied}
 use Rattle.dlms_client.specs.declared.answer.Denial.{Denial}
@@ -23,10 +24,11 @@ GivesResult Action (Ok (action_result invoke r)) code = r ≡ code
 GivesResult asked read code = ⊥
 
 -- A GET has a value in one piece, where no block came before; or the last block, and the encoding of its value is that of the
--- blocks, joined in their order. Each request may have a result, or be denied.
+-- blocks, joined in their order. Each request may have a result, an ACTION a value beside it; and each may be denied.
 pub data Says (asked : Asked) (before : List (List ℕ)) (apdu : List ℕ) (answer : Answer) (value : List ℕ) : Type 0 where
   in_one_piece : (invoke : ℕ) (v : Value) → asked ≡ Get → before ≡ [] → response_at apdu ≡ Ok (get_data invoke v) → IsSpelling value v → answer ≡ ValueCame → Says asked before apdu answer value
   in_blocks : (invoke taken : ℕ) (joined raw : List ℕ) (v : Value) → asked ≡ Get → AreBlocks 0 before taken joined → response_at apdu ≡ Ok (get_block invoke true (taken + 1) raw) → value ≡ joined ++ raw → IsSpelling value v
       → answer ≡ ValueCame → Says asked before apdu answer value
   by_result : (code : ℕ) → GivesResult asked (response_at apdu) code → answer ≡ HasResult code → Says asked before apdu answer value
+  returned : (code : ℕ) (bytes : List ℕ) (v : Value) → asked ≡ Action → returned_at apdu ≡ Some (code, bytes) → value ≡ bytes → IsSpelling value v → answer ≡ HasResult code → Says asked before apdu answer value
   denied : (denial : Denial) → denial_of apdu ≡ Some denial → answer ≡ Denied denial → Says asked before apdu answer value

@@ -1,8 +1,8 @@
 //! What an APDU says in answer to a request.
 
-ghost use Rattle.std.specs.Prelude.{◌≡◌, drop};
+ghost use Rattle.std.specs.Prelude.{◌≡◌, drop, option_map};
 ghost use Rattle.dlms_apdu.specs.Reading.{response_at};
-ghost use Rattle.dlms_client.specs.Hearing.{Joins, GetHears, Hears, set_heard, action_heard};
+ghost use Rattle.dlms_client.specs.Hearing.{Joins, GetHears, Hears, set_heard, action_heard, returned_at, ActionHears};
 
 use crate::answer::Answer;
 use crate::association::denial;
@@ -32,20 +32,21 @@ fn behind_head(apdu: &[u8]) -> &[u8]
     &apdu[4..]
 }
 
-/// A block; a value in one piece is a first block, and the last.
+/// A block of a value that has this answer once it is whole. A value in one piece is a first block, and the last.
 fn block<A: Allocator>(
     blocks: &mut GetIn<A>,
     last: bool,
     number: u32,
     bytes: &[u8],
+    whole: Answer,
 ) -> Result<Heard, Fault>
-    ensures { Joins blocks.old last number bytes.now result blocks.new }
+    ensures { Joins blocks.old last number bytes.now whole result blocks.new }
 {
     match blocks.more(last, number, bytes) {
         Ok(false) => Ok(Heard::More(number)),
         Ok(true) => {
             if is_value(blocks.bytes()) {
-                Ok(Heard::Told(Answer::Value))
+                Ok(Heard::Told(whole))
             } else {
                 Err(Fault::Unread(ApduFault::Data))
             }
@@ -59,9 +60,10 @@ fn block<A: Allocator>(
 fn get<A: Allocator + Copy>(alloc: A, blocks: &mut GetIn<A>, apdu: &[u8]) -> Result<Heard, Fault>
     ensures { GetHears blocks.old apdu.now (response_at apdu.now) result blocks.new }
 {
+    let value = Answer::Value;
     match read_response(alloc, apdu) {
         Ok(Response::GetData { .. }) | Err(ApduFault::Memory) => {
-            block(blocks, true, 1, behind_head(apdu))
+            block(blocks, true, 1, behind_head(apdu), value)
         }
         Ok(
             Response::GetBlock {
@@ -70,7 +72,7 @@ fn get<A: Allocator + Copy>(alloc: A, blocks: &mut GetIn<A>, apdu: &[u8]) -> Res
                 raw,
                 ..
             },
-        ) => block(blocks, last, number, raw),
+        ) => block(blocks, last, number, raw, value),
         Ok(Response::GetResult { result, .. }) | Ok(Response::GetBlockResult { result, .. }) => {
             Ok(Heard::Told(Answer::Result(result)))
         }
@@ -93,8 +95,18 @@ fn set<A: Allocator + Copy>(alloc: A, apdu: &[u8]) -> Result<Heard, Fault>
     }
 }
 
-/// The answer to an ACTION, or to a block of one.
-fn action<A: Allocator + Copy>(alloc: A, apdu: &[u8]) -> Result<Heard, Fault>
+/// The result of an ACTION that returns a value beside it, and the bytes of that value.
+fn returned(apdu: &[u8]) -> Option<(u8, &[u8])>
+    ensures { option_map (λ x. (x.0, x.1.now)) result ≡ returned_at apdu.now }
+{
+    match apdu {
+        [0xc7, 0x01, _, result, 0x01, 0x00, bytes @ ..] => Some((*result, bytes)),
+        _ => None,
+    }
+}
+
+/// The answer to an ACTION that returns nothing beside its result, or to a block of one.
+fn action_result<A: Allocator + Copy>(alloc: A, apdu: &[u8]) -> Result<Heard, Fault>
     ensures { result ≡ action_heard (response_at apdu.now) }
 {
     match read_response(alloc, apdu) {
@@ -102,6 +114,16 @@ fn action<A: Allocator + Copy>(alloc: A, apdu: &[u8]) -> Result<Heard, Fault>
         Ok(Response::ActionBlock { number, .. }) => Ok(Heard::More(number)),
         Ok(_) | Err(ApduFault::Memory) => Err(Fault::Form),
         Err(fault) => Err(Fault::Unread(fault)),
+    }
+}
+
+/// The answer to an ACTION, or to a block of one.
+fn action<A: Allocator + Copy>(alloc: A, blocks: &mut GetIn<A>, apdu: &[u8]) -> Result<Heard, Fault>
+    ensures { ActionHears (returned_at apdu.now) blocks.old (response_at apdu.now) result blocks.new }
+{
+    match returned(apdu) {
+        Some((result, bytes)) => block(blocks, true, 1, bytes, Answer::Result(result)),
+        None => action_result(alloc, apdu),
     }
 }
 
@@ -120,6 +142,6 @@ pub fn hear<A: Allocator + Copy>(
     match asked {
         Asked::Get => get(alloc, blocks, apdu),
         Asked::Set => set(alloc, apdu),
-        Asked::Action => action(alloc, apdu),
+        Asked::Action => action(alloc, blocks, apdu),
     }
 }
