@@ -72,10 +72,10 @@ taken_of_meter t n follows info = let c = taken t.meter (Some Meter) n.send foll
 abbrev pub taken_of_either : {A : Type 0} → Talk A → Numbers → Bool → List ℕ → Came × Talk A
 taken_of_either t n follows info = let c = taken t.client None n.send follows info in (c.0, record t { client = c.1 })
 
--- A frame of the client that begins an APDU and is not its last one again: whether or not it is taken, no segment of an older
--- answer is awaited any more.
+-- A frame of the client that has the number of its last one and begins another APDU: though it is not taken, no segment of an
+-- older answer is awaited any more.
 abbrev pub asks_anew : Following → ℕ → List ℕ → Bool
-asks_anew f number info = is_some (behind_llc (Some Client) info) && not (is_repeated f number info)
+asks_anew f number info = is_again f.next number && (is_some (behind_llc (Some Client) info) && not (is_repeated f number info))
 
 abbrev pub without_answer : {A : Type 0} → Talk A → Talk A
 without_answer t = record t { meter = without_rest t.meter }

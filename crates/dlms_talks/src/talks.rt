@@ -90,11 +90,13 @@ impl<A: Allocator + Copy> Talk<A> {
         }
     }
 
-    /// Whether a frame of the client begins an APDU and is not its last one again: it awaits no older answer any more.
+    /// Whether a frame of the client has the number of its last one and begins another APDU: it awaits no older answer any more.
     fn asks_anew(&self, number: u8, info: &[u8]) -> bool
         ensures { result ≡ asks_anew self.now.client number info.now }
     {
-        behind_llc(Some(Side::Client), info).is_some() && !self.is_repeated(number, info)
+        self.client.is_again(number)
+            && behind_llc(Some(Side::Client), info).is_some()
+            && !self.is_repeated(number, info)
     }
 
     /// Whether no frame is missing before this one.
