@@ -96,7 +96,7 @@ fn write_unreadable<A: Allocator>(
 }
 
 /// The lines of an APDU.
-fn explain_apdu<A: Allocator + Copy>(
+pub fn explain_apdu<A: Allocator + Copy>(
     text: &mut String<A>,
     alloc: A,
     side: Option<Side>,
@@ -332,8 +332,8 @@ impl<A: Allocator + Copy> Explainer<A> {
         }
     }
 
-    /// Bytes of this direction.
-    fn octets(
+    /// Bytes of this direction: the frames that end in them.
+    pub fn octets(
         &mut self,
         said: Option<Side>,
         bytes: &[u8],
@@ -379,12 +379,19 @@ impl<A: Allocator + Copy> Explainer<A> {
     }
 
     /// Appends to the text what is told of a line, which is given without its line feed: of bytes the frames that end in them,
-    /// with what stood before each and is none. A line without bytes is passed on as it is. Where memory is refused the text
-    /// may end within a line.
+    /// with what stood before each and is none; before them the words of a log, as its time. A line without bytes is passed on as
+    /// it is. Where memory is refused the text may end within a line.
     pub fn line(&mut self, line: &[u8], text: &mut String<A>) -> Result<(), AllocError> {
         match line_of(line) {
             Line::Pairs(said, digits) => self.pairs(said, digits, text),
             Line::NoPairs => pass(text, b"(no pairs of hexadecimal digits)"),
+            Line::Logged(words, side, digits) => {
+                let words = words.trim_ascii();
+                if !words.is_empty() {
+                    pass(text, words)?;
+                }
+                self.pairs(Some(side), digits, text)
+            }
             Line::Silence => {
                 self.end_client(text)?;
                 pass(text, line)

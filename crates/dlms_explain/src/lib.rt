@@ -2,6 +2,8 @@
 #![tactic(auto)]
 
 mod association_text;
+mod captured;
+mod connection;
 mod data_text;
 mod date_text;
 mod explainer;
@@ -10,9 +12,11 @@ mod foreign_text;
 mod frame_text;
 mod names_text;
 mod node_text;
+mod place_text;
 mod service_text;
 mod session;
 mod words;
+mod wrapper;
 
 pub use explainer::Explainer;
 pub use fault::ExplainFault;

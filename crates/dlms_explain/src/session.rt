@@ -2,8 +2,10 @@
 
 ghost use Rattle.std.specs.Prelude.{◌≤◌, length, IfOk};
 
+use crate::captured::Captured;
 use crate::explainer::Explainer;
 use crate::fault::ExplainFault;
+use dlms_capture::is_capture;
 use std::alloc::{AllocError, Allocator};
 use std::io::{ErrorKind, Read, Write};
 
@@ -13,8 +15,21 @@ pub const MOST_LINE: usize = 65_536;
 /// How many octets are read at once.
 const ROOM: usize = 4096;
 
+/// By how many octets a capture is told from lines.
+const FRONT: usize = 4;
+
 /// What is told of a line that is too long.
 const TOO_LONG: &str = "(a line of more than 65536 octets)\n";
+
+/// Writes text, which is let go.
+fn write_text<A: Allocator, W: Write>(
+    text: &mut String<A>,
+    output: &mut W,
+) -> Result<(), ExplainFault> {
+    let written = output.write_all(text.as_bytes());
+    text.clear();
+    written.map_err(|_| ExplainFault::Output)
+}
 
 /// An explanation under way: the line that comes, and the text that is not written yet.
 #[derive(Drop)]
@@ -62,19 +77,12 @@ impl<A: Allocator + Copy> Session<A> {
         Ok(())
     }
 
-    /// Writes the text that is not written yet.
-    fn write<W: Write>(&mut self, output: &mut W) -> Result<(), ExplainFault> {
-        let written = output.write_all(self.text.as_bytes());
-        self.text.clear();
-        written.map_err(|_| ExplainFault::Output)
-    }
-
     /// Takes octets of the input. What is told of a line goes out behind it.
     fn take<W: Write>(&mut self, octets: &[u8], output: &mut W) -> Result<(), ExplainFault> {
         for octet in octets {
             if *octet == b'\n' {
                 self.tell_line()?;
-                self.write(output)?;
+                write_text(&mut self.text, output)?;
             } else {
                 self.octet(*octet)?;
             }
@@ -88,7 +96,7 @@ impl<A: Allocator + Copy> Session<A> {
             self.tell_line()?;
         }
         self.explainer.end(&mut self.text)?;
-        self.write(output)
+        write_text(&mut self.text, output)
     }
 }
 
@@ -106,9 +114,51 @@ fn read_some<R: Read>(input: &mut R, room: &mut [u8]) -> Result<usize, ExplainFa
     Err(ExplainFault::Input)
 }
 
-/// Explains the lines of the input: those of a transcript, or pairs of hexadecimal digits. What is told of a line is written as
-/// soon as the line is whole, and at the end of the input what is told of its rest. A line may be of any length: of one of more
-/// than 65,536 octets it is told that it is one.
+/// Reads the first octets of the input, as many as tell a capture from lines, if it has them.
+fn read_front<R: Read>(input: &mut R, room: &mut [u8; ROOM]) -> Result<usize, ExplainFault>
+    ensures { IfOk result (λ count. count ≤ length room.new) }
+{
+    let mut count = 0;
+    for _ in 0..FRONT {
+        if count >= FRONT {
+            return Ok(count);
+        }
+        let fresh = read_some(input, &mut room[count..])?;
+        if fresh == 0 {
+            return Ok(count);
+        }
+        count += fresh;
+    }
+    Ok(count)
+}
+
+/// Explains a capture, whose first octets are these.
+fn explain_capture<A: Allocator + Copy, R: Read, W: Write>(
+    alloc: A,
+    raw: bool,
+    front: &[u8],
+    input: &mut R,
+    output: &mut W,
+) -> Result<(), ExplainFault> {
+    let mut captured = Captured::new(alloc, raw);
+    let mut text = String::new(alloc);
+    captured.feed(front, &mut text)?;
+    let mut room = [0u8; ROOM];
+    for _ in 0..u64::MAX {
+        write_text(&mut text, output)?;
+        let count = read_some(input, &mut room)?;
+        if count == 0 {
+            break;
+        }
+        captured.feed(&room[..count], &mut text)?;
+    }
+    captured.end(&mut text)?;
+    write_text(&mut text, output)
+}
+
+/// Explains the input: a capture of a network's traffic (pcap or pcapng, by its first octets), or lines, those of a transcript or
+/// of another log, or pairs of hexadecimal digits. What is told of a line is written as soon as the line is whole, and at the end
+/// of the input what is told of its rest. A line may be of any length: of one of more than 65,536 octets it is told that it is one.
 ///
 /// Where `raw` is set, strings that may be a secret are told as they are; of what is known to be one nothing is told.
 ///
@@ -120,8 +170,13 @@ pub fn explain<A: Allocator + Copy, R: Read, W: Write>(
     input: &mut R,
     output: &mut W,
 ) -> Result<(), ExplainFault> {
-    let mut session = Session::new(alloc, raw);
     let mut room = [0u8; ROOM];
+    let front = read_front(input, &mut room)?;
+    if is_capture(&room[..front]) {
+        return explain_capture(alloc, raw, &room[..front], input, output);
+    }
+    let mut session = Session::new(alloc, raw);
+    session.take(&room[..front], output)?;
     for _ in 0..u64::MAX {
         let count = read_some(input, &mut room)?;
         if count == 0 {

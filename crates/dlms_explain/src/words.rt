@@ -48,10 +48,15 @@ pub fn two_digits<A: Allocator>(text: &mut String<A>, value: u8) -> Result<(), A
     number(text, u64::from(value))
 }
 
+/// A hexadecimal digit; of a greater number its last one.
+pub fn hexadecimal<A: Allocator>(text: &mut String<A>, value: u8) -> Result<(), AllocError> {
+    text.push_str(DIGITS[usize::from(value % 16)])
+}
+
 /// An octet in two hexadecimal digits.
 pub fn octet<A: Allocator>(text: &mut String<A>, value: u8) -> Result<(), AllocError> {
-    text.push_str(DIGITS[usize::from(value / 16)])?;
-    text.push_str(DIGITS[usize::from(value % 16)])
+    hexadecimal(text, value / 16)?;
+    hexadecimal(text, value)
 }
 
 /// Octets in hexadecimal digits.

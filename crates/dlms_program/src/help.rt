@@ -86,13 +86,16 @@ of FILE, as a second line says; dlms: memory); \
 
 /// What `explain` does, for its help.
 pub const EXPLAIN_ABOUT: &str =
-    "Explains the HDLC frames that stand in FILE in hexadecimal digits, and what they carry; without FILE, and where it is \
-\"-\", those on standard input.
+    "Explains the HDLC frames that stand in FILE, and what they carry; without FILE, and where it is \"-\", those on standard input.
 
-Reads lines: \"> HEX\" for bytes to a meter and \"< HEX\" for bytes from it, as the transcript of a replay has them, or digits \
-alone. Prints each frame's direction, addresses and control, and of the APDU in it the parts by their names. Of a secret no byte \
-is printed; of a string that may be one, since no frame before it asked for it, the length is, and with --raw all of it. A line \
-that holds no bytes of a frame is printed as it stands.
+Reads a capture of a network's traffic, pcap or pcapng, known by its first octets: what TCP and UDP carry, in its order, with the \
+time in UTC and both ends, also APDUs in the wrapper of TCP and UDP. Else it reads lines: \"> HEX\" for bytes to a meter and \
+\"< HEX\" for bytes from it, as the transcript of a replay has them; those of another log, whose own words, as a time, stand before \
+>, TX or send for bytes to a meter, <, RX or recv for bytes from it; or digits alone.
+
+Prints each frame's direction, addresses and control, and of the APDU in it the parts by their names. Of a secret no byte is \
+printed; of a string that may be one, since no frame before it asked for it, the length is, and with --raw all of it. A line that \
+holds no bytes of a frame is printed as it stands.
 
 Exit status: 0, also where the reader of the output has had enough; 1 after a fault (dlms: io, with FILE or the stream and the \
 system's words on a second line; dlms: memory); 2 for words that are not understood, and for this help.";

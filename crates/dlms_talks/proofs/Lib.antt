@@ -1,6 +1,7 @@
 pub mod AcseLemmas
 pub mod HistoryLemmas
 pub mod LineLemmas
+pub mod LogLemmas
 pub mod ParameterLemmas
 pub mod PlaceLemmas
 pub mod StretchLemmas

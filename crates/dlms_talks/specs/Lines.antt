@@ -1,7 +1,8 @@
 -- What a line of a log holds. How octets are written in it is this project's own.
-use Rattle.std.specs.Prelude.{◌≡◌, ℕ, ◌+◌, ◌-◌, ◌*◌, ◌==◌, ◌&&◌, ◌||◌, ◌≢◌, nat_le, if◌then◌else◌, Bool, true, false, List, [], ◌∷◌, Option, Some, None, option_map}
+use Rattle.std.specs.Prelude.{◌≡◌, ℕ, ◌+◌, ◌-◌, ◌*◌, ◌==◌, ◌&&◌, ◌||◌, ◌≢◌, ◌++◌, codes, drop, nat_le, if◌then◌else◌, Bool, true, false, List, [], ◌∷◌, Option, Some, None, option_map}
+use Rattle.std.specs.Char.{to_ascii_lowercase}
 use Rattle.dlms_talks.specs.declared.lines.Line.{Line}
-use Rattle.dlms_talks.specs.declared.lines.Line.TheVariants.{Pairs, NoPairs, Silence, Stop, Other}
+use Rattle.dlms_talks.specs.declared.lines.Line.TheVariants.{Pairs, NoPairs, Logged, Silence, Stop, Other}
 use Rattle.dlms_talks.specs.declared.parties.Side.{Side}
 use Rattle.dlms_talks.specs.declared.parties.Side.TheVariants.{Client, Meter}
 
@@ -82,11 +83,63 @@ IsHeldBehind side behind _ = ⊥
 abbrev pub IsUnmarked : List ℕ → Type 0
 IsUnmarked line = (side : Side) (digits : List ℕ) → line ≡ mark_of side ∷ digits → ⊥
 
--- It is `I` or `O`, or pairs behind a mark or without one; or a mark with something else behind it; or none of these.
+-- ---- lines of a log, with words of its own before a mark
+
+-- a word stands in front, in letters of either case
+abbrev pub begins_with : List ℕ → List ℕ → Bool
+begins_with words [] = true
+begins_with [] (letter ∷ word) = false
+begins_with (byte ∷ words) (letter ∷ word) = (to_ascii_lowercase byte == letter) && begins_with words word
+
+-- whose octets follow, by the word in front, and how many letters that has
+abbrev pub mark_of_log : List ℕ → Option (Side × ℕ)
+mark_of_log words =
+    if begins_with words (codes ">") then Some (Client, 1)
+    else if begins_with words (codes "tx") then Some (Client, 2)
+    else if begins_with words (codes "send") then Some (Client, 4)
+    else if begins_with words (codes "<-") then Some (Meter, 2)
+    else if begins_with words (codes "<") then Some (Meter, 1)
+    else if begins_with words (codes "rx") then Some (Meter, 2)
+    else if begins_with words (codes "recv") then Some (Meter, 4)
+    else None
+
+-- such a word stands in front, and pairs behind it
+abbrev pub has_pairs_behind : List ℕ → Option (Side × ℕ) → Bool
+has_pairs_behind words None = false
+has_pairs_behind words (Some mark) = are_pairs (drop mark.1 words)
+
+abbrev pub is_marked : List ℕ → Bool
+is_marked words = has_pairs_behind words (mark_of_log words)
+
+-- whose these pairs are, which stand behind such a word in front
+abbrev pub IsMarked : List ℕ → Side → List ℕ → Type 0
+IsMarked words side digits = (len : ℕ) × ((mark_of_log words ≡ Some (side, len)) × (digits ≡ drop len words) × (are_pairs digits ≡ true))
+
+-- from some place on such a word with pairs behind it is all that stands in the line
+abbrev pub is_logged : List ℕ → Bool
+is_logged [] = false
+is_logged (byte ∷ rest) = is_marked (byte ∷ rest) || is_logged rest
+
+-- these words stand before it
+abbrev pub IsLogged : List ℕ → List ℕ → Side → List ℕ → Type 0
+IsLogged line words side digits = (behind : List ℕ) × ((line ≡ words ++ behind) × IsMarked behind side digits)
+
+abbrev pub IsWorded : List ℕ → Line → Type 0
+IsWorded line (Logged words side digits) = IsLogged line words.now side digits.now
+IsWorded line Other = is_logged line ≡ false
+IsWorded line _ = ⊥
+
+-- neither `I` nor `O` nor pairs, and no mark in front
+abbrev pub IsNoneOfThese : List ℕ → Type 0
+IsNoneOfThese line = (line ≢ 0x49 ∷ []) × (line ≢ 0x4F ∷ []) × IsUnmarked line × (are_pairs line ≡ false)
+
+-- It is `I` or `O`, or pairs behind a mark or without one; or a mark with something else behind it; or else a log's words with pairs
+-- behind a mark; or none of these.
 abbrev pub IsHeld : List ℕ → Line → Type 0
 IsHeld line (Pairs (Some side) digits) = (line ≡ mark_of side ∷ digits.now) × (are_pairs digits.now ≡ true)
 IsHeld line (Pairs None digits) = (digits.now ≡ line) × (are_pairs line ≡ true)
 IsHeld line NoPairs = (side : Side) × ((digits : List ℕ) × ((line ≡ mark_of side ∷ digits) × (are_pairs digits ≡ false)))
+IsHeld line (Logged words side digits) = IsNoneOfThese line × IsLogged line words.now side digits.now
 IsHeld line Silence = line ≡ 0x49 ∷ []
 IsHeld line Stop = line ≡ 0x4F ∷ []
-IsHeld line Other = (line ≢ 0x49 ∷ []) × (line ≢ 0x4F ∷ []) × IsUnmarked line × (are_pairs line ≡ false)
+IsHeld line Other = IsNoneOfThese line × (is_logged line ≡ false)

@@ -1,8 +1,8 @@
 //! What a line holds.
 
-ghost use Rattle.std.specs.Prelude.{◌≡◌, ◌<◌, length, option_map, IfSome};
+ghost use Rattle.std.specs.Prelude.{◌≡◌, ◌<◌, false, length, option_map, IfNone, IfSome};
 ghost use Rattle.std.specs.List.{list_all};
-ghost use Rattle.dlms_talks.specs.Lines.{IsHeld, IsHeldBehind, are_pairs, digit_of, first_pair, is_parting, pair_of};
+ghost use Rattle.dlms_talks.specs.Lines.{IsHeld, IsHeldBehind, IsLogged, IsMarked, IsWorded, are_pairs, begins_with, digit_of, first_pair, is_logged, is_marked, is_parting, mark_of_log, pair_of};
 
 use crate::parties::Side;
 
@@ -13,6 +13,8 @@ pub enum Line<'a> {
     Pairs(Option<Side>, &'a [u8]),
     /// It says whose bytes stand there, and no pairs of hexadecimal digits follow.
     NoPairs,
+    /// A log's own words, as a time, then one that says whose bytes follow, then pairs of hexadecimal digits.
+    Logged(&'a [u8], Side, &'a [u8]),
     /// `I`: silence, behind which the client's bytes are a new stretch.
     Silence,
     /// `O`: the meter stops and comes back, and knows of no link and no half frame.
@@ -101,6 +103,81 @@ fn pairs_of(side: Side, digits: &[u8]) -> Line<'_>
     }
 }
 
+/// Whether a word stands in front, in letters of either case.
+fn begins_with(words: &[u8], word: &[u8]) -> bool
+    ensures { result ≡ begins_with words.now word.now }
+{
+    match word {
+        [] => true,
+        [letter, rest @ ..] => match words {
+            [] => false,
+            [byte, behind @ ..] => {
+                byte.to_ascii_lowercase() == *letter && begins_with(behind, rest)
+            }
+        },
+    }
+}
+
+/// Whose bytes follow, by the word of a log that stands in front.
+fn mark(words: &[u8]) -> Option<(Side, usize)>
+    ensures { result ≡ mark_of_log words.now }
+{
+    if begins_with(words, b">") {
+        Some((Side::Client, 1))
+    } else if begins_with(words, b"tx") {
+        Some((Side::Client, 2))
+    } else if begins_with(words, b"send") {
+        Some((Side::Client, 4))
+    } else if begins_with(words, b"<-") {
+        Some((Side::Meter, 2))
+    } else if begins_with(words, b"<") {
+        Some((Side::Meter, 1))
+    } else if begins_with(words, b"rx") {
+        Some((Side::Meter, 2))
+    } else if begins_with(words, b"recv") {
+        Some((Side::Meter, 4))
+    } else {
+        None
+    }
+}
+
+/// Whose bytes follow, and their pairs, where a word of a log stands in front that says it.
+fn marked(words: &[u8]) -> Option<(Side, &[u8])>
+    ensures some { IfSome result (λ found. IsMarked words.now found.0 found.1.now) }
+    ensures none { IfNone result (is_marked words.now ≡ false) }
+{
+    let (side, len) = mark(words)?;
+    let digits = words.get(len..)?;
+    if are_pairs(digits) {
+        Some((side, digits))
+    } else {
+        None
+    }
+}
+
+/// A log's words before the one that says whose bytes follow, whose they are, and their pairs.
+fn logged(line: &[u8]) -> Option<(&[u8], Side, &[u8])>
+    ensures some { IfSome result (λ found. IsLogged line.now found.0.now found.1 found.2.now) }
+    ensures none { IfNone result (is_logged line.now ≡ false) }
+{
+    for at in 0..line.len() {
+        if let Some((side, digits)) = marked(&line[at..]) {
+            return Some((&line[..at], side, digits));
+        }
+    }
+    None
+}
+
+/// What the line holds where it is no pairs, and no mark stands in front.
+fn worded(line: &[u8]) -> Line<'_>
+    ensures { IsWorded line.now result }
+{
+    match logged(line) {
+        Some((words, side, digits)) => Line::Logged(words, side, digits),
+        None => Line::Other,
+    }
+}
+
 /// What the line holds.
 pub fn line_of(line: &[u8]) -> Line<'_>
     ensures { IsHeld line.now result }
@@ -111,6 +188,6 @@ pub fn line_of(line: &[u8]) -> Line<'_>
         [b'>', digits @ ..] => pairs_of(Side::Client, digits),
         [b'<', digits @ ..] => pairs_of(Side::Meter, digits),
         _ if are_pairs(line) => Line::Pairs(None, line),
-        _ => Line::Other,
+        _ => worded(line),
     }
 }

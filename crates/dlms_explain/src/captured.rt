@@ -1,0 +1,118 @@
+//! Captures, explained: the octets of each connection go to an explainer of its own.
+
+use crate::connection::Connection;
+use crate::words::{line, number};
+use dlms_capture::{File, Next, Packet, Segment, segment_of};
+use std::alloc::{AllocError, Allocator};
+
+/// How many connections are followed at once; of more the one that was longest silent is let go.
+const MOST_CONNECTIONS: usize = 32;
+
+/// What is told where a capture goes on with what is none.
+const BROKEN: &str = "(what follows is no capture)";
+
+/// What is told where a capture ends within a packet.
+const CUT: &str = "(the capture ends within a packet)";
+
+/// A capture that is explained as it comes.
+#[derive(Drop)]
+pub struct Captured<A: Allocator> {
+    alloc: A,
+    raw: bool,
+    file: File<A>,
+    connections: Vec<Connection<A>, A>,
+    /// How many packets were of other traffic.
+    others: u64,
+    is_broken: bool,
+}
+
+/// The connection of these ends, taken out, or one that begins here.
+fn connection_of<A: Allocator + Copy>(
+    alloc: A,
+    raw: bool,
+    connections: &mut Vec<Connection<A>, A>,
+    segment: Segment<'_>,
+) -> Connection<A> {
+    let at = connections
+        .iter()
+        .position(|connection| connection.is_of(segment.ends));
+    match at {
+        Some(at) if at < connections.len() => connections.remove(at),
+        _ => Connection::new(alloc, raw, segment),
+    }
+}
+
+/// What is told of a packet, and whether it is of other traffic.
+fn explain_packet<A: Allocator + Copy>(
+    alloc: A,
+    raw: bool,
+    connections: &mut Vec<Connection<A>, A>,
+    packet: Packet<'_>,
+    text: &mut String<A>,
+) -> Result<bool, AllocError> {
+    let Some(segment) = segment_of(packet) else {
+        return Ok(true);
+    };
+    let mut connection = connection_of(alloc, raw, connections, segment);
+    let explained = connection.explain(packet.stamp, segment, text);
+    connections.push(connection)?;
+    if connections.len() > MOST_CONNECTIONS {
+        let mut oldest = connections.remove(0);
+        oldest.end(text)?;
+    }
+    explained
+}
+
+impl<A: Allocator + Copy> Captured<A> {
+    /// Before the first octet; where `raw` is set, strings that may be a secret are told as they are. No memory is taken here.
+    pub fn new(alloc: A, raw: bool) -> Self {
+        Captured {
+            alloc,
+            raw,
+            file: File::new(alloc),
+            connections: Vec::new(alloc),
+            others: 0,
+            is_broken: false,
+        }
+    }
+
+    /// Takes octets of the capture, and appends what is told of the packets that are whole then.
+    pub fn feed(&mut self, octets: &[u8], text: &mut String<A>) -> Result<(), AllocError> {
+        if self.is_broken {
+            return Ok(());
+        }
+        self.file.feed(octets)?;
+        for _ in 0..u64::MAX {
+            match self.file.next()? {
+                Next::Packet(packet) => {
+                    let connections = &mut self.connections;
+                    if explain_packet(self.alloc, self.raw, connections, packet, text)? {
+                        self.others = self.others.saturating_add(1);
+                    }
+                }
+                Next::More => return Ok(()),
+                Next::Broken => {
+                    self.is_broken = true;
+                    return line(text, 0, BROKEN);
+                }
+            }
+        }
+        Ok(())
+    }
+
+    /// The capture is at its end: what is told of octets that are no frame, and of other traffic.
+    pub fn end(&mut self, text: &mut String<A>) -> Result<(), AllocError> {
+        for connection in self.connections.iter_mut() {
+            connection.end(text)?;
+        }
+        if !self.is_broken && !self.file.is_whole() {
+            line(text, 0, CUT)?;
+        }
+        if self.others == 0 {
+            return Ok(());
+        }
+        text.push_str("(packets of other traffic: ")?;
+        number(text, self.others)?;
+        text.push_str(")\n")
+    }
+}

@@ -1,0 +1,184 @@
+//! A connection of a capture: which end is the meter's, the octets of both directions in their order, and what they carry.
+
+use crate::explainer::Explainer;
+use crate::place_text::{write_missing, write_segment};
+use crate::wrapper::Wrapped;
+use dlms_capture::{Ends, Order, Segment, Stamp, Transport};
+use dlms_talks::Side;
+use std::alloc::{AllocError, Allocator};
+
+/// The port of DLMS/COSEM (the registry of service names: dlms-cosem).
+const PORT: u16 = 4059;
+
+/// The flag of a frame.
+const FLAG: u8 = 0x7e;
+
+/// What a connection carries, told by its first octets: frames of HDLC, or APDUs in the wrapper.
+#[derive(Clone, Copy, Debug, PartialEq, Eq)]
+enum Carries {
+    Nothing,
+    Frames,
+    Wrapped,
+    Other,
+}
+
+/// A connection, of which some segments have come.
+#[derive(Drop)]
+pub struct Connection<A: Allocator> {
+    alloc: A,
+    /// The client's end, and the meter's.
+    ends: Ends,
+    up: Order<A>,
+    down: Order<A>,
+    carries: Carries,
+    frames: Explainer<A>,
+    wrapped: Wrapped<A>,
+    /// The octets that are next, and not told yet.
+    fresh: Vec<u8, A>,
+}
+
+/// Whether the end that a segment comes from is the meter's: its port is that of DLMS/COSEM, or the segment answers the one that
+/// opened the connection; where neither is known, the meter's is the end with the lower port.
+fn is_from_meter(segment: Segment<'_>) -> bool {
+    let from = segment.ends.from.port;
+    let to = segment.ends.to.port;
+    if from == PORT || to == PORT {
+        return to != PORT;
+    }
+    match segment.transport {
+        Transport::Tcp {
+            opens: true,
+            answers,
+            ..
+        } => answers,
+        _ => from < to,
+    }
+}
+
+/// What a connection carries whose first octets these are.
+fn carried(ends: Ends, octets: &[u8]) -> Carries {
+    match octets {
+        [FLAG, ..] => Carries::Frames,
+        [0, 1, ..] => Carries::Wrapped,
+        _ if ends.to.port == PORT => Carries::Frames,
+        _ => Carries::Other,
+    }
+}
+
+impl<A: Allocator + Copy> Connection<A> {
+    /// Before its first segment.
+    pub fn new(alloc: A, raw: bool, segment: Segment<'_>) -> Self {
+        let Ends { from, to } = segment.ends;
+        let ends = if is_from_meter(segment) {
+            Ends { from: to, to: from }
+        } else {
+            segment.ends
+        };
+        Connection {
+            alloc,
+            ends,
+            up: Order::new(alloc),
+            down: Order::new(alloc),
+            carries: Carries::Nothing,
+            frames: Explainer::new(alloc, raw),
+            wrapped: Wrapped::new(alloc, raw),
+            fresh: Vec::new(alloc),
+        }
+    }
+
+    /// Whether a segment between these ends is one of this connection.
+    pub fn is_of(&self, ends: Ends) -> bool {
+        self.ends == ends || (self.ends.from == ends.to && self.ends.to == ends.from)
+    }
+
+    /// Takes a segment into the order of its direction, and says how many octets are missing before those that are next.
+    fn take(&mut self, side: Side, segment: Segment<'_>) -> Result<u32, AllocError> {
+        let Transport::Tcp {
+            sequence, opens, ..
+        } = segment.transport
+        else {
+            self.fresh.extend_from_slice(segment.octets)?;
+            return Ok(0);
+        };
+        let order = match side {
+            Side::Client => &mut self.up,
+            Side::Meter => &mut self.down,
+        };
+        if opens {
+            order.open(sequence);
+            return Ok(0);
+        }
+        order.take(self.alloc, sequence, segment.octets, &mut self.fresh)
+    }
+
+    /// What is told of the octets that are next.
+    fn tell(&mut self, side: Side, text: &mut String<A>) -> Result<(), AllocError> {
+        match self.carries {
+            Carries::Frames => {
+                self.frames
+                    .octets(Some(side), self.fresh.as_slice(), text)?;
+            }
+            Carries::Wrapped => self.wrapped.octets(side, self.fresh.as_slice(), text)?,
+            Carries::Nothing | Carries::Other => {}
+        }
+        self.fresh.clear();
+        Ok(())
+    }
+
+    /// What is told of a segment that came at this time; whether it is of other traffic.
+    pub fn explain(
+        &mut self,
+        stamp: Option<Stamp>,
+        segment: Segment<'_>,
+        text: &mut String<A>,
+    ) -> Result<bool, AllocError> {
+        let side = if self.ends == segment.ends {
+            Side::Client
+        } else {
+            Side::Meter
+        };
+        let missing = self.take(side, segment)?;
+        if self.fresh.is_empty() {
+            return Ok(self.carries == Carries::Other);
+        }
+        if self.carries == Carries::Nothing {
+            self.carries = carried(self.ends, self.fresh.as_slice());
+        }
+        if self.carries == Carries::Other {
+            self.fresh.clear();
+            return Ok(true);
+        }
+        write_segment(text, stamp, segment.ends)?;
+        write_missing(text, missing)?;
+        self.tell(side, text)?;
+        Ok(false)
+    }
+
+    /// What is told of one direction's octets behind some that are missing at the end of a capture.
+    fn tell_rest(&mut self, side: Side, text: &mut String<A>) -> Result<(), AllocError> {
+        for _ in 0..u64::MAX {
+            let order = match side {
+                Side::Client => &mut self.up,
+                Side::Meter => &mut self.down,
+            };
+            let missing = order.rest(&mut self.fresh)?;
+            if missing == 0 {
+                return Ok(());
+            }
+            write_missing(text, missing)?;
+            self.tell(side, text)?;
+        }
+        Ok(())
+    }
+
+    /// No more segments come: what is told of octets that are no frame.
+    pub fn end(&mut self, text: &mut String<A>) -> Result<(), AllocError> {
+        if matches!(self.carries, Carries::Nothing | Carries::Other) {
+            return Ok(());
+        }
+        self.tell_rest(Side::Client, text)?;
+        self.tell_rest(Side::Meter, text)?;
+        self.frames.end(text)?;
+        self.wrapped.end(text)
+    }
+}

@@ -1,0 +1,116 @@
+//! When a segment of a capture came, and from where to where.
+
+use crate::words::{hexadecimal, number, two_digits};
+use dlms_capture::{Address, Ends, Place, Stamp};
+use dlms_data::{LAST_SECOND, octets};
+use std::alloc::{AllocError, Allocator};
+
+/// The second of a capture at which the clock of DLMS begins: 2000-01-01 00:00:00, from 1970-01-01 on.
+const FIRST_SECOND: u64 = 946_684_800;
+
+/// Six digits, the microseconds of a second.
+fn write_microseconds<A: Allocator>(
+    text: &mut String<A>,
+    nanoseconds: u32,
+) -> Result<(), AllocError> {
+    text.push_str(".")?;
+    let mut rest = nanoseconds / 1000 % 1_000_000;
+    let mut unit = 100_000;
+    for _ in 0..6u8 {
+        if unit > 0 {
+            number(text, u64::from(rest / unit))?;
+            rest %= unit;
+        }
+        unit /= 10;
+    }
+    Ok(())
+}
+
+/// A second as a date and a time, in UTC.
+fn write_second<A: Allocator>(text: &mut String<A>, second: u32) -> Result<(), AllocError> {
+    let [high, low, month, day, _, hour, minute, second, ..] = octets(second);
+    number(text, u64::from(high) * 256 + u64::from(low))?;
+    for (mark, field) in [("-", month), ("-", day), (" ", hour), (":", minute), (":", second)] {
+        text.push_str(mark)?;
+        two_digits(text, field)?;
+    }
+    Ok(())
+}
+
+/// A stamp; one before 2000 or behind 2099 as seconds since 1970.
+fn write_stamp<A: Allocator>(text: &mut String<A>, stamp: Stamp) -> Result<(), AllocError> {
+    match stamp.seconds.checked_sub(FIRST_SECOND) {
+        Some(second) if second <= u64::from(LAST_SECOND) => write_second(text, second as u32)?,
+        _ => number(text, stamp.seconds)?,
+    }
+    write_microseconds(text, stamp.nanoseconds)?;
+    text.push_str(" ")
+}
+
+/// The digits of a group of an address of IP of version 6, without leading zeros (RFC 5952).
+fn write_group<A: Allocator>(text: &mut String<A>, group: u16) -> Result<(), AllocError> {
+    let mut is_begun = false;
+    for shift in [12u16, 8, 4, 0] {
+        let digit = (group >> shift) % 16;
+        is_begun = is_begun || digit > 0 || shift == 0;
+        if is_begun {
+            hexadecimal(text, digit as u8)?;
+        }
+    }
+    Ok(())
+}
+
+/// An address of IP of version 6, in its eight groups.
+fn write_six<A: Allocator>(text: &mut String<A>, octets: &[u8]) -> Result<(), AllocError> {
+    text.push_str("[")?;
+    let mut rest = octets;
+    let mut mark = "";
+    'groups: while let [high, low, behind @ ..] = rest {
+        text.push_str(mark)?;
+        write_group(text, u16::from(*high) * 256 + u16::from(*low))?;
+        mark = ":";
+        rest = behind;
+    }
+    text.push_str("]")
+}
+
+/// An address and a port.
+fn write_place<A: Allocator>(text: &mut String<A>, place: Place) -> Result<(), AllocError> {
+    match place.address {
+        Address::Four([a, b, c, d]) => {
+            number(text, u64::from(a))?;
+            for octet in [b, c, d] {
+                text.push_str(".")?;
+                number(text, u64::from(octet))?;
+            }
+        }
+        Address::Six(octets) => write_six(text, &octets)?,
+    }
+    text.push_str(":")?;
+    number(text, u64::from(place.port))
+}
+
+/// The line of a segment: its time in UTC, and its ends.
+pub fn write_segment<A: Allocator>(
+    text: &mut String<A>,
+    stamp: Option<Stamp>,
+    ends: Ends,
+) -> Result<(), AllocError> {
+    if let Some(stamp) = stamp {
+        write_stamp(text, stamp)?;
+    }
+    write_place(text, ends.from)?;
+    text.push_str(" to ")?;
+    write_place(text, ends.to)?;
+    text.push_str("\n")
+}
+
+/// The line of octets that a capture does not have, where there are some.
+pub fn write_missing<A: Allocator>(text: &mut String<A>, count: u32) -> Result<(), AllocError> {
+    if count == 0 {
+        return Ok(());
+    }
+    text.push_str("(octets that the capture does not have: ")?;
+    number(text, u64::from(count))?;
+    text.push_str(")\n")
+}

@@ -1,0 +1,169 @@
+//! APDUs in the wrapper of IEC 62056-47: behind a head of its version, the two ports and the length.
+
+use crate::explainer::explain_apdu;
+use crate::words::{line, number};
+use byteorder::{BigEndian, ByteOrder};
+use dlms_talks::{Services, Side};
+use std::alloc::{AllocError, Allocator};
+
+/// How long the head is.
+const HEAD: usize = 8;
+
+/// The only version.
+const VERSION: u16 = 1;
+
+/// The head of an APDU.
+#[derive(Clone, Copy, Debug, PartialEq, Eq)]
+struct Head {
+    version: u16,
+    from: u16,
+    to: u16,
+    len: usize,
+}
+
+/// Both directions of a connection, and what was asked for.
+#[derive(Drop)]
+pub struct Wrapped<A: Allocator> {
+    alloc: A,
+    raw: bool,
+    client: Vec<u8, A>,
+    meter: Vec<u8, A>,
+    /// The client's and the meter's port of the last APDU.
+    ports: (u16, u16),
+    services: Services<A>,
+}
+
+/// The head in front, once it is there.
+fn head_of(octets: &[u8]) -> Option<Head> {
+    if octets.len() < HEAD {
+        return None;
+    }
+    Some(Head {
+        version: BigEndian::read_u16(octets),
+        from: BigEndian::read_u16(&octets[2..]),
+        to: BigEndian::read_u16(&octets[4..]),
+        len: usize::from(BigEndian::read_u16(&octets[6..])),
+    })
+}
+
+/// The line of a head.
+fn write_head<A: Allocator>(text: &mut String<A>, side: Side, head: Head) -> Result<(), AllocError> {
+    text.push_str(match side {
+        Side::Client => "> wrapper port ",
+        Side::Meter => "< wrapper port ",
+    })?;
+    number(text, u64::from(head.from))?;
+    text.push_str(" to ")?;
+    number(text, u64::from(head.to))?;
+    text.push_str("; length ")?;
+    number(text, head.len as u64)?;
+    text.push_str("\n")
+}
+
+/// What is told where no head stands.
+const NO_WRAPPER: &str = "(octets that are of no wrapper)";
+
+/// What is told of an APDU that is not whole.
+const NOT_WHOLE: &str = "(the last APDU is not whole)";
+
+impl<A: Allocator + Copy> Wrapped<A> {
+    /// Before the first octet. No memory is taken here.
+    pub fn new(alloc: A, raw: bool) -> Self {
+        Wrapped {
+            alloc,
+            raw,
+            client: Vec::new(alloc),
+            meter: Vec::new(alloc),
+            ports: (0, 0),
+            services: Services::new(alloc, raw),
+        }
+    }
+
+    /// What was asked for between other ports is forgotten.
+    fn follow(&mut self, side: Side, head: Head) {
+        let ports = match side {
+            Side::Client => (head.from, head.to),
+            Side::Meter => (head.to, head.from),
+        };
+        if self.ports != ports {
+            self.services = Services::new(self.alloc, self.raw);
+            self.ports = ports;
+        }
+    }
+
+    /// What is told of an APDU.
+    fn tell(
+        &mut self,
+        side: Side,
+        head: Head,
+        apdu: &[u8],
+        text: &mut String<A>,
+    ) -> Result<(), AllocError> {
+        self.follow(side, head);
+        write_head(text, side, head)?;
+        explain_apdu(text, self.alloc, Some(side), &mut self.services, apdu)?;
+        if side == Side::Meter {
+            self.services.pass();
+        }
+        Ok(())
+    }
+
+    /// The octets that one end has sent, with those of before, and how many of them are told.
+    fn tell_all(
+        &mut self,
+        side: Side,
+        octets: &[u8],
+        text: &mut String<A>,
+    ) -> Result<usize, AllocError> {
+        let mut rest = octets;
+        for _ in 0..octets.len() {
+            let Some(head) = head_of(rest) else {
+                break;
+            };
+            if head.version != VERSION {
+                line(text, 0, NO_WRAPPER)?;
+                return Ok(octets.len());
+            }
+            let behind = rest.get(HEAD..).unwrap_or(&[]);
+            let (Some(apdu), Some(next)) = (behind.get(..head.len), behind.get(head.len..)) else {
+                break;
+            };
+            self.tell(side, head, apdu, text)?;
+            rest = next;
+        }
+        Ok(octets.len().saturating_sub(rest.len()))
+    }
+
+    /// Takes octets of one end, and appends what is told of the APDUs that are whole then.
+    pub fn octets(
+        &mut self,
+        side: Side,
+        octets: &[u8],
+        text: &mut String<A>,
+    ) -> Result<(), AllocError> {
+        let mut kept = Vec::new(self.alloc);
+        match side {
+            Side::Client => std::mem::swap(&mut kept, &mut self.client),
+            Side::Meter => std::mem::swap(&mut kept, &mut self.meter),
+        }
+        kept.extend_from_slice(octets)?;
+        let told = self.tell_all(side, kept.as_slice(), text)?;
+        let told = told.min(kept.len());
+        let left = kept.len() - told;
+        kept.copy_within(told.., 0);
+        kept.truncate(left);
+        match side {
+            Side::Client => self.client = kept,
+            Side::Meter => self.meter = kept,
+        }
+        Ok(())
+    }
+
+    /// No more octets come.
+    pub fn end(&mut self, text: &mut String<A>) -> Result<(), AllocError> {
+        if self.client.is_empty() && self.meter.is_empty() {
+            return Ok(());
+        }
+        line(text, 0, NOT_WHOLE)
+    }
+}
