@@ -94,7 +94,9 @@ impl<A: Allocator + Copy> Connection<A> {
     /// Takes a segment into the order of its direction, and says how many octets are missing before those that are next.
     fn take(&mut self, side: Side, segment: Segment<'_>) -> Result<u32, AllocError> {
         let Transport::Tcp {
-            sequence, opens, ..
+            sequence,
+            opens,
+            ..
         } = segment.transport
         else {
             self.fresh.extend_from_slice(segment.octets)?;
@@ -115,8 +117,7 @@ impl<A: Allocator + Copy> Connection<A> {
     fn tell(&mut self, side: Side, text: &mut String<A>) -> Result<(), AllocError> {
         match self.carries {
             Carries::Frames => {
-                self.frames
-                    .octets(Some(side), self.fresh.as_slice(), text)?;
+                self.frames.octets(Some(side), self.fresh.as_slice(), text)?;
             }
             Carries::Wrapped => self.wrapped.octets(side, self.fresh.as_slice(), text)?,
             Carries::Nothing | Carries::Other => {}

@@ -30,7 +30,13 @@ fn write_microseconds<A: Allocator>(
 fn write_second<A: Allocator>(text: &mut String<A>, second: u32) -> Result<(), AllocError> {
     let [high, low, month, day, _, hour, minute, second, ..] = octets(second);
     number(text, u64::from(high) * 256 + u64::from(low))?;
-    for (mark, field) in [("-", month), ("-", day), (" ", hour), (":", minute), (":", second)] {
+    for (mark, field) in [
+        ("-", month),
+        ("-", day),
+        (" ", hour),
+        (":", minute),
+        (":", second),
+    ] {
         text.push_str(mark)?;
         two_digits(text, field)?;
     }

@@ -6,6 +6,7 @@ use crate::captured::Captured;
 use crate::explainer::Explainer;
 use crate::fault::ExplainFault;
 use dlms_capture::is_capture;
+use memchr::memchr;
 use std::alloc::{AllocError, Allocator};
 use std::io::{ErrorKind, Read, Write};
 
@@ -51,18 +52,17 @@ impl<A: Allocator + Copy> Session<A> {
         }
     }
 
-    /// An octet of a line. Of a line that is too long nothing is kept.
-    fn octet(&mut self, octet: u8) -> Result<(), AllocError> {
+    /// Octets of a line. Of a line that is too long nothing is kept.
+    fn keep(&mut self, octets: &[u8]) -> Result<(), AllocError> {
         if self.is_long {
             return Ok(());
         }
-        if self.line.len() >= MOST_LINE {
+        if octets.len() > MOST_LINE.saturating_sub(self.line.len()) {
             self.is_long = true;
             self.line.clear();
             return Ok(());
         }
-        self.line.push(octet)?;
-        Ok(())
+        self.line.extend_from_slice(octets)
     }
 
     /// A line is whole: what is told of it.
@@ -77,26 +77,29 @@ impl<A: Allocator + Copy> Session<A> {
         Ok(())
     }
 
-    /// Takes octets of the input. What is told of a line goes out behind it.
-    fn take<W: Write>(&mut self, octets: &[u8], output: &mut W) -> Result<(), ExplainFault> {
-        for octet in octets {
-            if *octet == b'\n' {
-                self.tell_line()?;
-                write_text(&mut self.text, output)?;
-            } else {
-                self.octet(*octet)?;
-            }
+    /// Takes octets of the input, and appends what is told of the lines that are whole then.
+    fn take(&mut self, octets: &[u8]) -> Result<(), AllocError> {
+        let mut rest = octets;
+        for _ in 0..octets.len() {
+            let Some(at) = memchr(b'\n', rest) else {
+                break;
+            };
+            let (Some(line), Some(behind)) = (rest.get(..at), rest.get(at..)) else {
+                break;
+            };
+            self.keep(line)?;
+            self.tell_line()?;
+            rest = behind.get(1..).unwrap_or(&[]);
         }
-        Ok(())
+        self.keep(rest)
     }
 
     /// The input is at its end, perhaps within a line.
-    fn end<W: Write>(&mut self, output: &mut W) -> Result<(), ExplainFault> {
+    fn end(&mut self) -> Result<(), AllocError> {
         if self.is_long || !self.line.is_empty() {
             self.tell_line()?;
         }
-        self.explainer.end(&mut self.text)?;
-        write_text(&mut self.text, output)
+        self.explainer.end(&mut self.text)
     }
 }
 
@@ -157,8 +160,8 @@ fn explain_capture<A: Allocator + Copy, R: Read, W: Write>(
 }
 
 /// Explains the input: a capture of a network's traffic (pcap or pcapng, by its first octets), or lines, those of a transcript or
-/// of another log, or pairs of hexadecimal digits. What is told of a line is written as soon as the line is whole, and at the end
-/// of the input what is told of its rest. A line may be of any length: of one of more than 65,536 octets it is told that it is one.
+/// of another log, or pairs of hexadecimal digits. What is told of a line is written before more input than holds its end is read, and at the
+/// end of the input what is told of its rest. A line may be of any length: of one of more than 65,536 octets it is told that it is one.
 ///
 /// Where `raw` is set, strings that may be a secret are told as they are; of what is known to be one nothing is told.
 ///
@@ -176,13 +179,15 @@ pub fn explain<A: Allocator + Copy, R: Read, W: Write>(
         return explain_capture(alloc, raw, &room[..front], input, output);
     }
     let mut session = Session::new(alloc, raw);
-    session.take(&room[..front], output)?;
+    let mut count = front;
     for _ in 0..u64::MAX {
-        let count = read_some(input, &mut room)?;
         if count == 0 {
             break;
         }
-        session.take(&room[..count], output)?;
+        session.take(&room[..count])?;
+        write_text(&mut session.text, output)?;
+        count = read_some(input, &mut room)?;
     }
-    session.end(output)
+    session.end()?;
+    write_text(&mut session.text, output)
 }

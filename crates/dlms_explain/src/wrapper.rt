@@ -47,7 +47,11 @@ fn head_of(octets: &[u8]) -> Option<Head> {
 }
 
 /// The line of a head.
-fn write_head<A: Allocator>(text: &mut String<A>, side: Side, head: Head) -> Result<(), AllocError> {
+fn write_head<A: Allocator>(
+    text: &mut String<A>,
+    side: Side,
+    head: Head,
+) -> Result<(), AllocError> {
     text.push_str(match side {
         Side::Client => "> wrapper port ",
         Side::Meter => "< wrapper port ",
