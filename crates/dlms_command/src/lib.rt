@@ -7,7 +7,7 @@ ghost use Rattle.dlms_program.specs.Grammar.{dlms};
 ghost use Rattle.dlms_program.specs.Words.{AsksBoth, IsClear, NamesNoAddress};
 
 use clap::error::ErrorKind;
-use dlms_explain::{ExplainFault, explain};
+use dlms_explain::{ExplainFault, Form as ExplainForm, explain};
 use dlms_field::{Polling, Serving, Times, poll, serve};
 use dlms_loopback::loopback;
 use dlms_meter::Meter;
@@ -284,30 +284,29 @@ fn named(file: Option<&str>) -> Option<&str> {
 fn run_explain<'a, H: Files<File = File> + AllocGlobal, R: Read + Drop, W: Write>(
     host: &H,
     file: Option<&'a str>,
-    raw: bool,
+    form: ExplainForm,
     input: R,
     output: &mut W,
 ) -> Result<(), Fault<'a>> {
     let Some(file) = named(file) else {
-        return explained(host, raw, INPUT, input, output);
+        return explained(host, form, INPUT, input, output);
     };
     match fs::open(host, file) {
-        Ok(opened) => explained(host, raw, file, opened, output),
+        Ok(opened) => explained(host, form, file, opened, output),
         Err(error) => Err(Fault::of_system(host.alloc(), file, &error)),
     }
 }
 
-/// Explains the frames that stand on an input, where `raw` is set with strings that may be a secret. What is told of a line goes
-/// out before the next one is waited for.
+/// Explains the frames that stand on an input. What is told of a line goes out before the next one is waited for.
 fn explained<'a, H: AllocGlobal, R: Read + Drop, W: Write>(
     host: &H,
-    raw: bool,
+    form: ExplainForm,
     place: &'a str,
     input: R,
     output: &mut W,
 ) -> Result<(), Fault<'a>> {
     let mut reader = buffered(host.alloc(), input)?;
-    let explained = match explain(host.alloc(), raw, &mut reader, output) {
+    let explained = match explain(host.alloc(), form, &mut reader, output) {
         Ok(()) => Ok(()),
         Err(ExplainFault::Memory) => Err(Fault::MEMORY),
         Err(ExplainFault::Input) => Err(Fault::Input(place)),
@@ -439,7 +438,9 @@ fn run_job<
             };
             run_poll(host, &polling, output, errors)
         }
-        Job::Explain { file, raw } => run_explain(host, file, raw, input, output),
+        Job::Explain { file, raw, short } => {
+            run_explain(host, file, ExplainForm { raw, short }, input, output)
+        }
         Job::Show { file, plot } => run_show(host, file, plot, output),
         Job::Plot { readings, svg } => run_plot(host, readings, svg, input, output),
     }

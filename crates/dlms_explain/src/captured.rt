@@ -1,6 +1,7 @@
 //! Captures, explained: the octets of each connection go to an explainer of its own.
 
 use crate::connection::Connection;
+use crate::session::Form;
 use crate::words::{line, number};
 use dlms_capture::{File, Next, Packet, Segment, segment_of};
 use std::alloc::{AllocError, Allocator};
@@ -18,7 +19,7 @@ const CUT: &str = "(the capture ends within a packet)";
 #[derive(Drop)]
 pub struct Captured<A: Allocator> {
     alloc: A,
-    raw: bool,
+    form: Form,
     file: File<A>,
     connections: Vec<Connection<A>, A>,
     /// How many packets were of other traffic.
@@ -29,7 +30,7 @@ pub struct Captured<A: Allocator> {
 /// The connection of these ends, taken out, or one that begins here.
 fn connection_of<A: Allocator + Copy>(
     alloc: A,
-    raw: bool,
+    form: Form,
     connections: &mut Vec<Connection<A>, A>,
     segment: Segment<'_>,
 ) -> Connection<A> {
@@ -38,14 +39,14 @@ fn connection_of<A: Allocator + Copy>(
         .position(|connection| connection.is_of(segment.ends));
     match at {
         Some(at) if at < connections.len() => connections.remove(at),
-        _ => Connection::new(alloc, raw, segment),
+        _ => Connection::new(alloc, form, segment),
     }
 }
 
 /// What is told of a packet, and whether it is of other traffic.
 fn explain_packet<A: Allocator + Copy>(
     alloc: A,
-    raw: bool,
+    form: Form,
     connections: &mut Vec<Connection<A>, A>,
     packet: Packet<'_>,
     text: &mut String<A>,
@@ -53,7 +54,7 @@ fn explain_packet<A: Allocator + Copy>(
     let Some(segment) = segment_of(packet) else {
         return Ok(true);
     };
-    let mut connection = connection_of(alloc, raw, connections, segment);
+    let mut connection = connection_of(alloc, form, connections, segment);
     let explained = connection.explain(packet.stamp, segment, text);
     connections.push(connection)?;
     if connections.len() > MOST_CONNECTIONS {
@@ -64,11 +65,11 @@ fn explain_packet<A: Allocator + Copy>(
 }
 
 impl<A: Allocator + Copy> Captured<A> {
-    /// Before the first octet; where `raw` is set, strings that may be a secret are told as they are. No memory is taken here.
-    pub fn new(alloc: A, raw: bool) -> Self {
+    /// Before the first octet. No memory is taken here.
+    pub fn new(alloc: A, form: Form) -> Self {
         Captured {
             alloc,
-            raw,
+            form,
             file: File::new(alloc),
             connections: Vec::new(alloc),
             others: 0,
@@ -86,7 +87,7 @@ impl<A: Allocator + Copy> Captured<A> {
             match self.file.next()? {
                 Next::Packet(packet) => {
                     let connections = &mut self.connections;
-                    if explain_packet(self.alloc, self.raw, connections, packet, text)? {
+                    if explain_packet(self.alloc, self.form, connections, packet, text)? {
                         self.others = self.others.saturating_add(1);
                     }
                 }

@@ -2,6 +2,7 @@
 
 use crate::explainer::Explainer;
 use crate::place_text::{write_missing, write_segment};
+use crate::session::Form;
 use crate::wrapper::Wrapped;
 use dlms_capture::{Ends, Order, Segment, Stamp, Transport};
 use dlms_talks::Side;
@@ -26,6 +27,7 @@ enum Carries {
 #[derive(Drop)]
 pub struct Connection<A: Allocator> {
     alloc: A,
+    is_short: bool,
     /// The client's end, and the meter's.
     ends: Ends,
     up: Order<A>,
@@ -67,7 +69,7 @@ fn carried(ends: Ends, octets: &[u8]) -> Carries {
 
 impl<A: Allocator + Copy> Connection<A> {
     /// Before its first segment.
-    pub fn new(alloc: A, raw: bool, segment: Segment<'_>) -> Self {
+    pub fn new(alloc: A, form: Form, segment: Segment<'_>) -> Self {
         let Ends { from, to } = segment.ends;
         let ends = if is_from_meter(segment) {
             Ends { from: to, to: from }
@@ -76,12 +78,13 @@ impl<A: Allocator + Copy> Connection<A> {
         };
         Connection {
             alloc,
+            is_short: form.short,
             ends,
             up: Order::new(alloc),
             down: Order::new(alloc),
             carries: Carries::Nothing,
-            frames: Explainer::new(alloc, raw),
-            wrapped: Wrapped::new(alloc, raw),
+            frames: Explainer::new(alloc, form.raw, form.short),
+            wrapped: Wrapped::new(alloc, form),
             fresh: Vec::new(alloc),
         }
     }
@@ -126,6 +129,21 @@ impl<A: Allocator + Copy> Connection<A> {
         Ok(())
     }
 
+    /// When octets came, and between which ends.
+    fn tell_stamp(
+        &mut self,
+        stamp: Option<Stamp>,
+        ends: Ends,
+        text: &mut String<A>,
+    ) -> Result<(), AllocError> {
+        let mut words = String::new(self.alloc);
+        write_segment(&mut words, self.is_short, stamp, ends)?;
+        match self.carries {
+            Carries::Wrapped => self.wrapped.stamp(words.as_str(), text),
+            _ => self.frames.stamp(words.as_str(), text),
+        }
+    }
+
     /// What is told of a segment that came at this time; whether it is of other traffic.
     pub fn explain(
         &mut self,
@@ -149,7 +167,7 @@ impl<A: Allocator + Copy> Connection<A> {
             self.fresh.clear();
             return Ok(true);
         }
-        write_segment(text, stamp, segment.ends)?;
+        self.tell_stamp(stamp, segment.ends, text)?;
         write_missing(text, missing)?;
         self.tell(side, text)?;
         Ok(false)

@@ -5,6 +5,7 @@ use crate::association_text;
 use crate::foreign_text::write_foreign;
 use crate::frame_text::{write_came, write_frame, write_information, write_no_llc, write_stray};
 use crate::service_text::{write_fault, write_joined, write_said, write_whole};
+use crate::short::{View, write_short};
 use crate::words::line;
 use arrayvec::ArrayVec;
 use dlms_apdu::{Request, Response};
@@ -28,6 +29,7 @@ pub struct Explainer<A: Allocator = Global> {
     meter: Stretch<A>,
     bare: Stretch<A>,
     talks: Talks<A>,
+    view: View<A>,
 }
 
 /// The most bytes of a line that are looked at at once.
@@ -250,17 +252,25 @@ fn explain_content<A: Allocator + Copy>(
     }
 }
 
-/// The lines of a frame.
+/// What is told of a frame, in lines or in one.
 fn explain_frame<A: Allocator + Copy>(
     text: &mut String<A>,
+    view: &mut View<A>,
     alloc: A,
     said: Option<Side>,
     talks: &mut Talks<A>,
     frame: &Frame,
 ) -> Result<(), AllocError> {
     let side = side_of(said, frame);
-    write_frame(text, side, heading_of(frame))?;
     let mut talk = talks.take(alloc, parties_of(side, frame));
+    if view.is_short {
+        view.full.clear();
+        let explained = explain_content(&mut view.full, alloc, side, &mut talk, frame);
+        talks.put(talk)?;
+        explained?;
+        return write_short(text, view, side, heading_of(frame));
+    }
+    write_frame(text, side, heading_of(frame))?;
     let explained = explain_content(text, alloc, side, &mut talk, frame);
     talks.put(talk)?;
     explained
@@ -288,6 +298,7 @@ fn explain_stray<A: Allocator>(
 /// The lines of the bytes of a stretch.
 fn explain_bytes<A: Allocator + Copy>(
     text: &mut String<A>,
+    view: &mut View<A>,
     alloc: A,
     said: Option<Side>,
     stretch: &mut Stretch<A>,
@@ -300,7 +311,7 @@ fn explain_bytes<A: Allocator + Copy>(
         if let Some(Found { frame, before }) = found {
             explain_stray(text, said, stretch, before)?;
             stretch.pass_frame();
-            explain_frame(text, alloc, said, talks, &frame)?;
+            explain_frame(text, view, alloc, said, talks, &frame)?;
         }
         rest = &rest[taken..];
     }
@@ -312,23 +323,28 @@ fn explain_bytes<A: Allocator + Copy>(
     Ok(())
 }
 
+/// What is told in place of octets that are no text.
+const NO_TEXT: &str = "(a line that is no text)";
+
 /// A line that holds no bytes of a frame, as it is.
 fn pass<A: Allocator>(text: &mut String<A>, bytes: &[u8]) -> Result<(), AllocError> {
     match str::from_utf8(bytes) {
         Ok(words) => line(text, 0, words),
-        Err(_) => line(text, 0, "(a line that is no text)"),
+        Err(_) => line(text, 0, NO_TEXT),
     }
 }
 
 impl<A: Allocator + Copy> Explainer<A> {
-    /// Before the first line; where `raw` is set, strings that may be a secret are told as they are. No memory is taken here.
-    pub fn new(alloc: A, raw: bool) -> Self {
+    /// Before the first line; where `raw` is set, strings that may be a secret are told as they are, and where `is_short` is, a frame
+    /// is told in one line. No memory is taken here.
+    pub fn new(alloc: A, raw: bool, is_short: bool) -> Self {
         Explainer {
             alloc,
             client: Stretch::new(alloc),
             meter: Stretch::new(alloc),
             bare: Stretch::new(alloc),
             talks: Talks::new(alloc, raw),
+            view: View::new(alloc, is_short),
         }
     }
 
@@ -339,16 +355,33 @@ impl<A: Allocator + Copy> Explainer<A> {
         bytes: &[u8],
         text: &mut String<A>,
     ) -> Result<(), AllocError> {
-        let alloc = self.alloc;
-        match said {
-            Some(Side::Client) => {
-                explain_bytes(text, alloc, said, &mut self.client, &mut self.talks, bytes)
-            }
-            Some(Side::Meter) => {
-                explain_bytes(text, alloc, said, &mut self.meter, &mut self.talks, bytes)
-            }
-            None => explain_bytes(text, alloc, said, &mut self.bare, &mut self.talks, bytes),
+        let stretch = match said {
+            Some(Side::Client) => &mut self.client,
+            Some(Side::Meter) => &mut self.meter,
+            None => &mut self.bare,
+        };
+        let view = &mut self.view;
+        explain_bytes(
+            text,
+            view,
+            self.alloc,
+            said,
+            stretch,
+            &mut self.talks,
+            bytes,
+        )
+    }
+
+    /// The words that stand before octets, as their time: a line, or in front of each frame's.
+    pub fn stamp(&mut self, words: &str, text: &mut String<A>) -> Result<(), AllocError> {
+        if self.view.is_short {
+            self.view.stamp.clear();
+            return self.view.stamp.push_str(words);
         }
+        if words.is_empty() {
+            return Ok(());
+        }
+        line(text, 0, words)
     }
 
     /// The bytes of a line's pairs.
@@ -386,10 +419,8 @@ impl<A: Allocator + Copy> Explainer<A> {
             Line::Pairs(said, digits) => self.pairs(said, digits, text),
             Line::NoPairs => pass(text, b"(no pairs of hexadecimal digits)"),
             Line::Logged(words, side, digits) => {
-                let words = words.trim_ascii();
-                if !words.is_empty() {
-                    pass(text, words)?;
-                }
+                let words = str::from_utf8(words.trim_ascii()).unwrap_or(NO_TEXT);
+                self.stamp(words, text)?;
                 self.pairs(Some(side), digits, text)
             }
             Line::Silence => {

@@ -15,9 +15,10 @@ mod node_text;
 mod place_text;
 mod service_text;
 mod session;
+mod short;
 mod words;
 mod wrapper;
 
 pub use explainer::Explainer;
 pub use fault::ExplainFault;
-pub use session::{MOST_LINE, explain};
+pub use session::{Form, MOST_LINE, explain};

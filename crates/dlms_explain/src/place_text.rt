@@ -49,8 +49,7 @@ fn write_stamp<A: Allocator>(text: &mut String<A>, stamp: Stamp) -> Result<(), A
         Some(second) if second <= u64::from(LAST_SECOND) => write_second(text, second as u32)?,
         _ => number(text, stamp.seconds)?,
     }
-    write_microseconds(text, stamp.nanoseconds)?;
-    text.push_str(" ")
+    write_microseconds(text, stamp.nanoseconds)
 }
 
 /// The digits of a group of an address of IP of version 6, without leading zeros (RFC 5952).
@@ -96,19 +95,25 @@ fn write_place<A: Allocator>(text: &mut String<A>, place: Place) -> Result<(), A
     number(text, u64::from(place.port))
 }
 
-/// The line of a segment: its time in UTC, and its ends.
+/// When a segment came, in UTC, and from where to where; in one line with what it holds the time alone.
 pub fn write_segment<A: Allocator>(
     text: &mut String<A>,
+    is_short: bool,
     stamp: Option<Stamp>,
     ends: Ends,
 ) -> Result<(), AllocError> {
     if let Some(stamp) = stamp {
         write_stamp(text, stamp)?;
     }
+    if is_short {
+        return Ok(());
+    }
+    if stamp.is_some() {
+        text.push_str(" ")?;
+    }
     write_place(text, ends.from)?;
     text.push_str(" to ")?;
-    write_place(text, ends.to)?;
-    text.push_str("\n")
+    write_place(text, ends.to)
 }
 
 /// The line of octets that a capture does not have, where there are some.

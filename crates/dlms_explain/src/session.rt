@@ -32,6 +32,15 @@ fn write_text<A: Allocator, W: Write>(
     written.map_err(|_| ExplainFault::Output)
 }
 
+/// How an explanation is written.
+#[derive(Clone, Copy, Debug, PartialEq, Eq)]
+pub struct Form {
+    /// Strings that may be a secret are told as they are; of what is known to be one nothing is told.
+    pub raw: bool,
+    /// A frame is told in one line: its time, its ends, its service and what that says, but for the parts of a value.
+    pub short: bool,
+}
+
 /// An explanation under way: the line that comes, and the text that is not written yet.
 #[derive(Drop)]
 struct Session<A: Allocator> {
@@ -43,9 +52,9 @@ struct Session<A: Allocator> {
 
 impl<A: Allocator + Copy> Session<A> {
     /// Before the first octet. No memory is taken here.
-    fn new(alloc: A, raw: bool) -> Self {
+    fn new(alloc: A, form: Form) -> Self {
         Session {
-            explainer: Explainer::new(alloc, raw),
+            explainer: Explainer::new(alloc, form.raw, form.short),
             line: Vec::new(alloc),
             is_long: false,
             text: String::new(alloc),
@@ -138,12 +147,12 @@ fn read_front<R: Read>(input: &mut R, room: &mut [u8; ROOM]) -> Result<usize, Ex
 /// Explains a capture, whose first octets are these.
 fn explain_capture<A: Allocator + Copy, R: Read, W: Write>(
     alloc: A,
-    raw: bool,
+    form: Form,
     front: &[u8],
     input: &mut R,
     output: &mut W,
 ) -> Result<(), ExplainFault> {
-    let mut captured = Captured::new(alloc, raw);
+    let mut captured = Captured::new(alloc, form);
     let mut text = String::new(alloc);
     captured.feed(front, &mut text)?;
     let mut room = [0u8; ROOM];
@@ -163,22 +172,20 @@ fn explain_capture<A: Allocator + Copy, R: Read, W: Write>(
 /// of another log, or pairs of hexadecimal digits. What is told of a line is written before more input than holds its end is read, and at the
 /// end of the input what is told of its rest. A line may be of any length: of one of more than 65,536 octets it is told that it is one.
 ///
-/// Where `raw` is set, strings that may be a secret are told as they are; of what is known to be one nothing is told.
-///
 /// The caller may give any two streams; the input is read by 4,096 octets. Where memory is refused, or the input or the output
 /// fails, what was written before stays.
 pub fn explain<A: Allocator + Copy, R: Read, W: Write>(
     alloc: A,
-    raw: bool,
+    form: Form,
     input: &mut R,
     output: &mut W,
 ) -> Result<(), ExplainFault> {
     let mut room = [0u8; ROOM];
     let front = read_front(input, &mut room)?;
     if is_capture(&room[..front]) {
-        return explain_capture(alloc, raw, &room[..front], input, output);
+        return explain_capture(alloc, form, &room[..front], input, output);
     }
-    let mut session = Session::new(alloc, raw);
+    let mut session = Session::new(alloc, form);
     let mut count = front;
     for _ in 0..u64::MAX {
         if count == 0 {

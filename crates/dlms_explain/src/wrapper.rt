@@ -1,6 +1,8 @@
 //! APDUs in the wrapper of IEC 62056-47: behind a head of its version, the two ports and the length.
 
 use crate::explainer::explain_apdu;
+use crate::session::Form;
+use crate::short::{View, write_short_wrapped};
 use crate::words::{line, number};
 use byteorder::{BigEndian, ByteOrder};
 use dlms_talks::{Services, Side};
@@ -31,6 +33,7 @@ pub struct Wrapped<A: Allocator> {
     /// The client's and the meter's port of the last APDU.
     ports: (u16, u16),
     services: Services<A>,
+    view: View<A>,
 }
 
 /// The head in front, once it is there.
@@ -72,14 +75,15 @@ const NOT_WHOLE: &str = "(the last APDU is not whole)";
 
 impl<A: Allocator + Copy> Wrapped<A> {
     /// Before the first octet. No memory is taken here.
-    pub fn new(alloc: A, raw: bool) -> Self {
+    pub fn new(alloc: A, form: Form) -> Self {
         Wrapped {
             alloc,
-            raw,
+            raw: form.raw,
             client: Vec::new(alloc),
             meter: Vec::new(alloc),
             ports: (0, 0),
-            services: Services::new(alloc, raw),
+            services: Services::new(alloc, form.raw),
+            view: View::new(alloc, form.short),
         }
     }
 
@@ -95,6 +99,15 @@ impl<A: Allocator + Copy> Wrapped<A> {
         }
     }
 
+    /// When octets came: a line, or in front of each APDU's.
+    pub fn stamp(&mut self, words: &str, text: &mut String<A>) -> Result<(), AllocError> {
+        if self.view.is_short {
+            self.view.stamp.clear();
+            return self.view.stamp.push_str(words);
+        }
+        line(text, 0, words)
+    }
+
     /// What is told of an APDU.
     fn tell(
         &mut self,
@@ -104,8 +117,15 @@ impl<A: Allocator + Copy> Wrapped<A> {
         text: &mut String<A>,
     ) -> Result<(), AllocError> {
         self.follow(side, head);
-        write_head(text, side, head)?;
-        explain_apdu(text, self.alloc, Some(side), &mut self.services, apdu)?;
+        if self.view.is_short {
+            self.view.full.clear();
+            let full = &mut self.view.full;
+            explain_apdu(full, self.alloc, Some(side), &mut self.services, apdu)?;
+            write_short_wrapped(text, &self.view, side, self.ports)?;
+        } else {
+            write_head(text, side, head)?;
+            explain_apdu(text, self.alloc, Some(side), &mut self.services, apdu)?;
+        }
         if side == Side::Meter {
             self.services.pass();
         }

@@ -68,7 +68,7 @@ poll_command = with_rules (new_app (codes "poll"))
     ∷ number_rule (codes "deadline") 1 86400 ∷ flag_rule (codes "check-clock") ∷ number_rule (codes "ahead") 0 31536000 ∷ [])
 
 abbrev pub explain_command : App
-explain_command = with_rules (new_app (codes "explain")) (value_rule (codes "FILE") ∷ flag_rule (codes "raw") ∷ [])
+explain_command = with_rules (new_app (codes "explain")) (value_rule (codes "FILE") ∷ flag_rule (codes "raw") ∷ flag_rule (codes "short") ∷ [])
 
 abbrev pub show_command : App
 show_command = with_rules (new_app (codes "show")) (wanted_rule (codes "FILE") ∷ flag_rule (codes "plot") ∷ [])

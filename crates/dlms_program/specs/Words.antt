@@ -67,7 +67,8 @@ Asks met (Serve file listen load tick quiet idle turn inactivity) = (rows : List
 Asks met (Poll address readings secret client deadline ahead) = (rows : List Row) × (met ≡ Some (codes "poll", rows)) × (address.now ≡ unwrap_or (first_of (codes "ADDRESS:PORT") rows) [])
     × (option_map (λ f. f.now) readings ≡ first_of (codes "readings") rows) × (option_map (λ f. f.now) secret ≡ first_of (codes "secret-file") rows)
     × IsAsker rows client × IsSaidFor (codes "deadline") rows DEADLINE deadline × ChecksClock rows ahead
-Asks met (Explain file raw) = (rows : List Row) × (met ≡ Some (codes "explain", rows)) × (option_map (λ f. f.now) file ≡ file_in rows) × IsSaid (first_of (codes "raw") rows) raw
+Asks met (Explain file raw short) = (rows : List Row) × (met ≡ Some (codes "explain", rows)) × (option_map (λ f. f.now) file ≡ file_in rows)
+    × IsSaid (first_of (codes "raw") rows) raw × IsSaid (first_of (codes "short") rows) short
 Asks met (Show file plot) = (rows : List Row) × (met ≡ Some (codes "show", rows)) × (file.now ≡ unwrap_or (file_in rows) []) × IsSaid (first_of (codes "plot") rows) plot
 Asks met (Plot readings svg) = (rows : List Row) × (met ≡ Some (codes "plot", rows)) × (readings.now ≡ unwrap_or (first_of (codes "READINGS") rows) [])
     × IsSaid (first_of (codes "svg") rows) svg

@@ -46,10 +46,11 @@ pub enum Job<'a> {
         ahead: Option<u32>,
     },
     /// Explains the frames that stand in this file, or on standard input where none is named; where `raw` is set, with strings
-    /// that may be a secret.
+    /// that may be a secret, and where `short` is, a frame in one line.
     Explain {
         file: Option<&'a str>,
         raw: bool,
+        short: bool,
     },
     /// Shows what stands in a meter's file, and the curve of its load profile where `plot` asks for it.
     Show {

@@ -199,6 +199,7 @@ fn explain_command<'a>(alloc: Global) -> Result<Command<'a>, AllocError>
     let arguments = vec![in alloc;
         value(alloc, "FILE", "The file that the frames stand in"),
         flag(alloc, "raw", "Prints strings that may be a secret too"),
+        flag(alloc, "short", "Prints a line for each frame"),
     ]?;
     with_arguments(command, arguments)
 }

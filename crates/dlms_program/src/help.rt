@@ -95,7 +95,8 @@ time in UTC and both ends, also APDUs in the wrapper of TCP and UDP. Else it rea
 
 Prints each frame's direction, addresses and control, and of the APDU in it the parts by their names. Of a secret no byte is \
 printed; of a string that may be one, since no frame before it asked for it, the length is, and with --raw all of it. A line that \
-holds no bytes of a frame is printed as it stands.
+holds no bytes of a frame is printed as it stands. With --short a frame is one line: the time that its log or capture has, the \
+client's address, > or <, the meter's, and what the APDU says but for the parts of a value.
 
 Exit status: 0, also where the reader of the output has had enough; 1 after a fault (dlms: io, with FILE or the stream and the \
 system's words on a second line; dlms: memory); 2 for words that are not understood, and for this help.";

@@ -185,9 +185,11 @@ fn explain_job<'a>(matches: &ArgMatches<'a>) -> Job<'a>
     ensures { (rows : List Row) → subcommand_rows_of matches.now ≡ Some (codes "explain", rows) → Asks (Some (codes "explain", rows)) result }
 {
     let raw = is_given(value_for(matches, "explain", "raw"));
+    let short = is_given(value_for(matches, "explain", "short"));
     Job::Explain {
         file: value_for(matches, "explain", "FILE"),
         raw,
+        short,
     }
 }
 
