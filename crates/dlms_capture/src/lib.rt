@@ -11,5 +11,5 @@ mod pcapng;
 
 pub use file::{File, Next, is_capture};
 pub use interface::{Packet, Stamp};
-pub use order::{Order, Placed};
+pub use order::Order;
 pub use packet::{Address, Ends, Place, Segment, Transport, segment_of};

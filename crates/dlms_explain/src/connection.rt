@@ -95,7 +95,7 @@ impl<A: Allocator + Copy> Connection<A> {
     }
 
     /// Takes a segment into the order of its direction, and says how many octets are missing before those that are next.
-    fn take(&mut self, side: Side, segment: Segment<'_>) -> Result<u32, AllocError> {
+    fn take(&mut self, side: Side, segment: Segment<'_>) -> Result<u64, AllocError> {
         let Transport::Tcp {
             sequence,
             opens,

@@ -117,11 +117,11 @@ pub fn write_segment<A: Allocator>(
 }
 
 /// The line of octets that a capture does not have, where there are some.
-pub fn write_missing<A: Allocator>(text: &mut String<A>, count: u32) -> Result<(), AllocError> {
+pub fn write_missing<A: Allocator>(text: &mut String<A>, count: u64) -> Result<(), AllocError> {
     if count == 0 {
         return Ok(());
     }
     text.push_str("(octets that the capture does not have: ")?;
-    number(text, u64::from(count))?;
+    number(text, count)?;
     text.push_str(")\n")
 }

@@ -1,0 +1,24 @@
+use Rattle.std.proofs.Common.{◌≡◌, ◌+◌, ◌≤◌, IfOk, subst, sym, ◌∙◌, arith}
+use Rattle.dlms_capture.specs.Streams.{AreOf, GoesOn, StandsAt}
+use Rattle.dlms_capture.proofs.StreamLemmas.{goes-on}
+use Rattle.dlms_capture.proofs.order.Order.take.Goals as goal
+
+pub returns-then-branch-clause-goes : goal.returns-then-branch-clause-goes
+returns-then-branch-clause-goes g c = λ stream are part.
+    let here = subst (λ p. StandsAt stream p c.args.octets.now) (sym c.in-Some.ensures.some) part in
+    let known = subst (λ l. AreOf stream l.items) (sym (c.in_ok-append.ensures.early ∙ c.in-Some.ensures.early)) are in
+    let start = subst (λ n. GoesOn stream n c.append.new.self.given c.args.output.now.items c.append.new.output.items) c.in-Some.ensures.given (c.in_ok-append.ensures.goes stream here) in
+    let later : c.args.self.now.given ≤ c.append.new.self.given = subst (λ n. n ≤ c.append.new.self.given) c.in-Some.ensures.given c.in_ok-append.ensures.later in
+    let whole = goes-on stream c.args.self.now.given c.append.new.self.given c.append_due.new.self.given c.args.output.now.items c.append.new.output.items c.append_due.new.output.items later c.in_ok-append_due.ensures.later start (c.in_ok-append_due.ensures.goes stream known) in
+    let e : c.args.self.now.given ≡ c.args.self.now.given + 0 = omega arith in
+    subst (λ n. GoesOn stream n c.append_due.new.self.given c.args.output.now.items c.append_due.new.output.items) e whole
+
+pub returns-clause-goes : goal.returns-clause-goes
+returns-clause-goes g c = λ stream are part.
+    let here = subst (λ p. StandsAt stream p c.args.octets.now) (sym c.in-Some.ensures.some) part in
+    let before = subst (λ l. AreOf stream l.items) (sym (c.in_ok-append.ensures.early ∙ c.in-Some.ensures.early)) are in
+    let kept = c.in_ok-keep.ensures.early stream before here in
+    let same = c.in_ok-append.ensures.same c.if-branch.false in
+    let given : c.keep.new.self.given ≡ c.args.self.now.given = c.in_ok-keep.ensures.given ∙ same.0 ∙ c.in-Some.ensures.given in
+    let one = subst (λ n. IfOk c.rest.result (λ missing. GoesOn stream (n + missing) c.rest.new.self.given c.append.new.output.items c.rest.new.output.items)) given (c.rest.ensures.goes stream kept) in
+    subst (λ o. IfOk c.rest.result (λ missing. GoesOn stream (c.args.self.now.given + missing) c.rest.new.self.given o c.rest.new.output.items)) same.1 one
