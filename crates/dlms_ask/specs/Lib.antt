@@ -2,3 +2,4 @@ pub mod Texts
 pub mod Names
 pub mod Kinds
 pub mod Values
+pub mod Servers
