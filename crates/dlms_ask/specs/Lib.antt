@@ -1,0 +1,5 @@
+pub mod Texts
+pub mod Names
+pub mod Kinds
+pub mod Values
+pub mod Servers

@@ -1,0 +1,52 @@
+//! Numbers with a scaler.
+
+use itoa::Buffer;
+use std::alloc::{AllocError, Allocator};
+
+/// Appends zeros.
+fn append_zeros<A: Allocator>(text: &mut Vec<u8, A>, count: usize) -> Result<(), AllocError> {
+    for _ in 0..count {
+        text.push(b'0')?;
+    }
+    Ok(())
+}
+
+/// Appends digits, so many of them behind a point.
+fn append_with_point<A: Allocator>(
+    text: &mut Vec<u8, A>,
+    digits: &[u8],
+    places: usize,
+) -> Result<(), AllocError> {
+    if places < digits.len() {
+        let whole = digits.len() - places;
+        text.extend_from_slice(&digits[..whole])?;
+        text.push(b'.')?;
+        return text.extend_from_slice(&digits[whole..]);
+    }
+    text.extend_from_slice(b"0.")?;
+    append_zeros(text, places - digits.len())?;
+    text.extend_from_slice(digits)
+}
+
+/// Appends a number times a power of ten in decimal digits, all of them, and no more of them behind the point than the power asks
+/// for.
+pub fn append_decimal<A: Allocator>(
+    text: &mut Vec<u8, A>,
+    is_negative: bool,
+    number: u64,
+    power: i16,
+) -> Result<(), AllocError> {
+    let mut buffer = Buffer::new();
+    let digits = buffer.format(number).as_bytes();
+    if is_negative {
+        text.push(b'-')?;
+    }
+    if power < 0 {
+        return append_with_point(text, digits, usize::from(power.unsigned_abs()));
+    }
+    text.extend_from_slice(digits)?;
+    if number > 0 {
+        append_zeros(text, power as usize)?;
+    }
+    Ok(())
+}

@@ -1,0 +1,21 @@
+//! What is asked of any meter, and what it answers, as text.
+#![tactic(auto)]
+
+mod decimal;
+mod entry;
+mod fault;
+mod json;
+mod kind;
+mod name;
+mod server;
+mod texts;
+mod value;
+
+pub use decimal::append_decimal;
+pub use entry::{Entry, class_in, elements, entry_of, right_of, six};
+pub use fault::ValueFault;
+pub use json::{append_json, append_number, append_pairs, append_quoted};
+pub use kind::{Kind, kind_of};
+pub use name::{Name, name_of};
+pub use server::server_of;
+pub use value::value_of;
