@@ -167,9 +167,9 @@ fn explain_information<A: Allocator + Copy>(
     side: Option<Side>,
     talk: &mut Talk<A>,
     numbers: Numbers,
-    frame: &Frame,
+    frame: &Frame<'_>,
 ) -> Result<(), AllocError> {
-    let info = frame.info.as_slice();
+    let info = frame.info;
     let came = talk.take(alloc, side, numbers, frame.segmented, info)?;
     write_came(text, came)?;
     let raw = talk.services.is_raw();
@@ -205,7 +205,7 @@ fn explain_content<A: Allocator + Copy>(
     alloc: A,
     side: Option<Side>,
     talk: &mut Talk<A>,
-    frame: &Frame,
+    frame: &Frame<'_>,
 ) -> Result<(), AllocError> {
     let heeded = is_heeded(side, frame.control);
     match read(frame.control) {
@@ -213,13 +213,13 @@ fn explain_content<A: Allocator + Copy>(
             if heeded {
                 talk.forget(alloc);
             }
-            explain_parameters(text, frame.info.as_slice())
+            explain_parameters(text, frame.info)
         }
         Control::Ua => {
             if heeded {
                 talk.open(alloc);
             }
-            explain_parameters(text, frame.info.as_slice())
+            explain_parameters(text, frame.info)
         }
         Control::Disc | Control::Dm => {
             if heeded {
@@ -244,7 +244,7 @@ fn explain_content<A: Allocator + Copy>(
         }
         Control::Ui => {
             let raw = talk.services.is_raw();
-            explain_alone(text, alloc, side, raw, frame.info.as_slice())
+            explain_alone(text, alloc, side, raw, frame.info)
         }
         _ => Ok(()),
     }
@@ -256,12 +256,12 @@ fn explain_frame<A: Allocator + Copy>(
     alloc: A,
     said: Option<Side>,
     talks: &mut Talks<A>,
-    frame: &Frame,
+    frame: Frame<'_>,
 ) -> Result<(), AllocError> {
-    let side = side_of(said, frame);
-    write_frame(text, side, heading_of(frame))?;
-    let mut talk = talks.take(alloc, parties_of(side, frame));
-    let explained = explain_content(text, alloc, side, &mut talk, frame);
+    let side = side_of(said, &frame);
+    write_frame(text, side, heading_of(&frame))?;
+    let mut talk = talks.take(alloc, parties_of(side, &frame));
+    let explained = explain_content(text, alloc, side, &mut talk, &frame);
     talks.put(talk)?;
     explained
 }
@@ -296,11 +296,12 @@ fn explain_bytes<A: Allocator + Copy>(
 ) -> Result<(), AllocError> {
     let mut rest = bytes;
     'frames: while !rest.is_empty() {
-        let (taken, found) = stretch.feed(rest)?;
-        if let Some(Found { frame, before }) = found {
+        let taken = stretch.feed(rest)?;
+        if let Some(Found { frame, before }) = stretch.found() {
             explain_stray(text, said, stretch, before)?;
+            let explained = explain_frame(text, alloc, said, talks, frame);
             stretch.pass_frame();
-            explain_frame(text, alloc, said, talks, &frame)?;
+            explained?;
         }
         rest = &rest[taken..];
     }
