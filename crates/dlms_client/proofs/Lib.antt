@@ -1,4 +1,4 @@
-pub mod Short
+pub mod Idle
 pub mod Taken
 pub mod SaidLemmas
 pub mod Running

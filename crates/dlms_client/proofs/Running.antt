@@ -31,7 +31,7 @@ use Rattle.dlms_client.specs.declared.stage.Stage.TheVariants.{Closed, Associati
 use Rattle.dlms_client.specs.declared.step.Step.{Step}
 use Rattle.dlms_client.specs.declared.step.Step.TheVariants as step
 use Rattle.dlms_client.proofs.SaidLemmas.{AreOf, said, more_came}
-use Rattle.dlms_client.proofs.Short.{apdu_idle}
+use Rattle.dlms_client.proofs.Idle.{apdu_idle}
 
 -- the blocks that were joined are those that came since the request
 record HasJoined (asked : Asked) (blocks : Joining) (sent : Option Going) (since : Since) : Type 0 where

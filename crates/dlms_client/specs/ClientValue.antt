@@ -1,9 +1,8 @@
 -- What a contract sees of a client.
-use Rattle.std.specs.Prelude.{◌≡◌, ◌≤◌, Option, None, IfSome, length}
+use Rattle.std.specs.Prelude.{◌≡◌, ◌≤◌, Option, None, IfSome}
 use Rattle.dlms_blocks.specs.Going.{Going}
 use Rattle.dlms_blocks.specs.Joining.{Joining}
 use Rattle.dlms_link.specs.Client.{ClientRecord, IsDown}
-use Rattle.dlms_link.specs.declared.segments.TheConstants.{MOST_BYTES}
 use Rattle.dlms_client.specs.Plan.{PlanValue, IsPlan, plan_of}
 use Rattle.dlms_client.specs.declared.fault.Fault.{Fault}
 use Rattle.dlms_client.specs.declared.granted.Granted.{Granted}
@@ -25,10 +24,8 @@ pub record ClientValue : Type 0 where
   -- the encoding that goes out in blocks with the last request, where it does
   pub sent : Option Going
 
--- The frame that is out has no more information than a segment; where nothing is awaited before the first frame, the link is down;
--- and each block of a request fits into one.
+-- Where nothing is awaited before the first frame, the link is down; and each block of a request fits into a segment.
 pub record IsStanding (plan : Plan) (link : ClientRecord) (stage : Stage) (failed : Option Fault) (sent : Option Going) : Type 0 where
   pub is_plan : IsPlan (plan_of plan)
-  pub short : IfSome link.waits (λ frame. length frame.info ≤ MOST_BYTES)
   pub room : IfSome sent (λ going. going.room ≤ MOST_RAW)
   pub down : failed ≡ None → stage ≡ Closed → IsDown link

@@ -1,13 +1,11 @@
 //! The addresses of a client and its meter, in place of the two that the link knows.
 
-ghost use Rattle.std.specs.Prelude.{◌≡◌, ◌≤◌, length};
-ghost use Rattle.dlms_link.specs.declared.segments.TheConstants.{MOST_BYTES};
+ghost use Rattle.std.specs.Prelude.{◌≡◌};
 ghost use Rattle.dlms_client.specs.Addresses.{outward, inward, same_address, is_ours};
 ghost use Rattle.dlms_client.specs.Plan.{IsPlan, plan_of};
 
 use crate::plan::Plan;
-use arrayvec::ArrayVec;
-use dlms_frame::{Address, Frame};
+use dlms_frame::{Address, Frame, SentFrame};
 
 /// The client that the link knows.
 const CLIENT: Address = Address::One(16);
@@ -16,28 +14,24 @@ const CLIENT: Address = Address::One(16);
 const METER: Address = Address::One(1);
 
 /// A frame of the link goes out to the plan's meter, from the plan's client.
-pub fn outward(plan: &Plan, frame: &Frame) -> Frame
-    requires is_plan { IsPlan (plan_of plan.now) }
-    requires short { length frame.now.info ≤ MOST_BYTES }
-    ensures { result ≡ outward (plan_of plan.now) frame.now }
+pub fn outward(plan: &Plan, frame: SentFrame) -> SentFrame
+    requires { IsPlan (plan_of plan.now) }
+    ensures { result ≡ outward (plan_of plan.now) frame }
 {
-    Frame::new(
-        frame.segmented,
-        plan.server,
-        Address::One(plan.sap),
-        frame.control,
-        frame.info.as_slice(),
-    )
+    frame.between(plan.server, Address::One(plan.sap))
 }
 
 /// A frame that came is given to the link.
-pub fn inward(frame: &Frame) -> Frame
+pub fn inward<'a>(frame: &Frame<'a>) -> Frame<'a>
     ensures { result ≡ inward frame.now }
 {
-    let mut inner = frame.copy();
-    inner.dest = CLIENT;
-    inner.src = METER;
-    inner
+    Frame {
+        segmented: frame.segmented,
+        dest: CLIENT,
+        src: METER,
+        control: frame.control,
+        info: frame.info,
+    }
 }
 
 /// Whether two addresses are one.
@@ -54,7 +48,7 @@ fn same_address(first: Address, second: Address) -> bool
 
 /// Whether a frame is from the plan's meter to the plan's client.
 #[tactic(auto, unfolding(crate::specs::Addresses::is_ours))]
-pub fn is_ours(plan: &Plan, frame: &Frame) -> bool
+pub fn is_ours(plan: &Plan, frame: &Frame<'_>) -> bool
     ensures { result ≡ is_ours (plan_of plan.now) frame.now }
 {
     same_address(frame.dest, Address::One(plan.sap)) && same_address(frame.src, plan.server)

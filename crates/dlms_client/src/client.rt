@@ -31,7 +31,7 @@ use dlms_acse::{Conformance, write_rlrq};
 use dlms_apdu::{Request, write_request};
 use dlms_blocks::{Block, GetIn, LEAST_SIZE, MOST_SIZE, PutOut};
 use dlms_data::{Data, Descriptor, Selector, write};
-use dlms_frame::Frame;
+use dlms_frame::{Frame, SentFrame};
 use dlms_link::{ClientLink, ClientOut};
 use std::alloc::{Allocator, Global};
 use std::marker::Model;
@@ -82,7 +82,7 @@ impl<A: Allocator + Copy> Client<A> {
     }
 
     /// The first frame, where there is no link yet, and again once it is down as was asked for; none otherwise.
-    pub fn next(&mut self) -> Option<Frame>
+    pub fn next(&mut self) -> Option<SentFrame>
         ensures { Begins self.old result self.new }
     {
         if self.failed.is_some() {
@@ -92,14 +92,14 @@ impl<A: Allocator + Copy> Client<A> {
             Stage::Closed => {
                 let frame = self.link.connect();
                 self.stage = Stage::Associating;
-                Some(outward(&self.plan, &frame))
+                Some(outward(&self.plan, frame))
             }
             _ => None,
         }
     }
 
     /// What the client makes of a frame. After a fault it is the same fault again; while nothing is awaited it is nothing.
-    pub fn on(&mut self, frame: &Frame) -> Result<Step, Fault>
+    pub fn on(&mut self, frame: &Frame<'_>) -> Result<Step, Fault>
         ensures { Comes self.old frame.now result self.new }
     {
         if let Some(fault) = self.failed {
@@ -112,7 +112,7 @@ impl<A: Allocator + Copy> Client<A> {
     }
 
     /// A frame of the plan's meter, with the addresses that the link knows.
-    fn hears(&mut self, frame: &Frame) -> Result<Step, Fault>
+    fn hears(&mut self, frame: &Frame<'_>) -> Result<Step, Fault>
         requires whole { self.old.failed ≡ None }
         requires waits { IsSome self.old.link.waits }
         ensures { ComesBy (client_step self.old.link frame.now).1 (client_step self.old.link frame.now).0 self.old result self.new }
@@ -123,14 +123,14 @@ impl<A: Allocator + Copy> Client<A> {
                 let request = association(&self.plan);
                 Ok(Step::Send(self.send(Stage::Associating, request.as_slice())))
             }
-            ClientOut::Send(frame) => Ok(Step::Send(outward(&self.plan, &frame))),
+            ClientOut::Send(frame) => Ok(Step::Send(outward(&self.plan, frame))),
             ClientOut::Apdu => self.take(),
             ClientOut::Down => self.down(),
         }
     }
 
     /// An APDU goes out, and this is awaited.
-    fn send(&mut self, stage: Stage, apdu: &[u8]) -> Frame
+    fn send(&mut self, stage: Stage, apdu: &[u8]) -> SentFrame
         requires idle { IsIdle self.old.link }
         requires short { length apdu.now ≤ 1024 }
         requires later { stage ≢ Closed }
@@ -138,7 +138,7 @@ impl<A: Allocator + Copy> Client<A> {
     {
         self.stage = stage;
         let frame = self.link.send(apdu);
-        outward(&self.plan, &frame)
+        outward(&self.plan, frame)
     }
 
     /// It is over, for good.
@@ -244,13 +244,13 @@ impl<A: Allocator + Copy> Client<A> {
     }
 
     /// The link's end is asked for.
-    fn leave(&mut self) -> Frame
+    fn leave(&mut self) -> SentFrame
         requires { IsIdle self.old.link }
         ensures { Leaves self.old result self.new }
     {
         self.stage = Stage::Leaving;
         let frame = self.link.disconnect();
-        outward(&self.plan, &frame)
+        outward(&self.plan, frame)
     }
 
     /// The link went down.
@@ -269,7 +269,7 @@ impl<A: Allocator + Copy> Client<A> {
 
     /// A time-out of the frame that is out: it goes again, and the fourth in a row is a fault. After a fault it is the same
     /// fault again.
-    pub fn timeout(&mut self) -> Result<Frame, Fault>
+    pub fn timeout(&mut self) -> Result<SentFrame, Fault>
         requires { CanTimeOut self.old }
         ensures { TimesOut self.old result self.new }
     {
@@ -277,7 +277,7 @@ impl<A: Allocator + Copy> Client<A> {
             return Err(fault);
         }
         match self.link.timeout() {
-            Ok(frame) => Ok(outward(&self.plan, &frame)),
+            Ok(frame) => Ok(outward(&self.plan, frame)),
             Err(_) => {
                 self.failed = Some(Fault::Line);
                 Err(Fault::Line)
@@ -310,7 +310,7 @@ impl<A: Allocator + Copy> Client<A> {
         &mut self,
         descriptor: Descriptor,
         selector: Option<Selector<B>>,
-    ) -> Result<Frame, AskFault>
+    ) -> Result<SentFrame, AskFault>
         requires free { IsFree self.old }
         requires fits { SelectorFits (option_map selection_of selector) }
         ensures { Asks Get (get_normal INVOKE descriptor (option_map selection_of selector)) self.old result self.new }
@@ -331,7 +331,7 @@ impl<A: Allocator + Copy> Client<A> {
         descriptor: Descriptor,
         selector: Option<Selector<B>>,
         value: Data<B>,
-    ) -> Result<Frame, AskFault>
+    ) -> Result<SentFrame, AskFault>
         requires free { IsFree self.old }
         requires selector { SelectorFits (option_map selection_of selector) }
         requires value { Fits (value_of value) }
@@ -353,7 +353,7 @@ impl<A: Allocator + Copy> Client<A> {
         &mut self,
         descriptor: Descriptor,
         parameter: Option<Data<B>>,
-    ) -> Result<Frame, AskFault>
+    ) -> Result<SentFrame, AskFault>
         requires free { IsFree self.old }
         requires fits { ParameterFits (option_map value_of parameter) }
         ensures { Asks Action (action_normal INVOKE descriptor (option_map value_of parameter)) self.old result self.new }
@@ -386,7 +386,7 @@ impl<A: Allocator + Copy> Client<A> {
         &mut self,
         asked: Asked,
         request: &Request<'_, B>,
-    ) -> Result<Frame, AskFault>
+    ) -> Result<SentFrame, AskFault>
         requires free { IsFree self.old }
         requires fits { RequestFits (request_of request.now) }
         ensures { Asks asked (request_of request.now) self.old result self.new }
@@ -405,7 +405,7 @@ impl<A: Allocator + Copy> Client<A> {
         &mut self,
         asked: Asked,
         request: &Request<'_, B>,
-    ) -> Result<Frame, AskFault>
+    ) -> Result<SentFrame, AskFault>
         requires free { IsFree self.old }
         requires fits { RequestFits (request_of request.now) }
         requires long { most_bytes self.old < length (request_bytes (request_of request.now)) }
@@ -456,7 +456,7 @@ impl<A: Allocator + Copy> Client<A> {
     }
 
     /// Releases the association; the link's end is asked for once that is answered.
-    pub fn release(&mut self) -> Frame
+    pub fn release(&mut self) -> SentFrame
         requires { IsFree self.old }
         ensures { Releases self.old result self.new }
     {
@@ -465,7 +465,7 @@ impl<A: Allocator + Copy> Client<A> {
     }
 
     /// Asks for the link's end, and with it the association's.
-    pub fn disconnect(&mut self) -> Frame
+    pub fn disconnect(&mut self) -> SentFrame
         requires { IsFree self.old }
         ensures { Leaves self.old result self.new }
     {

@@ -1,7 +1,7 @@
 //! What comes of a frame.
 
 use crate::answer::Answer;
-use dlms_frame::Frame;
+use dlms_frame::SentFrame;
 
 /// What a client makes of a frame.
 #[derive(Drop)]
@@ -9,7 +9,7 @@ pub enum Step {
     /// Nothing is to be done.
     Nothing,
     /// This frame goes out.
-    Send(Frame),
+    Send(SentFrame),
     /// The association is open: a request may be made.
     Associated,
     /// The request has this answer: another one may be made.

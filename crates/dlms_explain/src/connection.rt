@@ -105,15 +105,19 @@ impl<A: Allocator + Copy> Connection<A> {
             self.fresh.extend_from_slice(segment.octets)?;
             return Ok(0);
         };
-        let order = match side {
-            Side::Client => &mut self.up,
-            Side::Meter => &mut self.down,
-        };
-        if opens {
-            order.open(sequence);
-            return Ok(0);
+        let fresh = &mut self.fresh;
+        match (side, opens) {
+            (Side::Client, true) => {
+                self.up.open(sequence);
+                Ok(0)
+            }
+            (Side::Meter, true) => {
+                self.down.open(sequence);
+                Ok(0)
+            }
+            (Side::Client, false) => self.up.take(self.alloc, sequence, segment.octets, fresh),
+            (Side::Meter, false) => self.down.take(self.alloc, sequence, segment.octets, fresh),
         }
-        order.take(self.alloc, sequence, segment.octets, &mut self.fresh)
     }
 
     /// What is told of the octets that are next.
@@ -176,11 +180,10 @@ impl<A: Allocator + Copy> Connection<A> {
     /// What is told of one direction's octets behind some that are missing at the end of a capture.
     fn tell_rest(&mut self, side: Side, text: &mut String<A>) -> Result<(), AllocError> {
         for _ in 0..u64::MAX {
-            let order = match side {
-                Side::Client => &mut self.up,
-                Side::Meter => &mut self.down,
+            let missing = match side {
+                Side::Client => self.up.rest(&mut self.fresh)?,
+                Side::Meter => self.down.rest(&mut self.fresh)?,
             };
-            let missing = order.rest(&mut self.fresh)?;
             if missing == 0 {
                 return Ok(());
             }

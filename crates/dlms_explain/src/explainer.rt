@@ -169,9 +169,9 @@ fn explain_information<A: Allocator + Copy>(
     side: Option<Side>,
     talk: &mut Talk<A>,
     numbers: Numbers,
-    frame: &Frame,
+    frame: &Frame<'_>,
 ) -> Result<(), AllocError> {
-    let info = frame.info.as_slice();
+    let info = frame.info;
     let came = talk.take(alloc, side, numbers, frame.segmented, info)?;
     write_came(text, came)?;
     let raw = talk.services.is_raw();
@@ -207,7 +207,7 @@ fn explain_content<A: Allocator + Copy>(
     alloc: A,
     side: Option<Side>,
     talk: &mut Talk<A>,
-    frame: &Frame,
+    frame: &Frame<'_>,
 ) -> Result<(), AllocError> {
     let heeded = is_heeded(side, frame.control);
     match read(frame.control) {
@@ -215,13 +215,13 @@ fn explain_content<A: Allocator + Copy>(
             if heeded {
                 talk.forget(alloc);
             }
-            explain_parameters(text, frame.info.as_slice())
+            explain_parameters(text, frame.info)
         }
         Control::Ua => {
             if heeded {
                 talk.open(alloc);
             }
-            explain_parameters(text, frame.info.as_slice())
+            explain_parameters(text, frame.info)
         }
         Control::Disc | Control::Dm => {
             if heeded {
@@ -246,7 +246,7 @@ fn explain_content<A: Allocator + Copy>(
         }
         Control::Ui => {
             let raw = talk.services.is_raw();
-            explain_alone(text, alloc, side, raw, frame.info.as_slice())
+            explain_alone(text, alloc, side, raw, frame.info)
         }
         _ => Ok(()),
     }
@@ -259,19 +259,20 @@ fn explain_frame<A: Allocator + Copy>(
     alloc: A,
     said: Option<Side>,
     talks: &mut Talks<A>,
-    frame: &Frame,
+    frame: Frame<'_>,
 ) -> Result<(), AllocError> {
-    let side = side_of(said, frame);
-    let mut talk = talks.take(alloc, parties_of(side, frame));
+    let side = side_of(said, &frame);
+    let heading = heading_of(&frame);
+    let mut talk = talks.take(alloc, parties_of(side, &frame));
     if view.is_short {
         view.full.clear();
-        let explained = explain_content(&mut view.full, alloc, side, &mut talk, frame);
+        let explained = explain_content(&mut view.full, alloc, side, &mut talk, &frame);
         talks.put(talk)?;
         explained?;
-        return write_short(text, view, side, heading_of(frame));
+        return write_short(text, view, side, heading);
     }
-    write_frame(text, side, heading_of(frame))?;
-    let explained = explain_content(text, alloc, side, &mut talk, frame);
+    write_frame(text, side, heading)?;
+    let explained = explain_content(text, alloc, side, &mut talk, &frame);
     talks.put(talk)?;
     explained
 }
@@ -307,11 +308,12 @@ fn explain_bytes<A: Allocator + Copy>(
 ) -> Result<(), AllocError> {
     let mut rest = bytes;
     'frames: while !rest.is_empty() {
-        let (taken, found) = stretch.feed(rest)?;
-        if let Some(Found { frame, before }) = found {
+        let taken = stretch.feed(rest)?;
+        if let Some(Found { frame, before }) = stretch.found() {
             explain_stray(text, said, stretch, before)?;
+            let explained = explain_frame(text, view, alloc, said, talks, frame);
             stretch.pass_frame();
-            explain_frame(text, view, alloc, said, talks, &frame)?;
+            explained?;
         }
         rest = &rest[taken..];
     }
@@ -355,21 +357,41 @@ impl<A: Allocator + Copy> Explainer<A> {
         bytes: &[u8],
         text: &mut String<A>,
     ) -> Result<(), AllocError> {
-        let stretch = match said {
-            Some(Side::Client) => &mut self.client,
-            Some(Side::Meter) => &mut self.meter,
-            None => &mut self.bare,
-        };
+        let alloc = self.alloc;
         let view = &mut self.view;
-        explain_bytes(
-            text,
-            view,
-            self.alloc,
-            said,
-            stretch,
-            &mut self.talks,
-            bytes,
-        )
+        match said {
+            Some(Side::Client) => {
+                explain_bytes(
+                    text,
+                    view,
+                    alloc,
+                    said,
+                    &mut self.client,
+                    &mut self.talks,
+                    bytes,
+                )
+            }
+            Some(Side::Meter) => {
+                explain_bytes(
+                    text,
+                    view,
+                    alloc,
+                    said,
+                    &mut self.meter,
+                    &mut self.talks,
+                    bytes,
+                )
+            }
+            None => explain_bytes(
+                text,
+                view,
+                alloc,
+                said,
+                &mut self.bare,
+                &mut self.talks,
+                bytes,
+            ),
+        }
     }
 
     /// The words that stand before octets, as their time: a line, or in front of each frame's.

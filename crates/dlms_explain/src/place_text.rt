@@ -1,5 +1,7 @@
 //! When a segment of a capture came, and from where to where.
 
+ghost use Rattle.std.specs.Prelude.{◌≤◌};
+
 use crate::words::{hexadecimal, number, two_digits};
 use dlms_capture::{Address, Ends, Place, Stamp};
 use dlms_data::{LAST_SECOND, octets};
@@ -27,7 +29,9 @@ fn write_microseconds<A: Allocator>(
 }
 
 /// A second as a date and a time, in UTC.
-fn write_second<A: Allocator>(text: &mut String<A>, second: u32) -> Result<(), AllocError> {
+fn write_second<A: Allocator>(text: &mut String<A>, second: u32) -> Result<(), AllocError>
+    requires { second ≤ LAST_SECOND }
+{
     let [high, low, month, day, _, hour, minute, second, ..] = octets(second);
     number(text, u64::from(high) * 256 + u64::from(low))?;
     for (mark, field) in [
@@ -66,31 +70,41 @@ fn write_group<A: Allocator>(text: &mut String<A>, group: u16) -> Result<(), All
 }
 
 /// An address of IP of version 6, in its eight groups.
-fn write_six<A: Allocator>(text: &mut String<A>, octets: &[u8]) -> Result<(), AllocError> {
+fn write_six<A: Allocator>(text: &mut String<A>, octets: [u8; 16]) -> Result<(), AllocError> {
     text.push_str("[")?;
-    let mut rest = octets;
-    let mut mark = "";
-    'groups: while let [high, low, behind @ ..] = rest {
-        text.push_str(mark)?;
-        write_group(text, u16::from(*high) * 256 + u16::from(*low))?;
-        mark = ":";
-        rest = behind;
+    for group in 0..8usize {
+        if group > 0 {
+            text.push_str(":")?;
+        }
+        if let Some([high, low, ..]) = octets.get(group * 2..) {
+            write_group(text, u16::from(*high) * 256 + u16::from(*low))?;
+        }
     }
     text.push_str("]")
 }
 
+/// An address of IP of version 4.
+fn write_four<A: Allocator>(text: &mut String<A>, octets: [u8; 4]) -> Result<(), AllocError> {
+    let mut mark = "";
+    for octet in octets {
+        text.push_str(mark)?;
+        number(text, u64::from(octet))?;
+        mark = ".";
+    }
+    Ok(())
+}
+
+/// An address of IP.
+fn write_address<A: Allocator>(text: &mut String<A>, address: Address) -> Result<(), AllocError> {
+    match address {
+        Address::Four(octets) => write_four(text, octets),
+        Address::Six(octets) => write_six(text, octets),
+    }
+}
+
 /// An address and a port.
 fn write_place<A: Allocator>(text: &mut String<A>, place: Place) -> Result<(), AllocError> {
-    match place.address {
-        Address::Four([a, b, c, d]) => {
-            number(text, u64::from(a))?;
-            for octet in [b, c, d] {
-                text.push_str(".")?;
-                number(text, u64::from(octet))?;
-            }
-        }
-        Address::Six(octets) => write_six(text, &octets)?,
-    }
+    write_address(text, place.address)?;
     text.push_str(":")?;
     number(text, u64::from(place.port))
 }

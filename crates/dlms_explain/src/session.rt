@@ -186,14 +186,17 @@ pub fn explain<A: Allocator + Copy, R: Read, W: Write>(
         return explain_capture(alloc, form, &room[..front], input, output);
     }
     let mut session = Session::new(alloc, form);
-    let mut count = front;
+    session.take(&room[..front])?;
     for _ in 0..u64::MAX {
+        write_text(&mut session.text, output)?;
+        if front < FRONT {
+            break;
+        }
+        let count = read_some(input, &mut room)?;
         if count == 0 {
             break;
         }
         session.take(&room[..count])?;
-        write_text(&mut session.text, output)?;
-        count = read_some(input, &mut room)?;
     }
     session.end()?;
     write_text(&mut session.text, output)

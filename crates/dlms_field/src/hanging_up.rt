@@ -4,7 +4,7 @@ ghost use Rattle.std.specs.Prelude.{◌≡◌, List};
 ghost use Rattle.dlms_field.specs.HangingUp.{disc_of, EndsLink, HangsUp};
 ghost use Rattle.dlms_meter.specs.Steps.{Call, Calls};
 
-use dlms_frame::{Address, Client, Frame};
+use dlms_frame::{Address, Client, SentFrame};
 use dlms_meter::Meter;
 use dlms_pages::Pages;
 use std::alloc::Allocator;
@@ -16,10 +16,10 @@ const DISC: u8 = 0x53;
 const METER: u8 = 1;
 
 /// The frame with which a client ends its link.
-fn disc(client: Client) -> Frame
+fn disc(client: Client) -> SentFrame
     ensures { result ≡ disc_of client }
 {
-    Frame::new(
+    SentFrame::new(
         false,
         Address::One(METER),
         Address::One(client.sap()),

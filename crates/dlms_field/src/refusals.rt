@@ -1,11 +1,11 @@
 //! Who tries secrets: how many association requests were refused, and whose connections are not taken for a while.
 
 ghost use Rattle.std.specs.Prelude.{◌↔◌, IsTrue};
-ghost use Rattle.dlms_field.specs.Refusals.{CarriesRefusal, IsFirstFrame, RefusesAssociation, SaysRefused};
+ghost use Rattle.dlms_field.specs.Refusals.{CarriesRefusal, RefusesAssociation, SaysRefused};
 
 use arrayvec::ArrayVec;
 use dlms_acse::{Verdict, read_aare};
-use dlms_frame::{Deframer, Frame};
+use dlms_frame::Deframer;
 use std::net::{IpAddr, Ipv4Addr};
 
 /// An address whose association requests were refused too often is not taken again for so many seconds.
@@ -16,15 +16,6 @@ const LLC: [u8; 3] = [0xe6, 0xe7, 0x00];
 
 /// How many addresses are kept; where more are barred at once, the one that was barred first is let go.
 const BARRED: usize = 64;
-
-/// The first frame of some bytes.
-fn first_frame(bytes: &[u8]) -> Option<Frame>
-    ensures { IsFirstFrame bytes.now result }
-{
-    let mut deframer = Deframer::new();
-    let (_taken, found) = deframer.feed(bytes);
-    found
-}
 
 /// Whether an association is refused.
 fn is_refused(verdict: Verdict) -> bool
@@ -53,8 +44,10 @@ fn carries_refusal(info: &[u8]) -> bool
 pub fn is_refusal(reply: &[u8]) -> bool
     ensures { IsTrue result ↔ RefusesAssociation reply.now }
 {
-    match first_frame(reply) {
-        Some(frame) => carries_refusal(frame.info.as_slice()),
+    let mut deframer = Deframer::new();
+    let _taken = deframer.feed(reply);
+    match deframer.frame() {
+        Some(frame) => carries_refusal(frame.info),
         None => false,
     }
 }

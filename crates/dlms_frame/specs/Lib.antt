@@ -3,3 +3,4 @@ pub mod Check
 pub mod Frame
 pub mod Stream
 pub mod Index
+pub mod Deframing

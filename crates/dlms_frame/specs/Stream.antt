@@ -33,6 +33,11 @@ pub record Fits (kept stretch : List ℕ) (place : ℕ) : Type 0 where
   pub bytes : kept ≡ drop gone stretch
   pub awaited : (more : List ℕ) (i j : ℕ) (f : Parts) → place ≤ i → FrameAt (stretch ++ more) i j f → (gone ≤ i) × (length stretch ≤ j)
 
+-- What a deframer keeps: the bytes in which frames may begin, and the frame that its last call ended, if it ended one.
+pub record Kept : Type 0 where
+  pub bytes : List ℕ
+  pub frame : Option Parts
+
 -- What a call did with the bytes that it took, at every stretch that fits.
 abbrev pub Takes : List ℕ → List ℕ → Option Parts → List ℕ → Type 0
 Takes old taken None new = (stretch : List ℕ) (place : ℕ) → Fits old stretch place → Fits new (stretch ++ taken) place

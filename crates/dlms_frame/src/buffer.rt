@@ -44,8 +44,19 @@ fn note(index: &mut Index, bytes: &[u8; ROOM], start: usize)
     }
 }
 
+/// Notes the first places, and no others.
+fn note_all(index: &mut Index, bytes: &[u8; ROOM], count: usize)
+    requires { count + 2 ≤ 4096 }
+    ensures { IsIndex bytes.now index.new.heads index.new.links count }
+{
+    index.heads.fill(0);
+    for start in 0..count {
+        note(index, bytes, start);
+    }
+}
+
 /// The longest frame at the end of the bytes up to `to`, that begins at `from` or later.
-fn longest(bytes: &[u8; ROOM], index: &Index, from: usize, to: usize) -> Option<Frame>
+fn longest<'a>(bytes: &'a [u8; ROOM], index: &Index, from: usize, to: usize) -> Option<Frame<'a>>
     requires order { from ≤ to }
     requires within { to ≤ 4096 }
     requires noted { IsIndex bytes.now index.now.heads index.now.links (to - 2) }
@@ -130,20 +141,18 @@ impl Buffer {
         self.len = at + 1;
     }
 
-    /// A buffer of these bytes.
-    pub(crate) fn from_slice(bytes: &[u8]) -> Self
-        requires { length bytes.now ≤ 4096 }
-        ensures { result ≡ bytes.now }
+    /// Drops the bytes before `from`.
+    pub(crate) fn keep_from(&mut self, from: usize)
+        requires { from ≤ length self.old }
+        ensures { self.new ≡ drop from self.old }
     {
-        let mut buffer = Buffer::new();
-        for byte in bytes {
-            buffer.push(*byte);
-        }
-        buffer
+        self.bytes.copy_within(from..self.len, 0);
+        self.len -= from;
+        note_all(&mut self.index, &self.bytes, self.len.saturating_sub(2));
     }
 
     /// The longest frame at the end of the bytes that begins at `from` or later.
-    pub(crate) fn last_frame(&self, from: usize) -> Option<Frame>
+    pub(crate) fn last_frame(&self, from: usize) -> Option<Frame<'_>>
         requires { from ≤ length self.now }
         ensures found { IfSome result (λ f. (k : ℕ) × IsLongest (drop from self.now) k f) }
         ensures none { IfNone result ((k : ℕ) (f : Parts) → FrameSpelling (drop k (drop from self.now)) f → ⊥) }

@@ -1,5 +1,4 @@
 //! A frame and its bytes.
-use crate::reading::stored;
 use crate::writing::text_of;
 use arrayvec::ArrayVec;
 use std::marker::Model;
@@ -27,17 +26,43 @@ pub(crate) struct Header {
 }
 
 /// A frame of format type 3 (IEC 62056-46, 6.4.1): what stands between two flags, without its length and its checks. Its
-/// addresses have parts of 7 or 14 bits, and it has at most 2,047 bytes between the flags.
+/// addresses have parts of 7 or 14 bits, and it has at most 2,047 bytes between the flags. Its information is lent.
 #[derive(Drop)]
-pub struct Frame {
+pub struct Frame<'a> {
     pub segmented: bool,
     pub dest: Address,
     pub src: Address,
     pub control: u8,
-    pub info: ArrayVec<u8, 2038>,
+    pub info: &'a [u8],
 }
 
-impl Model for Frame {
+impl<'a> Model for Frame<'a> {
+    ghost use Rattle.dlms_frame.specs.Frame.{Parts, IsFrame};
+
+    ghost Value = { Parts };
+
+    ghost view = { λ f. record { segmented = f.segmented; dest = f.dest; src = f.src; control = f.control; info = f.info.now } };
+
+    ghost invariant = { λ f. IsFrame (record { segmented = f.segmented; dest = f.dest; src = f.src; control = f.control; info = f.info.now }) };
+}
+
+/// The most bytes of information of a frame that an end sends.
+pub const MOST_SENT: usize = 128;
+
+/// The most bytes of a frame that an end sends, flags included, and some more.
+pub const MOST_TEXT: usize = 160;
+
+/// A frame with information of its own: one that an end sends, and keeps until it needn't go again.
+#[derive(Drop)]
+pub struct SentFrame {
+    segmented: bool,
+    dest: Address,
+    src: Address,
+    control: u8,
+    info: ArrayVec<u8, MOST_SENT>,
+}
+
+impl Model for SentFrame {
     ghost use Rattle.dlms_frame.specs.Frame.{Parts, IsFrame};
 
     ghost Value = { Parts };
@@ -63,13 +88,19 @@ impl Address {
     }
 }
 
-impl Frame {
-    ghost use Rattle.std.specs.Prelude.{◌≡◌, ◌≤◌, length};
+impl<'a> Frame<'a> {
+    ghost use Rattle.std.specs.Prelude.{◌≡◌, ◌<◌, ◌≤◌, length, IfSome, IfNone};
     ghost use Rattle.dlms_frame.specs.Frame.{FrameSpelling, frame_len, IsAddress};
 
     /// A frame of these parts. This much information fits whatever forms the addresses have; a frame with short addresses and
     /// more information is written as a literal.
-    pub fn new(segmented: bool, dest: Address, src: Address, control: u8, info: &[u8]) -> Frame
+    pub fn new(
+        segmented: bool,
+        dest: Address,
+        src: Address,
+        control: u8,
+        info: &'a [u8],
+    ) -> Frame<'a>
         requires dest { IsAddress dest }
         requires src { IsAddress src }
         requires short { length info.now ≤ 2032 }
@@ -80,20 +111,7 @@ impl Frame {
             dest,
             src,
             control,
-            info: stored(info),
-        }
-    }
-
-    /// An equal frame.
-    pub fn copy(&self) -> Frame
-        ensures { result ≡ self.now }
-    {
-        Frame {
-            segmented: self.segmented,
-            dest: self.dest,
-            src: self.src,
-            control: self.control,
-            info: stored(self.info.as_slice()),
+            info,
         }
     }
 
@@ -109,6 +127,17 @@ impl Frame {
         3 + self.dest.len() + self.src.len() + tail
     }
 
+    /// The same frame with information of its own, where it is no more than a frame has that an end sends.
+    pub fn owned(&self) -> Option<SentFrame>
+        ensures same { IfSome result (λ frame. frame ≡ self.now) }
+        ensures none { IfNone result (MOST_SENT < length self.now.info) }
+    {
+        if self.info.len() > MOST_SENT {
+            return None;
+        }
+        Some(SentFrame::new(self.segmented, self.dest, self.src, self.control, self.info))
+    }
+
     /// The bytes of the frame.
     pub fn put(&self) -> ArrayVec<u8, 2049>
         ensures { FrameSpelling result.items self.now }
@@ -116,6 +145,86 @@ impl Frame {
         let header = Header {
             segmented: self.segmented,
             len: self.len(),
+            dest: self.dest,
+            src: self.src,
+            control: self.control,
+        };
+        text_of(header, self.info)
+    }
+}
+
+impl SentFrame {
+    ghost use Rattle.std.specs.Prelude.{◌≡◌, ◌≤◌, length};
+    ghost use Rattle.dlms_frame.specs.Frame.{FrameSpelling, frame_len, IsAddress};
+
+    /// A frame of these parts.
+    pub fn new(segmented: bool, dest: Address, src: Address, control: u8, info: &[u8]) -> SentFrame
+        requires dest { IsAddress dest }
+        requires src { IsAddress src }
+        requires short { length info.now ≤ MOST_SENT }
+        ensures { result ≡ record { segmented = segmented; dest = dest; src = src; control = control; info = info.now } }
+    {
+        let mut own = ArrayVec::new();
+        let _ = own.try_extend_from_slice(info);
+        SentFrame {
+            segmented,
+            dest,
+            src,
+            control,
+            info: own,
+        }
+    }
+
+    /// An equal frame.
+    pub fn copy(&self) -> SentFrame
+        ensures { result ≡ self.now }
+    {
+        let mut own = ArrayVec::new();
+        let _ = own.try_extend_from_slice(self.info.as_slice());
+        SentFrame {
+            segmented: self.segmented,
+            dest: self.dest,
+            src: self.src,
+            control: self.control,
+            info: own,
+        }
+    }
+
+    /// The same frame between these addresses.
+    pub fn between(self, dest: Address, src: Address) -> SentFrame
+        requires dest { IsAddress dest }
+        requires src { IsAddress src }
+        ensures { result ≡ record self { dest = dest; src = src } }
+    {
+        SentFrame {
+            segmented: self.segmented,
+            dest,
+            src,
+            control: self.control,
+            info: self.info,
+        }
+    }
+
+    /// The same frame, lent.
+    pub fn lent(&self) -> Frame<'_>
+        ensures { result ≡ self.now }
+    {
+        Frame {
+            segmented: self.segmented,
+            dest: self.dest,
+            src: self.src,
+            control: self.control,
+            info: self.info.as_slice(),
+        }
+    }
+
+    /// The bytes of the frame.
+    pub fn put(&self) -> ArrayVec<u8, MOST_TEXT>
+        ensures { FrameSpelling result.items self.now }
+    {
+        let header = Header {
+            segmented: self.segmented,
+            len: self.lent().len(),
             dest: self.dest,
             src: self.src,
             control: self.control,

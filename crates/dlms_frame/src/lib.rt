@@ -15,4 +15,4 @@ mod writing;
 pub use client::Client;
 pub use deframer::Deframer;
 pub use division::check;
-pub use frame::{Address, Frame};
+pub use frame::{Address, Frame, MOST_SENT, MOST_TEXT, SentFrame};

@@ -6,7 +6,6 @@ ghost use Rattle.dlms_frame.specs.Frame.{Parts, FrameSpelling, IsFrame, IsAddres
 
 use crate::division::check;
 use crate::frame::{Address, Frame, Header};
-use arrayvec::ArrayVec;
 
 /// The octet before and behind a frame (IEC 62056-46, the flag).
 pub(crate) const FLAG: u8 = 0x7e;
@@ -98,18 +97,8 @@ fn info_of(bytes: &[u8], at: usize) -> Option<&[u8]>
     Some(&bytes[at + 2..n - 2])
 }
 
-/// The bytes in a buffer of their own.
-pub(crate) fn stored(bytes: &[u8]) -> ArrayVec<u8, 2038>
-    requires { length bytes.now ≤ 2038 }
-    ensures { result.items ≡ bytes.now }
-{
-    let mut info = ArrayVec::new();
-    let _ = info.try_extend_from_slice(bytes);
-    info
-}
-
 /// The frame that these bytes are, without its flags.
-fn read_body(bytes: &[u8]) -> Option<Frame>
+fn read_body(bytes: &[u8]) -> Option<Frame<'_>>
     ensures found { IfSome result (λ f. IsFrame f × (bytes.now ≡ body f)) }
     ensures none { IfNone result ((f : Parts) → IsFrame f → bytes.now ≡ body f → ⊥) }
 {
@@ -124,12 +113,12 @@ fn read_body(bytes: &[u8]) -> Option<Frame>
         dest: header.dest,
         src: header.src,
         control: header.control,
-        info: stored(info),
+        info,
     })
 }
 
 /// The frame that these bytes are.
-pub(crate) fn read(bytes: &[u8]) -> Option<Frame>
+pub(crate) fn read(bytes: &[u8]) -> Option<Frame<'_>>
     ensures found { IfSome result (λ f. FrameSpelling bytes.now f) }
     ensures none { IfNone result ((f : Parts) → FrameSpelling bytes.now f → ⊥) }
 {

@@ -54,15 +54,14 @@ impl Window {
         ensures { self.new ≡ self.old ++ byte ∷ [] }
     {
         if self.buffer.len() == ROOM {
-            let kept = Buffer::from_slice(self.as_slice());
-            self.buffer = kept;
+            self.buffer.keep_from(self.from);
             self.from = 0;
         }
         self.buffer.push(byte);
     }
 
     /// The longest frame at the end of the bytes.
-    pub(crate) fn last_frame(&self) -> Option<Frame>
+    pub(crate) fn last_frame(&self) -> Option<Frame<'_>>
         ensures found { IfSome result (λ f. (k : ℕ) × IsLongest self.now k f) }
         ensures none { IfNone result ((k : ℕ) (f : Parts) → FrameSpelling (drop k self.now) f → ⊥) }
     {

@@ -25,7 +25,7 @@ use crate::talk::Talk;
 use arrayvec::ArrayVec;
 use dlms_acse::{Conformance, write_aarq, write_rlrq};
 use dlms_data::LAST_SECOND;
-use dlms_frame::Frame;
+use dlms_frame::{Frame, SentFrame};
 use dlms_link::{ClientLink, ClientOut};
 use std::alloc::{Allocator, Global};
 use std::marker::Model;
@@ -77,7 +77,7 @@ fn get_request(plan: &Plan, taken: u32) -> BufferRequest
 }
 
 /// The frame that goes out at this stage. It takes no memory.
-fn due(plan: &Plan, link: &mut ClientLink, stage: Stage) -> Frame
+fn due(plan: &Plan, link: &mut ClientLink, stage: Stage) -> SentFrame
     requires idle { IsIdle link.old }
     requires after { IfSome plan.now.after (λ second. second ≤ LAST_SECOND) }
     ensures { IsDue (plan_of plan.now) stage link.old result link.new }
@@ -108,7 +108,7 @@ impl<A: Allocator + Copy> Poller<A> {
     }
 
     /// The first frame, once; none from then on.
-    pub fn next(&mut self) -> Option<Frame>
+    pub fn next(&mut self) -> Option<SentFrame>
         ensures begins { Begins self.old result self.new }
         ensures keeps { (apdus : List (List ℕ)) → Fits self.old apdus → Fits self.new apdus }
     {
@@ -122,7 +122,7 @@ impl<A: Allocator + Copy> Poller<A> {
     }
 
     /// What the poll makes of a frame. After a fault it is the same fault again; after the poll is done it is nothing.
-    pub fn on(&mut self, frame: &Frame) -> Result<PollStep, PollFault>
+    pub fn on(&mut self, frame: &Frame<'_>) -> Result<PollStep, PollFault>
         // Frame by frame, whatever APDUs were taken so far.
         ensures polls { (apdus : List (List ℕ)) → Fits self.old apdus → Polls apdus frame.now self.old result self.new }
         // It is done only where these were an acceptance, answers that spell the rows, and the answer to the release; and where the
@@ -138,7 +138,7 @@ impl<A: Allocator + Copy> Poller<A> {
     }
 
     /// A frame, wherever the poll stands.
-    fn turn(&mut self, frame: &Frame) -> Result<PollStep, PollFault>
+    fn turn(&mut self, frame: &Frame<'_>) -> Result<PollStep, PollFault>
         ensures polls { (apdus : List (List ℕ)) → Fits self.old apdus → Polls apdus frame.now self.old result self.new }
         ensures done { (apdus : List (List ℕ)) → Fits self.old apdus → result ≡ Ok Done → HasReleased self.old.plan.columns apdus self.new.talk.rows }
         ensures memory { (apdus : List (List ℕ)) → Fits self.old apdus → self.old.course ≡ Running → result ≡ Err Memory → WantsMemory self.old apdus frame.now }
@@ -160,7 +160,7 @@ impl<A: Allocator + Copy> Poller<A> {
     }
 
     /// A frame before the first one went out.
-    fn early(&mut self, frame: &Frame) -> Result<PollStep, PollFault>
+    fn early(&mut self, frame: &Frame<'_>) -> Result<PollStep, PollFault>
         requires { self.old.course ≡ Ready }
         ensures { PollsEarly (client_step self.old.link frame.now).1 (client_step self.old.link frame.now).0 self.old result self.new }
     {
@@ -171,7 +171,7 @@ impl<A: Allocator + Copy> Poller<A> {
     }
 
     /// A frame.
-    fn running(&mut self, frame: &Frame) -> Result<PollStep, PollFault>
+    fn running(&mut self, frame: &Frame<'_>) -> Result<PollStep, PollFault>
         requires { self.old.course ≡ Running }
         ensures polls { (apdus : List (List ℕ)) → FitsIn Running self.old apdus
             → PollsBy (client_step self.old.link frame.now).1 (client_step self.old.link frame.now).0 apdus self.old result self.new }
@@ -188,7 +188,7 @@ impl<A: Allocator + Copy> Poller<A> {
     }
 
     /// What is due goes out. It takes no memory.
-    fn go_on(&mut self) -> Frame
+    fn go_on(&mut self) -> SentFrame
         requires running { self.old.course ≡ Running }
         requires idle { IsIdle self.old.link }
         ensures { (apdus : List (List ℕ)) → FitsTalk self.old.plan.columns self.old.talk apdus → Continues self.old apdus (Ok (PollStep.Send result)) self.new }
@@ -226,7 +226,7 @@ impl<A: Allocator + Copy> Poller<A> {
 
     /// A time-out of the frame that is out: it goes again, and the fourth in a row is a fault. After a fault it is the same
     /// fault again.
-    pub fn timeout(&mut self) -> Result<Frame, PollFault>
+    pub fn timeout(&mut self) -> Result<SentFrame, PollFault>
         requires { CanTimeOut self.old }
         ensures again { TimesOut self.old result self.new }
         ensures keeps { (apdus : List (List ℕ)) → Fits self.old apdus → Fits self.new apdus }

@@ -1,6 +1,6 @@
 //! What comes of a frame.
 
-use dlms_frame::Frame;
+use dlms_frame::SentFrame;
 
 /// What a poll makes of a frame.
 #[derive(Drop)]
@@ -8,7 +8,7 @@ pub enum PollStep {
     /// Nothing is to be done.
     Nothing,
     /// This frame goes out.
-    Send(Frame),
+    Send(SentFrame),
     /// The poll is done: the rows are there, and the link is down.
     Done,
 }

@@ -1,8 +1,8 @@
 -- Whatever comes to the client's end goes on to its end, or is cut where something begins anew.
-use Rattle.std.proofs.Common.{◌≡◌, ◌<◌, ◌≤◌, ◌⊎◌, inl, inr, refl, sym, ◌∙◌, ap, subst, arith, Bool, true, false, List, [], ◌∷◌, ◌++◌, nat_lt, ℕ}
+use Rattle.std.proofs.Common.{◌≡◌, ◌<◌, ◌≤◌, ◌⊎◌, inl, inr, refl, sym, ◌∙◌, ap, subst, arith, Bool, true, false, List, [], ◌∷◌, nat_lt}
 use Rattle.std.proofs.lemmas.Bool.Decides.{nat_tests}
 use Rattle.dlms_frame.specs.Frame.{Parts}
-use Rattle.dlms_link.specs.declared.out.ClientOut.TheVariants.{Nothing, Up, Send, Apdu, Down}
+use Rattle.dlms_link.specs.declared.out.ClientOut.TheVariants.{Nothing, Send}
 use Rattle.dlms_link.specs.declared.phase.Phase.{Phase}
 use Rattle.dlms_link.specs.declared.phase.Phase.TheVariants.{Closed, Connecting, Open, Closing}
 use Rattle.dlms_link.specs.declared.control.Control.{Control}
@@ -12,7 +12,7 @@ use Rattle.dlms_link.specs.declared.client_row.ClientRow.TheVariants.{Takes, Tak
 use Rattle.dlms_link.specs.Octet.{control_of, next}
 use Rattle.dlms_link.specs.Kept.{Kept, Fresh, Good, TooLong, BadStart, kept_after, from_meter}
 use Rattle.dlms_link.specs.Client.{ClientRecord, by_way, client_ready, client_segment, client_step, client_timeout, is_answer, on_control, on_counted, on_ua, takes, way_of}
-use Rattle.dlms_link.specs.Between.{IsByWay, Heard, Comes, Silence, ClientGoes, NothingHeard, ClientTakes, ClientSends, ClientAnswersAgain, ClientPasses, ClientWaits, ClientGoesOn, ClientBeginsAnew, EndsIt, IsAnewForClient, client_hears}
+use Rattle.dlms_link.specs.Between.{IsByWay, Heard, Comes, Silence, NothingHeard, ClientTakes, ClientSends, ClientAnswersAgain, ClientPasses, ClientWaits, ClientGoesOn, ClientBeginsAnew, EndsIt, IsAnewForClient, client_hears}
 use Rattle.dlms_link.proofs.Passing.{by_way_of}
 
 -- what a frame is to the client

@@ -12,7 +12,7 @@ use crate::phase::Phase;
 use crate::segments::{MOST_BYTES, cut};
 use crate::server::is_client;
 use arrayvec::ArrayVec;
-use dlms_frame::{Address, Client, Frame};
+use dlms_frame::{Address, Client, Frame, SentFrame};
 use std::marker::Model;
 
 /// Nobody answers.
@@ -26,7 +26,7 @@ pub struct ClientLink {
     phase: Phase,
     send_next: u8,
     receive_next: u8,
-    waits: Option<Frame>,
+    waits: Option<SentFrame>,
     repeats: u8,
     kept: Assembly,
     apdu: ArrayVec<u8, MOST_APDU>,
@@ -46,11 +46,11 @@ impl Model for ClientLink {
 }
 
 /// A frame to the meter.
-fn to_meter(client: Client, control: u8, segmented: bool, bytes: &[u8]) -> Frame
-    requires { length bytes.now ≤ 2032 }
+fn to_meter(client: Client, control: u8, segmented: bool, bytes: &[u8]) -> SentFrame
+    requires { length bytes.now ≤ MOST_BYTES }
     ensures { result ≡ to_meter client control segmented bytes.now }
 {
-    Frame::new(
+    SentFrame::new(
         segmented,
         Address::One(1),
         Address::One(client.sap()),
@@ -107,7 +107,7 @@ impl ClientLink {
     }
 
     /// Asks for a connection.
-    pub fn connect(&mut self) -> Frame
+    pub fn connect(&mut self) -> SentFrame
         requires { IsDown self.old }
         ensures frame { result ≡ snrm_of self.old }
         ensures after { self.new ≡ client_connect self.old }
@@ -119,7 +119,7 @@ impl ClientLink {
     }
 
     /// Asks for the connection's end.
-    pub fn disconnect(&mut self) -> Frame
+    pub fn disconnect(&mut self) -> SentFrame
         requires { IsIdle self.old }
         ensures frame { result ≡ disc_of self.old }
         ensures after { self.new ≡ client_disconnect self.old }
@@ -131,7 +131,7 @@ impl ClientLink {
     }
 
     /// Sends an APDU: its first segment.
-    pub fn send(&mut self, apdu: &[u8]) -> Frame
+    pub fn send(&mut self, apdu: &[u8]) -> SentFrame
         requires idle { IsIdle self.old }
         requires short { length apdu.now ≤ MOST_APDU }
         ensures frame { result ≡ (client_send self.old apdu.now).1 }
@@ -146,7 +146,7 @@ impl ClientLink {
     }
 
     /// A time-out of the frame that is out: it goes again, and the fourth in a row ends the link.
-    pub fn timeout(&mut self) -> Result<Frame, LineFault>
+    pub fn timeout(&mut self) -> Result<SentFrame, LineFault>
         requires { IsSome self.old.waits }
         ensures frame { MatchResult result (λ f. (client_timeout self.old).1 ≡ Some f) (λ _. (client_timeout self.old).1 ≡ None) }
         ensures after { self.new ≡ (client_timeout self.old).0 }
@@ -167,7 +167,7 @@ impl ClientLink {
     }
 
     /// What the link makes of a frame.
-    pub fn on(&mut self, frame: &Frame) -> ClientOut
+    pub fn on(&mut self, frame: &Frame<'_>) -> ClientOut
         ensures out { result ≡ (client_step self.old frame.now).1 }
         ensures after { self.new ≡ (client_step self.old frame.now).0 }
         ensures stands { StandsAfter self.old result self.new }
@@ -200,7 +200,7 @@ impl ClientLink {
 
     /// Whether a frame is from the meter to this client.
     #[tactic(auto, unfolding(crate::specs::Client::is_answer))]
-    fn is_answer(&self, frame: &Frame) -> bool
+    fn is_answer(&self, frame: &Frame<'_>) -> bool
         ensures { result ≡ is_answer self.now frame.now }
     {
         is_client(self.client, frame.dest) && is_server(frame.src)
@@ -232,13 +232,13 @@ impl ClientLink {
         }
     }
 
-    fn by_way(&mut self, frame: &Frame, way: ClientRow) -> ClientOut
+    fn by_way(&mut self, frame: &Frame<'_>, way: ClientRow) -> ClientOut
         ensures out { result ≡ (by_way self.old frame.now way).1 }
         ensures after { self.new ≡ (by_way self.old frame.now way).0 }
     {
         match way {
             ClientRow::Takes => {
-                self.kept.take(FROM_METER, frame.info.as_slice());
+                self.kept.take(FROM_METER, frame.info);
                 self.takes(frame.segmented)
             }
             ClientRow::TakenBefore => ClientOut::Send(self.ready()),
@@ -274,7 +274,7 @@ impl ClientLink {
     }
 
     /// The next segment of what is sent.
-    fn segment(&mut self) -> Frame
+    fn segment(&mut self) -> SentFrame
         ensures frame { result ≡ client_segment self.old }
         ensures after { self.new ≡ after_client_segment self.old }
     {
@@ -291,7 +291,7 @@ impl ClientLink {
     }
 
     /// An RR with the number that is expected.
-    fn ready(&mut self) -> Frame
+    fn ready(&mut self) -> SentFrame
         ensures frame { result ≡ client_ready self.old }
         ensures after { self.new ≡ out self.old (client_ready self.old) }
     {
@@ -301,7 +301,7 @@ impl ClientLink {
     }
 
     /// The frame is out.
-    fn goes_out(&mut self, frame: &Frame)
+    fn goes_out(&mut self, frame: &SentFrame)
         ensures { self.new ≡ out self.old frame.now }
     {
         self.waits = Some(frame.copy());

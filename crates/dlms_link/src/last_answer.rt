@@ -1,6 +1,6 @@
 //! What the meter answered last, to be given again.
 
-use dlms_frame::Frame;
+use dlms_frame::SentFrame;
 
 /// The last answer that was given to an I frame or RR.
 #[derive(Drop)]
@@ -8,7 +8,7 @@ pub enum Answer {
     /// None since the link came up.
     NoAnswer,
     /// A receive-ready.
-    WasReady(Frame),
+    WasReady(SentFrame),
     /// A segment of an answer.
-    WasInformation(Frame),
+    WasInformation(SentFrame),
 }

@@ -13,7 +13,7 @@ use crate::parameters::{parameters, size_of};
 use crate::segments::{MOST_BYTES, cut};
 use crate::server_row::ServerRow;
 use arrayvec::ArrayVec;
-use dlms_frame::{Address, Client, Frame};
+use dlms_frame::{Address, Client, Frame, SentFrame};
 use std::marker::Model;
 
 /// The meter's end of a client's link.
@@ -67,12 +67,12 @@ pub(crate) fn is_client(client: Client, address: Address) -> bool
 }
 
 /// A frame to the client, from the address that it spoke to.
-fn to_client(client: Client, from: Address, control: u8, segmented: bool, bytes: &[u8]) -> Frame
+fn to_client(client: Client, from: Address, control: u8, segmented: bool, bytes: &[u8]) -> SentFrame
     requires from { IsAddress from }
-    requires short { length bytes.now ≤ 2032 }
+    requires short { length bytes.now ≤ MOST_BYTES }
     ensures { result ≡ to_client client from control segmented bytes.now }
 {
-    Frame::new(segmented, Address::One(client.sap()), from, control, bytes)
+    SentFrame::new(segmented, Address::One(client.sap()), from, control, bytes)
 }
 
 /// An equal answer as what comes out.
@@ -127,7 +127,7 @@ impl ServerLink {
 
     /// The row of the table that a frame fits.
     #[tactic(auto, unfolding(crate::specs::Server::row_of))]
-    fn row(&self, frame: &Frame) -> ServerRow
+    fn row(&self, frame: &Frame<'_>) -> ServerRow
         ensures row { result ≡ row_of self.now frame.now }
         ensures size { HasSize result }
     {
@@ -136,9 +136,9 @@ impl ServerLink {
         }
         let control = read(frame.control);
         if self.up {
-            self.row_while_up(frame.segmented, frame.info.as_slice(), control)
+            self.row_while_up(frame.segmented, frame.info, control)
         } else {
-            row_while_down(frame.info.as_slice(), control)
+            row_while_down(frame.info, control)
         }
     }
 
@@ -181,7 +181,7 @@ impl ServerLink {
     }
 
     /// The next segment of the answer.
-    fn segment(&mut self, from: Address) -> Frame
+    fn segment(&mut self, from: Address) -> SentFrame
         requires { IsAddress from }
         ensures frame { result ≡ segment_of self.old from }
         ensures after { self.new ≡ after_segment self.old from }
@@ -207,7 +207,7 @@ impl ServerLink {
     }
 
     /// The answer to the APDU that was handed up: its first segment.
-    pub fn send(&mut self, answer: &[u8]) -> Frame
+    pub fn send(&mut self, answer: &[u8]) -> SentFrame
         requires waits { IsSome self.old.waits }
         requires short { length answer.now ≤ MOST_APDU }
         ensures frame { result ≡ (server_send self.old answer.now).1 }
@@ -225,7 +225,7 @@ impl ServerLink {
     }
 
     /// What the link makes of a frame.
-    pub fn on(&mut self, frame: &Frame) -> LinkOut
+    pub fn on(&mut self, frame: &Frame<'_>) -> LinkOut
         requires { self.old.waits ≡ None }
         ensures out { result ≡ (server_on self.old frame.now).1 }
         ensures after { self.new ≡ (server_on self.old frame.now).0 }
@@ -246,7 +246,7 @@ impl ServerLink {
     }
 
     /// The link comes up.
-    fn connects(&mut self, frame: &Frame, size: u8) -> LinkOut
+    fn connects(&mut self, frame: &Frame<'_>, size: u8) -> LinkOut
         requires least { 32 ≤ size }
         requires most { size ≤ MOST_BYTES }
         requires idle { self.old.waits ≡ None }
@@ -259,7 +259,7 @@ impl ServerLink {
     }
 
     /// The link is down, or comes down for an SNRM that can't be met.
-    fn refuses(&mut self, frame: &Frame) -> LinkOut
+    fn refuses(&mut self, frame: &Frame<'_>) -> LinkOut
         ensures out { result ≡ (by_row self.old frame.now ServerRow.Refuses).1 }
         ensures after { self.new ≡ (by_row self.old frame.now ServerRow.Refuses).0 }
     {
@@ -268,7 +268,7 @@ impl ServerLink {
     }
 
     /// The link comes down, as the client wants it.
-    fn disconnects(&mut self, frame: &Frame) -> LinkOut
+    fn disconnects(&mut self, frame: &Frame<'_>) -> LinkOut
         ensures out { result ≡ (by_row self.old frame.now ServerRow.Disconnects).1 }
         ensures after { self.new ≡ (by_row self.old frame.now ServerRow.Disconnects).0 }
     {
@@ -277,24 +277,24 @@ impl ServerLink {
     }
 
     /// A segment is kept.
-    fn keeps(&mut self, frame: &Frame) -> LinkOut
+    fn keeps(&mut self, frame: &Frame<'_>) -> LinkOut
         ensures out { result ≡ (by_row self.old frame.now ServerRow.Keeps).1 }
         ensures after { self.new ≡ (by_row self.old frame.now ServerRow.Keeps).0 }
     {
         self.receive_next = next(self.receive_next);
         self.took_information = true;
-        self.kept.take(FROM_CLIENT, frame.info.as_slice());
+        self.kept.take(FROM_CLIENT, frame.info);
         LinkOut::Reply(self.ready(frame.dest))
     }
 
     /// The APDU is whole, and is handed up.
-    fn hands_up(&mut self, frame: &Frame) -> LinkOut
+    fn hands_up(&mut self, frame: &Frame<'_>) -> LinkOut
         ensures out { result ≡ (by_row self.old frame.now ServerRow.HandsUp).1 }
         ensures after { self.new ≡ (by_row self.old frame.now ServerRow.HandsUp).0 }
     {
         self.receive_next = next(self.receive_next);
         self.took_information = true;
-        self.kept.take(FROM_CLIENT, frame.info.as_slice());
+        self.kept.take(FROM_CLIENT, frame.info);
         let told = self.kept.told();
         self.kept.give(&mut self.apdu);
         self.unsent.clear();
@@ -303,7 +303,7 @@ impl ServerLink {
     }
 
     /// The next segment of the answer goes out.
-    fn sends_next(&mut self, frame: &Frame) -> LinkOut
+    fn sends_next(&mut self, frame: &Frame<'_>) -> LinkOut
         ensures out { result ≡ (by_row self.old frame.now ServerRow.SendsNext).1 }
         ensures after { self.new ≡ (by_row self.old frame.now ServerRow.SendsNext).0 }
     {
@@ -312,7 +312,7 @@ impl ServerLink {
     }
 
     /// No segment is left: an RR goes out.
-    fn says_ready(&mut self, frame: &Frame) -> LinkOut
+    fn says_ready(&mut self, frame: &Frame<'_>) -> LinkOut
         ensures out { result ≡ (by_row self.old frame.now ServerRow.SaysReady).1 }
         ensures after { self.new ≡ (by_row self.old frame.now ServerRow.SaysReady).0 }
     {
@@ -321,7 +321,7 @@ impl ServerLink {
     }
 
     /// An RR, as the last answer.
-    fn ready(&mut self, from: Address) -> Frame
+    fn ready(&mut self, from: Address) -> SentFrame
         requires { IsAddress from }
         ensures frame { result ≡ ready_frame self.old from }
         ensures after { self.new ≡ record self.old { last = Answer.WasReady (ready_frame self.old from) } }

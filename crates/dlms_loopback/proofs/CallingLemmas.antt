@@ -100,12 +100,12 @@ listens_more old now new h world head head' rest left act s does listens none ad
 
 -- bytes that end no frame
 pub fed_skip : {A : Type 0} (old now : Option (List Moment)) (start head head' : HeadEnd A) (bytes rest piece left : List ℕ)
-    → piece ++ left ≡ rest → HeadFed old now start head bytes rest → TakesBytes head.deframer piece None head'.deframer → head'.poller ≡ head.poller → head'.left ≡ head.left → HeadFed old now start head' bytes left
+    → piece ++ left ≡ rest → HeadFed old now start head bytes rest → TakesBytes head.deframer.bytes piece None head'.deframer.bytes → head'.poller ≡ head.poller → head'.left ≡ head.left → HeadFed old now start head' bytes left
 fed_skip old now start head head' bytes rest piece left cut so_far takes poller may h at taken =
     let s = so_far h at taken in
     let fits = takes s.world.stretch s.world.place s.at.line in
     let next : HeadWorld = record { rest = left; stretch = s.world.stretch ++ piece; place = s.world.place; left = s.world.left; poller = s.world.poller } in
-    let skip : IsSkip s.world piece next = record { rest = left; cut = cut ∙ sym s.taken; none = none_ended head'.deframer (s.world.stretch ++ piece) s.world.place fits; after = refl } in
+    let skip : IsSkip s.world piece next = record { rest = left; cut = cut ∙ sym s.taken; none = none_ended head'.deframer.bytes (s.world.stretch ++ piece) s.world.place fits; after = refl } in
     listens_more old now now h next head head' rest left (Skips piece) s skip (tt, tt) refl (adds_none now) (record { line = fits; poller = poller ∙ s.at.poller; left = may ∙ s.at.left }) refl
 
 -- a frame, as the poller is given it
@@ -115,7 +115,7 @@ pub record Heard (world : HeadWorld) (piece left kept : List ℕ) (frame : Parts
   pub line : Fits kept (world.stretch ++ piece) to
 
 hears : {A : Type 0} (head : HeadEnd A) (world : HeadWorld) (rest piece left kept : List ℕ) (frame : Parts) (given : Result PollStep PollFault) (after : PollerValue)
-    → IsAt head world → world.rest ≡ rest → piece ++ left ≡ rest → TakesBytes head.deframer piece (Some frame) kept → IsCall head.poller (On frame given) after → Heard world piece left kept frame given after
+    → IsAt head world → world.rest ≡ rest → piece ++ left ≡ rest → TakesBytes head.deframer.bytes piece (Some frame) kept → IsCall head.poller (On frame given) after → Heard world piece left kept frame given after
 hears head world rest piece left kept frame given after at taken cut takes call =
     let now = takes world.stretch world.place at.line in
     record {
@@ -136,7 +136,7 @@ hears head world rest piece left kept frame given after at taken cut takes call 
 
 -- one of which nothing is made
 heard_none : {A : Type 0} (old now new : Option (List Moment)) (h : HeadWorld) (head head' : HeadEnd A) (rest piece left kept : List ℕ) (frame : Parts) (given : Result PollStep PollFault)
-    → piece ++ left ≡ rest → TakesBytes head.deframer piece (Some frame) kept → IsCall head.poller (On frame given) head'.poller → head'.deframer ≡ kept → head'.left ≡ head.left
+    → piece ++ left ≡ rest → TakesBytes head.deframer.bytes piece (Some frame) kept → IsCall head.poller (On frame given) head'.poller → head'.deframer.bytes ≡ kept → head'.left ≡ head.left
     → Listening old now h head rest → Gives now new given (Ok None) head'.poller → Listening old new h head' left
 heard_none old now new h head head' rest piece left kept frame (Ok step.Nothing) cut takes call same may s (told, adds) =
     let k = hears head s.world rest piece left kept frame (Ok step.Nothing) head'.poller s.at s.taken cut takes call in
@@ -148,7 +148,7 @@ heard_none old now new h head head' rest piece left kept frame (Ok step.Done) cu
 heard_none old now new h head head' rest piece left kept frame (Err e) cut takes call same may s (told, adds) = absurd (cc told)
 
 pub fed_none : {A : Type 0} (old now new : Option (List Moment)) (start head head' : HeadEnd A) (bytes rest piece left kept : List ℕ) (frame : Parts)
-    → piece ++ left ≡ rest → HeadFed old now start head bytes rest → TakesBytes head.deframer piece (Some frame) kept → TakesFrame now new head.poller frame (Ok None) head'.poller → head'.deframer ≡ kept → head'.left ≡ head.left
+    → piece ++ left ≡ rest → HeadFed old now start head bytes rest → TakesBytes head.deframer.bytes piece (Some frame) kept → TakesFrame now new head.poller frame (Ok None) head'.poller → head'.deframer.bytes ≡ kept → head'.left ≡ head.left
     → HeadFed old new start head' bytes left
 fed_none old now new start head head' bytes rest piece left kept frame cut so_far takes (given, call, gives) same may h at taken =
     heard_none old now new h head head' rest piece left kept frame given cut takes call same may (so_far h at taken) gives
@@ -160,7 +160,7 @@ ends_so old now new h head head' rest result s ends = record { front = s.acts; m
 
 -- one that is answered, or at which the poll is done
 heard_some : {A : Type 0} (old now new : Option (List Moment)) (h : HeadWorld) (head head' : HeadEnd A) (rest piece left kept : List ℕ) (frame : Parts) (given : Result PollStep PollFault) (turn : Turn)
-    → piece ++ left ≡ rest → TakesBytes head.deframer piece (Some frame) kept → IsCall head.poller (On frame given) head'.poller → Fits head'.deframer [] 0 → head'.left ≡ head.left
+    → piece ++ left ≡ rest → TakesBytes head.deframer.bytes piece (Some frame) kept → IsCall head.poller (On frame given) head'.poller → Fits head'.deframer.bytes [] 0 → head'.left ≡ head.left
     → Listening old now h head rest → Gives now new given (Ok (Some turn)) head'.poller → Turned 0 old new h head' (Ok turn)
 heard_some old now new h head head' rest piece left kept frame (Ok step.Nothing) turn cut takes call idle may s (told, adds) = absurd (cc told)
 heard_some old now new h head head' rest piece left kept frame (Ok (step.Send f)) Sent cut takes call idle may s (told, adds) =
@@ -189,8 +189,8 @@ heard_some old now new h head head' rest piece left kept frame (Ok step.Done) Do
 heard_some old now new h head head' rest piece left kept frame (Err e) turn cut takes call idle may s (told, adds) = absurd (cc told)
 
 pub fed_some : {A : Type 0} (old now new : Option (List Moment)) (start head head' : HeadEnd A) (bytes rest piece left kept : List ℕ) (frame : Parts) (after : PollerValue) (turn : Turn)
-    → piece ++ left ≡ rest → HeadFed old now start head bytes rest → TakesBytes head.deframer piece (Some frame) kept → TakesFrame now new head.poller frame (Ok (Some turn)) after → after ≡ head'.poller
-    → Fits head'.deframer [] 0 → head'.left ≡ head.left → (h : HeadWorld) → IsAt start h → h.rest ≡ bytes → Turned 0 old new h head' (Ok turn)
+    → piece ++ left ≡ rest → HeadFed old now start head bytes rest → TakesBytes head.deframer.bytes piece (Some frame) kept → TakesFrame now new head.poller frame (Ok (Some turn)) after → after ≡ head'.poller
+    → Fits head'.deframer.bytes [] 0 → head'.left ≡ head.left → (h : HeadWorld) → IsAt start h → h.rest ≡ bytes → Turned 0 old new h head' (Ok turn)
 fed_some old now new start head head' bytes rest piece left kept frame after turn cut so_far takes frame_taken same idle may h at taken =
     let f : TakesFrame now new head.poller frame (Ok (Some turn)) head'.poller = subst (λ (p : PollerValue). TakesFrame now new head.poller frame (Ok (Some turn)) p) same frame_taken in
     heard_some old now new h head head' rest piece left kept frame f.0 turn cut takes f.1 idle may (so_far h at taken) f.2
@@ -210,7 +210,7 @@ fails_told old new h after poll.Columns r = (r, refl)
 fails_told old new h after poll.Memory r = AtFrame (λ e. cc) r
 
 heard_err : {A : Type 0} (old now new : Option (List Moment)) (h : HeadWorld) (head head' : HeadEnd A) (rest piece left kept : List ℕ) (frame : Parts) (given : Result PollStep PollFault) (fault : LoopFault)
-    → piece ++ left ≡ rest → TakesBytes head.deframer piece (Some frame) kept → IsCall head.poller (On frame given) head'.poller
+    → piece ++ left ≡ rest → TakesBytes head.deframer.bytes piece (Some frame) kept → IsCall head.poller (On frame given) head'.poller
     → Listening old now h head rest → Gives now new given (Err fault) head'.poller → Turned 0 old new h head' (Err fault)
 heard_err old now new h head head' rest piece left kept frame (Ok step.Nothing) fault cut takes call s (told, adds) = absurd (cc told)
 heard_err old now new h head head' rest piece left kept frame (Ok (step.Send f)) fault cut takes call s (is, (part, missing, begins, adds)) =
@@ -243,7 +243,7 @@ heard_err old now new h head head' rest piece left kept frame (Err e) fault cut 
     ends_so old now new h head head' rest (Err fault) s (subst (λ (f : LoopFault). Fails 0 now new s.world head'.poller f) (sym same) (fails_told now new s.world head'.poller e refuses))
 
 pub fed_err : {A : Type 0} (old now new : Option (List Moment)) (start head head' : HeadEnd A) (bytes rest piece left kept : List ℕ) (frame : Parts) (fault : LoopFault)
-    → piece ++ left ≡ rest → HeadFed old now start head bytes rest → TakesBytes head.deframer piece (Some frame) kept → TakesFrame now new head.poller frame (Err fault) head'.poller
+    → piece ++ left ≡ rest → HeadFed old now start head bytes rest → TakesBytes head.deframer.bytes piece (Some frame) kept → TakesFrame now new head.poller frame (Err fault) head'.poller
     → (h : HeadWorld) → IsAt start h → h.rest ≡ bytes → Turned 0 old new h head' (Err fault)
 fed_err old now new start head head' bytes rest piece left kept frame fault cut so_far takes (given, call, gives) h at taken =
     heard_err old now new h head head' rest piece left kept frame given fault cut takes call (so_far h at taken) gives
@@ -263,7 +263,7 @@ waits head h given after stands call = record { poller = after; taken = stands.t
 at_once : {A : Type 0} (old new : Option (List Moment)) (h : HeadWorld) (head' : HeadEnd A) (result : Result Turn LoopFault) → Ends 0 old new h head' result → Turned 0 old new h head' result
 at_once old new h head' result ends = record { front = []; mid = h; now = old; listens = tt; pieces = refl; did = did_none old h; ends = ends }
 
-waits_so : {A : Type 0} (old now new : Option (List Moment)) (head head' : HeadEnd A) (given : Result Parts PollFault) (result : Result Turn LoopFault) → Adds old now (Quiet ∷ []) → Fits head'.deframer [] 0 → head'.left ≡ head.left
+waits_so : {A : Type 0} (old now new : Option (List Moment)) (head head' : HeadEnd A) (given : Result Parts PollFault) (result : Result Turn LoopFault) → Adds old now (Quiet ∷ []) → Fits head'.deframer.bytes [] 0 → head'.left ≡ head.left
     → IsCall head.poller (Timeout given) head'.poller → GivesAgain now new given result → (h : HeadWorld) → IsIn head h → Ends 0 old new h head' result
 waits_so old now new head head' (Ok frame) (Ok Sent) quiet idle may call (told, adds) h stands = record {
   act = Waits (Ok frame);
@@ -293,7 +293,7 @@ waits_so old now new head head' (Err fault) result quiet idle may call (told, ad
     subst (λ (r : Result Turn LoopFault). Ends 0 old new h head' r) (sym told)
     (AtSilence (record { rest = []; stretch = []; place = 0; left = h.left; poller = head'.poller }) (waits head h (Err fault) head'.poller stands call) (adds_still old now new (Quiet ∷ []) quiet adds) refl)
 
-repeats_so : {A : Type 0} (old now new : Option (List Moment)) (head head' : HeadEnd A) (result : Result Turn LoopFault) → Adds old now (Quiet ∷ []) → Fits head'.deframer [] 0 → head'.left ≡ head.left
+repeats_so : {A : Type 0} (old now new : Option (List Moment)) (head head' : HeadEnd A) (result : Result Turn LoopFault) → Adds old now (Quiet ∷ []) → Fits head'.deframer.bytes [] 0 → head'.left ≡ head.left
     → Repeats now new head.poller result head'.poller → (h : HeadWorld) → IsIn head h → Turned 0 old new h head' result
 repeats_so old now new head head' result quiet idle may (inl is) h stands =
     let none : CanTimeOut h.poller → ⊥ = subst (λ (p : PollerValue). CanTimeOut p → ⊥) stands.at.poller is.none in
@@ -348,7 +348,7 @@ turned_behind old now new h m head' result front listens did t =
 
 -- nothing came
 pub turn_waits : {A : Type 0} (old now mid new : Option (List Moment)) (start head head' : HeadEnd A) (count : ℕ) (result : Result Turn LoopFault) → HeadSoFar old now start head count → Adds now mid (Quiet ∷ [])
-    → Fits head'.deframer [] 0 → head'.left ≡ head.left → Repeats mid new head.poller result head'.poller → (h : HeadWorld) → IsIn start h → TakesTurn old new h head' result
+    → Fits head'.deframer.bytes [] 0 → head'.left ≡ head.left → Repeats mid new head.poller result head'.poller → (h : HeadWorld) → IsIn start h → TakesTurn old new h head' result
 turn_waits old now mid new start head head' count result so_far quiet idle may again h stands =
     let s = so_far h stands in
     turned_behind old now new h s.mid head' result s.front s.listens s.did (repeats_so now mid new head head' result quiet idle may again s.mid s.stands)
@@ -361,7 +361,7 @@ gets head head' h bytes count stands long within counted =
     let may : head'.left ≡ h.left - length bytes = ap (λ (e : HeadEnd _). e.left) counted ∙ ap (λ (n : ℕ). n - count) stands.at.left ∙ ap (λ (n : ℕ). h.left - n) (sym long) in (
       next,
       record { taken = stands.taken; within = omega (arith, long, within, stands.at.left); after = refl },
-      record { line = subst (λ (t : List ℕ). Fits t h.stretch h.place) (sym (ap (λ (e : HeadEnd _). e.deframer) counted)) stands.at.line; poller = ap (λ (e : HeadEnd _). e.poller) counted ∙ stands.at.poller; left = may },
+      record { line = subst (λ (t : List ℕ). Fits t h.stretch h.place) (sym (ap (λ (e : HeadEnd _). e.deframer.bytes) counted)) stands.at.line; poller = ap (λ (e : HeadEnd _). e.poller) counted ∙ stands.at.poller; left = may },
       refl,
     )
 

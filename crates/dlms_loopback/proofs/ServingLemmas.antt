@@ -97,7 +97,7 @@ fed_all old now start meter bytes rest said none so_far w stands =
     record {
       world = here.0;
       replies = here.1;
-      comes = subst (λ (xs : List ℕ). Comes w xs here.1 here.0) front (goes_end w here.5 here.0 here.1 meter.deframer on here.2.line);
+      comes = subst (λ (xs : List ℕ). Comes w xs here.1 here.0) front (goes_end w here.5 here.0 here.1 meter.deframer.bytes on here.2.line);
       stands = here.2;
       went = here.3;
       said = here.4;
@@ -123,7 +123,7 @@ fed_part old now new start meter meter' bytes rest left count (Some given) said 
       part = broke.0;
       missing = broke.1;
       cut = taken_further here.5 (take count rest) left rest bytes cut here.6;
-      comes = goes_end w front call.0 (here.1 ++ given ∷ []) meter'.deframer on call.3.line;
+      comes = goes_end w front call.0 (here.1 ++ given ∷ []) meter'.deframer.bytes on call.3.line;
       stands = call.3;
       begins = broke.2;
       went = adds_more old now new (map Went here.1) (Broke broke.0 ∷ []) here.3 broke.3;

@@ -151,7 +151,7 @@ calls_of (act ∷ acts) = calls_by act ++ calls_of acts
 -- ---- a head end stands where acts have led
 
 pub record IsAt {A : Type 0} (head : HeadEnd A) (h : HeadWorld) : Type 0 where
-  pub line : Fits head.deframer h.stretch h.place
+  pub line : Fits head.deframer.bytes h.stretch h.place
   pub poller : head.poller ≡ h.poller
   pub left : head.left ≡ h.left
 

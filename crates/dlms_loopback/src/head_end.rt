@@ -8,7 +8,7 @@ ghost use Rattle.dlms_loopback.specs.Calling.{HeadWorld, IsAt, IsIn, Begins, Rep
 
 use crate::end::{End, Heard, PIECE, READS, bytes_of};
 use crate::fault::LoopFault;
-use dlms_frame::{Deframer, Frame};
+use dlms_frame::{Deframer, Frame, SentFrame};
 use dlms_headend::{PollFault, PollStep, Poller, list_columns};
 use std::alloc::{Allocator, Global};
 use std::io;
@@ -33,10 +33,30 @@ pub struct HeadEnd<A: Allocator = Global> {
     left: usize,
 }
 
-fn send<W: End>(end: &mut W, frame: &Frame) -> io::Result<()>
+fn send<W: End>(end: &mut W, frame: &SentFrame) -> io::Result<()>
     ensures { Puts (W.past end.old) (W.past end.new) (spelling frame.now) result }
 {
     end.put(frame.put().as_slice())
+}
+
+/// Takes a frame. Where the poll ends for the meter's columns, the answer tells which they are.
+fn take_frame<W: End, A: Allocator + Copy>(
+    poller: &mut Poller<A>,
+    end: &mut W,
+    frame: Frame<'_>,
+) -> Result<Option<Turn>, LoopFault>
+    ensures { TakesFrame (W.past end.old) (W.past end.new) poller.old frame.entry result poller.new }
+{
+    match poller.on(&frame) {
+        Ok(PollStep::Nothing) => Ok(None),
+        Ok(PollStep::Send(next)) => {
+            send(end, &next)?;
+            Ok(Some(Turn::Sent))
+        }
+        Ok(PollStep::Done) => Ok(Some(Turn::Done)),
+        Err(PollFault::Columns) => Err(LoopFault::Columns(list_columns(poller.answer()))),
+        Err(fault) => Err(LoopFault::Poll(fault)),
+    }
 }
 
 impl<A: Allocator + Copy> HeadEnd<A> {
@@ -63,26 +83,6 @@ impl<A: Allocator + Copy> HeadEnd<A> {
         self.poller
     }
 
-    /// Takes a frame. Where the poll ends for the meter's columns, the answer tells which they are.
-    fn take_frame<W: End>(&mut self, end: &mut W, frame: &Frame) -> Result<Option<Turn>, LoopFault>
-        ensures frame { TakesFrame (W.past end.old) (W.past end.new) self.old.poller frame.now result self.new.poller }
-        ensures deframer { self.new.deframer ≡ self.old.deframer }
-        ensures left { self.new.left ≡ self.old.left }
-    {
-        match self.poller.on(frame) {
-            Ok(PollStep::Nothing) => Ok(None),
-            Ok(PollStep::Send(next)) => {
-                send(end, &next)?;
-                Ok(Some(Turn::Sent))
-            }
-            Ok(PollStep::Done) => Ok(Some(Turn::Done)),
-            Err(PollFault::Columns) => {
-                Err(LoopFault::Columns(list_columns(self.poller.answer())))
-            }
-            Err(fault) => Err(LoopFault::Poll(fault)),
-        }
-    }
-
     /// Takes the frames among the bytes, up to the one that is answered or ends the poll. What stands behind it came before
     /// the question that is out now, and is dropped.
     fn take<W: End>(&mut self, end: &mut W, bytes: &[u8]) -> Result<Option<Turn>, LoopFault>
@@ -90,9 +90,9 @@ impl<A: Allocator + Copy> HeadEnd<A> {
     {
         let mut rest = bytes;
         'frames: while !rest.is_empty() {
-            let (taken, frame) = self.deframer.feed(rest);
-            match frame {
-                Some(frame) => match self.take_frame(end, &frame)? {
+            let taken = self.deframer.feed(rest);
+            match self.deframer.frame() {
+                Some(frame) => match take_frame(&mut self.poller, end, frame)? {
                     Some(turn) => {
                         self.deframer.idle();
                         return Ok(Some(turn));
@@ -124,7 +124,7 @@ impl<A: Allocator + Copy> HeadEnd<A> {
     /// Nothing came: the frame that is out goes again, and the fourth time-out in a row is a fault.
     fn repeat<W: End>(&mut self, end: &mut W) -> Result<Turn, LoopFault>
         ensures again { Repeats (W.past end.old) (W.past end.new) self.old.poller result self.new.poller }
-        ensures idle { Fits self.new.deframer [] 0 }
+        ensures idle { Fits self.new.deframer.bytes [] 0 }
         ensures left { self.new.left ≡ self.old.left }
     {
         self.deframer.idle();

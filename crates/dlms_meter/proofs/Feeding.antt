@@ -2,7 +2,7 @@
 use Rattle.std.proofs.Common.{length, ◌≤◌, ◌≡◌, inl, inr, refl, sym, ◌∙◌, ap, subst, ℕ, Bool, true, false, if◌then◌else◌, List, [], ◌∷◌, ◌++◌, Option, Some, None}
 use Rattle.std.specs.Prelude.{IfSome, ◌≢◌}
 use Rattle.dlms_frame.specs.Frame.{Parts}
-use Rattle.dlms_frame.specs.Stream.{Fits, Takes as TakesBytes}
+use Rattle.dlms_frame.specs.Stream.{Fits, Kept, Takes as TakesBytes}
 use Rattle.dlms_frame.specs.declared.client.Client.{Client}
 use Rattle.dlms_frame.specs.declared.client.Client.TheVariants.{Public, Management, Reader}
 use Rattle.dlms_link.specs.Server.{ServerRecord, server_on}
@@ -142,31 +142,31 @@ led (Some who) w f reply old new rules stands (handling, kept, others) =
 
 -- ---- calls
 
-abbrev with_kept : {P A : Type 0} → {ghosts : Ghosts P} → Meter P A ghosts → List ℕ → Meter P A ghosts
+abbrev pub with_kept : {P A : Type 0} → {ghosts : Ghosts P} → Meter P A ghosts → Kept → Meter P A ghosts
 with_kept m kept = record { alloc = m.alloc; deframer = kept; public = m.public; management = m.management; reader = m.reader; store = m.store }
 
 -- no client's record changes by what is kept of the line
-same_records : {P A : Type 0} {ghosts : Ghosts P} (m : Meter P A ghosts) (kept : List ℕ) (c : Client) → record_for m c ≡ record_for (with_kept m kept) c
+same_records : {P A : Type 0} {ghosts : Ghosts P} (m : Meter P A ghosts) (kept : Kept) (c : Client) → record_for m c ≡ record_for (with_kept m kept) c
 same_records m kept Public = refl
 same_records m kept Management = refl
 same_records m kept Reader = refl
 
 -- one that ended no frame
-pub fed_none : {P A : Type 0} {ghosts : Ghosts P} (old : Meter P A ghosts) (taken kept : List ℕ) → ((ghosts.view old.store.device).honest ≡ true → Rules (ghosts.view old.store.device))
-    → TakesBytes old.deframer taken None kept → Feeds old taken None (with_kept old kept)
+pub fed_none : {P A : Type 0} {ghosts : Ghosts P} (old : Meter P A ghosts) (taken : List ℕ) (kept : Kept) → ((ghosts.view old.store.device).honest ≡ true → Rules (ghosts.view old.store.device))
+    → TakesBytes old.deframer.bytes taken None kept.bytes → Feeds old taken None (with_kept old kept)
 fed_none old taken kept rules takes = λ w stands.
-    let fits : Fits kept (w.stretch ++ taken) w.place = takes w.stretch w.place stands.line in (
+    let fits : Fits kept.bytes (w.stretch ++ taken) w.place = takes w.stretch w.place stands.line in (
       grown w taken,
       [],
-      inl (none_ended kept (w.stretch ++ taken) w.place fits, refl, refl, refl),
+      inl (none_ended kept.bytes (w.stretch ++ taken) w.place fits, refl, refl, refl),
       record { line = fits; own = λ c. stands.own c ∙ same_records old kept c; store = stands.store },
       none w.store old.store rules stands.store,
     )
 
 -- one that ended a frame
-pub fed_one : {P A : Type 0} {ghosts : Ghosts P} (old : Meter P A ghosts) (taken kept : List ℕ) (f : Parts) (reply : Option (List ℕ)) (new : Meter P A ghosts)
+pub fed_one : {P A : Type 0} {ghosts : Ghosts P} (old : Meter P A ghosts) (taken : List ℕ) (kept : Kept) (f : Parts) (reply : Option (List ℕ)) (new : Meter P A ghosts)
     → ((ghosts.view old.store.device).honest ≡ true → Rules (ghosts.view old.store.device))
-    → TakesBytes old.deframer taken (Some f) kept → Replies (with_kept old kept) f reply new (client_at f.src) → Feeds old taken reply new
+    → TakesBytes old.deframer.bytes taken (Some f) kept.bytes → Replies (with_kept old kept) f reply new (client_at f.src) → Feeds old taken reply new
 fed_one old taken kept f reply new rules takes replies = λ w stands.
     let found = takes w.stretch w.place stands.line in
     let at : MeterWorld = record { stretch = w.stretch ++ taken; place = found.1; records = w.records; store = w.store } in
@@ -176,6 +176,6 @@ fed_one old taken kept f reply new rules takes replies = λ w stands.
       after_turn (grown w taken) turn,
       leads.steps,
       inr (turn, record { next = found.3; takes = leads.takes found.0 found.1; stored = leads.stored; run = leads.goes.run; short = leads.short }, leads.may, leads.promise, found.2, refl, refl, refl),
-      record { line = subst (λ (k : List ℕ). Fits k (w.stretch ++ taken) found.1) (sym leads.kept) found.4; own = leads.own; store = leads.goes.knows },
+      record { line = subst (λ (k : Kept). Fits k.bytes (w.stretch ++ taken) found.1) (sym leads.kept) found.4; own = leads.own; store = leads.goes.knows },
       leads.goes,
     )

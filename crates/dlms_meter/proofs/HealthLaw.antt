@@ -30,7 +30,7 @@ fed : {P A : Type 0} {ghosts : Ghosts P} (old new : Meter P A ghosts) (steps : L
 fed old new steps w taken reply w' healthy (inl (free, none, no_steps, is)) stands = (record { turns = []; answers = (free, ap listed none, is) }, tt)
 fed old new steps w taken reply w' healthy (inr (turn, is_turn, may, promise, ends, told, took, is)) stands =
     let free : HasNoFrame (after_turn (grown w taken) turn).stretch turn.to =
-    subst (λ (x : MeterWorld). HasNoFrame x.stretch x.place) is (none_ended new.deframer w'.stretch w'.place stands.line) in (
+    subst (λ (x : MeterWorld). HasNoFrame x.stretch x.place) is (none_ended new.deframer.bytes w'.stretch w'.place stands.line) in (
       record { turns = turn ∷ []; answers = (is_turn, [], ap listed told ∙ sym (append-nil (listed turn.reply)), (free, refl, is)) },
       (served old.store new.store turn.choice healthy may, tt),
     )

@@ -1,7 +1,7 @@
 -- A pulse or a moment, judged.
 use Rattle.std.proofs.Common.{◌≡◌, refl, sym, ◌∙◌, ap, subst, Bool, true, false, [], ◌∷◌, Option, Some, None, Result, Ok, Err}
 use Rattle.dlms_frame.specs.declared.client.Client.{Client}
-use Rattle.dlms_frame.specs.Stream.{Fits}
+use Rattle.dlms_frame.specs.Stream.{Fits, Kept}
 use Rattle.dlms_pages.specs.declared.device.Pages.{Ghosts}
 use Rattle.dlms_state.specs.declared.event.Event.{Event}
 use Rattle.dlms_state.specs.declared.event.Refused.{Refused}
@@ -55,7 +55,7 @@ passes result event old new is runs unrefused =
 stands_on : {P A : Type 0} {ghosts : Ghosts P} (w : MeterWorld) (now : StoreWorld) (old new : Meter P A ghosts) → Stands old w → new.deframer ≡ old.deframer → ((who : Client) → record_for old who ≡ record_for new who)
     → Knows new.store now → Stands new (with_store w now)
 stands_on w now old new stands line own knows = record {
-  line = subst (λ kept. Fits kept w.stretch w.place) (sym line) stands.line;
+  line = subst (λ (kept : Kept). Fits kept.bytes w.stretch w.place) (sym line) stands.line;
   own = λ who. stands.own who ∙ own who;
   store = knows;
 }

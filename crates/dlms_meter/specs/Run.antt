@@ -268,7 +268,7 @@ record_for m Management = m.management
 record_for m Reader = m.reader
 
 pub record Stands {P A : Type 0} {ghosts : Ghosts P} (m : Meter P A ghosts) (w : MeterWorld) : Type 0 where
-  pub line : Fits m.deframer w.stretch w.place
+  pub line : Fits m.deframer.bytes w.stretch w.place
   pub own : (who : Client) → w.records who ≡ record_for m who
   pub store : Knows m.store w.store
 

@@ -20,7 +20,7 @@ ghost use Rattle.dlms_meter.specs.Run.{Stands, Feeds, EndsFrame, Judges, MeterWo
 ghost use Rattle.dlms_meter.specs.Sparing.{SparesSlots};
 
 use crate::connection::{Connection, Reply};
-use dlms_frame::{Address, Client, Deframer, Frame};
+use dlms_frame::{Address, Client, Deframer};
 use dlms_pages::Pages;
 use dlms_state::{Event, State};
 use dlms_store::{AddFault, OpenFault, Store};
@@ -85,7 +85,7 @@ impl<P: Pages, A: Allocator + Copy> Meter<P, A> {
     /// New links over a store.
     fn over(alloc: A, store: Store<P, A>) -> Self
         ensures store { result.store ≡ store }
-        ensures line { Fits result.deframer [] 0 }
+        ensures line { Fits result.deframer.bytes [] 0 }
         ensures own { (who : Client) → fresh_record who ≡ record_for result who }
     {
         Meter {
@@ -161,9 +161,23 @@ impl<P: Pages, A: Allocator + Copy> Meter<P, A> {
         ensures spares { SparesSlots self.old.store self.new.store }
         ensures later { IsLater self.old.store self.new.store }
     {
-        let (taken, frame) = self.deframer.feed(bytes);
-        match frame {
-            Some(frame) => (taken, self.answer(&frame)),
+        let taken = self.deframer.feed(bytes);
+        let Some(frame) = self.deframer.frame() else {
+            return (taken, None);
+        };
+        match client_at(frame.src) {
+            Some(Client::Public) => {
+                let reply = self.public.answer(self.alloc, &mut self.store, &frame);
+                (taken, reply)
+            }
+            Some(Client::Management) => {
+                let reply = self.management.answer(self.alloc, &mut self.store, &frame);
+                (taken, reply)
+            }
+            Some(Client::Reader) => {
+                let reply = self.reader.answer(self.alloc, &mut self.store, &frame);
+                (taken, reply)
+            }
             None => (taken, None),
         }
     }
@@ -174,19 +188,5 @@ impl<P: Pages, A: Allocator + Copy> Meter<P, A> {
         ensures later { IsLater self.old.store self.new.store }
     {
         self.store.add(event)
-    }
-
-    /// The reply to a frame.
-    fn answer(&mut self, frame: &Frame) -> Option<Reply>
-        ensures replies { Replies self.old frame.now (option_map (λ reply. reply.items) result) self.new (client_at frame.now.src) }
-        ensures spares { SparesSlots self.old.store self.new.store }
-        ensures later { IsLater self.old.store self.new.store }
-    {
-        match client_at(frame.src) {
-            Some(Client::Public) => self.public.answer(self.alloc, &mut self.store, frame),
-            Some(Client::Management) => self.management.answer(self.alloc, &mut self.store, frame),
-            Some(Client::Reader) => self.reader.answer(self.alloc, &mut self.store, frame),
-            None => None,
-        }
     }
 }

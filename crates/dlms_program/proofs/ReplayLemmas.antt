@@ -196,7 +196,7 @@ fed_all old now start meter bytes rest none (reaches, so_far) honest w at =
     let Fault : Type 0 = MeetsFault (Some start) (Some meter) in
     let front : here.4 ≡ bytes = sym (append-nil here.4) ∙ ap (λ (t : List ℕ). here.4 ++ t) (sym (nothing_left rest none)) ∙ here.5 in
     let stands = stands_at honest meter here.0 here.2 in
-    let comes = subst (λ (xs : List ℕ). ComesOr Fault w xs here.1 here.0) front (comes_all Fault w here.4 here.0 here.1 meter.deframer here.6 stands.line) in
+    let comes = subst (λ (xs : List ℕ). ComesOr Fault w xs here.1 here.0) front (comes_all Fault w here.4 here.0 here.1 meter.deframer.bytes here.6 stands.line) in
     record {
       world = here.0;
       written = reply_lines here.1;
@@ -226,7 +226,7 @@ fed_part old now new start meter meter' bytes rest taken left reply cut (before,
     let on = goes_further (MeetsFault (Some start) (Some meter)) Fault meter meter' w here.0 call.0 here.4 taken here.1 reply call.1 (stands_at honest meter here.0 here.2)
     (fault_first (Some start) (Some meter) (Some meter') last)
     (λ ill. fault_last (Some start) (Some meter) (Some meter') before (fault_in_call meter meter' (FedCall taken reply) feeds ill)) here.6 call.2 in
-    let comes = subst (λ (rs : List (List ℕ)). ComesOr Fault w front rs call.0) replies (comes_all Fault w front call.0 (here.1 ++ listed reply) meter'.deframer on call.3.line) in
+    let comes = subst (λ (rs : List (List ℕ)). ComesOr Fault w front rs call.0) replies (comes_all Fault w front call.0 (here.1 ++ listed reply) meter'.deframer.bytes on call.3.line) in
     record {
       world = call.0;
       before = reply_lines here.1;

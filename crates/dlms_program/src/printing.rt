@@ -17,10 +17,7 @@ use std::alloc::Allocator;
 use std::io;
 
 /// The most hexadecimal digits of a reply.
-const MOST_DIGITS: usize = 4098;
-
-/// The most hexadecimal digits of a short reply: the meter sends at most 128 bytes of information in a frame.
-const SHORT_DIGITS: usize = 512;
+const MOST_DIGITS: usize = 320;
 
 /// The most bytes of a line but a reply's.
 const MOST_LINE: usize = 128;
@@ -58,7 +55,7 @@ pub fn put<W: Sink>(bytes: &[u8], writer: &mut W) -> io::Result<()>
 /// Writes a reply frame in hexadecimal digits, as `< 7ea0..`, through a buffer of `ROOM` digits.
 fn write_digits<const ROOM: usize, W: Sink>(bytes: &[u8], writer: &mut W) -> io::Result<()>
     requires fits { 2 * length bytes.now ≤ ROOM }
-    requires small { ROOM ≤ 4098 }
+    requires small { ROOM ≤ 320 }
     ensures bytes { Writes (W.contents writer.old) (W.contents writer.new) (reply_line bytes.now) result }
     ensures calls { Called 0 (W.calls writer.old) (W.calls writer.new) result }
 {
@@ -76,11 +73,7 @@ fn write_reply<W: Sink>(reply: &Reply, writer: &mut W) -> io::Result<()>
     ensures calls { Called 0 (W.calls writer.old) (W.calls writer.new) result }
 {
     let bytes = reply.as_slice();
-    if 2 * bytes.len() <= SHORT_DIGITS {
-        write_digits::<SHORT_DIGITS, W>(bytes, writer)
-    } else {
-        write_digits::<MOST_DIGITS, W>(bytes, writer)
-    }
+    write_digits::<MOST_DIGITS, W>(bytes, writer)
 }
 
 /// Writes the reply, if there is one.

@@ -19,7 +19,7 @@ pub struct Heading {
 }
 
 /// The head of a frame.
-pub fn heading_of(frame: &Frame) -> Heading
+pub fn heading_of(frame: &Frame<'_>) -> Heading
     ensures { result ≡ heading_of frame.now }
 {
     Heading {

@@ -73,7 +73,7 @@ pub fn lower(address: Address) -> Option<u16>
 }
 
 /// Who sends the frame, told by the forms of its addresses: a client's has one byte.
-fn side_by_form(frame: &Frame) -> Option<Side>
+fn side_by_form(frame: &Frame<'_>) -> Option<Side>
     ensures { result ≡ side_by_form frame.now }
 {
     match (lower(frame.dest), lower(frame.src)) {
@@ -84,7 +84,7 @@ fn side_by_form(frame: &Frame) -> Option<Side>
 }
 
 /// Who sends the frame, told by which address is that of a meter's management.
-fn side_by_number(frame: &Frame) -> Option<Side>
+fn side_by_number(frame: &Frame<'_>) -> Option<Side>
     ensures { result ≡ side_by_management frame.now }
 {
     match (upper(frame.dest), upper(frame.src)) {
@@ -96,7 +96,7 @@ fn side_by_number(frame: &Frame) -> Option<Side>
 }
 
 /// Who sends the frame, told by what it says.
-fn side_by_content(frame: &Frame) -> Option<Side>
+fn side_by_content(frame: &Frame<'_>) -> Option<Side>
     ensures { result ≡ side_by_content frame.now }
 {
     match read(frame.control) {
@@ -104,7 +104,7 @@ fn side_by_content(frame: &Frame) -> Option<Side>
         Control::Ua | Control::Dm | Control::Frmr => return Some(Side::Meter),
         _ => {}
     }
-    match frame.info.as_slice() {
+    match frame.info {
         [_, FROM_CLIENT, 0, ..] => Some(Side::Client),
         [_, FROM_METER, 0, ..] => Some(Side::Meter),
         _ => None,
@@ -112,7 +112,7 @@ fn side_by_content(frame: &Frame) -> Option<Side>
 }
 
 /// Who sends the frame: the side that the line says, or else what its addresses and its content tell.
-pub fn side_of(said: Option<Side>, frame: &Frame) -> Option<Side>
+pub fn side_of(said: Option<Side>, frame: &Frame<'_>) -> Option<Side>
     ensures { result ≡ side_of said frame.now }
 {
     said.or(side_by_form(frame))
@@ -121,7 +121,7 @@ pub fn side_of(said: Option<Side>, frame: &Frame) -> Option<Side>
 }
 
 /// The two ends of a frame that this side sends; where it is not known, it is taken as the client's.
-pub fn parties_of(side: Option<Side>, frame: &Frame) -> Parties
+pub fn parties_of(side: Option<Side>, frame: &Frame<'_>) -> Parties
     ensures { result ≡ parties_of side frame.now }
 {
     match side {

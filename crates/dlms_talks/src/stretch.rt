@@ -16,8 +16,8 @@ const MOST_KEPT: usize = 4096;
 
 /// A frame, and how many of the kept bytes stand before it.
 #[derive(Drop)]
-pub struct Found {
-    pub frame: Frame,
+pub struct Found<'a> {
+    pub frame: Frame<'a>,
     pub before: usize,
 }
 
@@ -33,7 +33,7 @@ pub struct Stretch<A: Allocator> {
 impl<A: Allocator> Stretch<A> {
     /// At the start of a stretch.
     pub fn new(alloc: A) -> Self
-        ensures fits { Fits result.deframer [] 0 }
+        ensures fits { Fits result.deframer.bytes [] 0 }
         ensures kept { result.kept.items ≡ [] }
         ensures place { result.place ≡ 0 }
         ensures told { result.told ≡ 0 }
@@ -48,7 +48,7 @@ impl<A: Allocator> Stretch<A> {
 
     /// A new stretch begins.
     pub fn reset(&mut self)
-        ensures fits { Fits self.new.deframer [] 0 }
+        ensures fits { Fits self.new.deframer.bytes [] 0 }
         ensures kept { self.new.kept.items ≡ [] }
         ensures place { self.new.place ≡ 0 }
         ensures told { self.new.told ≡ 0 }
@@ -61,31 +61,36 @@ impl<A: Allocator> Stretch<A> {
 
     /// Takes bytes up to the closing flag of the next frame, or all of them, and says how many. Memory is wanted only where there
     /// are bytes; where it is refused none of them is kept.
-    pub fn feed(&mut self, bytes: &[u8]) -> Result<(usize, Option<Found>), AllocError>
-        ensures some { IfOk result (λ fed. 0 < length bytes.now → 0 < fed.0) }
-        ensures within { IfOk result (λ fed. fed.0 ≤ length bytes.now) }
+    pub fn feed(&mut self, bytes: &[u8]) -> Result<usize, AllocError>
+        ensures some { IfOk result (λ fed. 0 < length bytes.now → 0 < fed) }
+        ensures within { IfOk result (λ fed. fed ≤ length bytes.now) }
         // The frame is the next one of the stretch.
-        ensures takes { IfOk result (λ fed. Takes self.old.deframer (take fed.0 bytes.now) (option_map (λ found. found.frame) fed.1) self.new.deframer) }
-        ensures all { IfOk result (λ fed. IfNone fed.1 (fed.0 ≡ length bytes.now)) }
-        ensures kept { IfOk result (λ fed. self.new.kept.items ≡ self.old.kept.items ++ take fed.0 bytes.now) }
-        // A frame has its two flags besides.
-        ensures before { IfOk result (λ fed. IfSome fed.1 (λ found. found.before ≡ length self.new.kept.items - frame_len found.frame - 2)) }
+        ensures takes { IfOk result (λ fed. Takes self.old.deframer.bytes (take fed bytes.now) self.new.deframer.frame self.new.deframer.bytes) }
+        ensures all { IfOk result (λ fed. IfNone self.new.deframer.frame (fed ≡ length bytes.now)) }
+        ensures kept { IfOk result (λ fed. self.new.kept.items ≡ self.old.kept.items ++ take fed bytes.now) }
         ensures err { OnErr result (self.new.kept.items ≡ self.old.kept.items) }
         ensures memory { IsErr result → 0 < length bytes.now }
         ensures place { self.new.place ≡ self.old.place }
         ensures told { self.new.told ≡ self.old.told }
     {
-        let (taken, frame) = self.deframer.feed(bytes);
+        let taken = self.deframer.feed(bytes);
         self.kept.extend_from_slice(&bytes[..taken])?;
-        let Some(frame) = frame else {
-            return Ok((taken, None));
-        };
+        Ok(taken)
+    }
+
+    /// The frame that the last call of `feed` ended, if it ended one.
+    pub fn found(&self) -> Option<Found<'_>>
+        ensures frame { option_map (λ found. found.frame) result ≡ self.now.deframer.frame }
+        // A frame has its two flags besides.
+        ensures before { IfSome result (λ found. found.before ≡ length self.now.kept.items - frame_len found.frame - 2) }
+    {
+        let frame = self.deframer.frame()?;
         let before = self
             .kept
             .len()
             .saturating_sub(frame.len())
             .saturating_sub(2);
-        Ok((taken, Some(Found { frame, before })))
+        Some(Found { frame, before })
     }
 
     /// The kept bytes before this many that were not told yet, and the place in the stretch where they begin.

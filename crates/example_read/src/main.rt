@@ -5,7 +5,7 @@ use anyhow::{Result, anyhow};
 use arrayvec::ArrayVec;
 use dlms_apdu::{Request, Response, read_response, write_request};
 use dlms_data::{Data, Descriptor};
-use dlms_frame::{Address, Deframer, Frame};
+use dlms_frame::{Address, Deframer, SentFrame};
 use std::alloc::Global;
 
 /// The value (attribute 2) of the register (class 3) of energy imported.
@@ -16,7 +16,7 @@ const ENERGY: Descriptor = Descriptor {
 };
 
 /// A frame that asks for it: to the meter's address 1, from the public client's 16.
-fn question(alloc: Global) -> Result<Frame> {
+fn question(alloc: Global) -> Result<SentFrame> {
     let request: Request<'_, Global> = Request::GetNormal {
         invoke: 0xc1,
         descriptor: ENERGY,
@@ -29,7 +29,7 @@ fn question(alloc: Global) -> Result<Frame> {
     if !fits {
         return Err(anyhow!("the request is too long"));
     }
-    Ok(Frame::new(
+    Ok(SentFrame::new(
         false,
         Address::One(1),
         Address::One(16),
@@ -40,9 +40,10 @@ fn question(alloc: Global) -> Result<Frame> {
 
 /// The number in a frame that answers it, behind the three bytes of the LLC.
 fn answer(alloc: Global, bytes: &[u8]) -> Option<u32> {
-    let (_, frame) = Deframer::new().feed(bytes);
-    let frame = frame?;
-    let apdu = frame.info.as_slice().get(3..)?;
+    let mut deframer = Deframer::new();
+    let _taken = deframer.feed(bytes);
+    let frame = deframer.frame()?;
+    let apdu = frame.info.get(3..)?;
     match read_response(alloc, apdu) {
         Ok(
             Response::GetData {

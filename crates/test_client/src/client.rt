@@ -3,7 +3,7 @@
 use crate::plan::SECRET;
 use arrayvec::ArrayVec;
 use dlms_acse::{Conformance, write_aarq};
-use dlms_frame::{Client, Deframer, Frame};
+use dlms_frame::{Client, Deframer, SentFrame};
 use dlms_link::{ClientLink, ClientOut};
 use dlms_meter::Meter;
 use dlms_pages::Pages;
@@ -26,12 +26,15 @@ fn size_of(client: Client) -> u16 {
 /// The meter's reply to a frame; none where it has none.
 pub fn reply_to<P: Pages, A: Allocator + Copy>(
     meter: &mut Meter<P, A>,
-    frame: &Frame,
-) -> Option<Frame> {
+    frame: &SentFrame,
+) -> Option<SentFrame> {
     let bytes = frame.put();
     let (_, reply) = meter.feed(bytes.as_slice());
     let reply = reply?;
-    Deframer::new().feed(reply.as_slice()).1
+    let mut deframer = Deframer::new();
+    let _taken = deframer.feed(reply.as_slice());
+    let frame = deframer.frame()?;
+    frame.owned()
 }
 
 /// Sends an APDU of at most 1024 bytes, and takes its answer, in as many frames as it comes in; none where the link is busy or no
@@ -47,7 +50,7 @@ pub fn exchange<P: Pages, A: Allocator + Copy>(
     let mut frame = link.send(apdu);
     'frames: for _ in 0..32u8 {
         let reply = reply_to(meter, &frame)?;
-        match link.on(&reply) {
+        match link.on(&reply.lent()) {
             ClientOut::Send(next) => frame = next,
             ClientOut::Apdu => {
                 let mut answer = ArrayVec::new();
@@ -77,7 +80,7 @@ pub fn associated_by<P: Pages, A: Allocator + Copy>(
     let mut link = ClientLink::new(client);
     let frame = link.connect();
     let reply = reply_to(meter, &frame)?;
-    let ClientOut::Up = link.on(&reply) else {
+    let ClientOut::Up = link.on(&reply.lent()) else {
         return None;
     };
     let request = write_aarq(client, SECRET, PROPOSED, size);

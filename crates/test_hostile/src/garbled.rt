@@ -27,9 +27,9 @@ fn are_found(stretch: &[u8]) -> bool {
     let (mut taken, mut place) = (0usize, 0usize);
     for _ in 0..=stretch.len() {
         let rest = stretch.get(taken..).unwrap_or(&[]);
-        let (count, frame) = deframer.feed(rest);
+        let count = deframer.feed(rest);
         taken = taken.saturating_add(count);
-        let (frame, begin, end) = match (frame, next_frame(stretch, place)) {
+        let (frame, begin, end) = match (deframer.frame(), next_frame(stretch, place)) {
             (None, None) => return count == rest.len(),
             (Some(frame), Some((begin, end))) => (frame.put(), begin, end),
             _ => return false,

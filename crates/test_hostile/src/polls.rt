@@ -1,7 +1,7 @@
 //! A poller and a readings file on heaps of rising sizes: each growth is refused in turn.
 
 use crate::tally::{Tally, Verdict};
-use dlms_frame::Frame;
+use dlms_frame::SentFrame;
 use dlms_headend::{Columns, PollFault, PollStep, Poller, Readings, Row};
 use dlms_meter::Meter;
 use dlms_pages::{MemoryPages, Pages};
@@ -54,7 +54,7 @@ pub fn meter_with<P: Pages + Drop, A: Allocator + Copy>(
 fn polled(
     alloc: Global,
     periods: u32,
-    replies: &mut Vec<Frame>,
+    replies: &mut Vec<SentFrame>,
 ) -> Result<Option<Poller>, AllocError> {
     let device = MemoryPages::new(alloc, PAGES)?;
     let Some(mut meter) = meter_with(alloc, device, periods) else {
@@ -68,7 +68,7 @@ fn polled(
         let Some(reply) = reply_to(&mut meter, &frame) else {
             return Ok(None);
         };
-        let step = poller.on(&reply);
+        let step = poller.on(&reply.lent());
         replies.push(reply)?;
         match step {
             Ok(PollStep::Send(next)) => frame = next,
@@ -88,13 +88,17 @@ enum Ended {
 }
 
 /// How a poll ends that is given these replies: done with its rows; or refused memory, without any, and so for good.
-fn ended_by<A: Allocator + Copy>(poller: &mut Poller<A>, replies: &[Frame], rows: usize) -> Ended {
+fn ended_by<A: Allocator + Copy>(
+    poller: &mut Poller<A>,
+    replies: &[SentFrame],
+    rows: usize,
+) -> Ended {
     if poller.next().is_none() {
         return Ended::Otherwise;
     }
     let mut is_refused = false;
     for reply in replies {
-        match poller.on(reply) {
+        match poller.on(&reply.lent()) {
             Ok(PollStep::Done) if !is_refused && are_captures(poller.rows(), rows) => {
                 return Ended::Done;
             }

@@ -50,7 +50,7 @@ fn is_polled<P: Pages + Drop, A: Allocator + Copy>(
         let Some(reply) = reply_to(meter, &frame) else {
             return false;
         };
-        match poller.on(&reply) {
+        match poller.on(&reply.lent()) {
             Ok(PollStep::Send(next)) => frame = next,
             Ok(PollStep::Done) => return are_captures(poller.rows(), rows),
             _ => return false,

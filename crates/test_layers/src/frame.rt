@@ -8,7 +8,7 @@ use crate::bench::Bench;
 use crate::fault::RowFault;
 use crate::hexadecimal::put_hex;
 use crate::words::{Words, truth_of};
-use dlms_frame::{Address, Deframer, Frame, check};
+use dlms_frame::{Address, Deframer, Frame, SentFrame, check};
 
 /// A deframer.
 #[derive(Drop)]
@@ -16,13 +16,15 @@ pub struct FrameBench {
     deframer: Deframer,
 }
 
-/// The frame of these bytes.
-pub fn frame_of(bytes: &[u8]) -> Result<Frame, RowFault> {
-    Deframer::new().feed(bytes).1.ok_or(RowFault::Form)
+/// A deframer that took these bytes, and lends the frame among them.
+pub fn deframer_of(bytes: &[u8]) -> Deframer {
+    let mut deframer = Deframer::new();
+    let _taken = deframer.feed(bytes);
+    deframer
 }
 
 /// A frame's bytes.
-pub fn put_frame(answer: &mut String, frame: &Frame) -> Result<(), RowFault> {
+pub fn put_frame(answer: &mut String, frame: &SentFrame) -> Result<(), RowFault> {
     put_hex(answer, frame.put().as_slice())
 }
 
@@ -63,12 +65,15 @@ fn put_made(words: &mut Words<'_>, answer: &mut String) -> Result<(), RowFault> 
     }
     let frame = Frame::new(segmented, dest, src, control, &info);
     put_number_and(answer, frame.len() as u64, ' ')?;
-    put_frame(answer, &frame.copy())
+    put_hex(answer, frame.put().as_slice())
 }
 
 /// The parts of a frame, as `put_made` takes them.
 fn put_parts(bytes: &[u8], answer: &mut String) -> Result<(), RowFault> {
-    let frame = frame_of(bytes)?;
+    let deframer = deframer_of(bytes);
+    let Some(frame) = deframer.frame() else {
+        return Err(RowFault::Form);
+    };
     put_shown(answer, &frame.segmented)?;
     answer.push(' ')?;
     put_shown(answer, &frame.dest)?;
@@ -76,7 +81,7 @@ fn put_parts(bytes: &[u8], answer: &mut String) -> Result<(), RowFault> {
     put_shown(answer, &frame.src)?;
     put_with_number(answer, " ", u64::from(frame.control))?;
     answer.push(' ')?;
-    put_hex(answer, frame.info.as_slice())
+    put_hex(answer, frame.info)
 }
 
 impl FrameBench {
@@ -88,10 +93,10 @@ impl FrameBench {
 
     /// How many bytes are taken, and the frame that they close.
     fn feed(&mut self, bytes: &[u8], answer: &mut String) -> Result<(), RowFault> {
-        let (taken, frame) = self.deframer.feed(bytes);
+        let taken = self.deframer.feed(bytes);
         put_number_and(answer, taken as u64, ' ')?;
-        match frame {
-            Some(frame) => put_frame(answer, &frame),
+        match self.deframer.frame() {
+            Some(frame) => put_hex(answer, frame.put().as_slice()),
             None => Ok(answer.push_str("no")?),
         }
     }
@@ -99,8 +104,9 @@ impl FrameBench {
     /// The same byte by byte: nothing for each byte that closes no frame.
     fn feed_each(&mut self, bytes: &[u8], answer: &mut String) -> Result<(), RowFault> {
         for byte in bytes {
-            if let Some(frame) = self.deframer.feed(&[*byte]).1 {
-                put_frame(answer, &frame)?;
+            let _taken = self.deframer.feed(&[*byte]);
+            if let Some(frame) = self.deframer.frame() {
+                put_hex(answer, frame.put().as_slice())?;
             }
         }
         Ok(())

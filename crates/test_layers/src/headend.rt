@@ -7,11 +7,11 @@ use crate::answers::{put_number, put_with_number};
 use crate::bench::{Bench, Room};
 use crate::events::in_place;
 use crate::fault::RowFault;
-use crate::frame::{frame_of, put_frame};
+use crate::frame::{deframer_of, put_frame};
 use crate::rows::put_values;
 use crate::words::{Words, client_of, put_truth};
 use dlms_data::LAST_SECOND;
-use dlms_frame::Frame;
+use dlms_frame::SentFrame;
 use dlms_headend::{Columns, Plan, PollFault, PollStep, Poller, Readings, ReadingsFault, Row};
 use linked_list_allocator::LocalHeap;
 
@@ -93,7 +93,7 @@ fn put_step(answer: &mut String, step: Result<PollStep, PollFault>) -> Result<()
 }
 
 /// A frame that goes out.
-fn put_sent(answer: &mut String, sent: Result<Frame, PollFault>) -> Result<(), RowFault> {
+fn put_sent(answer: &mut String, sent: Result<SentFrame, PollFault>) -> Result<(), RowFault> {
     match sent {
         Ok(frame) => put_frame(answer, &frame),
         Err(fault) => put_poll_fault(answer, fault),
@@ -113,8 +113,11 @@ fn poll_step(
             None => Ok(answer.push_str("nothing")?),
         },
         "on" => {
-            let frame = frame_of(&words.bytes()?)?;
-            put_step(answer, poller.on(&frame))
+            let deframer = deframer_of(&words.bytes()?);
+            match deframer.frame() {
+                Some(frame) => put_step(answer, poller.on(&frame)),
+                None => Err(RowFault::Form),
+            }
         }
         "timeout" if poller.is_waiting() => put_sent(answer, poller.timeout()),
         "is-waiting" => put_truth(answer, poller.is_waiting()),

@@ -4,11 +4,11 @@ ghost use Rattle.std.specs.Prelude.{◌≡◌, ◌≤◌, None, length};
 
 use crate::bench::Bench;
 use crate::fault::RowFault;
-use crate::frame::{frame_of, put_frame};
+use crate::frame::{deframer_of, put_frame};
 use crate::hexadecimal::put_hex;
 use crate::talk::put_talks;
 use crate::words::{Words, client_of};
-use dlms_frame::Frame;
+use dlms_frame::{Frame, SentFrame};
 use dlms_link::{ClientLink, ClientOut, LinkOut, ServerLink};
 
 /// A meter's link that owes no answer.
@@ -26,7 +26,7 @@ pub struct LinkBench {
 }
 
 /// A word, and a frame behind it.
-fn put_reply(answer: &mut String, word: &str, frame: &Frame) -> Result<(), RowFault> {
+fn put_reply(answer: &mut String, word: &str, frame: &SentFrame) -> Result<(), RowFault> {
     answer.push_str(word)?;
     put_frame(answer, frame)
 }
@@ -34,7 +34,7 @@ fn put_reply(answer: &mut String, word: &str, frame: &Frame) -> Result<(), RowFa
 /// The meter's reply to a frame, with this answer where an APDU waits for one.
 fn put_served(
     server: &mut IdleServer,
-    frame: &Frame,
+    frame: &Frame<'_>,
     reply: &[u8],
     answer: &mut String,
 ) -> Result<(), RowFault>
@@ -84,7 +84,13 @@ fn put_call(
             Ok(frame) => put_frame(answer, &frame),
             Err(_) => Ok(answer.push_str("fault")?),
         },
-        "hears" => put_out(answer, &client.on(&frame_of(&words.bytes()?)?)),
+        "hears" => {
+            let deframer = deframer_of(&words.bytes()?);
+            match deframer.frame() {
+                Some(frame) => put_out(answer, &client.on(&frame)),
+                None => Err(RowFault::Form),
+            }
+        }
         "heard" => put_hex(answer, client.apdu()),
         _ => Err(RowFault::Missing),
     }
@@ -112,7 +118,10 @@ impl LinkBench {
 
     /// The meter's end hears a frame.
     fn serve(&mut self, words: &mut Words<'_>, answer: &mut String) -> Result<(), RowFault> {
-        let frame = frame_of(&words.bytes()?)?;
+        let deframer = deframer_of(&words.bytes()?);
+        let Some(frame) = deframer.frame() else {
+            return Err(RowFault::Form);
+        };
         let reply = words.bytes()?;
         if reply.len() > 1024 {
             return Err(RowFault::Form);

@@ -5,7 +5,7 @@ ghost use Rattle.std.specs.Prelude.{◌≡◌, None};
 use crate::answers::{put_number, put_with_number};
 use crate::fault::RowFault;
 use arrayvec::ArrayVec;
-use dlms_frame::{Client, Deframer, Frame};
+use dlms_frame::{Client, Deframer, Frame, SentFrame};
 use dlms_link::{ClientLink, ClientOut, LinkOut, ServerLink};
 
 /// Lengths of APDUs, those round the length of a segment among them.
@@ -47,8 +47,10 @@ fn answer_of(n: usize) -> ArrayVec<u8, 1024> {
 }
 
 /// A frame as the other end finds it.
-fn over_the_line(deframer: &mut Deframer, frame: &Frame) -> Option<Frame> {
-    deframer.feed(frame.put().as_slice()).1
+fn over_the_line(deframer: &mut Deframer, frame: &SentFrame) -> Option<SentFrame> {
+    let _taken = deframer.feed(frame.put().as_slice());
+    let came = deframer.frame()?;
+    came.owned()
 }
 
 impl Course {
@@ -69,7 +71,7 @@ impl Course {
 }
 
 /// What the meter sends back: to an APDU the next answer.
-fn meter_row(meter: &mut ServerLink, frame: &Frame, course: &mut Course) -> Option<Frame>
+fn meter_row(meter: &mut ServerLink, frame: &Frame<'_>, course: &mut Course) -> Option<SentFrame>
     requires { meter.old.waits ≡ None }
     ensures { meter.new.waits ≡ None }
 {
@@ -90,7 +92,11 @@ fn meter_row(meter: &mut ServerLink, frame: &Frame, course: &mut Course) -> Opti
 }
 
 /// The client's next frame: behind an answer the next request, and behind the last one a disconnect.
-fn client_row(client: &mut ClientLink, frame: &Frame, course: &mut Course) -> Option<Frame> {
+fn client_row(
+    client: &mut ClientLink,
+    frame: &Frame<'_>,
+    course: &mut Course,
+) -> Option<SentFrame> {
     match client.on(frame) {
         ClientOut::Nothing | ClientOut::Down => None,
         ClientOut::Send(next) => Some(next),
@@ -143,20 +149,20 @@ impl Talk {
     }
 
     /// The meter's reply, where the frame arrives.
-    fn there(&mut self, frame: &Frame) -> Option<Frame> {
+    fn there(&mut self, frame: &SentFrame) -> Option<SentFrame> {
         if !self.arrives() {
             return None;
         }
         let came = over_the_line(&mut self.to_meter, frame)?;
-        meter_row(&mut self.meter, &came, &mut self.course)
+        meter_row(&mut self.meter, &came.lent(), &mut self.course)
     }
 
     /// The client's next frame, where the reply arrives; else it repeats its last one after a while.
-    fn back(&mut self, reply: Option<Frame>) -> Option<Frame> {
+    fn back(&mut self, reply: Option<SentFrame>) -> Option<SentFrame> {
         if let Some(frame) = reply {
             if self.arrives() {
                 let came = over_the_line(&mut self.to_client, &frame)?;
-                return client_row(&mut self.client, &came, &mut self.course);
+                return client_row(&mut self.client, &came.lent(), &mut self.course);
             }
         }
         if self.client.is_waiting() {

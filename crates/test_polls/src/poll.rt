@@ -23,7 +23,7 @@ pub fn polled(meter: &mut MemoryMeter, after: Option<u32>, alloc: Global) -> Opt
     let mut frame = poller.next()?;
     for _ in 0..FRAMES {
         let reply = reply_to(meter, &frame)?;
-        match poller.on(&reply) {
+        match poller.on(&reply.lent()) {
             Ok(PollStep::Send(next)) => frame = next,
             Ok(PollStep::Done) => return Some(poller),
             _ => return None,
