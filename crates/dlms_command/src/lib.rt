@@ -8,8 +8,8 @@ ghost use Rattle.dlms_program.specs.Words.{AsksBoth, IsClear, NamesNoAddress};
 
 use clap::error::ErrorKind;
 use dlms_explain::{ExplainFault, Form as ExplainForm, explain};
-use dlms_field::{Polling, Serving, Times, poll, serve};
-use dlms_loopback::loopback;
+use dlms_field::{Office, Polling, Serving, Times, poll, serve};
+use dlms_loopback::{FilePlace, loopback, sockets};
 use dlms_meter::Meter;
 use dlms_pages::{FilePages, MemoryPages, Pages};
 use dlms_plot::{Form, plot_readings};
@@ -216,7 +216,16 @@ fn run_loopback<'a, H: Net + Files<File = File> + AllocGlobal, W: Write>(
     output: &mut W,
 ) -> Result<(), Fault<'a>> {
     let mut told = None;
-    match (loopback(host, file, stops, output, &mut told), file, told) {
+    let looped = loopback(
+        host.alloc(),
+        &mut FilePlace::of(host),
+        &mut sockets(host),
+        file,
+        stops,
+        output,
+        &mut told,
+    );
+    match (looped, file, told) {
         (Ok(()), _, _) => Ok(()),
         (Err(_), Some(file), Some(error)) => Err(Fault::of_system(host.alloc(), file, &error)),
         (Err(fault), file, _) => Err(Fault::of_poll(LOOPBACK, file, fault)),
@@ -262,7 +271,7 @@ fn run_poll<'a, H: Net + Files<File = File> + Clock + AllocGlobal, W: Write, E: 
     output: &mut W,
     errors: &mut E,
 ) -> Result<(), Fault<'a>> {
-    match poll(host, polling, output, errors) {
+    match poll(host.alloc(), &mut Office::of(host), polling, output, errors) {
         Ok(()) => Ok(()),
         Err(fault) => Err(Fault::of_field(
             host.alloc(),

@@ -83,7 +83,7 @@ module _ {P A : Type 0} {ghosts : Ghosts P} where
       joined s.meter given.meter b (arrives_made s given m is_answered arrives) (checks_made rules given after is_answered now more checks)
   ends_made rules s result moments sights b ticks (LookEnds m is_answered given fault more meter t arrives fails) =
       joined s.meter given.meter b (arrives_made s given m is_answered arrives) (failed_made rules.tick given.meter b given.ticks ticks fault more fails)
-  ends_made rules s result moments sights b ticks (ReadEnds now more after ending left checks tells of_read) = checks_made rules s after _ now more checks
+  ends_made rules s result moments sights b ticks (ReadEnds now more after error ending left checks tells of_read) = checks_made rules s after _ now more checks
   ends_made rules s result moments sights b ticks (ReplyEnds reply part missing given error gives cut) = gives_made s given (Some reply) gives
   ends_made rules s result moments sights b ticks (Tires left all) = ([], refl)
 

@@ -4,7 +4,7 @@ use Rattle.std.specs.declared.io.Error.{Error}
 use Rattle.std.proofs.lemmas.Bool.{false≢true}
 use Rattle.std.proofs.lemmas.List.{append-nil, length-take-le, take-append-drop}
 use Rattle.dlms_loopback.specs.Moments.{Moment, Adds}
-use Rattle.dlms_loopback.specs.Moments.Moment.{Came, Quiet, Broke}
+use Rattle.dlms_loopback.specs.Moments.Moment.{Came, Quiet, Unheard, Broke}
 use Rattle.dlms_loopback.specs.declared.fault.LoopFault.{LoopFault}
 use Rattle.dlms_loopback.specs.declared.fault.LoopFault.TheVariants.{Io}
 use Rattle.dlms_loopback.specs.declared.meter_end.Taken.{Taken}
@@ -131,7 +131,7 @@ module _ {P A : Type 0} {ghosts : Ghosts P} where
   -- ---- a read
 
   reads_as : (rules : Rules) (p q r : Option (List Moment)) (v w x : Option (List Sight)) (s mid after : At P A ghosts) (now : ℕ) (sights : List Sight) (piece bytes : List ℕ) (count : ℕ) → mid.left ≡ []
-      → Goes rules p q v w s mid → Sees w x (Second (Some now) ∷ sights) → Checks rules mid false now sights after → Tells rules.times after.stay.turn now None → bytes ≡ take count piece → ReadsPiece {E = Error} q r (Ok count) piece
+      → Goes rules p q v w s mid → Sees w x (Second (Some now) ∷ sights) → Checks rules mid false now sights after → Tells rules.times after.stay.turn now None → bytes ≡ take count piece → ReadsPiece q r (Ok count) piece
       → Goes rules p r v x s (record after { left = bytes; reads = after.reads + 1 })
   reads_as rules p q r v w x s mid after now sights piece bytes count given goes sees checks tells is (inl adds) =
       goes_and rules p q r v w x s mid (record after { left = bytes; reads = after.reads + 1 }) (Came (take count piece) ∷ []) (Second (Some now) ∷ sights) goes
@@ -142,7 +142,7 @@ module _ {P A : Type 0} {ghosts : Ghosts P} where
 
   pub goes_reading : (rules : Rules) (p q r : Option (List Moment)) (v w x : Option (List Sight)) (s : At P A ghosts) (meter meter' : Meter P A ghosts) (ticks ticks' : Ticks) (stay stay' : Stay) (reads : ℕ) (found : Option Why)
       (piece bytes : List ℕ) (count : ℕ) → Goes rules p q v w s (at meter ticks [] stay reads) → found ≡ None → ChecksOnce rules w x (at meter ticks [] stay reads) false (Ok found) (at meter' ticks' [] stay' reads)
-      → bytes ≡ take count piece → ReadsPiece {E = Error} q r (Ok count) piece → Goes rules p r v x s (at meter' ticks' bytes stay' (reads + 1))
+      → bytes ≡ take count piece → ReadsPiece q r (Ok count) piece → Goes rules p r v x s (at meter' ticks' bytes stay' (reads + 1))
   goes_reading rules p q r v w x s meter meter' ticks ticks' stay stay' reads found piece bytes count goes none (now, sights, sees, checks, tells) is read =
       reads_as rules p q r v w x s (at meter ticks [] stay reads) (at meter' ticks' [] stay' reads) now sights piece bytes count refl goes sees checks (subst (λ (o : Option Why). Tells rules.times stay'.turn now o) none tells) is read
 
@@ -180,12 +180,12 @@ module _ {P A : Type 0} {ghosts : Ghosts P} where
   look_fails_at_read rules p q v w x s meter meter' ticks ticks' stay stay' reads fault goes (sights, sees, fails, left, staying, counted) =
       ends_so rules p q q v w x s (at meter ticks [] stay reads) (Err fault) [] sights meter' ticks' goes (LookEnds [] false (at meter ticks [] stay reads) fault sights meter' ticks' (ToRead refl) fails) (adds_none q) sees
 
-  pub read_breaks : (rules : Rules) (p q r : Option (List Moment)) (v w x : Option (List Sight)) (s : At P A ghosts) (meter meter' : Meter P A ghosts) (ticks ticks' : Ticks) (stay stay' : Stay) (reads : ℕ) (found : Option Why) (ending : Ending)
-      → Goes rules p q v w s (at meter ticks [] stay reads) → found ≡ None → ChecksOnce rules w x (at meter ticks [] stay reads) false (Ok found) (at meter' ticks' [] stay' reads) → Adds q r (Broke [] ∷ []) → IsOfRead ending
+  pub read_breaks : (rules : Rules) (p q r : Option (List Moment)) (v w x : Option (List Sight)) (s : At P A ghosts) (meter meter' : Meter P A ghosts) (ticks ticks' : Ticks) (stay stay' : Stay) (reads : ℕ) (found : Option Why) (error : Error) (ending : Ending)
+      → Goes rules p q v w s (at meter ticks [] stay reads) → found ≡ None → ChecksOnce rules w x (at meter ticks [] stay reads) false (Ok found) (at meter' ticks' [] stay' reads) → Adds q r (Unheard error ∷ []) → IsOfRead error ending
       → GoesToEnd rules p r v x s (Ok ending) meter' ticks'
-  read_breaks rules p q r v w x s meter meter' ticks ticks' stay stay' reads found ending goes none (now, sights, sees, checks, tells) adds of_read =
-      ends_so rules p q r v w x s (at meter ticks [] stay reads) (Ok ending) (Broke [] ∷ []) (Second (Some now) ∷ sights) meter' ticks' goes
-      (ReadEnds now sights (at meter' ticks' [] stay' reads) ending refl checks (subst (λ (o : Option Why). Tells rules.times stay'.turn now o) none tells) of_read) adds sees
+  read_breaks rules p q r v w x s meter meter' ticks ticks' stay stay' reads found error ending goes none (now, sights, sees, checks, tells) adds of_read =
+      ends_so rules p q r v w x s (at meter ticks [] stay reads) (Ok ending) (Unheard error ∷ []) (Second (Some now) ∷ sights) meter' ticks' goes
+      (ReadEnds now sights (at meter' ticks' [] stay' reads) error ending refl checks (subst (λ (o : Option Why). Tells rules.times stay'.turn now o) none tells) of_read) adds sees
 
   pub tires : (rules : Rules) (p q : Option (List Moment)) (v w : Option (List Sight)) (s : At P A ghosts) (meter : Meter P A ghosts) (ticks : Ticks) (stay : Stay) (reads : ℕ) → reads ≡ 2 ^ 64 - 1
       → Goes rules p q v w s (at meter ticks [] stay reads) → GoesToEnd rules p q v w s (Err Io) meter ticks

@@ -8,3 +8,4 @@ pub mod ConnectionLemmas
 pub mod CallLemmas
 pub mod ServeLemmas
 pub mod PollingLemmas
+pub mod PolledLemmas

@@ -1,6 +1,6 @@
 -- A poll over a line, until a deadline.
-use Rattle.std.proofs.Common.{refl, sym, ap, ◌∙◌, ◌≡◌, ◌+◌, ℕ, arith, List, [], ◌∷◌, ◌++◌, map, Option, Some, None, Result, Ok, Err, subst}
-use Rattle.std.specs.Prelude.{IfErr, IsErrAnd}
+use Rattle.std.proofs.Common.{refl, sym, ap, ◌∙◌, ◌≡◌, ◌+◌, ℕ, arith, List, [], ◌∷◌, ◌++◌, map, Option, Some, None, Result, Ok, Err, subst, inr}
+use Rattle.std.specs.Prelude.{IsErrAnd}
 use Rattle.std.specs.declared.io.Error.{Error}
 use Rattle.std.proofs.lemmas.List.{append-nil, length-append}
 use Rattle.dlms_frame.specs.Frame.{Parts, spelling}
@@ -11,15 +11,16 @@ use Rattle.dlms_headend.specs.declared.poll_fault.PollFault.TheVariants as poll
 use Rattle.dlms_loopback.specs.BothEnds.{CallFails, IsPolled}
 use Rattle.dlms_loopback.specs.Faults.{TellsError}
 use Rattle.dlms_loopback.specs.Moments.{Moment, Breaks}
+use Rattle.dlms_loopback.specs.Printing.{Printed, PrintsPart}
 use Rattle.dlms_loopback.specs.declared.fault.LoopFault.{LoopFault}
 use Rattle.dlms_loopback.specs.declared.fault.LoopFault.TheVariants.{Poll}
 use Rattle.dlms_loopback.specs.declared.head_end.HeadEnd.{HeadEnd}
 use Rattle.dlms_loopback.specs.declared.polling.TheConstants.{TURNS}
 use Rattle.dlms_loopback.proofs.MomentLemmas.{map_append}
 use Rattle.dlms_loopback.proofs.PollLemmas.{HeadSide, system_told}
-use Rattle.dlms_field.specs.Calling.{AreWithin, ClockFails, Does, Calls, Drives, FailsCalled, HeadFails, Looks, Tires, Unbegun}
+use Rattle.dlms_field.specs.Calling.{AreWithin, ClockFails, Does, Calls, Drives, FailsCalled, HeadFails, IsOfCall, LineFails, Looks, Polling, Tires, Unbegun}
 use Rattle.dlms_field.specs.Deadline.{IsOver}
-use Rattle.dlms_field.specs.Faults.{IsAt}
+use Rattle.dlms_field.specs.Keeping.{PrintsLine}
 use Rattle.dlms_field.specs.Watching.{Sight, Sees}
 use Rattle.dlms_field.specs.Watching.Sight.{Second}
 use Rattle.dlms_field.specs.declared.clocks.Limit.{Limit}
@@ -99,32 +100,29 @@ has_tired seconds old now v w poller head count all under =
 
 -- ---- a call
 
-pub has_done : (seconds : ℕ) (old new : Option (List Moment)) (v w : Option (List Sight)) (poller : PollerValue) (address : List ℕ) (found : Option PollerValue) → Does seconds old new v w poller (Ok found)
-    → Calls address seconds poller (Ok found)
-has_done seconds old new v w poller address (Some done) does = (old, new, does.0)
-has_done seconds old new v w poller address None does = (does.3, does.4)
+pub has_done : (address : List ℕ) (seconds : ℕ) (old new : Option (List Moment)) (v w : Option (List Sight)) (poller : PollerValue) (found : Option PollerValue) → Drives address seconds old new v w poller (Ok found)
+    → Calls address seconds old new v w poller (Ok found)
+has_done address seconds old new v w poller (Some done) drives = drives
+has_done address seconds old new v w poller None drives = Polling drives
 
-pub at_address : (address : List ℕ) (seconds : ℕ) (poller : PollerValue) (fault : FieldFault) (r : Result (Option PollerValue) FieldFault) → IsErrAnd r (λ given. given ≡ fault) → IsAt address fault → Calls address seconds poller r
-at_address address seconds poller fault (Ok found) is at = absurd is
-at_address address seconds poller fault (Err given) is at = failed given (subst (λ (f : FieldFault). IsAt address f) (sym is) at) where
-  failed : (f : FieldFault) → IsAt address f → Calls address seconds poller (Err f)
-  failed (System place error) at = at
-  failed Secret at = absurd at
-  failed (Late place deadline) at = absurd at
-  failed (Clock place clock) at = absurd at
-  failed (Other other) at = absurd at
+pub fails_so : (address : List ℕ) (seconds : ℕ) (old new : Option (List Moment)) (v w : Option (List Sight)) (poller : PollerValue) (fault : LoopFault) (given : FieldFault) → Drives address seconds old new v w poller (Err fault)
+    → IsOfCall address fault given → Calls address seconds old new v w poller (Err given)
+fails_so address seconds old new v w poller fault (System place error) drives is = (is.0, LineFails (subst (λ (f : LoopFault). Drives address seconds old new v w poller (Err f)) is.1 drives))
+fails_so address seconds old new v w poller fault Secret drives is = absurd is
+fails_so address seconds old new v w poller fault (Late place deadline) drives is = absurd is
+fails_so address seconds old new v w poller fault (Clock place why) drives is = absurd is
+fails_so address seconds old new v w poller fault (Other given) drives is = subst (λ (f : LoopFault). Drives address seconds old new v w poller (Err f)) (sym is) drives
 
-pub fails_called : (address : List ℕ) (seconds : ℕ) (limit : Option Limit) (poller : PollerValue) (fault : FieldFault) → Calls address seconds poller (Err fault) → FailsCalled address seconds limit poller fault
-fails_called address seconds limit poller (System place error) fails = fails
-fails_called address seconds limit poller Secret fails = absurd fails
-fails_called address seconds limit poller (Late place deadline) fails = absurd fails
-fails_called address seconds limit poller (Clock place clock) fails = absurd fails
-fails_called address seconds limit poller (Other fault) fails = fails
+pub fails_called : (address : List ℕ) (seconds : ℕ) (limit : Option Limit) (old new : Option (List Moment)) (v w : Option (List Sight)) (poller : PollerValue) (fault : FieldFault) → Calls address seconds old new v w poller (Err fault)
+    → FailsCalled address seconds limit old new v w poller fault
+fails_called address seconds limit old new v w poller (System place error) fails = fails
+fails_called address seconds limit old new v w poller Secret fails = absurd fails
+fails_called address seconds limit old new v w poller (Late place deadline) fails = absurd fails
+fails_called address seconds limit old new v w poller (Clock place clock) fails = absurd fails
+fails_called address seconds limit old new v w poller (Other fault) fails = fails
 
-pub fails_as : (address : List ℕ) (seconds : ℕ) (limit : Option Limit) (poller : PollerValue) (fault : FieldFault) (r : Result PollerValue FieldFault) → IsErrAnd r (λ given. given ≡ fault) → Calls address seconds poller (Err fault)
-    → IfErr r (FailsCalled address seconds limit poller)
-fails_as address seconds limit poller fault (Ok found) is fails = absurd is
-fails_as address seconds limit poller fault (Err given) is fails = fails_called address seconds limit poller given (subst (λ (f : FieldFault). Calls address seconds poller (Err f)) (sym is) fails)
+-- ---- a line of errors
 
-pub drives : (seconds : ℕ) (old new : Option (List Moment)) (v w : Option (List Sight)) (poller : PollerValue) (fault : LoopFault) → Does seconds old new v w poller (Err fault) → Drives seconds poller fault
-drives seconds old new v w poller fault fails = record { old = old; new = new; seen = v; seen' = w; fails = fails }
+pub line_part : {T : Type 0} (errors errors' : Printed) (bytes : List ℕ) (r : Result T LoopFault) (error : Error) → IsErrAnd r (TellsError error) → PrintsPart errors errors' bytes → PrintsLine errors errors' r
+line_part errors errors' bytes (Ok done) error told part = absurd told
+line_part errors errors' bytes (Err fault) error told part = inr (system_told fault error told, bytes, part)

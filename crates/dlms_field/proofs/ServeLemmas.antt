@@ -10,7 +10,8 @@ use Rattle.dlms_meter.specs.declared.meter.Meter.{Meter}
 use Rattle.dlms_pages.specs.declared.device.Pages.{Ghosts}
 use Rattle.dlms_field.specs.Connection.{LooksOnce}
 use Rattle.dlms_field.specs.HangingUp.{HangsUp}
-use Rattle.dlms_field.specs.Serving.{Bans, Closes, is_refused, IsOther, IsSystem, Passes, ServesAll, ServesMany, ServesNext, NoLook, NoneCame, OneCame, HasPassed, PortFails, ServesOne, Served, TellsOther, Visits}
+use Rattle.dlms_field.specs.Faults.{IsOther}
+use Rattle.dlms_field.specs.Serving.{Bans, Closes, is_refused, IsSystem, Passes, ServesAll, ServesMany, ServesNext, NoLook, NoneCame, OneCame, HasPassed, PortFails, ServesOne, Served, TellsOther, Visits}
 use Rattle.dlms_field.specs.Watching.{Sight, Sees}
 use Rattle.dlms_field.specs.Watching.Sight.{Second, Next, Bars, Pauses}
 use Rattle.dlms_field.specs.declared.fault.FieldFault.{FieldFault}

@@ -1,5 +1,5 @@
 -- What stands in the place of the readings, where a program polls a meter and files what it read.
-use Rattle.std.specs.Prelude.{◌≡◌, ℕ, List, [], ◌∷◌, true, Option, Ok}
+use Rattle.std.specs.Prelude.{◌≡◌, ℕ, List, [], ◌∷◌, Option, None, Ok}
 use Rattle.dlms_headend.specs.Asking.{PlanValue}
 use Rattle.dlms_headend.specs.Lines.{IsFile}
 use Rattle.dlms_headend.specs.declared.row.Row.{Row}
@@ -17,7 +17,7 @@ use Rattle.dlms_world.specs.Programs.{Held, Acts, IsFirst}
 -- each row of the text that was put there is a capture of the events that the meter holds
 pub record HoldsCaptures {P A : Type 0} {ghosts : Ghosts P} (asked asked' : Option (List Asked)) (rows : List Row) (meter : Meter P A ghosts) : Type 0 where
   pub text : List ℕ
-  pub put : Asks asked asked' (Lays text true ∷ Puts true ∷ [])
+  pub put : Asks asked asked' (Lays text None ∷ Puts None ∷ [])
   pub spelled : IsFile text rows
   pub world : MeterWorld
   pub stands : Stands meter world

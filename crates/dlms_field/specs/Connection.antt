@@ -1,10 +1,12 @@
 -- What a meter that serves does on a connection, one thing after another.
 use Rattle.std.specs.Prelude.{◌≡◌, ◌≢◌, ◌⊎◌, ◌↔◌, ◌+◌, ◌-◌, ◌^◌, ◌<◌, ◌≤◌, ℕ, Bool, true, false, IsTrue, IsSome, List, [], ◌∷◌, ◌++◌, length, max, min, take, Option, Some, None, Result, Ok, Err, if◌then◌else◌}
+use Rattle.std.specs.IoError.{error_kind}
 use Rattle.std.specs.declared.io.Error.{Error}
+use Rattle.std.specs.declared.io.ErrorKind.TheVariants.{UnexpectedEof}
 use Rattle.dlms_frame.specs.declared.client.Client.{Client}
 use Rattle.dlms_loopback.specs.Faults.{IsOfSystem}
 use Rattle.dlms_loopback.specs.Moments.{Moment, Adds, Breaks}
-use Rattle.dlms_loopback.specs.Moments.Moment.{Came, Quiet, Went, Broke}
+use Rattle.dlms_loopback.specs.Moments.Moment.{Came, Quiet, Unheard, Went, Broke}
 use Rattle.dlms_loopback.specs.declared.fault.LoopFault.{LoopFault}
 use Rattle.dlms_loopback.specs.declared.fault.LoopFault.TheVariants.{Add, Io}
 use Rattle.dlms_loopback.specs.declared.meter_end.Taken.{Taken}
@@ -158,13 +160,12 @@ ChecksOnce rules seen seen' s is_answered (Err fault) after =
 abbrev pub IsRead : Moment → List ℕ → Type 0
 IsRead (Came came) bytes = bytes ≡ came
 IsRead Quiet bytes = bytes ≡ []
-IsRead (Went out) bytes = ⊥
-IsRead (Broke part) bytes = ⊥
+IsRead _ bytes = ⊥
 
 -- one read: bytes came, or nothing did, which counts for none; or it failed
-abbrev pub ReadsPiece : {E : Type 0} → Option (List Moment) → Option (List Moment) → Result ℕ E → List ℕ → Type 0
+abbrev pub ReadsPiece : Option (List Moment) → Option (List Moment) → Result ℕ Error → List ℕ → Type 0
 ReadsPiece old new (Ok count) piece = Adds old new (Came (take count piece) ∷ []) ⊎ ((count ≡ 0) × Adds old new (Quiet ∷ []))
-ReadsPiece old new (Err e) piece = Adds old new (Broke [] ∷ [])
+ReadsPiece old new (Err e) piece = Adds old new (Unheard e ∷ [])
 
 abbrev pub goes_out : Option (List ℕ) → List Moment
 goes_out None = []
@@ -200,11 +201,11 @@ pub data Arrives {P A : Type 0} {ghosts : Ghosts P} (s : At P A ghosts) : List M
   ToRead : s.left ≡ [] → Arrives s [] false s
   Behind : (reply : Option (List ℕ)) (given : At P A ghosts) → Gives s reply given → Arrives s (goes_out reply) (has_any reply) given
 
--- of a read that failed
-abbrev pub IsOfRead : Ending → Type 0
-IsOfRead Closed = Unit {0}
-IsOfRead (Failed error) = Unit {0}
-IsOfRead (Over why) = ⊥
+-- what is told of a read that failed: that the other end closed the connection where the stream has ended, else the error
+abbrev pub IsOfRead : Error → Ending → Type 0
+IsOfRead error Closed = error_kind error ≡ UnexpectedEof
+IsOfRead error (Failed told) = (error_kind error ≢ UnexpectedEof) × (told ≡ error)
+IsOfRead error (Over why) = ⊥
 
 -- How it ends, and why: at a look at the clock its turn is over, or the look failed; a read failed; a reply did not go out whole; or it
 -- has read as often as it may.
@@ -213,8 +214,8 @@ pub data Ends {P A : Type 0} {ghosts : Ghosts P} (rules : Rules) (s : At P A gho
       → Checks rules given is_answered now sights after → Tells rules.times after.stay.turn now (Some why) → Ends rules s (Ok (Over why)) moments (Second (Some now) ∷ sights) after.meter after.ticks
   LookEnds : (moments : List Moment) (is_answered : Bool) (given : At P A ghosts) (fault : LoopFault) (sights : List Sight) (meter : Meter P A ghosts) (ticks : Ticks) → Arrives s moments is_answered given
       → LookFails rules.tick given.meter given.ticks fault sights meter ticks → Ends rules s (Err fault) moments sights meter ticks
-  ReadEnds : (now : ℕ) (sights : List Sight) (after : At P A ghosts) (ending : Ending) → s.left ≡ [] → Checks rules s false now sights after → Tells rules.times after.stay.turn now None → IsOfRead ending
-      → Ends rules s (Ok ending) (Broke [] ∷ []) (Second (Some now) ∷ sights) after.meter after.ticks
+  ReadEnds : (now : ℕ) (sights : List Sight) (after : At P A ghosts) (error : Error) (ending : Ending) → s.left ≡ [] → Checks rules s false now sights after → Tells rules.times after.stay.turn now None → IsOfRead error ending
+      → Ends rules s (Ok ending) (Unheard error ∷ []) (Second (Some now) ∷ sights) after.meter after.ticks
   ReplyEnds : (reply part missing : List ℕ) (given : At P A ghosts) (error : Error) → Gives s (Some reply) given → part ++ missing ≡ reply → Ends rules s (Ok (Failed error)) (Broke part ∷ []) [] given.meter given.ticks
   Tires : s.left ≡ [] → s.reads ≡ 2 ^ 64 - 1 → Ends rules s (Err Io) [] [] s.meter s.ticks
 

@@ -1,12 +1,16 @@
 -- Where a call of the system failed.
 use Rattle.std.specs.Prelude.{◌≡◌, ℕ, List}
+use Rattle.std.specs.declared.io.Error.{Error}
+use Rattle.dlms_loopback.specs.declared.fault.LoopFault.{LoopFault}
 use Rattle.dlms_field.specs.declared.fault.FieldFault.{FieldFault}
 use Rattle.dlms_field.specs.declared.fault.FieldFault.TheVariants.{System, Secret, Late, Clock, Other}
 
--- the system failed at this file or address
-abbrev pub IsAt : List ℕ → FieldFault → Type 0
-IsAt place (System at error) = at.now ≡ place
-IsAt place Secret = ⊥
-IsAt place (Late at seconds) = ⊥
-IsAt place (Clock at fault) = ⊥
-IsAt place (Other fault) = ⊥
+-- the system failed at this file or address with this error
+abbrev pub IsSystemAt : List ℕ → Error → FieldFault → Type 0
+IsSystemAt place error (System at told) = (at.now ≡ place) × (told ≡ error)
+IsSystemAt place error _ = ⊥
+
+-- it is this other fault
+abbrev pub IsOther : FieldFault → LoopFault → Type 0
+IsOther (Other fault) given = fault ≡ given
+IsOther _ given = ⊥

@@ -14,4 +14,5 @@ pub mod Refusals
 pub mod Watching
 pub mod Serving
 pub mod Calling
+pub mod Keeping
 pub mod Faults

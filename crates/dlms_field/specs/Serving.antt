@@ -9,11 +9,12 @@ use Rattle.dlms_loopback.specs.declared.fault.LoopFault.{LoopFault}
 use Rattle.dlms_meter.specs.declared.meter.Meter.{Meter}
 use Rattle.dlms_pages.specs.declared.device.Pages.{Ghosts}
 use Rattle.dlms_field.specs.Connection.{Connection, Looked, LookFails}
+use Rattle.dlms_field.specs.Faults.{IsOther}
 use Rattle.dlms_field.specs.HangingUp.{HangsUp}
 use Rattle.dlms_field.specs.Watching.{Sight, Sees}
 use Rattle.dlms_field.specs.Watching.Sight.{Second, Next, Prepares, Bars, Pauses}
 use Rattle.dlms_field.specs.declared.fault.FieldFault.{FieldFault}
-use Rattle.dlms_field.specs.declared.fault.FieldFault.TheVariants.{System, Other}
+use Rattle.dlms_field.specs.declared.fault.FieldFault.TheVariants.{System}
 use Rattle.dlms_field.specs.declared.talking.Ending.{Ending}
 use Rattle.dlms_field.specs.declared.talking.Ending.TheVariants.{Closed, Over, Failed}
 use Rattle.dlms_field.specs.declared.talking.Rules.{Rules}
@@ -64,10 +65,6 @@ PassesByNumber (Some number) =
 
 abbrev pub Passes : Error → Type 0
 Passes error = (error_kind error ≡ WouldBlock) ⊎ (error_kind error ≡ Interrupted) ⊎ (error_kind error ≡ ConnectionAborted) ⊎ (error_kind error ≡ ConnectionReset) ⊎ PassesByNumber (raw_os_error error)
-
-abbrev pub IsOther : FieldFault → LoopFault → Type 0
-IsOther (Other fault) given = fault ≡ given
-IsOther _ given = ⊥
 
 abbrev pub IsSystem : FieldFault → Error → Type 0
 IsSystem (System place error) given = error ≡ given

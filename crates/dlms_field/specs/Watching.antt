@@ -1,11 +1,17 @@
--- What a meter that serves asks of the world beside the line, one question after another.
+-- What a meter that serves, or a head end that polls, asks of the world beside the line, one question after another.
 use Rattle.std.specs.Prelude.{◌≡◌, ◌++◌, ℕ, Bool, true, false, List, Option, Some, None, Result, Ok, Err}
 use Rattle.std.specs.declared.io.Error.{Error}
+pub use Rattle.dlms_loopback.specs.Filing.{error_in}
 
--- The clock was looked at: so many whole seconds have gone by, or it failed. It was asked at this second whether another connection
+-- A file was read for a secret: these are its first bytes, or that failed; the clock of the day was looked at: so many seconds have gone by
+-- since 1970, or it failed; the steady clock began anew, or that failed.
+-- The steady clock was looked at: so many whole seconds have gone by, or it failed. It was asked at this second whether another connection
 -- waits; the next connection was taken at this second, if there was one, or that failed; it was made ready, or that failed; its address is
 -- not taken for a while from this second on; and a while went by.
 pub data Sight : Type 0 where
+  Reads : (file : List ℕ) (bytes : Result (List ℕ) Error) → Sight
+  Dates : (second : Result ℕ Error) → Sight
+  Starts : (failed : Option Error) → Sight
   Second : (now : Option ℕ) → Sight
   Another : (now : ℕ) (waits : Bool) → Sight
   Next : (now : ℕ) (came : Result Bool Error) → Sight
@@ -23,9 +29,9 @@ abbrev pub ok_in : {X E : Type 0} → Result X E → Option X
 ok_in (Ok x) = Some x
 ok_in (Err e) = None
 
-abbrev pub error_in : {X E : Type 0} → Result X E → Option E
-error_in (Ok x) = None
-error_in (Err e) = Some e
+abbrev pub bytes_in : {V E : Type 0} → Result V E → (V → List ℕ) → Result (List ℕ) E
+bytes_in (Ok found) bytes = Ok (bytes found)
+bytes_in (Err e) bytes = Err e
 
 abbrev pub has_any : {X : Type 0} → Option X → Bool
 has_any None = false

@@ -65,9 +65,3 @@ impl<'a, C: Clock> Deadline<'a, C> {
         Ok(left(u64::from(self.seconds), self.elapsed()?))
     }
 }
-
-impl<C: Clock> Timer for Deadline<'_, C> {
-    fn seconds(&mut self) -> io::Result<u64> {
-        self.elapsed()
-    }
-}

@@ -1,6 +1,5 @@
 //! Why a tool of the field ended early.
-ghost use Rattle.std.specs.Prelude.{◌≡◌, IfErr, IfOk, Ok};
-ghost use Rattle.dlms_field.specs.Faults.{IsAt};
+ghost use Rattle.std.specs.Prelude.{◌≡◌};
 ghost use Rattle.dlms_field.specs.declared.fault.FieldFault.TheVariants.{Other as OtherOf};
 
 use crate::clocks::ClockFault;
@@ -27,16 +26,5 @@ impl<'a> From<LoopFault> for FieldFault<'a> {
 
     fn from(fault: LoopFault) -> FieldFault<'a> {
         FieldFault::Other(fault)
-    }
-}
-
-/// The outcome of a call of the system at this file or address.
-pub fn at<'a, T: Drop>(place: &'a str, outcome: io::Result<T>) -> Result<T, FieldFault<'a>>
-    ensures told { IfErr result (IsAt place.now) }
-    ensures well { IfOk result (λ value. outcome ≡ Ok value) }
-{
-    match outcome {
-        Ok(value) => Ok(value),
-        Err(error) => Err(FieldFault::System(place, error)),
     }
 }

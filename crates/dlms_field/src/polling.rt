@@ -1,23 +1,25 @@
 //! A head end that polls the meter at an address once.
 
-ghost use Rattle.std.specs.Prelude.{◌≡◌, IfErr, IfOk, OnOk};
+ghost use Rattle.std.specs.Prelude.{◌≡◌, IfErr, IfOk, option_map};
 ghost use Rattle.dlms_headend.specs.Asking.{PlanValue};
 ghost use Rattle.dlms_headend.specs.Polling.{fresh_poll};
 ghost use Rattle.dlms_loopback.specs.BothEnds.{IsDonePoll};
 ghost use Rattle.dlms_field.specs.Calling.{FailsCalled, HasDone};
 ghost use Rattle.dlms_field.specs.Clocks.{Takes};
-ghost use Rattle.dlms_field.specs.Polled.{PrintsPoll};
+ghost use Rattle.dlms_field.specs.Polled.{IsReady, IsUnready, JudgesFiled, Known, Limits, Polls};
 
 use crate::calling::call;
-use crate::clocks::{ClockFault, Limit, first_ahead, judge, left_out};
+use crate::clocks::{ClockFault, Limit, first_ahead, judge};
+use crate::desk::{Desk, HostDesk};
 use crate::fault::FieldFault;
-use crate::keeping::{fault_of, held, opened};
+use crate::keeping::{filed, held, opened};
+use crate::phone::{Dialling, Phone};
 use crate::secret::secret_of;
+use arrayvec::ArrayVec;
 use dlms_frame::Client;
-use dlms_headend::{Poller, Row};
-use dlms_loopback::{LoopFault, file_rows, poller};
-use std::fs::{File, Files};
-use std::io::Write;
+use dlms_headend::{Poller, Readings, Row};
+use dlms_loopback::{FilePlace, Holding, HostDisk, LoopFault, Output, poller};
+use std::alloc::Global;
 use std::net::Net;
 use std::time::Clock;
 
@@ -38,24 +40,58 @@ pub struct Polling<'a> {
     pub ahead: Option<u32>,
 }
 
-/// How far a row may be past the system's clock, which is looked at now.
-fn limit<R: Clock>(rt: &R, ahead: Option<u32>) -> Result<Option<Limit>, LoopFault> {
-    match ahead {
-        Some(margin) => {
-            let now = rt.since_1970()?.as_secs();
-            Ok(Some(Limit { now, margin }))
+/// What a head end polls with: what it asks of the world, the place of its readings, and its line.
+#[derive(Drop)]
+pub struct Office<D, F, L> {
+    pub desk: D,
+    pub place: F,
+    pub line: L,
+}
+
+impl<'r, R: Net + Clock> Office<HostDesk<'r, R>, FilePlace<HostDisk<'r, R>>, Phone<'r, R>> {
+    /// The system's clocks and files, and a TCP connection that is not made yet.
+    pub fn of(rt: &'r R) -> Self {
+        Office {
+            desk: HostDesk::new(rt),
+            place: FilePlace::of(rt),
+            line: Phone::new(rt),
         }
+    }
+}
+
+/// What is read before the meter is called.
+#[derive(Drop)]
+struct Ready {
+    secret: ArrayVec<u8, 16>,
+    readings: Readings,
+    limit: Option<Limit>,
+}
+
+/// How far a row may be past the clock of the day, which is looked at now.
+fn limit<D: Desk>(desk: &mut D, ahead: Option<u32>) -> Result<Option<Limit>, LoopFault>
+    ensures { Limits ahead (D.seen desk.old) (D.seen desk.new) result }
+{
+    match ahead {
+        Some(margin) => match desk.date() {
+            Ok(now) => Ok(Some(Limit { now, margin })),
+            Err(error) => Err(LoopFault::from(error)),
+        },
         None => Ok(None),
     }
 }
 
-/// Judges the rows of the file: behind one that is too far past the system's clock nothing would be filed any more.
+/// Judges the rows of the file: behind one that is too far past the clock of the day nothing would be filed any more.
 fn judge_filed<'a>(
-    polling: &Polling<'a>,
+    file: Option<&'a str>,
     limit: Option<Limit>,
     rows: &[Row],
-) -> Result<(), FieldFault<'a>> {
-    let (Some(file), Some(limit)) = (polling.readings, limit) else {
+) -> Result<(), FieldFault<'a>>
+    ensures { JudgesFiled (option_map (λ x. x.now) file.entry) limit rows.now result }
+{
+    let Some(file) = file else {
+        return Ok(());
+    };
+    let Some(limit) = limit else {
         return Ok(());
     };
     match first_ahead(limit.now, limit.margin, rows) {
@@ -64,19 +100,59 @@ fn judge_filed<'a>(
     }
 }
 
+/// Reads the secret and the file, and judges the rows that stand there.
+fn prepared<'a, D: Desk, F: Holding>(
+    alloc: Global,
+    desk: &mut D,
+    place: &mut F,
+    polling: &Polling<'a>,
+) -> Result<Ready, FieldFault<'a>>
+    ensures ready { IfOk result (λ ready. IsReady polling.now (D.seen desk.old) (D.seen desk.new) (F.asked place.old) (F.asked place.new) ready.secret.items ready.readings ready.limit) }
+    ensures fails { IfErr result (IsUnready polling.now (D.seen desk.old) (D.seen desk.new) (F.asked place.old) (F.asked place.new)) }
+{
+    let secret = match secret_of(desk, polling.client, polling.secret_file) {
+        Ok(secret) => secret,
+        Err(fault) => return Err(fault),
+    };
+    match held(place, polling.readings) {
+        Ok(()) => {}
+        Err(fault) => return Err(fault),
+    }
+    let readings = match opened(alloc, polling.readings, place) {
+        Ok(readings) => readings,
+        Err(fault) => return Err(fault),
+    };
+    let limit = match limit(desk, polling.ahead) {
+        Ok(limit) => limit,
+        Err(fault) => return Err(FieldFault::Other(fault)),
+    };
+    match judge_filed(polling.readings, limit, readings.rows()) {
+        Ok(()) => {}
+        Err(fault) => return Err(fault),
+    }
+    Ok(Ready {
+        secret,
+        readings,
+        limit,
+    })
+}
+
 /// Polls the meter, and judges the clocks of the rows that came.
-fn called<'a, R: Net + Clock + AllocGlobal>(
-    rt: &R,
+fn called<'a, D: Desk, L: Dialling>(
+    desk: &mut D,
+    line: &mut L,
     polling: &Polling<'a>,
     poller: Poller,
     limit: Option<Limit>,
 ) -> Result<Poller, FieldFault<'a>>
-    ensures fails { IfErr result (FailsCalled polling.now.address.now polling.now.deadline limit poller) }
-    ensures takes { IfOk result (λ done. HasDone poller done × Takes limit done.talk.rows) }
+    ensures fails { IfErr result (FailsCalled polling.now.address.now polling.now.deadline limit (L.past line.old) (L.past line.new) (D.seen desk.old) (D.seen desk.new) poller) }
+    ensures takes { IfOk result (λ done. HasDone polling.now.address.now polling.now.deadline (L.past line.old) (L.past line.new) (D.seen desk.old) (D.seen desk.new) poller done × Takes limit done.talk.rows) }
     ensures done { (plan : PlanValue) → poller ≡ fresh_poll plan → IfOk result (IsDonePoll plan) }
 {
-    let Some(poller) = call(rt, polling.address, polling.deadline, poller)? else {
-        return Err(FieldFault::Late(polling.address, polling.deadline));
+    let poller = match call(desk, line, polling.address, polling.deadline, poller) {
+        Ok(Some(poller)) => poller,
+        Ok(None) => return Err(FieldFault::Late(polling.address, polling.deadline)),
+        Err(fault) => return Err(fault),
     };
     match judge(poller.rows(), limit) {
         Ok(()) => Ok(poller),
@@ -84,43 +160,44 @@ fn called<'a, R: Net + Clock + AllocGlobal>(
     }
 }
 
-/// Tells how many rows are left out, where there are any.
-fn tell<E: Write>(errors: &mut E, polling: &Polling<'_>, count: usize) -> Result<(), LoopFault> {
-    match polling.readings {
-        Some(file) if count > 0 => {
-            writeln!(
-                errors,
-                "left out {count}: not later than the last row of {file}"
-            )?;
-            Ok(())
-        }
-        _ => Ok(()),
-    }
-}
-
-/// Polls the meter at an address once over TCP, merges the rows into the file where one is named, and prints those that the file
-/// did not have. The secret and the file are read before the meter is called, and nobody else has the file until the end. Rows
-/// that do not rise, or are too far past the system's clock, are refused: nothing is filed then. How many rows are left out is
-/// told among the errors.
-pub fn poll<'a, R: Net + Files<File = File> + Clock + AllocGlobal, W: Write, E: Write>(
-    rt: &R,
+/// Polls the meter at an address once over a line, merges the rows into the file where one is named, and prints those that the
+/// file did not have. The secret and the file are read before the meter is called, and nobody else has the file until the end.
+/// Rows that do not rise, or are too far past the clock of the day, are refused: nothing is filed then. How many rows are left
+/// out is told among the errors.
+pub fn poll<'a, D: Desk, F: Holding, L: Dialling, O: Output, E: Output>(
+    alloc: Global,
+    office: &mut Office<D, F, L>,
     polling: &Polling<'a>,
-    output: &mut W,
+    output: &mut O,
     errors: &mut E,
 ) -> Result<(), FieldFault<'a>>
-    ensures { OnOk result (PrintsPoll polling.now.client (W.contents output.old) (W.contents output.new)) }
+    ensures { let before : Known = record { seen = D.seen office.old.desk; asked = F.asked office.old.place; past = L.past office.old.line; printed = O.printed output.old; errors = E.printed errors.old } in
+        let after : Known = record { seen = D.seen office.new.desk; asked = F.asked office.new.place; past = L.past office.new.line; printed = O.printed output.new; errors = E.printed errors.new } in
+        Polls polling.now before after result }
 {
-    let secret = secret_of(rt, polling.client, polling.secret_file)?;
-    let mut place = held(rt, polling.readings)?;
-    let mut readings = opened(rt.alloc(), polling.readings, &mut place)?;
-    let limit = limit(rt, polling.ahead)?;
-    judge_filed(polling, limit, readings.rows())?;
-    let poller = poller(rt.alloc(), polling.client, secret, readings.last());
-    let poller = called(rt, polling, poller, limit)?;
-    let last = readings.rows().last().copied();
-    tell(errors, polling, left_out(last, poller.rows()))?;
-    match file_rows(&mut place, &mut readings, poller.rows(), output) {
-        Ok(()) => Ok(()),
-        Err(fault) => Err(fault_of(polling.readings, fault)),
-    }
+    let ready = match prepared(alloc, &mut office.desk, &mut office.place, polling) {
+        Ok(ready) => ready,
+        Err(fault) => return Err(fault),
+    };
+    let mut readings = ready.readings;
+    let poller = poller(alloc, polling.client, ready.secret, readings.last());
+    let poller = match called(
+        &mut office.desk,
+        &mut office.line,
+        polling,
+        poller,
+        ready.limit,
+    ) {
+        Ok(poller) => poller,
+        Err(fault) => return Err(fault),
+    };
+    filed(
+        alloc,
+        &mut office.place,
+        &mut readings,
+        poller.rows(),
+        polling.readings,
+        output,
+        errors,
+    )
 }

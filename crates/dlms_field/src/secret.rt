@@ -1,9 +1,10 @@
 //! A client's secret, from a file.
 
-ghost use Rattle.std.specs.Prelude.{◌≡◌, ◌<◌, ℕ, List, [], None, length, MatchOption, MatchResult};
-ghost use Rattle.dlms_field.specs.Secret.{IsWithoutLineFeed, first_of};
+ghost use Rattle.std.specs.Prelude.{◌≡◌, ◌<◌, ℕ, List, [], Some, length, option_map, IfErr, IfOk, MatchOption};
+ghost use Rattle.dlms_field.specs.Secret.{Finds, FindsNone, FindsNoneIn, FindsNoSecret, FindsSecret, IsWithoutLineFeed, first_of};
 
-use crate::fault::{FieldFault, at};
+use crate::desk::Desk;
+use crate::fault::FieldFault;
 use arrayvec::ArrayVec;
 use dlms_frame::Client;
 use std::fs::Files;
@@ -14,7 +15,7 @@ use std::{fs, io};
 const MOST_SECRET: usize = 16;
 
 /// The bytes that are read of a file: those of the longest secret, a line feed, and one that is too many.
-const MOST_READ: usize = 18;
+pub const MOST_READ: usize = 18;
 
 /// The bytes without one line feed at their end.
 fn without_line_feed(bytes: &[u8]) -> &[u8]
@@ -40,7 +41,7 @@ pub fn secret_in(bytes: &[u8]) -> Option<ArrayVec<u8, 16>>
 }
 
 /// The first bytes of a file, enough to tell its secret, or that it is too long.
-fn first_bytes<R: Files>(rt: &R, path: &str) -> io::Result<ArrayVec<u8, MOST_READ>> {
+pub fn first_bytes<R: Files>(rt: &R, path: &str) -> io::Result<ArrayVec<u8, MOST_READ>> {
     let mut file = fs::open(rt, path)?;
     let mut bytes = ArrayVec::new();
     let mut byte = [0u8];
@@ -64,28 +65,52 @@ fn first_secret(client: Client) -> &'static [u8]
     }
 }
 
-/// The secret that a client sends: the one in the file where one is named, else its first one.
-pub fn secret_of<'a, R: Files>(
-    rt: &R,
+/// The secret in a file.
+fn found_in<'a, D: Desk>(desk: &mut D, file: &'a str) -> Result<ArrayVec<u8, 16>, FieldFault<'a>>
+    ensures found { IfOk result (λ secret. Finds [] (Some file.now) (D.seen desk.old) (D.seen desk.new) secret.items) }
+    ensures fails { IfErr result (FindsNoneIn file.now (D.seen desk.old) (D.seen desk.new)) }
+{
+    match desk.secret(file) {
+        Ok(bytes) => match secret_in(bytes.as_slice()) {
+            Some(secret) => Ok(secret),
+            None => Err(FieldFault::Secret),
+        },
+        Err(error) => Err(FieldFault::System(file, error)),
+    }
+}
+
+/// The secret in the file where one is named, else the first one of a client that has one.
+fn found<'a, D: Desk>(
+    desk: &mut D,
     client: Client,
     file: Option<&'a str>,
 ) -> Result<ArrayVec<u8, 16>, FieldFault<'a>>
-    ensures first { file.entry ≡ None → MatchResult result (λ secret. secret.items ≡ first_of client) (λ _. ⊥) }
-    ensures public { client ≡ Client.Public → MatchResult result (λ secret. secret.items ≡ []) (λ _. ⊥) }
+    ensures found { IfOk result (λ secret. Finds (first_of client) (option_map (λ x. x.now) file.entry) (D.seen desk.old) (D.seen desk.new) secret.items) }
+    ensures fails { IfErr result (FindsNone (option_map (λ x. x.now) file.entry) (D.seen desk.old) (D.seen desk.new)) }
 {
-    if !client.has_secret() {
-        return Ok(ArrayVec::new());
-    }
-    let bytes = match file {
-        Some(file) => at(file, first_bytes(rt, file))?,
+    match file {
+        Some(file) => found_in(desk, file),
         None => {
             let mut first = ArrayVec::new();
             let _fits = first.try_extend_from_slice(first_secret(client));
-            first
+            Ok(first)
         }
-    };
-    match secret_in(bytes.as_slice()) {
-        Some(secret) => Ok(secret),
-        None => Err(FieldFault::Secret),
+    }
+}
+
+/// The secret that a client sends: the one in the file where one is named, else its first one. Of a client that has none no file
+/// is read.
+pub fn secret_of<'a, D: Desk>(
+    desk: &mut D,
+    client: Client,
+    file: Option<&'a str>,
+) -> Result<ArrayVec<u8, 16>, FieldFault<'a>>
+    ensures found { IfOk result (λ secret. FindsSecret client (option_map (λ x. x.now) file.entry) (D.seen desk.old) (D.seen desk.new) secret.items) }
+    ensures fails { IfErr result (FindsNoSecret client (option_map (λ x. x.now) file.entry) (D.seen desk.old) (D.seen desk.new)) }
+{
+    match client {
+        Client::Public => Ok(ArrayVec::new()),
+        Client::Management => found(desk, client, file),
+        Client::Reader => found(desk, client, file),
     }
 }

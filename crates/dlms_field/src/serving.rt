@@ -228,8 +228,8 @@ fn serve_next<'f, W: Watch + Drop, P: Pages, E: Write>(
     }
 }
 
-/// Serves one connection after another.
-fn serve_all<'f, W: Watch + Drop, P: Pages, E: Write>(
+/// Serves one connection after another, which the watch of the site gives.
+pub fn serve_all<'f, W: Watch + Drop, P: Pages, E: Write>(
     site: &mut Site<'_, W, E>,
     rules: Rules,
     meter: &mut Meter<P>,

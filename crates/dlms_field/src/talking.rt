@@ -109,11 +109,12 @@ fn answer<T: End, P: Pages>(
 
 /// The end that an error of a read is.
 fn ending_of(error: io::Error) -> Ending
-    ensures { IsOfRead result }
+    ensures { IsOfRead error result }
 {
-    match error.kind() {
-        ErrorKind::UnexpectedEof => Ending::Closed,
-        _ => Ending::Failed(error),
+    if error.kind() == ErrorKind::UnexpectedEof {
+        Ending::Closed
+    } else {
+        Ending::Failed(error)
     }
 }
 

@@ -19,7 +19,7 @@ use Rattle.dlms_loopback.specs.Calling.LineBreaks.{Reading, Sending}
 use Rattle.dlms_loopback.specs.Calling.PollFails.{AtFrame, AtSilence, Floods, NoneIsOut, Tires}
 use Rattle.dlms_loopback.specs.Faults.{IsOfSystem, TellsError}
 use Rattle.dlms_loopback.specs.Moments.{Moment, Adds, HasRoom}
-use Rattle.dlms_loopback.specs.Moments.Moment.{Came, Quiet, Went, Broke}
+use Rattle.dlms_loopback.specs.Moments.Moment.{Came, Quiet, Unheard, Went, Broke}
 use Rattle.dlms_loopback.specs.declared.end.Heard.{Heard as HeardAs}
 use Rattle.dlms_loopback.specs.declared.end.Heard.TheVariants.{Bytes}
 use Rattle.dlms_loopback.specs.declared.end.TheConstants.{PIECE, READS}
@@ -404,11 +404,11 @@ turn_floods old now new start head head' count room bytes fault so_far came long
     (count, record { front = s.front; mid = s.mid; now = now; listens = s.listens; pieces = s.pieces; did = s.did; ends = fails })
 
 -- a read failed
-pub turn_unheard : {A : Type 0} (old now new : Option (List Moment)) (start head : HeadEnd A) (count : ℕ) (fault : LoopFault) → HeadSoFar old now start head count → Adds now new (Broke [] ∷ []) → IsOfSystem fault
+pub turn_unheard : {A : Type 0} (old now new : Option (List Moment)) (start head : HeadEnd A) (count : ℕ) (fault : LoopFault) (error : Error) → HeadSoFar old now start head count → Adds now new (Unheard error ∷ []) → IsOfSystem fault
     → (h : HeadWorld) → IsIn start h → TakesTurn old new h head (Err fault)
-turn_unheard old now new start head count fault so_far broke is h stands =
+turn_unheard old now new start head count fault error so_far broke is h stands =
     let s = so_far h stands in
-    (count, record { front = s.front; mid = s.mid; now = now; listens = s.listens; pieces = s.pieces; did = s.did; ends = fails_system count now new s.mid head.poller fault is (Reading broke s.stands.at.poller) })
+    (count, record { front = s.front; mid = s.mid; now = now; listens = s.listens; pieces = s.pieces; did = s.did; ends = fails_system count now new s.mid head.poller fault is (Reading error broke s.stands.at.poller) })
 
 -- so many pieces came
 pub turn_tires : {A : Type 0} (old now : Option (List Moment)) (start head : HeadEnd A) (count : ℕ) → HeadSoFar old now start head count → count ≡ READS → (h : HeadWorld) → IsIn start h → TakesTurn old now h head (Err (Poll poll.Line))

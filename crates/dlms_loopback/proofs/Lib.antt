@@ -5,3 +5,4 @@ pub mod CallingLemmas
 pub mod PollLemmas
 pub mod FilingLemmas
 pub mod RoundLemmas
+pub mod DiskLemmas

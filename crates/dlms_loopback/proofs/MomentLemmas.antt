@@ -29,9 +29,9 @@ pub adds_still : (a b c : Option (List Moment)) (xs : List Moment) → Adds a b 
 adds_still a b c xs h k = adds_as a c (xs ++ []) xs (append-nil xs) (adds_more a b c xs [] h k)
 
 -- what a read was
-pub quiet_as : (a b : Option (List Moment)) (x : Heard) (piece : List ℕ) → x ≡ Silence → Adds a b (heard_as {E = Error} (Ok x) piece ∷ []) → Adds a b (Quiet ∷ [])
-quiet_as a b x piece is adds = subst (λ (y : Heard). Adds a b (heard_as {E = Error} (Ok y) piece ∷ [])) is adds
+pub quiet_as : (a b : Option (List Moment)) (x : Heard) (piece : List ℕ) → x ≡ Silence → Adds a b (heard_as (Ok x) piece ∷ []) → Adds a b (Quiet ∷ [])
+quiet_as a b x piece is adds = subst (λ (y : Heard). Adds a b (heard_as (Ok y) piece ∷ [])) is adds
 
-pub came_as : (a b : Option (List Moment)) (x : Heard) (piece bytes : List ℕ) (count : ℕ) → x ≡ Bytes count → bytes ≡ take count piece → Adds a b (heard_as {E = Error} (Ok x) piece ∷ []) → Adds a b (Came bytes ∷ [])
+pub came_as : (a b : Option (List Moment)) (x : Heard) (piece bytes : List ℕ) (count : ℕ) → x ≡ Bytes count → bytes ≡ take count piece → Adds a b (heard_as (Ok x) piece ∷ []) → Adds a b (Came bytes ∷ [])
 came_as a b x piece bytes count is same adds =
-    subst (λ (t : List ℕ). Adds a b (Came t ∷ [])) (sym same) (subst (λ (y : Heard). Adds a b (heard_as {E = Error} (Ok y) piece ∷ [])) is adds)
+    subst (λ (t : List ℕ). Adds a b (Came t ∷ [])) (sym same) (subst (λ (y : Heard). Adds a b (heard_as (Ok y) piece ∷ [])) is adds)

@@ -1,6 +1,7 @@
 -- The rounds of the loopback.
 use Rattle.std.proofs.Common.{arith, refl, sym, ◌∙◌, ◌≡◌, ◌<◌, ◌+◌, ℕ, List, [], ◌∷◌, length, subst, inl, inr}
-use Rattle.std.specs.Prelude.{Option, Result, Ok, Err, IfOk, IsErrAnd, MatchResult}
+use Rattle.std.specs.Prelude.{Option, Some, None, Result, Ok, Err, IfErr, IfOk, IsErrAnd, MatchResult}
+use Rattle.std.specs.Io.KnownBytes.{Keeps}
 use Rattle.std.specs.declared.io.Error.{Error}
 use Rattle.dlms_headend.specs.Lines.{text_of}
 use Rattle.dlms_headend.specs.Merged.{last_clock, merged}
@@ -10,12 +11,14 @@ use Rattle.dlms_meter.specs.declared.meter.Meter.{Meter}
 use Rattle.dlms_pages.specs.declared.device.Pages.{Ghosts}
 use Rattle.dlms_loopback.specs.BothEnds.{IsDonePoll}
 use Rattle.dlms_loopback.specs.Faults.{TellsError}
-use Rattle.dlms_loopback.specs.Filing.{KeepsRows}
-use Rattle.dlms_loopback.specs.Printing.{Printed, PrintsPart}
-use Rattle.dlms_loopback.specs.Rounds.{ArePolled, Loops, Unlooped, Seen, Reads, IsOfMeter, Rounds, ReadsRows, KeepsPolled, KeepsNothing, TellsKept, Polled, PrintsText, plan_from}
+use Rattle.dlms_loopback.specs.Filing.{Asked, KeepsRows}
+use Rattle.dlms_loopback.specs.Printing.{Printed, PrintsNothing, PrintsPart}
+use Rattle.dlms_loopback.specs.Rounds.{ArePolled, HasOpened, HoldsFile, IsUntouched, JoinsEnds, LoopFails, Loops, OpensReadings, Unlooped, Seen, Reads, IsOfMeter, Rounds, ReadsRows, KeepsPolled, KeepsNothing, TellsKept, Polled, PrintsText, plan_from}
+use Rattle.dlms_loopback.specs.Rounds.LoopFails.{NotOpened, RoundsFail}
 use Rattle.dlms_loopback.specs.Rounds.Reads.{Begun, Then}
 use Rattle.dlms_loopback.specs.declared.fault.LoopFault.{LoopFault}
 use Rattle.dlms_loopback.specs.declared.filing.FilingFault.{FilingFault}
+use Rattle.dlms_loopback.proofs.MomentLemmas.{adds_none}
 use Rattle.dlms_loopback.proofs.PollLemmas.{system_told}
 
 pub prints_part : {T : Type 0} (printed printed' : Printed) (rows : List Row) (bytes : List ℕ) (r : Result T LoopFault) (error : Error)
@@ -49,11 +52,23 @@ pub rounds_poll : {P A : Type 0} {ghosts : Ghosts P} (first : Meter P A ghosts) 
 rounds_poll first secret stops seen now told told' before after went =
     let (polls, counted, polled) = polled_in first secret seen before now after (stops + 1) went.0 in record { before = before; polls = polls; counted = counted; polled = polled }
 
+keeps_all : (bytes : Option (List ℕ)) → Keeps bytes bytes
+keeps_all None = tt
+keeps_all (Some bytes) = refl
+
+-- an output on which nothing was printed
+pub prints_none : (printed : Printed) → PrintsNothing printed printed
+prints_none printed = (adds_none printed.moments, keeps_all printed.bytes)
+
 pub loops : {T : Type 0} (secret : List ℕ) (count : ℕ) (printed printed' : Printed) (after : List Row) (r : Result T LoopFault)
-    → ArePolled secret count after → PrintsText printed printed' after r → MatchResult r (λ _. Loops secret count printed printed') (Unlooped printed printed')
+    → ArePolled secret count after → PrintsText printed printed' after r → IfOk r (λ _. Loops secret count printed printed')
 loops secret count printed printed' after (Ok done) are prints = (after, are, prints)
-loops secret count printed printed' after (Err fault) are (inl none) = inl none.2
-loops secret count printed printed' after (Err fault) are (inr part) = inr (part.0, after, part.1)
+loops secret count printed printed' after (Err fault) are prints = tt
+
+pub unlooped : {P A T : Type 0} (ghosts : Ghosts P) (alloc : A) (file : Option (List ℕ)) (secret : List ℕ) (stops : ℕ) (seen seen' : Seen) (told told' : Option Error) (printed printed' : Printed) (after : List Row) (r : Result T LoopFault)
+    → ArePolled secret (stops + 1) after → PrintsText printed printed' after r → IfErr r (Unlooped ghosts alloc file secret stops seen seen' told told' printed printed')
+unlooped ghosts alloc file secret stops seen seen' told told' printed printed' after (Ok done) are prints = tt
+unlooped ghosts alloc file secret stops seen seen' told told' printed printed' after (Err fault) are prints = inr (after, are, prints)
 
 -- ---- round by round
 
@@ -135,3 +150,26 @@ module _ {P A : Type 0} {ghosts : Ghosts P} where
     omega (arith, below),
     inr (record { stopped = omega arith; of_meter = subst IsOfMeter (sym is) of_meter; unseen = refl; untold = was; unread = refl }),
   )
+
+-- ---- before the rounds
+
+held_still : (file : Option (List ℕ)) (asked mid : Option (List Asked)) (told told' : Option Error) → HoldsFile {T = Unit {0}} file asked mid told told' (Ok tt) → (told' ≡ told) × HoldsFile {T = Unit {0}} file asked mid told told (Ok tt)
+held_still None asked mid told told' (asks, same, is) = (same, (asks, refl, is))
+held_still (Some name) asked mid told told' (asks, same) = (same, (asks, refl))
+
+pub not_opened : {P A : Type 0} (ghosts : Ghosts P) (alloc : A) (file : Option (List ℕ)) (secret : List ℕ) (stops : ℕ) (seen seen' : Seen) (mid : Option (List Asked)) (told told' told'' : Option Error) (fault : LoopFault)
+    → HoldsFile {T = Unit {0}} file seen.asked mid told told' (Ok tt) → OpensReadings mid seen'.asked told' told'' (Err fault) → IsUntouched seen seen' → LoopFails ghosts alloc file secret stops seen seen' told told'' fault
+not_opened ghosts alloc file secret stops seen seen' mid told told' told'' fault holds opens still =
+    let (same, held) = held_still file seen.asked mid told told' holds in
+    NotOpened mid held (subst (λ (t : Option Error). OpensReadings mid seen'.asked t told'' (Err fault)) same opens) still
+
+pub has_opened : (file : Option (List ℕ)) (asked mid asked' : Option (List Asked)) (told told' told'' : Option Error) (rows : List Row) → HoldsFile {T = Unit {0}} file asked mid told told' (Ok tt)
+    → OpensReadings mid asked' told' told'' (Ok rows) → HasOpened file asked asked' told rows × (told'' ≡ told)
+has_opened file asked mid asked' told told' told'' rows holds (opens, same) =
+    let (before, held) = held_still file asked mid told told' holds in (record { mid = mid; holds = held; opens = opens }, same ∙ before)
+
+pub rounds_fail : {P A : Type 0} (ghosts : Ghosts P) (alloc : A) (file : Option (List ℕ)) (secret : List ℕ) (stops : ℕ) (seen mid seen' : Seen) (told told' told'' : Option Error) (rows after : List Row) (meter : Meter P A ghosts) (fault : LoopFault)
+    → HasOpened file seen.asked mid.asked told rows × (told' ≡ told) → JoinsEnds {T = Unit {0}} seen.head mid.head seen.tail mid.tail (Ok tt) → Rounds {T = Unit {0}} meter secret stops mid seen' told' told'' rows (Err fault) after
+    → LoopFails ghosts alloc file secret stops seen seen' told told'' fault
+rounds_fail ghosts alloc file secret stops seen mid seen' told told' told'' rows after meter fault (opened, same) joins fails =
+    RoundsFail rows after mid meter opened joins (subst (λ (t : Option Error). Rounds {T = Unit {0}} meter secret stops mid seen' t told'' rows (Err fault) after) same fails)

@@ -1,6 +1,7 @@
 -- The meter's end, call by call.
 use Rattle.std.proofs.Common.{arith, refl, sym, ap, subst, append-nil, append_assoc, ◌∙◌, ◌≡◌, ◌+◌, ◌||◌, ℕ, Bool, true, false, List, [], ◌∷◌, ◌++◌, map, length, length-append, IsErr, take}
 use Rattle.std.specs.Prelude.{Option, Some, None, Result, Ok, Err, MatchResult}
+use Rattle.std.specs.declared.io.Error.{Error}
 use Rattle.dlms_pages.specs.declared.device.Pages.{Ghosts}
 use Rattle.dlms_store.specs.World.{StoreStep}
 use Rattle.dlms_meter.specs.declared.meter.Meter.{Meter}
@@ -9,7 +10,7 @@ use Rattle.dlms_meter.specs.Steps.{Step, Run}
 use Rattle.dlms_meter.specs.Steps.Step.{Piece, Silence}
 use Rattle.dlms_meter.proofs.Joining.{GoesOn, goes_start, goes_call, goes_end}
 use Rattle.dlms_loopback.specs.Moments.{Moment, Adds, Breaks}
-use Rattle.dlms_loopback.specs.Moments.Moment.{Came, Quiet, Went, Broke}
+use Rattle.dlms_loopback.specs.Moments.Moment.{Came, Quiet, Unheard, Went, Broke}
 use Rattle.dlms_loopback.specs.Serving.{AnswersFrame, Answered, Unanswered, Replies, Served, Turned, Unturned, has_any, moments_by, moments_of, unanswered}
 use Rattle.dlms_loopback.specs.Serving.BreaksOff.{Hearing, Replying}
 use Rattle.dlms_loopback.specs.declared.end.TheConstants.{READS}
@@ -239,11 +240,11 @@ turn_tires old now start meter count so_far all w stands =
     let s = so_far w stands in
     record { pieces = s.0; last = []; ends = s.2 ∙ all; served = subst (λ (xs : List Step). Served old now w xs meter) (sym (append-nil (unanswered s.0))) s.1 }
 
-pub turn_unheard : {P A : Type 0} {ghosts : Ghosts P} (old now new : Option (List Moment)) (start meter : Meter P A ghosts) (count : ℕ)
-    → TurnSoFar old now start meter count → Adds now new (Broke [] ∷ []) → (w : MeterWorld) → Stands start w → Unturned old new w meter
-turn_unheard old now new start meter count so_far adds w stands =
+pub turn_unheard : {P A : Type 0} {ghosts : Ghosts P} (old now new : Option (List Moment)) (start meter : Meter P A ghosts) (count : ℕ) (error : Error)
+    → TurnSoFar old now start meter count → Adds now new (Unheard error ∷ []) → (w : MeterWorld) → Stands start w → Unturned old new w meter
+turn_unheard old now new start meter count error so_far adds w stands =
     let s = so_far w stands in
-    record { pieces = s.0; broken = record { mid = s.1.world; now = now; run = s.1.run; happened = s.1.happened; breaks = Hearing s.1.stands adds } }
+    record { pieces = s.0; broken = record { mid = s.1.world; now = now; run = s.1.run; happened = s.1.happened; breaks = Hearing s.1.stands error adds } }
 
 pub turn_unanswered : {P A : Type 0} {ghosts : Ghosts P} (old now mid new : Option (List Moment)) (start meter meter' : Meter P A ghosts) (count : ℕ) (bytes : List ℕ)
     → TurnSoFar old now start meter count → Adds now mid (Came bytes ∷ []) → ((w : MeterWorld) → Stands meter w → Unanswered mid new w bytes meter')

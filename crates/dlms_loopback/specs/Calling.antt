@@ -1,5 +1,6 @@
 -- What a head end does at its end of a line, act by act: the calls of its poller, and what happens at the line at each.
 use Rattle.std.specs.Prelude.{◌≡◌, ◌≢◌, ◌⊎◌, ◌+◌, ◌-◌, ◌<◌, ◌≤◌, ℕ, List, [], ◌∷◌, ◌++◌, length, map, Option, Some, None, Result, Ok, Err}
+use Rattle.std.specs.declared.io.Error.{Error}
 use Rattle.dlms_frame.specs.Frame.{Parts, spelling}
 use Rattle.dlms_frame.specs.Stream.{IsNext, Fits}
 use Rattle.dlms_headend.specs.Listed.{columns_listed_in}
@@ -14,7 +15,7 @@ use Rattle.dlms_headend.specs.declared.step.PollStep.TheVariants as step
 use Rattle.dlms_meter.specs.Run.{HasNoFrame}
 use Rattle.dlms_loopback.specs.Faults.{IsOfSystem}
 use Rattle.dlms_loopback.specs.Moments.{Moment, Adds, Breaks}
-use Rattle.dlms_loopback.specs.Moments.Moment.{Came, Quiet, Went, Broke}
+use Rattle.dlms_loopback.specs.Moments.Moment.{Came, Quiet, Unheard, Went, Broke}
 use Rattle.dlms_loopback.specs.declared.end.TheConstants.{READS}
 use Rattle.dlms_loopback.specs.declared.fault.LoopFault.{LoopFault}
 use Rattle.dlms_loopback.specs.declared.fault.LoopFault.TheVariants.{Open, Add, Poll, Columns, Readings, Io, Memory}
@@ -256,7 +257,7 @@ pub record IsCut (old new : Option (List Moment)) (h : HeadWorld) (after : Polle
 
 -- the line breaks: at a read, or at a frame
 pub data LineBreaks (old new : Option (List Moment)) (h : HeadWorld) (after : PollerValue) : Type 0 where
-  Reading : Adds old new (Broke [] ∷ []) → after ≡ h.poller → LineBreaks old new h after
+  Reading : (error : Error) → Adds old new (Unheard error ∷ []) → after ≡ h.poller → LineBreaks old new h after
   Sending : IsCut old new h after → LineBreaks old new h after
 
 -- the poller fails at a frame

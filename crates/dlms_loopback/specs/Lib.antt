@@ -6,3 +6,4 @@ pub mod BothEnds
 pub mod Printing
 pub mod Filing
 pub mod Rounds
+pub mod Disk

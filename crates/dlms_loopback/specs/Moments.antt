@@ -1,17 +1,22 @@
 -- What happens at an end of a line, one moment after another.
-use Rattle.std.specs.Prelude.{◌≡◌, ◌≤◌, ℕ, List, [], ◌∷◌, ◌++◌, take, Option, Some, None, Result, Ok, Err}
+use Rattle.std.specs.Prelude.{◌≡◌, ◌≤◌, ℕ, Bool, List, [], ◌∷◌, ◌++◌, take, Option, Some, None, Result, Ok, Err}
+use Rattle.std.specs.declared.io.Error.{Error}
 use Rattle.std.specs.Io.KnownBytes.{Keeps, Appends, Consumes}
 use Rattle.dlms_loopback.specs.declared.end.TheConstants.{PIECE}
 use Rattle.dlms_loopback.specs.declared.end.Heard.{Heard}
 use Rattle.dlms_loopback.specs.declared.end.Heard.TheVariants.{Bytes, Silence}
 
--- These bytes came, or none where the call was interrupted; nothing came for as long as the end waits; these bytes went out; a call
--- failed, and of the bytes that it was to put these went out.
+-- These bytes came, or none where the call was interrupted; nothing came for as long as the end waits; a read failed; these bytes went
+-- out; a write failed, and of the bytes that it was to put these went out. Before all that the end was connected to what has this address, or not, or
+-- that failed; or it was joined to the other end of its line, or that failed.
 pub data Moment : Type 0 where
   Came : (bytes : List ℕ) → Moment
   Quiet : Moment
+  Unheard : (error : Error) → Moment
   Went : (bytes : List ℕ) → Moment
   Broke : (part : List ℕ) → Moment
+  Connects : (address : List ℕ) (outcome : Result Bool Error) → Moment
+  Joins : (failed : Option Error) → Moment
 
 -- where it is known what happened, these moments came behind it
 abbrev pub Adds : Option (List Moment) → Option (List Moment) → List Moment → Type 0
@@ -27,10 +32,10 @@ HasRoom (Bytes count) = count ≤ PIECE
 HasRoom Silence = Unit {0}
 
 -- the moment that a read is
-abbrev pub heard_as : {E : Type 0} → Result Heard E → List ℕ → Moment
+abbrev pub heard_as : Result Heard Error → List ℕ → Moment
 heard_as (Ok (Bytes count)) piece = Came (take count piece)
 heard_as (Ok Silence) piece = Quiet
-heard_as (Err e) piece = Broke []
+heard_as (Err e) piece = Unheard e
 
 -- the bytes that it gives are the next ones of the stream, where those are known
 abbrev pub Reads : {E : Type 0} → Option (List ℕ) → Option (List ℕ) → Result Heard E → List ℕ → Type 0

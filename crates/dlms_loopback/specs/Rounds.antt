@@ -1,5 +1,5 @@
 -- The rounds of the loopback: polls of a meter, one after another, and what came of each is kept.
-use Rattle.std.specs.Prelude.{◌≡◌, ◌⊎◌, ◌+◌, ◌<◌, ◌≤◌, ℕ, List, [], ◌∷◌, length, Option, Some, Result, Ok, Err, IsOk, IfOk, MatchResult}
+use Rattle.std.specs.Prelude.{◌≡◌, ◌⊎◌, ◌+◌, ◌<◌, ◌≤◌, ℕ, List, [], ◌∷◌, length, Option, Some, None, Result, Ok, Err, IsOk, IfOk, MatchResult}
 use Rattle.std.specs.declared.io.Error.{Error}
 use Rattle.dlms_frame.specs.declared.client.Client.TheVariants.{Management}
 use Rattle.dlms_headend.specs.Asking.{PlanValue}
@@ -17,7 +17,9 @@ use Rattle.dlms_store.specs.declared.fault.OpenFault.{OpenFault}
 use Rattle.dlms_loopback.specs.BothEnds.{IsDonePoll, Polls}
 use Rattle.dlms_loopback.specs.Faults.{IsOfSystem, TellsError}
 use Rattle.dlms_loopback.specs.Filing.{Asked, Asks, KeepsRows, OpensRows}
-use Rattle.dlms_loopback.specs.Moments.{Moment}
+use Rattle.dlms_loopback.specs.Filing.Asked.{Holds}
+use Rattle.dlms_loopback.specs.Moments.{Moment, Adds}
+use Rattle.dlms_loopback.specs.Moments.Moment.{Joins}
 use Rattle.dlms_loopback.specs.Printing.{Printed, Prints, PrintsNothing, PrintsPart}
 use Rattle.dlms_loopback.specs.declared.fault.LoopFault.{LoopFault}
 use Rattle.dlms_loopback.specs.declared.fault.LoopFault.TheVariants.{Open, Add, Readings, Io, Memory}
@@ -134,6 +136,46 @@ pub record ArePolled (secret : List ℕ) (count : ℕ) (after : List Row) : Type
 abbrev pub Loops : List ℕ → ℕ → Printed → Printed → Type 0
 Loops secret count printed printed' = (after : List Row) × ArePolled secret count after × Prints printed printed' (text_of after)
 
--- Or it failed: nothing was printed, or the output failed at the readings.
-abbrev pub Unlooped : Printed → Printed → LoopFault → Type 0
-Unlooped printed printed' fault = PrintsNothing printed printed' ⊎ (IsOfSystem fault × (rows : List Row) × PrintsPart printed printed' (text_of rows))
+-- ---- what it fails for
+
+-- The file is held, where one is named; or that failed.
+abbrev pub HoldsFile : {T : Type 0} → Option (List ℕ) → Option (List Asked) → Option (List Asked) → Option Error → Option Error → Result T LoopFault → Type 0
+HoldsFile None asked asked' told told' result = Asks asked asked' [] × (told' ≡ told) × IsOk result
+HoldsFile (Some file) asked asked' told told' (Ok done) = Asks asked asked' (Holds file None ∷ []) × (told' ≡ told)
+HoldsFile (Some file) asked asked' told told' (Err fault) = (error : Error) × Asks asked asked' (Holds file (Some error) ∷ []) × (told' ≡ Some error) × TellsError error fault
+
+-- The two ends of the line are joined, or that failed.
+abbrev pub JoinsEnds : {T : Type 0} → (head head' tail tail' : Option (List Moment)) → Result T LoopFault → Type 0
+JoinsEnds head head' tail tail' (Ok done) = Adds head head' (Joins None ∷ []) × Adds tail tail' (Joins None ∷ [])
+JoinsEnds head head' tail tail' (Err fault) = (error : Error) × Adds head head' (Joins (Some error) ∷ []) × Adds tail tail' (Joins (Some error) ∷ []) × TellsError error fault
+
+-- no new meter was made: memory ran out, or it did not take what it was told
+abbrev pub MakesNone : LoopFault → Type 0
+MakesNone fault = (fault ≡ Memory) ⊎ IsOfMeter fault
+
+-- the file is held, and these rows stand there
+pub record HasOpened (file : Option (List ℕ)) (asked asked' : Option (List Asked)) (told : Option Error) (rows : List Row) : Type 0 where
+  pub mid : Option (List Asked)
+  pub holds : HoldsFile {T = Unit {0}} file asked mid told told (Ok tt)
+  pub opens : OpensRows mid asked' (Ok rows)
+
+-- nothing happened at the line
+abbrev pub IsUntouched : Seen → Seen → Type 0
+IsUntouched seen seen' = (seen'.head ≡ seen.head) × (seen'.tail ≡ seen.tail)
+
+-- Why it fails: the file could not be held; no readings were opened there; no meter was made; the ends were not joined; or a round failed.
+pub data LoopFails {P A : Type 0} (ghosts : Ghosts P) (alloc : A) (file : Option (List ℕ)) (secret : List ℕ) (stops : ℕ) (seen seen' : Seen) (told told' : Option Error) (fault : LoopFault) : Type 0 where
+  NotHeld : HoldsFile {T = Unit {0}} file seen.asked seen'.asked told told' (Err fault) → IsUntouched seen seen' → LoopFails ghosts alloc file secret stops seen seen' told told' fault
+  NotOpened : (mid : Option (List Asked)) → HoldsFile {T = Unit {0}} file seen.asked mid told told (Ok tt) → OpensReadings mid seen'.asked told told' (Err fault) → IsUntouched seen seen'
+      → LoopFails ghosts alloc file secret stops seen seen' told told' fault
+  NoMeter : (rows : List Row) → HasOpened file seen.asked seen'.asked told rows → MakesNone fault → IsUntouched seen seen' → told' ≡ told → LoopFails ghosts alloc file secret stops seen seen' told told' fault
+  NotJoined : (rows : List Row) → HasOpened file seen.asked seen'.asked told rows → JoinsEnds {T = Unit {0}} seen.head seen'.head seen.tail seen'.tail (Err fault) → told' ≡ told
+      → LoopFails ghosts alloc file secret stops seen seen' told told' fault
+  RoundsFail : (rows after : List Row) (mid : Seen) (meter : Meter P A ghosts) → HasOpened file seen.asked mid.asked told rows → JoinsEnds {T = Unit {0}} seen.head mid.head seen.tail mid.tail (Ok tt)
+      → Rounds {T = Unit {0}} meter secret stops mid seen' told told' rows (Err fault) after → LoopFails ghosts alloc file secret stops seen seen' told told' fault
+
+-- Or it failed so, and nothing was printed; or all polls were done, and memory ran out for the text of the readings, or the output failed.
+abbrev pub Unlooped : {P A : Type 0} → Ghosts P → A → Option (List ℕ) → List ℕ → ℕ → Seen → Seen → Option Error → Option Error → Printed → Printed → LoopFault → Type 0
+Unlooped ghosts alloc file secret stops seen seen' told told' printed printed' fault =
+    (LoopFails ghosts alloc file secret stops seen seen' told told' fault × PrintsNothing printed printed')
+    ⊎ ((rows : List Row) × ArePolled secret (stops + 1) rows × PrintsText {T = Unit {0}} printed printed' rows (Err fault))

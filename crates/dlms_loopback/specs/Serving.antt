@@ -1,12 +1,13 @@
 -- What a meter makes of what comes at its end of a line: a run of it (`Run`), whose replies go out.
 use Rattle.std.specs.Prelude.{◌≡◌, ℕ, Bool, true, false, List, [], ◌∷◌, ◌++◌, length, map, take, Option, Some, None, Result, Ok, Err, MatchResult}
+use Rattle.std.specs.declared.io.Error.{Error}
 use Rattle.dlms_meter.specs.Run.{MeterWorld, Comes, Feeds, Stands}
 use Rattle.dlms_meter.specs.Steps.{Step, Run}
 use Rattle.dlms_meter.specs.Steps.Step.{Piece, Silence, Happens}
 use Rattle.dlms_meter.specs.declared.meter.Meter.{Meter}
 use Rattle.dlms_pages.specs.declared.device.Pages.{Ghosts}
 use Rattle.dlms_loopback.specs.Moments.{Moment, Adds, Breaks}
-use Rattle.dlms_loopback.specs.Moments.Moment.{Came, Quiet, Went, Broke}
+use Rattle.dlms_loopback.specs.Moments.Moment.{Came, Quiet, Unheard, Went, Broke}
 use Rattle.dlms_loopback.specs.declared.meter_end.Taken.{Taken}
 use Rattle.dlms_loopback.specs.declared.end.TheConstants.{READS}
 
@@ -81,7 +82,7 @@ pub record Served {P A : Type 0} {ghosts : Ghosts P} (old new : Option (List Mom
 
 -- and then the line broke: at a read, or at the reply to a piece that had come
 pub data BreaksOff {P A : Type 0} {ghosts : Ghosts P} (old new : Option (List Moment)) (w : MeterWorld) (meter : Meter P A ghosts) : Type 0 where
-  Hearing : Stands meter w → Adds old new (Broke [] ∷ []) → BreaksOff old new w meter
+  Hearing : Stands meter w → (error : Error) → Adds old new (Unheard error ∷ []) → BreaksOff old new w meter
   Replying : (mid : Option (List Moment)) (bytes : List ℕ) → Adds old mid (Came bytes ∷ []) → Unanswered mid new w bytes meter → BreaksOff old new w meter
 
 -- these steps, and then the line broke

@@ -1,8 +1,8 @@
 //! The place where a readings file stands, and what is put there.
 ghost use Rattle.std.specs.Prelude.{◌≡◌, List, ℕ, Option, None, [], ◌∷◌, drop, string_bytes};
 ghost use Rattle.dlms_headend.specs.Rows.{AreReadings};
-ghost use Rattle.dlms_loopback.specs.Filing.{Asked, Asks, KeepsRows, FilesRows, MergesInto, OpensRows, Gives, IsPut, asked_of, has_passed, text_in};
-ghost use Rattle.dlms_loopback.specs.Filing.Asked.{Opens, Lays, Puts, Drops};
+ghost use Rattle.dlms_loopback.specs.Filing.{Asked, Asks, KeepsRows, FilesRows, MergesInto, OpensRows, Gives, IsPut, error_in, text_in};
+ghost use Rattle.dlms_loopback.specs.Filing.Asked.{Holds, Opens, Lays, Puts, Drops};
 ghost use Rattle.dlms_loopback.specs.declared.filing.FilingFault.TheVariants.{Memory as MemoryOf};
 
 use crate::output::Output;
@@ -50,48 +50,23 @@ pub trait Filing {
 
     /// Lays a new text beside the one that stands there, and makes it outlast a stop.
     fn lay(&mut self, text: &str) -> io::Result<()>
-        ensures { Asks (asked self.old) (asked self.new) (Lays text.now (has_passed result) ∷ []) };
+        ensures { Asks (asked self.old) (asked self.new) (Lays text.now (error_in result) ∷ []) };
 
     /// Puts the text that was laid last in the place of the one that stands there, whole. Where that fails, or is stopped, either
     /// stands there.
     fn put(&mut self) -> io::Result<()>
-        ensures { Asks (asked self.old) (asked self.new) (Puts (has_passed result) ∷ []) };
+        ensures { Asks (asked self.old) (asked self.new) (Puts (error_in result) ∷ []) };
 
     /// Takes the text that was laid away.
     fn drop_laid(&mut self)
         ensures { Asks (asked self.old) (asked self.new) (Drops ∷ []) };
 }
 
-/// Where there is no place the text is empty, and what is put stands nowhere.
-impl<F: Filing> Filing for Option<F> {
-    ghost asked = { asked_of F.asked };
-
-    fn text(&mut self, alloc: Global) -> io::Result<String> {
-        match self {
-            Some(place) => place.text(alloc),
-            None => Ok(String::new(alloc)),
-        }
-    }
-
-    fn lay(&mut self, text: &str) -> io::Result<()> {
-        match self {
-            Some(place) => place.lay(text),
-            None => Ok(()),
-        }
-    }
-
-    fn put(&mut self) -> io::Result<()> {
-        match self {
-            Some(place) => place.put(),
-            None => Ok(()),
-        }
-    }
-
-    fn drop_laid(&mut self) {
-        if let Some(place) = self {
-            place.drop_laid();
-        }
-    }
+/// A place that comes to be the file of a name. Until it holds one its text is empty, and what is put stands nowhere.
+pub trait Holding: Filing {
+    /// Holds the file that this name stands for, which nobody else has then.
+    fn hold(&mut self, file: &str) -> io::Result<()>
+        ensures { Asks (Self.asked self.old) (Self.asked self.new) (Holds file.now (error_in result) ∷ []) };
 }
 
 /// The readings that stand there.

@@ -1,29 +1,26 @@
 //! The loopback: a meter in memory, polled over a socket, and its readings filed.
 
-ghost use Rattle.std.specs.Prelude.{◌≡◌, ◌≤◌, ◌+◌, Some, IfErr, IfOk, IfSome, MatchResult};
+ghost use Rattle.std.specs.Prelude.{◌≡◌, ◌≤◌, ◌+◌, Some, IfErr, IfOk, IfSome, MatchResult, option_map};
 ghost use Rattle.dlms_headend.specs.Merged.{last_clock};
 ghost use Rattle.dlms_headend.specs.Polling.{fresh_poll};
 ghost use Rattle.dlms_loopback.specs.Faults.{TellsError};
-ghost use Rattle.dlms_loopback.specs.Rounds.{ArePolled, IsOfMeter, Loops, OpensReadings, PrintsText, ReadsRows, Rounds, Seen, TellsKept, Unlooped, plan_from};
+ghost use Rattle.dlms_loopback.specs.Rounds.{ArePolled, HoldsFile, IsOfMeter, JoinsEnds, LoopFails, Loops, MakesNone, OpensReadings, PrintsText, ReadsRows, Rounds, Seen, TellsKept, Unlooped, plan_from};
 
 use crate::end::End;
 use crate::fault::LoopFault;
-use crate::filing::{Filing, FilingFault, OpeningFault, keep_rows, open_rows};
+use crate::filing::{Filing, FilingFault, Holding, OpeningFault, keep_rows, open_rows};
 use crate::output::Output;
-use crate::place::FilePlace;
 use crate::polling::{poll, poller};
-use crate::socket::{Line, ends};
+use crate::socket::{Joining, Line};
 use arrayvec::ArrayVec;
 use dlms_data::LAST_SECOND;
 use dlms_frame::Client;
 use dlms_headend::{Poller, Readings};
 use dlms_meter::Meter;
-use dlms_pages::{MemoryPages, Pick};
+use dlms_pages::{MemoryPages, Pages, Pick};
 use dlms_store::PAGES;
 use std::alloc::Global;
-use std::fs::{File, Files};
 use std::io;
-use std::net::Net;
 
 /// Management's first secret.
 const SECRET: &[u8] = b"12345678";
@@ -70,18 +67,30 @@ fn opened<F: Filing>(
     }
 }
 
-/// The place of the file, where one is named.
-fn held<'r, R: Files<File = File> + AllocGlobal>(
-    rt: &'r R,
+/// Holds the file, where one is named.
+fn held<F: Holding>(
+    place: &mut F,
     file: Option<&str>,
     told: &mut Option<io::Error>,
-) -> Result<Option<FilePlace<'r, R>>, LoopFault> {
+) -> Result<(), LoopFault>
+    ensures { HoldsFile (option_map (λ x. x.now) file.entry) (F.asked place.old) (F.asked place.new) told.old told.new result }
+{
     match file {
-        Some(file) => match FilePlace::open(rt, file) {
-            Ok(place) => Ok(Some(place)),
+        Some(file) => match place.hold(file) {
+            Ok(()) => Ok(()),
             Err(error) => Err(tell(told, error)),
         },
-        None => Ok(None),
+        None => Ok(()),
+    }
+}
+
+/// Joins the two ends of the line.
+fn joined<S: Joining>(line: &mut Line<S>) -> Result<(), LoopFault>
+    ensures { JoinsEnds (S.past line.old.head) (S.past line.new.head) (S.past line.old.tail) (S.past line.new.tail) result }
+{
+    match S::join(&mut line.head, &mut line.tail) {
+        Ok(()) => Ok(()),
+        Err(error) => Err(LoopFault::from(error)),
     }
 }
 
@@ -95,7 +104,9 @@ fn print<O: Output>(readings: &Readings, output: &mut O) -> Result<(), LoopFault
 }
 
 /// A new meter with 42 pulses on channel 0 and two captures.
-fn new_meter(alloc: Global) -> Result<MemoryMeter, LoopFault> {
+fn new_meter(alloc: Global) -> Result<MemoryMeter, LoopFault>
+    ensures { IfErr result MakesNone }
+{
     let pages = MemoryPages::new(alloc, PAGES)?;
     let mut meter = match Meter::format(alloc, pages) {
         Ok(meter) => meter,
@@ -173,45 +184,64 @@ fn rounds<F: Filing, S: End>(
     Ok(())
 }
 
-/// The readings of a file, and what a new meter in memory was polled for over TCP. The file is read before anything else is done.
-fn polled<R: Net + Files<File = File> + AllocGlobal>(
-    rt: &R,
+/// The readings of a file, and what a new meter in memory was polled for over the line. The file is read before anything else is
+/// done.
+fn polled<F: Holding, S: Joining>(
+    alloc: Global,
+    place: &mut F,
+    line: &mut Line<S>,
     file: Option<&str>,
     stops: u8,
     told: &mut Option<io::Error>,
 ) -> Result<Readings, LoopFault>
-    ensures { IfOk result (ArePolled SECRET.now (stops + 1)) }
+    ensures polled { IfOk result (ArePolled SECRET.now (stops + 1)) }
+    ensures fails { let before : Seen = record { head = S.past line.old.head; tail = S.past line.old.tail; asked = F.asked place.old } in
+        let after : Seen = record { head = S.past line.new.head; tail = S.past line.new.tail; asked = F.asked place.new } in
+        IfErr result (LoopFails ⟦<MemoryPages<Global> as Pages>⟧ alloc (option_map (λ x. x.now) file.entry) SECRET.now stops before after told.old told.new) }
 {
-    let mut place = held(rt, file, told)?;
-    let mut readings = opened(rt.alloc(), &mut place, told)?;
-    let meter = new_meter(rt.alloc())?;
-    let mut line = ends(rt)?;
-    rounds(
-        rt.alloc(),
-        &mut place,
-        &mut readings,
-        told,
-        &mut line,
-        meter,
-        stops,
-    )?;
-    Ok(readings)
+    match held(place, file, told) {
+        Ok(()) => {}
+        Err(fault) => return Err(fault),
+    }
+    let mut readings = match opened(alloc, place, told) {
+        Ok(readings) => readings,
+        Err(fault) => return Err(fault),
+    };
+    let meter = match new_meter(alloc) {
+        Ok(meter) => meter,
+        Err(fault) => return Err(fault),
+    };
+    match joined(line) {
+        Ok(()) => {}
+        Err(fault) => return Err(fault),
+    }
+    match rounds(alloc, place, &mut readings, told, line, meter, stops) {
+        Ok(()) => Ok(readings),
+        Err(why) => Err(why),
+    }
 }
 
-/// Polls a new meter in memory over TCP, and prints the readings. The meter has 42 pulses on channel 0 and captures at 900 and
+/// Polls a new meter in memory over a line, and prints the readings. The meter has 42 pulses on channel 0 and captures at 900 and
 /// 1800 seconds. Where a file is named its readings come first, and they and what is new stand in it after each poll that is
 /// done; nobody else has the file meanwhile. So many times then the meter is stopped, what it has not synced is lost, it comes
 /// back, gets one more pulse and one more capture, and is polled again. The file is read before anything else is done. Where the
 /// file is what failed, `told` gets what the system says of it.
-pub fn loopback<R: Net + Files<File = File> + AllocGlobal, O: Output>(
-    rt: &R,
+pub fn loopback<F: Holding, S: Joining, O: Output>(
+    alloc: Global,
+    place: &mut F,
+    line: &mut Line<S>,
     file: Option<&str>,
     stops: u8,
     output: &mut O,
     told: &mut Option<io::Error>,
 ) -> Result<(), LoopFault>
-    ensures { MatchResult result (λ _. Loops SECRET.now (stops + 1) (O.printed output.old) (O.printed output.new)) (Unlooped (O.printed output.old) (O.printed output.new)) }
+    ensures loops { IfOk result (λ _. Loops SECRET.now (stops + 1) (O.printed output.old) (O.printed output.new)) }
+    ensures fails { let before : Seen = record { head = S.past line.old.head; tail = S.past line.old.tail; asked = F.asked place.old } in
+        let after : Seen = record { head = S.past line.new.head; tail = S.past line.new.tail; asked = F.asked place.new } in
+        IfErr result (Unlooped ⟦<MemoryPages<Global> as Pages>⟧ alloc (option_map (λ x. x.now) file.entry) SECRET.now stops before after told.old told.new (O.printed output.old) (O.printed output.new)) }
 {
-    let readings = polled(rt, file, stops, told)?;
-    print(&readings, output)
+    match polled(alloc, place, line, file, stops, told) {
+        Ok(readings) => print(&readings, output),
+        Err(why) => Err(why),
+    }
 }

@@ -1,5 +1,13 @@
 //! A line of this machine with itself.
+
+ghost use Rattle.std.specs.Prelude.{[], ◌∷◌};
+ghost use Rattle.dlms_loopback.specs.Filing.{error_in};
+ghost use Rattle.dlms_loopback.specs.Moments.{Adds};
+ghost use Rattle.dlms_loopback.specs.Moments.Moment.{Joins};
+
+use crate::end::End;
 use std::io;
+use std::io::{ErrorKind, Read, Write};
 use std::net::{Ipv4Addr, Net, OpenListener, OpenStream, SocketAddr, TcpListener, TcpStream};
 use std::time::Duration;
 
@@ -22,6 +30,63 @@ pub struct Line<S> {
     pub head: S,
     /// The meter's.
     pub tail: S,
+}
+
+/// An end that is to be joined to another one.
+pub trait Joining: End {
+    /// Joins two ends to one line. Before that nothing comes at them, and nothing goes out.
+    fn join(head: &mut Self, tail: &mut Self) -> io::Result<()>
+        ensures head { Adds (Self.past head.old) (Self.past head.new) (Joins (error_in result) ∷ []) }
+        ensures tail { Adds (Self.past tail.old) (Self.past tail.new) (Joins (error_in result) ∷ []) };
+}
+
+/// An end of a TCP connection of this program with itself, once it is joined to the other one.
+#[derive(Drop)]
+pub struct Socket<'r, R: Net> {
+    rt: &'r R,
+    stream: Option<R::Stream>,
+}
+
+/// Two ends that are to be joined.
+pub fn sockets<R: Net>(rt: &R) -> Line<Socket<'_, R>> {
+    Line {
+        head: Socket { rt, stream: None },
+        tail: Socket { rt, stream: None },
+    }
+}
+
+impl<R: Net> Read for Socket<'_, R> {
+    fn read(&mut self, buf: &mut [u8]) -> io::Result<usize> {
+        match &mut self.stream {
+            Some(stream) => stream.read(buf),
+            None => Err(ErrorKind::NotConnected.into()),
+        }
+    }
+}
+
+impl<R: Net> Write for Socket<'_, R> {
+    fn write(&mut self, buf: &[u8]) -> io::Result<usize> {
+        match &mut self.stream {
+            Some(stream) => stream.write(buf),
+            None => Err(ErrorKind::NotConnected.into()),
+        }
+    }
+
+    fn flush(&mut self) -> io::Result<()> {
+        match &mut self.stream {
+            Some(stream) => stream.flush(),
+            None => Err(ErrorKind::NotConnected.into()),
+        }
+    }
+}
+
+impl<R: Net> Joining for Socket<'_, R> {
+    fn join(head: &mut Self, tail: &mut Self) -> io::Result<()> {
+        let line = ends(head.rt)?;
+        head.stream = Some(line.head);
+        tail.stream = Some(line.tail);
+        Ok(())
+    }
 }
 
 /// Both ends of one TCP connection of this program with itself, over a port of the loopback that the system chooses; the

@@ -9,14 +9,22 @@ mod tally;
 mod wire;
 
 use anyhow::Result;
-use dlms_loopback::loopback;
+use dlms_loopback::{FilePlace, loopback, sockets};
 use std::io;
 use std::process::ExitCode;
 
 fn main(rt: HostRuntime) -> Result<ExitCode> {
     let differing = lines::run(&rt)?;
     let mut told = None;
-    let looped = loopback(&rt, None, 2, &mut io::writer(&rt), &mut told);
+    let looped = loopback(
+        rt.alloc(),
+        &mut FilePlace::of(&rt),
+        &mut sockets(&rt),
+        None,
+        2,
+        &mut io::writer(&rt),
+        &mut told,
+    );
     let stopped = stops::run(&rt)?;
     if differing == 0 && looped.is_ok() && stopped == 0 {
         Ok(ExitCode::SUCCESS)

@@ -1,6 +1,6 @@
 //! An end of a line for tests, whose past is known: what comes at it is written down beforehand, and what happens at it is kept.
-ghost use Rattle.std.specs.Prelude.{◌≡◌, [], ◌∷◌, ◌++◌, Some, map, if◌then◌else◌};
-ghost use Rattle.dlms_loopback.specs.Moments.Moment.{Came, Quiet, Went, Broke};
+ghost use Rattle.std.specs.Prelude.{◌≡◌, [], ◌∷◌, ◌++◌, Some, map};
+ghost use Rattle.test_scripts.specs.Scripts.{moment_of};
 
 use arrayvec::ArrayVec;
 use dlms_frame::Client;
@@ -16,34 +16,37 @@ use std::io::ErrorKind;
 use std::process::Abort;
 
 /// The public client's SNRM to the meter (IEC 62056-46).
-const SNRM: [u8; 9] = [0x7e, 0xa0, 0x07, 0x03, 0x21, 0x93, 0x0f, 0x01, 0x7e];
+pub const SNRM: [u8; 9] = [0x7e, 0xa0, 0x07, 0x03, 0x21, 0x93, 0x0f, 0x01, 0x7e];
 
 /// The meter's UA to the public client: 128 bytes of information and one frame each way.
-const UA: [u8; 32] = [
+pub const UA: [u8; 32] = [
     0x7e, 0xa0, 0x1e, 0x21, 0x03, 0x73, 0xc3, 0x7a, 0x81, 0x80, 0x12, 0x05, 0x01, 0x80, 0x06, 0x01,
     0x80, 0x07, 0x04, 0x00, 0x00, 0x00, 0x01, 0x08, 0x04, 0x00, 0x00, 0x00, 0x01, 0x53, 0x3b, 0x7e,
 ];
 
 /// What comes at an end.
 #[derive(Clone, Copy, Debug, PartialEq, Eq)]
-enum Play<'a> {
+pub enum Play<'a> {
     /// These bytes.
     Bytes(&'a [u8]),
     /// Nothing, for as long as the end waits.
     Nothing,
 }
 
-/// What happened at an end: bytes came or went out; and where it went badly, nothing came, or the line broke behind these.
+/// What happened at an end: it was joined to another one; or bytes came or went out; and where it went badly, nothing came, a read
+/// failed, or the line broke behind these.
 #[derive(Drop)]
 struct Happened {
+    is_joining: bool,
     is_coming: bool,
     is_well: bool,
+    failed: Option<io::Error>,
     bytes: Vec<u8>,
 }
 
 /// An end at which this comes; then the line breaks.
 #[derive(Drop)]
-struct Script<'a, R: Abort> {
+pub struct Script<'a, R: Abort> {
     rt: &'a R,
     alloc: Global,
     plays: &'a [Play<'a>],
@@ -53,7 +56,7 @@ struct Script<'a, R: Abort> {
 
 impl<'a, R: Abort> Script<'a, R> {
     /// Nothing has happened.
-    fn new(rt: &'a R, alloc: Global, plays: &'a [Play<'a>]) -> Self {
+    pub fn new(rt: &'a R, alloc: Global, plays: &'a [Play<'a>]) -> Self {
         Script {
             rt,
             alloc,
@@ -80,7 +83,7 @@ impl<'a, R: Abort> Script<'a, R> {
     }
 
     /// Whether this is what happened so many moments before the last one.
-    fn has(&self, before: usize, is_coming: bool, is_well: bool, bytes: &[u8]) -> bool {
+    pub fn has(&self, before: usize, is_coming: bool, is_well: bool, bytes: &[u8]) -> bool {
         match self.happened.iter().rev().nth(before) {
             Some(last) => {
                 last.is_coming == is_coming
@@ -93,7 +96,7 @@ impl<'a, R: Abort> Script<'a, R> {
 }
 
 impl<R: Abort> End for Script<'_, R> {
-    ghost past = { λ s. Some (map (λ m. if m.is_coming then (if m.is_well then Came m.bytes.items else Quiet) else (if m.is_well then Went m.bytes.items else Broke m.bytes.items)) s.happened.items) };
+    ghost past = { λ s. Some (map (λ m. moment_of m.is_joining m.is_coming m.is_well m.failed m.bytes.items) s.happened.items) };
 
     #[tactic(auto, using(crate::proofs::Lists::map_append))]
     fn hear(&mut self, piece: &mut [u8; PIECE]) -> io::Result<Heard> {
@@ -105,8 +108,10 @@ impl<R: Abort> End for Script<'_, R> {
                 piece[..count].copy_from_slice(&bytes[..count]);
                 let bytes = self.copied(&piece[..count]);
                 self.add(Happened {
+                    is_joining: false,
                     is_coming: true,
                     is_well: true,
+                    failed: None,
                     bytes,
                 });
                 Ok(Heard::Bytes(count))
@@ -114,20 +119,25 @@ impl<R: Abort> End for Script<'_, R> {
             Some(Play::Nothing) => {
                 let bytes = self.copied(&[]);
                 self.add(Happened {
+                    is_joining: false,
                     is_coming: true,
                     is_well: false,
+                    failed: None,
                     bytes,
                 });
                 Ok(Heard::Silence)
             }
             None => {
+                let error = io::Error::from(ErrorKind::UnexpectedEof);
                 let bytes = self.copied(&[]);
                 self.add(Happened {
-                    is_coming: false,
+                    is_joining: false,
+                    is_coming: true,
                     is_well: false,
+                    failed: Some(error),
                     bytes,
                 });
-                Err(io::Error::from(ErrorKind::UnexpectedEof))
+                Err(error)
             }
         }
     }
@@ -136,8 +146,10 @@ impl<R: Abort> End for Script<'_, R> {
     fn put(&mut self, bytes: &[u8]) -> io::Result<()> {
         let bytes = self.copied(bytes);
         self.add(Happened {
+            is_joining: false,
             is_coming: false,
             is_well: true,
+            failed: None,
             bytes,
         });
         Ok(())
@@ -164,7 +176,7 @@ fn a_meter_answers_a_frame_in_pieces(rt: HostRuntime) {
     assert!(rt; turn(&mut end, &mut meter).is_ok());
     assert!(rt; end.has(0, true, false, &[]));
     assert!(rt; turn(&mut end, &mut meter).is_err());
-    assert!(rt; end.has(0, false, false, &[]));
+    assert!(rt; end.has(0, true, false, &[]));
 }
 
 /// A head end sends SNRM, asks for an association once UA has come, and asks again where nothing comes; where the line breaks the

@@ -1,28 +1,30 @@
 //! A place of readings and an output for tests, whose past is known: of their calls one is to fail, and what was asked of them is
 //! kept.
 ghost use Rattle.std.specs.Prelude.{◌≡◌, [], ◌∷◌, ◌++◌, Some, None, map, if◌then◌else◌};
-ghost use Rattle.dlms_loopback.specs.Filing.Asked.{Opens, Lays, Puts, Drops};
 ghost use Rattle.dlms_loopback.specs.Moments.Moment.{Went, Broke};
+ghost use Rattle.test_scripts.specs.Scripts.{asked_for};
 
 use dlms_headend::{Readings, Row};
-use dlms_loopback::{Filing, FilingFault, Output, file_rows, keep_rows, open_rows};
+use dlms_loopback::{Filing, FilingFault, Holding, Output, file_rows, keep_rows, open_rows};
 use std::alloc::Global;
 use std::io;
 use std::process::Abort;
 
-/// What was asked: for the text, that one is laid, that it is put, or that it is taken away; the text, and whether it went well.
+/// What was asked: that a file is held, for the text, that one is laid, that it is put, or that it is taken away; the file or the
+/// text, and why it failed.
 #[derive(Drop)]
 struct Call {
+    is_held: bool,
     is_text: bool,
     is_laid: bool,
     is_put: bool,
-    is_well: bool,
+    failed: Option<io::Error>,
     text: Vec<u8>,
 }
 
 /// A place whose call of this number, counted from 0, fails.
 #[derive(Drop)]
-struct Shelf<'a, R: Abort> {
+pub struct Shelf<'a, R: Abort> {
     rt: &'a R,
     alloc: Global,
     fails: usize,
@@ -33,7 +35,7 @@ struct Shelf<'a, R: Abort> {
 
 impl<'a, R: Abort> Shelf<'a, R> {
     /// Where this text stands.
-    fn new(rt: &'a R, alloc: Global, standing: &str, fails: usize) -> Self {
+    pub fn new(rt: &'a R, alloc: Global, standing: &str, fails: usize) -> Self {
         Shelf {
             rt,
             alloc,
@@ -44,9 +46,13 @@ impl<'a, R: Abort> Shelf<'a, R> {
         }
     }
 
-    /// Whether the next call goes well.
-    fn is_well(&self) -> bool {
-        self.calls.len() != self.fails
+    /// Why the next call fails, if it does.
+    fn failure(&self) -> Option<io::Error> {
+        if self.calls.len() == self.fails {
+            Some(io::Error::other("as it is written down"))
+        } else {
+            None
+        }
     }
 
     /// This was asked.
@@ -65,6 +71,11 @@ impl<'a, R: Abort> Shelf<'a, R> {
         copy
     }
 
+    /// Whether this text stands there.
+    pub fn stands(&self, text: &str) -> bool {
+        self.standing.as_str() == text
+    }
+
     /// Whether these were the calls behind the first one: a text was laid, and put or taken away, or it was not, and how the last
     /// of them went.
     fn has(&self, count: usize, text: &str, is_put: bool, is_well: bool) -> bool {
@@ -73,74 +84,94 @@ impl<'a, R: Abort> Shelf<'a, R> {
             None => false,
         };
         let is_ended = match self.calls.last() {
-            Some(call) => call.is_put == is_put && call.is_well == is_well,
+            Some(call) => call.is_put == is_put && call.failed.is_none() == is_well,
             None => false,
         };
         is_laid && is_ended && self.calls.len() == count
     }
 }
 
+impl<R: Abort> Holding for Shelf<'_, R> {
+    #[tactic(auto, using(crate::proofs::Lists::map_append))]
+    fn hold(&mut self, file: &str) -> io::Result<()> {
+        let failed = self.failure();
+        let text = self.copied(file.as_bytes());
+        self.add(Call {
+            is_held: true,
+            is_text: false,
+            is_laid: false,
+            is_put: false,
+            failed,
+            text,
+        });
+        match failed {
+            None => Ok(()),
+            Some(error) => Err(error),
+        }
+    }
+}
+
 impl<R: Abort> Filing for Shelf<'_, R> {
-    ghost asked = { λ s. Some (map (λ c. if c.is_text then (Opens (if c.is_well then Some c.text.items else None)) else (if c.is_laid then (Lays c.text.items c.is_well) else (if c.is_put then (Puts c.is_well) else Drops))) s.calls.items) };
+    ghost asked = { λ s. Some (map (λ c. asked_for c.is_held c.is_text c.is_laid c.is_put c.failed c.text.items) s.calls.items) };
 
     #[tactic(auto, using(crate::proofs::Lists::map_append))]
     fn text(&mut self, alloc: Global) -> io::Result<String> {
-        let is_well = self.is_well();
+        let failed = self.failure();
         let text = self.copied(self.standing.as_bytes());
         let standing = String::from_str(alloc, self.standing.as_str()).expect(self.rt, "memory");
         self.add(Call {
+            is_held: false,
             is_text: true,
             is_laid: false,
             is_put: false,
-            is_well,
+            failed,
             text,
         });
-        if is_well {
-            Ok(standing)
-        } else {
-            Err(io::Error::other("no text"))
+        match failed {
+            None => Ok(standing),
+            Some(error) => Err(error),
         }
     }
 
     #[tactic(auto, using(crate::proofs::Lists::map_append))]
     fn lay(&mut self, text: &str) -> io::Result<()> {
-        let is_well = self.is_well();
+        let failed = self.failure();
         let copy = self.copied(text.as_bytes());
         self.laid = String::from_str(self.alloc, text).expect(self.rt, "memory");
         self.add(Call {
+            is_held: false,
             is_text: false,
             is_laid: true,
             is_put: false,
-            is_well,
+            failed,
             text: copy,
         });
-        if is_well {
-            Ok(())
-        } else {
-            Err(io::Error::other("not laid"))
+        match failed {
+            None => Ok(()),
+            Some(error) => Err(error),
         }
     }
 
     #[tactic(auto, using(crate::proofs::Lists::map_append))]
     fn put(&mut self) -> io::Result<()> {
-        let is_well = self.is_well();
+        let failed = self.failure();
         let text = self.copied(&[]);
-        if is_well {
+        if failed.is_none() {
             self.standing = String::from_str(self.alloc, self.laid.as_str()).expect(
                 self.rt, "memory",
             );
         }
         self.add(Call {
+            is_held: false,
             is_text: false,
             is_laid: false,
             is_put: true,
-            is_well,
+            failed,
             text,
         });
-        if is_well {
-            Ok(())
-        } else {
-            Err(io::Error::other("not put"))
+        match failed {
+            None => Ok(()),
+            Some(error) => Err(error),
         }
     }
 
@@ -148,10 +179,11 @@ impl<R: Abort> Filing for Shelf<'_, R> {
     fn drop_laid(&mut self) {
         let text = self.copied(&[]);
         self.add(Call {
+            is_held: false,
             is_text: false,
             is_laid: false,
             is_put: false,
-            is_well: true,
+            failed: None,
             text,
         });
     }
@@ -166,7 +198,7 @@ struct Print {
 
 /// An output that takes what is printed, or fails before any of it.
 #[derive(Drop)]
-struct Sheet<'a, R: Abort> {
+pub struct Sheet<'a, R: Abort> {
     rt: &'a R,
     alloc: Global,
     is_well: bool,
@@ -175,7 +207,7 @@ struct Sheet<'a, R: Abort> {
 
 impl<'a, R: Abort> Sheet<'a, R> {
     /// Nothing was printed.
-    fn new(rt: &'a R, alloc: Global, is_well: bool) -> Self {
+    pub fn new(rt: &'a R, alloc: Global, is_well: bool) -> Self {
         Sheet {
             rt,
             alloc,
@@ -185,7 +217,7 @@ impl<'a, R: Abort> Sheet<'a, R> {
     }
 
     /// Whether these bytes alone were printed.
-    fn has(&self, bytes: &[u8]) -> bool {
+    pub fn has(&self, bytes: &[u8]) -> bool {
         match self.prints.as_slice() {
             [print] => print.is_well && print.bytes.as_slice() == bytes,
             _ => false,

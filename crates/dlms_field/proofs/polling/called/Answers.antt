@@ -5,4 +5,4 @@ use Rattle.dlms_loopback.specs.BothEnds.{IsDonePoll}
 use Rattle.dlms_field.proofs.polling.called.Goals as goal
 
 pub returns-in-Ok-clause-done : goal.returns-in-Ok-clause-done
-returns-in-Ok-clause-done g c = λ plan fresh. subst (λ (done : Option PollerValue). IfSome done (IsDonePoll plan)) c.in-Some.is (c.in_ok-poller.ensures.done plan fresh)
+returns-in-Ok-clause-done g c = λ plan fresh. subst (λ (found : Option PollerValue). IfSome found (IsDonePoll plan)) c.in-Ok-Some.field-0-is (c.in-Ok-Some.ensures.done plan fresh)

@@ -9,7 +9,7 @@ reads-init g c = turn_start _ c.args.meter.now
 pub returns-in_err-hear : goal.returns-in_err-hear
 returns-in_err-hear g c = λ w stands.
     was_err _ c.from_residual.result c.from_residual.ensures.0
-    (turn_unheard (g.S.End.past c.args.end.now) (g.S.End.past c.reads.end) (g.S.End.past c.hear.new.self) c.args.meter.now c.reads.meter c.reads._read c.reads.invariant c.in_err-hear.ensures.past w stands)
+    (turn_unheard (g.S.End.past c.args.end.now) (g.S.End.past c.reads.end) (g.S.End.past c.hear.new.self) c.args.meter.now c.reads.meter c.reads._read c.in_err-hear.field-0.0 c.reads.invariant c.in_err-hear.ensures.past w stands)
 
 pub returns-in-Silence : goal.returns-in-Silence
 returns-in-Silence g c = λ w stands.

@@ -27,7 +27,7 @@ pub returns-in-Err-read_piece : goal.returns-in-Err-read_piece
 returns-in-Err-read_piece g c =
     let u = c.rounds.invariant in
     under_ends c.args.rules (g.T.End.past c.args.stream.now) (g.T.End.past c.rounds.stream) (g.T.End.past c.read_piece.new.stream) (g.W.Watch.seen c.args.self.now.watch) (g.W.Watch.seen c.rounds.self.watch) (g.W.Watch.seen c.check.new.self.watch) c.args.meter.now c.rounds.meter c.check.new.meter c.args.self.now.ticks c.rounds.self.ticks c.check.new.self.ticks c.rounds.stay c.rounds._round (Ok c.ending_of.result) c.rounds.invariant
-    (read_breaks c.args.rules (g.T.End.past c.args.stream.now) (g.T.End.past c.rounds.stream) (g.T.End.past c.read_piece.new.stream) u.seen (g.W.Watch.seen c.rounds.self.watch) (g.W.Watch.seen c.check.new.self.watch) (begins c.rounds.invariant.mid c.rounds.invariant.told c.rounds.invariant.first) c.rounds.meter c.check.new.meter c.rounds.self.ticks c.check.new.self.ticks c.rounds.stay c.check.new.stay c.rounds._round c.in-Ok-None.field-0 c.ending_of.result u.goes c.in-Ok-None.field-0-is (c.in-Ok-None.ensures [] c.rounds._round) c.in-Err-read_piece.ensures.reads c.ending_of.ensures)
+    (read_breaks c.args.rules (g.T.End.past c.args.stream.now) (g.T.End.past c.rounds.stream) (g.T.End.past c.read_piece.new.stream) u.seen (g.W.Watch.seen c.rounds.self.watch) (g.W.Watch.seen c.check.new.self.watch) (begins c.rounds.invariant.mid c.rounds.invariant.told c.rounds.invariant.first) c.rounds.meter c.check.new.meter c.rounds.self.ticks c.check.new.self.ticks c.rounds.stay c.check.new.stay c.rounds._round c.in-Ok-None.field-0 c.in-Err-read_piece.error c.ending_of.result u.goes c.in-Ok-None.field-0-is (c.in-Ok-None.ensures [] c.rounds._round) c.in-Err-read_piece.ensures.reads c.ending_of.ensures)
 
 pub returns-in-Ok-Some-answer_each : goal.returns-in-Ok-Some-answer_each
 returns-in-Ok-Some-answer_each g c =

@@ -10,7 +10,7 @@ pub returns-in_err-hear : goal.returns-in_err-hear
 returns-in_err-hear g c = λ h at.
     let told = system_err c.from_residual.result c.in_err-hear.field-0.0 c.from_residual.ensures.1 in
     turn_err _ _ h _ c.from_residual.result told.0 told.1
-    (turn_unheard (g.S.End.past c.args.end.now) (g.S.End.past c.reads.end) (g.S.End.past c.hear.new.self) c.args.self.now c.reads.self c.reads._read told.0 c.reads.invariant c.in_err-hear.ensures.past told.2 h at)
+    (turn_unheard (g.S.End.past c.args.end.now) (g.S.End.past c.reads.end) (g.S.End.past c.hear.new.self) c.args.self.now c.reads.self c.reads._read told.0 c.in_err-hear.field-0.0 c.reads.invariant c.in_err-hear.ensures.past told.2 h at)
 
 pub returns-in-Silence : goal.returns-in-Silence
 returns-in-Silence g c = λ h at.
