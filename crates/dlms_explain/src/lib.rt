@@ -14,6 +14,8 @@ mod service_text;
 mod session;
 mod words;
 
+pub use data_text::write_value;
 pub use explainer::Explainer;
 pub use fault::ExplainFault;
+pub use names_text::write_code;
 pub use session::{MOST_LINE, explain};
