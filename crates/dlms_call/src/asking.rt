@@ -75,7 +75,7 @@ pub fn get<S: End, A: Allocator + Copy>(
         return Err(CallFault::Talk(Fault::Form));
     }
     let frame = head.client.get::<A>(attribute, None)?;
-    send(line, &frame)?;
+    let _sent = send(line, &frame)?;
     answer(line, head)
 }
 
@@ -90,7 +90,7 @@ pub fn set<S: End, A: Allocator + Copy>(
         return Err(CallFault::Talk(Fault::Form));
     }
     let frame = head.client.set::<A>(attribute, None, value)?;
-    send(line, &frame)?;
+    let _sent = send(line, &frame)?;
     answer(line, head)
 }
 
@@ -105,7 +105,7 @@ pub fn act<S: End, A: Allocator + Copy>(
         return Err(CallFault::Talk(Fault::Form));
     }
     let frame = head.client.act(method, parameter)?;
-    send(line, &frame)?;
+    let _sent = send(line, &frame)?;
     answer(line, head)
 }
 
@@ -118,7 +118,7 @@ pub fn end<S: End, A: Allocator + Copy>(
         return Err(CallFault::Talk(Fault::Form));
     }
     let frame = head.client.disconnect();
-    send(line, &frame)?;
+    let _sent = send(line, &frame)?;
     match settle(line, head)? {
         Turn::Down => Ok(()),
         _ => Err(CallFault::Talk(Fault::Form)),

@@ -1,11 +1,15 @@
 //! A client's end of a line.
 
+ghost use Rattle.std.specs.Prelude.{◌≡◌};
+ghost use Rattle.dlms_call.specs.Talking.{IsOfSystem, Repeats, SendsFrame, TakesFrame, TakesPiece, Turned};
+
 use crate::fault::CallFault;
 use dlms_client::{Answer, Client, Fault, Step};
 use dlms_frame::{Deframer, Frame};
 use dlms_loopback::{End, Heard, PIECE, bytes_of};
 use std::alloc::{Allocator, Global};
 use std::io;
+use std::io::ErrorKind;
 
 /// The most bytes that may come in one talk.
 pub const MOST_BYTES: usize = 16_777_216;
@@ -34,17 +38,35 @@ pub struct ClientEnd<A: Allocator = Global> {
     left: usize,
 }
 
+/// An error of the system as a fault.
+fn of_system(error: &io::Error) -> CallFault
+    ensures { IsOfSystem result }
+{
+    if error.kind() == ErrorKind::OutOfMemory {
+        CallFault::Memory
+    } else {
+        CallFault::Io
+    }
+}
+
 /// A frame goes out.
-pub fn send<W: End>(end: &mut W, frame: &Frame) -> io::Result<()> {
-    end.put(frame.put().as_slice())
+pub fn send<W: End>(end: &mut W, frame: &Frame) -> Result<Turn, CallFault>
+    ensures { SendsFrame (W.past end.old) (W.past end.new) frame.now result }
+{
+    match end.put(frame.put().as_slice()) {
+        Ok(()) => Ok(Turn::Sent),
+        Err(error) => Err(of_system(&error)),
+    }
 }
 
 impl<A: Allocator + Copy> ClientEnd<A> {
     /// Sends the client's first frame.
-    pub fn begin<W: End>(end: &mut W, client: Client<A>) -> io::Result<Self> {
+    pub fn begin<W: End>(end: &mut W, client: Client<A>) -> Result<Self, CallFault> {
         let mut client = client;
         match client.next() {
-            Some(frame) => send(end, &frame)?,
+            Some(frame) => {
+                let _sent = send(end, &frame)?;
+            }
             None => {}
         }
         Ok(ClientEnd {
@@ -54,35 +76,33 @@ impl<A: Allocator + Copy> ClientEnd<A> {
         })
     }
 
-    /// Takes a frame.
-    fn take_frame<W: End>(
-        &mut self,
-        end: &mut W,
-        frame: &Frame,
-    ) -> Result<Option<Turn>, CallFault> {
-        match self.client.on(frame)? {
-            Step::Nothing => Ok(None),
-            Step::Send(next) => {
-                send(end, &next)?;
-                Ok(Some(Turn::Sent))
-            }
-            Step::Associated => Ok(Some(Turn::Associated)),
-            Step::Answered(answer) => Ok(Some(Turn::Answered(answer))),
-            Step::Down => Ok(Some(Turn::Down)),
+    /// Takes a frame; none where nothing is told of it.
+    fn take_frame<W: End>(&mut self, end: &mut W, frame: &Frame) -> Option<Result<Turn, CallFault>>
+        ensures { TakesFrame (W.past end.old) (W.past end.new) self.old.client frame.now self.new.client result }
+    {
+        match self.client.on(frame) {
+            Ok(Step::Nothing) => None,
+            Ok(Step::Send(next)) => Some(send(end, &next)),
+            Ok(Step::Associated) => Some(Ok(Turn::Associated)),
+            Ok(Step::Answered(answer)) => Some(Ok(Turn::Answered(answer))),
+            Ok(Step::Down) => Some(Ok(Turn::Down)),
+            Err(fault) => Some(Err(CallFault::Talk(fault))),
         }
     }
 
     /// Takes the frames among the bytes, up to the one that is answered or brings something. What stands behind it came before the
     /// question that is out now, and is dropped.
-    fn take<W: End>(&mut self, end: &mut W, bytes: &[u8]) -> Result<Option<Turn>, CallFault> {
+    fn take<W: End>(&mut self, end: &mut W, bytes: &[u8]) -> Option<Result<Turn, CallFault>>
+        ensures { TakesPiece (W.past end.old) (W.past end.new) self.old.client self.new.client result }
+    {
         let mut rest = bytes;
         'frames: while !rest.is_empty() {
             let (taken, frame) = self.deframer.feed(rest);
             match frame {
-                Some(frame) => match self.take_frame(end, &frame)? {
+                Some(frame) => match self.take_frame(end, &frame) {
                     Some(turn) => {
                         self.deframer.idle();
-                        return Ok(Some(turn));
+                        return Some(turn);
                     }
                     None => {}
                 },
@@ -90,42 +110,52 @@ impl<A: Allocator + Copy> ClientEnd<A> {
             }
             rest = &rest[taken..];
         }
-        Ok(None)
+        None
     }
 
-    /// So many bytes more have come. More than a talk may have are a fault.
-    fn count(&mut self, bytes: usize) -> Result<(), CallFault> {
+    /// Whether so many bytes more may come; then they are counted.
+    fn counts(&mut self, bytes: usize) -> bool
+        ensures { self.new.client ≡ self.old.client }
+    {
         match self.left.checked_sub(bytes) {
             Some(left) => {
                 self.left = left;
-                Ok(())
+                true
             }
-            None => Err(CallFault::Talk(Fault::Form)),
+            None => false,
         }
     }
 
     /// Nothing came: the frame that is out goes again, and the fourth time-out in a row is a fault.
-    fn repeat<W: End>(&mut self, end: &mut W) -> Result<Turn, CallFault> {
+    fn repeat<W: End>(&mut self, end: &mut W) -> Result<Turn, CallFault>
+        ensures { Repeats (W.past end.old) (W.past end.new) self.old.client self.new.client result }
+    {
         self.deframer.idle();
         if !self.client.is_waiting() {
             return Err(CallFault::Talk(Fault::Line));
         }
-        let frame = self.client.timeout()?;
-        send(end, &frame)?;
-        Ok(Turn::Sent)
+        match self.client.timeout() {
+            Ok(frame) => send(end, &frame),
+            Err(fault) => Err(CallFault::Talk(fault)),
+        }
     }
 
     /// The client takes what comes, until a frame of its own is out or something has come. What comes in more than so many pieces
     /// without one is a fault of the line.
-    pub fn turn<S: End>(&mut self, end: &mut S) -> Result<Turn, CallFault> {
+    pub fn turn<S: End>(&mut self, end: &mut S) -> Result<Turn, CallFault>
+        ensures { Turned (S.past end.old) (S.past end.new) self.old.client self.new.client result }
+    {
         let mut piece = [0u8; PIECE];
         'reads: for _read in 0..READS {
-            match end.hear(&mut piece)? {
-                Heard::Silence => return self.repeat(end),
-                Heard::Bytes(count) => {
-                    self.count(count)?;
-                    match self.take(end, bytes_of(&piece, count))? {
-                        Some(turn) => return Ok(turn),
+            match end.hear(&mut piece) {
+                Err(error) => return Err(of_system(&error)),
+                Ok(Heard::Silence) => return self.repeat(end),
+                Ok(Heard::Bytes(count)) => {
+                    if !self.counts(count) {
+                        return Err(CallFault::Talk(Fault::Form));
+                    }
+                    match self.take(end, bytes_of(&piece, count)) {
+                        Some(turn) => return turn,
                         None => {}
                     }
                 }

@@ -4,8 +4,6 @@ ghost use Rattle.std.specs.Prelude.{◌≡◌};
 ghost use Rattle.dlms_call.specs.declared.fault.CallFault.TheVariants.{Talk as TalkOf};
 
 use dlms_client::{AskFault, Fault};
-use std::io;
-use std::io::ErrorKind;
 
 /// Why a talk with a meter ended early.
 #[derive(Clone, Copy, Debug, PartialEq, Eq)]
@@ -33,16 +31,6 @@ impl From<AskFault> for CallFault {
         match fault {
             AskFault::TooLong => CallFault::TooLong,
             AskFault::Memory => CallFault::Memory,
-        }
-    }
-}
-
-impl From<io::Error> for CallFault {
-    fn from(e: io::Error) -> CallFault {
-        if e.kind() == ErrorKind::OutOfMemory {
-            CallFault::Memory
-        } else {
-            CallFault::Io
         }
     }
 }

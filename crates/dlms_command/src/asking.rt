@@ -11,7 +11,7 @@ use dlms_client::Plan;
 use dlms_data::Data;
 use dlms_field::{FieldFault, secret_of};
 use dlms_frame::{Address, Client};
-use dlms_loopback::End;
+use dlms_loopback::{End, LoopFault};
 use dlms_program::Asking;
 use std::alloc::Global;
 use std::fs::File;
@@ -51,7 +51,7 @@ pub enum Errand<'a> {
 fn now<'a, H: Clock>(host: &H) -> Result<u32, Fault<'a>> {
     match host.since_1970() {
         Ok(since) => Ok(second_of(since.as_secs())),
-        Err(_) => Err(Fault::Output),
+        Err(_) => Err(Fault::Loop(LoopFault::Io)),
     }
 }
 
