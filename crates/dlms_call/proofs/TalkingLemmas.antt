@@ -1,24 +1,20 @@
 -- A client's end, act by act.
 use Rattle.std.proofs.Common.{refl, sym, ap, subst, append-nil, append_assoc, ◌∙◌, ◌≡◌, ℕ, List, [], ◌∷◌, ◌++◌}
-use Rattle.std.specs.Prelude.{◌⊎◌, Option, Some, None, Result, Ok, Err}
-use Rattle.dlms_client.specs.Calls.{CanTimeOut, Comes, TimesOut}
+use Rattle.std.specs.Prelude.{Option, Some, None, Result, Ok, Err}
+use Rattle.dlms_client.specs.Calls.{Comes}
 use Rattle.dlms_client.specs.ClientValue.{ClientValue}
-use Rattle.dlms_client.specs.declared.fault.Fault.{Fault}
-use Rattle.dlms_client.specs.declared.fault.Fault.TheVariants as fault
 use Rattle.dlms_client.specs.declared.step.Step.{Step}
 use Rattle.dlms_client.specs.declared.step.Step.TheVariants as step
 use Rattle.dlms_frame.specs.Frame.{Parts, spelling}
 use Rattle.dlms_loopback.specs.Moments.{Moment, Adds}
 use Rattle.dlms_loopback.specs.Moments.Moment.{Came, Quiet, Went, Broke}
 use Rattle.dlms_loopback.proofs.MomentLemmas.{adds_as, adds_more, adds_none, adds_still}
-use Rattle.dlms_call.specs.Talking.{Act, Acts, AreListening, Does, Ends, GivesAgain, IsOfSystem, Listened, Repeats, SendsFrame, TakesFrame, Turned, comes_by, moments_by, moments_of, told_by}
+use Rattle.dlms_call.specs.Talking.{Act, Acts, AreListening, Does, Ends, Listened, Repeats, SendsFrame, TakesFrame, Turned, moments_by, moments_of, told_by}
 use Rattle.dlms_call.specs.Talking.Act.{Gets, Hears, Waits}
-use Rattle.dlms_call.specs.Talking.Ends.{Tells, BreaksReading, BreaksSending, Floods, NoneIsOut, Tires}
+use Rattle.dlms_call.specs.Talking.Ends.{Tells, BreaksSending, NoneIsOut}
 use Rattle.dlms_call.specs.Talking.Repeats.{IsIdle, IsTold}
 use Rattle.dlms_call.specs.declared.client_end.Turn.{Turn}
-use Rattle.dlms_call.specs.declared.client_end.Turn.TheVariants.{Sent}
 use Rattle.dlms_call.specs.declared.fault.CallFault.{CallFault}
-use Rattle.dlms_call.specs.declared.fault.CallFault.TheVariants.{Talk}
 
 acts_more : (c m c' : ClientValue) (xs ys : List Act) → Acts c xs m → Acts m ys c' → Acts c (xs ++ ys) c'
 acts_more c m c' [] ys a b = subst (λ (x : ClientValue). Acts x ys c') a b
@@ -68,15 +64,18 @@ turned_behind old now new c m c' result a t = record { mid = t.mid; now = t.now;
 
 -- the frame that the client gives to send
 pub sent_at : (old new : Option (List Moment)) (c c' : ClientValue) (frame next : Parts) (result : Result Turn CallFault) → Comes c frame (Ok (step.Send next)) c' → SendsFrame old new next result → Ends old new c c' result
-sent_at old new c c' frame next (Ok turn) comes (is, adds) = Tells (Hears frame (Ok (step.Send next))) (ap (λ (t : Turn). Some {A = Result Turn CallFault} (Ok t)) (sym is)) comes adds
+sent_at old new c c' frame next (Ok turn) comes (is, adds) = Tells (Hears frame (Ok (step.Send next))) (rw is refl) comes adds
 sent_at old new c c' frame next (Err f) comes (is, (part, missing, begins, adds)) = BreaksSending (Hears frame (Ok (step.Send next))) next f is refl refl comes part missing begins adds
 
 -- nothing came
 pub ends_again : (old now new : Option (List Moment)) (c c' : ClientValue) (result : Result Turn CallFault) → Adds old now (Quiet ∷ []) → Repeats now new c c' result → Ends old new c c' result
 ends_again old now new c c' result quiet (IsIdle none told same adds) = NoneIsOut told none same (adds_still old now new (Quiet ∷ []) quiet adds)
 ends_again old now new c c' (Ok turn) quiet (IsTold (Ok frame) can times (is, adds)) =
-    Tells (Waits (Ok frame)) (ap (λ (t : Turn). Some {A = Result Turn CallFault} (Ok t)) (sym is)) (can, times) (adds_more old now new (Quiet ∷ []) (Went (spelling frame) ∷ []) quiet adds)
+    Tells (Waits (Ok frame)) (rw is refl) (can, times) (adds_more old now new (Quiet ∷ []) (Went (spelling frame) ∷ []) quiet adds)
 ends_again old now new c c' (Err f) quiet (IsTold (Ok frame) can times (is, (part, missing, begins, adds))) =
     BreaksSending (Waits (Ok frame)) frame f is refl refl (can, times) part missing begins (adds_more old now new (Quiet ∷ []) (Broke part ∷ []) quiet adds)
 ends_again old now new c c' result quiet (IsTold (Err f) can times (told, adds)) =
     Tells (Waits (Err f)) (ap (λ (r : Result Turn CallFault). Some r) (sym told)) (can, times) (adds_still old now new (Quiet ∷ []) quiet adds)
+
+pub comes_as : (c c' : ClientValue) (frame : Parts) (x y : Step) → x ≡ y → Comes c frame (Ok x) c' → Comes c frame (Ok y) c'
+comes_as c c' frame x y is comes = subst (λ (s : Step). Comes c frame (Ok s) c') is comes

@@ -12,7 +12,7 @@ use Rattle.dlms_loopback.specs.Moments.Moment.{Came, Quiet, Went, Broke}
 use Rattle.dlms_call.specs.declared.client_end.Turn.{Turn}
 use Rattle.dlms_call.specs.declared.client_end.Turn.TheVariants.{Sent, Associated, Answered, Down}
 use Rattle.dlms_call.specs.declared.fault.CallFault.{CallFault}
-use Rattle.dlms_call.specs.declared.fault.CallFault.TheVariants.{Talk, TooLong, Io, Memory}
+use Rattle.dlms_call.specs.declared.fault.CallFault.TheVariants.{Talk, Io, Memory}
 
 -- Bytes come; a frame is given to the client, which makes this of it; nothing comes, which the client is told.
 pub data Act : Type 0 where
