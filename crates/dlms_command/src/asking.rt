@@ -1,5 +1,8 @@
 //! A meter that is asked: the line to it, the association, and the errand.
 
+ghost use Rattle.std.specs.Prelude.{◌≤◌, IfOk};
+ghost use Rattle.dlms_data.specs.declared.date_time.TheConstants.{LAST_SECOND};
+
 use crate::connecting::line_to;
 use crate::errand::{Talk, named, second_of, written};
 use crate::fault::Fault;
@@ -48,7 +51,9 @@ pub enum Errand<'a> {
 }
 
 /// The second of the system's clock.
-fn now<'a, H: Clock>(host: &H) -> Result<u32, Fault<'a>> {
+fn now<'a, H: Clock>(host: &H) -> Result<u32, Fault<'a>>
+    ensures { IfOk result (λ second. second ≤ LAST_SECOND) }
+{
     match host.since_1970() {
         Ok(since) => Ok(second_of(since.as_secs())),
         Err(_) => Err(Fault::Loop(LoopFault::Io)),
