@@ -72,24 +72,28 @@ poll_command = with_rules (new_app (codes "poll"))
     ∷ number_rule (codes "deadline") 1 86400 ∷ flag_rule (codes "check-clock") ∷ number_rule (codes "ahead") 0 31536000 ∷ [])
 
 -- which meter is asked, by whom, and whether the frames are explained
-abbrev pub asking_rules : List Rule → List Rule
-asking_rules rules =
-    option_rule (codes "server") ∷ flag_rule (codes "wide") ∷ number_rule (codes "client") 1 127 ∷ option_rule (codes "secret-file") ∷ short_flag_rule (codes "verbose") 118 ∷ rules
+abbrev pub asking_rules : List Rule
+asking_rules =
+    option_rule (codes "server") ∷ flag_rule (codes "wide") ∷ number_rule (codes "client") 1 127 ∷ option_rule (codes "secret-file") ∷ short_flag_rule (codes "verbose") 118 ∷ []
 
 abbrev pub get_command : App
-get_command = with_rules (new_app (codes "get"))
-    (wanted_rule (codes "PLACE") ∷ wanted_rule (codes "NAMES") ∷ number_rule (codes "class") 1 65535 ∷ flag_rule (codes "raw") ∷ flag_rule (codes "json") ∷ asking_rules [])
+get_command = with_rules
+    (with_rules (new_app (codes "get"))
+    (wanted_rule (codes "PLACE") ∷ wanted_rule (codes "NAMES") ∷ number_rule (codes "class") 1 65535 ∷ flag_rule (codes "raw") ∷ flag_rule (codes "json") ∷ []))
+    asking_rules
 
 abbrev pub list_command : App
-list_command = with_rules (new_app (codes "list")) (wanted_rule (codes "PLACE") ∷ flag_rule (codes "json") ∷ asking_rules [])
+list_command = with_rules (with_rules (new_app (codes "list")) (wanted_rule (codes "PLACE") ∷ flag_rule (codes "json") ∷ [])) asking_rules
 
 abbrev pub set_command : App
-set_command = with_rules (new_app (codes "set"))
-    (wanted_rule (codes "PLACE") ∷ wanted_rule (codes "NAME") ∷ wanted_rule (codes "VALUE") ∷ number_rule (codes "class") 1 65535 ∷ asking_rules [])
+set_command = with_rules
+    (with_rules (new_app (codes "set")) (wanted_rule (codes "PLACE") ∷ wanted_rule (codes "NAME") ∷ wanted_rule (codes "VALUE") ∷ number_rule (codes "class") 1 65535 ∷ []))
+    asking_rules
 
 abbrev pub act_command : App
-act_command = with_rules (new_app (codes "act"))
-    (wanted_rule (codes "PLACE") ∷ wanted_rule (codes "NAME") ∷ value_rule (codes "VALUE") ∷ number_rule (codes "class") 1 65535 ∷ asking_rules [])
+act_command = with_rules
+    (with_rules (new_app (codes "act")) (wanted_rule (codes "PLACE") ∷ wanted_rule (codes "NAME") ∷ value_rule (codes "VALUE") ∷ number_rule (codes "class") 1 65535 ∷ []))
+    asking_rules
 
 abbrev pub explain_command : App
 explain_command = with_rules (new_app (codes "explain")) (value_rule (codes "FILE") ∷ flag_rule (codes "raw") ∷ [])
