@@ -1,14 +1,14 @@
 -- Numbers that a text writes.
-use Rattle.std.proofs.Common.{arith, inl, inr, ◌≡◌, ◌<◌, ◌+◌, ◌^◌, ◌⊎◌, ℕ, List, ◌∷◌}
+use Rattle.std.proofs.Common.{arith, inl, inr, ◌≡◌, ◌<◌, ◌^◌, ℕ, List}
 use Rattle.std.specs.Prelude.{ℤ, Result, Ok, Err, IfErr, Option, Some, None, IfNone, codes}
 use Rattle.dlms_ask.specs.declared.fault.ValueFault.{ValueFault}
 use Rattle.dlms_ask.specs.declared.fault.ValueFault.TheVariants.{Form}
 use Rattle.dlms_data.specs.Value.{Value}
-use Rattle.dlms_ask.specs.Texts.{IsBelow, IsSigned}
+use Rattle.dlms_ask.specs.Texts.{IsSigned}
 use Rattle.dlms_ask.specs.Values.{IsWorded, IsWritten, WritesSigned}
 use Rattle.dlms_ask.specs.Values.IsWritten.{is_null, is_now, is_worded}
 use Rattle.dlms_ask.specs.declared.kind.Kind.{Kind}
-use Rattle.dlms_ask.specs.declared.kind.Kind.TheVariants.{Unsigned, LongUnsigned, DoubleLongUnsigned, Long64Unsigned, Integer, Long, DoubleLong, Long64, Enum, Bool, Text, Visible, Utf8, Hex, Raw}
+use Rattle.dlms_ask.specs.declared.kind.Kind.TheVariants.{Integer, Long, DoubleLong, Long64}
 
 wider : (a b : ℕ) (text : List ℕ) (z : ℤ) → a < b → IsSigned a text z → IsSigned b text z
 wider a b text z less (inl (n, below, is)) = inl (n, record { numeral = below.numeral; value = below.value; fits = omega (arith, less, below.fits) }, is)

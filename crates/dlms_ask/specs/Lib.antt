@@ -3,3 +3,5 @@ pub mod Names
 pub mod Kinds
 pub mod Values
 pub mod Servers
+pub mod Entries
+pub mod Decimals

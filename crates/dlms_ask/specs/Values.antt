@@ -1,5 +1,5 @@
 -- The values that a text writes (the types of IEC 62056-6-2, Blue Book 4.1.5).
-use Rattle.std.specs.Prelude.{◌≡◌, ◌⊎◌, ◌^◌, ℕ, ℤ, List, [], Ok, length, ◌<◌, true, false, codes}
+use Rattle.std.specs.Prelude.{◌≡◌, ◌⊎◌, ◌^◌, ℕ, ℤ, List, Ok, true, false, codes}
 use Rattle.hex.specs.Hex.{decode_of}
 use Rattle.dlms_data.specs.Value.{Value, null, boolean, double_long, double_long_unsigned, octet_string, visible_string, utf8_string, integer, long, unsigned, long_unsigned, long64, long64_unsigned, enumerated}
 use Rattle.dlms_data.specs.Spelling.{IsSpelling}

@@ -1,11 +1,16 @@
 //! Numbers with a scaler.
 
+ghost use Rattle.std.specs.Prelude.{◌≡◌, ◌++◌, replicate, OnOk};
+ghost use Rattle.dlms_ask.specs.Decimals.{scaled, with_point};
+
 use itoa::Buffer;
 use std::alloc::{AllocError, Allocator};
 
 /// Appends zeros.
-fn append_zeros<A: Allocator>(text: &mut Vec<u8, A>, count: usize) -> Result<(), AllocError> {
-    for _ in 0..count {
+fn append_zeros<A: Allocator>(text: &mut Vec<u8, A>, count: usize) -> Result<(), AllocError>
+    ensures { OnOk result (text.new.items ≡ text.old.items ++ replicate count 48) }
+{
+    'zeros: for _zero in 0..count {
         text.push(b'0')?;
     }
     Ok(())
@@ -16,7 +21,9 @@ fn append_with_point<A: Allocator>(
     text: &mut Vec<u8, A>,
     digits: &[u8],
     places: usize,
-) -> Result<(), AllocError> {
+) -> Result<(), AllocError>
+    ensures { OnOk result (text.new.items ≡ text.old.items ++ with_point digits.now places) }
+{
     if places < digits.len() {
         let whole = digits.len() - places;
         text.extend_from_slice(&digits[..whole])?;
@@ -35,7 +42,9 @@ pub fn append_decimal<A: Allocator>(
     is_negative: bool,
     number: u64,
     power: i16,
-) -> Result<(), AllocError> {
+) -> Result<(), AllocError>
+    ensures { OnOk result (text.new.items ≡ text.old.items ++ scaled is_negative number power) }
+{
     let mut buffer = Buffer::new();
     let digits = buffer.format(number).as_bytes();
     if is_negative {

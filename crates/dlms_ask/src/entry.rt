@@ -1,6 +1,11 @@
 //! The elements of an association's object list.
 
-use dlms_data::{Data, Items};
+ghost use Rattle.std.specs.Prelude.{◌≡◌, IfNone, IfSome, MatchOption, length};
+ghost use Rattle.dlms_data.specs.Value.{Values, array};
+ghost use Rattle.dlms_data.specs.View.{value_of, values_of};
+ghost use Rattle.dlms_ask.specs.Entries.{AreRights, IsEntry};
+
+use dlms_data::Data;
 use std::alloc::Allocator;
 
 /// An element of an object list.
@@ -14,7 +19,9 @@ pub struct Entry<'a, A: Allocator> {
 }
 
 /// The six octets of a name.
-pub fn six(bytes: &[u8]) -> Option<[u8; 6]> {
+pub fn six(bytes: &[u8]) -> Option<[u8; 6]>
+    ensures { MatchOption result (length bytes.now ≡ 6 → ⊥) (λ name. name ≡ bytes.now) }
+{
     let mut name = [0; 6];
     if bytes.len() != 6 {
         return None;
@@ -23,8 +30,21 @@ pub fn six(bytes: &[u8]) -> Option<[u8; 6]> {
     Some(name)
 }
 
+/// The elements of an object list; none where it is no array.
+pub fn elements<A: Allocator>(list: &Data<A>) -> Option<&[Data<A>]>
+    ensures some { IfSome result (λ items. value_of list.now ≡ array (values_of items.now)) }
+    ensures none { IfNone result ((items : Values) → value_of list.now ≡ array items → ⊥) }
+{
+    match list {
+        Data::Array(items) => Some(items.as_slice()),
+        _ => None,
+    }
+}
+
 /// The rights of an element: of its attributes, and of its methods.
-fn rights<A: Allocator>(value: &Data<A>) -> Option<(&[Data<A>], &[Data<A>])> {
+fn rights<A: Allocator>(value: &Data<A>) -> Option<(&[Data<A>], &[Data<A>])>
+    ensures some { IfSome result (λ x. AreRights (value_of value.now) (values_of x.0.now) (values_of x.1.now)) }
+{
     let Data::Structure(parts) = value else {
         return None;
     };
@@ -37,7 +57,9 @@ fn rights<A: Allocator>(value: &Data<A>) -> Option<(&[Data<A>], &[Data<A>])> {
 }
 
 /// What an element of an object list says; none where it has another form.
-pub fn entry_of<A: Allocator>(value: &Data<A>) -> Option<Entry<'_, A>> {
+pub fn entry_of<A: Allocator>(value: &Data<A>) -> Option<Entry<'_, A>>
+    ensures some { IfSome result (λ e. IsEntry (value_of value.now) e.class e.version e.name (values_of e.attributes.now) (values_of e.methods.now)) }
+{
     let Data::Structure(parts) = value else {
         return None;
     };
@@ -73,14 +95,6 @@ pub fn right_of<A: Allocator>(value: &Data<A>) -> Option<(u8, u8)> {
         [Data::Integer(number), Data::Boolean(mode), ..] if *number > 0 => {
             Some((*number as u8, u8::from(*mode)))
         }
-        _ => None,
-    }
-}
-
-/// The elements of an object list; none where it is no array.
-pub fn elements<A: Allocator>(list: &Data<A>) -> Option<&[Data<A>]> {
-    match list {
-        Data::Array(items) => Some(items.as_slice()),
         _ => None,
     }
 }

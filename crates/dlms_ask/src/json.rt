@@ -19,7 +19,10 @@ pub fn append_pairs<A: Allocator>(text: &mut Vec<u8, A>, bytes: &[u8]) -> Result
 }
 
 /// Appends pairs of hexadecimal digits between quotes.
-fn append_quoted_pairs<A: Allocator>(text: &mut Vec<u8, A>, bytes: &[u8]) -> Result<(), AllocError> {
+fn append_quoted_pairs<A: Allocator>(
+    text: &mut Vec<u8, A>,
+    bytes: &[u8],
+) -> Result<(), AllocError> {
     text.push(b'"')?;
     append_pairs(text, bytes)?;
     text.push(b'"')?;
@@ -57,10 +60,7 @@ fn append_signed<A: Allocator>(text: &mut Vec<u8, A>, number: i64) -> Result<(),
 }
 
 /// Appends bits as digits between quotes, the first one first.
-fn append_bits<A: Allocator>(
-    text: &mut Vec<u8, A>,
-    bits: &Bits<A>,
-) -> Result<(), AllocError> {
+fn append_bits<A: Allocator>(text: &mut Vec<u8, A>, bits: &Bits<A>) -> Result<(), AllocError> {
     text.push(b'"')?;
     let mut left = bits.len();
     for byte in bits.as_bytes() {
@@ -79,10 +79,7 @@ fn append_bits<A: Allocator>(
 }
 
 /// Appends a value that holds no others.
-fn append_plain<A: Allocator>(
-    text: &mut Vec<u8, A>,
-    value: &Data<A>,
-) -> Result<(), AllocError> {
+fn append_plain<A: Allocator>(text: &mut Vec<u8, A>, value: &Data<A>) -> Result<(), AllocError> {
     match value {
         Data::Boolean(true) => text.extend_from_slice(b"true"),
         Data::Boolean(false) => text.extend_from_slice(b"false"),
@@ -143,9 +140,6 @@ fn append_tree<A: Allocator>(
 
 /// Appends a value as JSON: a number as a number, however long; strings of octets, bits and times as digits between quotes, texts
 /// as texts; arrays and structures as arrays.
-pub fn append_json<A: Allocator>(
-    text: &mut Vec<u8, A>,
-    value: &Data<A>,
-) -> Result<(), AllocError> {
+pub fn append_json<A: Allocator>(text: &mut Vec<u8, A>, value: &Data<A>) -> Result<(), AllocError> {
     append_tree(text, MOST_LEVELS, value)
 }

@@ -1,14 +1,18 @@
 //! Why a run ended early, and what is said of it: its name in the first line, where and why in the second, and in a third what to
 //! do, where something can be done.
 use crate::columns::Columns;
+use dlms_call::CallFault;
+use dlms_client::{Denial, Fault as Talked};
 use dlms_field::{ClockFault, FieldFault};
 use dlms_headend::{ColumnList, PollFault, ReadingsFault};
 use dlms_loopback::LoopFault;
-use dlms_names::{access_result, diagnostic};
+use dlms_names::{
+    access_result, action_result, diagnostic, initiate_error, service_error, state_error,
+};
 use dlms_plot::PlotFault;
 use dlms_program::ReplayFault;
 use dlms_store::{AddFault, OpenFault};
-use std::alloc::Global;
+use std::alloc::{AllocError, AllocFailed, Global};
 use std::io::ErrorKind;
 use std::{fmt, io};
 
@@ -42,6 +46,20 @@ pub enum Fault<'a> {
     Late(&'a str, u32),
     /// Of the rows from this address or file one is refused for its clock.
     Clock(&'a str, ClockFault),
+    /// This is no name of an attribute or a method.
+    Name(&'a str),
+    /// This is no address of a meter.
+    Server(&'a str),
+    /// This is no value.
+    Value(&'a str),
+    /// The object of this name is not in the object list.
+    Class(&'a str),
+    /// What was asked for by this name has this result, an action's or an access's.
+    Result(&'a str, u8, bool),
+    /// What was asked for by this name is not served.
+    Denied(&'a str, Denial),
+    /// The talk with the meter at this place ended early.
+    Call(&'a str, CallFault),
 }
 
 impl<'a> Fault<'a> {
@@ -108,6 +126,22 @@ impl<'a> Fault<'a> {
         }
     }
 
+    /// The fault of a talk with the meter at this place.
+    pub fn of_call(place: &'a str, fault: CallFault) -> Fault<'a> {
+        match fault {
+            CallFault::Talk(
+                Talked::Refused {
+                    diagnostic,
+                    initiate: None,
+                },
+            ) => Fault::Poll(place, PollFault::Refused(diagnostic)),
+            CallFault::Talk(Talked::Line) => Fault::Poll(place, PollFault::Line),
+            CallFault::Talk(Talked::Denied(denial)) => Fault::Denied(place, denial),
+            CallFault::Talk(Talked::Memory) | CallFault::Memory => Fault::MEMORY,
+            fault => Fault::Call(place, fault),
+        }
+    }
+
     /// The fault of a curve of this file.
     pub fn of_plot(readings: &'a str, fault: PlotFault) -> Fault<'a> {
         match fault {
@@ -123,6 +157,18 @@ impl<'a> Fault<'a> {
             self,
             Fault::Output | Fault::Replay(ReplayFault::Io) | Fault::Loop(LoopFault::Io)
         )
+    }
+}
+
+impl From<AllocError> for Fault<'_> {
+    fn from(_e: AllocError) -> Self {
+        Fault::MEMORY
+    }
+}
+
+impl From<AllocFailed<u8>> for Fault<'_> {
+    fn from(_e: AllocFailed<u8>) -> Self {
+        Fault::MEMORY
     }
 }
 
@@ -212,6 +258,59 @@ fn write_clock<W: fmt::Write>(
     }
 }
 
+/// Says why a meter does not serve what was asked for.
+fn write_denied<W: fmt::Write>(
+    f: &mut fmt::Formatter<W>,
+    name: &str,
+    denial: &Denial,
+) -> fmt::Result {
+    match denial {
+        Denial::Exception { state, service } => {
+            let number = *service;
+            let state = state_error(*state).unwrap_or("an error of its state");
+            let service = service_error(*service).unwrap_or("an error of the service");
+            write!(
+                f,
+                "denied {number}\n  {name}: the meter answers {state}, {service}"
+            )
+        }
+        Denial::ServiceError { value, .. } => {
+            let value = *value;
+            write!(
+                f,
+                "denied {value}\n  {name}: the meter answers with a confirmed service error"
+            )
+        }
+    }
+}
+
+/// Says why a talk with the meter at this place ended early.
+fn write_call<W: fmt::Write>(
+    f: &mut fmt::Formatter<W>,
+    place: &str,
+    fault: &CallFault,
+) -> fmt::Result {
+    match fault {
+        CallFault::Talk(Talked::Unread(fault)) => {
+            write!(f, "protocol\n  {place}: an answer cannot be read: {fault}")
+        }
+        CallFault::Talk(Talked::Refused { initiate, .. }) => {
+            let name = initiate.and_then(initiate_error).unwrap_or("another");
+            write!(
+                f,
+                "protocol\n  {place}: the association is refused, initiate error {name}"
+            )
+        }
+        CallFault::Talk(fault) => write!(f, "protocol\n  {place}: {fault}"),
+        CallFault::TooLong => write!(
+            f,
+            "long\n  {place}: the value is longer than the meter takes"
+        ),
+        CallFault::Io => write!(f, "io\n  {place}: the line failed"),
+        CallFault::Memory => f.write_str("memory"),
+    }
+}
+
 impl fmt::Display for Fault<'_> {
     fn fmt<W: fmt::Write>(&self, f: &mut fmt::Formatter<W>) -> fmt::Result {
         match self {
@@ -256,6 +355,34 @@ impl fmt::Display for Fault<'_> {
                 write!(f, "line\n  {address}: not done within {seconds} seconds")
             }
             Fault::Clock(place, fault) => write_clock(f, place, fault),
+            Fault::Name(text) => write!(
+                f,
+                "name\n  {text}: a name is wanted as 1.0.1.8.0.255 or 1.0.99.1.0.255/3"
+            ),
+            Fault::Server(text) => write!(
+                f,
+                "server\n  {text}: an address is wanted as UPPER or UPPER/LOWER"
+            ),
+            Fault::Value(text) => write!(
+                f,
+                "value\n  {text}: a value is wanted as u32:900, text:.., hex:.., raw:.., null or now"
+            ),
+            Fault::Class(name) => write!(
+                f,
+                "class\n  {name}: it is not in the object list\n  --class says the class of an object"
+            ),
+            Fault::Result(name, code, is_action) => {
+                let code = *code;
+                let named = if *is_action {
+                    action_result(code)
+                } else {
+                    access_result(code)
+                };
+                let named = named.unwrap_or("a result without a name");
+                write!(f, "result {code}\n  {name}: the meter answers {named}")
+            }
+            Fault::Denied(name, denial) => write_denied(f, name, denial),
+            Fault::Call(place, fault) => write_call(f, place, fault),
         }
     }
 }

@@ -26,12 +26,18 @@ use std::rt::Files;
 use std::time::Clock;
 use std::{fs, io};
 
+mod asking;
 mod columns;
+mod connecting;
 mod demo;
+mod errand;
 mod fault;
+mod spoken;
 mod streams;
+mod telling;
 mod watched;
 
+use asking::{Errand, ask, value_to_set};
 pub use fault::Fault;
 use streams::{Input, Output, flush};
 use watched::Watched;
@@ -391,6 +397,11 @@ pub fn finish<E: Write>(ended: Result<(), Fault<'_>>, errors: &mut E) -> io::Res
     }
 }
 
+/// The number of a class that was said, or 0.
+fn class_number(class: u32) -> u16 {
+    u16::try_from(class).unwrap_or(0)
+}
+
 /// Does a job.
 #[inline(never)]
 fn run_job<
@@ -449,6 +460,52 @@ fn run_job<
         }
         Job::Explain { file, raw, short } => {
             run_explain(host, file, ExplainForm { raw, short }, input, output)
+        }
+        Job::Get {
+            asking,
+            names,
+            class,
+            raw,
+            json,
+        } => {
+            let errand = Errand::Get {
+                names,
+                class: class_number(class),
+                raw,
+                json,
+            };
+            ask(host, &asking, errand, output, errors)
+        }
+        Job::List { asking, json } => ask(host, &asking, Errand::List { json }, output, errors),
+        Job::Set {
+            asking,
+            name,
+            value,
+            class,
+        } => {
+            let errand = Errand::Set {
+                name,
+                value: value_to_set(host, value)?,
+                class: class_number(class),
+            };
+            ask(host, &asking, errand, output, errors)
+        }
+        Job::Act {
+            asking,
+            name,
+            value,
+            class,
+        } => {
+            let value = match value {
+                Some(value) => Some(value_to_set(host, value)?),
+                None => None,
+            };
+            let errand = Errand::Act {
+                name,
+                value,
+                class: class_number(class),
+            };
+            ask(host, &asking, errand, output, errors)
         }
         Job::Show { file, plot } => run_show(host, file, plot, output),
         Job::Plot { readings, svg } => run_plot(host, readings, svg, input, output),

@@ -19,6 +19,8 @@ mod short;
 mod words;
 mod wrapper;
 
+pub use data_text::write_value;
 pub use explainer::Explainer;
 pub use fault::ExplainFault;
+pub use names_text::write_code;
 pub use session::{Form, MOST_LINE, explain};

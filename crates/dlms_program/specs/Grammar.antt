@@ -20,6 +20,10 @@ wanted_rule name = record (new_rule name) { required = true }
 abbrev pub flag_rule : Text → Rule
 flag_rule name = record (new_rule name) { long = Some name; action = Some SetTrue }
 
+-- and a flag that has a letter behind one dash too
+abbrev pub short_flag_rule : Text → ℕ → Rule
+short_flag_rule name letter = record (flag_rule name) { short = Some letter }
+
 abbrev pub option_rule : Text → Rule
 option_rule name = record (new_rule name) { long = Some name; value_names = 1 }
 
@@ -67,6 +71,30 @@ poll_command = with_rules (new_app (codes "poll"))
     (wanted_rule (codes "ADDRESS:PORT") ∷ option_rule (codes "readings") ∷ option_rule (codes "secret-file") ∷ flag_rule (codes "public") ∷ flag_rule (codes "reader")
     ∷ number_rule (codes "deadline") 1 86400 ∷ flag_rule (codes "check-clock") ∷ number_rule (codes "ahead") 0 31536000 ∷ [])
 
+-- which meter is asked, by whom, and whether the frames are explained
+abbrev pub asking_rules : List Rule
+asking_rules =
+    option_rule (codes "server") ∷ flag_rule (codes "wide") ∷ number_rule (codes "client") 1 127 ∷ option_rule (codes "secret-file") ∷ short_flag_rule (codes "verbose") 118 ∷ []
+
+abbrev pub get_command : App
+get_command = with_rules
+    (with_rules (new_app (codes "get"))
+    (wanted_rule (codes "PLACE") ∷ wanted_rule (codes "NAMES") ∷ number_rule (codes "class") 1 65535 ∷ flag_rule (codes "raw") ∷ flag_rule (codes "json") ∷ []))
+    asking_rules
+
+abbrev pub list_command : App
+list_command = with_rules (with_rules (new_app (codes "list")) (wanted_rule (codes "PLACE") ∷ flag_rule (codes "json") ∷ [])) asking_rules
+
+abbrev pub set_command : App
+set_command = with_rules
+    (with_rules (new_app (codes "set")) (wanted_rule (codes "PLACE") ∷ wanted_rule (codes "NAME") ∷ wanted_rule (codes "VALUE") ∷ number_rule (codes "class") 1 65535 ∷ []))
+    asking_rules
+
+abbrev pub act_command : App
+act_command = with_rules
+    (with_rules (new_app (codes "act")) (wanted_rule (codes "PLACE") ∷ wanted_rule (codes "NAME") ∷ value_rule (codes "VALUE") ∷ number_rule (codes "class") 1 65535 ∷ []))
+    asking_rules
+
 abbrev pub explain_command : App
 explain_command = with_rules (new_app (codes "explain")) (value_rule (codes "FILE") ∷ flag_rule (codes "raw") ∷ flag_rule (codes "short") ∷ [])
 
@@ -83,7 +111,7 @@ top = record (new_app (codes "dlms")) {
 }
 
 abbrev pub commands : List App
-commands = format_command ∷ replay_command ∷ loopback_command ∷ serve_command ∷ poll_command ∷ explain_command ∷ show_command ∷ plot_command ∷ []
+commands = format_command ∷ replay_command ∷ loopback_command ∷ serve_command ∷ poll_command ∷ get_command ∷ list_command ∷ set_command ∷ act_command ∷ explain_command ∷ show_command ∷ plot_command ∷ []
 
 abbrev pub dlms : App
 dlms = with_commands top commands

@@ -6,8 +6,9 @@ use Rattle.clap.specs.Words.{Row, Text, first_of}
 use Rattle.clap.specs.declared.error.Error.{Error}
 use Rattle.clap.specs.declared.error.kind.ErrorKind.TheVariants.{ArgumentConflict, InvalidValue}
 use Rattle.dlms_program.specs.declared.commands.Job.{Job}
-use Rattle.dlms_program.specs.declared.commands.Job.TheVariants.{Format, Replay, Loopback, Serve, Poll, Explain, Show, Plot}
-use Rattle.dlms_program.specs.declared.words.TheConstants.{AHEAD, DEADLINE, IDLE, INACTIVITY, TICK, TURN}
+use Rattle.dlms_program.specs.declared.commands.Job.TheVariants.{Format, Replay, Loopback, Serve, Poll, Get, List as ListOf, Set, Act, Explain, Show, Plot}
+use Rattle.dlms_program.specs.declared.commands.Asking.{Asking}
+use Rattle.dlms_program.specs.declared.words.TheConstants.{AHEAD, CLIENT, DEADLINE, IDLE, INACTIVITY, TICK, TURN}
 use Rattle.dlms_program.specs.Addresses.{IsAddress}
 use Rattle.dlms_program.specs.Numbers.{IsNumberOf}
 use Rattle.dlms_frame.specs.declared.client.Client.{Client}
@@ -55,6 +56,15 @@ asker false false = Management
 abbrev pub IsAsker : List Row → Client → Type 0
 IsAsker rows client = (public : Bool) × (reader : Bool) × IsSaid (first_of (codes "public") rows) public × IsSaid (first_of (codes "reader") rows) reader × (client ≡ asker public reader)
 
+-- which meter is asked, by whom, and whether the frames are explained
+pub record IsAsking (rows : List Row) (asking : Asking) : Type 0 where
+  pub place : asking.place.now ≡ unwrap_or (first_of (codes "PLACE") rows) []
+  pub server : option_map (λ s. s.now) asking.server ≡ first_of (codes "server") rows
+  pub wide : IsSaid (first_of (codes "wide") rows) asking.wide
+  pub client : IsSaidFor (codes "client") rows CLIENT asking.client
+  pub secret : option_map (λ f. f.now) asking.secret_file ≡ first_of (codes "secret-file") rows
+  pub verbose : IsSaid (first_of (codes "verbose") rows) asking.verbose
+
 -- the words ask for the job, with these values
 abbrev pub Asks : Met → Job → Type 0
 Asks met (Format file demo) = (rows : List Row) × (met ≡ Some (codes "format", rows)) × (file.now ≡ unwrap_or (file_in rows) []) × IsSaid (first_of (codes "demo") rows) demo
@@ -67,6 +77,13 @@ Asks met (Serve file listen load tick quiet idle turn inactivity) = (rows : List
 Asks met (Poll address readings secret client deadline ahead) = (rows : List Row) × (met ≡ Some (codes "poll", rows)) × (address.now ≡ unwrap_or (first_of (codes "ADDRESS:PORT") rows) [])
     × (option_map (λ f. f.now) readings ≡ first_of (codes "readings") rows) × (option_map (λ f. f.now) secret ≡ first_of (codes "secret-file") rows)
     × IsAsker rows client × IsSaidFor (codes "deadline") rows DEADLINE deadline × ChecksClock rows ahead
+Asks met (Get asking names of_class raw json) = (rows : List Row) × (met ≡ Some (codes "get", rows)) × IsAsking rows asking × (names.now ≡ unwrap_or (first_of (codes "NAMES") rows) [])
+    × IsSaidFor (codes "class") rows 0 of_class × IsSaid (first_of (codes "raw") rows) raw × IsSaid (first_of (codes "json") rows) json
+Asks met (ListOf asking json) = (rows : List Row) × (met ≡ Some (codes "list", rows)) × IsAsking rows asking × IsSaid (first_of (codes "json") rows) json
+Asks met (Set asking name value of_class) = (rows : List Row) × (met ≡ Some (codes "set", rows)) × IsAsking rows asking × (name.now ≡ unwrap_or (first_of (codes "NAME") rows) [])
+    × (value.now ≡ unwrap_or (first_of (codes "VALUE") rows) []) × IsSaidFor (codes "class") rows 0 of_class
+Asks met (Act asking name value of_class) = (rows : List Row) × (met ≡ Some (codes "act", rows)) × IsAsking rows asking × (name.now ≡ unwrap_or (first_of (codes "NAME") rows) [])
+    × (option_map (λ v. v.now) value ≡ first_of (codes "VALUE") rows) × IsSaidFor (codes "class") rows 0 of_class
 Asks met (Explain file raw short) = (rows : List Row) × (met ≡ Some (codes "explain", rows)) × (option_map (λ f. f.now) file ≡ file_in rows)
     × IsSaid (first_of (codes "raw") rows) raw × IsSaid (first_of (codes "short") rows) short
 Asks met (Show file plot) = (rows : List Row) × (met ≡ Some (codes "show", rows)) × (file.now ≡ unwrap_or (file_in rows) []) × IsSaid (first_of (codes "plot") rows) plot

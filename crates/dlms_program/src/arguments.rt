@@ -3,7 +3,7 @@
 ghost use Rattle.std.specs.Prelude.{◌≡◌, false, IfOk, map};
 ghost use Rattle.clap.specs.Words.{app_of, rule_of};
 ghost use Rattle.clap.specs.declared.builder.command.Command.TheViews.{out-Command as fields_of};
-ghost use Rattle.dlms_program.specs.Grammar.{AreLocal, AreAllLocal, flag_rule, number_rule, option_rule, value_rule, wanted_rule, with_commands, with_rules};
+ghost use Rattle.dlms_program.specs.Grammar.{AreLocal, AreAllLocal, flag_rule, number_rule, option_rule, short_flag_rule, value_rule, wanted_rule, with_commands, with_rules};
 
 use clap::builder::ValueParser;
 use clap::{Arg, ArgAction, Command};
@@ -34,6 +34,14 @@ pub fn flag<'a>(alloc: Global, name: &'a str, help: &'a str) -> Arg<'a>
         .long(name)
         .action(ArgAction::SetTrue)
         .help(help)
+}
+
+/// A flag, `--NAME` or `-L`.
+pub fn short_flag<'a>(alloc: Global, name: &'a str, letter: char, help: &'a str) -> Arg<'a>
+    ensures rule { rule_of result ≡ short_flag_rule name.entry.now letter }
+    ensures local { result.global ≡ false }
+{
+    flag(alloc, name, help).short(letter)
 }
 
 /// An option, `--NAME VALUE`.

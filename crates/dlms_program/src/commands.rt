@@ -2,6 +2,23 @@
 
 use dlms_frame::Client;
 
+/// Which meter is asked, by whom.
+#[derive(Clone, Copy, Debug, PartialEq, Eq)]
+pub struct Asking<'a> {
+    /// Where the meter is.
+    pub place: &'a str,
+    /// The meter's address as it is said.
+    pub server: Option<&'a str>,
+    /// Whether its address has four octets in any case.
+    pub wide: bool,
+    /// The client's address, 1 to 127.
+    pub client: u32,
+    /// The file of the client's secret; without one no secret is sent.
+    pub secret_file: Option<&'a str>,
+    /// Whether the frames are explained.
+    pub verbose: bool,
+}
+
 /// The work that the program is asked to do.
 #[derive(Clone, Copy, Debug, PartialEq, Eq)]
 pub enum Job<'a> {
@@ -44,6 +61,34 @@ pub enum Job<'a> {
         client: Client,
         deadline: u32,
         ahead: Option<u32>,
+    },
+    /// Asks a meter for the attributes with these names, of objects of this class where it is not 0; prints their encodings where
+    /// `raw` is set, and JSON where `json` is.
+    Get {
+        asking: Asking<'a>,
+        names: &'a str,
+        class: u32,
+        raw: bool,
+        json: bool,
+    },
+    /// Lists a meter's objects, as JSON where `json` is set.
+    List {
+        asking: Asking<'a>,
+        json: bool,
+    },
+    /// Sets the attribute with this name, of an object of this class where it is not 0.
+    Set {
+        asking: Asking<'a>,
+        name: &'a str,
+        value: &'a str,
+        class: u32,
+    },
+    /// Calls the method with this name, of an object of this class where it is not 0.
+    Act {
+        asking: Asking<'a>,
+        name: &'a str,
+        value: Option<&'a str>,
+        class: u32,
     },
     /// Explains the frames that stand in this file, or on standard input where none is named; where `raw` is set, with strings
     /// that may be a secret, and where `short` is, a frame in one line.

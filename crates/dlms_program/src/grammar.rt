@@ -3,12 +3,14 @@
 ghost use Rattle.std.specs.Prelude.{◌≡◌, false, IfOk};
 ghost use Rattle.clap.specs.Words.{app_of};
 ghost use Rattle.clap.specs.declared.builder.command.Command.TheViews.{out-Command as fields_of};
-ghost use Rattle.dlms_program.specs.Grammar.{dlms, top, format_command, replay_command, loopback_command, serve_command, poll_command, explain_command, show_command, plot_command};
+ghost use Rattle.dlms_program.specs.Grammar.{asking_rules, dlms, top, with_rules, format_command, replay_command, loopback_command, serve_command, poll_command, get_command, list_command, set_command, act_command, explain_command, show_command, plot_command};
 
-use crate::arguments::{flag, number, option, value, wanted, with_arguments, with_commands};
+use crate::arguments::{
+    flag, number, option, short_flag, value, wanted, with_arguments, with_commands,
+};
 use crate::help::{
-    ABOUT, EXPLAIN_ABOUT, FORMAT_ABOUT, LOOPBACK_ABOUT, PLOT_ABOUT, POLL_ABOUT, REPLAY_ABOUT,
-    SERVE_ABOUT, SHOW_ABOUT,
+    ABOUT, ACT_ABOUT, EXPLAIN_ABOUT, FORMAT_ABOUT, GET_ABOUT, LIST_ABOUT, LOOPBACK_ABOUT,
+    PLOT_ABOUT, POLL_ABOUT, REPLAY_ABOUT, SERVE_ABOUT, SET_ABOUT, SHOW_ABOUT,
 };
 use clap::Command;
 use std::alloc::{AllocError, Global};
@@ -188,6 +190,147 @@ fn poll_command<'a>(alloc: Global) -> Result<Command<'a>, AllocError>
     with_arguments(command, arguments)
 }
 
+/// The command, with which meter is asked, by whom, and whether the frames are explained.
+fn asked<'a>(alloc: Global, command: Command<'a>) -> Result<Command<'a>, AllocError>
+    ensures shape { IfOk result (λ c. app_of c ≡ with_rules (app_of command.entry) asking_rules) }
+    ensures local { (fields_of command.entry).has_globals ≡ false → IfOk result (λ c. (fields_of c).has_globals ≡ false) }
+{
+    let arguments = vec![in alloc;
+        option(
+            alloc,
+            "server",
+            "UPPER[/LOWER]",
+            "The meter's address, 1 at first"
+        ),
+        flag(
+            alloc,
+            "wide",
+            "The meter's address has four octets in any case"
+        ),
+        number(
+            alloc,
+            "client",
+            "SAP",
+            1,
+            127,
+            "The client's address, 1 to 127, 16 at first: the public client's"
+        ),
+        option(
+            alloc,
+            "secret-file",
+            "FILE",
+            "The file that the client's secret stands in"
+        ),
+        short_flag(
+            alloc,
+            "verbose",
+            'v',
+            "Explains each frame on standard error"
+        ),
+    ]?;
+    with_arguments(command, arguments)
+}
+
+fn get_command<'a>(alloc: Global) -> Result<Command<'a>, AllocError>
+    ensures shape { IfOk result (λ c. app_of c ≡ get_command) }
+    ensures local { IfOk result (λ c. (fields_of c).has_globals ≡ false) }
+{
+    let command = Command::new(alloc, "get")
+        .about("Asks the meter at PLACE for attributes")
+        .long_about(GET_ABOUT)
+        .after_help("Example:\n  dlms get 127.0.0.1:4059 1.0.1.8.0.255,0.0.1.0.0.255");
+    let arguments = vec![in alloc;
+        wanted(alloc, "PLACE", "Where the meter is, HOST:PORT"),
+        wanted(
+            alloc,
+            "NAMES",
+            "The attributes, as 1.0.1.8.0.255 or 1.0.99.1.0.255/3, with commas between them"
+        ),
+        number(
+            alloc,
+            "class",
+            "CLASS",
+            1,
+            65_535,
+            "The class of the objects, 1 to 65535; it is not looked up then"
+        ),
+        flag(alloc, "raw", "Prints encodings in place of values"),
+        flag(alloc, "json", "Prints JSON"),
+    ]?;
+    asked(alloc, with_arguments(command, arguments)?)
+}
+
+fn list_command<'a>(alloc: Global) -> Result<Command<'a>, AllocError>
+    ensures shape { IfOk result (λ c. app_of c ≡ list_command) }
+    ensures local { IfOk result (λ c. (fields_of c).has_globals ≡ false) }
+{
+    let command = Command::new(alloc, "list")
+        .about("Lists the objects of the meter at PLACE")
+        .long_about(LIST_ABOUT)
+        .after_help("Example:\n  dlms list 127.0.0.1:4059");
+    let arguments = vec![in alloc;
+        wanted(alloc, "PLACE", "Where the meter is, HOST:PORT"),
+        flag(alloc, "json", "Prints JSON"),
+    ]?;
+    asked(alloc, with_arguments(command, arguments)?)
+}
+
+fn set_command<'a>(alloc: Global) -> Result<Command<'a>, AllocError>
+    ensures shape { IfOk result (λ c. app_of c ≡ set_command) }
+    ensures local { IfOk result (λ c. (fields_of c).has_globals ≡ false) }
+{
+    let command = Command::new(alloc, "set")
+        .about("Sets an attribute of the meter at PLACE")
+        .long_about(SET_ABOUT)
+        .after_help(
+            "Example:\n  dlms set 127.0.0.1:4059 0.0.1.0.0.255 now --client 1 --secret-file secret",
+        );
+    let arguments = vec![in alloc;
+        wanted(alloc, "PLACE", "Where the meter is, HOST:PORT"),
+        wanted(alloc, "NAME", "The attribute, as 0.0.1.0.0.255"),
+        wanted(
+            alloc,
+            "VALUE",
+            "The value, as u32:900, text:.., hex:.., raw:.., null or now"
+        ),
+        number(
+            alloc,
+            "class",
+            "CLASS",
+            1,
+            65_535,
+            "The class of the objects, 1 to 65535; it is not looked up then"
+        ),
+    ]?;
+    asked(alloc, with_arguments(command, arguments)?)
+}
+
+fn act_command<'a>(alloc: Global) -> Result<Command<'a>, AllocError>
+    ensures shape { IfOk result (λ c. app_of c ≡ act_command) }
+    ensures local { IfOk result (λ c. (fields_of c).has_globals ≡ false) }
+{
+    let command = Command::new(alloc, "act")
+        .about("Calls a method of the meter at PLACE")
+        .long_about(ACT_ABOUT)
+        .after_help(
+            "Example:\n  dlms act 127.0.0.1:4059 1.0.1.8.0.255/1 i8:0 --client 1 --secret-file secret",
+        );
+    let arguments = vec![in alloc;
+        wanted(alloc, "PLACE", "Where the meter is, HOST:PORT"),
+        wanted(alloc, "NAME", "The method, as 1.0.1.8.0.255/1"),
+        value(alloc, "VALUE", "The parameter, as the value of set"),
+        number(
+            alloc,
+            "class",
+            "CLASS",
+            1,
+            65_535,
+            "The class of the objects, 1 to 65535; it is not looked up then"
+        ),
+    ]?;
+    asked(alloc, with_arguments(command, arguments)?)
+}
+
 fn explain_command<'a>(alloc: Global) -> Result<Command<'a>, AllocError>
     ensures shape { IfOk result (λ c. app_of c ≡ explain_command) }
     ensures local { IfOk result (λ c. (fields_of c).has_globals ≡ false) }
@@ -256,6 +399,10 @@ pub fn program<'a>(alloc: Global) -> Result<Command<'a>, AllocError>
         loopback_command(alloc)?,
         serve_command(alloc)?,
         poll_command(alloc)?,
+        get_command(alloc)?,
+        list_command(alloc)?,
+        set_command(alloc)?,
+        act_command(alloc)?,
         explain_command(alloc)?,
         show_command(alloc)?,
         plot_command(alloc)?,

@@ -84,6 +84,36 @@ where row N is not later than the one before it; dlms: ahead N where row N is to
 of FILE, as a second line says; dlms: memory); \
 2 for words that are not understood, and for this help.";
 
+/// What `get` does, for its help.
+pub const GET_ABOUT: &str =
+    "Asks the meter at PLACE, HOST:PORT, over HDLC on TCP for attributes, and prints their values.
+
+NAMES has a logical name, and the number of an attribute behind a slash, 2 where there is none: 1.0.1.8.0.255, 1.0.99.1.0.255/3; several with commas between them. An object's class stands in the meter's object list, which is asked for first, unless --class says it. Prints a line for a value, as explain has them, and those of an array or a structure below it; of a register its number with its scaler and unit, as 0.042 kWh, energies in thousands of their unit. With --raw it is the value's encoding in pairs of hexadecimal digits, with --json an object of JSON with name, attribute, class and value, scaler and unit where it has them. Asks as the public client, 16, or as that of --client, with the secret that stands in the file of --secret-file, or without one. The meter's address is that of --server, 1 at first, UPPER or UPPER/LOWER: two octets where both are below 128, else four, and with --wide four in any case. With -v each frame is explained on standard error. A frame that is not answered within two seconds goes out again, three times at most.
+
+Exit status: 0; 1 after a fault (dlms: io, with PLACE or the file and the system's words on a second line; dlms: name, dlms: server for one that is none; dlms: class for an object that is not in the list; dlms: secret for one of more than 16 bytes; dlms: line, dlms: protocol, dlms: refused N, dlms: denied N or dlms: result N for the talk; dlms: memory); 2 for words that are not understood, and for this help.";
+
+/// What `list` does, for its help.
+pub const LIST_ABOUT: &str =
+    "Asks the meter at PLACE, HOST:PORT, over HDLC on TCP for the objects of this association, and lists them.
+
+Prints a line for each: its logical name, its class and version, the names of both, and the rights of this association: r for an attribute that may be read, w for one that may be set, rw for both, a for one that wants authentication, and x for a method that may be called. With --json it is an array of objects with name, class, version, attributes and methods. Who asks whom is as of get.
+
+Exit status: as of get.";
+
+/// What `set` does, for its help.
+pub const SET_ABOUT: &str = "Sets an attribute of the meter at PLACE, HOST:PORT, over HDLC on TCP.
+
+NAME is as of get. VALUE is a number as u8:, u16:, u32:, u64:, i8:, i16:, i32:, i64: or enum:, as u32:900; bool:true or bool:false; an octet-string as text:.. or as pairs of hexadecimal digits, hex:2e2e; visible:.. or utf8:.. for texts of these types; the encoding of any value, raw:0202..; null; or now, the date-time of the system's clock in UTC. Prints what was set. Who asks whom is as of get.
+
+Exit status: as of get; dlms: value for a VALUE that is none; dlms: result N where the meter does not set it.";
+
+/// What `act` does, for its help.
+pub const ACT_ABOUT: &str = "Calls a method of the meter at PLACE, HOST:PORT, over HDLC on TCP.
+
+NAME has the number of the method behind a slash, as 0.0.1.0.0.255/3, VALUE is as of set, and none where there is no VALUE. Prints what was called, and the value that it returns, if it does. Who asks whom is as of get.
+
+Exit status: as of set.";
+
 /// What `explain` does, for its help.
 pub const EXPLAIN_ABOUT: &str =
     "Explains the HDLC frames that stand in FILE, and what they carry; without FILE, and where it is \"-\", those on standard input.

@@ -17,7 +17,7 @@ mod replaying;
 mod streams;
 mod words;
 
-pub use commands::Job;
+pub use commands::{Asking, Job};
 pub use fault::ReplayFault;
 pub use replaying::replay;
 pub use streams::{Sink, Source};

@@ -3,10 +3,10 @@ ghost use Rattle.std.specs.Prelude.{◌≡◌, ◌⊎◌, ◌↔◌, [], List, S
 ghost use Rattle.clap.specs.Values.{kind_of};
 ghost use Rattle.clap.specs.Words.{fault_of, first_of, Row, FailsBy, HasKind, subcommand_rows_of, subcommand_of};
 ghost use Rattle.dlms_program.specs.Grammar.{dlms};
-ghost use Rattle.dlms_program.specs.Words.{asker as client_by, address_in, Asks, AsksBoth, IsClear, IsUnclear, NamesNoAddress, IsSaid, IsSaidFor, Says, SaysAhead, SaysStops};
+ghost use Rattle.dlms_program.specs.Words.{asker as client_by, address_in, Asks, AsksBoth, IsAsking, IsClear, IsUnclear, NamesNoAddress, IsSaid, IsSaidFor, Says, SaysAhead, SaysStops};
 
 use crate::addresses::is_address;
-use crate::commands::Job;
+use crate::commands::{Asking, Job};
 use crate::grammar::program;
 use clap::error::ErrorKind;
 use clap::{ArgMatches, Error};
@@ -33,6 +33,9 @@ const INACTIVITY: u32 = 120;
 /// By how many seconds a row may be past the system's clock where nothing is said: by a day, since a meter's clock may show the
 /// time of any place.
 const AHEAD: u32 = 86_400;
+
+/// The client that asks where none is said: the public client (IEC 62056-46, reserved addresses).
+const CLIENT: u32 = 16;
 
 /// What is said where two clients are asked for.
 const TWO_CLIENTS: &str = "the argument '--public' cannot be used with '--reader'";
@@ -204,6 +207,72 @@ fn plot_job<'a>(matches: &ArgMatches<'a>) -> Job<'a>
     }
 }
 
+/// Which meter a command asks, by whom.
+fn asking<'a>(matches: &ArgMatches<'a>, command: &str) -> Asking<'a>
+    ensures { (rows : List Row) → subcommand_rows_of matches.now ≡ Some (command.now, rows) → IsAsking rows result }
+{
+    let wide = is_given(value_for(matches, command, "wide"));
+    let verbose = is_given(value_for(matches, command, "verbose"));
+    Asking {
+        place: value_for(matches, command, "PLACE").unwrap_or(""),
+        server: value_for(matches, command, "server"),
+        wide,
+        client: number_for(matches, command, "client", CLIENT),
+        secret_file: value_for(matches, command, "secret-file"),
+        verbose,
+    }
+}
+
+/// The values of `get`.
+fn get_job<'a>(matches: &ArgMatches<'a>) -> Job<'a>
+    ensures { (rows : List Row) → subcommand_rows_of matches.now ≡ Some (codes "get", rows) → Asks (Some (codes "get", rows)) result }
+{
+    let raw = is_given(value_for(matches, "get", "raw"));
+    let json = is_given(value_for(matches, "get", "json"));
+    Job::Get {
+        asking: asking(matches, "get"),
+        names: value_for(matches, "get", "NAMES").unwrap_or(""),
+        class: number_for(matches, "get", "class", 0),
+        raw,
+        json,
+    }
+}
+
+/// The values of `list`.
+fn list_job<'a>(matches: &ArgMatches<'a>) -> Job<'a>
+    ensures { (rows : List Row) → subcommand_rows_of matches.now ≡ Some (codes "list", rows) → Asks (Some (codes "list", rows)) result }
+{
+    let json = is_given(value_for(matches, "list", "json"));
+    Job::List {
+        asking: asking(matches, "list"),
+        json,
+    }
+}
+
+/// The values of `set`.
+fn set_job<'a>(matches: &ArgMatches<'a>) -> Job<'a>
+    ensures { (rows : List Row) → subcommand_rows_of matches.now ≡ Some (codes "set", rows) → Asks (Some (codes "set", rows)) result }
+{
+    Job::Set {
+        asking: asking(matches, "set"),
+        name: value_for(matches, "set", "NAME").unwrap_or(""),
+        value: value_for(matches, "set", "VALUE").unwrap_or(""),
+        class: number_for(matches, "set", "class", 0),
+    }
+}
+
+/// The values of `act`.
+fn act_job<'a>(matches: &ArgMatches<'a>) -> Job<'a>
+    ensures { (rows : List Row) → subcommand_rows_of matches.now ≡ Some (codes "act", rows) → Asks (Some (codes "act", rows)) result }
+{
+    Job::Act {
+        asking: asking(matches, "act"),
+        name: value_for(matches, "act", "NAME").unwrap_or(""),
+        value: value_for(matches, "act", "VALUE"),
+        class: number_for(matches, "act", "class", 0),
+    }
+}
+
 /// Whether two clients are asked for at once.
 fn asks_both(matches: &ArgMatches<'_>) -> bool
     ensures { IsTrue result ↔ AsksBoth (subcommand_rows_of matches.now) }
@@ -288,6 +357,18 @@ pub fn job<'a>(alloc: Global, words: &'a [&'a str]) -> Result<Job<'a>, Error>
     }
     if matches.subcommand_name() == Some("serve") {
         return Ok(serve_job(&matches));
+    }
+    if matches.subcommand_name() == Some("get") {
+        return Ok(get_job(&matches));
+    }
+    if matches.subcommand_name() == Some("list") {
+        return Ok(list_job(&matches));
+    }
+    if matches.subcommand_name() == Some("set") {
+        return Ok(set_job(&matches));
+    }
+    if matches.subcommand_name() == Some("act") {
+        return Ok(act_job(&matches));
     }
     if matches.subcommand_name() == Some("explain") {
         return Ok(explain_job(&matches));

@@ -1,6 +1,9 @@
 //! What is said of faults that no case brings about: those of a poll's other end, of a device, and of want of memory.
 
 use anyhow::Result;
+use dlms_apdu::ApduFault;
+use dlms_call::CallFault;
+use dlms_client::{Denial, Fault as Talked};
 use dlms_command::{Fault, finish};
 use dlms_field::ClockFault;
 use dlms_headend::{PollFault, list_columns};
@@ -11,6 +14,9 @@ use std::alloc::Global;
 
 /// The address of a poll.
 const ADDRESS: &str = "192.0.2.7:4059";
+
+/// The name of what is asked for.
+const NAME: &str = "1.0.1.8.0.255";
 
 /// The file of a meter.
 const METER: &str = "meter.bin";
@@ -66,10 +72,54 @@ fn say_of_devices(told: &mut Vec<u8>) -> Result<()> {
     Ok(())
 }
 
+/// Says what is said of a meter that is asked.
+fn say_of_talks(told: &mut Vec<u8>) -> Result<()> {
+    for fault in [
+        Fault::Result(NAME, 9, true),
+        Fault::Result(NAME, 77, false),
+        Fault::Denied(
+            NAME,
+            Denial::Exception {
+                state: 2,
+                service: 77,
+            },
+        ),
+        Fault::Denied(
+            NAME,
+            Denial::ServiceError {
+                service: 5,
+                class: 6,
+                value: 3,
+            },
+        ),
+        Fault::Class(NAME),
+        Fault::Call(
+            ADDRESS,
+            CallFault::Talk(Talked::Unread(ApduFault::Trailing)),
+        ),
+        Fault::Call(ADDRESS, CallFault::Talk(Talked::Block)),
+        Fault::Call(
+            ADDRESS,
+            CallFault::Talk(Talked::Refused {
+                diagnostic: 1,
+                initiate: Some(1),
+            }),
+        ),
+        Fault::Call(ADDRESS, CallFault::TooLong),
+        Fault::Call(ADDRESS, CallFault::Io),
+        Fault::of_call(ADDRESS, CallFault::Talk(Talked::Line)),
+        Fault::of_call(ADDRESS, CallFault::Memory),
+    ] {
+        let _status = finish(Err(fault), told)?;
+    }
+    Ok(())
+}
+
 /// What is said of them, one after another.
 pub fn said(alloc: Global) -> Result<Vec<u8>> {
     let mut told = Vec::new(alloc);
     say_of_polls(alloc, &mut told)?;
     say_of_devices(&mut told)?;
+    say_of_talks(&mut told)?;
     Ok(told)
 }

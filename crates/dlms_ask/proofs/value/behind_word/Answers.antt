@@ -1,5 +1,5 @@
-use Rattle.std.proofs.Common.{subst, ◌≡◌, ◌⊎◌}
-use Rattle.dlms_ask.specs.Values.{Writes, WritesPlain, WritesSigned}
+use Rattle.std.proofs.Common.{subst}
+use Rattle.dlms_ask.specs.Values.{Writes}
 use Rattle.dlms_ask.specs.declared.kind.Kind.{Kind}
 use Rattle.dlms_ask.specs.declared.kind.Kind.TheVariants as kind
 use Rattle.dlms_ask.proofs.ValueLemmas.{err_as}

@@ -1,4 +1,4 @@
-use Rattle.std.proofs.Common.{rules, ◌≡◌}
+use Rattle.std.proofs.Common.{rules}
 use Rattle.dlms_ask.proofs.ValueLemmas.{err_as, only_worded}
 use Rattle.dlms_ask.specs.Values.{IsWorded, IsWritten}
 use Rattle.dlms_ask.proofs.value.value_of.Goals as goal

@@ -1,4 +1,4 @@
-use Rattle.std.proofs.Common.{rules, sym, append-nil, [], ◌≡◌}
+use Rattle.std.proofs.Common.{rules, sym, append-nil, []}
 use Rattle.dlms_ask.proofs.value.whole.Goals as goal
 
 pub returns-else-length-bytes-clause-form : goal.returns-else-length-bytes-clause-form

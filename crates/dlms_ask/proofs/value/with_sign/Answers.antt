@@ -1,4 +1,3 @@
-use Rattle.std.proofs.Common.{rules, ◌≡◌}
 use Rattle.dlms_ask.proofs.ValueLemmas.{none_signed}
 use Rattle.dlms_ask.proofs.value.with_sign.Goals as goal
 

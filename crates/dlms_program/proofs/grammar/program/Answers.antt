@@ -11,8 +11,9 @@ returns c =
     ap (map app_of) c.in_ok-commands.ensures.items
     ∙ same_front _ _ _ _ c.in_ok-format_command.ensures.shape (same_front _ _ _ _ c.in_ok-replay_command.ensures.shape
     (same_front _ _ _ _ c.in_ok-loopback_command.ensures.shape (same_front _ _ _ _ c.in_ok-serve_command.ensures.shape
-    (same_front _ _ _ _ c.in_ok-poll_command.ensures.shape (same_front _ _ _ _ c.in_ok-explain_command.ensures.shape
-    (same_front _ _ _ _ c.in_ok-show_command.ensures.shape (same_front _ _ _ _ c.in_ok-plot_command.ensures.shape refl))))))) in
+    (same_front _ _ _ _ c.in_ok-poll_command.ensures.shape (same_front _ _ _ _ c.in_ok-get_command.ensures.shape (same_front _ _ _ _ c.in_ok-list_command.ensures.shape
+    (same_front _ _ _ _ c.in_ok-set_command.ensures.shape (same_front _ _ _ _ c.in_ok-act_command.ensures.shape (same_front _ _ _ _ c.in_ok-explain_command.ensures.shape
+    (same_front _ _ _ _ c.in_ok-show_command.ensures.shape (same_front _ _ _ _ c.in_ok-plot_command.ensures.shape refl))))))))))) in
     IfOk-weaker c.with_commands.result (λ new. app_of new ≡ with_commands (app_of c.top.result) (map app_of c.in_ok-commands.commands.items)) (λ new. app_of new ≡ dlms)
     (λ new is. is
     ∙ (ap (with_commands (app_of c.top.result)) apps

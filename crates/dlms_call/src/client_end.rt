@@ -1,0 +1,166 @@
+//! A client's end of a line.
+
+ghost use Rattle.std.specs.Prelude.{◌≡◌};
+ghost use Rattle.dlms_call.specs.Talking.{IsOfSystem, Repeats, SendsFrame, TakesFrame, TakesPiece, Turned};
+
+use crate::fault::CallFault;
+use dlms_client::{Answer, Client, Fault, Step};
+use dlms_frame::{Deframer, Frame};
+use dlms_loopback::{End, Heard, PIECE, bytes_of};
+use std::alloc::{Allocator, Global};
+use std::io;
+use std::io::ErrorKind;
+
+/// The most bytes that may come in one talk.
+pub const MOST_BYTES: usize = 16_777_216;
+
+/// The most reads of one turn.
+const READS: u32 = 4_096;
+
+/// What a client has come to in a turn.
+#[derive(Clone, Copy, Debug, PartialEq, Eq)]
+pub enum Turn {
+    /// A frame is out.
+    Sent,
+    /// The association is open.
+    Associated,
+    /// The request has this answer.
+    Answered(Answer),
+    /// The link is down, as was asked for.
+    Down,
+}
+
+/// A client, what came of a frame that is not whole yet, and how many bytes may still come.
+#[derive(Drop)]
+pub struct ClientEnd<A: Allocator = Global> {
+    deframer: Deframer,
+    pub client: Client<A>,
+    left: usize,
+}
+
+/// An error of the system as a fault.
+fn of_system(error: &io::Error) -> CallFault
+    ensures { IsOfSystem result }
+{
+    if error.kind() == ErrorKind::OutOfMemory {
+        CallFault::Memory
+    } else {
+        CallFault::Io
+    }
+}
+
+/// A frame goes out.
+pub fn send<W: End>(end: &mut W, frame: &Frame) -> Result<Turn, CallFault>
+    ensures { SendsFrame (W.past end.old) (W.past end.new) frame.now result }
+{
+    match end.put(frame.put().as_slice()) {
+        Ok(()) => Ok(Turn::Sent),
+        Err(error) => Err(of_system(&error)),
+    }
+}
+
+impl<A: Allocator + Copy> ClientEnd<A> {
+    /// Sends the client's first frame.
+    pub fn begin<W: End>(end: &mut W, client: Client<A>) -> Result<Self, CallFault> {
+        let mut client = client;
+        match client.next() {
+            Some(frame) => {
+                let _sent = send(end, &frame)?;
+            }
+            None => {}
+        }
+        Ok(ClientEnd {
+            deframer: Deframer::new(),
+            client,
+            left: MOST_BYTES,
+        })
+    }
+
+    /// Takes a frame; none where nothing is told of it.
+    fn take_frame<W: End>(&mut self, end: &mut W, frame: &Frame) -> Option<Result<Turn, CallFault>>
+        ensures { TakesFrame (W.past end.old) (W.past end.new) self.old.client frame.now self.new.client result }
+    {
+        match self.client.on(frame) {
+            Ok(Step::Nothing) => None,
+            Ok(Step::Send(next)) => Some(send(end, &next)),
+            Ok(Step::Associated) => Some(Ok(Turn::Associated)),
+            Ok(Step::Answered(answer)) => Some(Ok(Turn::Answered(answer))),
+            Ok(Step::Down) => Some(Ok(Turn::Down)),
+            Err(fault) => Some(Err(CallFault::Talk(fault))),
+        }
+    }
+
+    /// Takes the frames among the bytes, up to the one that is answered or brings something. What stands behind it came before the
+    /// question that is out now, and is dropped.
+    fn take<W: End>(&mut self, end: &mut W, bytes: &[u8]) -> Option<Result<Turn, CallFault>>
+        ensures { TakesPiece (W.past end.old) (W.past end.new) self.old.client self.new.client result }
+    {
+        let mut rest = bytes;
+        'frames: while !rest.is_empty() {
+            let (taken, frame) = self.deframer.feed(rest);
+            match frame {
+                Some(frame) => match self.take_frame(end, &frame) {
+                    Some(turn) => {
+                        self.deframer.idle();
+                        return Some(turn);
+                    }
+                    None => {}
+                },
+                None => {}
+            }
+            rest = &rest[taken..];
+        }
+        None
+    }
+
+    /// Whether so many bytes more may come; then they are counted.
+    fn counts(&mut self, bytes: usize) -> bool
+        ensures { self.new.client ≡ self.old.client }
+    {
+        match self.left.checked_sub(bytes) {
+            Some(left) => {
+                self.left = left;
+                true
+            }
+            None => false,
+        }
+    }
+
+    /// Nothing came: the frame that is out goes again, and the fourth time-out in a row is a fault.
+    fn repeat<W: End>(&mut self, end: &mut W) -> Result<Turn, CallFault>
+        ensures { Repeats (W.past end.old) (W.past end.new) self.old.client self.new.client result }
+    {
+        self.deframer.idle();
+        if !self.client.is_waiting() {
+            return Err(CallFault::Talk(Fault::Line));
+        }
+        match self.client.timeout() {
+            Ok(frame) => send(end, &frame),
+            Err(fault) => Err(CallFault::Talk(fault)),
+        }
+    }
+
+    /// The client takes what comes, until a frame of its own is out or something has come. What comes in more than so many pieces
+    /// without one is a fault of the line.
+    pub fn turn<S: End>(&mut self, end: &mut S) -> Result<Turn, CallFault>
+        ensures { Turned (S.past end.old) (S.past end.new) self.old.client self.new.client result }
+    {
+        let mut piece = [0u8; PIECE];
+        'reads: for _read in 0..READS {
+            match end.hear(&mut piece) {
+                Err(error) => return Err(of_system(&error)),
+                Ok(Heard::Silence) => return self.repeat(end),
+                Ok(Heard::Bytes(count)) => {
+                    if !self.counts(count) {
+                        return Err(CallFault::Talk(Fault::Form));
+                    }
+                    match self.take(end, bytes_of(&piece, count)) {
+                        Some(turn) => return turn,
+                        None => {}
+                    }
+                }
+            }
+        }
+        Err(CallFault::Talk(Fault::Line))
+    }
+}

@@ -1,0 +1,36 @@
+//! Why a talk with a meter ended early.
+
+ghost use Rattle.std.specs.Prelude.{◌≡◌};
+ghost use Rattle.dlms_call.specs.declared.fault.CallFault.TheVariants.{Talk as TalkOf};
+
+use dlms_client::{AskFault, Fault};
+
+/// Why a talk with a meter ended early.
+#[derive(Clone, Copy, Debug, PartialEq, Eq)]
+pub enum CallFault {
+    /// The association is over.
+    Talk(Fault),
+    /// The request is longer than the meter takes.
+    TooLong,
+    /// The line failed.
+    Io,
+    /// A growth was refused.
+    Memory,
+}
+
+impl From<Fault> for CallFault {
+    ghost from_gives = { λ fault given. given ≡ TalkOf fault };
+
+    fn from(fault: Fault) -> CallFault {
+        CallFault::Talk(fault)
+    }
+}
+
+impl From<AskFault> for CallFault {
+    fn from(fault: AskFault) -> CallFault {
+        match fault {
+            AskFault::TooLong => CallFault::TooLong,
+            AskFault::Memory => CallFault::Memory,
+        }
+    }
+}

@@ -1,0 +1,10 @@
+//! What is asked of any meter over a line: an association, values, results, and its end.
+#![tactic(auto)]
+
+mod asking;
+mod client_end;
+mod fault;
+
+pub use asking::{act, begin, end, get, set};
+pub use client_end::{ClientEnd, MOST_BYTES, Turn};
+pub use fault::CallFault;

@@ -1,0 +1,203 @@
+//! A meter that is asked: the line to it, the association, and the errand.
+
+ghost use Rattle.std.specs.Prelude.{◌≤◌, IfOk};
+ghost use Rattle.dlms_data.specs.declared.date_time.TheConstants.{LAST_SECOND};
+
+use crate::connecting::line_to;
+use crate::errand::{Talk, named, second_of, written};
+use crate::fault::Fault;
+use crate::spoken::Spoken;
+use arrayvec::ArrayVec;
+use dlms_ask::server_of;
+use dlms_call::{CallFault, begin, end};
+use dlms_client::Plan;
+use dlms_data::Data;
+use dlms_field::{FieldFault, HostDesk, secret_of};
+use dlms_frame::{Address, Client};
+use dlms_loopback::{End, LoopFault};
+use dlms_program::Asking;
+use std::alloc::Global;
+use std::fs::File;
+use std::io::Write;
+use std::net::Net;
+use std::rt::Files;
+use std::time::Clock;
+
+/// The most bytes of an APDU.
+const SIZE: u16 = 1_024;
+
+/// What is asked of a meter, in words that were looked at.
+#[derive(Drop)]
+pub enum Errand<'a> {
+    Get {
+        names: &'a str,
+        class: u16,
+        raw: bool,
+        json: bool,
+    },
+    List {
+        json: bool,
+    },
+    Set {
+        name: &'a str,
+        value: Data<Global>,
+        class: u16,
+    },
+    Act {
+        name: &'a str,
+        value: Option<Data<Global>>,
+        class: u16,
+    },
+}
+
+/// The second of the system's clock.
+fn now<'a, H: Clock>(host: &H) -> Result<u32, Fault<'a>>
+    ensures { IfOk result (λ second. second ≤ LAST_SECOND) }
+{
+    match host.since_1970() {
+        Ok(since) => Ok(second_of(since.as_secs())),
+        Err(_) => Err(Fault::Loop(LoopFault::Io)),
+    }
+}
+
+/// The value to set, as a text writes it.
+pub fn value_to_set<'a, H: Clock + AllocGlobal>(
+    host: &H,
+    text: &'a str,
+) -> Result<Data<Global>, Fault<'a>> {
+    let second = now(host)?;
+    written(host.alloc(), text, second)
+}
+
+/// The meter's address.
+fn server<'a>(asking: &Asking<'a>) -> Result<Address, Fault<'a>> {
+    match asking.server {
+        None => Ok(Address::One(1)),
+        Some(text) => match server_of(text, asking.wide) {
+            Some(address) => Ok(address),
+            None => Err(Fault::Server(text)),
+        },
+    }
+}
+
+/// The secret in the file, where one is named.
+fn secret<'a, H: Files + Clock>(
+    host: &H,
+    alloc: Global,
+    asking: &Asking<'a>,
+) -> Result<Option<ArrayVec<u8, 16>>, Fault<'a>> {
+    let Some(file) = asking.secret_file else {
+        return Ok(None);
+    };
+    let mut desk = HostDesk::new(host);
+    match secret_of(&mut desk, Client::Management, Some(file)) {
+        Ok(secret) => Ok(Some(secret)),
+        Err(FieldFault::System(place, error)) => Err(Fault::of_system(alloc, place, &error)),
+        Err(_) => Err(Fault::Secret(file)),
+    }
+}
+
+/// The errand, once the association is open.
+fn done<'a, S: End, W: Write>(
+    talk: &mut Talk<'a, '_, S>,
+    errand: Errand<'a>,
+    output: &mut W,
+) -> Result<(), Fault<'a>> {
+    match errand {
+        Errand::Get {
+            names,
+            class,
+            raw,
+            json,
+        } => talk.get_all(names, class, raw, json, output),
+        Errand::List { json } => talk.list_all(json, output),
+        Errand::Set { name, value, class } => talk.set_one(name, value, class, output),
+        Errand::Act { name, value, class } => talk.act_one(name, value, class, output),
+    }
+}
+
+/// An association over a line, the errand in it, and its end, whatever came of the errand.
+fn talked<'a, S: End, W: Write>(
+    alloc: Global,
+    place: &'a str,
+    plan: Plan,
+    line: &mut S,
+    errand: Errand<'a>,
+    output: &mut W,
+) -> Result<(), Fault<'a>> {
+    if !plan.is_lawful() {
+        return Err(Fault::Server(place));
+    }
+    let head = match begin(alloc, line, plan) {
+        Ok(head) => head,
+        Err(fault) => return Err(Fault::of_call(place, fault)),
+    };
+    let mut talk = Talk {
+        alloc,
+        place,
+        line,
+        head,
+    };
+    let outcome = done(&mut talk, errand, output);
+    let Talk { line, head, .. } = talk;
+    let mut head = head;
+    let _ended = end(line, &mut head);
+    outcome
+}
+
+/// Looks at the names of an errand.
+fn look<'a>(errand: &Errand<'a>) -> Result<(), Fault<'a>> {
+    let names = match errand {
+        Errand::Get { names, .. } => names,
+        Errand::List { .. } => return Ok(()),
+        Errand::Set { name, .. } => name,
+        Errand::Act { name, .. } => {
+            return if named(name)?.number.is_some() {
+                Ok(())
+            } else {
+                Err(Fault::Name(name))
+            };
+        }
+    };
+    let mut rest: &'a str = names;
+    'names: for _name in 0..names.len() {
+        match rest.split_once(',') {
+            Some((said, behind)) => {
+                named(said)?;
+                rest = behind;
+            }
+            None => break,
+        }
+    }
+    named(rest)?;
+    Ok(())
+}
+
+/// Asks a meter.
+#[inline(never)]
+pub fn ask<'a, H: Net + Files<File = File> + Clock + AllocGlobal, W: Write, E: Write>(
+    host: &H,
+    asking: &Asking<'a>,
+    errand: Errand<'a>,
+    output: &mut W,
+    errors: &mut E,
+) -> Result<(), Fault<'a>> {
+    look(&errand)?;
+    let server = server(asking)?;
+    let secret = secret(host, host.alloc(), asking)?;
+    let plan = Plan {
+        sap: u8::try_from(asking.client).unwrap_or(0),
+        server,
+        secret,
+        size: SIZE,
+    };
+    let line = line_to(host, asking.place)?;
+    let mut line = Spoken::new(host.alloc(), line, asking.verbose, errors);
+    let talked = talked(host.alloc(), asking.place, plan, &mut line, errand, output);
+    match (talked, line.stream.failure()) {
+        (Err(Fault::Call(_, CallFault::Io)), Some(error)) => {
+            Err(Fault::of_system(host.alloc(), asking.place, &error))
+        }
+        (talked, _) => talked,
+    }
+}

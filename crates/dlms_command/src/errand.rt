@@ -1,0 +1,300 @@
+//! What is asked of a meter, one thing after another, and what is printed of it.
+
+ghost use Rattle.std.specs.Prelude.{◌≤◌};
+ghost use Rattle.dlms_data.specs.declared.date_time.TheConstants.{LAST_SECOND};
+
+use crate::fault::Fault;
+use crate::telling::{
+    append_entries_json, append_entry, append_quantity, append_value_json, put, put_line,
+};
+use dlms_ask::{Name, ValueFault, append_pairs, class_in, elements, name_of, value_of};
+use dlms_call::{CallFault, ClientEnd, act, get, set};
+use dlms_client::Answer;
+use dlms_data::{Data, DataFault, Descriptor, LAST_SECOND, read};
+use dlms_explain::write_value;
+use dlms_loopback::End;
+use std::alloc::Global;
+use std::io::Write;
+
+/// The second of the system's clock, counted from 1970-01-01 00:00:00, at which the meter's begins.
+const BEGINNING: u64 = 946_684_800;
+
+/// The class of an association that is made by logical names, and the name of the current one (IEC 62056-6-2, Association LN).
+const ASSOCIATION: u16 = 15;
+
+const CURRENT: [u8; 6] = [0, 0, 40, 0, 0, 255];
+
+/// The attribute of its object list, and of what most classes keep.
+const SECOND: u8 = 2;
+
+/// The classes Register, Extended register and Demand register.
+const REGISTER: u16 = 3;
+
+const EXTENDED: u16 = 4;
+
+const DEMAND: u16 = 5;
+
+/// The second of a meter's clock, counted from 2000-01-01 00:00:00, at this one of the system's.
+pub fn second_of(seconds: u64) -> u32
+    ensures { result ≤ LAST_SECOND }
+{
+    let second = seconds
+        .saturating_sub(BEGINNING)
+        .min(u64::from(LAST_SECOND));
+    second as u32
+}
+
+/// A talk with a meter: its place, its line, and the client.
+#[derive(Drop)]
+pub struct Talk<'a, 's, S: End> {
+    pub alloc: Global,
+    pub place: &'a str,
+    pub line: &'s mut S,
+    pub head: ClientEnd<Global>,
+}
+
+/// The name that a text writes.
+pub fn named(text: &str) -> Result<Name, Fault<'_>> {
+    match name_of(text) {
+        Some(name) => Ok(name),
+        None => Err(Fault::Name(text)),
+    }
+}
+
+/// The value that a text writes, at this second.
+pub fn written(alloc: Global, text: &str, now: u32) -> Result<Data<Global>, Fault<'_>>
+    requires { now ≤ LAST_SECOND }
+{
+    match value_of(alloc, text, now) {
+        Ok(value) => Ok(value),
+        Err(ValueFault::Form) => Err(Fault::Value(text)),
+        Err(ValueFault::Memory) => Err(Fault::MEMORY),
+    }
+}
+
+impl<'a, S: End> Talk<'a, '_, S> {
+    /// What an answer says of what was asked for by this name: nothing more where it is a success.
+    fn judge(
+        &self,
+        name: &'a str,
+        is_action: bool,
+        answer: Result<Answer, CallFault>,
+    ) -> Result<(), Fault<'a>> {
+        match answer {
+            Ok(Answer::Value) | Ok(Answer::Result(0)) => Ok(()),
+            Ok(Answer::Result(code)) => Err(Fault::Result(name, code, is_action)),
+            Ok(Answer::Denied(denial)) => Err(Fault::Denied(name, denial)),
+            Err(fault) => Err(Fault::of_call(self.place, fault)),
+        }
+    }
+
+    /// The value of an attribute.
+    fn value(&mut self, name: &'a str, attribute: Descriptor) -> Result<Data<Global>, Fault<'a>> {
+        let answer = get(self.line, &mut self.head, attribute);
+        self.judge(name, false, answer)?;
+        match read(self.alloc, self.head.client.value()) {
+            Ok((value, _)) => Ok(value),
+            Err(DataFault::Memory) => Err(Fault::MEMORY),
+            Err(_) => Err(Fault::of_call(self.place, CallFault::Talk(dlms_client::Fault::Form))),
+        }
+    }
+
+    /// The object list.
+    fn list(&mut self) -> Result<Data<Global>, Fault<'a>> {
+        let attribute = Descriptor {
+            class: ASSOCIATION,
+            name: CURRENT,
+            id: SECOND,
+        };
+        self.value("0.0.40.0.0.255/2", attribute)
+    }
+
+    /// The class of an object: what is said, or what the object list says.
+    fn class(
+        &self,
+        list: Option<&Data<Global>>,
+        text: &'a str,
+        name: Name,
+        said: u16,
+    ) -> Result<u16, Fault<'a>> {
+        if said > 0 {
+            return Ok(said);
+        }
+        match list.and_then(elements) {
+            Some(entries) => match class_in(entries, name.code) {
+                Some(class) => Ok(class),
+                None => Err(Fault::Class(text)),
+            },
+            None => Err(Fault::Class(text)),
+        }
+    }
+
+    /// The object list, where no class is said.
+    fn list_unless(&mut self, said: u16) -> Result<Option<Data<Global>>, Fault<'a>> {
+        if said > 0 {
+            return Ok(None);
+        }
+        Ok(Some(self.list()?))
+    }
+
+    /// The scaler and the unit of a register's value, where it has them.
+    fn scaler_unit(&mut self, class: u16, name: Name, number: u8) -> Option<(i8, u8)> {
+        let attribute = match (class, number) {
+            (REGISTER, 2) | (EXTENDED, 2) => 3,
+            (DEMAND, 2) | (DEMAND, 3) => 4,
+            _ => return None,
+        };
+        let scaled = self.value(
+            "",
+            Descriptor {
+                class,
+                name: name.code,
+                id: attribute,
+            },
+        );
+        match scaled {
+            Ok(Data::Structure(parts)) => match parts.as_slice() {
+                [Data::Integer(scaler), Data::Enum(unit)] => Some((*scaler, *unit)),
+                _ => None,
+            },
+            _ => None,
+        }
+    }
+
+    /// Appends the value of an attribute.
+    fn get_one(
+        &mut self,
+        text: &mut Vec<u8>,
+        list: Option<&Data<Global>>,
+        said: &'a str,
+        class: u16,
+        raw: bool,
+        json: bool,
+    ) -> Result<(), Fault<'a>> {
+        let name = named(said)?;
+        let number = name.number.unwrap_or(SECOND);
+        let class = self.class(list, said, name, class)?;
+        let value = self.value(
+            said,
+            Descriptor {
+                class,
+                name: name.code,
+                id: number,
+            },
+        )?;
+        if raw {
+            append_pairs(text, self.head.client.value())?;
+            text.push(b'\n')?;
+            return Ok(());
+        }
+        let scaled = self.scaler_unit(class, name, number);
+        if json {
+            append_value_json(text, name.code, number, class, &value, scaled)?;
+            return Ok(());
+        }
+        match scaled {
+            Some((scaler, unit)) if append_quantity(text, &value, scaler, unit)? => Ok(()),
+            _ => {
+                let mut words = String::new(self.alloc);
+                write_value(&mut words, 0, &value)?;
+                text.extend_from_slice(words.as_bytes())?;
+                Ok(())
+            }
+        }
+    }
+
+    /// Prints the values of attributes.
+    pub fn get_all<W: Write>(
+        &mut self,
+        names: &'a str,
+        class: u16,
+        raw: bool,
+        json: bool,
+        output: &mut W,
+    ) -> Result<(), Fault<'a>> {
+        let list = self.list_unless(class)?;
+        let mut rest = names;
+        'names: for _name in 0..names.len() {
+            let (said, behind) = match rest.split_once(',') {
+                Some((said, behind)) => (said, Some(behind)),
+                None => (rest, None),
+            };
+            let mut text = Vec::new(self.alloc);
+            self.get_one(&mut text, list.as_ref(), said, class, raw, json)?;
+            put(output, text.as_slice())?;
+            match behind {
+                Some(behind) => rest = behind,
+                None => return Ok(()),
+            }
+        }
+        Ok(())
+    }
+
+    /// Prints the object list.
+    pub fn list_all<W: Write>(&mut self, json: bool, output: &mut W) -> Result<(), Fault<'a>> {
+        let list = self.list()?;
+        let Some(entries) = elements(&list) else {
+            return Err(Fault::of_call(self.place, CallFault::Talk(dlms_client::Fault::Form)));
+        };
+        let mut text = Vec::new(self.alloc);
+        if json {
+            append_entries_json(&mut text, entries)?;
+        } else {
+            for entry in entries {
+                append_entry(self.alloc, &mut text, entry)?;
+            }
+        }
+        put(output, text.as_slice())
+    }
+
+    /// Sets an attribute.
+    pub fn set_one<W: Write>(
+        &mut self,
+        said: &'a str,
+        value: Data<Global>,
+        class: u16,
+        output: &mut W,
+    ) -> Result<(), Fault<'a>> {
+        let name = named(said)?;
+        let list = self.list_unless(class)?;
+        let attribute = Descriptor {
+            class: self.class(list.as_ref(), said, name, class)?,
+            name: name.code,
+            id: name.number.unwrap_or(SECOND),
+        };
+        let answer = set(self.line, &mut self.head, attribute, value);
+        self.judge(said, false, answer)?;
+        put_line(output, "set ", said)
+    }
+
+    /// Calls a method, and prints what it returns.
+    pub fn act_one<W: Write>(
+        &mut self,
+        said: &'a str,
+        value: Option<Data<Global>>,
+        class: u16,
+        output: &mut W,
+    ) -> Result<(), Fault<'a>> {
+        let name = named(said)?;
+        let Some(number) = name.number else {
+            return Err(Fault::Name(said));
+        };
+        let list = self.list_unless(class)?;
+        let method = Descriptor {
+            class: self.class(list.as_ref(), said, name, class)?,
+            name: name.code,
+            id: number,
+        };
+        let answer = act(self.line, &mut self.head, method, value);
+        self.judge(said, true, answer)?;
+        put_line(output, "called ", said)?;
+        match read(self.alloc, self.head.client.value()) {
+            Ok((value, _)) => {
+                let mut words = String::new(self.alloc);
+                write_value(&mut words, 0, &value)?;
+                put(output, words.as_bytes())
+            }
+            Err(_) => Ok(()),
+        }
+    }
+}

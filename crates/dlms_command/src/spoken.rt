@@ -1,0 +1,76 @@
+//! A line, and what is said over it, explained.
+
+use dlms_ask::append_pairs;
+use dlms_explain::Explainer;
+use std::alloc::{AllocError, Global};
+use std::io;
+use std::io::{ErrorKind, Read, Write};
+
+/// A stream, of whose bytes each is explained where that is asked for.
+#[derive(Drop)]
+pub struct Spoken<'e, S: Drop, E> {
+    pub stream: S,
+    alloc: Global,
+    explainer: Option<Explainer<Global>>,
+    errors: &'e mut E,
+}
+
+/// A line of a transcript.
+fn transcript(alloc: Global, side: &[u8], bytes: &[u8]) -> Result<Vec<u8>, AllocError> {
+    let mut line = Vec::from_slice(alloc, side)?;
+    append_pairs(&mut line, bytes)?;
+    Ok(line)
+}
+
+impl<'e, S: Drop, E: Write> Spoken<'e, S, E> {
+    /// A stream, explained among the errors where `is_told` is set.
+    pub fn new(alloc: Global, stream: S, is_told: bool, errors: &'e mut E) -> Self {
+        let explainer = if is_told {
+            Some(Explainer::new(alloc, false, false))
+        } else {
+            None
+        };
+        Spoken {
+            stream,
+            alloc,
+            explainer,
+            errors,
+        }
+    }
+
+    /// Explains bytes of this side.
+    fn tell(&mut self, side: &[u8], bytes: &[u8]) -> io::Result<()> {
+        let mut text = String::new(self.alloc);
+        if let Some(explainer) = &mut self.explainer {
+            let line = transcript(self.alloc, side, bytes)?;
+            explainer.line(line.as_slice(), &mut text)?;
+        }
+        self.errors.write_all(text.as_bytes())
+    }
+}
+
+impl<S: Read + Drop, E: Write> Read for Spoken<'_, S, E> {
+    fn read(&mut self, buf: &mut [u8]) -> io::Result<usize> {
+        let count = self.stream.read(buf)?;
+        match buf.get(..count) {
+            Some(bytes) => self.tell(b"< ", bytes)?,
+            None => {}
+        }
+        Ok(count)
+    }
+}
+
+impl<S: Write + Drop, E: Write> Write for Spoken<'_, S, E> {
+    fn write(&mut self, buf: &[u8]) -> io::Result<usize> {
+        let count = self.stream.write(buf)?;
+        match buf.get(..count) {
+            Some(bytes) => self.tell(b"> ", bytes)?,
+            None => {}
+        }
+        Ok(count)
+    }
+
+    fn flush(&mut self) -> io::Result<()> {
+        self.stream.flush()
+    }
+}
