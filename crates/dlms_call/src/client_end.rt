@@ -5,7 +5,7 @@ ghost use Rattle.dlms_call.specs.Talking.{IsOfSystem, Repeats, SendsFrame, Takes
 
 use crate::fault::CallFault;
 use dlms_client::{Answer, Client, Fault, Step};
-use dlms_frame::{Deframer, Frame};
+use dlms_frame::{Deframer, Frame, SentFrame};
 use dlms_loopback::{End, Heard, PIECE, bytes_of};
 use std::alloc::{Allocator, Global};
 use std::io;
@@ -50,12 +50,30 @@ fn of_system(error: &io::Error) -> CallFault
 }
 
 /// A frame goes out.
-pub fn send<W: End>(end: &mut W, frame: &Frame) -> Result<Turn, CallFault>
+pub fn send<W: End>(end: &mut W, frame: &SentFrame) -> Result<Turn, CallFault>
     ensures { SendsFrame (W.past end.old) (W.past end.new) frame.now result }
 {
     match end.put(frame.put().as_slice()) {
         Ok(()) => Ok(Turn::Sent),
         Err(error) => Err(of_system(&error)),
+    }
+}
+
+/// Gives a frame to the client; none where nothing is told of it.
+fn take_frame<W: End, A: Allocator + Copy>(
+    client: &mut Client<A>,
+    end: &mut W,
+    frame: Frame<'_>,
+) -> Option<Result<Turn, CallFault>>
+    ensures { TakesFrame (W.past end.old) (W.past end.new) client.old frame.entry client.new result }
+{
+    match client.on(&frame) {
+        Ok(Step::Nothing) => None,
+        Ok(Step::Send(next)) => Some(send(end, &next)),
+        Ok(Step::Associated) => Some(Ok(Turn::Associated)),
+        Ok(Step::Answered(answer)) => Some(Ok(Turn::Answered(answer))),
+        Ok(Step::Down) => Some(Ok(Turn::Down)),
+        Err(fault) => Some(Err(CallFault::Talk(fault))),
     }
 }
 
@@ -76,20 +94,6 @@ impl<A: Allocator + Copy> ClientEnd<A> {
         })
     }
 
-    /// Takes a frame; none where nothing is told of it.
-    fn take_frame<W: End>(&mut self, end: &mut W, frame: &Frame) -> Option<Result<Turn, CallFault>>
-        ensures { TakesFrame (W.past end.old) (W.past end.new) self.old.client frame.now self.new.client result }
-    {
-        match self.client.on(frame) {
-            Ok(Step::Nothing) => None,
-            Ok(Step::Send(next)) => Some(send(end, &next)),
-            Ok(Step::Associated) => Some(Ok(Turn::Associated)),
-            Ok(Step::Answered(answer)) => Some(Ok(Turn::Answered(answer))),
-            Ok(Step::Down) => Some(Ok(Turn::Down)),
-            Err(fault) => Some(Err(CallFault::Talk(fault))),
-        }
-    }
-
     /// Takes the frames among the bytes, up to the one that is answered or brings something. What stands behind it came before the
     /// question that is out now, and is dropped.
     fn take<W: End>(&mut self, end: &mut W, bytes: &[u8]) -> Option<Result<Turn, CallFault>>
@@ -97,9 +101,9 @@ impl<A: Allocator + Copy> ClientEnd<A> {
     {
         let mut rest = bytes;
         'frames: while !rest.is_empty() {
-            let (taken, frame) = self.deframer.feed(rest);
-            match frame {
-                Some(frame) => match self.take_frame(end, &frame) {
+            let taken = self.deframer.feed(rest);
+            match self.deframer.frame() {
+                Some(frame) => match take_frame(&mut self.client, end, frame) {
                     Some(turn) => {
                         self.deframer.idle();
                         return Some(turn);
