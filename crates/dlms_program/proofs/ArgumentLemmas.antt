@@ -1,6 +1,6 @@
 -- Arguments and commands that are added in turn.
 use Rattle.std.proofs.Common.{◌≡◌, ◌∙◌, refl, sym, ap, Bool, false, List, [], ◌∷◌, map, ◌||◌}
-use Rattle.clap.specs.Words.{AddsArg, AddsInTurn, AddsSubcommand, App, app_of, rule_of}
+use Rattle.clap.specs.Words.{AddsArg, AddsInTurn, AddsSubcommand, App, Rule, app_of, rule_of}
 use Rattle.clap.specs.declared.builder.arg.Arg.{Arg}
 use Rattle.clap.specs.declared.builder.command.Command.{Command}
 use Rattle.clap.specs.declared.builder.command.Command.TheViews.{out-Command as fields_of}
@@ -31,3 +31,6 @@ joined (command ∷ commands) old new local adds =
 
 pub same_front : (a b : App) (xs ys : List App) → a ≡ b → xs ≡ ys → (a ∷ xs) ≡ (b ∷ ys)
 same_front a b xs ys first rest = ap (λ (x : App). x ∷ xs) first ∙ ap (λ (zs : List App). b ∷ zs) rest
+
+pub same_rules : (a b : Rule) (xs ys : List Rule) → a ≡ b → xs ≡ ys → (a ∷ xs) ≡ (b ∷ ys)
+same_rules a b xs ys first rest = ap (λ (x : Rule). x ∷ xs) first ∙ ap (λ (zs : List Rule). b ∷ zs) rest

@@ -1,9 +1,13 @@
-use Rattle.std.proofs.Common.{◌≡◌, ◌∙◌, refl, ap, List, map}
+use Rattle.std.proofs.Common.{◌≡◌, ◌∙◌, refl, ap, subst, sym, List, map}
 use Rattle.std.proofs.lemmas.Result.{IfOk-weaker}
 use Rattle.clap.specs.Words.{App, app_of}
-use Rattle.dlms_program.specs.Grammar.{commands, dlms, with_commands}
+use Rattle.dlms_program.specs.Grammar.{AreAllLocal, commands, dlms, with_commands}
 use Rattle.dlms_program.proofs.ArgumentLemmas.{same_front}
 use Rattle.dlms_program.proofs.grammar.program.Goals as goal
+
+pub with_commands-requires : goal.with_commands-requires
+with_commands-requires c = subst AreAllLocal (sym c.in_ok-commands.ensures.items)
+    (c.in_ok-format_command.ensures.local, (c.in_ok-replay_command.ensures.local, (c.in_ok-loopback_command.ensures.local, (c.in_ok-serve_command.ensures.local, (c.in_ok-poll_command.ensures.local, (c.in_ok-get_command.ensures.local, (c.in_ok-list_command.ensures.local, (c.in_ok-set_command.ensures.local, (c.in_ok-act_command.ensures.local, (c.in_ok-explain_command.ensures.local, (c.in_ok-show_command.ensures.local, (c.in_ok-plot_command.ensures.local, tt))))))))))))
 
 pub returns : goal.returns
 returns c =
