@@ -1,5 +1,6 @@
 -- What a client's end does at its end of a line, act by act: the calls of its client, and what happens at the line at each.
 use Rattle.std.specs.Prelude.{◌≡◌, ◌⊎◌, ℕ, List, [], ◌∷◌, ◌++◌, map, Option, Some, None, Result, Ok, Err}
+use Rattle.std.specs.declared.io.Error.{Error}
 use Rattle.dlms_client.specs.Calls.{CanTimeOut, Comes, TimesOut}
 use Rattle.dlms_client.specs.ClientValue.{ClientValue}
 use Rattle.dlms_client.specs.declared.fault.Fault.{Fault}
@@ -8,7 +9,7 @@ use Rattle.dlms_client.specs.declared.step.Step.{Step}
 use Rattle.dlms_client.specs.declared.step.Step.TheVariants as step
 use Rattle.dlms_frame.specs.Frame.{Parts, spelling}
 use Rattle.dlms_loopback.specs.Moments.{Moment, Adds, Breaks}
-use Rattle.dlms_loopback.specs.Moments.Moment.{Came, Quiet, Went, Broke}
+use Rattle.dlms_loopback.specs.Moments.Moment.{Came, Quiet, Unheard, Went, Broke}
 use Rattle.dlms_call.specs.declared.client_end.Turn.{Turn}
 use Rattle.dlms_call.specs.declared.client_end.Turn.TheVariants.{Sent, Associated, Answered, Down}
 use Rattle.dlms_call.specs.declared.fault.CallFault.{CallFault}
@@ -102,7 +103,7 @@ SendsFrame old new frame (Err fault) = IsOfSystem fault × Breaks old new (spell
 -- nothing comes, and no frame is out; or so many pieces came.
 pub data Ends (old new : Option (List Moment)) (c c' : ClientValue) (result : Result Turn CallFault) : Type 0 where
   Tells : (act : Act) → told_by act ≡ Some result → Does c act c' → Adds old new (moments_by act) → Ends old new c c' result
-  BreaksReading : (fault : CallFault) → IsOfSystem fault → result ≡ Err fault → c' ≡ c → Adds old new (Broke [] ∷ []) → Ends old new c c' result
+  BreaksReading : (fault : CallFault) (error : Error) → IsOfSystem fault → result ≡ Err fault → c' ≡ c → Adds old new (Unheard error ∷ []) → Ends old new c c' result
   BreaksSending : (act : Act) (frame : Parts) (fault : CallFault) → IsOfSystem fault → result ≡ Err fault → frames_by act ≡ frame ∷ [] → Does c act c'
       → (part missing : List ℕ) → part ++ missing ≡ spelling frame → Adds old new (comes_by act ++ Broke part ∷ []) → Ends old new c c' result
   Floods : (bytes : List ℕ) → result ≡ Err (Talk fault.Form) → c' ≡ c → Adds old new (Came bytes ∷ []) → Ends old new c c' result

@@ -9,7 +9,7 @@ use Rattle.dlms_call.proofs.client_end.ClientEnd.turn.Goals as goal
 pub returns-in-Err : goal.returns-in-Err
 returns-in-Err g c =
     turned (g.S.End.past c.args.end.now) (g.S.End.past c.reads.end) (g.S.End.past c.hear.new.self) c.args.self.now.client c.reads.self.client c.reads.self.client _ c.reads.invariant
-    (BreaksReading c.of_system.result c.of_system.ensures refl refl c.in-Err.ensures.past)
+    (BreaksReading c.of_system.result c.in-Err.error c.of_system.ensures refl refl c.in-Err.ensures.past)
 
 pub returns-in-Ok-Silence : goal.returns-in-Ok-Silence
 returns-in-Ok-Silence g c =
