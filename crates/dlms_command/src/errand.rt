@@ -120,7 +120,11 @@ impl<'a, S: End> Talk<'a, '_, S> {
         if said > 0 {
             return Ok(said);
         }
-        match list.and_then(elements) {
+        let listed = match list {
+            Some(list) => elements(list),
+            None => None,
+        };
+        match listed {
             Some(entries) => match class_in(entries, name.code) {
                 Some(class) => Ok(class),
                 None => Err(Fault::Class(text)),
@@ -144,14 +148,13 @@ impl<'a, S: End> Talk<'a, '_, S> {
             (DEMAND, 2) | (DEMAND, 3) => 4,
             _ => return None,
         };
-        let scaled = self.value(
-            "",
-            Descriptor {
-                class,
-                name: name.code,
-                id: attribute,
-            },
-        );
+        let code = name.code;
+        let descriptor = Descriptor {
+            class,
+            name: code,
+            id: attribute,
+        };
+        let scaled = self.value("", descriptor);
         match scaled {
             Ok(Data::Structure(parts)) => match parts.as_slice() {
                 [Data::Integer(scaler), Data::Enum(unit)] => Some((*scaler, *unit)),
@@ -174,14 +177,13 @@ impl<'a, S: End> Talk<'a, '_, S> {
         let name = named(said)?;
         let number = name.number.unwrap_or(SECOND);
         let class = self.class(list, said, name, class)?;
-        let value = self.value(
-            said,
-            Descriptor {
-                class,
-                name: name.code,
-                id: number,
-            },
-        )?;
+        let code = name.code;
+        let descriptor = Descriptor {
+            class,
+            name: code,
+            id: number,
+        };
+        let value = self.value(said, descriptor)?;
         if raw {
             append_pairs(text, self.head.client.value())?;
             text.push(b'\n')?;
@@ -257,9 +259,11 @@ impl<'a, S: End> Talk<'a, '_, S> {
     ) -> Result<(), Fault<'a>> {
         let name = named(said)?;
         let list = self.list_unless(class)?;
+        let class = self.class(list.as_ref(), said, name, class)?;
+        let code = name.code;
         let attribute = Descriptor {
-            class: self.class(list.as_ref(), said, name, class)?,
-            name: name.code,
+            class,
+            name: code,
             id: name.number.unwrap_or(SECOND),
         };
         let answer = set(self.line, &mut self.head, attribute, value);
@@ -280,9 +284,11 @@ impl<'a, S: End> Talk<'a, '_, S> {
             return Err(Fault::Name(said));
         };
         let list = self.list_unless(class)?;
+        let class = self.class(list.as_ref(), said, name, class)?;
+        let code = name.code;
         let method = Descriptor {
-            class: self.class(list.as_ref(), said, name, class)?,
-            name: name.code,
+            class,
+            name: code,
             id: number,
         };
         let answer = act(self.line, &mut self.head, method, value);

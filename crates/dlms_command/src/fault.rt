@@ -295,7 +295,10 @@ fn write_call<W: fmt::Write>(
             write!(f, "protocol\n  {place}: an answer cannot be read: {fault}")
         }
         CallFault::Talk(Talked::Refused { initiate, .. }) => {
-            let name = initiate.and_then(initiate_error).unwrap_or("another");
+            let name = match initiate {
+                Some(code) => initiate_error(*code).unwrap_or("another"),
+                None => "another",
+            };
             write!(
                 f,
                 "protocol\n  {place}: the association is refused, initiate error {name}"
