@@ -72,6 +72,16 @@ pub fn written(alloc: Global, text: &str, now: u32) -> Result<Data<Global>, Faul
     }
 }
 
+/// The scaler and the unit that a value says, where it is a structure of both.
+fn scale_of(value: &Data<Global>) -> Option<(i8, u8)> {
+    if let Data::Structure(items) = value
+        && let [Data::Integer(scaler), Data::Enum(unit)] = items.as_slice()
+    {
+        return Some((*scaler, *unit));
+    }
+    None
+}
+
 impl<'a, S: End> Talk<'a, '_, S> {
     /// What an answer says of what was asked for by this name: nothing more where it is a success.
     fn judge(
@@ -154,13 +164,9 @@ impl<'a, S: End> Talk<'a, '_, S> {
             name: code,
             id: attribute,
         };
-        let scaled = self.value("", descriptor);
-        match scaled {
-            Ok(Data::Structure(parts)) => match parts.as_slice() {
-                [Data::Integer(scaler), Data::Enum(unit)] => Some((*scaler, *unit)),
-                _ => None,
-            },
-            _ => None,
+        match self.value("", descriptor) {
+            Ok(scaled) => scale_of(&scaled),
+            Err(_) => None,
         }
     }
 
