@@ -1,6 +1,7 @@
 -- What a readings file asks of the files of a machine, and what is made of the answers.
-use Rattle.std.specs.Prelude.{◌≡◌, ◌⊎◌, ℕ, List, [], ◌∷◌, ◌++◌, Option, Some, None, Result, Ok, Err}
+use Rattle.std.specs.Prelude.{◌≡◌, ◌⊎◌, ℕ, List, [], ◌∷◌, ◌++◌, Option, Some, None, Result, Ok, Err, IsOk, IsErr, String, string_bytes}
 use Rattle.std.specs.declared.io.Error.{Error}
+use Rattle.dlms_loopback.specs.declared.place.Held.{Held}
 
 -- The file that a name stands for was looked for: it has this path; the lock beside it was to be held; the text there was read, if there is
 -- one; a new file was to be made beside it, and has this path; a text was to be written to a file, and synced; it was to be renamed; the
@@ -68,3 +69,58 @@ abbrev pub Replaced : {T : Type 0} → Option (List FileCall) → Option (List F
 Replaced old new beside path (Ok done) = Called old new (Renames beside path None ∷ SyncsFolder path None ∷ [])
 Replaced old new beside path (Err e) =
     Called old new (Renames beside path (Some e) ∷ Removes beside ∷ []) ⊎ Called old new (Renames beside path None ∷ SyncsFolder path (Some e) ∷ [])
+
+-- ---- a place that holds a file
+
+-- the path of the file that is held, and that of the text which was laid beside it, if one was
+pub record AtFile : Type 0 where
+  pub path : List ℕ
+  pub laid : Option (List ℕ)
+
+abbrev pub file_of : Held → AtFile
+file_of held = record { path = string_bytes held.path; laid = bytes_if held.laid string_bytes }
+
+abbrev pub file_in : Option Held → Option AtFile
+file_in None = None
+file_in (Some held) = Some (file_of held)
+
+-- The file of this name is held, and nothing was laid beside it; or it could not be, and what was held is.
+abbrev pub ComesToHold : {T : Type 0} → Option (List FileCall) → Option (List FileCall) → List ℕ → Option AtFile → Result T Error → Option AtFile → Type 0
+ComesToHold old new name held (Ok done) held' = (path : List ℕ) × Locked old new name (Ok path) × (held' ≡ Some (record { path = path; laid = None }))
+ComesToHold old new name held (Err e) held' = Locked old new name (Err e) × (held' ≡ held)
+
+-- the text of the file that is held; where none is, it is empty
+abbrev pub GivesText : Option (List FileCall) → Option (List FileCall) → Option AtFile → Result (List ℕ) Error → Type 0
+GivesText old new None result = Called old new [] × (result ≡ Ok [])
+GivesText old new (Some file) result = Stands old new file.path result
+
+-- what was laid is taken away
+abbrev pub TakesAway : Option (List FileCall) → Option (List FileCall) → Option (List ℕ) → Type 0
+TakesAway old new None = Called old new []
+TakesAway old new (Some beside) = Called old new (Removes beside ∷ [])
+
+-- it is, of the file that is held
+abbrev pub Unlays : Option (List FileCall) → Option (List FileCall) → Option AtFile → Option AtFile → Type 0
+Unlays old new None held' = Called old new [] × (held' ≡ None)
+Unlays old new (Some file) held' = TakesAway old new file.laid × (held' ≡ Some (record { path = file.path; laid = None }))
+
+-- What was laid before is taken away, and the text is laid beside the file.
+abbrev pub LaysBeside : {T : Type 0} → Option (List FileCall) → Option (List FileCall) → List ℕ → AtFile → Result T Error → AtFile → Type 0
+LaysBeside old new text file (Ok done) file' =
+    (mid : Option (List FileCall)) × (beside : List ℕ) × TakesAway old mid file.laid × Laid mid new file.path text (Ok beside) × (file' ≡ record { path = file.path; laid = Some beside })
+LaysBeside old new text file (Err e) file' = (mid : Option (List FileCall)) × TakesAway old mid file.laid × Laid mid new file.path text (Err e) × (file' ≡ record { path = file.path; laid = None })
+
+-- it is, of the file that is held; where none is, nothing is done
+abbrev pub LaysHeld : {T : Type 0} → Option (List FileCall) → Option (List FileCall) → List ℕ → Option AtFile → Result T Error → Option AtFile → Type 0
+LaysHeld old new text None result held' = Called old new [] × IsOk result × (held' ≡ None)
+LaysHeld old new text (Some file) result held' = (file' : AtFile) × LaysBeside old new text file result file' × (held' ≡ Some file')
+
+-- What was laid takes the place of the file; that nothing was is an error.
+abbrev pub Puts : {T : Type 0} → Option (List FileCall) → Option (List FileCall) → (path : List ℕ) (laid : Option (List ℕ)) → Result T Error → Type 0
+Puts old new path None result = Called old new [] × IsErr result
+Puts old new path (Some beside) result = Replaced old new beside path result
+
+-- it does, of the file that is held; where none is, nothing is done
+abbrev pub PutsHeld : {T : Type 0} → Option (List FileCall) → Option (List FileCall) → Option AtFile → Result T Error → Option AtFile → Type 0
+PutsHeld old new None result held' = Called old new [] × IsOk result × (held' ≡ None)
+PutsHeld old new (Some file) result held' = Puts old new file.path file.laid result × (held' ≡ Some (record { path = file.path; laid = None }))

@@ -1,7 +1,7 @@
 //! A readings file as the place of a text: one program at a time has it, and a whole text stands there, or none.
 
-ghost use Rattle.std.specs.Prelude.{◌≡◌, string_bytes};
-ghost use Rattle.dlms_loopback.specs.Disk.{Filled, Laid, Locked, Replaced, Stands, found_in};
+ghost use Rattle.std.specs.Prelude.{◌≡◌, None, string_bytes};
+ghost use Rattle.dlms_loopback.specs.Disk.{ComesToHold, Filled, GivesText, Laid, LaysBeside, LaysHeld, Locked, Puts, PutsHeld, Replaced, Stands, TakesAway, Unlays, file_in, file_of, found_in};
 
 use crate::disk::{Disk, HostDisk};
 use crate::filing::{Filing, Holding};
@@ -89,6 +89,41 @@ fn replace<D: Disk>(disk: &mut D, beside: &str, path: &str) -> io::Result<()>
     }
 }
 
+/// Takes away what was laid beside the file.
+fn take_away<D: Disk>(disk: &mut D, held: &mut Held)
+    ensures away { TakesAway (D.made disk.old) (D.made disk.new) (file_of held.old).laid }
+    ensures held { file_of held.new ≡ record { path = (file_of held.old).path; laid = None } }
+{
+    if let Some(beside) = held.laid.take() {
+        disk.remove(beside.as_str());
+    }
+}
+
+/// Lays a text beside the file, in place of what was laid before.
+fn lay_beside<D: Disk>(disk: &mut D, held: &mut Held, text: &str) -> io::Result<()>
+    ensures { LaysBeside (D.made disk.old) (D.made disk.new) text.now (file_of held.old) result (file_of held.new) }
+{
+    take_away(disk, held);
+    match lay(disk, held.path.as_str(), text) {
+        Ok(beside) => {
+            held.laid = Some(beside);
+            Ok(())
+        }
+        Err(error) => Err(error),
+    }
+}
+
+/// Puts what was laid in the file's place.
+fn put_laid<D: Disk>(disk: &mut D, held: &mut Held) -> io::Result<()>
+    ensures puts { Puts (D.made disk.old) (D.made disk.new) (file_of held.old).path (file_of held.old).laid result }
+    ensures held { file_of held.new ≡ record { path = (file_of held.old).path; laid = None } }
+{
+    match held.laid.take() {
+        Some(beside) => replace(disk, beside.as_str(), held.path.as_str()),
+        None => Err(io::Error::other("no text was laid")),
+    }
+}
+
 impl<'r, R> FilePlace<HostDisk<'r, R>> {
     /// Of the system's files; none is held.
     pub fn of(rt: &'r R) -> Self {
@@ -113,15 +148,24 @@ impl<D> FilePlace<D> {
 }
 
 impl<D: Disk> Holding for FilePlace<D> {
-    fn hold(&mut self, file: &str) -> io::Result<()> {
-        let path = hold(&mut self.disk, file)?;
-        self.held = Some(Held { path, laid: None });
-        Ok(())
+    fn hold(&mut self, file: &str) -> io::Result<()>
+        ensures { ComesToHold (D.made self.old.disk) (D.made self.new.disk) file.now (file_in self.old.held) result (file_in self.new.held) }
+    {
+        match hold(&mut self.disk, file) {
+            Ok(path) => {
+                self.held = Some(Held { path, laid: None });
+                Ok(())
+            }
+            Err(error) => Err(error),
+        }
     }
 }
 
 impl<D: Disk> Filing for FilePlace<D> {
-    fn text(&mut self, alloc: Global) -> io::Result<String> {
+    fn text(&mut self, alloc: Global) -> io::Result<String>
+        ensures held { self.new.held ≡ self.old.held }
+        ensures text { GivesText (D.made self.old.disk) (D.made self.new.disk) (file_in self.old.held) (found_in result string_bytes) }
+    {
         match &self.held {
             Some(held) => standing(&mut self.disk, alloc, held.path.as_str()),
             None => Ok(String::new(alloc)),
@@ -129,30 +173,39 @@ impl<D: Disk> Filing for FilePlace<D> {
     }
 
     /// Where a call fails, nothing stands beside the file.
-    fn lay(&mut self, text: &str) -> io::Result<()> {
-        self.drop_laid();
-        if let Some(held) = &mut self.held {
-            held.laid = Some(lay(&mut self.disk, held.path.as_str(), text)?);
-        }
-        Ok(())
+    fn lay(&mut self, text: &str) -> io::Result<()>
+        ensures { LaysHeld (D.made self.old.disk) (D.made self.new.disk) text.now (file_in self.old.held) result (file_in self.new.held) }
+    {
+        let Some(held) = self.held.take() else {
+            return Ok(());
+        };
+        let mut held = held;
+        let outcome = lay_beside(&mut self.disk, &mut held, text);
+        self.held = Some(held);
+        outcome
     }
 
     /// A stop at any moment leaves the old text or the new one, whole.
-    fn put(&mut self) -> io::Result<()> {
-        let Some(held) = &mut self.held else {
+    fn put(&mut self) -> io::Result<()>
+        ensures { PutsHeld (D.made self.old.disk) (D.made self.new.disk) (file_in self.old.held) result (file_in self.new.held) }
+    {
+        let Some(held) = self.held.take() else {
             return Ok(());
         };
-        match held.laid.take() {
-            Some(beside) => replace(&mut self.disk, beside.as_str(), held.path.as_str()),
-            None => Err(io::Error::other("no text was laid")),
-        }
+        let mut held = held;
+        let outcome = put_laid(&mut self.disk, &mut held);
+        self.held = Some(held);
+        outcome
     }
 
-    fn drop_laid(&mut self) {
-        if let Some(held) = &mut self.held {
-            if let Some(beside) = held.laid.take() {
-                self.disk.remove(beside.as_str());
-            }
-        }
+    fn drop_laid(&mut self)
+        ensures { Unlays (D.made self.old.disk) (D.made self.new.disk) (file_in self.old.held) (file_in self.new.held) }
+    {
+        let Some(held) = self.held.take() else {
+            return;
+        };
+        let mut held = held;
+        take_away(&mut self.disk, &mut held);
+        self.held = Some(held);
     }
 }
