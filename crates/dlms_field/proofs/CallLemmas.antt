@@ -87,7 +87,7 @@ module _ {P A : Type 0} {ghosts : Ghosts P} where
   ends_made rules s result moments sights b ticks (ReplyEnds reply part missing given error gives cut) = gives_made s given (Some reply) gives
   ends_made rules s result moments sights b ticks (Tires left all) = ([], refl)
 
-  connection_made : (rules : Rules) (p q : Option (List LineMoment)) (v w : Option (List Sight)) (a b : Meter P A ghosts) (ticks ticks' : Ticks) (result : Result Ending LoopFault) → Connection rules p q v w a ticks result b ticks' → Made a b
+  pub connection_made : (rules : Rules) (p q : Option (List LineMoment)) (v w : Option (List Sight)) (a b : Meter P A ghosts) (ticks ticks' : Ticks) (result : Result Ending LoopFault) → Connection rules p q v w a ticks result b ticks' → Made a b
   connection_made rules p q v w a b ticks ticks' result (Unbegun fault sights m t fails adds sees) = failed_made rules.tick a b ticks ticks' fault sights fails
   connection_made rules p q v w a b ticks ticks' result (Begun first now mid after told ended r look sees ends) =
       joined a mid b (looked_made rules.tick first a mid ticks told look)

@@ -9,3 +9,4 @@ pub mod CallLemmas
 pub mod ServeLemmas
 pub mod PollingLemmas
 pub mod PolledLemmas
+pub mod LineLemmas

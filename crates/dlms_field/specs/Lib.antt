@@ -16,3 +16,4 @@ pub mod Serving
 pub mod Calling
 pub mod Keeping
 pub mod Faults
+pub mod ServingLine

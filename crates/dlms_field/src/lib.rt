@@ -1,6 +1,7 @@
-//! The two tools of the field: a meter that serves a TCP port, and a head end that polls one.
+//! The two tools of the field: a meter that serves a TCP port or a serial line, and a head end that polls one.
 #![tactic(auto)]
 
+mod bench;
 mod calling;
 mod clocks;
 mod deadline;
@@ -17,12 +18,15 @@ mod phone;
 mod polling;
 mod refusals;
 mod secret;
+mod serial;
 mod serving;
+mod serving_line;
 mod talking;
 mod telling;
 mod ticks;
 mod turns;
 mod watch;
+mod wire;
 
 pub use clocks::{ClockFault, Limit, first_ahead, judge, left_out};
 pub use deadline::{Deadline, Timer, is_over, left};
@@ -34,10 +38,13 @@ pub use log::Log;
 pub use pace::due;
 pub use phone::{Dialling, Phone};
 pub use polling::{Office, Polling, poll};
-pub use secret::{secret_in, secret_of};
+pub use secret::{MOST_READ, secret_in, secret_of};
+pub use serial::{Serial, is_device};
 pub use serving::{Serving, serve, serve_all};
+pub use serving_line::{serve_line, serve_turns};
 pub use talking::{Ending, Rules, Site};
 pub use telling::{CATCH_UP, goes_on, look, tell};
 pub use ticks::{Second, Ticks};
 pub use turns::{MOST_REFUSALS, Over, Times, Turn};
 pub use watch::{Peer, Watch};
+pub use wire::Wire;

@@ -6,7 +6,10 @@ ghost use Rattle.dlms_loopback.specs.Moments.Moment.{Connects};
 
 use crate::deadline::Deadline;
 use crate::line::{Line, WAIT_SECONDS};
+use crate::serial::{Serial, is_device};
+use crate::wire::Wire;
 use dlms_loopback::{End, Heard, PIECE};
+use std::fs::{File, Files};
 use std::io;
 use std::io::{ErrorKind, Read, Write};
 use std::net::{Net, OpenStream, TcpStream, ToSocketAddrs};
@@ -21,7 +24,7 @@ const QUIET_MILLISECONDS: u64 = 50;
 /// The most reads before the poll begins.
 const QUIET_READS: u32 = 64;
 
-/// An end that is to be connected to what has an address.
+/// An end that is to be connected to what has an address, or is a device.
 pub trait Dialling: End {
     /// Connects to what has this address, within so many seconds, and tells whether that was done in time. Then nothing stands on
     /// the line. Before that nothing comes at the end, and nothing goes out.
@@ -32,9 +35,8 @@ pub trait Dialling: End {
     fn failure(&self) -> Option<io::Error>;
 }
 
-/// Drops what stands on the line: until nothing comes for a while, or so much has come that silence is not waited for.
-fn quiet<S: Read + Write + OpenStream>(stream: &mut S) -> io::Result<()> {
-    stream.set_read_timeout(Some(Duration::from_millis(QUIET_MILLISECONDS)))?;
+/// Drops what stands on the line: until nothing comes for as long as it waits, or so much has come that silence is not waited for.
+fn quiet<S: Read + Write>(stream: &mut S) -> io::Result<()> {
     let mut piece = [0u8; PIECE];
     for _ in 0..QUIET_READS {
         match stream.hear(&mut piece) {
@@ -51,6 +53,7 @@ fn quiet<S: Read + Write + OpenStream>(stream: &mut S) -> io::Result<()> {
 /// The stream gives up after a while, sends bytes at once, and has nothing to be read.
 fn prepare<S: Read + Write + OpenStream>(stream: &mut S) -> io::Result<()> {
     stream.set_nodelay(true)?;
+    stream.set_read_timeout(Some(Duration::from_millis(QUIET_MILLISECONDS)))?;
     quiet(stream)?;
     stream.set_read_timeout(Some(Duration::from_secs(WAIT_SECONDS)))?;
     stream.set_write_timeout(Some(Duration::from_secs(WAIT_SECONDS)))
@@ -76,11 +79,20 @@ fn connected<R: Net, C: Clock>(
     Err(last)
 }
 
-/// An end of a TCP connection, once it is connected.
+/// The serial line of a device, on which nothing stands.
+fn opened<R: Net + Files<File = File> + AllocGlobal>(rt: &R, device: &str) -> io::Result<Serial> {
+    let mut line = Serial::open(rt, device)?;
+    line.waits(Duration::from_millis(QUIET_MILLISECONDS));
+    quiet(&mut line)?;
+    line.waits(Duration::from_secs(WAIT_SECONDS));
+    Ok(line)
+}
+
+/// An end of a TCP connection or of a serial line, once it is connected.
 #[derive(Drop)]
 pub struct Phone<'r, R: Net + Clock> {
     rt: &'r R,
-    line: Option<Line<'r, R, R::Stream>>,
+    line: Option<Line<'r, R, Wire<R::Stream>>>,
 }
 
 impl<'r, R: Net + Clock> Phone<'r, R> {
@@ -115,16 +127,22 @@ impl<R: Net + Clock> Write for Phone<'_, R> {
     }
 }
 
-impl<R: Net + Clock> Dialling for Phone<'_, R> {
-    /// Bytes go out at once, and no call waits for more than two seconds.
+impl<R: Net + Files<File = File> + Clock + AllocGlobal> Dialling for Phone<'_, R> {
+    /// Of a path from the root on it is the serial line of that device. Bytes go out at once, and no call waits for more than two
+    /// seconds.
     fn connect(&mut self, address: &str, seconds: u32) -> io::Result<bool> {
-        let deadline = Deadline::new(self.rt, seconds)?;
-        let Some(stream) = connected(self.rt, address, &deadline)? else {
-            return Ok(false);
+        let wire = if is_device(address) {
+            Wire::Serial(opened(self.rt, address)?)
+        } else {
+            let deadline = Deadline::new(self.rt, seconds)?;
+            let Some(stream) = connected(self.rt, address, &deadline)? else {
+                return Ok(false);
+            };
+            let mut stream = stream;
+            prepare(&mut stream)?;
+            Wire::Socket(stream)
         };
-        let mut stream = stream;
-        prepare(&mut stream)?;
-        self.line = Some(Line::new(self.rt, stream)?);
+        self.line = Some(Line::new(self.rt, wire)?);
         Ok(true)
     }
 

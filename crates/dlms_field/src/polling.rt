@@ -20,13 +20,14 @@ use dlms_frame::Client;
 use dlms_headend::{Poller, Readings, Row};
 use dlms_loopback::{FilePlace, Holding, HostDisk, LoopFault, Output, poller};
 use std::alloc::Global;
+use std::fs::{File, Files};
 use std::net::Net;
 use std::time::Clock;
 
 /// What is polled, into which file, and by whom.
 #[derive(Clone, Copy, Debug)]
 pub struct Polling<'a> {
-    /// The meter's address and port.
+    /// The meter's address and port, or the device of its serial line.
     pub address: &'a str,
     /// The file that the readings stand in.
     pub readings: Option<&'a str>,
@@ -48,8 +49,12 @@ pub struct Office<D, F, L> {
     pub line: L,
 }
 
-impl<'r, R: Net + Clock> Office<HostDesk<'r, R>, FilePlace<HostDisk<'r, R>>, Phone<'r, R>> {
-    /// The system's clocks and files, and a TCP connection that is not made yet.
+impl<'r, R: Net + Files<File = File> + Clock> Office<
+    HostDesk<'r, R>,
+    FilePlace<HostDisk<'r, R>>,
+    Phone<'r, R>,
+> {
+    /// The system's clocks and files, and a line that is not connected yet.
     pub fn of(rt: &'r R) -> Self {
         Office {
             desk: HostDesk::new(rt),

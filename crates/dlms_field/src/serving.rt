@@ -15,6 +15,8 @@ use crate::watch::{Peer, Watch};
 use dlms_loopback::LoopFault;
 use dlms_meter::Meter;
 use dlms_pages::Pages;
+use std::alloc::Global;
+use std::fmt::Display;
 use std::io;
 use std::io::{ErrorKind, Write};
 use std::net::{Net, OpenListener, SocketAddr, TcpListener};
@@ -29,7 +31,7 @@ const PASSING: [i32; 13] = [71, 92, 95, 100, 101, 64, 112, 113, 1, 23, 24, 105, 
 /// How a meter is served.
 #[derive(Clone, Copy, Debug)]
 pub struct Serving<'a> {
-    /// The address and port to listen on; of port 0 the system chooses one.
+    /// The address and port to listen on; of port 0 the system chooses one. Of a serial line its device.
     pub address: &'a str,
     /// The load in watts, which gives pulses on channel 0.
     pub load: u32,
@@ -59,8 +61,14 @@ fn passes(error: io::Error) -> bool
     }
 }
 
-/// Tells how a connection ended. That the line cannot be written is of no matter.
-fn tell_end<E: Write>(errors: &mut E, address: SocketAddr, times: Times, ending: Ending) {
+/// Tells how a connection with what has an address, or a turn of a serial line, ended. That the line cannot be written is of no
+/// matter.
+pub fn tell_end<E: Write, D: Display + Drop>(
+    errors: &mut E,
+    address: D,
+    times: Times,
+    ending: Ending,
+) {
     let Times {
         inactivity,
         idle,
@@ -104,7 +112,7 @@ fn visit<W: Watch + Drop, P: Pages, E: Write>(
 }
 
 /// Whether so many association requests were refused that the turn was over.
-fn is_refused(ending: Ending) -> bool
+pub fn is_refused(ending: Ending) -> bool
     ensures { result ≡ is_refused ending }
 {
     match ending {
@@ -185,6 +193,15 @@ fn listening<R: Net>(rt: &R, address: &str) -> io::Result<R::Listener> {
     let listener = TcpListener::bind(rt, address)?;
     listener.set_nonblocking(true)?;
     Ok(listener)
+}
+
+/// The lines among the errors, or none.
+pub fn log_of<R: Net + AllocGlobal>(rt: &R, serving: &Serving<'_>) -> Log<Global> {
+    if serving.quiet {
+        Log::quiet()
+    } else {
+        Log::new(rt, rt.alloc(), serving.errors)
+    }
 }
 
 /// Says where it listens.
@@ -274,11 +291,7 @@ pub fn serve<'a, R: Net + Clock + AllocGlobal, P: Pages, W: Write, E: Write>(
         return Err(FieldFault::Other(LoopFault::from(error)));
     }
     let ticks = Ticks::new(meter.state().last(), serving.load);
-    let log = if serving.quiet {
-        Log::quiet()
-    } else {
-        Log::new(rt, rt.alloc(), serving.errors)
-    };
+    let log = log_of(rt, serving);
     let rules = Rules {
         tick: serving.tick,
         times: serving.times,
