@@ -1,6 +1,7 @@
 -- A client's end, act by act.
-use Rattle.std.proofs.Common.{refl, sym, ap, subst, append-nil, append_assoc, ◌∙◌, ◌≡◌, ℕ, List, [], ◌∷◌, ◌++◌}
-use Rattle.std.specs.Prelude.{Option, Some, None, Result, Ok, Err}
+use Rattle.std.proofs.Common.{refl, sym, ap, subst, append-nil, append_assoc, ◌∙◌, ◌≡◌, ◌↔◌, ℕ, Bool, true, false, List, [], ◌∷◌, ◌++◌}
+use Rattle.std.specs.Prelude.{IsTrue, Option, Some, None, Result, Ok, Err}
+use Rattle.std.proofs.lemmas.Bool.{false≢true}
 use Rattle.dlms_client.specs.Calls.{Comes}
 use Rattle.dlms_client.specs.ClientValue.{ClientValue}
 use Rattle.dlms_client.specs.declared.step.Step.{Step}
@@ -79,3 +80,10 @@ ends_again old now new c c' result quiet (IsTold (Err f) can times (told, adds))
 
 pub comes_as : (c c' : ClientValue) (frame : Parts) (x y : Step) → x ≡ y → Comes c frame (Ok x) c' → Comes c frame (Ok y) c'
 comes_as c c' frame x y is comes = subst (λ (s : Step). Comes c frame (Ok s) c') is comes
+
+pub turned_as : (old new : Option (List Moment)) (c c' : ClientValue) (x y : Turn) → x ≡ y → Turned old new c c' (Ok x) → Turned old new c c' (Ok y)
+turned_as old new c c' x y is turns = subst (λ (t : Turn). Turned old new c c' (Ok t)) is turns
+
+-- what is tested is not so
+pub is_false : {X : Type 0} (b : Bool) → b ≡ false → (IsTrue b ↔ X) → X → ⊥
+is_false b is iff x = absurd (false≢true (sym is ∙ iff.1 x))

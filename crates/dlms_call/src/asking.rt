@@ -1,42 +1,93 @@
 //! One association over a line: requests, and what they bring.
 
-ghost use Rattle.std.specs.Prelude.{◌≡◌, IsTrue, option_map};
+ghost use Rattle.std.specs.Prelude.{◌≡◌, ◌↔◌, IfErr, IfOk, IsTrue, None, option_map};
+ghost use Rattle.dlms_apdu.specs.Forms.{action_normal, get_normal, set_normal};
 ghost use Rattle.dlms_apdu.specs.Writing.{ParameterFits};
+ghost use Rattle.dlms_client.specs.Calls.{IsFree, fresh};
 ghost use Rattle.dlms_client.specs.Plan.{IsPlan, plan_of};
+ghost use Rattle.dlms_client.specs.declared.requests.TheConstants.{INVOKE};
+ghost use Rattle.dlms_client.specs.declared.stage.Asked.TheVariants.{Action, Get, Set};
+ghost use Rattle.dlms_call.specs.Asking.{EndsTalk, FailsToOpen, GoesOut, Opens, Requests, Settles, SettlesAs, answer_in, ended_in, opened_in};
 ghost use Rattle.dlms_data.specs.View.{value_of};
+ghost use Rattle.dlms_data.specs.Writing.{Fits};
 
 use crate::client_end::{ClientEnd, Turn, send};
 use crate::fault::CallFault;
 use dlms_client::{Answer, Client, Fault, Plan};
 use dlms_data::{Data, Descriptor, fits};
+use dlms_frame::SentFrame;
 use dlms_loopback::End;
 use std::alloc::{Allocator, Global};
 
 /// The most turns of one request.
 const TURNS: u32 = 65_536;
 
-/// Turns, until something has come.
+/// Turns, until more has come than a frame's turn to go out.
 fn settle<S: End, A: Allocator + Copy>(
     line: &mut S,
     head: &mut ClientEnd<A>,
-) -> Result<Turn, CallFault> {
+) -> Result<Turn, CallFault>
+    ensures { Settles (S.past line.old) (S.past line.new) head.old.client head.new.client result }
+{
     'turns: for _turn in 0..TURNS {
-        match head.turn(line)? {
-            Turn::Sent => {}
-            turn => return Ok(turn),
+        match head.turn(line) {
+            Ok(Turn::Sent) => {}
+            Ok(Turn::Associated) => return Ok(Turn::Associated),
+            Ok(Turn::Answered(answer)) => return Ok(Turn::Answered(answer)),
+            Ok(Turn::Down) => return Ok(Turn::Down),
+            Err(fault) => return Err(fault),
         }
     }
     Err(CallFault::Talk(Fault::Line))
 }
 
-/// The answer to the request that is out.
-fn answer<S: End, A: Allocator + Copy>(
+/// What is told of an association that is asked for.
+fn opened_in(turn: Result<Turn, CallFault>) -> Result<(), CallFault>
+    ensures { result ≡ opened_in turn }
+{
+    match turn {
+        Ok(Turn::Associated) => Ok(()),
+        Ok(Turn::Sent | Turn::Answered(_) | Turn::Down) => Err(CallFault::Talk(Fault::Form)),
+        Err(fault) => Err(fault),
+    }
+}
+
+/// What is told of a request.
+fn answer_in(turn: Result<Turn, CallFault>) -> Result<Answer, CallFault>
+    ensures { result ≡ answer_in turn }
+{
+    match turn {
+        Ok(Turn::Answered(answer)) => Ok(answer),
+        Ok(Turn::Sent | Turn::Associated | Turn::Down) => Err(CallFault::Talk(Fault::Form)),
+        Err(fault) => Err(fault),
+    }
+}
+
+/// What is told of the link's end that is asked for.
+fn ended_in(turn: Result<Turn, CallFault>) -> Result<(), CallFault>
+    ensures { result ≡ ended_in turn }
+{
+    match turn {
+        Ok(Turn::Down) => Ok(()),
+        Ok(Turn::Sent | Turn::Associated | Turn::Answered(_)) => Err(CallFault::Talk(Fault::Form)),
+        Err(fault) => Err(fault),
+    }
+}
+
+/// A request's first frame goes out, and its answer is awaited.
+fn answered<S: End, A: Allocator + Copy>(
     line: &mut S,
     head: &mut ClientEnd<A>,
-) -> Result<Answer, CallFault> {
-    match settle(line, head)? {
-        Turn::Answered(answer) => Ok(answer),
-        _ => Err(CallFault::Talk(Fault::Form)),
+    frame: &SentFrame,
+) -> Result<Answer, CallFault>
+    ensures { GoesOut answer_in (S.past line.old) (S.past line.new) frame.now head.old.client head.new.client result }
+{
+    match send(line, frame) {
+        Ok(_) => {
+            let turn = settle(line, head);
+            answer_in(turn)
+        }
+        Err(fault) => Err(fault),
     }
 }
 
@@ -47,17 +98,23 @@ pub fn begin<S: End, A: Allocator + Copy>(
     plan: Plan,
 ) -> Result<ClientEnd<A>, CallFault>
     requires { IsPlan (plan_of plan) }
+    ensures opens { IfOk result (λ head. Opens (S.past line.old) (S.past line.new) (fresh (plan_of plan)) head.client) }
+    ensures fails { IfErr result (FailsToOpen (S.past line.old) (S.past line.new) (fresh (plan_of plan))) }
 {
-    let mut head = ClientEnd::begin(line, Client::new(alloc, plan))?;
-    match settle(line, &mut head)? {
-        Turn::Associated => Ok(head),
-        _ => Err(CallFault::Talk(Fault::Form)),
+    let mut head = match ClientEnd::begin(line, Client::new(alloc, plan)) {
+        Ok(head) => head,
+        Err(fault) => return Err(fault),
+    };
+    let turn = settle(line, &mut head);
+    match opened_in(turn) {
+        Ok(()) => Ok(head),
+        Err(fault) => Err(fault),
     }
 }
 
 /// Whether a parameter has a spelling.
 fn parameter_fits<A: Allocator>(parameter: &Option<Data<A>>) -> bool
-    ensures { IsTrue result → ParameterFits (option_map value_of parameter.now) }
+    ensures { IsTrue result ↔ ParameterFits (option_map value_of parameter.now) }
 {
     match parameter {
         Some(value) => fits(value),
@@ -65,62 +122,81 @@ fn parameter_fits<A: Allocator>(parameter: &Option<Data<A>>) -> bool
     }
 }
 
-/// Asks for an attribute.
+/// Asks for an attribute. While no association is open, or a request is out, nothing is asked, and it is `Form`.
 pub fn get<S: End, A: Allocator + Copy>(
     line: &mut S,
     head: &mut ClientEnd<A>,
     attribute: Descriptor,
-) -> Result<Answer, CallFault> {
+) -> Result<Answer, CallFault>
+    ensures { Requests (IsFree head.old.client) Get (get_normal INVOKE attribute None) (S.past line.old) (S.past line.new) head.old.client head.new.client result }
+{
     if !head.client.is_free() {
         return Err(CallFault::Talk(Fault::Form));
     }
-    let frame = head.client.get::<A>(attribute, None)?;
-    let _sent = send(line, &frame)?;
-    answer(line, head)
+    match head.client.get::<A>(attribute, None) {
+        Ok(frame) => answered(line, head, &frame),
+        Err(fault) => Err(CallFault::from(fault)),
+    }
 }
 
-/// Sets an attribute.
+/// Sets an attribute, as `get` asks for one. A value that has no spelling is not sent, and `Form` too.
 pub fn set<S: End, A: Allocator + Copy>(
     line: &mut S,
     head: &mut ClientEnd<A>,
     attribute: Descriptor,
     value: Data<A>,
-) -> Result<Answer, CallFault> {
-    if !head.client.is_free() || !fits(&value) {
+) -> Result<Answer, CallFault>
+    ensures { Requests (IsFree head.old.client × Fits (value_of value)) Set (set_normal INVOKE attribute None (value_of value)) (S.past line.old) (S.past line.new) head.old.client head.new.client result }
+{
+    if !head.client.is_free() {
         return Err(CallFault::Talk(Fault::Form));
     }
-    let frame = head.client.set::<A>(attribute, None, value)?;
-    let _sent = send(line, &frame)?;
-    answer(line, head)
+    if !fits(&value) {
+        return Err(CallFault::Talk(Fault::Form));
+    }
+    match head.client.set::<A>(attribute, None, value) {
+        Ok(frame) => answered(line, head, &frame),
+        Err(fault) => Err(CallFault::from(fault)),
+    }
 }
 
-/// Calls a method, with a parameter or without one.
+/// Calls a method, with a parameter or without one, as `set` sets an attribute.
 pub fn act<S: End, A: Allocator + Copy>(
     line: &mut S,
     head: &mut ClientEnd<A>,
     method: Descriptor,
     parameter: Option<Data<A>>,
-) -> Result<Answer, CallFault> {
-    if !head.client.is_free() || !parameter_fits(&parameter) {
+) -> Result<Answer, CallFault>
+    ensures { Requests (IsFree head.old.client × ParameterFits (option_map value_of parameter)) Action (action_normal INVOKE method (option_map value_of parameter)) (S.past line.old) (S.past line.new) head.old.client head.new.client result }
+{
+    if !head.client.is_free() {
         return Err(CallFault::Talk(Fault::Form));
     }
-    let frame = head.client.act(method, parameter)?;
-    let _sent = send(line, &frame)?;
-    answer(line, head)
+    if !parameter_fits(&parameter) {
+        return Err(CallFault::Talk(Fault::Form));
+    }
+    match head.client.act(method, parameter) {
+        Ok(frame) => answered(line, head, &frame),
+        Err(fault) => Err(CallFault::from(fault)),
+    }
 }
 
 /// Ends the link, and with it the association.
 pub fn end<S: End, A: Allocator + Copy>(
     line: &mut S,
     head: &mut ClientEnd<A>,
-) -> Result<(), CallFault> {
+) -> Result<(), CallFault>
+    ensures { EndsTalk (S.past line.old) (S.past line.new) head.old.client head.new.client result }
+{
     if !head.client.is_free() {
         return Err(CallFault::Talk(Fault::Form));
     }
     let frame = head.client.disconnect();
-    let _sent = send(line, &frame)?;
-    match settle(line, head)? {
-        Turn::Down => Ok(()),
-        _ => Err(CallFault::Talk(Fault::Form)),
+    match send(line, &frame) {
+        Ok(_) => {
+            let turn = settle(line, head);
+            ended_in(turn)
+        }
+        Err(fault) => Err(fault),
     }
 }

@@ -1,6 +1,7 @@
 //! A client's end of a line.
 
-ghost use Rattle.std.specs.Prelude.{◌≡◌};
+ghost use Rattle.std.specs.Prelude.{◌≡◌, IfErr, IfOk};
+ghost use Rattle.dlms_call.specs.Asking.{DialFails, Dials, DialsFirst};
 ghost use Rattle.dlms_call.specs.Talking.{IsOfSystem, Repeats, SendsFrame, TakesFrame, TakesPiece, Turned};
 
 use crate::fault::CallFault;
@@ -77,21 +78,34 @@ fn take_frame<W: End, A: Allocator + Copy>(
     }
 }
 
+/// The client's first frame goes out, if it gives one.
+fn dial<W: End, A: Allocator + Copy>(client: &mut Client<A>, end: &mut W) -> Result<(), CallFault>
+    ensures { DialsFirst (W.past end.old) (W.past end.new) client.old client.new result }
+{
+    match client.next() {
+        Some(frame) => match send(end, &frame) {
+            Ok(_) => Ok(()),
+            Err(fault) => Err(fault),
+        },
+        None => Ok(()),
+    }
+}
+
 impl<A: Allocator + Copy> ClientEnd<A> {
     /// Sends the client's first frame.
-    pub fn begin<W: End>(end: &mut W, client: Client<A>) -> Result<Self, CallFault> {
+    pub fn begin<W: End>(end: &mut W, client: Client<A>) -> Result<Self, CallFault>
+        ensures dials { IfOk result (λ head. Dials (W.past end.old) (W.past end.new) client head.client) }
+        ensures fails { IfErr result (DialFails (W.past end.old) (W.past end.new) client) }
+    {
         let mut client = client;
-        match client.next() {
-            Some(frame) => {
-                let _sent = send(end, &frame)?;
-            }
-            None => {}
+        match dial(&mut client, end) {
+            Ok(()) => Ok(ClientEnd {
+                deframer: Deframer::new(),
+                client,
+                left: MOST_BYTES,
+            }),
+            Err(fault) => Err(fault),
         }
-        Ok(ClientEnd {
-            deframer: Deframer::new(),
-            client,
-            left: MOST_BYTES,
-        })
     }
 
     /// Takes the frames among the bytes, up to the one that is answered or brings something. What stands behind it came before the

@@ -1,6 +1,7 @@
 //! Why a talk with a meter ended early.
 
 ghost use Rattle.std.specs.Prelude.{◌≡◌};
+ghost use Rattle.dlms_call.specs.Asking.{told_of};
 ghost use Rattle.dlms_call.specs.declared.fault.CallFault.TheVariants.{Talk as TalkOf};
 
 use dlms_client::{AskFault, Fault};
@@ -27,6 +28,8 @@ impl From<Fault> for CallFault {
 }
 
 impl From<AskFault> for CallFault {
+    ghost from_gives = { λ fault given. given ≡ told_of fault };
+
     fn from(fault: AskFault) -> CallFault {
         match fault {
             AskFault::TooLong => CallFault::TooLong,

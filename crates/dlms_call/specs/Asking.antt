@@ -1,0 +1,123 @@
+-- What is asked over a line: frames of the client, and turns of its end, one after another.
+use Rattle.std.specs.Prelude.{◌≡◌, ◌+◌, ℕ, List, [], ◌∷◌, Option, Some, None, Result, Ok, Err}
+use Rattle.dlms_apdu.specs.Forms.{RequestForm}
+use Rattle.dlms_client.specs.Calls.{Asks, Begins, IsFree, Leaves}
+use Rattle.dlms_client.specs.ClientValue.{ClientValue}
+use Rattle.dlms_client.specs.declared.answer.Answer.{Answer}
+use Rattle.dlms_client.specs.declared.ask_fault.AskFault.{AskFault}
+use Rattle.dlms_client.specs.declared.ask_fault.AskFault.TheVariants as ask
+use Rattle.dlms_client.specs.declared.fault.Fault.TheVariants as fault
+use Rattle.dlms_client.specs.declared.stage.Asked.{Asked}
+use Rattle.dlms_frame.specs.Frame.{Parts, spelling}
+use Rattle.dlms_loopback.specs.Moments.{Moment, Adds, Breaks}
+use Rattle.dlms_loopback.specs.Moments.Moment.{Went}
+use Rattle.dlms_call.specs.Talking.{IsOfSystem, Turned}
+use Rattle.dlms_call.specs.declared.asking.TheConstants.{TURNS}
+use Rattle.dlms_call.specs.declared.client_end.Turn.{Turn}
+use Rattle.dlms_call.specs.declared.client_end.Turn.TheVariants.{Sent, Associated, Answered, Down}
+use Rattle.dlms_call.specs.declared.fault.CallFault.{CallFault}
+use Rattle.dlms_call.specs.declared.fault.CallFault.TheVariants.{Talk, TooLong, Memory}
+
+-- ---- turns, until something is told
+
+-- at each of so many turns a frame went out, and no more
+pub data SendsOn (old : Option (List Moment)) (c : ClientValue) : ℕ → Option (List Moment) → ClientValue → Type 0 where
+  NoTurn : SendsOn old c 0 old c
+  OneMore : (count : ℕ) (now new : Option (List Moment)) (mid c' : ClientValue) → SendsOn old c count now mid → Turned now new mid c' (Ok Sent) → SendsOn old c (count + 1) new c'
+
+-- it is told of more than a frame that went out
+abbrev pub IsMore : Result Turn CallFault → Type 0
+IsMore (Ok Sent) = ⊥
+IsMore (Ok Associated) = Unit {0}
+IsMore (Ok (Answered answer)) = Unit {0}
+IsMore (Ok Down) = Unit {0}
+IsMore (Err fault) = Unit {0}
+
+-- The first turn at which more is told than that a frame went out, and what; or so many frames went out.
+pub data Settles (old new : Option (List Moment)) (c c' : ClientValue) (result : Result Turn CallFault) : Type 0 where
+  IsTold : (count : ℕ) (now : Option (List Moment)) (mid : ClientValue) → SendsOn old c count now mid → Turned now new mid c' result → IsMore result → Settles old new c c' result
+  TalksOn : result ≡ Err (Talk fault.Line) → SendsOn old c TURNS new c' → Settles old new c c' result
+
+-- what is told of an association, of a request and of the link's end that are asked for; anything else is of another form
+abbrev pub opened_in : Result Turn CallFault → Result (Unit {0}) CallFault
+opened_in (Ok Sent) = Err (Talk fault.Form)
+opened_in (Ok Associated) = Ok tt
+opened_in (Ok (Answered answer)) = Err (Talk fault.Form)
+opened_in (Ok Down) = Err (Talk fault.Form)
+opened_in (Err fault) = Err fault
+
+abbrev pub answer_in : Result Turn CallFault → Result Answer CallFault
+answer_in (Ok Sent) = Err (Talk fault.Form)
+answer_in (Ok Associated) = Err (Talk fault.Form)
+answer_in (Ok (Answered answer)) = Ok answer
+answer_in (Ok Down) = Err (Talk fault.Form)
+answer_in (Err fault) = Err fault
+
+abbrev pub ended_in : Result Turn CallFault → Result (Unit {0}) CallFault
+ended_in (Ok Sent) = Err (Talk fault.Form)
+ended_in (Ok Associated) = Err (Talk fault.Form)
+ended_in (Ok (Answered answer)) = Err (Talk fault.Form)
+ended_in (Ok Down) = Ok tt
+ended_in (Err fault) = Err fault
+
+-- what settles is told so
+pub record SettlesAs {X : Type 0} (told_in : Result Turn CallFault → Result X CallFault) (old new : Option (List Moment)) (c c' : ClientValue) (result : Result X CallFault) : Type 0 where
+  pub turn : Result Turn CallFault
+  pub settles : Settles old new c c' turn
+  pub told : result ≡ told_in turn
+
+-- a frame goes out, and what settles then is told so; or the line breaks at it
+pub data GoesOut {X : Type 0} (told_in : Result Turn CallFault → Result X CallFault) (old new : Option (List Moment)) (frame : Parts) (c c' : ClientValue) (result : Result X CallFault) : Type 0 where
+  LineBreaks : (why : CallFault) → IsOfSystem why → result ≡ Err why → c' ≡ c → Breaks old new (spelling frame) → GoesOut told_in old new frame c c' result
+  Settled : (now : Option (List Moment)) → Adds old now (Went (spelling frame) ∷ []) → SettlesAs told_in now new c c' result → GoesOut told_in old new frame c c' result
+
+-- ---- an association
+
+-- the client's first frame goes out, if it gives one
+pub data Dials (old new : Option (List Moment)) (c c' : ClientValue) : Type 0 where
+  Goes : (frame : Parts) → Begins c (Some frame) c' → Adds old new (Went (spelling frame) ∷ []) → Dials old new c c'
+  HasNone : Begins c None c' → Adds old new [] → Dials old new c c'
+
+-- the line breaks at it
+pub record DialFails (old new : Option (List Moment)) (c : ClientValue) (why : CallFault) : Type 0 where
+  pub frame : Parts
+  pub after : ClientValue
+  pub begins : Begins c (Some frame) after
+  pub of_system : IsOfSystem why
+  pub breaks : Breaks old new (spelling frame)
+
+abbrev pub DialsFirst : {T : Type 0} → Option (List Moment) → Option (List Moment) → ClientValue → ClientValue → Result T CallFault → Type 0
+DialsFirst old new c c' (Ok done) = Dials old new c c'
+DialsFirst old new c c' (Err why) = DialFails old new c why
+
+-- the association is open
+pub record Opens (old new : Option (List Moment)) (c c' : ClientValue) : Type 0 where
+  pub now : Option (List Moment)
+  pub mid : ClientValue
+  pub dials : Dials old now c mid
+  pub opens : SettlesAs opened_in now new mid c' (Ok tt)
+
+-- or why it is not
+pub data FailsToOpen (old new : Option (List Moment)) (c : ClientValue) (why : CallFault) : Type 0 where
+  NotDialled : DialFails old new c why → FailsToOpen old new c why
+  NotOpened : (now : Option (List Moment)) (mid after : ClientValue) → Dials old now c mid → SettlesAs opened_in now new mid after (Err why) → FailsToOpen old new c why
+
+-- ---- a request
+
+-- what is told of one that the client does not make
+abbrev pub told_of : AskFault → CallFault
+told_of ask.TooLong = TooLong
+told_of ask.Memory = Memory
+
+-- Where it may be asked for, the client makes it and its first frame goes out, and what is answered is told; or the client does not
+-- make it. Where it may not, nothing happens.
+pub data Requests (may : Type 0) (asked : Asked) (form : RequestForm) (old new : Option (List Moment)) (c c' : ClientValue) (result : Result Answer CallFault) : Type 0 where
+  NotAsked : (may → ⊥) → result ≡ Err (Talk fault.Form) → c' ≡ c → Adds old new [] → Requests may asked form old new c c' result
+  NotMade : may → (why : AskFault) → Asks asked form c (Err why) c' → result ≡ Err (told_of why) → Adds old new [] → Requests may asked form old new c c' result
+  IsMade : may → (frame : Parts) (mid : ClientValue) → Asks asked form c (Ok frame) mid → GoesOut answer_in old new frame mid c' result → Requests may asked form old new c c' result
+
+-- ---- the link's end
+
+pub data EndsTalk (old new : Option (List Moment)) (c c' : ClientValue) (result : Result (Unit {0}) CallFault) : Type 0 where
+  NotEnded : (IsFree c → ⊥) → result ≡ Err (Talk fault.Form) → c' ≡ c → Adds old new [] → EndsTalk old new c c' result
+  IsEnded : IsFree c → (frame : Parts) (mid : ClientValue) → Leaves c frame mid → GoesOut ended_in old new frame mid c' result → EndsTalk old new c c' result
