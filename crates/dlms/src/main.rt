@@ -39,7 +39,7 @@ fn status_of(rt: &HostRuntime) -> io::Result<u8> {
     run(
         rt,
         words.as_slice(),
-        rt.reader(),
+        &mut rt.reader(),
         &mut io::writer(rt),
         &mut errors,
     )

@@ -3,7 +3,6 @@
 ghost use Rattle.std.specs.Prelude.{◌≤◌, IfOk};
 ghost use Rattle.dlms_data.specs.declared.date_time.TheConstants.{LAST_SECOND};
 
-use crate::connecting::line_to;
 use crate::errand::{Talk, named, second_of, written};
 use crate::fault::Fault;
 use crate::spoken::Spoken;
@@ -12,7 +11,7 @@ use dlms_ask::server_of;
 use dlms_call::{CallFault, begin, end};
 use dlms_client::Plan;
 use dlms_data::Data;
-use dlms_field::{FieldFault, HostDesk, secret_of};
+use dlms_field::{Dialling, FieldFault, HostDesk, Phone, secret_of};
 use dlms_frame::{Address, Client};
 use dlms_loopback::{End, LoopFault};
 use dlms_program::Asking;
@@ -25,6 +24,9 @@ use std::time::Clock;
 
 /// The most bytes of an APDU.
 const SIZE: u16 = 1_024;
+
+/// For how many seconds the addresses of a place are tried.
+const CONNECT_SECONDS: u32 = 60;
 
 /// What is asked of a meter, in words that were looked at.
 #[derive(Drop)]
@@ -171,6 +173,19 @@ fn look<'a>(errand: &Errand<'a>) -> Result<(), Fault<'a>> {
     }
     named(rest)?;
     Ok(())
+}
+
+/// The line to the meter at a place.
+fn line_to<'a, 'r, H: Net + Files<File = File> + Clock + AllocGlobal>(
+    host: &'r H,
+    place: &'a str,
+) -> Result<Phone<'r, H>, Fault<'a>> {
+    let mut phone = Phone::new(host);
+    match phone.connect(place, CONNECT_SECONDS) {
+        Ok(true) => Ok(phone),
+        Ok(false) => Err(Fault::Late(place, CONNECT_SECONDS)),
+        Err(error) => Err(Fault::of_system(host.alloc(), place, &error)),
+    }
 }
 
 /// Asks a meter.

@@ -8,12 +8,12 @@ ghost use Rattle.dlms_program.specs.Words.{AsksBoth, IsClear, NamesNoAddress};
 
 use clap::error::ErrorKind;
 use dlms_explain::{ExplainFault, Form as ExplainForm, explain};
-use dlms_field::{Office, Polling, Serving, Times, poll, serve};
+use dlms_field::{Office, Polling, Serving, Times, poll, serve, serve_line};
 use dlms_loopback::{FilePlace, loopback, sockets};
 use dlms_meter::Meter;
 use dlms_pages::{FilePages, MemoryPages, Pages};
 use dlms_plot::{Form, plot_readings};
-use dlms_program::{Job, Sink, Source, job, replay};
+use dlms_program::{Buffered, Job, Sink, Source, job, replay};
 use dlms_show::{Curve, ShowFault, show_file};
 use dlms_store::{AddFault, OpenFault, PAGES};
 use std::alloc::Global;
@@ -28,7 +28,6 @@ use std::{fs, io};
 
 mod asking;
 mod columns;
-mod connecting;
 mod demo;
 mod errand;
 mod fault;
@@ -89,6 +88,15 @@ fn pass_a_day<'a, P: Pages>(meter: &mut Meter<P>, file: &'a str) -> Result<(), F
     }
 }
 
+/// Closes a meter that was made or recovered, and says whether its device has failed.
+#[inline(never)]
+fn has_failed<P: Pages + Drop>(made: Result<Meter<P>, (P, OpenFault)>) -> bool {
+    match made {
+        Ok(meter) => meter.close().faults() > 0,
+        Err(_) => false,
+    }
+}
+
 /// Makes a new meter in a file, over whatever the file holds, where it is asked for with a day behind it.
 #[inline(never)]
 fn run_format<'a, H: Files<File = File> + AllocGlobal, W: Write>(
@@ -101,17 +109,17 @@ fn run_format<'a, H: Files<File = File> + AllocGlobal, W: Write>(
         Ok(pages) => pages,
         Err(error) => return Err(Fault::of_system(host.alloc(), file, &error)),
     };
-    match Meter::format(host.alloc(), pages) {
+    let mut formatted = Meter::format(host.alloc(), pages);
+    match &mut formatted {
         Ok(meter) => {
-            let mut meter = meter;
             if demo {
-                pass_a_day(&mut meter, file)?;
-            }
-            if meter.close().faults() > 0 {
-                return Err(Fault::Open(Some(file), OpenFault::Device));
+                pass_a_day(meter, file)?;
             }
         }
-        Err((_, fault)) => return Err(Fault::Open(Some(file), fault)),
+        Err(failed) => return Err(Fault::Open(Some(file), failed.1)),
+    }
+    if has_failed(formatted) {
+        return Err(Fault::Open(Some(file), OpenFault::Device));
     }
     match told(output, demo) {
         Ok(()) => Ok(()),
@@ -119,21 +127,30 @@ fn run_format<'a, H: Files<File = File> + AllocGlobal, W: Write>(
     }
 }
 
-/// Replays the input on a meter, and closes it.
+/// Closes the meter that a replay has left, if it has left one, and says whether its device has failed.
+#[inline(never)]
+fn leaves_a_fault<P: Pages + Drop>(meter: &mut Option<Meter<P>>) -> bool {
+    match meter.take() {
+        Some(meter) => meter.close().faults() > 0,
+        None => false,
+    }
+}
+
+/// Replays the input on the meter that was made or recovered, and closes it.
 #[inline(never)]
 fn run_on<'f, H: AllocGlobal, R: Source, W: Sink, P: Pages + Drop>(
     host: &H,
     file: Option<&'f str>,
     input: &mut R,
     output: &mut W,
-    meter: Meter<P>,
+    made: Result<Meter<P>, (P, OpenFault)>,
 ) -> Result<(), Fault<'f>> {
-    let mut meter = Some(meter);
-    let replayed = replay(host.alloc(), input, output, &mut meter);
-    let has_failed = match meter {
-        Some(meter) => meter.close().faults() > 0,
-        None => false,
+    let mut meter = match made {
+        Ok(meter) => Some(meter),
+        Err((_pages, fault)) => return Err(Fault::Open(file, fault)),
     };
+    let replayed = replay(host.alloc(), input, output, &mut meter);
+    let has_failed = leaves_a_fault(&mut meter);
     if let Err(fault) = replayed {
         return Err(Fault::Replay(fault));
     }
@@ -180,14 +197,16 @@ fn run_replay_file<'a, H: Files<File = File> + AllocGlobal, R: Read + Drop, W: W
         Ok(pages) => pages,
         Err(error) => return Err(Fault::of_system(host.alloc(), file, &error)),
     };
-    match Meter::recover(host.alloc(), pages) {
-        Ok(meter) => {
-            let mut reader = buffered(host.alloc(), input)?;
-            let replayed = run_on(host, Some(file), &mut reader, output, meter);
-            ended(replayed, output.flush())
-        }
-        Err((_, fault)) => Err(Fault::Open(Some(file), fault)),
+    let recovered = Meter::recover(host.alloc(), pages);
+    match &recovered {
+        Ok(_) => {}
+        Err(failed) => return Err(Fault::Open(Some(file), failed.1)),
     }
+    let mut input = Buffered {
+        reader: buffered(host.alloc(), input)?,
+    };
+    let replayed = run_on(host, Some(file), &mut input, output, recovered);
+    ended(replayed, output.flush())
 }
 
 /// Replays the input on a new meter in memory. The answers go out through a buffer, before more input is waited for.
@@ -203,14 +222,10 @@ fn run_replay_memory<H: AllocGlobal, R: Read + Drop, W: Write + Drop>(
     let Ok(pages) = MemoryPages::new(host.alloc(), PAGES) else {
         return Err(Fault::MEMORY);
     };
-    match Meter::format(host.alloc(), pages) {
-        Ok(meter) => {
-            let mut input = Input::new(reader, &output);
-            let replayed = run_on(host, None, &mut input, &mut Output(&output), meter);
-            ended(replayed, flush(&output))
-        }
-        Err((_, fault)) => Err(Fault::Open(None, fault)),
-    }
+    let formatted = Meter::format(host.alloc(), pages);
+    let mut input = Input::new(reader, &output);
+    let replayed = run_on(host, None, &mut input, &mut Output(&output), formatted);
+    ended(replayed, flush(&output))
 }
 
 /// Polls a meter in memory over a socket, into the file where one is named.
@@ -238,12 +253,39 @@ fn run_loopback<'a, H: Net + Files<File = File> + AllocGlobal, W: Write>(
     }
 }
 
-/// Recovers the meter in a file, and serves it on a TCP port.
+/// Serves a meter on a TCP port, or where `on_line` is set on a serial line.
+#[inline(never)]
+fn run_meter<'a, H: Net + Files<File = File> + Clock + AllocGlobal, P: Pages, W: Write, E: Write>(
+    host: &H,
+    file: &'a str,
+    meter: &mut Meter<P>,
+    serving: &Serving<'a>,
+    on_line: bool,
+    output: &mut W,
+    errors: &mut E,
+) -> Result<(), Fault<'a>> {
+    let second = meter.state().last();
+    if !serving.quiet {
+        let _said = writeln!(errors, "recovered {file} at second {second}");
+    }
+    let served = if on_line {
+        serve_line(host, meter, serving, output, errors)
+    } else {
+        serve(host, meter, serving, output, errors)
+    };
+    match served {
+        Ok(()) => Ok(()),
+        Err(fault) => Err(Fault::of_serve(host.alloc(), file, fault)),
+    }
+}
+
+/// Recovers the meter in a file, and serves it on a TCP port, or where `on_line` is set on a serial line.
 #[inline(never)]
 fn run_serve<'a, H: Net + Files<File = File> + Clock + AllocGlobal, W: Write, E: Write>(
     host: &H,
     file: &'a str,
     serving: &Serving<'a>,
+    on_line: bool,
     output: &mut W,
     errors: &mut E,
 ) -> Result<(), Fault<'a>> {
@@ -251,22 +293,13 @@ fn run_serve<'a, H: Net + Files<File = File> + Clock + AllocGlobal, W: Write, E:
         Ok(pages) => pages,
         Err(error) => return Err(Fault::of_system(host.alloc(), file, &error)),
     };
-    match Meter::recover(host.alloc(), pages) {
-        Ok(meter) => {
-            let mut meter = meter;
-            let second = meter.state().last();
-            if !serving.quiet {
-                let _said = writeln!(errors, "recovered {file} at second {second}");
-            }
-            let served = serve(host, &mut meter, serving, output, errors);
-            let _pages = meter.close();
-            match served {
-                Ok(()) => Ok(()),
-                Err(fault) => Err(Fault::of_serve(host.alloc(), file, fault)),
-            }
-        }
-        Err((_, fault)) => Err(Fault::Open(Some(file), fault)),
-    }
+    let mut recovered = Meter::recover(host.alloc(), pages);
+    let served = match &mut recovered {
+        Ok(meter) => run_meter(host, file, meter, serving, on_line, output, errors),
+        Err(failed) => return Err(Fault::Open(Some(file), failed.1)),
+    };
+    let _has_failed = has_failed(recovered);
+    served
 }
 
 /// Polls the meter at an address once.
@@ -419,6 +452,7 @@ fn run_job<
         Job::Serve {
             file,
             listen,
+            line,
             load,
             tick,
             quiet,
@@ -427,7 +461,7 @@ fn run_job<
             inactivity,
         } => {
             let serving = Serving {
-                address: listen.unwrap_or(LISTEN),
+                address: line.unwrap_or(listen.unwrap_or(LISTEN)),
                 load,
                 tick,
                 times: Times {
@@ -438,7 +472,7 @@ fn run_job<
                 quiet,
                 errors: Some(STANDARD_ERROR),
             };
-            run_serve(host, file, &serving, output, errors)
+            run_serve(host, file, &serving, line.is_some(), output, errors)
         }
         Job::Poll {
             address,

@@ -1,7 +1,8 @@
 //! The input and the output of a replay that somebody may be talking to through a pipe: what was printed goes out before
 //! more is waited for.
 
-use dlms_program::{Sink, Source};
+use arrayvec::ArrayVec;
+use dlms_program::{Buffered, MOST_BYTES, Piece, Sink, Source};
 use std::cell::RefCell;
 use std::io;
 use std::io::{BufReader, BufWriter, ErrorKind, Read, Write};
@@ -21,23 +22,26 @@ pub fn flush<W: Write + Drop>(output: &Shared<W>) -> io::Result<()> {
 /// goes out first.
 #[derive(Drop)]
 pub struct Input<'a, R: Read + Drop, W: Write + Drop> {
-    reader: BufReader<R>,
+    buffered: Buffered<BufReader<R>>,
     output: &'a Shared<W>,
 }
 
 impl<'a, R: Read + Drop, W: Write + Drop> Input<'a, R, W> {
     /// The input that this reader gives, of whoever reads that output.
     pub fn new(reader: BufReader<R>, output: &'a Shared<W>) -> Self {
-        Input { reader, output }
+        Input {
+            buffered: Buffered { reader },
+            output,
+        }
     }
 }
 
 impl<R: Read + Drop, W: Write + Drop> Source for Input<'_, R, W> {
-    fn next_byte(&mut self) -> io::Result<Option<u8>> {
-        if self.reader.buffer().is_empty() {
+    fn take_piece(&mut self, line: &mut ArrayVec<u8, MOST_BYTES>) -> io::Result<Piece> {
+        if self.buffered.reader.buffer().is_empty() {
             flush(self.output)?;
         }
-        self.reader.next_byte()
+        self.buffered.take_piece(line)
     }
 }
 

@@ -3,6 +3,7 @@ pub mod CallLemmas
 pub mod HealthLemmas
 pub mod LineLemmas
 pub mod NumberLemmas
+pub mod PieceLemmas
 pub mod PutLemmas
 pub mod ReplayLemmas
 pub mod RiseLemmas

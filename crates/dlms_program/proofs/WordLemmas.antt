@@ -135,3 +135,8 @@ pub matched : (a : App) (words : List Text) (m : ArgMatches) → a ≡ dlms → 
 matched a words m is has =
     let found : HasMatchesOf dlms words m = subst (λ (b : App). HasMatchesOf b words m) is has in
     (found refl).1
+
+-- what was found is there where a view of it is
+pub is_some_map : {A B : Type 0} (f : A → B) (o : Option A) → is_some (option_map f o) ≡ is_some o
+is_some_map f None = refl
+is_some_map f (Some x) = refl

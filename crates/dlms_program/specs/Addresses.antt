@@ -1,5 +1,5 @@
--- Addresses of a host and a port, as HOST:PORT.
-use Rattle.std.specs.Prelude.{◌≡◌, ◌+◌, ◌<◌, ◌^◌, ℕ, List, length, drop, get_or}
+-- Addresses of a host and a port, as HOST:PORT, and devices of serial lines, as /dev/ttyUSB0.
+use Rattle.std.specs.Prelude.{◌≡◌, ◌+◌, ◌<◌, ◌^◌, ℕ, nat_eq, Bool, false, List, [], ◌∷◌, length, drop, get_or}
 use Rattle.dlms_program.specs.Numbers.{IsNumberOf}
 
 -- the digits of a number of 16 bits
@@ -16,3 +16,8 @@ pub record IsAddress (text : List ℕ) : Type 0 where
   pub host : 0 < at
   pub within : at < length text
   pub ends : EndsHost text at
+
+-- a path from the root on
+abbrev pub is_device : List ℕ → Bool
+is_device [] = false
+is_device (octet ∷ octets) = nat_eq octet 47

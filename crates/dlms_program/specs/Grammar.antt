@@ -63,12 +63,12 @@ loopback_command = with_rules (new_app (codes "loopback")) (option_rule (codes "
 -- a load in watts, and times in seconds
 abbrev pub serve_command : App
 serve_command = with_rules (new_app (codes "serve"))
-    (wanted_rule (codes "FILE") ∷ option_rule (codes "listen") ∷ number_rule (codes "load") 0 1000000 ∷ number_rule (codes "tick") 1 60 ∷ flag_rule (codes "quiet")
+    (wanted_rule (codes "FILE") ∷ option_rule (codes "listen") ∷ option_rule (codes "line") ∷ number_rule (codes "load") 0 1000000 ∷ number_rule (codes "tick") 1 60 ∷ flag_rule (codes "quiet")
     ∷ number_rule (codes "idle") 1 86400 ∷ number_rule (codes "turn") 1 86400 ∷ number_rule (codes "inactivity") 1 86400 ∷ [])
 
 abbrev pub poll_command : App
 poll_command = with_rules (new_app (codes "poll"))
-    (wanted_rule (codes "ADDRESS:PORT") ∷ option_rule (codes "readings") ∷ option_rule (codes "secret-file") ∷ flag_rule (codes "public") ∷ flag_rule (codes "reader")
+    (wanted_rule (codes "PLACE") ∷ option_rule (codes "readings") ∷ option_rule (codes "secret-file") ∷ flag_rule (codes "public") ∷ flag_rule (codes "reader")
     ∷ number_rule (codes "deadline") 1 86400 ∷ flag_rule (codes "check-clock") ∷ number_rule (codes "ahead") 0 31536000 ∷ [])
 
 -- which meter is asked, by whom, and whether the frames are explained

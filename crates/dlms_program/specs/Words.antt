@@ -1,6 +1,6 @@
 -- The job that a parse of the program's words names.
 use Rattle.std.specs.Str.{bytes_eq}
-use Rattle.std.specs.Prelude.{◌≡◌, ◌⊎◌, if◌then◌else◌, ◌<◌, ◌↔◌, ◌^◌, ℕ, [], List, Option, Some, None, codes, cond, option_map, unwrap_or, Bool, true, false, IsTrue}
+use Rattle.std.specs.Prelude.{◌≡◌, ◌⊎◌, if◌then◌else◌, ◌<◌, ◌↔◌, ◌^◌, ℕ, [], List, Option, Some, None, codes, cond, option_map, unwrap_or, Bool, true, false, is_some, IsTrue}
 use Rattle.clap.specs.Values.{kind_of}
 use Rattle.clap.specs.Words.{Row, Text, first_of}
 use Rattle.clap.specs.declared.error.Error.{Error}
@@ -9,7 +9,7 @@ use Rattle.dlms_program.specs.declared.commands.Job.{Job}
 use Rattle.dlms_program.specs.declared.commands.Job.TheVariants.{Format, Replay, Loopback, Serve, Poll, Get, List as ListOf, Set, Act, Explain, Show, Plot}
 use Rattle.dlms_program.specs.declared.commands.Asking.{Asking}
 use Rattle.dlms_program.specs.declared.words.TheConstants.{AHEAD, CLIENT, DEADLINE, IDLE, INACTIVITY, TICK, TURN}
-use Rattle.dlms_program.specs.Addresses.{IsAddress}
+use Rattle.dlms_program.specs.Addresses.{IsAddress, is_device}
 use Rattle.dlms_program.specs.Numbers.{IsNumberOf}
 use Rattle.dlms_frame.specs.declared.client.Client.{Client}
 use Rattle.dlms_frame.specs.declared.client.Client.TheVariants.{Public, Management, Reader}
@@ -70,11 +70,11 @@ abbrev pub Asks : Met → Job → Type 0
 Asks met (Format file demo) = (rows : List Row) × (met ≡ Some (codes "format", rows)) × (file.now ≡ unwrap_or (file_in rows) []) × IsSaid (first_of (codes "demo") rows) demo
 Asks met (Replay file) = (rows : List Row) × (met ≡ Some (codes "replay", rows)) × (option_map (λ f. f.now) file ≡ file_in rows)
 Asks met (Loopback readings stops) = (rows : List Row) × (met ≡ Some (codes "loopback", rows)) × (option_map (λ f. f.now) readings ≡ first_of (codes "readings") rows) × SaysStops (first_of (codes "stops") rows) stops
-Asks met (Serve file listen load tick quiet idle turn inactivity) = (rows : List Row) × (met ≡ Some (codes "serve", rows)) × (file.now ≡ unwrap_or (file_in rows) [])
-    × (option_map (λ a. a.now) listen ≡ first_of (codes "listen") rows) × IsSaidFor (codes "load") rows 0 load
+Asks met (Serve file listen line load tick quiet idle turn inactivity) = (rows : List Row) × (met ≡ Some (codes "serve", rows)) × (file.now ≡ unwrap_or (file_in rows) [])
+    × (option_map (λ a. a.now) listen ≡ first_of (codes "listen") rows) × (option_map (λ d. d.now) line ≡ first_of (codes "line") rows) × IsSaidFor (codes "load") rows 0 load
     × IsSaidFor (codes "tick") rows TICK tick × IsSaid (first_of (codes "quiet") rows) quiet
     × IsSaidFor (codes "idle") rows IDLE idle × IsSaidFor (codes "turn") rows TURN turn × IsSaidFor (codes "inactivity") rows INACTIVITY inactivity
-Asks met (Poll address readings secret client deadline ahead) = (rows : List Row) × (met ≡ Some (codes "poll", rows)) × (address.now ≡ unwrap_or (first_of (codes "ADDRESS:PORT") rows) [])
+Asks met (Poll address readings secret client deadline ahead) = (rows : List Row) × (met ≡ Some (codes "poll", rows)) × (address.now ≡ unwrap_or (first_of (codes "PLACE") rows) [])
     × (option_map (λ f. f.now) readings ≡ first_of (codes "readings") rows) × (option_map (λ f. f.now) secret ≡ first_of (codes "secret-file") rows)
     × IsAsker rows client × IsSaidFor (codes "deadline") rows DEADLINE deadline × ChecksClock rows ahead
 Asks met (Get asking names of_class raw json) = (rows : List Row) × (met ≡ Some (codes "get", rows)) × IsAsking rows asking × (names.now ≡ unwrap_or (first_of (codes "NAMES") rows) [])
@@ -93,14 +93,27 @@ Asks met (Plot readings svg) = (rows : List Row) × (met ≡ Some (codes "plot",
 -- ---- words that clap takes, and that ask for nothing all the same
 
 -- two clients are asked for at once
+abbrev pub AsksTwoClients : Met → Type 0
+AsksTwoClients met = (rows : List Row) × (met ≡ Some (codes "poll", rows)) × (first_of (codes "public") rows ≡ Some (codes "true")) × (first_of (codes "reader") rows ≡ Some (codes "true"))
+
+-- a port and a serial line are named at once
+abbrev pub NamesTwoPlaces : Met → Type 0
+NamesTwoPlaces met = (rows : List Row) × (met ≡ Some (codes "serve", rows)) × IsTrue (is_some (first_of (codes "listen") rows)) × IsTrue (is_some (first_of (codes "line") rows))
+
+-- two are asked for where one is wanted
 abbrev pub AsksBoth : Met → Type 0
-AsksBoth met = (rows : List Row) × (met ≡ Some (codes "poll", rows)) × (first_of (codes "public") rows ≡ Some (codes "true")) × (first_of (codes "reader") rows ≡ Some (codes "true"))
+AsksBoth met = AsksTwoClients met ⊎ NamesTwoPlaces met
+
+-- a place, unless it is the device of a serial line
+abbrev pub unless_device : Option Text → Option Text
+unless_device None = None
+unless_device (Some place) = if is_device place then None else Some place
 
 -- the address that is named, to poll or to listen on
 abbrev pub address_in : Met → Option Text
 address_in None = None
 address_in (Some (name, rows)) =
-    if bytes_eq name (codes "poll") then first_of (codes "ADDRESS:PORT") rows
+    if bytes_eq name (codes "poll") then unless_device (first_of (codes "PLACE") rows)
     else (if bytes_eq name (codes "serve") then first_of (codes "listen") rows else None)
 
 -- that is none

@@ -1,6 +1,6 @@
 //! Addresses of a host and a port.
-ghost use Rattle.std.specs.Prelude.{◌↔◌, ◌<◌, length, IsTrue};
-ghost use Rattle.dlms_program.specs.Addresses.{EndsHost, IsAddress, IsPort};
+ghost use Rattle.std.specs.Prelude.{◌≡◌, ◌↔◌, ◌<◌, length, IsTrue};
+ghost use Rattle.dlms_program.specs.Addresses.{EndsHost, IsAddress, IsPort, is_device};
 
 use crate::numbers::number;
 
@@ -38,4 +38,14 @@ pub fn is_address(text: &[u8]) -> bool
         }
     }
     false
+}
+
+/// Whether a text is the path of a device, from the root on.
+pub fn is_device(text: &[u8]) -> bool
+    ensures { result ≡ is_device text.now }
+{
+    match text {
+        [b'/', ..] => true,
+        _ => false,
+    }
 }

@@ -37,13 +37,15 @@ pub enum Job<'a> {
         readings: Option<&'a str>,
         stops: u8,
     },
-    /// Serves the meter in this file on a TCP port, at this address where one is named; its load in watts gives pulses. It is told of
+    /// Serves the meter in this file on a TCP port, at this address where one is named, or where one is on this serial line; its
+    /// load in watts gives pulses. It is told of
     /// the seconds of the clock in steps of so many, and says nothing of connections where `quiet` is set. A connection is closed
     /// on which no frame was answered for `inactivity` seconds; where another waits one on which no frame of an association was
     /// answered for `idle` seconds, and any once the other has waited for `turn` seconds.
     Serve {
         file: &'a str,
         listen: Option<&'a str>,
+        line: Option<&'a str>,
         load: u32,
         tick: u32,
         quiet: bool,
@@ -51,7 +53,7 @@ pub enum Job<'a> {
         turn: u32,
         inactivity: u32,
     },
-    /// Polls the meter at this address once, into this file where one is named, by this client, with the secret in a file, or
+    /// Polls the meter at this address or on this serial line once, into this file where one is named, by this client, with the secret in a file, or
     /// with its first secret where none is named and it has to know one; within so many seconds, and where `ahead` is there with
     /// no row whose clock is more seconds past the system's.
     Poll {

@@ -81,7 +81,7 @@ fn serve_command<'a>(alloc: Global) -> Result<Command<'a>, AllocError>
     ensures local { IfOk result (λ c. (fields_of c).has_globals ≡ false) }
 {
     let command = Command::new(alloc, "serve")
-        .about("Serves the meter in FILE on a TCP port")
+        .about("Serves the meter in FILE on a TCP port or a serial line")
         .long_about(SERVE_ABOUT)
         .after_help("Example:\n  dlms serve meter.bin --load 3000");
     let arguments = vec![in alloc;
@@ -91,6 +91,12 @@ fn serve_command<'a>(alloc: Global) -> Result<Command<'a>, AllocError>
             "listen",
             "ADDRESS:PORT",
             "The address to listen on, 127.0.0.1:4059 at first"
+        ),
+        option(
+            alloc,
+            "line",
+            "DEVICE",
+            "The serial line to serve in place of a port"
         ),
         number(
             alloc,
@@ -108,11 +114,7 @@ fn serve_command<'a>(alloc: Global) -> Result<Command<'a>, AllocError>
             60,
             "The meter is told of its seconds in steps of so many, 1 to 60, 1 at first"
         ),
-        flag(
-            alloc,
-            "quiet",
-            "Tells of nothing but the address and a fault"
-        ),
+        flag(alloc, "quiet", "Tells of nothing but the place and a fault"),
         number(
             alloc,
             "idle",
@@ -146,11 +148,15 @@ fn poll_command<'a>(alloc: Global) -> Result<Command<'a>, AllocError>
     ensures local { IfOk result (λ c. (fields_of c).has_globals ≡ false) }
 {
     let command = Command::new(alloc, "poll")
-        .about("Polls the meter at ADDRESS:PORT, and prints the rows that are new")
+        .about("Polls the meter at PLACE, and prints the rows that are new")
         .long_about(POLL_ABOUT)
         .after_help("Example:\n  dlms poll 127.0.0.1:4059 --readings readings.csv");
     let arguments = vec![in alloc;
-        wanted(alloc, "ADDRESS:PORT", "The address of the meter"),
+        wanted(
+            alloc,
+            "PLACE",
+            "Where the meter is, HOST:PORT or a serial line"
+        ),
         option(
             alloc,
             "readings",
@@ -240,7 +246,11 @@ fn get_command<'a>(alloc: Global) -> Result<Command<'a>, AllocError>
         .long_about(GET_ABOUT)
         .after_help("Example:\n  dlms get 127.0.0.1:4059 1.0.1.8.0.255,0.0.1.0.0.255");
     let arguments = vec![in alloc;
-        wanted(alloc, "PLACE", "Where the meter is, HOST:PORT"),
+        wanted(
+            alloc,
+            "PLACE",
+            "Where the meter is, HOST:PORT or a serial line"
+        ),
         wanted(
             alloc,
             "NAMES",
@@ -269,7 +279,11 @@ fn list_command<'a>(alloc: Global) -> Result<Command<'a>, AllocError>
         .long_about(LIST_ABOUT)
         .after_help("Example:\n  dlms list 127.0.0.1:4059");
     let arguments = vec![in alloc;
-        wanted(alloc, "PLACE", "Where the meter is, HOST:PORT"),
+        wanted(
+            alloc,
+            "PLACE",
+            "Where the meter is, HOST:PORT or a serial line"
+        ),
         flag(alloc, "json", "Prints JSON"),
     ]?;
     asked(alloc, with_arguments(command, arguments)?)
@@ -286,7 +300,11 @@ fn set_command<'a>(alloc: Global) -> Result<Command<'a>, AllocError>
             "Example:\n  dlms set 127.0.0.1:4059 0.0.1.0.0.255 now --client 1 --secret-file secret",
         );
     let arguments = vec![in alloc;
-        wanted(alloc, "PLACE", "Where the meter is, HOST:PORT"),
+        wanted(
+            alloc,
+            "PLACE",
+            "Where the meter is, HOST:PORT or a serial line"
+        ),
         wanted(alloc, "NAME", "The attribute, as 0.0.1.0.0.255"),
         wanted(
             alloc,
@@ -316,7 +334,11 @@ fn act_command<'a>(alloc: Global) -> Result<Command<'a>, AllocError>
             "Example:\n  dlms act 127.0.0.1:4059 1.0.1.8.0.255/1 i8:0 --client 1 --secret-file secret",
         );
     let arguments = vec![in alloc;
-        wanted(alloc, "PLACE", "Where the meter is, HOST:PORT"),
+        wanted(
+            alloc,
+            "PLACE",
+            "Where the meter is, HOST:PORT or a serial line"
+        ),
         wanted(alloc, "NAME", "The method, as 1.0.1.8.0.255/1"),
         value(alloc, "VALUE", "The parameter, as the value of set"),
         number(

@@ -46,26 +46,32 @@ poll; dlms: memory); 2 for words that are not understood, and for this help.";
 
 /// What `serve` does, for its help.
 pub const SERVE_ABOUT: &str =
-    "Serves the meter in FILE on a TCP port, one client after another, until it is killed.
+    "Serves the meter in FILE on a TCP port, one client after another, or on a serial line, until it is killed.
 
 Recovers the meter, listens on 127.0.0.1:4059 where no address is named, and prints \"listening on ADDRESS:PORT\"; of port 0 the \
-system chooses one. The meter's running second goes on from the last one that it recovered, a second of it each second of the \
+system chooses one. With --line it prints \"listening on DEVICE\", which is set beforehand as by \
+\"stty -F /dev/ttyUSB0 9600 raw -echo\", and which no other program may have in use. The meter's running second goes on from the last one that it recovered, a second of it each second of the \
 system's steady clock. With --load channel 0 gets a pulse a watt-hour. A line on standard error tells of the recovery, of the end \
-of each connection, and of a second that the meter refuses; one that cannot be written at once is dropped, and with --quiet \
+of each connection or of links on a serial line, and of a second that the meter refuses; one that cannot be written at once is dropped, and with --quiet \
 none is written. What was answered with \
 success or data outlasts a kill; of the seconds and pulses since then a kill takes 496 bytes of records at most. With --tick the \
 meter is told of its seconds in steps, each of them all the same: its clock is behind by less than a step, and its file is written \
 less often. The end of a connection is the end of its links. One on which no frame is answered for 120 seconds is closed, or for \
 those of --inactivity; where another waits, one on which no frame of an association is answered for 5 seconds, or for those of \
---idle, and any after 60, or after those of --turn. So is one to which 5 associations were refused.
+--idle, and any after 60, or after those of --turn. So is one to which 5 associations were refused, and for 10 seconds none is taken \
+from its address. A serial line is not closed: its links end where a connection would, and after 5 refusals nothing is answered for \
+10 seconds.
 
-Exit status: 1 after a fault (dlms: io, with FILE or the address and the system's words on a second line; dlms: nocheckpoint or \
+Exit status: 1 after a fault (dlms: io, with FILE, the address or DEVICE, also one that is no serial line or is gone, and the system's words on a second line; dlms: nocheckpoint or \
 dlms: corrupt N for a FILE that holds no meter, or a damaged one; dlms: device or dlms: exhausted once FILE takes no more; \
 dlms: memory); 2 for words that are not understood, and for this help.";
 
 /// What `poll` does, for its help.
 pub const POLL_ABOUT: &str =
-    "Polls the load profile of the meter at ADDRESS:PORT once, over HDLC on TCP, and prints the rows that are new.
+    "Polls the load profile of the meter at PLACE once, over HDLC, and prints the rows that are new.
+
+PLACE is HOST:PORT for TCP, or a path that begins with / for a serial line, set beforehand as by \
+\"stty -F /dev/ttyUSB0 9600 raw -echo\", which no other program may have in use.
 
 Asks as management, with the secret that stands in the file of --secret-file (at most 16 bytes; one line feed at its end is none \
 of it), or with 12345678 where none is named; with --reader as the reader, with that secret or with 23456789; with --public as \
@@ -76,9 +82,9 @@ what was printed and not filed comes again with the next poll. A line on standar
 later than FILE's last row. One poll at a time has FILE, by the lock of FILE.lock, which stays. A frame that is not \
 answered within two seconds goes out again, three times at most.
 
-Exit status: 0; 1 after a fault (dlms: io, with the file or ADDRESS:PORT and the system's words on a second line; dlms: line N \
-for a line of FILE that is none of readings; dlms: secret for one of more than 16 bytes; dlms: line, with ADDRESS:PORT on a \
-second line where the deadline is over; dlms: protocol (also for \
+Exit status: 0; 1 after a fault (dlms: io, with the file or PLACE and the system's words on a second line; dlms: line N \
+for a line of FILE that is none of readings; dlms: secret for one of more than 16 bytes; dlms: line where nobody answers, or \
+the deadline is over, as a second line says; dlms: protocol (also for \
 rows of other columns than the clock and the three registers), dlms: refused N or dlms: result N for the poll; dlms: clock N \
 where row N is not later than the one before it; dlms: ahead N where row N is too far past the system's clock, of the poll or \
 of FILE, as a second line says; dlms: memory); \
@@ -86,33 +92,35 @@ of FILE, as a second line says; dlms: memory); \
 
 /// What `get` does, for its help.
 pub const GET_ABOUT: &str =
-    "Asks the meter at PLACE, HOST:PORT, over HDLC on TCP for attributes, and prints their values.
+    "Asks the meter at PLACE over HDLC for attributes, and prints their values.
 
-NAMES has a logical name, and the number of an attribute behind a slash, 2 where there is none: 1.0.1.8.0.255, 1.0.99.1.0.255/3; several with commas between them. An object's class stands in the meter's object list, which is asked for first, unless --class says it. Prints a line for a value, as explain has them, and those of an array or a structure below it; of a register its number with its scaler and unit, as 0.042 kWh, energies in thousands of their unit. With --raw it is the value's encoding in pairs of hexadecimal digits, with --json an object of JSON with name, attribute, class and value, scaler and unit where it has them. Asks as the public client, 16, or as that of --client, with the secret that stands in the file of --secret-file, or without one. The meter's address is that of --server, 1 at first, UPPER or UPPER/LOWER: two octets where both are below 128, else four, and with --wide four in any case. With -v each frame is explained on standard error. A frame that is not answered within two seconds goes out again, three times at most.
+PLACE is HOST:PORT for TCP, or a path that begins with / for a serial line, set beforehand as by \"stty -F /dev/ttyUSB0 9600 raw -echo\", which no other program may have in use.
 
-Exit status: 0; 1 after a fault (dlms: io, with PLACE or the file and the system's words on a second line; dlms: name, dlms: server for one that is none; dlms: class for an object that is not in the list; dlms: secret for one of more than 16 bytes; dlms: line, dlms: protocol, dlms: refused N, dlms: denied N or dlms: result N for the talk; dlms: memory); 2 for words that are not understood, and for this help.";
+NAMES has a logical name, and the number of an attribute behind a slash, 2 where there is none: 1.0.1.8.0.255, 1.0.99.1.0.255/3; several with commas between them. An object's class stands in the meter's object list, which is asked for first, unless --class says it. Prints a line for a value, as explain has them, and those of an array or a structure below it; of a register its number with its scaler and unit, as 0.042 kWh, energies in thousands of their unit. With --raw it is the value's encoding in pairs of hexadecimal digits, whatever else is given; with --json an object of JSON with name, attribute, class and value, of a register with scaler and unit where it has them. Asks as the public client, 16, or as that of --client, with the secret that stands in the file of --secret-file, or without one. The meter's address is that of --server, 1 at first: UPPER, in one octet, or UPPER/LOWER, in two where both are below 128, else in four, and with --wide in four in any case. With -v each frame is explained on standard error. A frame that is not answered within two seconds goes out again, three times at most.
+
+Exit status: 0; 1 after a fault (dlms: io, with PLACE or the file and the system's words on a second line; dlms: name or dlms: server for one that is none; dlms: class for an object that is not in the list; dlms: secret for one of more than 16 bytes; dlms: line, dlms: protocol, dlms: refused N, dlms: denied N or dlms: result N for the talk; dlms: memory); 2 for words that are not understood, and for this help.";
 
 /// What `list` does, for its help.
 pub const LIST_ABOUT: &str =
-    "Asks the meter at PLACE, HOST:PORT, over HDLC on TCP for the objects of this association, and lists them.
+    "Asks the meter at PLACE over HDLC for the objects of this association, and lists them.
 
-Prints a line for each: its logical name, its class and version, the names of both, and the rights of this association: r for an attribute that may be read, w for one that may be set, rw for both, a for one that wants authentication, and x for a method that may be called. With --json it is an array of objects with name, class, version, attributes and methods. Who asks whom is as of get.
+Prints a line for each: its logical name, its class and version, the names of both, and the rights of this association: behind the number of an attribute r where it may be read, w where it may be set, rw for both; behind that of a method x where it may be called; a before these where authentication is wanted, and - where nothing may be done. With --json it is an array of objects with name, class, version, attributes and methods. PLACE, and who asks whom, are as of get.
 
 Exit status: as of get.";
 
 /// What `set` does, for its help.
-pub const SET_ABOUT: &str = "Sets an attribute of the meter at PLACE, HOST:PORT, over HDLC on TCP.
+pub const SET_ABOUT: &str = "Sets an attribute of the meter at PLACE over HDLC.
 
-NAME is as of get. VALUE is a number as u8:, u16:, u32:, u64:, i8:, i16:, i32:, i64: or enum:, as u32:900; bool:true or bool:false; an octet-string as text:.. or as pairs of hexadecimal digits, hex:2e2e; visible:.. or utf8:.. for texts of these types; the encoding of any value, raw:0202..; null; or now, the date-time of the system's clock in UTC. Prints what was set. Who asks whom is as of get.
+NAME is as of get. VALUE is a number as u8:, u16:, u32:, u64:, i8:, i16:, i32:, i64: or enum:, as u32:900; bool:true or bool:false; an octet-string as text:.. or as pairs of hexadecimal digits, hex:2e2e; visible:.. or utf8:.. for texts of these types; the encoding of any value, raw:0202..; null; or now, the date-time of the system's clock in UTC. Prints what was set. PLACE, and who asks whom, are as of get.
 
-Exit status: as of get; dlms: value for a VALUE that is none; dlms: result N where the meter does not set it.";
+Exit status: as of get; dlms: value for a VALUE that is none; dlms: long for one that is longer than the meter takes; dlms: result N where the meter does not set it.";
 
 /// What `act` does, for its help.
-pub const ACT_ABOUT: &str = "Calls a method of the meter at PLACE, HOST:PORT, over HDLC on TCP.
+pub const ACT_ABOUT: &str = "Calls a method of the meter at PLACE over HDLC.
 
-NAME has the number of the method behind a slash, as 0.0.1.0.0.255/3, VALUE is as of set, and none where there is no VALUE. Prints what was called, and the value that it returns, if it does. Who asks whom is as of get.
+NAME has the number of the method behind a slash, as 0.0.1.0.0.255/3, VALUE is as of set, and none where there is no VALUE. Prints what was called, and the value that it returns, if it does. PLACE, and who asks whom, are as of get.
 
-Exit status: as of set.";
+Exit status: as of set; dlms: name for a NAME without a number.";
 
 /// What `explain` does, for its help.
 pub const EXPLAIN_ABOUT: &str =

@@ -12,6 +12,7 @@ mod lines;
 mod numbers;
 mod orders;
 mod pairs;
+mod pieces;
 mod printing;
 mod replaying;
 mod streams;
@@ -19,6 +20,7 @@ mod words;
 
 pub use commands::{Asking, Job};
 pub use fault::ReplayFault;
+pub use pieces::{MOST_BYTES, Piece};
 pub use replaying::replay;
-pub use streams::{Sink, Source};
+pub use streams::{Buffered, Sink, Source};
 pub use words::job;

@@ -2,14 +2,12 @@
 ghost use Rattle.std.specs.Prelude.{◌≡◌, ◌<◌, ◌≤◌, IfOk, IfErr, OnErr};
 ghost use Rattle.std.specs.Io.KnownBytes.{Keeps};
 ghost use Rattle.dlms_program.specs.Calls.{Called};
-ghost use Rattle.dlms_program.specs.Lines.{LosesPart, TakesByte, TakesLine};
+ghost use Rattle.dlms_program.specs.Lines.{LosesPart, TakesLine, TakesPiece};
 
 use crate::fault::ReplayFault;
+use crate::pieces::{MOST_BYTES, Piece};
 use crate::streams::{Source, is_interrupted};
 use arrayvec::ArrayVec;
-
-/// The most bytes of a line, without its line feed.
-pub const MOST_BYTES: usize = 8192;
 
 /// What the source had.
 #[derive(Clone, Copy, Debug, PartialEq, Eq)]
@@ -22,17 +20,21 @@ pub enum Taken {
     Long,
 }
 
-/// The next byte, if there is one. A call that a signal interrupts is made again.
-fn next_byte<S: Source>(source: &mut S) -> Result<Option<u8>, ReplayFault>
-    ensures byte { IfOk result (TakesByte (S.remaining source.old) (S.remaining source.new)) }
+/// The next piece of a line. A call that a signal interrupts is made again.
+fn next_piece<S: Source>(
+    source: &mut S,
+    line: &mut ArrayVec<u8, MOST_BYTES>,
+) -> Result<Piece, ReplayFault>
+    ensures piece { IfOk result (TakesPiece (S.remaining source.old) (S.remaining source.new) line.old.items line.new.items) }
     ensures none { OnErr result (Keeps (S.remaining source.old) (S.remaining source.new)) }
+    ensures kept { OnErr result (line.new.items ≡ line.old.items) }
     ensures fault { IfErr result (λ e. e ≡ ReplayFault.Io) }
     ensures calls { Called 1 (S.calls source.old) (S.calls source.new) result }
 {
     let mut tries = u64::MAX;
     'reading: loop {
-        match source.next_byte() {
-            Ok(byte) => return Ok(byte),
+        match source.take_piece(line) {
+            Ok(piece) => return Ok(piece),
             Err(e) if tries > 0 && is_interrupted(&e) => tries -= 1,
             Err(_) => return Err(ReplayFault::Io),
         }
@@ -51,16 +53,14 @@ pub fn take_line<S: Source>(
 {
     line.clear();
     'bytes: loop {
-        match next_byte(source)? {
-            Some(b'\n') => return Ok(Taken::Whole),
-            Some(byte) => {
-                if line.is_full() {
-                    return Ok(Taken::Long);
-                }
-                line.push(byte);
+        match next_piece(source, line)? {
+            Piece::Feed => return Ok(Taken::Whole),
+            Piece::Part => {
+                let _len = line.len();
             }
-            None if line.is_empty() => return Ok(Taken::End),
-            None => return Ok(Taken::Whole),
+            Piece::Full => return Ok(Taken::Long),
+            Piece::End if line.is_empty() => return Ok(Taken::End),
+            Piece::End => return Ok(Taken::Whole),
         }
     }
 }

@@ -72,6 +72,7 @@ fn answer<W: Sink>(outcome: Result<(), AddFault>, writer: &mut W) -> io::Result<
 }
 
 /// Closes the meter and recovers it from its device, and writes that, or why it could not be recovered: then it is gone.
+#[inline(never)]
 fn reopen<W: Sink, P: Pages + Drop, A: Allocator + Copy>(
     alloc: A,
     meter: &mut Option<Meter<P, A>>,
@@ -152,7 +153,7 @@ fn follow<W: Sink, P: Pages + Drop, A: Allocator + Copy>(
 /// It ends with `ReplayFault::Io` where the reader's or the writer's last call failed, and after 2^32 - 1 lines: then the
 /// meter has done what the lines before that ask for, and of a line whose answer could not be written, that line too, up
 /// to that answer. A call that a signal interrupts is made again, up to 2^64 - 1 times. A `Read` is a `Source`, and a
-/// `Write` a `Sink`.
+/// `Write` a `Sink`; of a `BufRead` in `Buffered` whole lines are taken.
 ///
 /// Where the store runs and no call of the meter meets a fault of its device, and no checkpoint is wanting, no line is a fault
 /// 2 to 4 and no frame is answered with the device's result; a line `O` finds every accepted event, and ends the replay for

@@ -4,12 +4,14 @@ ghost use Rattle.std.specs.Io.{WritesAtMost};
 ghost use Rattle.std.specs.Io.KnownBytes.{Keeps, WriteAppends};
 ghost use Rattle.std.specs.IoError.{error_kind};
 ghost use Rattle.dlms_program.specs.Calls.{Adds, Calls, fault_of};
-ghost use Rattle.dlms_program.specs.Lines.{TakesByte};
+ghost use Rattle.dlms_program.specs.Lines.{TakesPiece};
 
+use crate::pieces::{MOST_BYTES, Piece, add};
+use arrayvec::ArrayVec;
 use std::io;
-use std::io::{ErrorKind, Read, Write};
+use std::io::{BufRead, ErrorKind, Read, Write};
 
-/// What gives bytes, one at each call.
+/// What gives bytes, a piece of a line at each call.
 pub trait Source {
     /// The bytes that it will give from here on, where they are known.
     ghost remaining: { Self → Option (List ℕ) } = { λ _. None };
@@ -18,22 +20,41 @@ pub trait Source {
     /// holds of those of which it is known too.
     ghost calls: { Self → Option Calls } = { λ _. None };
 
-    /// The next byte, or none at the end. An error of the kind `Interrupted` asks for the call to be made again.
-    fn next_byte(&mut self) -> io::Result<Option<u8>>
-        ensures byte { IfOk result (TakesByte (remaining self.old) (remaining self.new)) }
+    /// Takes bytes that are at hand up to the next line feed, and it too, and adds those before it to the line; without a line
+    /// feed, as many as the line has room for. An error of the kind `Interrupted` asks for the call to be made again.
+    fn take_piece(&mut self, line: &mut ArrayVec<u8, MOST_BYTES>) -> io::Result<Piece>
+        ensures piece { IfOk result (TakesPiece (remaining self.old) (remaining self.new) line.old.items line.new.items) }
         ensures none { OnErr result (Keeps (remaining self.old) (remaining self.new)) }
+        ensures kept { OnErr result (line.new.items ≡ line.old.items) }
         ensures call { Adds (calls self.old) (calls self.new) (fault_of result ∷ []) };
 }
 
 impl<R: Read> Source for R {
     ghost remaining = { R.remaining };
 
-    fn next_byte(&mut self) -> io::Result<Option<u8>> {
+    fn take_piece(&mut self, line: &mut ArrayVec<u8, MOST_BYTES>) -> io::Result<Piece> {
         let mut byte = [0u8; 1];
         match self.read(&mut byte)? {
-            0 => Ok(None),
-            _ => Ok(Some(byte[0])),
+            0 => Ok(Piece::End),
+            _ => Ok(add(&byte, line).1),
         }
+    }
+}
+
+/// A reader that shows the bytes that it has at hand: as much of them as is a piece is taken at once.
+#[derive(Drop)]
+pub struct Buffered<R: BufRead + Drop> {
+    pub reader: R,
+}
+
+impl<R: BufRead + Drop> Source for Buffered<R> {
+    ghost remaining = { λ shown. R.remaining shown.reader };
+
+    fn take_piece(&mut self, line: &mut ArrayVec<u8, MOST_BYTES>) -> io::Result<Piece> {
+        let shown = self.reader.fill_buf()?;
+        let (count, piece) = add(shown, line);
+        self.reader.consume(count);
+        Ok(piece)
     }
 }
 

@@ -1,11 +1,11 @@
 //! What the program's words ask for.
-ghost use Rattle.std.specs.Prelude.{◌≡◌, ◌⊎◌, ◌↔◌, [], List, Some, option_map, OnOk, IfErr, IfOk, IsTrue, codes, map};
+ghost use Rattle.std.specs.Prelude.{◌≡◌, ◌⊎◌, ◌↔◌, [], List, Some, option_map, OnOk, IfErr, IfNone, IfOk, OnSome, IsTrue, codes, is_some, map};
 ghost use Rattle.clap.specs.Values.{kind_of};
 ghost use Rattle.clap.specs.Words.{fault_of, first_of, Row, FailsBy, HasKind, subcommand_rows_of, subcommand_of};
 ghost use Rattle.dlms_program.specs.Grammar.{dlms};
-ghost use Rattle.dlms_program.specs.Words.{asker as client_by, address_in, Asks, AsksBoth, IsAsking, IsClear, IsUnclear, NamesNoAddress, IsSaid, IsSaidFor, Says, SaysAhead, SaysStops};
+ghost use Rattle.dlms_program.specs.Words.{asker as client_by, address_in, Asks, AsksBoth, AsksTwoClients, IsAsking, IsClear, IsUnclear, NamesNoAddress, NamesTwoPlaces, IsSaid, IsSaidFor, Says, SaysAhead, SaysStops, unless_device};
 
-use crate::addresses::is_address;
+use crate::addresses::{is_address, is_device};
 use crate::commands::{Asking, Job};
 use crate::grammar::program;
 use clap::error::ErrorKind;
@@ -40,8 +40,11 @@ const CLIENT: u32 = 16;
 /// What is said where two clients are asked for.
 const TWO_CLIENTS: &str = "the argument '--public' cannot be used with '--reader'";
 
+/// What is said where a port and a serial line are named.
+const TWO_PLACES: &str = "the argument '--listen' cannot be used with '--line'";
+
 /// What is said where an address is none.
-const NO_ADDRESS: &str = "an address is wanted as ADDRESS:PORT, with a port of 0 to 65535";
+const NO_ADDRESS: &str = "an address is wanted as HOST:PORT, with a port of 0 to 65535";
 
 /// What was found for the words.
 fn parsed<'a>(alloc: Global, words: &'a [&'a str]) -> Result<ArgMatches<'a>, Error>
@@ -133,6 +136,7 @@ fn serve_job<'a>(matches: &ArgMatches<'a>) -> Job<'a>
     Job::Serve {
         file: value_for(matches, "serve", "FILE").unwrap_or(""),
         listen: value_for(matches, "serve", "listen"),
+        line: value_for(matches, "serve", "line"),
         load: number_for(matches, "serve", "load", 0),
         tick: number_for(matches, "serve", "tick", TICK),
         quiet,
@@ -163,7 +167,7 @@ fn poll_job<'a>(matches: &ArgMatches<'a>) -> Job<'a>
     let reader = is_given(value_for(matches, "poll", "reader"));
     let checks = is_given(value_for(matches, "poll", "check-clock"));
     Job::Poll {
-        address: value_for(matches, "poll", "ADDRESS:PORT").unwrap_or(""),
+        address: value_for(matches, "poll", "PLACE").unwrap_or(""),
         readings: value_for(matches, "poll", "readings"),
         secret_file: value_for(matches, "poll", "secret-file"),
         client: asker(public, reader),
@@ -274,8 +278,8 @@ fn act_job<'a>(matches: &ArgMatches<'a>) -> Job<'a>
 }
 
 /// Whether two clients are asked for at once.
-fn asks_both(matches: &ArgMatches<'_>) -> bool
-    ensures { IsTrue result ↔ AsksBoth (subcommand_rows_of matches.now) }
+fn asks_two_clients(matches: &ArgMatches<'_>) -> bool
+    ensures { IsTrue result ↔ AsksTwoClients (subcommand_rows_of matches.now) }
 {
     if matches.subcommand_name() != Some("poll") {
         return false;
@@ -285,12 +289,61 @@ fn asks_both(matches: &ArgMatches<'_>) -> bool
     public && reader
 }
 
+/// Whether one of a command's values was named.
+fn is_named(matches: &ArgMatches<'_>, command: &str, id: &str) -> bool
+    ensures { (rows : List Row) → subcommand_rows_of matches.now ≡ Some (command.now, rows) → result ≡ is_some (first_of id.now rows) }
+{
+    value_for(matches, command, id).is_some()
+}
+
+/// Whether a port and a serial line are named at once.
+fn names_two_places(matches: &ArgMatches<'_>) -> bool
+    ensures { IsTrue result ↔ NamesTwoPlaces (subcommand_rows_of matches.now) }
+{
+    if matches.subcommand_name() != Some("serve") {
+        return false;
+    }
+    let listen = is_named(matches, "serve", "listen");
+    let line = is_named(matches, "serve", "line");
+    listen && line
+}
+
+/// What is said where two are asked for and one is wanted.
+fn conflict(matches: &ArgMatches<'_>) -> Option<&'static str>
+    ensures some { OnSome result (AsksBoth (subcommand_rows_of matches.now)) }
+    ensures none { IfNone result (AsksBoth (subcommand_rows_of matches.now) → ⊥) }
+{
+    if asks_two_clients(matches) {
+        return Some(TWO_CLIENTS);
+    }
+    if names_two_places(matches) {
+        return Some(TWO_PLACES);
+    }
+    None
+}
+
+/// The place, unless it is the device of a serial line.
+fn unless_device(place: Option<&str>) -> Option<&str>
+    ensures { option_map (λ text. text.now) result ≡ unless_device (option_map (λ text. text.now) place.entry) }
+{
+    match place {
+        Some(text) => {
+            if is_device(text.as_bytes()) {
+                None
+            } else {
+                Some(text)
+            }
+        }
+        None => None,
+    }
+}
+
 /// The address that is named, to poll or to listen on.
 fn address_for<'a>(matches: &ArgMatches<'a>) -> Option<&'a str>
     ensures { option_map (λ text. text.now) result ≡ address_in (subcommand_rows_of matches.now) }
 {
     if matches.subcommand_name() == Some("poll") {
-        return value_for(matches, "poll", "ADDRESS:PORT");
+        return unless_device(value_for(matches, "poll", "PLACE"));
     }
     if matches.subcommand_name() == Some("serve") {
         return value_for(matches, "serve", "listen");
@@ -325,8 +378,8 @@ fn clear<'a>(alloc: Global, words: &'a [&'a str]) -> Result<ArgMatches<'a>, Erro
         ⊎ IsUnclear (subcommand_of dlms (map (λ word. word.now) words.entry.now)) e) }
 {
     let matches = parsed(alloc, words)?;
-    if asks_both(&matches) {
-        return Err(complaint(alloc, ErrorKind::ArgumentConflict, TWO_CLIENTS)?);
+    if let Some(message) = conflict(&matches) {
+        return Err(complaint(alloc, ErrorKind::ArgumentConflict, message)?);
     }
     if names_no_address(&matches) {
         return Err(complaint(alloc, ErrorKind::InvalidValue, NO_ADDRESS)?);
@@ -335,8 +388,9 @@ fn clear<'a>(alloc: Global, words: &'a [&'a str]) -> Result<ArgMatches<'a>, Erro
 }
 
 /// The job that the words name, the first of which is the program's own name: its command and its values are those that `clap`
-/// finds for them. A fault is `clap`'s, or want of memory, or that two clients are asked for, or no address is named where one is
-/// wanted; where there is none of these, it is want of memory.
+/// finds for them. A fault is `clap`'s, or want of memory, or that two clients or two places are asked for, or no address is named
+/// where one is wanted; where there is none of these, it is want of memory.
+#[inline(never)]
 pub fn job<'a>(alloc: Global, words: &'a [&'a str]) -> Result<Job<'a>, Error>
     ensures ok { IfOk result (Asks (subcommand_of dlms (map (λ word. word.now) words.entry.now))) }
     ensures clear { OnOk result (IsClear (subcommand_of dlms (map (λ word. word.now) words.entry.now))) }

@@ -11,6 +11,7 @@ returns c = λ rows met.
       refl,
       search rules,
       c.value_for-3.ensures rows met,
+      c.value_for-4.ensures rows met,
       c.number_for.ensures rows met,
       c.number_for-2.ensures rows met,
       subst (λ (said : Option Text). IsSaid said c.is_given-quiet.result) (c.value_for.ensures rows met) c.is_given-quiet.ensures,

@@ -2,7 +2,7 @@ use Rattle.std.proofs.Common.{rules, ◌≡◌, List, Option, Some, IsTrue, code
 use Rattle.clap.specs.Words.{Row, Text, first_of, subcommand_rows_of}
 use Rattle.dlms_program.specs.Words.{IsSaid}
 use Rattle.dlms_program.proofs.WordLemmas.{met_named}
-use Rattle.dlms_program.proofs.words.asks_both.Goals as goal
+use Rattle.dlms_program.proofs.words.asks_two_clients.Goals as goal
 
 pub returns-then-public : goal.returns-then-public
 returns-then-public c =
