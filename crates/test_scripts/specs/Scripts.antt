@@ -6,7 +6,9 @@ use Rattle.dlms_loopback.specs.Disk.FileCall.{Finds, Locks, Reads, Creates, Writ
 use Rattle.dlms_loopback.specs.Filing.{Asked}
 use Rattle.dlms_loopback.specs.Filing.Asked.{Holds, Opens, Lays, Puts, Drops}
 use Rattle.dlms_loopback.specs.Moments.{Moment}
-use Rattle.dlms_loopback.specs.Moments.Moment.{Came, Quiet, Unheard, Went, Broke, Joins}
+use Rattle.dlms_loopback.specs.Moments.Moment.{Came, Quiet, Unheard, Went, Broke, Connects, Joins}
+use Rattle.dlms_field.specs.Watching.{Sight}
+use Rattle.dlms_field.specs.Watching.Sight.{Second, Another, Next, Prepares, Bars, Pauses, Starts, Dates, Reads as ReadsSecret}
 
 -- the value, or the error with which its call failed
 abbrev pub unless : {X : Type 0} → X → Option Error → Result X Error
@@ -54,3 +56,39 @@ file_call number first second is_there failed =
     else if nat_eq number 7
     then SyncsFolder first failed
     else Removes first
+
+-- what happened at the end of a meter's line, by its number: it was connected, or was not in time; or else bytes came, none did, or some went
+abbrev pub wire_moment : ℕ → (is_so : Bool) → List ℕ → Moment
+wire_moment number is_so bytes =
+    if nat_eq number 0
+    then Connects bytes (Ok is_so)
+    else if nat_eq number 1
+    then Came bytes
+    else if nat_eq number 2
+    then Quiet
+    else Went bytes
+
+abbrev pub second_if : (is_so : Bool) → ℕ → Option ℕ
+second_if true second = Some second
+second_if false second = None
+
+-- what was asked of clocks, a port and files of secrets, by its number
+abbrev pub sight_of : ℕ → (second : ℕ) → (is_so : Bool) → Option Error → (file bytes : List ℕ) → Sight
+sight_of number second is_so failed file bytes =
+    if nat_eq number 0
+    then Second (second_if is_so second)
+    else if nat_eq number 1
+    then Another second is_so
+    else if nat_eq number 2
+    then Next second (unless is_so failed)
+    else if nat_eq number 3
+    then Prepares failed
+    else if nat_eq number 4
+    then Bars second
+    else if nat_eq number 5
+    then Pauses
+    else if nat_eq number 6
+    then Starts failed
+    else if nat_eq number 7
+    then Dates (unless second failed)
+    else ReadsSecret file (unless bytes failed)

@@ -1,0 +1,142 @@
+//! A clock and a port for tests, whose past is known: a second goes by at each look, so many times, and one connection comes.
+
+ghost use Rattle.std.specs.Prelude.{◌≡◌, [], ◌∷◌, ◌++◌, Some, map};
+ghost use Rattle.test_scripts.specs.Scripts.{sight_of};
+
+use crate::line::{Play, SNRM, Script};
+use crate::noted::{Noted, are_numbered};
+use dlms_field::{FieldFault, Log, Peer, Rules, Site, Ticks, Times, Watch, serve_all};
+use dlms_meter::Meter;
+use dlms_pages::MemoryPages;
+use dlms_store::PAGES;
+use std::alloc::Global;
+use std::io;
+use std::net::{Ipv4Addr, SocketAddr};
+use std::process::Abort;
+
+/// A clock that ends before this second, and a port at which one connection comes, where this is played; then the port fails.
+#[derive(Drop)]
+struct Porch<'a, R: Abort> {
+    rt: &'a R,
+    alloc: Global,
+    plays: &'a [Play<'a>],
+    second: u64,
+    end: u64,
+    has_come: bool,
+    noted: Vec<Noted>,
+}
+
+impl<'a, R: Abort> Porch<'a, R> {
+    /// Nothing was asked.
+    fn new(rt: &'a R, alloc: Global, plays: &'a [Play<'a>], end: u64) -> Self {
+        Porch {
+            rt,
+            alloc,
+            plays,
+            second: 0,
+            end,
+            has_come: false,
+            noted: Vec::new(alloc),
+        }
+    }
+
+    /// This was asked.
+    fn note(&mut self, noted: Noted)
+        ensures { self.new.noted.items ≡ self.old.noted.items ++ noted ∷ [] }
+    {
+        self.noted.push(noted).expect(self.rt, "memory");
+    }
+}
+
+impl<'a, R: Abort> Watch for Porch<'a, R> {
+    type Stream = Script<'a, R>;
+
+    ghost seen = { λ s. Some (map (λ n. sight_of n.number n.second n.is_so n.failed n.file.items n.bytes.items) s.noted.items) };
+
+    #[tactic(auto, using(crate::proofs::Lists::map_append))]
+    fn seconds(&mut self) -> io::Result<u64> {
+        let second = self.second;
+        let is_so = second < self.end;
+        self.second = second.saturating_add(1);
+        self.note(Noted::of(self.alloc, 0, second, is_so, None));
+        if is_so {
+            Ok(second)
+        } else {
+            Err(io::Error::other("no clock"))
+        }
+    }
+
+    #[tactic(auto, using(crate::proofs::Lists::map_append))]
+    fn another_waits(&mut self, now: u64) -> bool {
+        self.note(Noted::of(self.alloc, 1, now, false, None));
+        false
+    }
+
+    #[tactic(auto, using(crate::proofs::Lists::map_append))]
+    fn next(&mut self, now: u64) -> io::Result<Option<Peer<Script<'a, R>>>> {
+        if self.has_come {
+            let error = io::Error::other("no port");
+            self.note(Noted::of(self.alloc, 2, now, true, Some(error)));
+            return Err(error);
+        }
+        self.has_come = true;
+        let address = SocketAddr::from((Ipv4Addr::LOCALHOST, 4_059u16));
+        self.note(Noted::of(self.alloc, 2, now, true, None));
+        Ok(Some(Peer {
+            stream: Script::new(self.rt, self.alloc, self.plays),
+            address,
+        }))
+    }
+
+    #[tactic(auto, using(crate::proofs::Lists::map_append))]
+    fn prepare(&mut self, _stream: &mut Script<'a, R>) -> io::Result<()> {
+        self.note(Noted::of(self.alloc, 3, 0, true, None));
+        Ok(())
+    }
+
+    #[tactic(auto, using(crate::proofs::Lists::map_append))]
+    fn bar(&mut self, _address: SocketAddr, now: u64) {
+        self.note(Noted::of(self.alloc, 4, now, true, None));
+    }
+
+    #[tactic(auto, using(crate::proofs::Lists::map_append))]
+    fn pause(&mut self) {
+        self.note(Noted::of(self.alloc, 5, 0, true, None));
+    }
+}
+
+/// A connection is made ready and served: the clock is looked at when it comes, when it begins, before each read and behind each
+/// frame; and where the port or the clock fails, the serving ends with that.
+#[test]
+fn a_connection_is_served(rt: HostRuntime) {
+    let rules = Rules {
+        tick: 1,
+        times: Times {
+            inactivity: 120,
+            idle: 5,
+            longest: 60,
+        },
+    };
+    let plays = [Play::Bytes(&SNRM), Play::Nothing];
+    let served: [(u64, bool, &[u8]); 3] = [
+        (100, true, &[0, 2, 3, 0, 0, 1, 0, 1, 0, 1, 0, 1, 0, 2]),
+        (4, false, &[0, 2, 3, 0, 0, 1, 0, 1, 0]),
+        (0, false, &[0]),
+    ];
+    for (end, is_of_port, numbers) in served {
+        let pages = MemoryPages::new(rt.alloc(), PAGES).expect(&rt, "memory");
+        let Ok(mut meter) = Meter::format(rt.alloc(), pages) else {
+            panic!(rt; "no meter");
+        };
+        let mut errors: Vec<u8> = Vec::new(rt.alloc());
+        let porch = Porch::new(&rt, rt.alloc(), &plays, end);
+        let mut site = Site::new(porch, Ticks::new(0, 0), Log::quiet(), &mut errors);
+        let served = serve_all(&mut site, rules, &mut meter, "here");
+        assert_eq!(rt;
+            matches!(served, Err(FieldFault::System("here", _))),
+            is_of_port
+        );
+        assert!(rt; served.is_err());
+        assert!(rt; are_numbered(site.watch.noted.as_slice(), numbers));
+    }
+}
