@@ -1,5 +1,5 @@
 -- What each part of a service shows of its outcome.
-use Rattle.std.proofs.Common.{◌≡◌, ◌⊎◌, inl, inr, refl, sym, ◌∙◌, ap, subst, ℕ, Bool, true, List, [], Option, Some, None, is_some, option_map, option_copied, Bor, Result, Ok, Err, MatchResult}
+use Rattle.std.proofs.Common.{◌≡◌, ◌⊎◌, inl, inr, refl, sym, ap, subst, ℕ, Bool, true, List, [], Option, Some, None, is_some, option_map, option_copied, Bor, Result, Ok, Err, MatchResult}
 use Rattle.dlms_data.specs.Value.{Value}
 use Rattle.dlms_data.specs.declared.descriptor.Descriptor.{Descriptor}
 use Rattle.dlms_apdu.specs.Forms.{RequestForm, ResponseForm, BlockForm, get_normal, get_result, set_normal, set_first, set_result, action_normal, action_result}
@@ -11,7 +11,6 @@ use Rattle.dlms_data.specs.declared.descriptor.Selector.{Selector}
 use Rattle.dlms_blocks.specs.Coming.{Coming, more_answer, more_after}
 use Rattle.dlms_blocks.specs.declared.block.PutStep.{PutStep}
 use Rattle.dlms_state.specs.declared.event.Event.{Event}
-use Rattle.dlms_state.specs.Events.{columns_after}
 use Rattle.dlms_state.specs.StateValue.{StateValue, state_of}
 use Rattle.dlms_classes.specs.declared.access.AccessResult.{AccessResult}
 use Rattle.dlms_classes.specs.declared.access.AccessResult.TheVariants.{TemporaryFailure}
@@ -20,11 +19,10 @@ use Rattle.dlms_frame.specs.declared.client.Client.{Client}
 use Rattle.dlms_classes.specs.Answer.{Wanted, IsShown, IsGranted, NeedsMemory}
 use Rattle.dlms_classes.proofs.ShownOnce.{granted}
 use Rattle.dlms_service.specs.declared.association.Association.{Association}
-use Rattle.dlms_service.specs.declared.served.Served.{Served}
 use Rattle.dlms_service.specs.declared.target.Target.{Target}
 use Rattle.dlms_service.specs.declared.target.Service.{Service}
 use Rattle.dlms_service.specs.declared.target.Service.TheVariants.{Set}
-use Rattle.dlms_service.specs.Session.{SessionValue, Outcome, outcome_of, listed, without_get, without_put, not_possible}
+use Rattle.dlms_service.specs.Session.{SessionValue, Outcome, without_get, without_put, not_possible}
 use Rattle.dlms_service.specs.Planned.{IsValue, IsPlanFor, IsDone}
 use Rattle.dlms_service.specs.Shown.{Sends, asked, seen}
 use Rattle.dlms_service.specs.Blocks.{Completes, Steps, Begins, Continues, Brings, BringsAlone, BringsLast, open_for, ended_form}
@@ -95,11 +93,6 @@ module _ (E : List Event) (s : SessionValue) (a : Association) (form : RequestFo
   -- or for the value that it holds
   pub unread_request : HoldsValue form → o ≡ not_possible s → (choice : Choice) × Requested choice E s a form o
   unread_request holds is = (LacksMemoryToRead, (permitted, (inl holds, is)))
-
--- what accepts nothing
-pub accepts_nothing : (own : SessionValue) (answer : List ℕ) (served : Served) → served.answer.items ≡ answer → served.event ≡ None → record { own = own; answer = answer; accepted = [] } ≡ outcome_of own served
-accepts_nothing own answer served is none =
-    ap (λ (a : List ℕ). record { own = own; answer = a; accepted = [] }) (sym is) ∙ ap (λ (e : Option Event). record { own = own; answer = served.answer.items; accepted = listed e }) (sym none)
 
 -- what is planned and done
 pub set_done : (E : List Event) (s : SessionValue) (a : Association) (invoke : ℕ) (d : Descriptor) (selector : Option apdu.Selection) (selected : Bool) (v : Value) (o : Outcome)

@@ -157,10 +157,10 @@ requested_silent LacksMemoryToRead E s a form o h = silent o _ h.1.1 refl
 requested_silent LacksMemoryToAnswer E s a form o h = λ unsaid. (lacks_nothing E s a form o h.1).none
 
 -- no stake, no event
-pub alone_by : (E : List Event) (s : SessionValue) (a : Association) (form : RequestForm) (own : SessionValue) (served : Served) (stake : Stake) (result : Served)
-    → ((choice : Choice) × Requested choice E s a form (outcome_of own served)) → result.event ≡ served.event → result.stake ≡ (if is_success served.answer.items then Some stake else None)
+pub alone_by : (E : List Event) (s : SessionValue) (a : Association) (form : RequestForm) (own : SessionValue) (answer : List ℕ) (event : Option Event) (stake : Stake) (result : Served)
+    → ((choice : Choice) × Requested choice E s a form (outcome_of own answer event)) → result.event ≡ event → result.stake ≡ (if is_success answer then Some stake else None)
     → result.stake ≡ None → listed result.event ≡ []
-alone_by E s a form own served stake result told same is none = ap listed same ∙ requested_silent told.0 E s a form (outcome_of own served) told.1 (no_stake (is_success served.answer.items) (sym is ∙ none))
+alone_by E s a form own answer event stake result told same is none = ap listed same ∙ requested_silent told.0 E s a form (outcome_of own answer event) told.1 (no_stake (is_success answer) (sym is ∙ none))
   where
     no_stake : (b : Bool) → (if b then Some stake else None) ≡ None → b ≡ false
     no_stake true e = absurd cc
@@ -176,13 +176,13 @@ found_memory LacksMemoryToRead E s a form o h told = absurd (cc (sym told ∙ (n
 found_memory LacksMemoryToAnswer E s a form o h told = absurd (cc (sym told ∙ (lacks_nothing E s a form o h.1).fails))
 
 -- what is at stake, and how it fails
-pub fails_by : (E : List Event) (s : SessionValue) (a : Association) (form : RequestForm) (apdu : List ℕ) (own : SessionValue) (served result : Served) (at_request stake : Stake) (kept : Bool)
-    → request_at apdu ≡ Ok form → s.opened ≡ Some a → ((choice : Choice) × Requested choice E s a form (outcome_of own served))
-    → result.event ≡ served.event → at_request ≡ stake_of form → result.stake ≡ (if is_success served.answer.items then Some at_request else None) → result.stake ≡ Some stake
+pub fails_by : (E : List Event) (s : SessionValue) (a : Association) (form : RequestForm) (apdu : List ℕ) (own : SessionValue) (answer : List ℕ) (event : Option Event) (result : Served) (at_request stake : Stake) (kept : Bool)
+    → request_at apdu ≡ Ok form → s.opened ≡ Some a → ((choice : Choice) × Requested choice E s a form (outcome_of own answer event))
+    → result.event ≡ event → at_request ≡ stake_of form → result.stake ≡ (if is_success answer then Some at_request else None) → result.stake ≡ Some stake
     → FailsBy (Within FindsMemory E s apdu s.opened) kept s apdu (failing kept own stake (listed result.event))
-fails_by E s a form apdu own served result at_request stake kept read opened told same at is here =
-    let o : Outcome = outcome_of own served in
-    let told_so = said (is_success served.answer.items) (sym is ∙ here) in
+fails_by E s a form apdu own answer event result at_request stake kept read opened told same at is here =
+    let o : Outcome = outcome_of own answer event in
+    let told_so = said (is_success answer) (sym is ∙ here) in
     let found = found_memory told.0 E s a form o told.1 told_so.0 in
     let ends = permitted_end E s a form (permits a form) o found told_so.0 in (
       form,

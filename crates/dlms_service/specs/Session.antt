@@ -9,7 +9,6 @@ use Rattle.dlms_apdu.specs.Forms.{ResponseForm, exception}
 use Rattle.dlms_apdu.specs.Writing.{response_bytes}
 use Rattle.dlms_state.specs.declared.event.Event.{Event}
 use Rattle.dlms_service.specs.declared.association.Association.{Association}
-use Rattle.dlms_service.specs.declared.served.Served.{Served}
 use Rattle.dlms_service.specs.declared.target.Target.{Target}
 use Rattle.dlms_acse.specs.declared.judging.TheConstants.{LEAST_SIZE, MOST_SIZE}
 
@@ -77,8 +76,8 @@ listed None = []
 listed (Some event) = event ∷ []
 
 -- what a call shows of it
-abbrev pub outcome_of : SessionValue → Served → Outcome
-outcome_of own served = record { own = own; answer = served.answer.items; accepted = listed served.event }
+abbrev pub outcome_of : SessionValue → List ℕ → Option Event → Outcome
+outcome_of own answer event = record { own = own; answer = answer; accepted = listed event }
 
 -- an answer alone
 abbrev pub says : SessionValue → ResponseForm → Outcome

@@ -17,40 +17,49 @@ pub const LONG_ACTION_ABORTED: u8 = 15;
 pub const NO_LONG_ACTION: u8 = 16;
 
 /// No block, but the result that ends the transfer.
-pub fn no_block(invoke: u8, number: u32, code: u8) -> Answer
-    ensures { result.items ≡ response_bytes (get_block_result invoke number code) }
+pub fn no_block(answer: &mut Answer, invoke: u8, number: u32, code: u8)
+    ensures { answer.new.items ≡ response_bytes (get_block_result invoke number code) }
 {
-    short(&Response::GetBlockResult {
-        invoke,
-        number,
-        result: code,
-    })
+    short(
+        answer,
+        &Response::GetBlockResult {
+            invoke,
+            number,
+            result: code,
+        },
+    );
 }
 
 /// A block was taken, and further ones are to come.
-pub fn taken(service: Service, invoke: u8, number: u32) -> Answer
-    ensures { result.items ≡ response_bytes (taken_form service invoke number) }
+pub fn taken(answer: &mut Answer, service: Service, invoke: u8, number: u32)
+    ensures { answer.new.items ≡ response_bytes (taken_form service invoke number) }
 {
     match service {
-        Service::Set => short(&Response::SetBlock { invoke, number }),
-        Service::Action => short(&Response::ActionBlock { invoke, number }),
+        Service::Set => short(answer, &Response::SetBlock { invoke, number }),
+        Service::Action => short(answer, &Response::ActionBlock { invoke, number }),
     }
 }
 
 /// The transfer ended with a result.
-pub fn ended(service: Service, invoke: u8, number: u32, code: u8) -> Answer
-    ensures { result.items ≡ response_bytes (ended_form service invoke number code) }
+pub fn ended(answer: &mut Answer, service: Service, invoke: u8, number: u32, code: u8)
+    ensures { answer.new.items ≡ response_bytes (ended_form service invoke number code) }
 {
     match service {
-        Service::Set => short(&Response::SetLast {
-            invoke,
-            result: code,
-            number,
-        }),
-        Service::Action => short(&Response::ActionResult {
-            invoke,
-            result: code,
-        }),
+        Service::Set => short(
+            answer,
+            &Response::SetLast {
+                invoke,
+                result: code,
+                number,
+            },
+        ),
+        Service::Action => short(
+            answer,
+            &Response::ActionResult {
+                invoke,
+                result: code,
+            },
+        ),
     }
 }
 

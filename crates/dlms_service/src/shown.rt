@@ -24,13 +24,16 @@ use dlms_state::State;
 use std::alloc::Allocator;
 
 /// The answer that a GET is refused.
-pub fn refused(invoke: u8, refusal: AccessResult) -> Answer
-    ensures { result.items ≡ response_bytes (get_result invoke (number_of refusal)) }
+pub fn refused(answer: &mut Answer, invoke: u8, refusal: AccessResult)
+    ensures { answer.new.items ≡ response_bytes (get_result invoke (number_of refusal)) }
 {
-    short(&Response::GetResult {
-        invoke,
-        result: refusal.number(),
-    })
+    short(
+        answer,
+        &Response::GetResult {
+            invoke,
+            result: refusal.number(),
+        },
+    );
 }
 
 /// The value that a client asks for. Without selective access a selector is seen as one that no attribute takes.

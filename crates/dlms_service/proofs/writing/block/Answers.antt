@@ -5,8 +5,8 @@ use Rattle.dlms_service.proofs.Lengths.{block_fits}
 use Rattle.dlms_service.proofs.writing.block.Goals as goal
 
 -- a block's answer fits an APDU
-pub answer_of-requires : goal.answer_of-requires
-answer_of-requires g c =
+pub write_answer-requires : goal.write_answer-requires
+write_answer-requires g c =
     let b = c.args.block.now in
     let raw = c.as_slice.result.now in
     let e : c.as_slice-in-Ok.result.now ≡ response_bytes (get_block c.args.invoke b.last b.number raw) = c.as_slice-in-Ok.ensures.value ∙ c.in-Ok.ensures.canonical in

@@ -17,15 +17,15 @@ returns-in_default-clause-handled g c before knows =
     let store = c.args.store.now in
     let link = c.on.new.self in
     let of = state_known before store c.state.result.now knows c.state.ensures.after in
-    let told = c.serve-answer.ensures.serves (events_in before) of in
-    let o = outcome_of c.serve-answer.new.self c.serve-answer.result in
+    let told = c.serve-event.ensures.serves (events_in before) of in
+    let o = outcome_of c.serve-event.new.self c.serve-event.new.answer.items c.serve-event.result.event in
     let sent = c.send.ensures.after ∙ ap (λ (bytes : List ℕ). (server_send link bytes).0) c.as_slice.ensures.value in
     let frame = c.send.ensures.frame ∙ ap (λ (bytes : List ℕ). spelling (server_send link bytes).1) c.as_slice.ensures.value in
-    let quiet : is_success o.answer ≡ false = sym c.serve-answer.ensures.stake ∙ ap is_some c.in_default.is in
-    subst (λ (r : ClientRecord). Handling r c.args.frame.now (Some c.send.result.items) (record { link = c.send.new.link; session = c.serve-answer.new.self }) before store store) c.self.view_is
+    let quiet : is_success o.answer ≡ false = sym c.serve-event.ensures.stake ∙ ap is_some c.in_default.is in
+    subst (λ (r : ClientRecord). Handling r c.args.frame.now (Some c.send.result.items) (record { link = c.send.new.link; session = c.serve-event.new.self }) before store store) c.self.view_is
     (apdu_handled own c.args.frame.now link c.send.new.link c.apdu.result.now o c.send.result.items (Served told.0) before before [] store store
     (sym c.in-Apdu.is ∙ c.on.ensures.out) c.on.ensures.after c.apdu.ensures.value told.1 sent frame
-    (uncalled (is_success o.answer) o.accepted quiet (c.serve-answer.ensures.alone (events_in before) of c.in_default.is)) tt (none before store (λ h. g.met.P.Pages.rules store.device h) knows) (subst (λ (bytes : List ℕ). length bytes ≤ 1024) c.as_slice.ensures.value c.as_slice.ensures.fits))
+    (uncalled (is_success o.answer) o.accepted quiet (c.serve-event.ensures.alone (events_in before) of c.in_default.is)) tt (none before store (λ h. g.met.P.Pages.rules store.device h) knows) (subst (λ (bytes : List ℕ). length bytes ≤ 1024) c.as_slice.ensures.value c.as_slice.ensures.fits))
 
 pub returns-then-is_ok-clause-handled : goal.returns-then-is_ok-clause-handled
 returns-then-is_ok-clause-handled g c before knows =
@@ -34,13 +34,13 @@ returns-then-is_ok-clause-handled g c before knows =
     let new = c.settle.new.store in
     let link = c.on.new.self in
     let of = state_known before store c.state.result.now knows c.state.ensures.after in
-    let told = c.serve-answer.ensures.serves (events_in before) of in
-    let o = outcome_of c.serve-answer.new.self c.serve-answer.result in
+    let told = c.serve-event.ensures.serves (events_in before) of in
+    let o = outcome_of c.serve-event.new.self c.serve-event.new.answer.items c.serve-event.result.event in
     let sent = c.send-then-is_ok.ensures.after ∙ ap (λ (bytes : List ℕ). (server_send link bytes).0) c.as_slice-then-is_ok.ensures.value in
     let frame = c.send-then-is_ok.ensures.frame ∙ ap (λ (bytes : List ℕ). spelling (server_send link bytes).1) c.as_slice-then-is_ok.ensures.value in
-    let says : is_success o.answer ≡ true = sym c.serve-answer.ensures.stake ∙ ap is_some c.in-Some.is in
-    let settled = settled_ok c.settle.result before (listed c.serve-answer.result.event) store new (sym c.is_ok.ensures.value ∙ c.if-is_ok.true) (c.settle.ensures.settled before knows) in
-    subst (λ (r : ClientRecord). Handling r c.args.frame.now (Some c.send-then-is_ok.result.items) (record { link = c.send-then-is_ok.new.link; session = c.serve-answer.new.self }) before store new) c.self.view_is
+    let says : is_success o.answer ≡ true = sym c.serve-event.ensures.stake ∙ ap is_some c.in-Some.is in
+    let settled = settled_ok c.settle.result before (listed c.serve-event.result.event) store new (sym c.is_ok.ensures.value ∙ c.if-is_ok.true) (c.settle.ensures.settled before knows) in
+    subst (λ (r : ClientRecord). Handling r c.args.frame.now (Some c.send-then-is_ok.result.items) (record { link = c.send-then-is_ok.new.link; session = c.serve-event.new.self }) before store new) c.self.view_is
     (apdu_handled own c.args.frame.now link c.send-then-is_ok.new.link c.apdu.result.now o c.send-then-is_ok.result.items (Served told.0) before settled.1 settled.0 store new
     (sym c.in-Apdu.is ∙ c.on.ensures.out) c.on.ensures.after c.apdu.ensures.value told.1 sent frame
     (settling (is_success o.answer) o.accepted settled.0 says settled.2) tt settled.3 (subst (λ (bytes : List ℕ). length bytes ≤ 1024) c.as_slice-then-is_ok.ensures.value c.as_slice-then-is_ok.ensures.fits))
@@ -51,16 +51,16 @@ returns-else-is_ok-clause-handled g c before knows =
     let store = c.args.store.now in
     let new = c.settle.new.store in
     let link = c.on.new.self in
-    let event = listed c.serve-answer.result.event in
+    let event = listed c.serve-event.result.event in
     let of = state_known before store c.state.result.now knows c.state.ensures.after in
     let settled = settled_err c.settle.result before event store new (sym c.is_ok.ensures.value ∙ c.if-is_ok.false) (c.settle.ensures.settled before knows) in
     let kept = settled.0 in
-    let o : Outcome = record { own = c.fail-failed.new.self; answer = c.fail-failed.result.items; accepted = if kept then event else [] } in
-    let told = wants kept (events_in before) c.self.inside.session c.serve-answer.new.self c.apdu.result.now c.in-Some.stake event (c.serve-answer.ensures.fails c.in-Some.stake c.in-Some.is (events_in before) of true) in
-    let same = ap (λ (x : Outcome). record x { accepted = if kept then event else [] }) c.fail-failed.ensures in
+    let o : Outcome = record { own = c.fail.new.self; answer = c.fail.new.answer.items; accepted = if kept then event else [] } in
+    let told = wants kept (events_in before) c.self.inside.session c.serve-event.new.self c.apdu.result.now c.in-Some.stake event (c.serve-event.ensures.fails c.in-Some.stake c.in-Some.is (events_in before) of true) in
+    let same = ap (λ (x : Outcome). record x { accepted = if kept then event else [] }) c.fail.ensures in
     let sent = c.send-in-Apdu.ensures.after ∙ ap (λ (bytes : List ℕ). (server_send link bytes).0) c.as_slice-in-Apdu.ensures.value in
     let frame = c.send-in-Apdu.ensures.frame ∙ ap (λ (bytes : List ℕ). spelling (server_send link bytes).1) c.as_slice-in-Apdu.ensures.value in
-    subst (λ (r : ClientRecord). Handling r c.args.frame.now (Some c.send-in-Apdu.result.items) (record { link = c.send-in-Apdu.new.link; session = c.fail-failed.new.self }) before store new) c.self.view_is
+    subst (λ (r : ClientRecord). Handling r c.args.frame.now (Some c.send-in-Apdu.result.items) (record { link = c.send-in-Apdu.new.link; session = c.fail.new.self }) before store new) c.self.view_is
     (apdu_handled own c.args.frame.now link c.send-in-Apdu.new.link c.apdu.result.now o c.send-in-Apdu.result.items (DeviceFails kept event) before settled.2 settled.1 store new
     (sym c.in-Apdu.is ∙ c.on.ensures.out) c.on.ensures.after c.apdu.ensures.value
     (subst (λ (x : Outcome). Does (DeviceFails kept event) (events_in before) c.self.inside.session c.apdu.result.now x) (sym same) told)

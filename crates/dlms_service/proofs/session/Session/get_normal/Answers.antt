@@ -12,13 +12,13 @@ use Rattle.dlms_service.proofs.session.Session.get_normal.Goals as goal
 pub returns-in-Ok : goal.returns-in-Ok
 returns-in-Ok g c E is =
     let client : c.self.inside.client ≡ c.args.self.now.client = ap (λ (s : SessionValue). s.client) (c.self.view_is ∙ c.end_get.ensures) in
-    let sends = subst (λ (s : SessionValue). Sends s c.args.association c.args.invoke (value_of c.in-Ok.value) (record { own = c.give.new.self; answer = c.give.result.items; accepted = [] })
-    ⊎ ((c.give.new.self ≡ s) × (c.give.result.items ≡ response_bytes (get_result c.args.invoke 2)))) c.end_get.ensures c.give.ensures in
-    given E c.args.self.now c.args.association c.args.invoke c.args.descriptor (option_map (λ s. selection_of s.now) c.args.selector) (value_of c.in-Ok.value) c.give.new.self c.give.result.items
+    let sends = subst (λ (s : SessionValue). Sends s c.args.association c.args.invoke (value_of c.in-Ok.value) (record { own = c.give.new.self; answer = c.give.new.answer.items; accepted = [] })
+    ⊎ ((c.give.new.self ≡ s) × (c.give.new.answer.items ≡ response_bytes (get_result c.args.invoke 2)))) c.end_get.ensures c.give.ensures in
+    given E c.args.self.now c.args.association c.args.invoke c.args.descriptor (option_map (λ s. selection_of s.now) c.args.selector) (value_of c.in-Ok.value) c.give.new.self c.give.new.answer.items
     (rw (sym client) (c.in-Ok.ensures.answer E is)) sends
 
 pub returns-in-Err : goal.returns-in-Err
 returns-in-Err g c E is =
     let client : c.self.inside.client ≡ c.args.self.now.client = ap (λ (s : SessionValue). s.client) (c.self.view_is ∙ c.end_get.ensures) in
     refusing E c.args.self.now c.args.association c.args.invoke c.args.descriptor (option_map (λ s. selection_of s.now) c.args.selector) c.self.inside.client c.in-Err.refusal
-    c.end_get.new.self c.refused.result.items client c.end_get.ensures c.refused.ensures (c.in-Err.ensures.answer E is)
+    c.end_get.new.self c.refused.new.answer.items client c.end_get.ensures c.refused.ensures (c.in-Err.ensures.answer E is)

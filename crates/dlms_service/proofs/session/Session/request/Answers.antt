@@ -1,9 +1,9 @@
-use Rattle.std.proofs.Common.{◌≡◌, ◌⊎◌, ◌∙◌, [], sym, subst, true, option_map}
+use Rattle.std.proofs.Common.{◌≡◌, ◌⊎◌, ◌∙◌, [], sym, true, option_map}
 use Rattle.dlms_apdu.specs.View.{request_of, selection_of}
 use Rattle.dlms_data.specs.View.{value_of}
 use Rattle.dlms_service.specs.Session.{Outcome}
 use Rattle.dlms_service.specs.Serves.{Asks, LacksToAnswer, permits}
-use Rattle.dlms_service.proofs.Serving.{led, led_unless_answered, led_unless_brought, accepts_nothing, set_done, begun, there, seen_through}
+use Rattle.dlms_service.proofs.Serving.{led, led_unless_answered, led_unless_brought, set_done, begun, there, seen_through}
 use Rattle.dlms_service.proofs.Values.{behind_reference}
 use Rattle.dlms_service.proofs.session.Session.request.Goals as goal
 
@@ -12,20 +12,18 @@ returns-in-GetNormal-clause-serves g c E is =
     let s = c.args.self.now in
     let form = request_of c.args.request in
     let p : permits c.args.association form ≡ true = sym c.requires.permits ∙ c.if-not-permitted.false in
-    let o : Outcome = record { own = c.get_normal.new.self; answer = c.get_normal.result.items; accepted = [] } in
+    let o : Outcome = record { own = c.get_normal.new.self; answer = c.get_normal.new.answer.items; accepted = [] } in
     let told : Asks E s c.args.association form o ⊎ LacksToAnswer E s c.args.association form o = rw c.in-GetNormal.is (rw (sym (seen_through c.as_ref-selector.result c.in-GetNormal.selector c.as_ref-selector.ensures.value)) (c.get_normal.ensures E is)) in
-    let same = accepts_nothing c.get_normal.new.self c.get_normal.result.items c.alone-in-GetNormal.result c.alone-in-GetNormal.ensures.answer c.alone-in-GetNormal.ensures.event in
-    led_unless_answered E s c.args.association form _ p (subst (λ (o : Outcome). Asks E s c.args.association form o ⊎ LacksToAnswer E s c.args.association form o) same told)
+    led_unless_answered E s c.args.association form o p told
 
 pub returns-in-GetNext-clause-serves : goal.returns-in-GetNext-clause-serves
 returns-in-GetNext-clause-serves g c E is =
     let s = c.args.self.now in
     let form = request_of c.args.request in
     let p : permits c.args.association form ≡ true = sym c.requires.permits ∙ c.if-not-permitted.false in
-    let o : Outcome = record { own = c.get_next.new.self; answer = c.get_next.result.items; accepted = [] } in
+    let o : Outcome = record { own = c.get_next.new.self; answer = c.get_next.new.answer.items; accepted = [] } in
     let told : Asks E s c.args.association form o ⊎ LacksToAnswer E s c.args.association form o = rw c.in-GetNext.is c.get_next.ensures in
-    let same = accepts_nothing c.get_next.new.self c.get_next.result.items c.alone-in-GetNext.result c.alone-in-GetNext.ensures.answer c.alone-in-GetNext.ensures.event in
-    led_unless_answered E s c.args.association form _ p (subst (λ (o : Outcome). Asks E s c.args.association form o ⊎ LacksToAnswer E s c.args.association form o) same told)
+    led_unless_answered E s c.args.association form o p told
 
 pub returns-in-SetNormal-clause-serves : goal.returns-in-SetNormal-clause-serves
 returns-in-SetNormal-clause-serves g c E is =
