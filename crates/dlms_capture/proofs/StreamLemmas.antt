@@ -1,8 +1,9 @@
 -- Parts of a stream, one behind another.
-use Rattle.std.proofs.Common.{◌≡◌, ℕ, ◌+◌, ◌-◌, ◌<◌, ◌≤◌, ◌++◌, List, [], ◌∷◌, length, take, drop, zero, suc, subst, sym, ap, ◌∙◌, arith}
+use Rattle.std.proofs.Common.{◌≡◌, ℕ, ◌+◌, ◌-◌, ◌<◌, ◌≤◌, ◌++◌, List, [], ◌∷◌, Bool, true, false, length, take, drop, zero, suc, subst, sym, lt_of_not-le, ap, ◌∙◌, arith}
 use Rattle.std.proofs.lemmas.List.{append-nil, append_assoc, length-drop, drop-take, take_all}
 use Rattle.std.proofs.Math.Seq.{drop-nil, take-nil}
-use Rattle.dlms_capture.specs.Streams.{GoesOn, StandsAt}
+use Rattle.dlms_capture.specs.Streams.{AreEarly, GoesOn, StandsAt}
+use Rattle.dlms_capture.specs.declared.order.Early.{Early}
 
 pub drop-drop : (n m : ℕ) (xs : List ℕ) → drop n (drop m xs) ≡ drop (m + n) xs
 drop-drop n zero xs = ap (λ k. drop k xs) (omega arith)
@@ -59,3 +60,12 @@ pub goes-nowhere : (stream : List ℕ) (a : ℕ) (old : List ℕ) → GoesOn str
 goes-nowhere stream a old =
     let e : a - a ≡ zero = omega arith in
     sym (append-nil old) ∙ ap (λ n. old ++ take n (drop a stream)) (sym e)
+
+-- a segment that is taken where it is not beyond, and is not taken
+pub beyond : (place given : ℕ) (taken : Bool) → (place ≤ given → taken ≡ true) → taken ≡ false → given < place
+beyond place given true waits f = cc
+beyond place given false waits f = lt_of_not-le (λ le. let e : false ≡ true = waits le in cc)
+
+-- the same segments, where as much has been given
+pub early-of : {A : Type 0} (given given' : ℕ) (segments segments' : List (Early A)) → given ≡ given' → segments ≡ segments' → AreEarly given segments → AreEarly given' segments'
+early-of given given' segments segments' e f are = subst (λ l. AreEarly given' l) f (subst (λ n. AreEarly n segments) e are)

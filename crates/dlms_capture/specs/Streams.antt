@@ -1,6 +1,6 @@
 -- The octets of one direction of a connection, by their places: the first one's is 0. Each has a number, which goes on from
 -- 2^32 - 1 with 0 (RFC 9293, 3.4).
-use Rattle.std.specs.Prelude.{◌≡◌, ℕ, ◌+◌, ◌-◌, ◌%◌, ◌++◌, List, All, Option, Some, None, length, take, drop, nat_lt, if◌then◌else◌}
+use Rattle.std.specs.Prelude.{◌≡◌, ℕ, ◌+◌, ◌-◌, ◌%◌, ◌<◌, ◌++◌, min, List, [], ◌∷◌, All, Option, Some, None, length, take, drop, nat_lt, if◌then◌else◌}
 use Rattle.dlms_capture.specs.declared.order.Early.{Early}
 use Rattle.dlms_capture.specs.declared.order.Order.{Order}
 
@@ -20,6 +20,20 @@ StandsAt stream place octets = octets ≡ take (length octets) (drop place strea
 -- each of these segments is the stream's
 abbrev pub AreOf : {A : Type 0} → List ℕ → List (Early A) → Type 0
 AreOf stream segments = All (λ e. StandsAt stream e.place e.octets.items) segments
+
+-- all of these segments come too early, where so many octets have been given
+abbrev pub AreEarly : {A : Type 0} → ℕ → List (Early A) → Type 0
+AreEarly given segments = All (λ e. given < e.place) segments
+
+-- how many octets are missing before the first of these segments; before none as many as there are places
+abbrev pub least_gap : {A : Type 0} → ℕ → List (Early A) → ℕ
+least_gap given [] = 18446744073709551615
+least_gap given (e ∷ es) = min (e.place - given) (least_gap given es)
+
+-- how many are missing behind the octets that have been given, where a segment came too early
+abbrev pub gap : {A : Type 0} → ℕ → List (Early A) → ℕ
+gap given [] = 0
+gap given (e ∷ es) = least_gap given (e ∷ es)
 
 -- the stream's octets between two places stand behind those of before
 abbrev pub GoesOn : List ℕ → ℕ → ℕ → List ℕ → List ℕ → Type 0

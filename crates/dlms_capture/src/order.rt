@@ -1,7 +1,7 @@
 //! The octets of one direction of a TCP connection, in the order of their numbers.
 
 ghost use Rattle.std.specs.Prelude.{◌≡◌, ◌+◌, ◌<◌, ◌≤◌, ◌^◌, ℕ, List, [], All, Some, None, false, if◌then◌else◌, true, length, IfNone, IfOk, IfSome, OnErr, OnOk};
-ghost use Rattle.dlms_capture.specs.Streams.{AreOf, GoesOn, StandsAt, place_by, place_in};
+ghost use Rattle.dlms_capture.specs.Streams.{AreEarly, AreOf, GoesOn, StandsAt, gap, least_gap, place_by, place_in};
 
 use std::alloc::{AllocError, Allocator};
 
@@ -58,6 +58,20 @@ fn fresh(given: u64, place: u64, octets: &[u8]) -> &[u8]
         &octets[old..]
     } else {
         &[]
+    }
+}
+
+/// How many octets are missing before the first of these segments, where so many have been given; before none as many as there are
+/// places.
+fn least_gap<A: Allocator>(given: u64, segments: &[Early<A>]) -> u64
+    ensures { result ≡ least_gap given segments.now }
+{
+    match segments {
+        [] => u64::MAX,
+        [first, rest @ ..] => first
+            .place
+            .saturating_sub(given)
+            .min(least_gap(given, rest)),
     }
 }
 
@@ -133,6 +147,9 @@ impl<A: Allocator + Copy> Order<A> {
         ensures given { self.new.given ≡ self.old.given }
         ensures early { (stream : List ℕ) → AreOf stream self.old.early.items → StandsAt stream place octets.now
             → AreOf stream self.new.early.items }
+        ensures none { AreEarly self.old.given self.old.early.items → self.old.given < place
+            → OnOk result (AreEarly self.old.given self.new.early.items) }
+        ensures more { OnOk result (length self.new.early.items ≡ length self.old.early.items + 1) }
     {
         let octets = Vec::from_slice(alloc, octets)?;
         self.early.push(Early { place, octets })?;
@@ -150,12 +167,10 @@ impl<A: Allocator + Copy> Order<A> {
     }
 
     /// How many octets are missing before the first of the segments that came too early.
-    fn missing(&self) -> u64 {
-        let mut least = u64::MAX;
-        for early in self.early.iter() {
-            least = least.min(early.place.saturating_sub(self.given));
-        }
-        least
+    fn missing(&self) -> u64
+        ensures { result ≡ least_gap self.now.given self.now.early.items }
+    {
+        least_gap(self.given, self.early.as_slice())
     }
 
     /// Appends a segment that came too early and does so no more, if there is one.
@@ -165,12 +180,15 @@ impl<A: Allocator + Copy> Order<A> {
         ensures goes { (stream : List ℕ) → AreOf stream self.old.early.items
             → OnOk result (GoesOn stream self.old.given self.new.given output.old.items output.new.items) }
         ensures later { OnOk result (self.old.given ≤ self.new.given) }
+        ensures none { IfOk result (λ found. found ≡ false → AreEarly self.new.given self.new.early.items) }
+        ensures fewer { IfOk result (λ found. found ≡ true → length self.new.early.items < length self.old.early.items) }
     {
         let Some(at) = self.due() else {
             return Ok(false);
         };
         let early = self.early.remove(at);
-        self.append(early.place, early.octets.as_slice(), output)
+        self.append(early.place, early.octets.as_slice(), output)?;
+        Ok(true)
     }
 
     /// Appends the segments that came too early and do so no more.
@@ -180,10 +198,11 @@ impl<A: Allocator + Copy> Order<A> {
         ensures goes { (stream : List ℕ) → AreOf stream self.old.early.items
             → OnOk result (GoesOn stream self.old.given self.new.given output.old.items output.new.items) }
         ensures later { OnOk result (self.old.given ≤ self.new.given) }
+        ensures none { OnOk result (AreEarly self.new.given self.new.early.items) }
     {
-        'due: for _ in 0..MOST_EARLY {
+        'due: while !self.early.is_empty() {
             if !self.append_one(output)? {
-                break;
+                return Ok(());
             }
         }
         Ok(())
@@ -196,6 +215,10 @@ impl<A: Allocator + Copy> Order<A> {
         ensures goes { (stream : List ℕ) → AreOf stream self.old.early.items
             → IfOk result (λ missing. GoesOn stream (self.old.given + missing) self.new.given output.old.items output.new.items) }
         ensures later { IfOk result (λ missing. self.old.given + missing ≤ self.new.given) }
+        // Those that are missing are counted, and nothing that waits is due.
+        ensures missing { self.old.given + gap self.old.given self.old.early.items < 2 ^ 64
+            → IfOk result (λ missing. missing ≡ gap self.old.given self.old.early.items) }
+        ensures none { OnOk result (AreEarly self.new.given self.new.early.items) }
     {
         if self.early.is_empty() {
             return Ok(0);
@@ -247,6 +270,10 @@ impl<A: Allocator + Copy> Order<A> {
         // A segment that does not come too early is given.
         ensures comes { place_in self.old sequence ≤ self.old.given → self.old.given + length octets.now + NUMBERS < 2 ^ 64
             → OnOk result (place_in self.old sequence + length octets.now ≤ self.new.given) }
+        // Nothing that waits is due, and nothing is missing where fewer wait.
+        ensures none { AreEarly self.old.given self.old.early.items → self.old.given + length octets.now + NUMBERS < 2 ^ 64
+            → OnOk result (AreEarly self.new.given self.new.early.items) }
+        ensures few { length self.old.early.items + 1 < MOST_EARLY → IfOk result (λ missing. missing ≡ 0) }
     {
         if octets.is_empty() {
             return Ok(0);

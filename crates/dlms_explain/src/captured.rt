@@ -1,8 +1,9 @@
 //! Captures, explained: the octets of each connection go to an explainer of its own.
 
 use crate::connection::Connection;
+use crate::json::{begin_note, end_note, write_note};
 use crate::session::Form;
-use crate::words::{line, number};
+use crate::words::number;
 use dlms_capture::{File, Next, Packet, Segment, segment_of};
 use std::alloc::{AllocError, Allocator};
 
@@ -94,7 +95,7 @@ impl<A: Allocator + Copy> Captured<A> {
                 Next::More => return Ok(()),
                 Next::Broken => {
                     self.is_broken = true;
-                    return line(text, 0, BROKEN);
+                    return write_note(text, self.form.json, BROKEN);
                 }
             }
         }
@@ -107,13 +108,15 @@ impl<A: Allocator + Copy> Captured<A> {
             connection.end(text)?;
         }
         if !self.is_broken && !self.file.is_whole() {
-            line(text, 0, CUT)?;
+            write_note(text, self.form.json, CUT)?;
         }
         if self.others == 0 {
             return Ok(());
         }
+        begin_note(text, self.form.json)?;
         text.push_str("(packets of other traffic: ")?;
         number(text, self.others)?;
-        text.push_str(")\n")
+        text.push_str(")")?;
+        end_note(text, self.form.json)
     }
 }

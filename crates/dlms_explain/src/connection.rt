@@ -27,7 +27,7 @@ enum Carries {
 #[derive(Drop)]
 pub struct Connection<A: Allocator> {
     alloc: A,
-    is_short: bool,
+    form: Form,
     /// The client's end, and the meter's.
     ends: Ends,
     up: Order<A>,
@@ -78,12 +78,12 @@ impl<A: Allocator + Copy> Connection<A> {
         };
         Connection {
             alloc,
-            is_short: form.short,
+            form,
             ends,
             up: Order::new(alloc),
             down: Order::new(alloc),
             carries: Carries::Nothing,
-            frames: Explainer::new(alloc, form.raw, form.short),
+            frames: Explainer::new(alloc, form),
             wrapped: Wrapped::new(alloc, form),
             fresh: Vec::new(alloc),
         }
@@ -141,7 +141,7 @@ impl<A: Allocator + Copy> Connection<A> {
         text: &mut String<A>,
     ) -> Result<(), AllocError> {
         let mut words = String::new(self.alloc);
-        write_segment(&mut words, self.is_short, stamp, ends)?;
+        write_segment(&mut words, self.form.is_one_line(), stamp, ends)?;
         match self.carries {
             Carries::Wrapped => self.wrapped.stamp(words.as_str(), text),
             _ => self.frames.stamp(words.as_str(), text),
@@ -172,7 +172,7 @@ impl<A: Allocator + Copy> Connection<A> {
             return Ok(true);
         }
         self.tell_stamp(stamp, segment.ends, text)?;
-        write_missing(text, missing)?;
+        write_missing(text, self.form.json, missing)?;
         self.tell(side, text)?;
         Ok(false)
     }
@@ -187,7 +187,7 @@ impl<A: Allocator + Copy> Connection<A> {
             if missing == 0 {
                 return Ok(());
             }
-            write_missing(text, missing)?;
+            write_missing(text, self.form.json, missing)?;
             self.tell(side, text)?;
         }
         Ok(())

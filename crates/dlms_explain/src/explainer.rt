@@ -4,17 +4,20 @@
 use crate::association_text;
 use crate::foreign_text::write_foreign;
 use crate::frame_text::{write_came, write_frame, write_information, write_no_llc, write_stray};
+use crate::json::write_note;
 use crate::service_text::{write_fault, write_joined, write_said, write_whole};
-use crate::short::{View, write_short};
-use crate::words::line;
+use crate::session::Form;
+use crate::short::{Beside, View, write_view};
+use crate::words::{end, line};
 use arrayvec::ArrayVec;
 use dlms_apdu::{Request, Response};
 use dlms_frame::Frame;
 use dlms_names::apdu_name;
 use dlms_talks::{
     Apdu, Came, Control, Fault, Found, Joined, Line, Numbers, Services, Side, Stretch, Talk, Talks,
-    acse_of, behind_llc, first_pair, first_piece, has_poll, heading_of, is_counted, line_of,
-    misfit, parameters_of, parties_of, read, read_apdu, side_of, without_secret,
+    acse_of, behind_llc, first_pair, first_piece, has_poll, heading_of, is_counted, left_of_acse,
+    line_of, misfit, parameters_of, parties_of, read, read_apdu, read_foreign, side_of,
+    without_secret,
 };
 use std::alloc::{AllocError, Allocator, Global};
 use std::str;
@@ -34,6 +37,12 @@ pub struct Explainer<A: Allocator = Global> {
 
 /// The most bytes of a line that are looked at at once.
 const MOST_PIECE: usize = 256;
+
+/// How many octets stand before an APDU in a frame (IEC 62056-46, the LLC sublayer).
+const LLC: usize = 3;
+
+/// How many octets stand behind the information of a frame: its check and its flag.
+const BEHIND: usize = 3;
 
 /// The lines of a request, and of what its blocks join to.
 fn explain_request<A: Allocator + Copy>(
@@ -97,15 +106,53 @@ fn write_unreadable<A: Allocator>(
     write_fault(text, name, fault)
 }
 
-/// The lines of an APDU.
+/// How many octets of an APDU stand before the first field that is told by its length or not at all: those may stand beside what
+/// is told of it, before it is taken. Of what is not readable none do.
+fn open_len<A: Allocator + Copy>(
+    services: &Services<A>,
+    apdu: &Apdu<'_, A>,
+    bytes: &[u8],
+) -> usize {
+    let closed = match apdu {
+        Apdu::Unreadable(_) => bytes.len(),
+        Apdu::Request(_) | Apdu::Response(_) | Apdu::Foreign(_) => match read_foreign(bytes) {
+            Some(foreign) => foreign.closed(services.values(foreign)),
+            None => bytes.len(),
+        },
+        _ => left_of_acse(bytes),
+    };
+    bytes.len().saturating_sub(closed)
+}
+
+/// The lines of an APDU, and where `hex` is set, how many of its octets may stand beside.
 pub fn explain_apdu<A: Allocator + Copy>(
+    text: &mut String<A>,
+    alloc: A,
+    hex: bool,
+    side: Option<Side>,
+    services: &mut Services<A>,
+    bytes: &[u8],
+) -> Result<usize, AllocError> {
+    let apdu = read_apdu(alloc, side, bytes)?;
+    let shown = if hex {
+        open_len(services, &apdu, bytes)
+    } else {
+        0
+    };
+    explain_read(text, alloc, side, services, bytes, apdu)?;
+    Ok(shown)
+}
+
+/// The lines of an APDU that was read.
+fn explain_read<A: Allocator + Copy>(
     text: &mut String<A>,
     alloc: A,
     side: Option<Side>,
     services: &mut Services<A>,
     bytes: &[u8],
+    apdu: Apdu<'_, A>,
 ) -> Result<(), AllocError> {
-    match read_apdu(alloc, side, bytes)? {
+    match apdu {
         Apdu::AssociationRequest(request) => {
             association_text::write_request(text, without_secret(&request), acse_of(bytes))
         }
@@ -130,20 +177,25 @@ pub fn explain_apdu<A: Allocator + Copy>(
     }
 }
 
-/// The lines of the APDU that the last information frame of this side was the end of.
+/// The lines of the APDU that the last information frame of this side was the end of, and how many of its octets may stand beside.
 fn explain_whole<A: Allocator + Copy>(
     text: &mut String<A>,
     alloc: A,
+    hex: bool,
     side: Option<Side>,
     talk: &mut Talk<A>,
-) -> Result<(), AllocError> {
+) -> Result<usize, AllocError> {
     match side {
         Some(Side::Meter) => {
-            explain_apdu(text, alloc, side, &mut talk.services, talk.meter.apdu())?;
+            let apdu = talk.meter.apdu();
+            let shown = explain_apdu(text, alloc, hex, side, &mut talk.services, apdu)?;
             talk.services.pass();
-            Ok(())
+            Ok(shown)
         }
-        _ => explain_apdu(text, alloc, side, &mut talk.services, talk.client.apdu()),
+        _ => {
+            let apdu = talk.client.apdu();
+            explain_apdu(text, alloc, hex, side, &mut talk.services, apdu)
+        }
     }
 }
 
@@ -152,43 +204,65 @@ fn explain_whole<A: Allocator + Copy>(
 fn explain_alone<A: Allocator + Copy>(
     text: &mut String<A>,
     alloc: A,
+    hex: bool,
     side: Option<Side>,
     raw: bool,
     info: &[u8],
-) -> Result<(), AllocError> {
-    match behind_llc(side, info) {
-        Some(apdu) => { explain_apdu(text, alloc, side, &mut Services::new(alloc, raw), apdu) }
-        None => write_no_llc(text),
-    }
+) -> Result<usize, AllocError> {
+    let Some(apdu) = behind_llc(side, info) else {
+        write_no_llc(text)?;
+        return Ok(0);
+    };
+    let shown = explain_apdu(text, alloc, hex, side, &mut Services::new(alloc, raw), apdu)?;
+    Ok(shown.saturating_add(LLC))
 }
 
-/// The lines of an information frame.
+/// The lines of an information frame, and how many octets of its information may stand beside: of an APDU in segments none.
 fn explain_information<A: Allocator + Copy>(
     text: &mut String<A>,
     alloc: A,
+    hex: bool,
     side: Option<Side>,
     talk: &mut Talk<A>,
     numbers: Numbers,
     frame: &Frame<'_>,
-) -> Result<(), AllocError> {
+) -> Result<usize, AllocError> {
     let info = frame.info;
     let came = talk.take(alloc, side, numbers, frame.segmented, info)?;
     write_came(text, came)?;
     let raw = talk.services.is_raw();
     match came {
-        Came::Apart => explain_alone(text, alloc, side, raw, info),
-        Came::NoPoll if !frame.segmented => explain_alone(text, alloc, side, raw, info),
-        Came::Whole(_) => explain_whole(text, alloc, side, talk),
-        _ => Ok(()),
+        Came::Apart => explain_alone(text, alloc, hex, side, raw, info),
+        Came::NoPoll if !frame.segmented => explain_alone(text, alloc, hex, side, raw, info),
+        Came::Whole(count) => {
+            let shown = explain_whole(text, alloc, hex, side, talk)?;
+            Ok(if count == 1 {
+                shown.saturating_add(LLC)
+            } else {
+                0
+            })
+        }
+        _ => Ok(0),
     }
 }
 
-/// The lines of the parameters of an SNRM or a UA, where it has any.
-fn explain_parameters<A: Allocator>(text: &mut String<A>, info: &[u8]) -> Result<(), AllocError> {
+/// The lines of the parameters of an SNRM or a UA, where it has any, and how many octets of these may stand beside: all but those
+/// behind the parameters, where each is readable.
+fn explain_parameters<A: Allocator>(
+    text: &mut String<A>,
+    info: &[u8],
+) -> Result<usize, AllocError> {
     if info.is_empty() {
-        return Ok(());
+        return Ok(0);
     }
-    write_information(text, parameters_of(info))
+    let parameters = parameters_of(info);
+    write_information(text, parameters)?;
+    Ok(match parameters {
+        Some(parameters) if parameters.wrong.is_none() => {
+            info.len().saturating_sub(parameters.behind)
+        }
+        _ => 0,
+    })
 }
 
 /// Whether a frame without numbers is heeded: with the poll bit, or from the meter the final bit, which are one bit; SNRM and DISC
@@ -201,14 +275,15 @@ fn is_heeded(side: Option<Side>, control: u8) -> bool {
     has_poll(control) && side != Some(other)
 }
 
-/// The lines of what a frame holds.
+/// The lines of what a frame holds, and how many octets of its information may stand beside.
 fn explain_content<A: Allocator + Copy>(
     text: &mut String<A>,
     alloc: A,
+    hex: bool,
     side: Option<Side>,
     talk: &mut Talk<A>,
     frame: &Frame<'_>,
-) -> Result<(), AllocError> {
+) -> Result<usize, AllocError> {
     let heeded = is_heeded(side, frame.control);
     match read(frame.control) {
         Control::Snrm => {
@@ -227,7 +302,7 @@ fn explain_content<A: Allocator + Copy>(
             if heeded {
                 talk.forget(alloc);
             }
-            Ok(())
+            Ok(0)
         }
         Control::Information { send, receive } => {
             let poll = has_poll(frame.control);
@@ -236,23 +311,42 @@ fn explain_content<A: Allocator + Copy>(
                 receive,
                 poll,
             };
-            explain_information(text, alloc, side, talk, numbers, frame)
+            explain_information(text, alloc, hex, side, talk, numbers, frame)
         }
         Control::Ready { receive } | Control::NotReady { receive } => {
             if side == Some(Side::Meter) {
                 talk.expect(alloc, receive);
             }
-            Ok(())
+            Ok(0)
         }
         Control::Ui => {
             let raw = talk.services.is_raw();
-            explain_alone(text, alloc, side, raw, frame.info)
+            explain_alone(text, alloc, hex, side, raw, frame.info)
         }
-        _ => Ok(()),
+        _ => Ok(0),
     }
 }
 
-/// What is told of a frame, in lines or in one.
+/// The octets of a frame that stand beside, of whose information so many may: all, or its head with those.
+fn beside_of<'a>(octets: &'a [u8], info: usize, shown: usize) -> Beside<'a> {
+    if shown >= info {
+        return Beside {
+            octets,
+            is_whole: true,
+        };
+    }
+    let len = octets
+        .len()
+        .saturating_sub(info)
+        .saturating_sub(BEHIND)
+        .saturating_add(shown);
+    Beside {
+        octets: octets.get(..len).unwrap_or(&[]),
+        is_whole: false,
+    }
+}
+
+/// What is told of a frame, whose octets are these.
 fn explain_frame<A: Allocator + Copy>(
     text: &mut String<A>,
     view: &mut View<A>,
@@ -260,26 +354,33 @@ fn explain_frame<A: Allocator + Copy>(
     said: Option<Side>,
     talks: &mut Talks<A>,
     frame: Frame<'_>,
+    octets: &[u8],
 ) -> Result<(), AllocError> {
     let side = side_of(said, &frame);
     let heading = heading_of(&frame);
+    let info = frame.info.len();
+    let hex = view.form.hex;
     let mut talk = talks.take(alloc, parties_of(side, &frame));
-    if view.is_short {
-        view.full.clear();
-        let explained = explain_content(&mut view.full, alloc, side, &mut talk, &frame);
+    if view.form.is_at_once() {
+        write_frame(text, side, heading)?;
+        end(text)?;
+        let explained = explain_content(text, alloc, hex, side, &mut talk, &frame);
         talks.put(talk)?;
         explained?;
-        return write_short(text, view, side, heading);
+        return Ok(());
     }
-    write_frame(text, side, heading)?;
-    let explained = explain_content(text, alloc, side, &mut talk, &frame);
+    view.full.clear();
+    let explained = explain_content(&mut view.full, alloc, hex, side, &mut talk, &frame);
     talks.put(talk)?;
-    explained
+    let shown = explained?;
+    let beside = beside_of(if hex { octets } else { &[] }, info, shown);
+    write_view(text, view, side, heading, beside)
 }
 
 /// The lines of the first bytes of a stretch, which belong to no frame.
 fn explain_stray<A: Allocator>(
     text: &mut String<A>,
+    is_json: bool,
     said: Option<Side>,
     stretch: &Stretch<A>,
     before: usize,
@@ -289,7 +390,7 @@ fn explain_stray<A: Allocator>(
     let mut rest = bytes;
     'pieces: while !rest.is_empty() {
         let piece = first_piece(rest);
-        write_stray(text, said, place, piece)?;
+        write_stray(text, is_json, said, place, piece)?;
         place = place.saturating_add(piece.len as u64);
         rest = &rest[piece.len..];
     }
@@ -310,8 +411,9 @@ fn explain_bytes<A: Allocator + Copy>(
     'frames: while !rest.is_empty() {
         let taken = stretch.feed(rest)?;
         if let Some(Found { frame, before }) = stretch.found() {
-            explain_stray(text, said, stretch, before)?;
-            let explained = explain_frame(text, view, alloc, said, talks, frame);
+            explain_stray(text, view.form.json, said, stretch, before)?;
+            let octets = stretch.behind(before);
+            let explained = explain_frame(text, view, alloc, said, talks, frame, octets);
             stretch.pass_frame();
             explained?;
         }
@@ -319,7 +421,7 @@ fn explain_bytes<A: Allocator + Copy>(
     }
     let old = stretch.old();
     if old > 0 {
-        explain_stray(text, said, stretch, old)?;
+        explain_stray(text, view.form.json, said, stretch, old)?;
         stretch.drop_front(old);
     }
     Ok(())
@@ -329,24 +431,20 @@ fn explain_bytes<A: Allocator + Copy>(
 const NO_TEXT: &str = "(a line that is no text)";
 
 /// A line that holds no bytes of a frame, as it is.
-fn pass<A: Allocator>(text: &mut String<A>, bytes: &[u8]) -> Result<(), AllocError> {
-    match str::from_utf8(bytes) {
-        Ok(words) => line(text, 0, words),
-        Err(_) => line(text, 0, NO_TEXT),
-    }
+fn pass<A: Allocator>(text: &mut String<A>, is_json: bool, bytes: &[u8]) -> Result<(), AllocError> {
+    write_note(text, is_json, str::from_utf8(bytes).unwrap_or(NO_TEXT))
 }
 
 impl<A: Allocator + Copy> Explainer<A> {
-    /// Before the first line; where `raw` is set, strings that may be a secret are told as they are, and where `is_short` is, a frame
-    /// is told in one line. No memory is taken here.
-    pub fn new(alloc: A, raw: bool, is_short: bool) -> Self {
+    /// Before the first line. No memory is taken here.
+    pub fn new(alloc: A, form: Form) -> Self {
         Explainer {
             alloc,
             client: Stretch::new(alloc),
             meter: Stretch::new(alloc),
             bare: Stretch::new(alloc),
-            talks: Talks::new(alloc, raw),
-            view: View::new(alloc, is_short),
+            talks: Talks::new(alloc, form.raw),
+            view: View::new(alloc, form),
         }
     }
 
@@ -396,7 +494,7 @@ impl<A: Allocator + Copy> Explainer<A> {
 
     /// The words that stand before octets, as their time: a line, or in front of each frame's.
     pub fn stamp(&mut self, words: &str, text: &mut String<A>) -> Result<(), AllocError> {
-        if self.view.is_short {
+        if self.view.form.is_one_line() {
             self.view.stamp.clear();
             return self.view.stamp.push_str(words);
         }
@@ -428,7 +526,14 @@ impl<A: Allocator + Copy> Explainer<A> {
 
     /// What is left of the client's bytes is no frame, and a new stretch begins.
     fn end_client(&mut self, text: &mut String<A>) -> Result<(), AllocError> {
-        explain_stray(text, Some(Side::Client), &self.client, self.client.len())?;
+        let is_json = self.view.form.json;
+        explain_stray(
+            text,
+            is_json,
+            Some(Side::Client),
+            &self.client,
+            self.client.len(),
+        )?;
         self.client.reset();
         Ok(())
     }
@@ -437,9 +542,13 @@ impl<A: Allocator + Copy> Explainer<A> {
     /// with what stood before each and is none; before them the words of a log, as its time. A line without bytes is passed on as
     /// it is. Where memory is refused the text may end within a line.
     pub fn line(&mut self, line: &[u8], text: &mut String<A>) -> Result<(), AllocError> {
+        let is_json = self.view.form.json;
         match line_of(line) {
-            Line::Pairs(said, digits) => self.pairs(said, digits, text),
-            Line::NoPairs => pass(text, b"(no pairs of hexadecimal digits)"),
+            Line::Pairs(said, digits) => {
+                self.view.stamp.clear();
+                self.pairs(said, digits, text)
+            }
+            Line::NoPairs => pass(text, is_json, b"(no pairs of hexadecimal digits)"),
             Line::Logged(words, side, digits) => {
                 let words = str::from_utf8(words.trim_ascii()).unwrap_or(NO_TEXT);
                 self.stamp(words, text)?;
@@ -447,23 +556,30 @@ impl<A: Allocator + Copy> Explainer<A> {
             }
             Line::Silence => {
                 self.end_client(text)?;
-                pass(text, line)
+                pass(text, is_json, line)
             }
             Line::Stop => {
                 self.end_client(text)?;
                 self.talks.reset();
-                pass(text, line)
+                pass(text, is_json, line)
             }
-            Line::Other => pass(text, line),
+            Line::Other => pass(text, is_json, line),
         }
     }
 
     /// Appends to the text what is told of the bytes behind the last frames, which are none. New stretches begin.
     pub fn end(&mut self, text: &mut String<A>) -> Result<(), AllocError> {
+        let is_json = self.view.form.json;
         self.end_client(text)?;
-        explain_stray(text, Some(Side::Meter), &self.meter, self.meter.len())?;
+        explain_stray(
+            text,
+            is_json,
+            Some(Side::Meter),
+            &self.meter,
+            self.meter.len(),
+        )?;
         self.meter.reset();
-        explain_stray(text, None, &self.bare, self.bare.len())?;
+        explain_stray(text, is_json, None, &self.bare, self.bare.len())?;
         self.bare.reset();
         Ok(())
     }

@@ -1,5 +1,6 @@
 //! The line of a frame, and the lines of what is no frame.
 
+use crate::json::{begin_note, end_note};
 use crate::words::{begin, end, line, number};
 use dlms_frame::{Address, Client};
 use dlms_talks::{
@@ -95,7 +96,7 @@ fn poll_words(side: Option<Side>, octet: u8) -> &'static str {
     }
 }
 
-/// The line of a frame. The deframer gives frames alone of which each check is right.
+/// The words of a frame, without the end of their line. The deframer gives frames alone of which each check is right.
 pub fn write_frame<A: Allocator>(
     text: &mut String<A>,
     side: Option<Side>,
@@ -115,8 +116,7 @@ pub fn write_frame<A: Allocator>(
         "; header and frame check right"
     } else {
         "; check right"
-    })?;
-    end(text)
+    })
 }
 
 /// The line of a parameter that is there.
@@ -209,11 +209,13 @@ fn write_damage<A: Allocator>(text: &mut String<A>, damage: Damage) -> Result<()
 /// The line of bytes that are no frame, with their places in the stretch, of which the first is 0.
 pub fn write_stray<A: Allocator>(
     text: &mut String<A>,
+    is_json: bool,
     side: Option<Side>,
     place: u64,
     piece: Piece,
 ) -> Result<(), AllocError> {
     let len = piece.len as u64;
+    begin_note(text, is_json)?;
     text.push_str(sign(side))?;
     text.push_str("octets ")?;
     number(text, place)?;
@@ -223,7 +225,7 @@ pub fn write_stray<A: Allocator>(
     if let Some(damage) = piece.damage {
         write_damage(text, damage)?;
     }
-    end(text)
+    end_note(text, is_json)
 }
 
 /// What is said of information without the LLC.

@@ -10,6 +10,7 @@ mod explainer;
 mod fault;
 mod foreign_text;
 mod frame_text;
+mod json;
 mod names_text;
 mod node_text;
 mod place_text;

@@ -2,6 +2,7 @@
 
 ghost use Rattle.std.specs.Prelude.{◌≤◌};
 
+use crate::json::{begin_note, end_note};
 use crate::words::{hexadecimal, number, two_digits};
 use dlms_capture::{Address, Ends, Place, Stamp};
 use dlms_data::{LAST_SECOND, octets};
@@ -112,14 +113,14 @@ fn write_place<A: Allocator>(text: &mut String<A>, place: Place) -> Result<(), A
 /// When a segment came, in UTC, and from where to where; in one line with what it holds the time alone.
 pub fn write_segment<A: Allocator>(
     text: &mut String<A>,
-    is_short: bool,
+    is_one_line: bool,
     stamp: Option<Stamp>,
     ends: Ends,
 ) -> Result<(), AllocError> {
     if let Some(stamp) = stamp {
         write_stamp(text, stamp)?;
     }
-    if is_short {
+    if is_one_line {
         return Ok(());
     }
     if stamp.is_some() {
@@ -131,11 +132,17 @@ pub fn write_segment<A: Allocator>(
 }
 
 /// The line of octets that a capture does not have, where there are some.
-pub fn write_missing<A: Allocator>(text: &mut String<A>, count: u64) -> Result<(), AllocError> {
+pub fn write_missing<A: Allocator>(
+    text: &mut String<A>,
+    is_json: bool,
+    count: u64,
+) -> Result<(), AllocError> {
     if count == 0 {
         return Ok(());
     }
+    begin_note(text, is_json)?;
     text.push_str("(octets that the capture does not have: ")?;
     number(text, count)?;
-    text.push_str(")\n")
+    text.push_str(")")?;
+    end_note(text, is_json)
 }

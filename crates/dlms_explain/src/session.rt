@@ -5,6 +5,7 @@ ghost use Rattle.std.specs.Prelude.{◌≤◌, length, IfOk};
 use crate::captured::Captured;
 use crate::explainer::Explainer;
 use crate::fault::ExplainFault;
+use crate::json::write_note;
 use dlms_capture::is_capture;
 use memchr::memchr;
 use std::alloc::{AllocError, Allocator};
@@ -20,7 +21,7 @@ const ROOM: usize = 4096;
 const FRONT: usize = 4;
 
 /// What is told of a line that is too long.
-const TOO_LONG: &str = "(a line of more than 65536 octets)\n";
+const TOO_LONG: &str = "(a line of more than 65536 octets)";
 
 /// Writes text, which is let go.
 fn write_text<A: Allocator, W: Write>(
@@ -39,12 +40,39 @@ pub struct Form {
     pub raw: bool,
     /// A frame is told in one line: its time, its ends, its service and what that says, but for the parts of a value.
     pub short: bool,
+    /// A frame's octets stand beside, up to the first that is told by its length or not at all.
+    pub hex: bool,
+    /// A frame is told as an object of JSON, in one line.
+    pub json: bool,
+}
+
+impl Form {
+    /// In lines, and without strings that may be a secret.
+    pub fn full() -> Form {
+        Form {
+            raw: false,
+            short: false,
+            hex: false,
+            json: false,
+        }
+    }
+
+    /// Whether what is told of a frame is written as it comes, and not put together behind it.
+    pub fn is_at_once(self) -> bool {
+        !self.short && !self.hex && !self.json
+    }
+
+    /// Whether a frame is told in one line, in which its time stands too.
+    pub fn is_one_line(self) -> bool {
+        self.short || self.json
+    }
 }
 
 /// An explanation under way: the line that comes, and the text that is not written yet.
 #[derive(Drop)]
 struct Session<A: Allocator> {
     explainer: Explainer<A>,
+    is_json: bool,
     line: Vec<u8, A>,
     is_long: bool,
     text: String<A>,
@@ -54,7 +82,8 @@ impl<A: Allocator + Copy> Session<A> {
     /// Before the first octet. No memory is taken here.
     fn new(alloc: A, form: Form) -> Self {
         Session {
-            explainer: Explainer::new(alloc, form.raw, form.short),
+            explainer: Explainer::new(alloc, form),
+            is_json: form.json,
             line: Vec::new(alloc),
             is_long: false,
             text: String::new(alloc),
@@ -77,7 +106,7 @@ impl<A: Allocator + Copy> Session<A> {
     /// A line is whole: what is told of it.
     fn tell_line(&mut self) -> Result<(), AllocError> {
         if self.is_long {
-            self.text.push_str(TOO_LONG)?;
+            write_note(&mut self.text, self.is_json, TOO_LONG)?;
         } else {
             self.explainer.line(self.line.as_slice(), &mut self.text)?;
         }

@@ -1,6 +1,9 @@
-//! A frame in one line: its columns, made of what is told of it in full.
+//! A frame in one line, or with its octets beside: made of what is told of it in full.
 
-use crate::words::number;
+use crate::frame_text::write_frame;
+use crate::json::{write_json, write_json_wrapped};
+use crate::session::Form;
+use crate::words::{end, number, octets};
 use dlms_frame::Address;
 use dlms_talks::{Control, Heading, Side, lower, name_of, read, upper};
 use std::alloc::{AllocError, Allocator};
@@ -13,8 +16,7 @@ const SERVICE: usize = 36;
 /// How an explanation is written, and what it keeps for that.
 #[derive(Drop)]
 pub struct View<A: Allocator> {
-    /// Whether a frame is told in one line.
-    pub is_short: bool,
+    pub form: Form,
     /// The time of the octets that come, as their log or capture has it.
     pub stamp: String<A>,
     /// What is told of a frame in full.
@@ -23,9 +25,9 @@ pub struct View<A: Allocator> {
 
 impl<A: Allocator + Copy> View<A> {
     /// Before the first frame. No memory is taken here.
-    pub fn new(alloc: A, is_short: bool) -> Self {
+    pub fn new(alloc: A, form: Form) -> Self {
         View {
-            is_short,
+            form,
             stamp: String::new(alloc),
             full: String::new(alloc),
         }
@@ -87,7 +89,7 @@ fn depth(line: &str) -> usize {
 }
 
 /// The words of a line up to what the column of the service leaves out.
-fn service(line: &str) -> &str {
+pub fn service(line: &str) -> &str {
     match line.split_once(", invoke-id") {
         Some((name, _)) => name,
         None => line,
@@ -133,17 +135,38 @@ fn write_rest<A: Allocator>(text: &mut String<A>, view: &View<A>) -> Result<(), 
     Ok(())
 }
 
+/// Octets that stand beside; of what is not whole two points tell it.
+#[derive(Clone, Copy)]
+pub struct Beside<'a> {
+    pub octets: &'a [u8],
+    pub is_whole: bool,
+}
+
+/// The octets beside, where there are some.
+pub fn write_beside<A: Allocator>(
+    text: &mut String<A>,
+    beside: Beside<'_>,
+) -> Result<(), AllocError> {
+    if beside.octets.is_empty() {
+        return Ok(());
+    }
+    text.push_str(" | ")?;
+    octets(text, beside.octets)?;
+    text.push_str(if beside.is_whole { "" } else { " .." })
+}
+
 /// Whether a frame with this control field holds what is told below it.
-fn has_service(control: Control) -> bool {
+pub fn has_service(control: Control) -> bool {
     matches!(control, Control::Information { .. } | Control::Ui)
 }
 
 /// The line of a frame: the time, the ends, and the service with what stands below it in full, or the control field.
-pub fn write_short<A: Allocator>(
+fn write_short<A: Allocator>(
     text: &mut String<A>,
     view: &View<A>,
     side: Option<Side>,
     heading: Heading,
+    beside: Beside<'_>,
 ) -> Result<(), AllocError> {
     write_front(text, view)?;
     write_ends(text, side, heading)?;
@@ -153,16 +176,41 @@ pub fn write_short<A: Allocator>(
     } else {
         write_control(text, control)?;
     }
-    text.push_str("\n")
+    write_beside(text, beside)?;
+    end(text)
+}
+
+/// What is told of a frame, put together as the form asks for it.
+pub fn write_view<A: Allocator>(
+    text: &mut String<A>,
+    view: &View<A>,
+    side: Option<Side>,
+    heading: Heading,
+    beside: Beside<'_>,
+) -> Result<(), AllocError> {
+    if view.form.json {
+        return write_json(text, view, side, heading, beside.octets);
+    }
+    if view.form.short {
+        return write_short(text, view, side, heading, beside);
+    }
+    write_frame(text, side, heading)?;
+    write_beside(text, beside)?;
+    end(text)?;
+    text.push_str(view.full.as_str())
 }
 
 /// The line of an APDU in the wrapper: the time, the client's port and the meter's, and the service.
-pub fn write_short_wrapped<A: Allocator>(
+pub fn write_wrapped<A: Allocator>(
     text: &mut String<A>,
     view: &View<A>,
     side: Side,
     ports: (u16, u16),
+    beside: Beside<'_>,
 ) -> Result<(), AllocError> {
+    if view.form.json {
+        return write_json_wrapped(text, view, side, ports, beside.octets);
+    }
     write_front(text, view)?;
     let from = text.len();
     number(text, u64::from(ports.0))?;
@@ -170,5 +218,6 @@ pub fn write_short_wrapped<A: Allocator>(
     number(text, u64::from(ports.1))?;
     fill(text, from, ENDS)?;
     write_rest(text, view)?;
-    text.push_str("\n")
+    write_beside(text, beside)?;
+    end(text)
 }

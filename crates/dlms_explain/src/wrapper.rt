@@ -1,9 +1,10 @@
 //! APDUs in the wrapper of IEC 62056-47: behind a head of its version, the two ports and the length.
 
 use crate::explainer::explain_apdu;
+use crate::json::write_note;
 use crate::session::Form;
-use crate::short::{View, write_short_wrapped};
-use crate::words::{line, number};
+use crate::short::{Beside, View, write_beside, write_wrapped};
+use crate::words::{end, line, number};
 use byteorder::{BigEndian, ByteOrder};
 use dlms_talks::{Services, Side};
 use std::alloc::{AllocError, Allocator};
@@ -49,7 +50,7 @@ fn head_of(octets: &[u8]) -> Option<Head> {
     })
 }
 
-/// The line of a head.
+/// The words of a head, without the end of their line.
 fn write_head<A: Allocator>(
     text: &mut String<A>,
     side: Side,
@@ -63,8 +64,7 @@ fn write_head<A: Allocator>(
     text.push_str(" to ")?;
     number(text, u64::from(head.to))?;
     text.push_str("; length ")?;
-    number(text, head.len as u64)?;
-    text.push_str("\n")
+    number(text, head.len as u64)
 }
 
 /// What is told where no head stands.
@@ -83,7 +83,7 @@ impl<A: Allocator + Copy> Wrapped<A> {
             meter: Vec::new(alloc),
             ports: (0, 0),
             services: Services::new(alloc, form.raw),
-            view: View::new(alloc, form.short),
+            view: View::new(alloc, form),
         }
     }
 
@@ -101,30 +101,66 @@ impl<A: Allocator + Copy> Wrapped<A> {
 
     /// When octets came: a line, or in front of each APDU's.
     pub fn stamp(&mut self, words: &str, text: &mut String<A>) -> Result<(), AllocError> {
-        if self.view.is_short {
+        if self.view.form.is_one_line() {
             self.view.stamp.clear();
             return self.view.stamp.push_str(words);
         }
         line(text, 0, words)
     }
 
-    /// What is told of an APDU.
+    /// What is told of an APDU, behind its head, put together as the form asks for it.
+    fn tell_view(
+        &mut self,
+        side: Side,
+        head: Head,
+        whole: &[u8],
+        text: &mut String<A>,
+    ) -> Result<(), AllocError> {
+        let apdu = whole.get(HEAD..).unwrap_or(&[]);
+        let hex = self.view.form.hex;
+        self.view.full.clear();
+        let full = &mut self.view.full;
+        let shown = explain_apdu(full, self.alloc, hex, Some(side), &mut self.services, apdu)?;
+        let beside = Beside {
+            octets: if hex {
+                whole.get(..shown.saturating_add(HEAD)).unwrap_or(whole)
+            } else {
+                &[]
+            },
+            is_whole: shown >= apdu.len(),
+        };
+        if self.view.form.is_one_line() {
+            return write_wrapped(text, &self.view, side, self.ports, beside);
+        }
+        write_head(text, side, head)?;
+        write_beside(text, beside)?;
+        end(text)?;
+        text.push_str(self.view.full.as_str())
+    }
+
+    /// What is told of an APDU, which stands behind its head.
     fn tell(
         &mut self,
         side: Side,
         head: Head,
-        apdu: &[u8],
+        whole: &[u8],
         text: &mut String<A>,
     ) -> Result<(), AllocError> {
         self.follow(side, head);
-        if self.view.is_short {
-            self.view.full.clear();
-            let full = &mut self.view.full;
-            explain_apdu(full, self.alloc, Some(side), &mut self.services, apdu)?;
-            write_short_wrapped(text, &self.view, side, self.ports)?;
-        } else {
+        if self.view.form.is_at_once() {
+            let apdu = whole.get(HEAD..).unwrap_or(&[]);
             write_head(text, side, head)?;
-            explain_apdu(text, self.alloc, Some(side), &mut self.services, apdu)?;
+            end(text)?;
+            explain_apdu(
+                text,
+                self.alloc,
+                false,
+                Some(side),
+                &mut self.services,
+                apdu,
+            )?;
+        } else {
+            self.tell_view(side, head, whole, text)?;
         }
         if side == Side::Meter {
             self.services.pass();
@@ -145,14 +181,14 @@ impl<A: Allocator + Copy> Wrapped<A> {
                 break;
             };
             if head.version != VERSION {
-                line(text, 0, NO_WRAPPER)?;
+                write_note(text, self.view.form.json, NO_WRAPPER)?;
                 return Ok(octets.len());
             }
-            let behind = rest.get(HEAD..).unwrap_or(&[]);
-            let (Some(apdu), Some(next)) = (behind.get(..head.len), behind.get(head.len..)) else {
+            let len = head.len.saturating_add(HEAD);
+            let (Some(whole), Some(next)) = (rest.get(..len), rest.get(len..)) else {
                 break;
             };
-            self.tell(side, head, apdu, text)?;
+            self.tell(side, head, whole, text)?;
             rest = next;
         }
         Ok(octets.len().saturating_sub(rest.len()))
@@ -188,6 +224,6 @@ impl<A: Allocator + Copy> Wrapped<A> {
         if self.client.is_empty() && self.meter.is_empty() {
             return Ok(());
         }
-        line(text, 0, NOT_WHOLE)
+        write_note(text, self.view.form.json, NOT_WHOLE)
     }
 }

@@ -3,6 +3,7 @@ pub mod HistoryLemmas
 pub mod LineLemmas
 pub mod LogLemmas
 pub mod ParameterLemmas
+pub mod OpenlyLemmas
 pub mod PlaceLemmas
 pub mod StretchLemmas
 pub mod SurveyLemmas

@@ -26,6 +26,9 @@ read-more steps octets (u ∷ us) behind next rest left t read is =
 some-same : (o : Option (Told × List Step × List ℕ)) (x y : Told × List Step × List ℕ) → o ≡ Some x → o ≡ Some y → x ≡ y
 some-same o x y a b = cc
 
+pub next-same : (o : Option (Told × List Step × List ℕ)) (x y : Told × List Step × List ℕ) → o ≡ Some x → o ≡ Some y → x ≡ y
+next-same o x y a b = some-same o x y a b
+
 -- ---- what spells the whole spells what is left
 
 pub left-spells : (steps : List Step) (octets : List ℕ) (ts us : List Told) (behind : List Step) (rest : List ℕ)
@@ -83,6 +86,15 @@ next-long : (step : Step) (steps : List Step) (octets : List ℕ) (t : Told) (ne
     → next_of (step ∷ steps) octets ≡ Some (t, next, left) → (length left < length octets) × (length steps ≤ length next)
 next-long (One field) steps octets t next left is = field-long field steps octets (front_at field octets) t next left is
 next-long (Many field) steps octets t next left is = list-long field steps octets (length_at octets) t next left is
+
+pub read-shorter : (steps : List Step) (octets : List ℕ) (ts : List Told) (behind : List Step) (rest : List ℕ) → IsRead steps octets ts behind rest → length rest ≤ length octets
+read-shorter steps octets [] behind rest read = let e : octets ≡ rest = read.1 in let f : length octets ≡ length rest = ap length e in omega (arith, f)
+read-shorter [] octets (t ∷ ts) behind rest read = let e : None ≡ Some (t, read.0, read.1) = read.2.0 in cc
+read-shorter (s ∷ steps) octets (t ∷ ts) behind rest read =
+    let both = next-long s steps octets t read.0 read.1 read.2.0 in
+    let a : length read.1 < length octets = both.0 in
+    let b : length rest ≤ length read.1 = read-shorter read.0 read.1 ts behind rest read.2.1 in
+    omega (arith, a, b)
 
 pub spells-long : (steps : List Step) (octets : List ℕ) (ts : List Told) → Spells steps octets ts → length steps ≤ length octets
 spells-long [] octets ts whole = omega arith

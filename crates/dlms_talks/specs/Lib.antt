@@ -15,6 +15,7 @@ pub mod Joining
 pub mod Lines
 pub mod Names
 pub mod Nodes
+pub mod Openly
 pub mod Parameters
 pub mod Parties
 pub mod Places

@@ -50,7 +50,7 @@ fn counted_at(bytes: &[u8]) -> Option<(&[u8], &[u8])>
 }
 
 /// The field at the front: its tag, its value, and what stands behind it.
-fn field_at(bytes: &[u8]) -> Option<(u8, &[u8], &[u8])>
+pub fn field_at(bytes: &[u8]) -> Option<(u8, &[u8], &[u8])>
     ensures exact { option_map (λ r. (r.0, r.1.now, r.2.now)) result ≡ field_at bytes.now }
     ensures shorter { IfSome result (λ r. length r.2.now < length bytes.now) }
 {

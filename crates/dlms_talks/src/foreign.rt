@@ -4,12 +4,14 @@ ghost use Rattle.std.specs.Prelude.{◌≡◌, option_map, IfSome};
 ghost use Rattle.dlms_talks.specs.Foreign.{IsForeign, asked_by, role_of};
 ghost use Rattle.dlms_talks.specs.Forms.{form_at, row_of};
 ghost use Rattle.dlms_talks.specs.Items.{IsItem};
+ghost use Rattle.dlms_talks.specs.Openly.{Leaves};
 ghost use Rattle.dlms_talks.specs.declared.walk.Event.{Event};
 
 use crate::fields::Field;
 use crate::forms::{Form, form_at};
 use crate::items::{Item, item_of};
 use crate::named::Asked;
+use crate::openly::left_of;
 use crate::secrecy::Secrecy;
 use crate::survey::{Survey, survey_of};
 use crate::walk::{Event, Walk};
@@ -83,6 +85,14 @@ impl<'a> Foreign<'a> {
             (Some(invoke), Some(named)) => Some(Asked { invoke, named }),
             _ => None,
         }
+    }
+
+    /// How many of its octets stand from the first field on that is told by its length or not at all, where this is known of its
+    /// values. Those before may stand beside what is told of it (`laws::no_octet_beside_a_secret`).
+    pub fn closed(self, secrecy: Secrecy) -> usize
+        ensures { Leaves secrecy self.entry.form.steps.now self.entry.fields.now result }
+    {
+        left_of(secrecy, Walk::new(self.form.steps, self.fields))
     }
 
     /// Its fields, one after another, where this is known of its values.

@@ -45,7 +45,7 @@ pub enum Item<'a> {
 }
 
 /// The tag of a value; 0 of no octets.
-fn tag_of(octets: &[u8]) -> u8
+pub fn tag_of(octets: &[u8]) -> u8
     ensures { result ≡ tag_of octets.now }
 {
     match octets {
@@ -55,7 +55,7 @@ fn tag_of(octets: &[u8]) -> u8
 }
 
 /// Whether values with this tag are strings: bit-string, octet-string, visible-string, utf8-string, compact-array.
-fn is_string(tag: u8) -> bool
+pub fn is_string(tag: u8) -> bool
     ensures { result ≡ is_string tag }
 {
     matches!(tag, 4 | 9 | 10 | 12 | 19)
@@ -130,7 +130,7 @@ fn ciphered<'a>(octets: &[u8]) -> Item<'a>
 }
 
 /// Whether a block stands in a field, and not a result.
-fn has_block(octets: &[u8]) -> bool
+pub fn has_block(octets: &[u8]) -> bool
     ensures { result ≡ has_block octets.now }
 {
     match octets {

@@ -1,6 +1,6 @@
 //! Laws of what is told. They make no call.
 
-ghost use Rattle.std.specs.Prelude.{◌≡◌, ◌⊎◌, ℕ, List, Some};
+ghost use Rattle.std.specs.Prelude.{◌≡◌, ◌≤◌, ◌⊎◌, ℕ, List, Some, false, length};
 ghost use Rattle.dlms_acse.specs.Verdict.{Request};
 ghost use Rattle.dlms_talks.specs.declared.joining.TheConstants.{MOST_VALUE};
 ghost use Rattle.dlms_talks.specs.declared.named.Asked.{Asked};
@@ -10,9 +10,12 @@ ghost use Rattle.dlms_talks.specs.Association.{told_of};
 ghost use Rattle.dlms_talks.specs.History.{AreUnbroken, IsKept, Step, WasAsked, talk_after_all};
 ghost use Rattle.dlms_talks.specs.Secrets.{secrecy_at};
 ghost use Rattle.dlms_talks.specs.Survey.{Names, noted_all, nothing, secrecy_of_named};
-ghost use Rattle.dlms_talks.specs.Walk.{Told};
+ghost use Rattle.dlms_talks.specs.Openly.{Leaves, is_open};
+ghost use Rattle.dlms_talks.specs.Walk.{IsRead, Told, next_of};
 ghost use Rattle.dlms_talks.specs.declared.named.Named.{Named};
+ghost use Rattle.dlms_talks.specs.declared.secrecy.Secrecy.{Secrecy};
 ghost use Rattle.dlms_talks.specs.declared.secrecy.Secrecy.TheVariants.{Secret};
+ghost use Rattle.dlms_talks.specs.declared.walk.Step.{Step as WalkStep};
 
 use crate::talks::Talk;
 use std::alloc::Allocator;
@@ -32,6 +35,12 @@ pub fn only_what_was_asked<A: Allocator>(_talk: &Talk<A>)
 /// Where a field of an APDU names a secret, all its values are told as secrets, in whichever order it names others.
 pub fn one_secret_hides_all()
     ensures { (ts : List Told) (n : Named) → Names ts n → secrecy_at n ≡ Secret → secrecy_of_named (noted_all nothing ts).chief ≡ Secret }
+{}
+
+/// No octet stands beside what is told of an APDU from the first field on that is told by its length or not at all: all its octets,
+/// and those behind it, are among those that are left.
+pub fn no_octet_beside_a_secret()
+    ensures { (known : Secrecy) (steps behind next : List WalkStep) (octets rest left : List ℕ) (before : List Told) (t : Told) (count : ℕ) → Leaves known steps octets count → IsRead steps octets before behind rest → next_of behind rest ≡ Some (t, next, left) → is_open known t ≡ false → length rest ≤ count }
 {}
 
 /// The numbers of this crate.

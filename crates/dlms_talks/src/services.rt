@@ -202,6 +202,20 @@ impl<A: Allocator + Copy> Services<A> {
         }
     }
 
+    /// How the values of an APDU are told that the reader of all forms gave, before it is taken.
+    pub fn values(&self, foreign: Foreign<'_>) -> Secrecy
+        ensures { result ≡ values_of (role_of foreign.entry.tag) self.now.raw self.now.asked foreign.entry.survey }
+    {
+        match foreign.role() {
+            Role::Asks | Role::Says => { told_as(self.raw, secrecy_of_named(foreign.survey.chief)) }
+            Role::Answers => {
+                let of = answered_by(self.asked, foreign.survey.invoke);
+                told_as(self.raw, secrecy_of(of))
+            }
+            Role::AnswersUnfollowed => Secrecy::Unknown,
+        }
+    }
+
     /// Takes an APDU that the reader of other forms gave: how its values are told.
     pub fn hear(&mut self, alloc: A, foreign: Foreign<'_>) -> Secrecy
         ensures values { result ≡ values_of (role_of foreign.entry.tag) self.old.raw self.old.asked foreign.entry.survey }

@@ -106,6 +106,13 @@ impl<A: Allocator> Stretch<A> {
         )
     }
 
+    /// The kept bytes behind this many.
+    pub fn behind(&self, before: usize) -> &[u8]
+        ensures { result.now ≡ drop before self.now.kept.items }
+    {
+        &self.kept[before.min(self.kept.len())..]
+    }
+
     /// How many of the kept bytes are too old to belong to a frame that is still to come.
     pub fn old(&self) -> usize
         ensures { result ≡ (if nat_lt MOST_KEPT (length self.now.kept.items) then length self.now.kept.items - MOST_FRAME else 0) }

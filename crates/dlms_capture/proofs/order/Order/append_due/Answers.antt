@@ -16,8 +16,8 @@ due-preserved g c =
       omega arith,
     )
 
-pub returns-after-due-clause-early : goal.returns-after-due-clause-early
-returns-after-due-clause-early g c = λ stream are. (c.due.invariant.0 stream are).0
+pub returns-clause-early : goal.returns-clause-early
+returns-clause-early g c = λ stream are. (c.due.invariant.0 stream are).0
 
 pub returns-then-not-branch-clause-early : goal.returns-then-not-branch-clause-early
 returns-then-not-branch-clause-early g c = λ stream are. c.append_one.ensures.early stream (c.due.invariant.0 stream are).0
