@@ -1,7 +1,7 @@
 -- What is asked over a line: frames of the client, and turns of its end, one after another.
 use Rattle.std.specs.Prelude.{◌≡◌, ◌+◌, ℕ, List, [], ◌∷◌, Option, Some, None, Result, Ok, Err}
 use Rattle.dlms_apdu.specs.Forms.{RequestForm}
-use Rattle.dlms_client.specs.Calls.{Asks, Begins, IsFree, Leaves}
+use Rattle.dlms_client.specs.Calls.{Asks, Begins, Leaves}
 use Rattle.dlms_client.specs.ClientValue.{ClientValue}
 use Rattle.dlms_client.specs.declared.answer.Answer.{Answer}
 use Rattle.dlms_client.specs.declared.ask_fault.AskFault.{AskFault}
@@ -9,9 +9,9 @@ use Rattle.dlms_client.specs.declared.ask_fault.AskFault.TheVariants as ask
 use Rattle.dlms_client.specs.declared.fault.Fault.TheVariants as fault
 use Rattle.dlms_client.specs.declared.stage.Asked.{Asked}
 use Rattle.dlms_frame.specs.Frame.{Parts, spelling}
-use Rattle.dlms_loopback.specs.Moments.{Moment, Adds, Breaks}
-use Rattle.dlms_loopback.specs.Moments.Moment.{Went}
-use Rattle.dlms_call.specs.Talking.{IsOfSystem, Turned}
+use Rattle.dlms_ends.specs.Moments.{Moment, Adds, Breaks}
+use Rattle.dlms_ends.specs.Moments.Moment.{Went}
+use Rattle.dlms_call.specs.Talking.{IsOfSystem, TakesTurn, TalkWorld, first_world}
 use Rattle.dlms_call.specs.declared.asking.TheConstants.{TURNS}
 use Rattle.dlms_call.specs.declared.client_end.Turn.{Turn}
 use Rattle.dlms_call.specs.declared.client_end.Turn.TheVariants.{Sent, Associated, Answered, Down}
@@ -21,9 +21,9 @@ use Rattle.dlms_call.specs.declared.fault.CallFault.TheVariants.{Talk, TooLong, 
 -- ---- turns, until something is told
 
 -- at each of so many turns a frame went out, and no more
-pub data SendsOn (old : Option (List Moment)) (c : ClientValue) : ℕ → Option (List Moment) → ClientValue → Type 0 where
-  NoTurn : SendsOn old c 0 old c
-  OneMore : (count : ℕ) (now new : Option (List Moment)) (mid c' : ClientValue) → SendsOn old c count now mid → Turned now new mid c' (Ok Sent) → SendsOn old c (count + 1) new c'
+pub data SendsOn (old : Option (List Moment)) (t : TalkWorld) : ℕ → Option (List Moment) → TalkWorld → Type 0 where
+  NoTurn : SendsOn old t 0 old t
+  OneMore : (count : ℕ) (now new : Option (List Moment)) (mid t' : TalkWorld) → SendsOn old t count now mid → TakesTurn now new (Ok Sent) mid t' → SendsOn old t (count + 1) new t'
 
 -- it is told of more than a frame that went out
 abbrev pub IsMore : Result Turn CallFault → Type 0
@@ -34,9 +34,9 @@ IsMore (Ok Down) = Unit {0}
 IsMore (Err fault) = Unit {0}
 
 -- The first turn at which more is told than that a frame went out, and what; or so many frames went out.
-pub data Settles (old new : Option (List Moment)) (c c' : ClientValue) (result : Result Turn CallFault) : Type 0 where
-  IsTold : (count : ℕ) (now : Option (List Moment)) (mid : ClientValue) → SendsOn old c count now mid → Turned now new mid c' result → IsMore result → Settles old new c c' result
-  TalksOn : result ≡ Err (Talk fault.Line) → SendsOn old c TURNS new c' → Settles old new c c' result
+pub data Settles (old new : Option (List Moment)) (result : Result Turn CallFault) (t t' : TalkWorld) : Type 0 where
+  IsTold : (count : ℕ) (now : Option (List Moment)) (mid : TalkWorld) → SendsOn old t count now mid → TakesTurn now new result mid t' → IsMore result → Settles old new result t t'
+  TalksOn : result ≡ Err (Talk fault.Line) → SendsOn old t TURNS new t' → Settles old new result t t'
 
 -- what is told of an association, of a request and of the link's end that are asked for; anything else is of another form
 abbrev pub opened_in : Result Turn CallFault → Result (Unit {0}) CallFault
@@ -61,15 +61,15 @@ ended_in (Ok Down) = Ok tt
 ended_in (Err fault) = Err fault
 
 -- what settles is told so
-pub record SettlesAs {X : Type 0} (told_in : Result Turn CallFault → Result X CallFault) (old new : Option (List Moment)) (c c' : ClientValue) (result : Result X CallFault) : Type 0 where
+pub record SettlesAs {X : Type 0} (told_in : Result Turn CallFault → Result X CallFault) (old new : Option (List Moment)) (result : Result X CallFault) (t t' : TalkWorld) : Type 0 where
   pub turn : Result Turn CallFault
-  pub settles : Settles old new c c' turn
+  pub settles : Settles old new turn t t'
   pub told : result ≡ told_in turn
 
 -- a frame goes out, and what settles then is told so; or the line breaks at it
-pub data GoesOut {X : Type 0} (told_in : Result Turn CallFault → Result X CallFault) (old new : Option (List Moment)) (frame : Parts) (c c' : ClientValue) (result : Result X CallFault) : Type 0 where
-  LineBreaks : (why : CallFault) → IsOfSystem why → result ≡ Err why → c' ≡ c → Breaks old new (spelling frame) → GoesOut told_in old new frame c c' result
-  Settled : (now : Option (List Moment)) → Adds old now (Went (spelling frame) ∷ []) → SettlesAs told_in now new c c' result → GoesOut told_in old new frame c c' result
+pub data GoesOut {X : Type 0} (told_in : Result Turn CallFault → Result X CallFault) (old new : Option (List Moment)) (frame : Parts) (result : Result X CallFault) (t t' : TalkWorld) : Type 0 where
+  LineBreaks : (why : CallFault) → IsOfSystem why → result ≡ Err why → t' ≡ t → Breaks old new (spelling frame) → GoesOut told_in old new frame result t t'
+  Settled : (now : Option (List Moment)) → Adds old now (Went (spelling frame) ∷ []) → SettlesAs told_in now new result t t' → GoesOut told_in old new frame result t t'
 
 -- ---- an association
 
@@ -91,16 +91,16 @@ DialsFirst old new c c' (Ok done) = Dials old new c c'
 DialsFirst old new c c' (Err why) = DialFails old new c why
 
 -- the association is open
-pub record Opens (old new : Option (List Moment)) (c c' : ClientValue) : Type 0 where
+pub record Opens (old new : Option (List Moment)) (c : ClientValue) (t' : TalkWorld) : Type 0 where
   pub now : Option (List Moment)
   pub mid : ClientValue
   pub dials : Dials old now c mid
-  pub opens : SettlesAs opened_in now new mid c' (Ok tt)
+  pub opens : SettlesAs opened_in now new (Ok tt) (first_world mid) t'
 
 -- or why it is not
 pub data FailsToOpen (old new : Option (List Moment)) (c : ClientValue) (why : CallFault) : Type 0 where
   NotDialled : DialFails old new c why → FailsToOpen old new c why
-  NotOpened : (now : Option (List Moment)) (mid after : ClientValue) → Dials old now c mid → SettlesAs opened_in now new mid after (Err why) → FailsToOpen old new c why
+  NotOpened : (now : Option (List Moment)) (mid : ClientValue) (after : TalkWorld) → Dials old now c mid → SettlesAs opened_in now new (Err why) (first_world mid) after → FailsToOpen old new c why
 
 -- ---- a request
 
@@ -111,13 +111,13 @@ told_of ask.Memory = Memory
 
 -- Where it may be asked for, the client makes it and its first frame goes out, and what is answered is told; or the client does not
 -- make it. Where it may not, nothing happens.
-pub data Requests (may : Type 0) (asked : Asked) (form : RequestForm) (old new : Option (List Moment)) (c c' : ClientValue) (result : Result Answer CallFault) : Type 0 where
-  NotAsked : (may → ⊥) → result ≡ Err (Talk fault.Form) → c' ≡ c → Adds old new [] → Requests may asked form old new c c' result
-  NotMade : may → (why : AskFault) → Asks asked form c (Err why) c' → result ≡ Err (told_of why) → Adds old new [] → Requests may asked form old new c c' result
-  IsMade : may → (frame : Parts) (mid : ClientValue) → Asks asked form c (Ok frame) mid → GoesOut answer_in old new frame mid c' result → Requests may asked form old new c c' result
+pub data Requests (may : Type 0) (asked : Asked) (form : RequestForm) (old new : Option (List Moment)) (result : Result Answer CallFault) (t t' : TalkWorld) : Type 0 where
+  NotAsked : (may → ⊥) → result ≡ Err (Talk fault.Form) → t' ≡ t → Adds old new [] → Requests may asked form old new result t t'
+  NotMade : may → (why : AskFault) → Asks asked form t.client (Err why) t'.client → t'.inflow ≡ t.inflow → result ≡ Err (told_of why) → Adds old new [] → Requests may asked form old new result t t'
+  IsMade : may → (frame : Parts) (mid : ClientValue) → Asks asked form t.client (Ok frame) mid → GoesOut answer_in old new frame result (record t { client = mid }) t' → Requests may asked form old new result t t'
 
 -- ---- the link's end
 
-pub data EndsTalk (old new : Option (List Moment)) (c c' : ClientValue) (result : Result (Unit {0}) CallFault) : Type 0 where
-  NotEnded : (IsFree c → ⊥) → result ≡ Err (Talk fault.Form) → c' ≡ c → Adds old new [] → EndsTalk old new c c' result
-  IsEnded : IsFree c → (frame : Parts) (mid : ClientValue) → Leaves c frame mid → GoesOut ended_in old new frame mid c' result → EndsTalk old new c c' result
+pub data EndsTalk (may : Type 0) (old new : Option (List Moment)) (result : Result (Unit {0}) CallFault) (t t' : TalkWorld) : Type 0 where
+  NotEnded : (may → ⊥) → result ≡ Err (Talk fault.Form) → t' ≡ t → Adds old new [] → EndsTalk may old new result t t'
+  IsEnded : may → (frame : Parts) (mid : ClientValue) → Leaves t.client frame mid → GoesOut ended_in old new frame result (record t { client = mid }) t' → EndsTalk may old new result t t'

@@ -1,5 +1,5 @@
 -- What a client's end does at its end of a line, act by act: the calls of its client, and what happens at the line at each.
-use Rattle.std.specs.Prelude.{◌≡◌, ◌⊎◌, ℕ, List, [], ◌∷◌, ◌++◌, map, Option, Some, None, Result, Ok, Err}
+use Rattle.std.specs.Prelude.{◌≡◌, ◌⊎◌, ◌+◌, ◌<◌, ℕ, List, [], ◌∷◌, ◌++◌, length, map, Option, Some, None, Result, Ok, Err}
 use Rattle.std.specs.declared.io.Error.{Error}
 use Rattle.dlms_client.specs.Calls.{CanTimeOut, Comes, TimesOut}
 use Rattle.dlms_client.specs.ClientValue.{ClientValue}
@@ -8,17 +8,31 @@ use Rattle.dlms_client.specs.declared.fault.Fault.TheVariants as fault
 use Rattle.dlms_client.specs.declared.step.Step.{Step}
 use Rattle.dlms_client.specs.declared.step.Step.TheVariants as step
 use Rattle.dlms_frame.specs.Frame.{Parts, spelling}
-use Rattle.dlms_loopback.specs.Moments.{Moment, Adds, Breaks}
-use Rattle.dlms_loopback.specs.Moments.Moment.{Came, Quiet, Unheard, Went, Broke}
+use Rattle.dlms_ends.specs.Inflow.{Inflow, Brings, EndsFrame, EndsNone, Holds, cleared, empty}
+use Rattle.dlms_ends.specs.Moments.{Moment, Adds, Breaks}
+use Rattle.dlms_ends.specs.Moments.Moment.{Came, Quiet, Unheard, Went, Broke}
+use Rattle.dlms_call.specs.declared.client_end.ClientEnd.{ClientEnd}
+use Rattle.dlms_call.specs.declared.client_end.TheConstants.{MOST_BYTES, READS}
 use Rattle.dlms_call.specs.declared.client_end.Turn.{Turn}
 use Rattle.dlms_call.specs.declared.client_end.Turn.TheVariants.{Sent, Associated, Answered, Down}
 use Rattle.dlms_call.specs.declared.fault.CallFault.{CallFault}
 use Rattle.dlms_call.specs.declared.fault.CallFault.TheVariants.{Talk, Io, Memory}
 
--- Bytes come; a frame is given to the client, which makes this of it; nothing comes, which the client is told.
+-- what has come at the end, and the client
+pub record TalkWorld : Type 0 where
+  pub inflow : Inflow
+  pub client : ClientValue
+
+-- the end of a client to which nothing has come
+abbrev pub first_world : ClientValue → TalkWorld
+first_world client = record { inflow = empty MOST_BYTES; client = client }
+
+-- Bytes come; bytes are taken that end no frame; bytes are taken whose last one ends the next frame, of which the client makes this;
+-- nothing comes, which the client is told.
 pub data Act : Type 0 where
   Gets : (bytes : List ℕ) → Act
-  Hears : (frame : Parts) (result : Result Step Fault) → Act
+  Skips : (bytes : List ℕ) → Act
+  Hears : (bytes : List ℕ) (frame : Parts) (result : Result Step Fault) → Act
   Waits : (result : Result Parts Fault) → Act
 
 -- ---- what goes out, and what happens at the line
@@ -34,13 +48,15 @@ again_frames (Err fault) = []
 -- the frame that the client gives to send, if it does
 abbrev pub frames_by : Act → List Parts
 frames_by (Gets bytes) = []
-frames_by (Hears frame result) = step_frames result
+frames_by (Skips bytes) = []
+frames_by (Hears bytes frame result) = step_frames result
 frames_by (Waits result) = again_frames result
 
 -- what comes first, and then its frame goes out
 abbrev pub comes_by : Act → List Moment
 comes_by (Gets bytes) = Came bytes ∷ []
-comes_by (Hears frame result) = []
+comes_by (Skips bytes) = []
+comes_by (Hears bytes frame result) = []
 comes_by (Waits result) = Quiet ∷ []
 
 abbrev pub moments_by : Act → List Moment
@@ -50,18 +66,8 @@ abbrev pub moments_of : List Act → List Moment
 moments_of [] = []
 moments_of (act ∷ acts) = moments_by act ++ moments_of acts
 
--- ---- what an act leads to
+-- ---- what is told of an act; none where the turn goes on
 
-abbrev pub Does : ClientValue → Act → ClientValue → Type 0
-Does c (Gets bytes) c' = c' ≡ c
-Does c (Hears frame result) c' = Comes c frame result c'
-Does c (Waits result) c' = CanTimeOut c × TimesOut c result c'
-
-abbrev pub Acts : ClientValue → List Act → ClientValue → Type 0
-Acts c [] c' = c' ≡ c
-Acts c (act ∷ acts) c' = (mid : ClientValue) × Does c act mid × Acts mid acts c'
-
--- what a turn tells of an act; none where it goes on
 abbrev pub told_by_step : Result Step Fault → Option (Result Turn CallFault)
 told_by_step (Ok step.Nothing) = None
 told_by_step (Ok (step.Send frame)) = Some (Ok Sent)
@@ -76,19 +82,76 @@ told_by_again (Err fault) = Some (Err (Talk fault))
 
 abbrev pub told_by : Act → Option (Result Turn CallFault)
 told_by (Gets bytes) = None
-told_by (Hears frame result) = told_by_step result
+told_by (Skips bytes) = None
+told_by (Hears bytes frame result) = told_by_step result
 told_by (Waits result) = told_by_again result
+
+-- ---- what an act leads to
+
+-- Behind a frame of which something is told what is left is dropped, since it came before what is asked next, and a new stretch begins.
+abbrev pub behind : Option (Result Turn CallFault) → Inflow → Inflow
+behind None inflow = inflow
+behind (Some told) inflow = cleared inflow
+
+pub record IsHearing (t : TalkWorld) (bytes : List ℕ) (frame : Parts) (result : Result Step Fault) (t' : TalkWorld) : Type 0 where
+  pub inflow : Inflow
+  pub ends : EndsFrame t.inflow bytes frame inflow
+  pub comes : Comes t.client frame result t'.client
+  pub after : t'.inflow ≡ behind (told_by_step result) inflow
+
+pub record IsWaiting (t : TalkWorld) (result : Result Parts Fault) (t' : TalkWorld) : Type 0 where
+  pub taken : t.inflow.rest ≡ []
+  pub can : CanTimeOut t.client
+  pub times : TimesOut t.client result t'.client
+  pub after : t'.inflow ≡ cleared t.inflow
+
+abbrev pub Does : TalkWorld → Act → TalkWorld → Type 0
+Does t (Gets bytes) t' = Brings t.inflow bytes t'.inflow × (t'.client ≡ t.client)
+Does t (Skips bytes) t' = EndsNone t.inflow bytes t'.inflow × (t'.client ≡ t.client)
+Does t (Hears bytes frame result) t' = IsHearing t bytes frame result t'
+Does t (Waits result) t' = IsWaiting t result t'
+
+-- one after another
+abbrev pub Acts : TalkWorld → List Act → TalkWorld → Type 0
+Acts t [] t' = t' ≡ t
+Acts t (act ∷ acts) t' = (mid : TalkWorld) × Does t act mid × Acts mid acts t'
+
+-- at these moments, and no others
+pub record Did (old new : Option (List Moment)) (t : TalkWorld) (acts : List Act) (t' : TalkWorld) : Type 0 where
+  pub does : Acts t acts t'
+  pub happened : Adds old new (moments_of acts)
 
 abbrev pub AreListening : List Act → Type 0
 AreListening [] = Unit {0}
 AreListening (act ∷ acts) = (told_by act ≡ None) × AreListening acts
 
--- acts of which nothing is told, and these moments and no others
-pub record Listened (old new : Option (List Moment)) (c c' : ClientValue) : Type 0 where
-  pub acts : List Act
-  pub listens : AreListening acts
-  pub does : Acts c acts c'
-  pub happened : Adds old new (moments_of acts)
+-- how many pieces came
+abbrev pub piece_by : Act → ℕ
+piece_by (Gets bytes) = 1
+piece_by (Skips bytes) = 0
+piece_by (Hears bytes frame result) = 0
+piece_by (Waits result) = 0
+
+abbrev pub pieces_in : List Act → ℕ
+pieces_in [] = 0
+pieces_in (act ∷ acts) = piece_by act + pieces_in acts
+
+-- ---- an end stands where acts have led
+
+pub record IsAt {A : Type 0} (end : ClientEnd A) (t : TalkWorld) : Type 0 where
+  pub holds : Holds end.deframer.bytes end.left t.inflow
+  pub client : end.client ≡ t.client
+
+-- and all that came is taken
+pub record IsIn {A : Type 0} (end : ClientEnd A) (t : TalkWorld) : Type 0 where
+  pub at : IsAt end t
+  pub taken : t.inflow.rest ≡ []
+
+-- from wherever it stands, this leads to where it stands then
+abbrev pub Leads : {A : Type 0} → ClientEnd A → ClientEnd A → (TalkWorld → TalkWorld → Type 0) → Type 0
+Leads end end' leads = (t : TalkWorld) → IsIn end t → (t' : TalkWorld) × IsIn end' t' × leads t t'
+
+-- ---- a turn
 
 -- it is told of an error of the system
 abbrev pub IsOfSystem : CallFault → Type 0
@@ -99,32 +162,55 @@ abbrev pub SendsFrame : Option (List Moment) → Option (List Moment) → Parts 
 SendsFrame old new frame (Ok turn) = (turn ≡ Sent) × Adds old new (Went (spelling frame) ∷ [])
 SendsFrame old new frame (Err fault) = IsOfSystem fault × Breaks old new (spelling frame)
 
--- How a turn ends: an act tells this; the line breaks, at a read or at a frame of which a beginning went out; more bytes come than may;
--- nothing comes, and no frame is out; or so many pieces came.
-pub data Ends (old new : Option (List Moment)) (c c' : ClientValue) (result : Result Turn CallFault) : Type 0 where
-  Tells : (act : Act) → told_by act ≡ Some result → Does c act c' → Adds old new (moments_by act) → Ends old new c c' result
-  BreaksReading : (fault : CallFault) (error : Error) → IsOfSystem fault → result ≡ Err fault → c' ≡ c → Adds old new (Unheard error ∷ []) → Ends old new c c' result
-  BreaksSending : (act : Act) (frame : Parts) (fault : CallFault) → IsOfSystem fault → result ≡ Err fault → frames_by act ≡ frame ∷ [] → Does c act c'
-      → (part missing : List ℕ) → part ++ missing ≡ spelling frame → Adds old new (comes_by act ++ Broke part ∷ []) → Ends old new c c' result
-  Floods : (bytes : List ℕ) → result ≡ Err (Talk fault.Form) → c' ≡ c → Adds old new (Came bytes ∷ []) → Ends old new c c' result
-  NoneIsOut : result ≡ Err (Talk fault.Line) → (CanTimeOut c → ⊥) → c' ≡ c → Adds old new (Quiet ∷ []) → Ends old new c c' result
-  Tires : result ≡ Err (Talk fault.Line) → c' ≡ c → Adds old new [] → Ends old new c c' result
+-- How a turn ends, behind so many pieces: an act tells this; the line breaks, at a read or at a frame of which a beginning went out; more
+-- bytes come than may; nothing comes, and no frame is out; or so many pieces came.
+pub data Ends (count : ℕ) (old new : Option (List Moment)) (t t' : TalkWorld) (result : Result Turn CallFault) : Type 0 where
+  Tells : (act : Act) → told_by act ≡ Some result → Does t act t' → Adds old new (moments_by act) → Ends count old new t t' result
+  BreaksReading : (fault : CallFault) (error : Error) → IsOfSystem fault → result ≡ Err fault → t' ≡ t → Adds old new (Unheard error ∷ []) → Ends count old new t t' result
+  BreaksSending : (act : Act) (frame : Parts) (fault : CallFault) → IsOfSystem fault → result ≡ Err fault → frames_by act ≡ frame ∷ [] → Does t act t'
+      → (part missing : List ℕ) → part ++ missing ≡ spelling frame → Adds old new (comes_by act ++ Broke part ∷ []) → Ends count old new t t' result
+  Floods : (bytes : List ℕ) → result ≡ Err (Talk fault.Form) → t.inflow.left < length bytes → t' ≡ t → Adds old new (Came bytes ∷ []) → Ends count old new t t' result
+  NoneIsOut : result ≡ Err (Talk fault.Line) → (CanTimeOut t.client → ⊥) → t' ≡ record t { inflow = cleared t.inflow } → Adds old new (Quiet ∷ []) → Ends count old new t t' result
+  Tires : result ≡ Err (Talk fault.Line) → count ≡ READS → t' ≡ t → Adds old new [] → Ends count old new t t' result
 
--- acts of which nothing is told, and then it ends
-pub record Turned (old new : Option (List Moment)) (c c' : ClientValue) (result : Result Turn CallFault) : Type 0 where
-  pub mid : ClientValue
+-- so many pieces came, of none of them anything was told, and then the turn ended
+pub record Turned (count : ℕ) (old new : Option (List Moment)) (t t' : TalkWorld) (result : Result Turn CallFault) : Type 0 where
+  pub front : List Act
+  pub mid : TalkWorld
   pub now : Option (List Moment)
-  pub front : Listened old now c mid
-  pub ends : Ends now new mid c' result
+  pub listens : AreListening front
+  pub pieces : count ≡ pieces_in front
+  pub did : Did old now t front mid
+  pub ends : Ends count now new mid t' result
 
--- a frame that is given to the client, and a piece that came
+abbrev pub TakesTurn : Option (List Moment) → Option (List Moment) → Result Turn CallFault → TalkWorld → TalkWorld → Type 0
+TakesTurn old new result t t' = (count : ℕ) × Turned count old new t t' result
+
+-- ---- a piece
+
+-- of no frame of it anything was told, and all of it is taken
+pub record Listened {A : Type 0} (old new : Option (List Moment)) (t : TalkWorld) (end : ClientEnd A) : Type 0 where
+  pub acts : List Act
+  pub world : TalkWorld
+  pub listens : AreListening acts
+  pub pieces : pieces_in acts ≡ 0
+  pub did : Did old new t acts world
+  pub stands : IsIn end world
+
+abbrev pub TakesPiece : {A : Type 0} → Option (List Moment) → Option (List Moment) → TalkWorld → ClientEnd A → Option (Result Turn CallFault) → Type 0
+TakesPiece old new t end None = Listened old new t end
+TakesPiece old new t end (Some result) = (t' : TalkWorld) × IsIn end t' × Turned 0 old new t t' result
+
+-- ---- a call of the client
+
+-- what is made of its answer to a frame
+abbrev pub Gives : Option (List Moment) → Option (List Moment) → Result Step Fault → Option (Result Turn CallFault) → Type 0
+Gives old new (Ok (step.Send frame)) (Some result) = SendsFrame old new frame result
+Gives old new (Ok (step.Send frame)) None = ⊥
+Gives old new given told = (told ≡ told_by_step given) × Adds old new []
+
 abbrev pub TakesFrame : Option (List Moment) → Option (List Moment) → ClientValue → Parts → ClientValue → Option (Result Turn CallFault) → Type 0
-TakesFrame old new c frame c' None = Comes c frame (Ok step.Nothing) c' × Adds old new []
-TakesFrame old new c frame c' (Some result) = Ends old new c c' result
-
-abbrev pub TakesPiece : Option (List Moment) → Option (List Moment) → ClientValue → ClientValue → Option (Result Turn CallFault) → Type 0
-TakesPiece old new c c' None = Listened old new c c'
-TakesPiece old new c c' (Some result) = Turned old new c c' result
+TakesFrame old new c frame c' told = (given : Result Step Fault) × Comes c frame given c' × Gives old new given told
 
 -- nothing came: no frame is out; or the client is told, which gives the frame to send again, or fails
 abbrev pub GivesAgain : Option (List Moment) → Option (List Moment) → Result Parts Fault → Result Turn CallFault → Type 0

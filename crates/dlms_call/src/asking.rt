@@ -7,7 +7,8 @@ ghost use Rattle.dlms_client.specs.Calls.{IsFree, fresh};
 ghost use Rattle.dlms_client.specs.Plan.{IsPlan, plan_of};
 ghost use Rattle.dlms_client.specs.declared.requests.TheConstants.{INVOKE};
 ghost use Rattle.dlms_client.specs.declared.stage.Asked.TheVariants.{Action, Get, Set};
-ghost use Rattle.dlms_call.specs.Asking.{EndsTalk, FailsToOpen, GoesOut, Opens, Requests, Settles, SettlesAs, answer_in, ended_in, opened_in};
+ghost use Rattle.dlms_call.specs.Asking.{EndsTalk, FailsToOpen, GoesOut, Opens, Requests, Settles, answer_in, ended_in, opened_in};
+ghost use Rattle.dlms_call.specs.Talking.{IsIn, Leads, TalkWorld};
 ghost use Rattle.dlms_data.specs.View.{value_of};
 ghost use Rattle.dlms_data.specs.Writing.{Fits};
 
@@ -15,8 +16,8 @@ use crate::client_end::{ClientEnd, Turn, send};
 use crate::fault::CallFault;
 use dlms_client::{Answer, Client, Fault, Plan};
 use dlms_data::{Data, Descriptor, fits};
+use dlms_ends::End;
 use dlms_frame::SentFrame;
-use dlms_loopback::End;
 use std::alloc::{Allocator, Global};
 
 /// The most turns of one request.
@@ -27,7 +28,7 @@ fn settle<S: End, A: Allocator + Copy>(
     line: &mut S,
     head: &mut ClientEnd<A>,
 ) -> Result<Turn, CallFault>
-    ensures { Settles (S.past line.old) (S.past line.new) head.old.client head.new.client result }
+    ensures { Leads head.old head.new (Settles (S.past line.old) (S.past line.new) result) }
 {
     'turns: for _turn in 0..TURNS {
         match head.turn(line) {
@@ -80,7 +81,7 @@ fn answered<S: End, A: Allocator + Copy>(
     head: &mut ClientEnd<A>,
     frame: &SentFrame,
 ) -> Result<Answer, CallFault>
-    ensures { GoesOut answer_in (S.past line.old) (S.past line.new) frame.now head.old.client head.new.client result }
+    ensures { Leads head.old head.new (GoesOut answer_in (S.past line.old) (S.past line.new) frame.now result) }
 {
     match send(line, frame) {
         Ok(_) => {
@@ -98,7 +99,7 @@ pub fn begin<S: End, A: Allocator + Copy>(
     plan: Plan,
 ) -> Result<ClientEnd<A>, CallFault>
     requires { IsPlan (plan_of plan) }
-    ensures opens { IfOk result (λ head. Opens (S.past line.old) (S.past line.new) (fresh (plan_of plan)) head.client) }
+    ensures opens { IfOk result (λ head. (t : TalkWorld) × IsIn head t × Opens (S.past line.old) (S.past line.new) (fresh (plan_of plan)) t) }
     ensures fails { IfErr result (FailsToOpen (S.past line.old) (S.past line.new) (fresh (plan_of plan))) }
 {
     let mut head = match ClientEnd::begin(line, Client::new(alloc, plan)) {
@@ -128,7 +129,7 @@ pub fn get<S: End, A: Allocator + Copy>(
     head: &mut ClientEnd<A>,
     attribute: Descriptor,
 ) -> Result<Answer, CallFault>
-    ensures { Requests (IsFree head.old.client) Get (get_normal INVOKE attribute None) (S.past line.old) (S.past line.new) head.old.client head.new.client result }
+    ensures { Leads head.old head.new (Requests (IsFree head.old.client) Get (get_normal INVOKE attribute None) (S.past line.old) (S.past line.new) result) }
 {
     if !head.client.is_free() {
         return Err(CallFault::Talk(Fault::Form));
@@ -146,7 +147,7 @@ pub fn set<S: End, A: Allocator + Copy>(
     attribute: Descriptor,
     value: Data<A>,
 ) -> Result<Answer, CallFault>
-    ensures { Requests (IsFree head.old.client × Fits (value_of value)) Set (set_normal INVOKE attribute None (value_of value)) (S.past line.old) (S.past line.new) head.old.client head.new.client result }
+    ensures { Leads head.old head.new (Requests (IsFree head.old.client × Fits (value_of value)) Set (set_normal INVOKE attribute None (value_of value)) (S.past line.old) (S.past line.new) result) }
 {
     if !head.client.is_free() {
         return Err(CallFault::Talk(Fault::Form));
@@ -167,7 +168,7 @@ pub fn act<S: End, A: Allocator + Copy>(
     method: Descriptor,
     parameter: Option<Data<A>>,
 ) -> Result<Answer, CallFault>
-    ensures { Requests (IsFree head.old.client × ParameterFits (option_map value_of parameter)) Action (action_normal INVOKE method (option_map value_of parameter)) (S.past line.old) (S.past line.new) head.old.client head.new.client result }
+    ensures { Leads head.old head.new (Requests (IsFree head.old.client × ParameterFits (option_map value_of parameter)) Action (action_normal INVOKE method (option_map value_of parameter)) (S.past line.old) (S.past line.new) result) }
 {
     if !head.client.is_free() {
         return Err(CallFault::Talk(Fault::Form));
@@ -186,7 +187,7 @@ pub fn end<S: End, A: Allocator + Copy>(
     line: &mut S,
     head: &mut ClientEnd<A>,
 ) -> Result<(), CallFault>
-    ensures { EndsTalk (S.past line.old) (S.past line.new) head.old.client head.new.client result }
+    ensures { Leads head.old head.new (EndsTalk (IsFree head.old.client) (S.past line.old) (S.past line.new) result) }
 {
     if !head.client.is_free() {
         return Err(CallFault::Talk(Fault::Form));

@@ -1,13 +1,14 @@
 //! A client's end of a line.
 
-ghost use Rattle.std.specs.Prelude.{◌≡◌, IfErr, IfOk};
+ghost use Rattle.std.specs.Prelude.{◌≡◌, ◌≤◌, ◌<◌, ◌-◌, [], false, IfErr, IfOk, IsTrue};
+ghost use Rattle.dlms_frame.specs.Stream.{Fits};
 ghost use Rattle.dlms_call.specs.Asking.{DialFails, Dials, DialsFirst};
-ghost use Rattle.dlms_call.specs.Talking.{IsOfSystem, Repeats, SendsFrame, TakesFrame, TakesPiece, Turned};
+ghost use Rattle.dlms_call.specs.Talking.{IsAt, IsIn, IsOfSystem, Leads, Repeats, SendsFrame, TakesFrame, TakesPiece, TakesTurn, TalkWorld, first_world};
 
 use crate::fault::CallFault;
 use dlms_client::{Answer, Client, Fault, Step};
+use dlms_ends::{End, Heard, PIECE, bytes_of};
 use dlms_frame::{Deframer, Frame, SentFrame};
-use dlms_loopback::{End, Heard, PIECE, bytes_of};
 use std::alloc::{Allocator, Global};
 use std::io;
 use std::io::ErrorKind;
@@ -95,6 +96,7 @@ impl<A: Allocator + Copy> ClientEnd<A> {
     /// Sends the client's first frame.
     pub fn begin<W: End>(end: &mut W, client: Client<A>) -> Result<Self, CallFault>
         ensures dials { IfOk result (λ head. Dials (W.past end.old) (W.past end.new) client head.client) }
+        ensures stands { IfOk result (λ head. IsIn head (first_world head.client)) }
         ensures fails { IfErr result (DialFails (W.past end.old) (W.past end.new) client) }
     {
         let mut client = client;
@@ -111,7 +113,7 @@ impl<A: Allocator + Copy> ClientEnd<A> {
     /// Takes the frames among the bytes, up to the one that is answered or brings something. What stands behind it came before the
     /// question that is out now, and is dropped.
     fn take<W: End>(&mut self, end: &mut W, bytes: &[u8]) -> Option<Result<Turn, CallFault>>
-        ensures { TakesPiece (W.past end.old) (W.past end.new) self.old.client self.new.client result }
+        ensures { (t : TalkWorld) → IsAt self.old t → t.inflow.rest ≡ bytes.now → TakesPiece (W.past end.old) (W.past end.new) t self.new result }
     {
         let mut rest = bytes;
         'frames: while !rest.is_empty() {
@@ -133,7 +135,8 @@ impl<A: Allocator + Copy> ClientEnd<A> {
 
     /// Whether so many bytes more may come; then they are counted.
     fn counts(&mut self, bytes: usize) -> bool
-        ensures { self.new.client ≡ self.old.client }
+        ensures counted { IsTrue result → (bytes ≤ self.old.left) × (self.new ≡ record self.old { left = self.old.left - bytes }) }
+        ensures more { result ≡ false → (self.old.left < bytes) × (self.new ≡ self.old) }
     {
         match self.left.checked_sub(bytes) {
             Some(left) => {
@@ -146,7 +149,9 @@ impl<A: Allocator + Copy> ClientEnd<A> {
 
     /// Nothing came: the frame that is out goes again, and the fourth time-out in a row is a fault.
     fn repeat<W: End>(&mut self, end: &mut W) -> Result<Turn, CallFault>
-        ensures { Repeats (W.past end.old) (W.past end.new) self.old.client self.new.client result }
+        ensures again { Repeats (W.past end.old) (W.past end.new) self.old.client self.new.client result }
+        ensures idle { Fits self.new.deframer.bytes [] 0 }
+        ensures left { self.new.left ≡ self.old.left }
     {
         self.deframer.idle();
         if !self.client.is_waiting() {
@@ -161,7 +166,7 @@ impl<A: Allocator + Copy> ClientEnd<A> {
     /// The client takes what comes, until a frame of its own is out or something has come. What comes in more than so many pieces
     /// without one is a fault of the line.
     pub fn turn<S: End>(&mut self, end: &mut S) -> Result<Turn, CallFault>
-        ensures { Turned (S.past end.old) (S.past end.new) self.old.client self.new.client result }
+        ensures { Leads self.old self.new (TakesTurn (S.past end.old) (S.past end.new) result) }
     {
         let mut piece = [0u8; PIECE];
         'reads: for _read in 0..READS {

@@ -5,7 +5,7 @@ use Rattle.clap.specs.Kinds.{HasKind, IsAmong, Kinds}
 use Rattle.clap.specs.declared.error.Error.{Error}
 use Rattle.clap.specs.declared.error.kind.ErrorKind.{ErrorKind}
 use Rattle.clap.specs.declared.error.kind.ErrorKind.TheVariants.{OutOfMemory}
-use Rattle.dlms_program.specs.Words.{AsksBoth, IsUnclear, Met, NamesNoAddress}
+use Rattle.dlms_words.specs.Words.{AsksBoth, IsUnclear, Met, NamesNoAddress}
 
 -- a kind that is among some, of which there are any then
 some_kind : (kinds : Kinds) (k : ErrorKind) → IsAmong k kinds → kinds ≢ []

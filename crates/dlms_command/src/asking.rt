@@ -11,9 +11,9 @@ use dlms_ask::server_of;
 use dlms_call::{CallFault, begin, end};
 use dlms_client::Plan;
 use dlms_data::Data;
+use dlms_ends::{End, LoopFault};
 use dlms_field::{Dialling, FieldFault, HostDesk, Phone, secret_of};
 use dlms_frame::{Address, Client};
-use dlms_loopback::{End, LoopFault};
 use dlms_program::Asking;
 use std::alloc::Global;
 use std::fs::File;
@@ -83,6 +83,7 @@ fn server<'a>(asking: &Asking<'a>) -> Result<Address, Fault<'a>> {
 }
 
 /// The secret in the file, where one is named.
+#[inline(never)]
 fn secret<'a, H: Files + Clock>(
     host: &H,
     alloc: Global,
@@ -100,6 +101,7 @@ fn secret<'a, H: Files + Clock>(
 }
 
 /// The errand, once the association is open.
+#[inline(never)]
 fn done<'a, S: End, W: Write>(
     talk: &mut Talk<'a, '_, S>,
     errand: Errand<'a>,
@@ -119,6 +121,7 @@ fn done<'a, S: End, W: Write>(
 }
 
 /// An association over a line, the errand in it, and its end, whatever came of the errand.
+#[inline(never)]
 fn talked<'a, S: End, W: Write>(
     alloc: Global,
     place: &'a str,
@@ -176,6 +179,7 @@ fn look<'a>(errand: &Errand<'a>) -> Result<(), Fault<'a>> {
 }
 
 /// The line to the meter at a place.
+#[inline(never)]
 fn line_to<'a, 'r, H: Net + Files<File = File> + Clock + AllocGlobal>(
     host: &'r H,
     place: &'a str,

@@ -11,8 +11,8 @@ use dlms_ask::{Name, ValueFault, append_pairs, class_in, elements, name_of, valu
 use dlms_call::{CallFault, ClientEnd, act, get, set};
 use dlms_client::Answer;
 use dlms_data::{Data, DataFault, Descriptor, LAST_SECOND, read};
+use dlms_ends::End;
 use dlms_explain::write_value;
-use dlms_loopback::End;
 use std::alloc::Global;
 use std::io::Write;
 
@@ -212,6 +212,7 @@ impl<'a, S: End> Talk<'a, '_, S> {
     }
 
     /// Prints the values of attributes.
+    #[inline(never)]
     pub fn get_all<W: Write>(
         &mut self,
         names: &'a str,
@@ -239,6 +240,7 @@ impl<'a, S: End> Talk<'a, '_, S> {
     }
 
     /// Prints the object list.
+    #[inline(never)]
     pub fn list_all<W: Write>(&mut self, json: bool, output: &mut W) -> Result<(), Fault<'a>> {
         let list = self.list()?;
         let Some(entries) = elements(&list) else {
@@ -256,6 +258,7 @@ impl<'a, S: End> Talk<'a, '_, S> {
     }
 
     /// Sets an attribute.
+    #[inline(never)]
     pub fn set_one<W: Write>(
         &mut self,
         said: &'a str,
@@ -278,6 +281,7 @@ impl<'a, S: End> Talk<'a, '_, S> {
     }
 
     /// Calls a method, and prints what it returns.
+    #[inline(never)]
     pub fn act_one<W: Write>(
         &mut self,
         said: &'a str,

@@ -3,9 +3,9 @@
 use crate::columns::Columns;
 use dlms_call::CallFault;
 use dlms_client::{Denial, Fault as Talked};
+use dlms_ends::LoopFault;
 use dlms_field::{ClockFault, FieldFault};
 use dlms_headend::{ColumnList, PollFault, ReadingsFault};
-use dlms_loopback::LoopFault;
 use dlms_names::{
     access_result, action_result, diagnostic, initiate_error, service_error, state_error,
 };

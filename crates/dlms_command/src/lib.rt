@@ -3,13 +3,14 @@
 
 ghost use Rattle.std.specs.Prelude.{◌≡◌, ◌≢◌, ◌⊎◌, [], map, IfOk, MatchResult};
 ghost use Rattle.clap.specs.Words.{fault_of, subcommand_of};
-ghost use Rattle.dlms_program.specs.Grammar.{dlms};
-ghost use Rattle.dlms_program.specs.Words.{AsksBoth, IsClear, NamesNoAddress};
+ghost use Rattle.dlms_words.specs.Grammar.{dlms};
+ghost use Rattle.dlms_words.specs.Words.{AsksBoth, IsClear, NamesNoAddress};
 
 use clap::error::ErrorKind;
 use dlms_explain::{ExplainFault, Form as ExplainForm, explain};
 use dlms_field::{Office, Polling, Serving, Times, poll, serve, serve_line};
-use dlms_loopback::{FilePlace, loopback, sockets};
+use dlms_filing::FilePlace;
+use dlms_loopback::{loopback, sockets};
 use dlms_meter::Meter;
 use dlms_pages::{FilePages, MemoryPages, Pages};
 use dlms_plot::{Form, plot_readings};
@@ -492,8 +493,20 @@ fn run_job<
             };
             run_poll(host, &polling, output, errors)
         }
-        Job::Explain { file, raw, short } => {
-            run_explain(host, file, ExplainForm { raw, short }, input, output)
+        Job::Explain {
+            file,
+            raw,
+            short,
+            hex,
+            json,
+        } => {
+            let form = ExplainForm {
+                raw,
+                short,
+                hex,
+                json,
+            };
+            run_explain(host, file, form, input, output)
         }
         Job::Get {
             asking,

@@ -1,7 +1,7 @@
 //! A line, and what is said over it, explained.
 
 use dlms_ask::append_pairs;
-use dlms_explain::Explainer;
+use dlms_explain::{Explainer, Form};
 use std::alloc::{AllocError, Global};
 use std::io;
 use std::io::{ErrorKind, Read, Write};
@@ -26,7 +26,7 @@ impl<'e, S: Drop, E: Write> Spoken<'e, S, E> {
     /// A stream, explained among the errors where `is_told` is set.
     pub fn new(alloc: Global, stream: S, is_told: bool, errors: &'e mut E) -> Self {
         let explainer = if is_told {
-            Some(Explainer::new(alloc, false, false))
+            Some(Explainer::new(alloc, Form::full()))
         } else {
             None
         };

@@ -1,8 +1,8 @@
 -- The calls of a meter that serves.
 use Rattle.std.proofs.Common.{refl, sym, ◌≡◌, ℕ, zero, suc, arith, Bool, List, [], ◌∷◌, ◌++◌, Option, Some, Result, Ok, Err, subst}
 use Rattle.std.specs.Prelude.{MatchResult}
-use Rattle.dlms_loopback.specs.Moments.{Moment as LineMoment}
-use Rattle.dlms_loopback.specs.declared.fault.LoopFault.{LoopFault}
+use Rattle.dlms_ends.specs.Moments.{Moment as LineMoment}
+use Rattle.dlms_ends.specs.declared.fault.LoopFault.{LoopFault}
 use Rattle.dlms_meter.specs.Steps.{Call, Calls, IsCall}
 use Rattle.dlms_meter.specs.Steps.Call.{Fed, Told}
 use Rattle.dlms_meter.specs.declared.meter.Meter.{Meter}

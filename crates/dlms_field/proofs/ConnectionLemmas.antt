@@ -3,12 +3,12 @@ use Rattle.std.proofs.Common.{refl, sym, ap, ◌∙◌, ◌≡◌, ◌≤◌, �
 use Rattle.std.specs.declared.io.Error.{Error}
 use Rattle.std.proofs.lemmas.Bool.{false≢true}
 use Rattle.std.proofs.lemmas.List.{append-nil, length-take-le, take-append-drop}
-use Rattle.dlms_loopback.specs.Moments.{Moment, Adds}
-use Rattle.dlms_loopback.specs.Moments.Moment.{Came, Quiet, Unheard, Broke}
-use Rattle.dlms_loopback.specs.declared.fault.LoopFault.{LoopFault}
-use Rattle.dlms_loopback.specs.declared.fault.LoopFault.TheVariants.{Io}
-use Rattle.dlms_loopback.specs.declared.meter_end.Taken.{Taken}
-use Rattle.dlms_loopback.proofs.MomentLemmas.{adds_none, adds_more}
+use Rattle.dlms_ends.specs.Moments.{Moment, Adds}
+use Rattle.dlms_ends.specs.Moments.Moment.{Came, Quiet, Unheard, Broke}
+use Rattle.dlms_ends.specs.declared.fault.LoopFault.{LoopFault}
+use Rattle.dlms_ends.specs.declared.fault.LoopFault.TheVariants.{Io}
+use Rattle.dlms_ends.specs.declared.meter_end.Taken.{Taken}
+use Rattle.dlms_ends.proofs.MomentLemmas.{adds_none, adds_more}
 use Rattle.dlms_meter.specs.Steps.{IsCall}
 use Rattle.dlms_meter.specs.Steps.Call.{Fed}
 use Rattle.dlms_meter.specs.declared.meter.Meter.{Meter}

@@ -1,7 +1,7 @@
 -- A meter that serves a serial line.
 use Rattle.std.proofs.Common.{refl, sym, ap, ◌∙◌, ◌≡◌, ℕ, Bool, true, false, List, [], ◌∷◌, Option, Some, None, Result, Ok, Err, subst}
 use Rattle.std.specs.Prelude.{if◌then◌else◌}
-use Rattle.dlms_loopback.specs.Moments.{Moment}
+use Rattle.dlms_ends.specs.Moments.{Moment}
 use Rattle.dlms_meter.specs.declared.meter.Meter.{Meter}
 use Rattle.dlms_pages.specs.declared.device.Pages.{Ghosts}
 use Rattle.dlms_field.specs.Connection.{Connection}

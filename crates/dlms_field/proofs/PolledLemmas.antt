@@ -4,8 +4,8 @@ use Rattle.std.specs.Prelude.{IfErr, IfOk}
 use Rattle.dlms_headend.specs.PollerValue.{PollerValue}
 use Rattle.dlms_headend.specs.Polling.{fresh_poll}
 use Rattle.dlms_headend.specs.declared.row.Row.{Row}
-use Rattle.dlms_loopback.specs.BothEnds.{IsDonePoll}
-use Rattle.dlms_loopback.specs.Filing.{Asked}
+use Rattle.dlms_ends.specs.BothEnds.{IsDonePoll}
+use Rattle.dlms_filing.specs.Filing.{Asked}
 use Rattle.dlms_field.specs.Calling.{FailsCalled, HasDone}
 use Rattle.dlms_field.specs.Clocks.{Takes}
 use Rattle.dlms_field.specs.Keeping.{FilesNone, FilesPolled}

@@ -8,16 +8,16 @@ use Rattle.dlms_headend.specs.PollRun.{IsCall}
 use Rattle.dlms_headend.specs.PollRun.Call.{Next}
 use Rattle.dlms_headend.specs.PollerValue.{PollerValue}
 use Rattle.dlms_headend.specs.declared.poll_fault.PollFault.TheVariants as poll
-use Rattle.dlms_loopback.specs.BothEnds.{CallFails, IsPolled}
-use Rattle.dlms_loopback.specs.Faults.{TellsError}
-use Rattle.dlms_loopback.specs.Moments.{Moment, Breaks}
-use Rattle.dlms_loopback.specs.Printing.{Printed, PrintsPart}
-use Rattle.dlms_loopback.specs.declared.fault.LoopFault.{LoopFault}
-use Rattle.dlms_loopback.specs.declared.fault.LoopFault.TheVariants.{Poll}
-use Rattle.dlms_loopback.specs.declared.head_end.HeadEnd.{HeadEnd}
-use Rattle.dlms_loopback.specs.declared.polling.TheConstants.{TURNS}
-use Rattle.dlms_loopback.proofs.MomentLemmas.{map_append}
-use Rattle.dlms_loopback.proofs.PollLemmas.{HeadSide, system_told}
+use Rattle.dlms_ends.specs.BothEnds.{CallFails, IsPolled}
+use Rattle.dlms_ends.specs.Faults.{TellsError}
+use Rattle.dlms_ends.specs.Moments.{Moment, Breaks}
+use Rattle.dlms_filing.specs.Printing.{Printed, PrintsPart}
+use Rattle.dlms_ends.specs.declared.fault.LoopFault.{LoopFault}
+use Rattle.dlms_ends.specs.declared.fault.LoopFault.TheVariants.{Poll}
+use Rattle.dlms_ends.specs.declared.head_end.HeadEnd.{HeadEnd}
+use Rattle.dlms_ends.specs.declared.polling.TheConstants.{TURNS}
+use Rattle.dlms_ends.proofs.MomentLemmas.{map_append}
+use Rattle.dlms_ends.proofs.PollLemmas.{HeadSide, system_told}
 use Rattle.dlms_field.specs.Calling.{AreWithin, ClockFails, Does, Calls, Drives, FailsCalled, HeadFails, IsOfCall, LineFails, Looks, Polling, Tires, Unbegun}
 use Rattle.dlms_field.specs.Deadline.{IsOver}
 use Rattle.dlms_field.specs.Keeping.{PrintsLine}

@@ -3,13 +3,13 @@ use Rattle.std.proofs.Common.{refl, sym, ap, ◌∙◌, ◌≡◌, ◌↔◌, �
 use Rattle.std.specs.Prelude.{IsErr, IsErrAnd, IsTrue}
 use Rattle.std.specs.declared.io.Error.{Error}
 use Rattle.std.proofs.lemmas.Bool.{false≢true}
-use Rattle.dlms_loopback.specs.Faults.{TellsError}
-use Rattle.dlms_loopback.specs.Moments.{Moment, Adds, Breaks}
-use Rattle.dlms_loopback.specs.Moments.Moment.{Went}
-use Rattle.dlms_loopback.specs.declared.fault.LoopFault.{LoopFault}
-use Rattle.dlms_loopback.specs.declared.meter_end.Taken.{Taken}
-use Rattle.dlms_loopback.proofs.MomentLemmas.{adds_none}
-use Rattle.dlms_loopback.proofs.PollLemmas.{system_told}
+use Rattle.dlms_ends.specs.Faults.{TellsError}
+use Rattle.dlms_ends.specs.Moments.{Moment, Adds, Breaks}
+use Rattle.dlms_ends.specs.Moments.Moment.{Went}
+use Rattle.dlms_ends.specs.declared.fault.LoopFault.{LoopFault}
+use Rattle.dlms_ends.specs.declared.meter_end.Taken.{Taken}
+use Rattle.dlms_ends.proofs.MomentLemmas.{adds_none}
+use Rattle.dlms_ends.proofs.PollLemmas.{system_told}
 use Rattle.dlms_meter.specs.Steps.{IsCall}
 use Rattle.dlms_meter.specs.Steps.Call.{Fed}
 use Rattle.dlms_meter.specs.declared.meter.Meter.{Meter}

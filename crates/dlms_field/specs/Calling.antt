@@ -6,14 +6,14 @@ use Rattle.dlms_headend.specs.PollRun.{IsCall}
 use Rattle.dlms_headend.specs.PollRun.Call.{Next}
 use Rattle.dlms_headend.specs.PollerValue.{PollerValue}
 use Rattle.dlms_headend.specs.declared.poll_fault.PollFault.TheVariants as poll
-use Rattle.dlms_loopback.specs.BothEnds.{CallFails, Called, IsPolled}
-use Rattle.dlms_loopback.specs.Calling.{Act, HeadWorld, frames_of}
-use Rattle.dlms_loopback.specs.Faults.{IsOfSystem}
-use Rattle.dlms_loopback.specs.Moments.{Moment, Adds, Breaks}
-use Rattle.dlms_loopback.specs.Moments.Moment.{Connects}
-use Rattle.dlms_loopback.specs.declared.fault.LoopFault.{LoopFault}
-use Rattle.dlms_loopback.specs.declared.fault.LoopFault.TheVariants.{Io, Poll}
-use Rattle.dlms_loopback.specs.declared.polling.TheConstants.{TURNS}
+use Rattle.dlms_ends.specs.BothEnds.{CallFails, Called, IsPolled}
+use Rattle.dlms_ends.specs.Calling.{Act, HeadWorld, frames_of}
+use Rattle.dlms_ends.specs.Faults.{IsOfSystem}
+use Rattle.dlms_ends.specs.Moments.{Moment, Adds, Breaks}
+use Rattle.dlms_ends.specs.Moments.Moment.{Connects}
+use Rattle.dlms_ends.specs.declared.fault.LoopFault.{LoopFault}
+use Rattle.dlms_ends.specs.declared.fault.LoopFault.TheVariants.{Io, Poll}
+use Rattle.dlms_ends.specs.declared.polling.TheConstants.{TURNS}
 use Rattle.dlms_field.specs.Clocks.{Refuses}
 use Rattle.dlms_field.specs.Deadline.{IsOver}
 use Rattle.dlms_field.specs.Watching.{Sight, Sees}

@@ -4,9 +4,9 @@ use Rattle.dlms_headend.specs.Asking.{PlanValue}
 use Rattle.dlms_headend.specs.Lines.{IsFile}
 use Rattle.dlms_headend.specs.declared.row.Row.{Row}
 use Rattle.dlms_headend.specs.declared.stage.Course.TheVariants.{Done}
-use Rattle.dlms_loopback.specs.Filing.{Asked, Asks, FilesRows}
-use Rattle.dlms_loopback.specs.Filing.Asked.{Lays, Puts}
-use Rattle.dlms_loopback.specs.Printing.{Printed}
+use Rattle.dlms_filing.specs.Filing.{Asked, Asks, FilesRows}
+use Rattle.dlms_filing.specs.Filing.Asked.{Lays, Puts}
+use Rattle.dlms_filing.specs.Printing.{Printed}
 use Rattle.dlms_meter.specs.Run.{MeterWorld, Stands, events_of}
 use Rattle.dlms_meter.specs.declared.meter.Meter.{Meter}
 use Rattle.dlms_pages.specs.declared.device.Pages.{Ghosts}

@@ -4,12 +4,12 @@ use Rattle.std.specs.IoError.{error_kind}
 use Rattle.std.specs.declared.io.Error.{Error}
 use Rattle.std.specs.declared.io.ErrorKind.TheVariants.{UnexpectedEof}
 use Rattle.dlms_frame.specs.declared.client.Client.{Client}
-use Rattle.dlms_loopback.specs.Faults.{IsOfSystem}
-use Rattle.dlms_loopback.specs.Moments.{Moment, Adds, Breaks}
-use Rattle.dlms_loopback.specs.Moments.Moment.{Came, Quiet, Unheard, Went, Broke}
-use Rattle.dlms_loopback.specs.declared.fault.LoopFault.{LoopFault}
-use Rattle.dlms_loopback.specs.declared.fault.LoopFault.TheVariants.{Add, Io}
-use Rattle.dlms_loopback.specs.declared.meter_end.Taken.{Taken}
+use Rattle.dlms_ends.specs.Faults.{IsOfSystem}
+use Rattle.dlms_ends.specs.Moments.{Moment, Adds, Breaks}
+use Rattle.dlms_ends.specs.Moments.Moment.{Came, Quiet, Unheard, Went, Broke}
+use Rattle.dlms_ends.specs.declared.fault.LoopFault.{LoopFault}
+use Rattle.dlms_ends.specs.declared.fault.LoopFault.TheVariants.{Add, Io}
+use Rattle.dlms_ends.specs.declared.meter_end.Taken.{Taken}
 use Rattle.dlms_meter.specs.Run.{record_for}
 use Rattle.dlms_meter.specs.Steps.{IsCall}
 use Rattle.dlms_meter.specs.Steps.Call.{Fed}

@@ -1,7 +1,7 @@
 -- Where a call of the system failed.
 use Rattle.std.specs.Prelude.{◌≡◌, ℕ, List}
 use Rattle.std.specs.declared.io.Error.{Error}
-use Rattle.dlms_loopback.specs.declared.fault.LoopFault.{LoopFault}
+use Rattle.dlms_ends.specs.declared.fault.LoopFault.{LoopFault}
 use Rattle.dlms_field.specs.declared.fault.FieldFault.{FieldFault}
 use Rattle.dlms_field.specs.declared.fault.FieldFault.TheVariants.{System, Secret, Late, Clock, Other}
 

@@ -2,16 +2,16 @@
 use Rattle.std.specs.Prelude.{◌≡◌, ◌<◌, ◌-◌, ◌⊎◌, ℕ, List, [], ◌∷◌, length, slice_get, Option, Some, None, Result, Ok, Err, IsOk, MatchResult}
 use Rattle.std.specs.declared.io.Error.{Error}
 use Rattle.dlms_headend.specs.declared.row.Row.{Row}
-use Rattle.dlms_loopback.specs.Faults.{IsOfSystem}
-use Rattle.dlms_loopback.specs.Filing.{Asked, Asks, FilesRows, OpensRows}
-use Rattle.dlms_loopback.specs.Filing.Asked.{Holds}
-use Rattle.dlms_loopback.specs.Printing.{Printed, Prints, PrintsNothing, PrintsPart}
-use Rattle.dlms_loopback.specs.declared.fault.LoopFault.{LoopFault}
-use Rattle.dlms_loopback.specs.declared.fault.LoopFault.TheVariants.{Io, Memory, Readings}
-use Rattle.dlms_loopback.specs.declared.filing.FilingFault.{FilingFault}
-use Rattle.dlms_loopback.specs.declared.filing.FilingFault.TheVariants as filing
-use Rattle.dlms_loopback.specs.declared.filing.OpeningFault.{OpeningFault}
-use Rattle.dlms_loopback.specs.declared.filing.OpeningFault.TheVariants as opening
+use Rattle.dlms_ends.specs.Faults.{IsOfSystem}
+use Rattle.dlms_filing.specs.Filing.{Asked, Asks, FilesRows, OpensRows}
+use Rattle.dlms_filing.specs.Filing.Asked.{Holds}
+use Rattle.dlms_filing.specs.Printing.{Printed, Prints, PrintsNothing, PrintsPart}
+use Rattle.dlms_ends.specs.declared.fault.LoopFault.{LoopFault}
+use Rattle.dlms_ends.specs.declared.fault.LoopFault.TheVariants.{Io, Memory, Readings}
+use Rattle.dlms_filing.specs.declared.filing.FilingFault.{FilingFault}
+use Rattle.dlms_filing.specs.declared.filing.FilingFault.TheVariants as filing
+use Rattle.dlms_filing.specs.declared.filing.OpeningFault.{OpeningFault}
+use Rattle.dlms_filing.specs.declared.filing.OpeningFault.TheVariants as opening
 use Rattle.dlms_field.specs.Clocks.{left_out}
 use Rattle.dlms_field.specs.Faults.{IsOther, IsSystemAt}
 use Rattle.dlms_field.specs.declared.fault.FieldFault.{FieldFault}

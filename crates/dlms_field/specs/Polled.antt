@@ -8,12 +8,12 @@ use Rattle.dlms_headend.specs.PollerValue.{PollerValue}
 use Rattle.dlms_headend.specs.Polling.{fresh_poll}
 use Rattle.dlms_headend.specs.declared.plan.Columns.TheVariants.{Asked as AsksColumns}
 use Rattle.dlms_headend.specs.declared.row.Row.{Row}
-use Rattle.dlms_loopback.specs.BothEnds.{IsDonePoll}
-use Rattle.dlms_loopback.specs.Faults.{TellsError}
-use Rattle.dlms_loopback.specs.Filing.{Asked}
-use Rattle.dlms_loopback.specs.Moments.{Moment}
-use Rattle.dlms_loopback.specs.Printing.{Printed}
-use Rattle.dlms_loopback.specs.declared.fault.LoopFault.{LoopFault}
+use Rattle.dlms_ends.specs.BothEnds.{IsDonePoll}
+use Rattle.dlms_ends.specs.Faults.{TellsError}
+use Rattle.dlms_filing.specs.Filing.{Asked}
+use Rattle.dlms_ends.specs.Moments.{Moment}
+use Rattle.dlms_filing.specs.Printing.{Printed}
+use Rattle.dlms_ends.specs.declared.fault.LoopFault.{LoopFault}
 use Rattle.dlms_field.specs.Calling.{FailsCalled, HasDone}
 use Rattle.dlms_field.specs.Clocks.{AreInTime, IsFirstAhead, Takes}
 use Rattle.dlms_field.specs.Faults.{IsOther}

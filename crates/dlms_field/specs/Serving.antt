@@ -3,9 +3,10 @@ use Rattle.std.specs.Prelude.{◌≡◌, ◌⊎◌, ◌+◌, ◌-◌, ◌^◌, �
 use Rattle.std.specs.IoError.{error_kind, raw_os_error}
 use Rattle.std.specs.declared.io.Error.{Error}
 use Rattle.std.specs.declared.io.ErrorKind.TheVariants.{WouldBlock, Interrupted, ConnectionAborted, ConnectionReset}
-use Rattle.dlms_loopback.specs.Faults.{IsOfSystem}
-use Rattle.dlms_loopback.specs.Moments.{Moment}
-use Rattle.dlms_loopback.specs.declared.fault.LoopFault.{LoopFault}
+use Rattle.std.specs.declared.net.socket_addr.SocketAddr.{SocketAddr}
+use Rattle.dlms_ends.specs.Faults.{IsOfSystem}
+use Rattle.dlms_ends.specs.Moments.{Moment}
+use Rattle.dlms_ends.specs.declared.fault.LoopFault.{LoopFault}
 use Rattle.dlms_meter.specs.declared.meter.Meter.{Meter}
 use Rattle.dlms_pages.specs.declared.device.Pages.{Ghosts}
 use Rattle.dlms_field.specs.Connection.{Connection, Looked, LookFails}
@@ -29,10 +30,10 @@ pub data Visits {P A : Type 0} {ghosts : Ghosts P} (rules : Rules) (seen seen' :
   Prepared : (now : Option (List Sight)) (old new : Option (List Moment)) (result : Result Ending LoopFault) (meter' : Meter P A ghosts) (ticks' : Ticks) → Sees seen now (Prepares None ∷ [])
       → Connection rules old new now seen' meter ticks result meter' ticks' → Visits rules seen seen' meter ticks result meter' ticks'
 
--- Whose association requests were refused too often is not taken for a while; the clock is looked at for that.
-abbrev pub Bans : {T : Type 0} → Option (List Sight) → Option (List Sight) → Result T LoopFault → Type 0
-Bans seen seen' (Ok done) = (now : ℕ) × Sees seen seen' (Second (Some now) ∷ Bars now ∷ [])
-Bans seen seen' (Err fault) = Sees seen seen' (Second None ∷ []) × IsOfSystem fault
+-- This address, whose association requests were refused too often, is not taken for a while; the clock is looked at for that.
+abbrev pub Bans : {T : Type 0} → SocketAddr → Option (List Sight) → Option (List Sight) → Result T LoopFault → Type 0
+Bans address seen seen' (Ok done) = (now : ℕ) × Sees seen seen' (Second (Some now) ∷ Bars address now ∷ [])
+Bans address seen seen' (Err fault) = Sees seen seen' (Second None ∷ []) × IsOfSystem fault
 
 -- so many association requests were refused that the turn was over
 abbrev pub is_refused : Ending → Bool
@@ -43,15 +44,16 @@ is_refused (Over Long) = false
 is_refused Closed = false
 is_refused (Failed error) = false
 
-abbrev pub Closes : {T : Type 0} → Ending → Option (List Sight) → Option (List Sight) → Result T LoopFault → Type 0
-Closes ending seen seen' result = (is_refused ending ≡ true → Bans seen seen' result) × (is_refused ending ≡ false → Sees seen seen' [] × IsOk result)
+abbrev pub Closes : {T : Type 0} → SocketAddr → Ending → Option (List Sight) → Option (List Sight) → Result T LoopFault → Type 0
+Closes address ending seen seen' result = (is_refused ending ≡ true → Bans address seen seen' result) × (is_refused ending ≡ false → Sees seen seen' [] × IsOk result)
 
--- The links of all clients end, the connection is talked with, and they end again; or the clock or the store failed in between.
-pub data ServesOne {P A : Type 0} {ghosts : Ghosts P} (rules : Rules) (seen seen' : Option (List Sight)) (meter : Meter P A ghosts) (ticks : Ticks) : Result (Unit {0}) LoopFault → Meter P A ghosts → Ticks → Type 0 where
+-- The links of all clients end, the connection from this address is talked with, and they end again; or the clock or the store failed in
+-- between.
+pub data ServesOne {P A : Type 0} {ghosts : Ghosts P} (rules : Rules) (address : SocketAddr) (seen seen' : Option (List Sight)) (meter : Meter P A ghosts) (ticks : Ticks) : Result (Unit {0}) LoopFault → Meter P A ghosts → Ticks → Type 0 where
   Served : (now : Option (List Sight)) (begun ended after : Meter P A ghosts) (ticks' : Ticks) (ending : Ending) (result : Result (Unit {0}) LoopFault) → HangsUp meter begun
-      → Visits rules seen now begun ticks (Ok ending) ended ticks' → HangsUp ended after → Closes ending now seen' result → ServesOne rules seen seen' meter ticks result after ticks'
+      → Visits rules seen now begun ticks (Ok ending) ended ticks' → HangsUp ended after → Closes address ending now seen' result → ServesOne rules address seen seen' meter ticks result after ticks'
   Stopped : (begun after : Meter P A ghosts) (ticks' : Ticks) (fault : LoopFault) → HangsUp meter begun → Visits rules seen seen' begun ticks (Err fault) after ticks'
-      → ServesOne rules seen seen' meter ticks (Err fault) after ticks'
+      → ServesOne rules address seen seen' meter ticks (Err fault) after ticks'
 
 -- ---- the next one
 
@@ -79,10 +81,10 @@ TellsOther (Err fault) result = MatchResult result (λ _. ⊥) (λ given. IsOthe
 pub data ServesNext {P A : Type 0} {ghosts : Ghosts P} (rules : Rules) (seen seen' : Option (List Sight)) (meter : Meter P A ghosts) (ticks : Ticks) : Result (Unit {0}) FieldFault → Meter P A ghosts → Ticks → Type 0 where
   NoLook : (fault : LoopFault) (given : FieldFault) (sights : List Sight) (meter' : Meter P A ghosts) (ticks' : Ticks) → IsOther given fault → LookFails rules.tick meter ticks fault sights meter' ticks' → Sees seen seen' sights
       → ServesNext rules seen seen' meter ticks (Err given) meter' ticks'
-  NoneCame : (now : ℕ) (meter' : Meter P A ghosts) (ticks' : Ticks) → Looked rules.tick meter ticks now meter' ticks' → Sees seen seen' (Second (Some now) ∷ Next now (Ok false) ∷ [])
+  NoneCame : (now : ℕ) (meter' : Meter P A ghosts) (ticks' : Ticks) → Looked rules.tick meter ticks now meter' ticks' → Sees seen seen' (Second (Some now) ∷ Next now (Ok None) ∷ [])
       → ServesNext rules seen seen' meter ticks (Ok tt) meter' ticks'
-  OneCame : (now : ℕ) (mid : Option (List Sight)) (was after : Meter P A ghosts) (told ticks' : Ticks) (outcome : Result (Unit {0}) LoopFault) (result : Result (Unit {0}) FieldFault) → Looked rules.tick meter ticks now was told
-      → Sees seen mid (Second (Some now) ∷ Next now (Ok true) ∷ []) → ServesOne rules mid seen' was told outcome after ticks' → TellsOther outcome result → ServesNext rules seen seen' meter ticks result after ticks'
+  OneCame : (now : ℕ) (address : SocketAddr) (mid : Option (List Sight)) (was after : Meter P A ghosts) (told ticks' : Ticks) (outcome : Result (Unit {0}) LoopFault) (result : Result (Unit {0}) FieldFault) → Looked rules.tick meter ticks now was told
+      → Sees seen mid (Second (Some now) ∷ Next now (Ok (Some address)) ∷ []) → ServesOne rules address mid seen' was told outcome after ticks' → TellsOther outcome result → ServesNext rules seen seen' meter ticks result after ticks'
   HasPassed : (now : ℕ) (error : Error) (meter' : Meter P A ghosts) (ticks' : Ticks) → Looked rules.tick meter ticks now meter' ticks' → Passes error → Sees seen seen' (Second (Some now) ∷ Next now (Err error) ∷ Pauses ∷ [])
       → ServesNext rules seen seen' meter ticks (Ok tt) meter' ticks'
   PortFails : (now : ℕ) (error : Error) (given : FieldFault) (meter' : Meter P A ghosts) (ticks' : Ticks) → Looked rules.tick meter ticks now meter' ticks' → (Passes error → ⊥) → IsSystem given error

@@ -4,9 +4,9 @@ use Rattle.std.specs.Prelude.{◌≡◌, ◌⊎◌, ◌+◌, ◌-◌, ◌^◌, �
 use Rattle.std.specs.IoError.{error_kind}
 use Rattle.std.specs.declared.io.Error.{Error}
 use Rattle.std.specs.declared.io.ErrorKind.TheVariants.{TimedOut, UnexpectedEof, WouldBlock}
-use Rattle.dlms_loopback.specs.Faults.{IsOfSystem}
-use Rattle.dlms_loopback.specs.Moments.{Moment}
-use Rattle.dlms_loopback.specs.declared.fault.LoopFault.{LoopFault}
+use Rattle.dlms_ends.specs.Faults.{IsOfSystem}
+use Rattle.dlms_ends.specs.Moments.{Moment}
+use Rattle.dlms_ends.specs.declared.fault.LoopFault.{LoopFault}
 use Rattle.dlms_meter.specs.declared.meter.Meter.{Meter}
 use Rattle.dlms_pages.specs.declared.device.Pages.{Ghosts}
 use Rattle.dlms_field.specs.Connection.{Connection}

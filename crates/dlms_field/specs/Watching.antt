@@ -1,22 +1,23 @@
 -- What a meter that serves, or a head end that polls, asks of the world beside the line, one question after another.
-use Rattle.std.specs.Prelude.{◌≡◌, ◌++◌, ℕ, Bool, true, false, List, Option, Some, None, Result, Ok, Err}
+use Rattle.std.specs.Prelude.{◌≡◌, ◌++◌, ℕ, Bool, true, false, List, Option, Some, None, option_map, Result, Ok, Err}
 use Rattle.std.specs.declared.io.Error.{Error}
-pub use Rattle.dlms_loopback.specs.Filing.{error_in}
+use Rattle.std.specs.declared.net.socket_addr.SocketAddr.{SocketAddr}
+pub use Rattle.dlms_filing.specs.Filing.{error_in}
 
 -- A file was read for a secret: these are its first bytes, or that failed; the clock of the day was looked at: so many seconds have gone by
 -- since 1970, or it failed; the steady clock began anew, or that failed.
 -- The steady clock was looked at: so many whole seconds have gone by, or it failed. It was asked at this second whether another connection
--- waits; the next connection was taken at this second, if there was one, or that failed; it was made ready, or that failed; its address is
--- not taken for a while from this second on; and a while went by.
+-- waits; the next connection was taken at this second, from this address, if there was one, or that failed; it was made ready, or that
+-- failed; this address is not taken for a while from this second on; and a while went by.
 pub data Sight : Type 0 where
   Reads : (file : List ℕ) (bytes : Result (List ℕ) Error) → Sight
   Dates : (second : Result ℕ Error) → Sight
   Starts : (failed : Option Error) → Sight
   Second : (now : Option ℕ) → Sight
   Another : (now : ℕ) (waits : Bool) → Sight
-  Next : (now : ℕ) (came : Result Bool Error) → Sight
+  Next : (now : ℕ) (came : Result (Option SocketAddr) Error) → Sight
   Prepares : (failed : Option Error) → Sight
-  Bars : (now : ℕ) → Sight
+  Bars : (address : SocketAddr) (now : ℕ) → Sight
   Pauses : Sight
 
 -- where it is known what was asked, this came behind it
@@ -37,7 +38,7 @@ abbrev pub has_any : {X : Type 0} → Option X → Bool
 has_any None = false
 has_any (Some x) = true
 
--- whether a connection came
-abbrev pub came_in : {X E : Type 0} → Result (Option X) E → Result Bool E
-came_in (Ok found) = Ok (has_any found)
-came_in (Err e) = Err e
+-- from where a connection came, if one did
+abbrev pub came_in : {X E : Type 0} → Result (Option X) E → (X → SocketAddr) → Result (Option SocketAddr) E
+came_in (Ok found) address = Ok (option_map address found)
+came_in (Err e) address = Err e

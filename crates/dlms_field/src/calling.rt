@@ -3,7 +3,7 @@
 ghost use Rattle.std.specs.Prelude.{◌≡◌, ◌↔◌, IfOk, IfSome, IsTrue};
 ghost use Rattle.dlms_headend.specs.Asking.{PlanValue};
 ghost use Rattle.dlms_headend.specs.Polling.{fresh_poll};
-ghost use Rattle.dlms_loopback.specs.BothEnds.{IsDonePoll};
+ghost use Rattle.dlms_ends.specs.BothEnds.{IsDonePoll};
 ghost use Rattle.dlms_field.specs.Calling.{Calls, Does, IsOfCall};
 ghost use Rattle.dlms_field.specs.Deadline.{IsOver};
 
@@ -11,8 +11,8 @@ use crate::deadline::{Timer, is_over};
 use crate::desk::Desk;
 use crate::fault::FieldFault;
 use crate::phone::Dialling;
+use dlms_ends::{End, HeadEnd, LoopFault, TURNS, Turn};
 use dlms_headend::{PollFault, Poller};
-use dlms_loopback::{End, HeadEnd, LoopFault, TURNS, Turn};
 use std::io;
 
 /// Whether a poll that may take so many seconds has to end at this one.

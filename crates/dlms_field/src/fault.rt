@@ -3,7 +3,7 @@ ghost use Rattle.std.specs.Prelude.{◌≡◌};
 ghost use Rattle.dlms_field.specs.declared.fault.FieldFault.TheVariants.{Other as OtherOf};
 
 use crate::clocks::ClockFault;
-use dlms_loopback::LoopFault;
+use dlms_ends::LoopFault;
 use std::io;
 
 /// Why a tool of the field ended early.

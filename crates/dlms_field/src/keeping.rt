@@ -6,10 +6,9 @@ ghost use Rattle.dlms_field.specs.Keeping.{FilesNone, FilesPolled, HoldsFile, Op
 
 use crate::clocks::left_out;
 use crate::fault::FieldFault;
+use dlms_ends::LoopFault;
+use dlms_filing::{Filing, FilingFault, Holding, OpeningFault, Output, file_rows, open_rows};
 use dlms_headend::{Readings, Row};
-use dlms_loopback::{
-    Filing, FilingFault, Holding, LoopFault, OpeningFault, Output, file_rows, open_rows,
-};
 use std::alloc::Global;
 use std::io;
 

@@ -1,14 +1,14 @@
 //! A head end's end of a line, which is connected to the meter at an address.
 
 ghost use Rattle.std.specs.Prelude.{[], ◌∷◌};
-ghost use Rattle.dlms_loopback.specs.Moments.{Adds};
-ghost use Rattle.dlms_loopback.specs.Moments.Moment.{Connects};
+ghost use Rattle.dlms_ends.specs.Moments.{Adds};
+ghost use Rattle.dlms_ends.specs.Moments.Moment.{Connects};
 
 use crate::deadline::Deadline;
 use crate::line::{Line, WAIT_SECONDS};
 use crate::serial::{Serial, is_device};
 use crate::wire::Wire;
-use dlms_loopback::{End, Heard, PIECE};
+use dlms_ends::{End, Heard, PIECE};
 use std::fs::{File, Files};
 use std::io;
 use std::io::{ErrorKind, Read, Write};

@@ -12,7 +12,7 @@ use crate::talking::{Ending, Rules, Site};
 use crate::ticks::Ticks;
 use crate::turns::{MOST_REFUSALS, Over, Times};
 use crate::watch::{Peer, Watch};
-use dlms_loopback::LoopFault;
+use dlms_ends::LoopFault;
 use dlms_meter::Meter;
 use dlms_pages::Pages;
 use std::alloc::Global;
@@ -126,7 +126,7 @@ pub fn is_refused(ending: Ending) -> bool
 
 /// Bars whose association requests were refused too often.
 fn ban<W: Watch>(watch: &mut W, address: SocketAddr, ending: Ending) -> Result<(), LoopFault>
-    ensures { Closes ending (W.seen watch.old) (W.seen watch.new) result }
+    ensures { Closes address ending (W.seen watch.old) (W.seen watch.new) result }
 {
     if !is_refused(ending) {
         return Ok(());
@@ -143,7 +143,7 @@ fn close<W: Watch + Drop, E: Write>(
     address: SocketAddr,
     ending: Ending,
 ) -> Result<(), LoopFault>
-    ensures closes { Closes ending (W.seen site.old.watch) (W.seen site.new.watch) result }
+    ensures closes { Closes address ending (W.seen site.old.watch) (W.seen site.new.watch) result }
     ensures ticks { site.new.ticks ≡ site.old.ticks }
 {
     ban(&mut site.watch, address, ending)?;
@@ -160,7 +160,7 @@ fn serve_one<W: Watch + Drop, P: Pages, E: Write>(
     meter: &mut Meter<P>,
     peer: Peer<W::Stream>,
 ) -> Result<(), LoopFault>
-    ensures serves { ServesOne rules (W.seen site.old.watch) (W.seen site.new.watch) meter.old site.old.ticks result meter.new site.new.ticks }
+    ensures serves { ServesOne rules peer.address (W.seen site.old.watch) (W.seen site.new.watch) meter.old site.old.ticks result meter.new site.new.ticks }
     ensures calls { (calls : List Call) × Calls meter.old calls meter.new }
 {
     let Peer { stream, address } = peer;

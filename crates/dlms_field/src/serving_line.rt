@@ -14,7 +14,7 @@ use crate::talking::{Ending, Rules, Site};
 use crate::ticks::Ticks;
 use crate::turns::{Over, Times};
 use crate::watch::Watch;
-use dlms_loopback::{End, LoopFault};
+use dlms_ends::{End, LoopFault};
 use dlms_meter::Meter;
 use dlms_pages::Pages;
 use std::fs::{File, Files};

@@ -4,7 +4,7 @@ ghost use Rattle.std.specs.Prelude.{List, Option, None, Ok, [], ◌∷◌};
 ghost use Rattle.dlms_field.specs.Watching.{Sight, Sees, came_in, error_in, ok_in};
 ghost use Rattle.dlms_field.specs.Watching.Sight.{Second, Another, Next, Prepares, Bars, Pauses};
 
-use dlms_loopback::End;
+use dlms_ends::End;
 use std::io;
 use std::net::SocketAddr;
 
@@ -34,7 +34,7 @@ pub trait Watch {
 
     /// The next connection at this second: the one that has waited longest, if there is one.
     fn next(&mut self, now: u64) -> io::Result<Option<Peer<Self::Stream>>>
-        ensures { Sees (seen self.old) (seen self.new) (Next now (came_in result) ∷ []) };
+        ensures { Sees (seen self.old) (seen self.new) (Next now (came_in result (λ peer. peer.address)) ∷ []) };
 
     /// Makes a connection ready: no call on it waits for long.
     fn prepare(&mut self, stream: &mut Self::Stream) -> io::Result<()>
@@ -42,7 +42,7 @@ pub trait Watch {
 
     /// Connections from this address are not taken for a while from this second on.
     fn bar(&mut self, address: SocketAddr, now: u64)
-        ensures { Sees (seen self.old) (seen self.new) (Bars now ∷ []) };
+        ensures { Sees (seen self.old) (seen self.new) (Bars address now ∷ []) };
 
     /// Lets a while go by.
     fn pause(&mut self)

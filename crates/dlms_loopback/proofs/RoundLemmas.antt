@@ -9,17 +9,17 @@ use Rattle.dlms_headend.specs.PollerValue.{PollerValue}
 use Rattle.dlms_headend.specs.declared.row.Row.{Row}
 use Rattle.dlms_meter.specs.declared.meter.Meter.{Meter}
 use Rattle.dlms_pages.specs.declared.device.Pages.{Ghosts}
-use Rattle.dlms_loopback.specs.BothEnds.{IsDonePoll}
-use Rattle.dlms_loopback.specs.Faults.{TellsError}
-use Rattle.dlms_loopback.specs.Filing.{Asked, KeepsRows}
-use Rattle.dlms_loopback.specs.Printing.{Printed, PrintsNothing, PrintsPart}
+use Rattle.dlms_ends.specs.BothEnds.{IsDonePoll}
+use Rattle.dlms_ends.specs.Faults.{TellsError}
+use Rattle.dlms_filing.specs.Filing.{Asked, KeepsRows}
+use Rattle.dlms_filing.specs.Printing.{Printed, PrintsNothing, PrintsPart}
 use Rattle.dlms_loopback.specs.Rounds.{ArePolled, HasOpened, HoldsFile, IsUntouched, JoinsEnds, LoopFails, Loops, OpensReadings, Unlooped, Seen, Reads, IsOfMeter, Rounds, ReadsRows, KeepsPolled, KeepsNothing, TellsKept, Polled, PrintsText, plan_from}
 use Rattle.dlms_loopback.specs.Rounds.LoopFails.{NotOpened, RoundsFail}
 use Rattle.dlms_loopback.specs.Rounds.Reads.{Begun, Then}
-use Rattle.dlms_loopback.specs.declared.fault.LoopFault.{LoopFault}
-use Rattle.dlms_loopback.specs.declared.filing.FilingFault.{FilingFault}
-use Rattle.dlms_loopback.proofs.MomentLemmas.{adds_none}
-use Rattle.dlms_loopback.proofs.PollLemmas.{system_told}
+use Rattle.dlms_ends.specs.declared.fault.LoopFault.{LoopFault}
+use Rattle.dlms_filing.specs.declared.filing.FilingFault.{FilingFault}
+use Rattle.dlms_ends.proofs.MomentLemmas.{adds_none}
+use Rattle.dlms_ends.proofs.PollLemmas.{system_told}
 
 pub prints_part : {T : Type 0} (printed printed' : Printed) (rows : List Row) (bytes : List ℕ) (r : Result T LoopFault) (error : Error)
     → IsErrAnd r (TellsError error) → bytes ≡ text_of rows → PrintsPart printed printed' bytes → PrintsText printed printed' rows r

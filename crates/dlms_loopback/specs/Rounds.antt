@@ -14,19 +14,19 @@ use Rattle.dlms_meter.specs.declared.meter.Meter.{Meter}
 use Rattle.dlms_pages.specs.declared.device.Pages.{Ghosts}
 use Rattle.dlms_store.specs.declared.fault.AddFault.{AddFault}
 use Rattle.dlms_store.specs.declared.fault.OpenFault.{OpenFault}
-use Rattle.dlms_loopback.specs.BothEnds.{IsDonePoll, Polls}
-use Rattle.dlms_loopback.specs.Faults.{IsOfSystem, TellsError}
-use Rattle.dlms_loopback.specs.Filing.{Asked, Asks, KeepsRows, OpensRows}
-use Rattle.dlms_loopback.specs.Filing.Asked.{Holds}
-use Rattle.dlms_loopback.specs.Moments.{Moment, Adds}
-use Rattle.dlms_loopback.specs.Moments.Moment.{Joins}
-use Rattle.dlms_loopback.specs.Printing.{Printed, Prints, PrintsNothing, PrintsPart}
-use Rattle.dlms_loopback.specs.declared.fault.LoopFault.{LoopFault}
-use Rattle.dlms_loopback.specs.declared.fault.LoopFault.TheVariants.{Open, Add, Readings, Io, Memory}
-use Rattle.dlms_loopback.specs.declared.filing.FilingFault.{FilingFault}
-use Rattle.dlms_loopback.specs.declared.filing.FilingFault.TheVariants as filing
-use Rattle.dlms_loopback.specs.declared.filing.OpeningFault.{OpeningFault}
-use Rattle.dlms_loopback.specs.declared.filing.OpeningFault.TheVariants as opening
+use Rattle.dlms_ends.specs.BothEnds.{IsDonePoll, Polls}
+use Rattle.dlms_ends.specs.Faults.{IsOfSystem, TellsError}
+use Rattle.dlms_filing.specs.Filing.{Asked, Asks, KeepsRows, OpensRows}
+use Rattle.dlms_filing.specs.Filing.Asked.{Holds}
+use Rattle.dlms_ends.specs.Moments.{Moment, Adds}
+use Rattle.dlms_ends.specs.Moments.Moment.{Joins}
+use Rattle.dlms_filing.specs.Printing.{Printed, Prints, PrintsNothing, PrintsPart}
+use Rattle.dlms_ends.specs.declared.fault.LoopFault.{LoopFault}
+use Rattle.dlms_ends.specs.declared.fault.LoopFault.TheVariants.{Open, Add, Readings, Io, Memory}
+use Rattle.dlms_filing.specs.declared.filing.FilingFault.{FilingFault}
+use Rattle.dlms_filing.specs.declared.filing.FilingFault.TheVariants as filing
+use Rattle.dlms_filing.specs.declared.filing.OpeningFault.{OpeningFault}
+use Rattle.dlms_filing.specs.declared.filing.OpeningFault.TheVariants as opening
 
 -- what is known of the two ends of a line, and of the place of the readings
 pub record Seen : Type 0 where

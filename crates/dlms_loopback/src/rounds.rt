@@ -3,17 +3,14 @@
 ghost use Rattle.std.specs.Prelude.{◌≡◌, ◌≤◌, ◌+◌, Some, IfErr, IfOk, IfSome, MatchResult, option_map};
 ghost use Rattle.dlms_headend.specs.Merged.{last_clock};
 ghost use Rattle.dlms_headend.specs.Polling.{fresh_poll};
-ghost use Rattle.dlms_loopback.specs.Faults.{TellsError};
+ghost use Rattle.dlms_ends.specs.Faults.{TellsError};
 ghost use Rattle.dlms_loopback.specs.Rounds.{ArePolled, HoldsFile, IsOfMeter, JoinsEnds, LoopFails, Loops, MakesNone, OpensReadings, PrintsText, ReadsRows, Rounds, Seen, TellsKept, Unlooped, plan_from};
 
-use crate::end::End;
-use crate::fault::LoopFault;
-use crate::filing::{Filing, FilingFault, Holding, OpeningFault, keep_rows, open_rows};
-use crate::output::Output;
-use crate::polling::{poll, poller};
 use crate::socket::{Joining, Line};
 use arrayvec::ArrayVec;
 use dlms_data::LAST_SECOND;
+use dlms_ends::{End, LoopFault, poll, poller};
+use dlms_filing::{Filing, FilingFault, Holding, OpeningFault, Output, keep_rows, open_rows};
 use dlms_frame::Client;
 use dlms_headend::{Poller, Readings};
 use dlms_meter::Meter;

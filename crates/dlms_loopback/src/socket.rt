@@ -1,11 +1,11 @@
 //! A line of this machine with itself.
 
 ghost use Rattle.std.specs.Prelude.{[], ◌∷◌};
-ghost use Rattle.dlms_loopback.specs.Filing.{error_in};
-ghost use Rattle.dlms_loopback.specs.Moments.{Adds};
-ghost use Rattle.dlms_loopback.specs.Moments.Moment.{Joins};
+ghost use Rattle.dlms_filing.specs.Filing.{error_in};
+ghost use Rattle.dlms_ends.specs.Moments.{Adds};
+ghost use Rattle.dlms_ends.specs.Moments.Moment.{Joins};
 
-use crate::end::End;
+use dlms_ends::End;
 use std::io;
 use std::io::{ErrorKind, Read, Write};
 use std::net::{Ipv4Addr, Net, OpenListener, OpenStream, SocketAddr, TcpListener, TcpStream};

@@ -1,4 +1,3 @@
-pub mod ArgumentLemmas
 pub mod CallLemmas
 pub mod HealthLemmas
 pub mod LineLemmas
@@ -8,4 +7,3 @@ pub mod PutLemmas
 pub mod ReplayLemmas
 pub mod RiseLemmas
 pub mod OutcomeLemmas
-pub mod WordLemmas

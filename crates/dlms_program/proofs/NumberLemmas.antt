@@ -1,17 +1,10 @@
 -- Numbers in a line, and the space that parts two of them.
 use Rattle.std.proofs.Common.{arith, refl, sym, subst, ◌∙◌, ◌≡◌, ◌≢◌, ◌<◌, ◌+◌, ◌^◌, ℕ, List, [], ◌∷◌, ◌++◌, length, get_or, take}
-use Rattle.std.specs.Str.{IsUtf8}
 use Rattle.std.specs.Str.Parse.{AllDigits}
 use Rattle.std.specs.Char.{digit_value}
-use Rattle.std.proofs.lemmas.Str.{IsUtf8-from_ascii}
-use Rattle.std.proofs.lemmas.Fmt.{IsAscii-from_digits}
 use Rattle.std.proofs.lemmas.List.{take_more}
-use Rattle.dlms_program.specs.Numbers.{IsNumberOf, HasNoSpace}
-use Rattle.dlms_program.specs.Orders.{SpellsPulses}
-
--- digits are text
-pub number_is_text : (digits : List ℕ) (n : ℕ) → IsNumberOf digits n → IsUtf8 digits
-number_is_text digits n h = IsUtf8-from_ascii digits (IsAscii-from_digits digits h.numeral.1)
+use Rattle.dlms_words.specs.Numbers.{IsNumberOf}
+use Rattle.dlms_program.specs.Orders.{HasNoSpace, SpellsPulses}
 
 pub no_space-append : (bytes : List ℕ) (byte : ℕ) → HasNoSpace bytes → byte ≢ 32 → HasNoSpace (bytes ++ byte ∷ [])
 no_space-append [] byte h k = (k, tt)

@@ -12,7 +12,7 @@ use Rattle.hex.specs.Hex.{decode_of}
 use Rattle.std.specs.Str.Parse.{digits_value}
 use Rattle.dlms_program.specs.declared.orders.Order.{Order}
 use Rattle.dlms_program.specs.declared.orders.Order.TheVariants.{Skip, Feed, Pulses, Moment, Silence, Open, Show}
-use Rattle.dlms_program.specs.Numbers.{IsNumberOf}
+use Rattle.dlms_words.specs.Numbers.{IsNumberOf}
 use Rattle.dlms_program.specs.Orders.{SpellsBytes, SpellsMoment, SpellsPulses, Spells}
 use Rattle.dlms_program.specs.Printed.{reply_lines, state_line}
 use Rattle.dlms_meter.specs.Alike.{IsAlike}

@@ -1,13 +1,9 @@
 pub mod Outcome
-pub mod Addresses
 pub mod Calls
 pub mod Health
 pub mod Lines
-pub mod Numbers
 pub mod Orders
 pub mod Pairs
 pub mod Printed
 pub mod Replay
-pub mod Grammar
-pub mod Words
 pub mod Written

@@ -1,9 +1,14 @@
 -- What a line of a transcript says.
-use Rattle.std.specs.Prelude.{◌≡◌, ◌⊎◌, ◌<◌, ◌^◌, ℕ, List, [], ◌∷◌, ◌++◌, codes}
-use Rattle.dlms_program.specs.Numbers.{IsNumberOf}
+use Rattle.std.specs.Prelude.{◌≡◌, ◌≢◌, ◌⊎◌, ◌<◌, ◌^◌, ℕ, List, [], ◌∷◌, ◌++◌, codes}
+use Rattle.dlms_words.specs.Numbers.{IsNumberOf}
 use Rattle.dlms_program.specs.Pairs.{ArePairs}
 use Rattle.dlms_program.specs.declared.orders.Order.{Order}
 use Rattle.dlms_program.specs.declared.orders.Order.TheVariants.{Skip, Feed, Pulses, Moment, Silence, Open, Show}
+
+-- none of the bytes is a space
+abbrev pub HasNoSpace : List ℕ → Type 0
+HasNoSpace [] = Unit {0}
+HasNoSpace (byte ∷ bytes) = (byte ≢ 32) × HasNoSpace bytes
 
 -- `P`, a channel of 8 bits and a count of 32 bits, parted by one space
 pub record SpellsPulses (line : List ℕ) (channel count : ℕ) : Type 0 where

@@ -8,7 +8,6 @@ ghost use Rattle.dlms_meter.specs.Run.{IsRunningIn, MeterWorld};
 ghost use Rattle.dlms_program.specs.Health.{MeetsEnd, MeetsFault, Reaches};
 ghost use Rattle.dlms_program.specs.Outcome.{AllFound, AllHadMemory, AlikeEnds};
 ghost use Rattle.dlms_program.specs.Replay.{End, GoesWell, IsAt, Replays, ReplaysOr};
-ghost use Rattle.dlms_program.specs.declared.words.TheConstants.{AHEAD, DEADLINE, IDLE, INACTIVITY, TICK, TURN};
 
 use dlms_meter::Meter;
 use dlms_pages::Pages;
@@ -62,10 +61,4 @@ pub fn a_replay_without_a_rise_goes_well<P: Pages, A: Allocator + Copy>(
     ensures any { (honest : Bool) (w : MeterWorld) (number : ℕ) (lines : List (List ℕ)) (written : List ℕ) (end : End) (last : Option MeterWorld) → IsRunningIn w.store
         → (Rose (view_of _start.now.store).faults (view_of _finish.now.store).faults → ⊥) → (MeetsEnd (Some _start.now) (Some _finish.now) → ⊥)
         → (r : ReplaysOr (MeetsFault (Some _start.now) (Some _finish.now)) honest w number lines written end last) → GoesWell honest w number lines written end last r.0 }
-{}
-
-/// The numbers that clauses cite by name: what holds, in seconds, where the words say nothing.
-pub fn the_numbers()
-    ensures poll { (DEADLINE ≡ 300) × (AHEAD ≡ 86400) }
-    ensures serve { (TICK ≡ 1) × (IDLE ≡ 5) × (TURN ≡ 60) × (INACTIVITY ≡ 120) }
 {}

@@ -1,11 +1,10 @@
 //! What a line of a transcript says.
 ghost use Rattle.std.specs.Prelude.{◌≡◌, ◌≤◌, ℕ, List, ◌++◌, ◌∷◌, [], length, codes, IfSome, IfNone};
 ghost use Rattle.dlms_program.specs.declared.orders.Order.{Order as OrderOf};
-ghost use Rattle.dlms_program.specs.Numbers.{HasNoSpace};
-ghost use Rattle.dlms_program.specs.Orders.{Spells, SpellsPulses};
+ghost use Rattle.dlms_program.specs.Orders.{HasNoSpace, Spells, SpellsPulses};
 
-use crate::numbers::number;
 use crate::pairs::Pairs;
+use dlms_words::number;
 
 /// What a line asks for.
 #[derive(Clone, Copy, Debug, PartialEq, Eq)]

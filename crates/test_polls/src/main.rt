@@ -9,7 +9,8 @@ mod tally;
 mod wire;
 
 use anyhow::Result;
-use dlms_loopback::{FilePlace, loopback, sockets};
+use dlms_filing::FilePlace;
+use dlms_loopback::{loopback, sockets};
 use std::io;
 use std::process::ExitCode;
 

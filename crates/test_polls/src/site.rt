@@ -2,8 +2,8 @@
 use crate::poll::MemoryMeter;
 use crate::wire::{Fate, Pieces, Wire};
 use anyhow::{Result, anyhow};
+use dlms_ends::{LoopFault, poll};
 use dlms_headend::{Columns, PollFault, Poller, Row};
-use dlms_loopback::{LoopFault, poll};
 use dlms_meter::Meter;
 use dlms_pages::MemoryPages;
 use dlms_store::PAGES;

@@ -1,12 +1,13 @@
 -- What an entry of a script stands for.
 use Rattle.std.specs.Prelude.{ℕ, Bool, true, false, nat_eq, if◌then◌else◌, List, Option, Some, None, Result, Ok, Err}
 use Rattle.std.specs.declared.io.Error.{Error}
-use Rattle.dlms_loopback.specs.Disk.{FileCall}
-use Rattle.dlms_loopback.specs.Disk.FileCall.{Finds, Locks, Reads, Creates, Writes, Syncs, Renames, SyncsFolder, Removes}
-use Rattle.dlms_loopback.specs.Filing.{Asked}
-use Rattle.dlms_loopback.specs.Filing.Asked.{Holds, Opens, Lays, Puts, Drops}
-use Rattle.dlms_loopback.specs.Moments.{Moment}
-use Rattle.dlms_loopback.specs.Moments.Moment.{Came, Quiet, Unheard, Went, Broke, Connects, Joins}
+use Rattle.std.specs.declared.net.socket_addr.SocketAddr.{SocketAddr}
+use Rattle.dlms_filing.specs.Disk.{FileCall}
+use Rattle.dlms_filing.specs.Disk.FileCall.{Finds, Locks, Reads, Creates, Writes, Syncs, Renames, SyncsFolder, Removes}
+use Rattle.dlms_filing.specs.Filing.{Asked}
+use Rattle.dlms_filing.specs.Filing.Asked.{Holds, Opens, Lays, Puts, Drops}
+use Rattle.dlms_ends.specs.Moments.{Moment}
+use Rattle.dlms_ends.specs.Moments.Moment.{Came, Quiet, Unheard, Went, Broke, Connects, Joins}
 use Rattle.dlms_field.specs.Watching.{Sight}
 use Rattle.dlms_field.specs.Watching.Sight.{Second, Another, Next, Prepares, Bars, Pauses, Starts, Dates, Reads as ReadsSecret}
 
@@ -68,23 +69,23 @@ wire_moment number is_so bytes =
     then Quiet
     else Went bytes
 
-abbrev pub second_if : (is_so : Bool) → ℕ → Option ℕ
-second_if true second = Some second
-second_if false second = None
+abbrev pub where_so : {X : Type 0} → (is_so : Bool) → X → Option X
+where_so true x = Some x
+where_so false x = None
 
 -- what was asked of clocks, a port and files of secrets, by its number
-abbrev pub sight_of : ℕ → (second : ℕ) → (is_so : Bool) → Option Error → (file bytes : List ℕ) → Sight
-sight_of number second is_so failed file bytes =
+abbrev pub sight_of : ℕ → (second : ℕ) → (is_so : Bool) → Option Error → SocketAddr → (file bytes : List ℕ) → Sight
+sight_of number second is_so failed address file bytes =
     if nat_eq number 0
-    then Second (second_if is_so second)
+    then Second (where_so is_so second)
     else if nat_eq number 1
     then Another second is_so
     else if nat_eq number 2
-    then Next second (unless is_so failed)
+    then Next second (unless (where_so is_so address) failed)
     else if nat_eq number 3
     then Prepares failed
     else if nat_eq number 4
-    then Bars second
+    then Bars address second
     else if nat_eq number 5
     then Pauses
     else if nat_eq number 6

@@ -6,9 +6,9 @@ ghost use Rattle.test_scripts.specs.Scripts.{sight_of, wire_moment};
 use crate::noted::{Noted, are_numbered};
 use crate::place::{Sheet, Shelf};
 use arrayvec::ArrayVec;
+use dlms_ends::{End, Heard, PIECE};
 use dlms_field::{Desk, Dialling, FieldFault, MOST_READ, Office, Polling, Timer, poll};
 use dlms_frame::Client;
-use dlms_loopback::{End, Heard, PIECE};
 use dlms_meter::Meter;
 use dlms_pages::MemoryPages;
 use dlms_store::PAGES;
@@ -71,7 +71,7 @@ impl<'a, R: Abort> Table<'a, R> {
 const DAY: u64 = 946_688_400;
 
 impl<R: Abort> Timer for Table<'_, R> {
-    ghost seen = { λ s. Some (map (λ n. sight_of n.number n.second n.is_so n.failed n.file.items n.bytes.items) s.noted.items) };
+    ghost seen = { λ s. Some (map (λ n. sight_of n.number n.second n.is_so n.failed n.address n.file.items n.bytes.items) s.noted.items) };
 
     #[tactic(auto, using(crate::proofs::Lists::map_append))]
     fn seconds(&mut self) -> io::Result<u64> {
@@ -115,14 +115,10 @@ impl<R: Abort> Desk for Table<'_, R> {
         let _fits = secret.try_extend_from_slice(self.secret);
         let file = self.copied(file.as_bytes());
         let bytes = self.copied(secret.as_slice());
-        self.note(Noted {
-            number: 8,
-            second: 0,
-            is_so: true,
-            failed,
-            file,
-            bytes,
-        });
+        let mut noted = Noted::of(self.alloc, 8, 0, true, failed);
+        noted.file = file;
+        noted.bytes = bytes;
+        self.note(noted);
         match failed {
             None => Ok(secret),
             Some(error) => Err(error),

@@ -2,7 +2,7 @@
 ghost use Rattle.std.specs.Prelude.{◌≡◌, [], ◌∷◌, ◌++◌, Some, map, string_bytes};
 ghost use Rattle.test_scripts.specs.Scripts.{file_call};
 
-use dlms_loopback::{Disk, FilePlace, Filing, Holding};
+use dlms_filing::{Disk, FilePlace, Filing, Holding};
 use std::alloc::Global;
 use std::io;
 use std::process::Abort;

@@ -3,10 +3,10 @@ ghost use Rattle.std.specs.Prelude.{◌≡◌, [], ◌∷◌, ◌++◌, Some, ma
 ghost use Rattle.test_scripts.specs.Scripts.{moment_of};
 
 use arrayvec::ArrayVec;
+use dlms_ends::meter_end::turn;
+use dlms_ends::{End, HeadEnd, Heard, LoopFault, PIECE, Turn};
 use dlms_frame::Client;
 use dlms_headend::{Columns, Plan, Poller};
-use dlms_loopback::meter_end::turn;
-use dlms_loopback::{End, HeadEnd, Heard, LoopFault, PIECE, Turn};
 use dlms_meter::Meter;
 use dlms_pages::MemoryPages;
 use dlms_store::PAGES;

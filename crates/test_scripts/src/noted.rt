@@ -1,9 +1,10 @@
 //! What was asked of clocks, a port and files of secrets in a test.
 
-ghost use Rattle.std.specs.Prelude.{◌≡◌};
+ghost use Rattle.std.specs.Prelude.{◌≡◌, true};
 
 use std::alloc::Global;
 use std::io;
+use std::net::{Ipv4Addr, SocketAddr};
 
 /// What was asked, by its number: the second of the steady clock (0), whether another connection waits (1), the next one (2), that
 /// it is made ready (3), that its address is barred (4), that a while goes by (5), that the steady clock begins (6), the clock of
@@ -14,6 +15,7 @@ pub struct Noted {
     pub second: u64,
     pub is_so: bool,
     pub failed: Option<io::Error>,
+    pub address: SocketAddr,
     pub file: Vec<u8>,
     pub bytes: Vec<u8>,
 }
@@ -37,9 +39,29 @@ impl Noted {
             second,
             is_so,
             failed,
+            address: SocketAddr::from((Ipv4Addr::LOCALHOST, 4_059u16)),
             file: Vec::new(alloc),
             bytes: Vec::new(alloc),
         }
+    }
+
+    /// Something that was asked of a port, of a connection from this address.
+    pub fn from(
+        alloc: Global,
+        number: u8,
+        second: u64,
+        failed: Option<io::Error>,
+        address: SocketAddr,
+    ) -> Self
+        ensures number { result.number ≡ number }
+        ensures second { result.second ≡ second }
+        ensures is_so { result.is_so ≡ true }
+        ensures failed { result.failed ≡ failed }
+        ensures address { result.address ≡ address }
+    {
+        let mut noted = Noted::of(alloc, number, second, true, failed);
+        noted.address = address;
+        noted
     }
 }
 

@@ -1,11 +1,11 @@
 //! A place of readings and an output for tests, whose past is known: of their calls one is to fail, and what was asked of them is
 //! kept.
 ghost use Rattle.std.specs.Prelude.{◌≡◌, [], ◌∷◌, ◌++◌, Some, None, map, if◌then◌else◌};
-ghost use Rattle.dlms_loopback.specs.Moments.Moment.{Went, Broke};
+ghost use Rattle.dlms_ends.specs.Moments.Moment.{Went, Broke};
 ghost use Rattle.test_scripts.specs.Scripts.{asked_for};
 
+use dlms_filing::{Filing, FilingFault, Holding, Output, file_rows, keep_rows, open_rows};
 use dlms_headend::{Readings, Row};
-use dlms_loopback::{Filing, FilingFault, Holding, Output, file_rows, keep_rows, open_rows};
 use std::alloc::Global;
 use std::io;
 use std::process::Abort;

@@ -51,7 +51,7 @@ impl<'a, R: Abort> Porch<'a, R> {
 impl<'a, R: Abort> Watch for Porch<'a, R> {
     type Stream = Script<'a, R>;
 
-    ghost seen = { λ s. Some (map (λ n. sight_of n.number n.second n.is_so n.failed n.file.items n.bytes.items) s.noted.items) };
+    ghost seen = { λ s. Some (map (λ n. sight_of n.number n.second n.is_so n.failed n.address n.file.items n.bytes.items) s.noted.items) };
 
     #[tactic(auto, using(crate::proofs::Lists::map_append))]
     fn seconds(&mut self) -> io::Result<u64> {
@@ -76,12 +76,12 @@ impl<'a, R: Abort> Watch for Porch<'a, R> {
     fn next(&mut self, now: u64) -> io::Result<Option<Peer<Script<'a, R>>>> {
         if self.has_come {
             let error = io::Error::other("no port");
-            self.note(Noted::of(self.alloc, 2, now, true, Some(error)));
+            self.note(Noted::of(self.alloc, 2, now, false, Some(error)));
             return Err(error);
         }
         self.has_come = true;
         let address = SocketAddr::from((Ipv4Addr::LOCALHOST, 4_059u16));
-        self.note(Noted::of(self.alloc, 2, now, true, None));
+        self.note(Noted::from(self.alloc, 2, now, None, address));
         Ok(Some(Peer {
             stream: Script::new(self.rt, self.alloc, self.plays),
             address,
@@ -95,8 +95,8 @@ impl<'a, R: Abort> Watch for Porch<'a, R> {
     }
 
     #[tactic(auto, using(crate::proofs::Lists::map_append))]
-    fn bar(&mut self, _address: SocketAddr, now: u64) {
-        self.note(Noted::of(self.alloc, 4, now, true, None));
+    fn bar(&mut self, address: SocketAddr, now: u64) {
+        self.note(Noted::from(self.alloc, 4, now, None, address));
     }
 
     #[tactic(auto, using(crate::proofs::Lists::map_append))]

@@ -2,7 +2,7 @@ use Rattle.std.proofs.Common.{rules, ◌≡◌, map}
 use Rattle.clap.specs.Values.{kind_of}
 use Rattle.clap.specs.Words.{fault_of, subcommand_of}
 use Rattle.clap.specs.declared.error.kind.ErrorKind.TheVariants.{OutOfMemory}
-use Rattle.dlms_program.specs.Grammar.{dlms}
+use Rattle.dlms_words.specs.Grammar.{dlms}
 use Rattle.dlms_command.proofs.Usage.{is_usage}
 use Rattle.dlms_command.proofs.run.Goals as goal
 

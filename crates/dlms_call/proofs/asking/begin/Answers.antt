@@ -2,18 +2,25 @@ use Rattle.std.proofs.Common.{subst}
 use Rattle.dlms_client.specs.ClientValue.{ClientValue}
 use Rattle.dlms_call.specs.Asking.{Dials}
 use Rattle.dlms_call.specs.Asking.FailsToOpen.{NotOpened}
+use Rattle.dlms_call.specs.Talking.{first_world}
 use Rattle.dlms_call.proofs.asking.begin.Goals as goal
 
 pub returns-in-Ok-opened_in-clause-opens : goal.returns-in-Ok-opened_in-clause-opens
-returns-in-Ok-opened_in-clause-opens g c = record {
-  now = g.S.End.past c.begin.new.end;
-  mid = c.in-Ok.head.client;
-  dials = subst (λ (x : ClientValue). Dials (g.S.End.past c.args.line.now) (g.S.End.past c.begin.new.end) x c.in-Ok.head.client) c.new.ensures c.in-Ok.ensures.dials;
-  opens = record { turn = c.settle-turn.result; settles = c.settle-turn.ensures; told = c.in-Ok-opened_in.ensures };
-}
+returns-in-Ok-opened_in-clause-opens g c =
+    let u = c.settle-turn.ensures (first_world c.in-Ok.head.client) c.in-Ok.ensures.stands in (
+      u.0,
+      u.1,
+      record {
+        now = g.S.End.past c.begin.new.end;
+        mid = c.in-Ok.head.client;
+        dials = subst (λ (x : ClientValue). Dials (g.S.End.past c.args.line.now) (g.S.End.past c.begin.new.end) x c.in-Ok.head.client) c.new.ensures c.in-Ok.ensures.dials;
+        opens = record { turn = c.settle-turn.result; settles = u.2; told = c.in-Ok-opened_in.ensures };
+      },
+    )
 
 pub returns-in-Err-opened_in-clause-fails : goal.returns-in-Err-opened_in-clause-fails
 returns-in-Err-opened_in-clause-fails g c =
-    NotOpened (g.S.End.past c.begin.new.end) c.in-Ok.head.client c.settle-turn.new.head.client
+    let u = c.settle-turn.ensures (first_world c.in-Ok.head.client) c.in-Ok.ensures.stands in
+    NotOpened (g.S.End.past c.begin.new.end) c.in-Ok.head.client u.0
     (subst (λ (x : ClientValue). Dials (g.S.End.past c.args.line.now) (g.S.End.past c.begin.new.end) x c.in-Ok.head.client) c.new.ensures c.in-Ok.ensures.dials)
-    (record { turn = c.settle-turn.result; settles = c.settle-turn.ensures; told = c.in-Err-opened_in.ensures })
+    (record { turn = c.settle-turn.result; settles = u.2; told = c.in-Err-opened_in.ensures })

@@ -1,7 +1,7 @@
 use Rattle.std.proofs.Common.{arith, ◌≡◌}
 use Rattle.std.specs.declared.io.Error.{Error}
-use Rattle.dlms_loopback.specs.declared.polling.TheConstants.{TURNS}
-use Rattle.dlms_loopback.proofs.PollLemmas.{done_poll, side_begins, side_done, side_fails, side_sends, takes_as}
+use Rattle.dlms_ends.specs.declared.polling.TheConstants.{TURNS}
+use Rattle.dlms_ends.proofs.PollLemmas.{done_poll, side_begins, side_done, side_fails, side_sends, takes_as}
 use Rattle.dlms_field.proofs.PollingLemmas.{clock_fails, has_tired, head_fails, is_done, is_late, looks_more, looks_none, unbegun}
 use Rattle.dlms_field.proofs.TalkLemmas.{is_false, is_true}
 use Rattle.dlms_field.proofs.calling.done.Goals as goal

@@ -1,7 +1,7 @@
 use Rattle.std.proofs.Common.{subst, Option}
 use Rattle.std.specs.Prelude.{IfSome}
 use Rattle.dlms_headend.specs.PollerValue.{PollerValue}
-use Rattle.dlms_loopback.specs.BothEnds.{IsDonePoll}
+use Rattle.dlms_ends.specs.BothEnds.{IsDonePoll}
 use Rattle.dlms_field.proofs.polling.called.Goals as goal
 
 pub returns-in-Ok-clause-done : goal.returns-in-Ok-clause-done

@@ -1,5 +1,5 @@
 use Rattle.std.proofs.Common.{refl, ap, ◌∙◌, inl, inr}
-use Rattle.dlms_loopback.proofs.PollLemmas.{system_told}
+use Rattle.dlms_ends.proofs.PollLemmas.{system_told}
 use Rattle.dlms_field.specs.Serving.{HasServed, NotBegun}
 use Rattle.dlms_field.specs.declared.fault.FieldFault.TheVariants.{Other, System}
 use Rattle.dlms_field.specs.declared.ticks.Ticks.{Ticks}

@@ -1,5 +1,5 @@
-use Rattle.std.proofs.Common.{refl, ap, Ok, Err}
-use Rattle.dlms_field.specs.Watching.{has_any}
+use Rattle.std.proofs.Common.{refl, ap, option_map, Ok, Err}
+use Rattle.dlms_field.specs.declared.watch.Peer.{Peer}
 use Rattle.dlms_field.specs.declared.fault.FieldFault.TheVariants.{Other, System}
 use Rattle.dlms_field.proofs.CallLemmas.{joined, look_made}
 use Rattle.dlms_field.proofs.ServeLemmas.{has_passed, no_look, none_came, one_came, port_fails}
@@ -19,19 +19,19 @@ pub returns-then-not-passes-clause-calls : goal.returns-then-not-passes-clause-c
 returns-then-not-passes-clause-calls g c = look_made _ _ _ _ _ _ _ _ c.look.ensures
 
 pub returns-in-Ok-serve_one-clause-serves : goal.returns-in-Ok-serve_one-clause-serves
-returns-in-Ok-serve_one-clause-serves g c = one_came c.args.rules (g.W.Watch.seen c.args.site.now.watch) (g.W.Watch.seen c.look.new.self.watch) (g.W.Watch.seen c.next.new.self) (g.W.Watch.seen c.serve_one.new.site.watch) c.args.meter.now c.look.new.meter c.serve_one.new.meter c.args.site.now.ticks c.look.new.self.ticks c.serve_one.new.site.ticks c.in-Ok.now (has_any c.in-Ok-Some.field-0) (Ok tt) (Ok tt) c.in-Ok.ensures c.in-Ok-Some.ensures (ap has_any c.in-Ok-Some.field-0-is) c.in-Ok-serve_one.ensures.serves refl
+returns-in-Ok-serve_one-clause-serves g c = one_came c.args.rules (g.W.Watch.seen c.args.site.now.watch) (g.W.Watch.seen c.look.new.self.watch) (g.W.Watch.seen c.next.new.self) (g.W.Watch.seen c.serve_one.new.site.watch) c.args.meter.now c.look.new.meter c.serve_one.new.meter c.args.site.now.ticks c.look.new.self.ticks c.serve_one.new.site.ticks c.in-Ok.now c.in-Ok-Some.peer.address (option_map (λ (p : Peer _). p.address) c.in-Ok-Some.field-0) (Ok tt) (Ok tt) c.in-Ok.ensures c.in-Ok-Some.ensures (ap (option_map (λ (p : Peer _). p.address)) c.in-Ok-Some.field-0-is) c.in-Ok-serve_one.ensures.serves refl
 
 pub returns-in-Ok-serve_one-clause-calls : goal.returns-in-Ok-serve_one-clause-calls
 returns-in-Ok-serve_one-clause-calls g c = joined _ _ _ (look_made _ _ _ _ _ _ _ _ c.look.ensures) c.serve_one.ensures.calls
 
 pub returns-in-Err-serve_one-clause-serves : goal.returns-in-Err-serve_one-clause-serves
-returns-in-Err-serve_one-clause-serves g c = one_came c.args.rules (g.W.Watch.seen c.args.site.now.watch) (g.W.Watch.seen c.look.new.self.watch) (g.W.Watch.seen c.next.new.self) (g.W.Watch.seen c.serve_one.new.site.watch) c.args.meter.now c.look.new.meter c.serve_one.new.meter c.args.site.now.ticks c.look.new.self.ticks c.serve_one.new.site.ticks c.in-Ok.now (has_any c.in-Ok-Some.field-0) (Err c.in-Err-serve_one.fault) (Err (Other c.in-Err-serve_one.fault)) c.in-Ok.ensures c.in-Ok-Some.ensures (ap has_any c.in-Ok-Some.field-0-is) c.in-Err-serve_one.ensures.serves refl
+returns-in-Err-serve_one-clause-serves g c = one_came c.args.rules (g.W.Watch.seen c.args.site.now.watch) (g.W.Watch.seen c.look.new.self.watch) (g.W.Watch.seen c.next.new.self) (g.W.Watch.seen c.serve_one.new.site.watch) c.args.meter.now c.look.new.meter c.serve_one.new.meter c.args.site.now.ticks c.look.new.self.ticks c.serve_one.new.site.ticks c.in-Ok.now c.in-Ok-Some.peer.address (option_map (λ (p : Peer _). p.address) c.in-Ok-Some.field-0) (Err c.in-Err-serve_one.fault) (Err (Other c.in-Err-serve_one.fault)) c.in-Ok.ensures c.in-Ok-Some.ensures (ap (option_map (λ (p : Peer _). p.address)) c.in-Ok-Some.field-0-is) c.in-Err-serve_one.ensures.serves refl
 
 pub returns-in-Err-serve_one-clause-calls : goal.returns-in-Err-serve_one-clause-calls
 returns-in-Err-serve_one-clause-calls g c = joined _ _ _ (look_made _ _ _ _ _ _ _ _ c.look.ensures) c.serve_one.ensures.calls
 
 pub returns-in-Ok-None-clause-serves : goal.returns-in-Ok-None-clause-serves
-returns-in-Ok-None-clause-serves g c = none_came c.args.rules (g.W.Watch.seen c.args.site.now.watch) (g.W.Watch.seen c.look.new.self.watch) (g.W.Watch.seen c.next.new.self) c.args.meter.now c.look.new.meter c.args.site.now.ticks c.look.new.self.ticks c.in-Ok.now (has_any c.in-Ok-None.field-0) c.in-Ok.ensures c.in-Ok-None.ensures (ap has_any c.in-Ok-None.field-0-is)
+returns-in-Ok-None-clause-serves g c = none_came c.args.rules (g.W.Watch.seen c.args.site.now.watch) (g.W.Watch.seen c.look.new.self.watch) (g.W.Watch.seen c.next.new.self) c.args.meter.now c.look.new.meter c.args.site.now.ticks c.look.new.self.ticks c.in-Ok.now (option_map (λ (p : Peer _). p.address) c.in-Ok-None.field-0) c.in-Ok.ensures c.in-Ok-None.ensures (ap (option_map (λ (p : Peer _). p.address)) c.in-Ok-None.field-0-is)
 
 pub returns-in-Ok-None-clause-calls : goal.returns-in-Ok-None-clause-calls
 returns-in-Ok-None-clause-calls g c = look_made _ _ _ _ _ _ _ _ c.look.ensures

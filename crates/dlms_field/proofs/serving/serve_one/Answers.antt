@@ -11,7 +11,7 @@ returns-in-Err-clause-calls g c = joined _ _ _ c.hang_up.ensures.calls (visit_ma
 
 pub returns-clause-serves : goal.returns-clause-serves
 returns-clause-serves g c =
-    served c.args.rules (g.W.Watch.seen c.args.site.now.watch) (g.W.Watch.seen c.visit.new.site.watch) (g.W.Watch.seen c.close.new.site.watch) c.args.meter.now c.hang_up.new.meter c.visit.new.meter c.hang_up-2.new.meter
+    served c.args.rules c.args.peer.address (g.W.Watch.seen c.args.site.now.watch) (g.W.Watch.seen c.visit.new.site.watch) (g.W.Watch.seen c.close.new.site.watch) c.args.meter.now c.hang_up.new.meter c.visit.new.meter c.hang_up-2.new.meter
     c.args.site.now.ticks c.visit.new.site.ticks c.close.new.site.ticks c.in-Ok.ending c.close.result c.hang_up.ensures.hangs_up c.in-Ok.ensures c.hang_up-2.ensures.hangs_up c.close.ensures.closes c.close.ensures.ticks
 
 pub returns-clause-calls : goal.returns-clause-calls

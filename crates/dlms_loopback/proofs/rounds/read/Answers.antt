@@ -4,8 +4,8 @@ use Rattle.dlms_headend.specs.Merged.{last_clock}
 use Rattle.dlms_headend.specs.PollerValue.{PollerValue}
 use Rattle.dlms_headend.specs.Polling.{fresh_poll}
 use Rattle.dlms_headend.specs.declared.row.Row.{Row}
-use Rattle.dlms_loopback.specs.BothEnds.{Polls}
-use Rattle.dlms_loopback.specs.Filing.{KeepsRows}
+use Rattle.dlms_ends.specs.BothEnds.{Polls}
+use Rattle.dlms_filing.specs.Filing.{KeepsRows}
 use Rattle.dlms_loopback.specs.Rounds.{plan_from}
 use Rattle.dlms_loopback.specs.declared.rounds.TheConstants.{SECRET}
 use Rattle.dlms_loopback.proofs.rounds.read.Goals as goal

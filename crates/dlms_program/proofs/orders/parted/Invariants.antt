@@ -1,5 +1,5 @@
 use Rattle.std.proofs.Common.{take}
-use Rattle.dlms_program.specs.Numbers.{HasNoSpace}
+use Rattle.dlms_program.specs.Orders.{HasNoSpace}
 use Rattle.dlms_program.proofs.orders.parted.Given as goal
 
 abbrev pub invariant-loop-at : goal.invariant-loop-at

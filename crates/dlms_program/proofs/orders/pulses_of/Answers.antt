@@ -1,5 +1,5 @@
 use Rattle.std.proofs.Common.{arith, sym, ◌∙◌, ◌≡◌, ◌<◌, ◌^◌}
-use Rattle.dlms_program.specs.Numbers.{IsNumberOf}
+use Rattle.dlms_words.specs.Numbers.{IsNumberOf}
 use Rattle.dlms_program.proofs.NumberLemmas.{no_pulses, pulses_parts}
 use Rattle.dlms_program.proofs.orders.pulses_of.Goals as goal
 

@@ -1,36 +1,43 @@
-use Rattle.std.proofs.Common.{refl, sym, subst}
-use Rattle.dlms_client.specs.ClientValue.{ClientValue}
-use Rattle.dlms_loopback.proofs.MomentLemmas.{came_as, quiet_as}
-use Rattle.dlms_call.specs.Talking.{Listened}
-use Rattle.dlms_call.specs.Talking.Ends.{BreaksReading, Floods}
-use Rattle.dlms_call.proofs.TalkingLemmas.{ends_again, listened_more, listened_piece, turned, turned_behind}
+use Rattle.std.proofs.Common.{arith, refl}
+use Rattle.dlms_ends.proofs.CallingLemmas.{room, room_of}
+use Rattle.dlms_ends.proofs.MomentLemmas.{came_as, quiet_as}
+use Rattle.dlms_call.proofs.TalkingLemmas.{so_far_start, turn_ends, turn_floods, turn_on, turn_tires, turn_unheard, turn_waits}
 use Rattle.dlms_call.proofs.client_end.ClientEnd.turn.Goals as goal
 
+pub reads-init : goal.reads-init
+reads-init g c = so_far_start _ c.args.self.now
+
 pub returns-in-Err : goal.returns-in-Err
-returns-in-Err g c =
-    turned (g.S.End.past c.args.end.now) (g.S.End.past c.reads.end) (g.S.End.past c.hear.new.self) c.args.self.now.client c.reads.self.client c.reads.self.client _ c.reads.invariant
-    (BreaksReading c.of_system.result c.in-Err.error c.of_system.ensures refl refl c.in-Err.ensures.past)
+returns-in-Err g c = λ t stands.
+    turn_unheard (g.S.End.past c.args.end.now) (g.S.End.past c.reads.end) (g.S.End.past c.hear.new.self) c.args.self.now c.reads.self c.reads._read c.of_system.result c.in-Err.error
+    c.reads.invariant c.in-Err.ensures.past c.of_system.ensures t stands
 
 pub returns-in-Ok-Silence : goal.returns-in-Ok-Silence
-returns-in-Ok-Silence g c =
-    turned (g.S.End.past c.args.end.now) (g.S.End.past c.reads.end) (g.S.End.past c.repeat.new.end) c.args.self.now.client c.reads.self.client c.repeat.new.self.client c.repeat.result c.reads.invariant
-    (ends_again (g.S.End.past c.reads.end) (g.S.End.past c.hear.new.self) (g.S.End.past c.repeat.new.end) c.reads.self.client c.repeat.new.self.client c.repeat.result (quiet_as _ _ _ _ c.in-Ok-Silence.field-0-is c.in-Ok-Silence.ensures.past) c.repeat.ensures)
+returns-in-Ok-Silence g c = λ t stands.
+    turn_waits (g.S.End.past c.args.end.now) (g.S.End.past c.reads.end) (g.S.End.past c.hear.new.self) (g.S.End.past c.repeat.new.end) c.args.self.now c.reads.self c.repeat.new.self c.reads._read c.repeat.result
+    c.reads.invariant (quiet_as _ _ _ _ c.in-Ok-Silence.field-0-is c.in-Ok-Silence.ensures.past) c.repeat.ensures.idle c.repeat.ensures.left c.repeat.ensures.again t stands
 
 pub returns-then-not-counts : goal.returns-then-not-counts
-returns-then-not-counts g c =
-    turned (g.S.End.past c.args.end.now) (g.S.End.past c.reads.end) (g.S.End.past c.hear.new.self) c.args.self.now.client c.reads.self.client c.counts.new.self.client _ c.reads.invariant
-    (Floods _ refl c.counts.ensures (came_as _ _ _ c.hear.new.piece _ c.in-Ok-Bytes.count c.in-Ok-Bytes.field-0-is refl c.in-Ok-Bytes.ensures.past))
+returns-then-not-counts g c = λ t stands.
+    let more = c.counts.ensures.more c.if-not-counts.true in
+    turn_floods (g.S.End.past c.args.end.now) (g.S.End.past c.reads.end) (g.S.End.past c.hear.new.self) c.args.self.now c.reads.self c.counts.new.self c.reads._read c.in-Ok-Bytes.count _
+    c.reads.invariant (came_as _ _ _ c.hear.new.piece _ c.in-Ok-Bytes.count c.in-Ok-Bytes.field-0-is refl c.in-Ok-Bytes.ensures.past)
+    (room _ c.hear.new.piece c.in-Ok-Bytes.count c.in-Ok-Bytes.field-0-is c.in-Ok-Bytes.ensures.fits c.hear.array_long) more.0 more.1 t stands
 
 pub returns-in-Some : goal.returns-in-Some
-returns-in-Some g c =
-    let came = listened_piece (g.S.End.past c.args.end.now) (g.S.End.past c.reads.end) (g.S.End.past c.hear.new.self) c.args.self.now.client c.reads.self.client _ c.reads.invariant
-    (came_as _ _ _ c.hear.new.piece _ c.in-Ok-Bytes.count c.in-Ok-Bytes.field-0-is refl c.in-Ok-Bytes.ensures.past) in
-    turned_behind (g.S.End.past c.args.end.now) (g.S.End.past c.hear.new.self) (g.S.End.past c.take.new.end) c.args.self.now.client c.counts.new.self.client c.take.new.self.client c.in-Some.turn
-    (subst (λ (x : ClientValue). Listened (g.S.End.past c.args.end.now) (g.S.End.past c.hear.new.self) c.args.self.now.client x) (sym c.counts.ensures) came) c.in-Some.ensures
+returns-in-Some g c = λ t stands.
+    let counted = c.counts.ensures.counted c.if-not-counts.false in
+    turn_ends (g.S.End.past c.args.end.now) (g.S.End.past c.reads.end) (g.S.End.past c.hear.new.self) (g.S.End.past c.take.new.end) c.args.self.now c.reads.self c.counts.new.self c.take.new.self c.reads._read c.in-Ok-Bytes.count
+    c.bytes_of.result.now c.in-Some.turn c.reads.invariant (came_as _ _ _ c.hear.new.piece _ c.in-Ok-Bytes.count c.in-Ok-Bytes.field-0-is c.bytes_of.ensures c.in-Ok-Bytes.ensures.past)
+    (room_of _ c.hear.new.piece _ c.in-Ok-Bytes.count c.in-Ok-Bytes.field-0-is c.in-Ok-Bytes.ensures.fits c.hear.array_long c.bytes_of.ensures) counted.0 counted.1 c.in-Some.ensures t stands
 
 pub reads-preserved : goal.reads-preserved
 reads-preserved g c =
-    let came = listened_piece (g.S.End.past c.args.end.now) (g.S.End.past c.reads.end) (g.S.End.past c.hear.new.self) c.args.self.now.client c.reads.self.client _ c.reads.invariant
-    (came_as _ _ _ c.hear.new.piece _ c.in-Ok-Bytes.count c.in-Ok-Bytes.field-0-is refl c.in-Ok-Bytes.ensures.past) in
-    listened_more (g.S.End.past c.args.end.now) (g.S.End.past c.hear.new.self) (g.S.End.past c.take.new.end) c.args.self.now.client c.counts.new.self.client c.take.new.self.client
-    (subst (λ (x : ClientValue). Listened (g.S.End.past c.args.end.now) (g.S.End.past c.hear.new.self) c.args.self.now.client x) (sym c.counts.ensures) came) c.in-None.ensures
+    let counted = c.counts.ensures.counted c.if-not-counts.false in
+    turn_on (g.S.End.past c.args.end.now) (g.S.End.past c.reads.end) (g.S.End.past c.hear.new.self) (g.S.End.past c.take.new.end) c.args.self.now c.reads.self c.counts.new.self c.take.new.self c.reads._read c.in-Ok-Bytes.count
+    c.bytes_of.result.now c.reads.invariant (came_as _ _ _ c.hear.new.piece _ c.in-Ok-Bytes.count c.in-Ok-Bytes.field-0-is c.bytes_of.ensures c.in-Ok-Bytes.ensures.past)
+    (room_of _ c.hear.new.piece _ c.in-Ok-Bytes.count c.in-Ok-Bytes.field-0-is c.in-Ok-Bytes.ensures.fits c.hear.array_long c.bytes_of.ensures) counted.0 counted.1 c.in-None.ensures
+
+pub returns : goal.returns
+returns g c = λ t stands.
+    turn_tires (g.S.End.past c.args.end.now) (g.S.End.past c.reads.end) c.args.self.now c.reads.self c.reads._read c.reads.invariant (omega (arith, c.reads-test.false, c.reads.auto._read-end)) t stands

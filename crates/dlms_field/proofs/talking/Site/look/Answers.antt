@@ -1,5 +1,5 @@
 use Rattle.std.proofs.Common.{refl}
-use Rattle.dlms_loopback.specs.declared.fault.LoopFault.TheVariants.{Add}
+use Rattle.dlms_ends.specs.declared.fault.LoopFault.TheVariants.{Add}
 use Rattle.dlms_store.specs.declared.fault.AddFault.TheVariants.{Exhausted, Device, Stopped}
 use Rattle.dlms_field.proofs.TalkLemmas.{no_clock, no_store}
 use Rattle.dlms_field.proofs.talking.Site.look.Goals as goal

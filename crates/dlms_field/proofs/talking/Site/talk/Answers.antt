@@ -1,5 +1,5 @@
 use Rattle.std.proofs.Common.{arith, [], ◌+◌, Ok, Err}
-use Rattle.dlms_loopback.specs.declared.fault.LoopFault.TheVariants.{Io}
+use Rattle.dlms_ends.specs.declared.fault.LoopFault.TheVariants.{Io}
 use Rattle.dlms_field.specs.Connection.{begins}
 use Rattle.dlms_field.specs.declared.talking.Ending.TheVariants.{Over}
 use Rattle.dlms_field.proofs.ConnectionLemmas.{at, each_ends, each_goes, ends_behind, goes_nothing, goes_on, goes_reading, look_fails_at_read, over_at_read, read_breaks, tires, unbegun, under_begins, under_ends, under_goes}

@@ -1,0 +1,6 @@
+pub mod Faults
+pub mod Moments
+pub mod Serving
+pub mod Inflow
+pub mod Calling
+pub mod BothEnds

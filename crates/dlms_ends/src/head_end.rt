@@ -1,0 +1,159 @@
+//! The head end's end of a line.
+ghost use Rattle.std.specs.Prelude.{◌≡◌, ◌≤◌, ◌<◌, ◌-◌, None, [], IfErr, OnOk};
+ghost use Rattle.dlms_frame.specs.Frame.{spelling};
+ghost use Rattle.dlms_frame.specs.Stream.{Fits};
+ghost use Rattle.dlms_headend.specs.declared.poll_fault.PollFault.TheVariants.{Protocol};
+ghost use Rattle.dlms_ends.specs.Moments.{Puts};
+ghost use Rattle.dlms_ends.specs.Calling.{HeadWorld, IsAt, IsIn, Begins, Repeats, TakesFrame, TakesPiece, TakesTurn};
+
+use crate::end::{End, Heard, PIECE, READS, bytes_of};
+use crate::fault::LoopFault;
+use dlms_frame::{Deframer, Frame, SentFrame};
+use dlms_headend::{PollFault, PollStep, Poller, list_columns};
+use std::alloc::{Allocator, Global};
+use std::io;
+
+/// The most bytes of a poll, those of some sixty thousand rows: more than a year of quarters of an hour.
+pub const MOST_BYTES: usize = 2_097_152;
+
+/// What the head end has come to in a turn.
+#[derive(Clone, Copy, Debug, PartialEq, Eq)]
+pub enum Turn {
+    /// A frame is out.
+    Sent,
+    /// The poll is done.
+    Done,
+}
+
+/// A poll, what came of a frame that is not whole yet, and how many bytes may still come.
+#[derive(Drop)]
+pub struct HeadEnd<A: Allocator = Global> {
+    deframer: Deframer,
+    poller: Poller<A>,
+    left: usize,
+}
+
+fn send<W: End>(end: &mut W, frame: &SentFrame) -> io::Result<()>
+    ensures { Puts (W.past end.old) (W.past end.new) (spelling frame.now) result }
+{
+    end.put(frame.put().as_slice())
+}
+
+/// Takes a frame. Where the poll ends for the meter's columns, the answer tells which they are.
+fn take_frame<W: End, A: Allocator + Copy>(
+    poller: &mut Poller<A>,
+    end: &mut W,
+    frame: Frame<'_>,
+) -> Result<Option<Turn>, LoopFault>
+    ensures { TakesFrame (W.past end.old) (W.past end.new) poller.old frame.entry result poller.new }
+{
+    match poller.on(&frame) {
+        Ok(PollStep::Nothing) => Ok(None),
+        Ok(PollStep::Send(next)) => {
+            send(end, &next)?;
+            Ok(Some(Turn::Sent))
+        }
+        Ok(PollStep::Done) => Ok(Some(Turn::Done)),
+        Err(PollFault::Columns) => Err(LoopFault::Columns(list_columns(poller.answer()))),
+        Err(fault) => Err(LoopFault::Poll(fault)),
+    }
+}
+
+impl<A: Allocator + Copy> HeadEnd<A> {
+    /// Sends the poll's first frame.
+    pub fn begin<W: End>(end: &mut W, poller: Poller<A>) -> io::Result<Self>
+        ensures { Begins (W.past end.old) (W.past end.new) poller result }
+    {
+        let mut poller = poller;
+        match poller.next() {
+            Some(frame) => send(end, &frame)?,
+            None => {}
+        }
+        Ok(HeadEnd {
+            deframer: Deframer::new(),
+            poller,
+            left: MOST_BYTES,
+        })
+    }
+
+    /// The poll as it stands.
+    pub fn into_poller(self) -> Poller<A>
+        ensures { result ≡ self.poller }
+    {
+        self.poller
+    }
+
+    /// Takes the frames among the bytes, up to the one that is answered or ends the poll. What stands behind it came before
+    /// the question that is out now, and is dropped.
+    fn take<W: End>(&mut self, end: &mut W, bytes: &[u8]) -> Result<Option<Turn>, LoopFault>
+        ensures { (h : HeadWorld) → IsAt self.old h → h.inflow.rest ≡ bytes.now → TakesPiece (W.past end.old) (W.past end.new) h self.new result }
+    {
+        let mut rest = bytes;
+        'frames: while !rest.is_empty() {
+            let taken = self.deframer.feed(rest);
+            match self.deframer.frame() {
+                Some(frame) => match take_frame(&mut self.poller, end, frame)? {
+                    Some(turn) => {
+                        self.deframer.idle();
+                        return Ok(Some(turn));
+                    }
+                    None => {}
+                },
+                None => {}
+            }
+            rest = &rest[taken..];
+        }
+        Ok(None)
+    }
+
+    /// So many bytes more have come. More than a poll may have are a fault.
+    fn count(&mut self, bytes: usize) -> Result<(), LoopFault>
+        ensures within { OnOk result (bytes ≤ self.old.left) }
+        ensures counted { OnOk result (self.new ≡ record self.old { left = self.old.left - bytes }) }
+        ensures more { IfErr result (λ fault. (fault ≡ LoopFault.Poll Protocol) × (self.old.left < bytes) × (self.new ≡ self.old)) }
+    {
+        match self.left.checked_sub(bytes) {
+            Some(left) => {
+                self.left = left;
+                Ok(())
+            }
+            None => Err(LoopFault::Poll(PollFault::Protocol)),
+        }
+    }
+
+    /// Nothing came: the frame that is out goes again, and the fourth time-out in a row is a fault.
+    fn repeat<W: End>(&mut self, end: &mut W) -> Result<Turn, LoopFault>
+        ensures again { Repeats (W.past end.old) (W.past end.new) self.old.poller result self.new.poller }
+        ensures idle { Fits self.new.deframer.bytes [] 0 }
+        ensures left { self.new.left ≡ self.old.left }
+    {
+        self.deframer.idle();
+        if !self.poller.is_waiting() {
+            return Err(LoopFault::Poll(PollFault::Line));
+        }
+        let frame = self.poller.timeout()?;
+        send(end, &frame)?;
+        Ok(Turn::Sent)
+    }
+
+    /// The head end takes what comes, until a frame of its own is out or the poll is done. What comes in more than so many pieces
+    /// without one is a fault of the line.
+    pub fn turn<S: End>(&mut self, end: &mut S) -> Result<Turn, LoopFault>
+        ensures { (h : HeadWorld) → IsIn self.old h → TakesTurn (S.past end.old) (S.past end.new) h self.new result }
+    {
+        let mut piece = [0u8; PIECE];
+        'reads: for _read in 0..READS {
+            match end.hear(&mut piece)? {
+                Heard::Silence => return self.repeat(end),
+                Heard::Bytes(count) => {
+                    self.count(count)?;
+                    match self.take(end, bytes_of(&piece, count))? {
+                        Some(turn) => return Ok(turn),
+                        None => {}
+                    }
+                }
+            }
+        }
+        Err(LoopFault::Poll(PollFault::Line))
+    }
+}

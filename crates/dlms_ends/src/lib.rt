@@ -1,0 +1,14 @@
+//! Both ends of a line: a meter that answers at one, a head end that polls at the other, over any two streams.
+#![tactic(auto)]
+
+mod end;
+mod fault;
+mod head_end;
+pub mod meter_end;
+mod polling;
+
+pub use end::{End, Heard, PIECE, bytes_of, put};
+pub use fault::LoopFault;
+pub use head_end::{HeadEnd, MOST_BYTES, Turn};
+pub use meter_end::{Taken, answer};
+pub use polling::{TURNS, poll, poller};

@@ -1,0 +1,52 @@
+-- The text of readings, and what a merge appends to it.
+use Rattle.std.proofs.Common.{refl, sym, ap, ◌∙◌, ◌≡◌, ℕ, List, [], ◌∷◌, ◌++◌, length, append_assoc, drop, slice_index, Option, subst}
+use Rattle.std.specs.Prelude.{Result, Ok, Err}
+use Rattle.std.specs.Fmt.{decimal}
+use Rattle.std.proofs.Math.Seq.{drop-append_seam}
+use Rattle.dlms_headend.specs.declared.row.Row.{Row}
+use Rattle.dlms_headend.specs.Lines.{field, line, lines, text_of, IsFile}
+use Rattle.dlms_headend.specs.Merged.{added, merged}
+use Rattle.dlms_filing.specs.Filing.{Asked, Gives, FilesRows}
+use Rattle.dlms_filing.specs.Printing.{Printed}
+use Rattle.dlms_filing.specs.declared.filing.FilingFault.{FilingFault}
+use Rattle.dlms_filing.specs.declared.filing.FilingFault.TheVariants.{Memory, Output, Place}
+
+field-followed : (number separator : ℕ) (rest more : List ℕ) → field number separator rest ++ more ≡ field number separator (rest ++ more)
+field-followed number separator rest more = append_assoc (decimal number) (separator ∷ rest) more
+
+line-followed : (row : Row) (rest more : List ℕ) → line row rest ++ more ≡ line row (rest ++ more)
+line-followed row rest more =
+    let first = slice_index row.registers 0 in
+    let second = slice_index row.registers 1 in
+    let third = slice_index row.registers 2 in
+    field-followed row.clock 0x2C (field first 0x2C (field second 0x2C (field third 0x0A rest))) more
+    ∙ ap (field row.clock 0x2C) (field-followed first 0x2C (field second 0x2C (field third 0x0A rest)) more
+    ∙ ap (field first 0x2C) (field-followed second 0x2C (field third 0x0A rest) more
+    ∙ ap (field second 0x2C) (field-followed third 0x0A rest more)))
+
+lines-followed : (rows : List Row) (rest more : List ℕ) → lines rows rest ++ more ≡ lines rows (rest ++ more)
+lines-followed [] rest more = refl
+lines-followed (row ∷ rows) rest more = line-followed row (lines rows rest) more ∙ ap (line row) (lines-followed rows rest more)
+
+lines-append : (rows more : List Row) (rest : List ℕ) → lines (rows ++ more) rest ≡ lines rows (lines more rest)
+lines-append [] more rest = refl
+lines-append (row ∷ rows) more rest = ap (line row) (lines-append rows more rest)
+
+-- the text of readings that grew is that of the old ones, and then that of the new
+pub text_of-append : (before new : List Row) → text_of (before ++ new) ≡ text_of before ++ text_of new
+text_of-append before new = lines-append before new [] ∙ sym (lines-followed before [] (text_of new))
+
+-- what stands in the new text behind as many bytes as the old one had
+pub news_are : (before rows : List Row) (first text : List ℕ) → IsFile first before → IsFile text (merged before rows) → drop (length first) text ≡ text_of (added before rows)
+news_are before rows first text old new =
+    let whole : text ≡ text_of before ++ text_of (added before rows) = new.spelled ∙ text_of-append before (added before rows) in
+    ap (drop (length first)) whole ∙ ap (λ t. drop (length t) (text_of before ++ text_of (added before rows))) old.spelled ∙ drop-append_seam (text_of before) (text_of (added before rows))
+
+pub files : {T : Type 0} (old new : Option (List Asked)) (printed printed' : Printed) (before rows after : List Row) (text news : List ℕ) (result : Result T FilingFault)
+    → after ≡ merged before rows → IsFile text after → news ≡ text_of (added before rows) → Gives old new printed printed' text news result → FilesRows old new printed printed' before rows result after
+files {T} old new printed printed' before rows after text news (Ok done) same is lines gives = (same, text, is, subst (λ n. Gives {T = T} old new printed printed' text n (Ok done)) lines gives)
+files {T} old new printed printed' before rows after text news (Err Memory) same is lines gives = absurd gives
+files {T} old new printed printed' before rows after text news (Err Output) same is lines gives =
+    (same, text, is, subst (λ n. Gives {T = T} old new printed printed' text n (Err Output)) lines gives)
+files {T} old new printed printed' before rows after text news (Err (Place e)) same is lines gives =
+    (same, text, is, subst (λ n. Gives {T = T} old new printed printed' text n (Err (Place e))) lines gives)

@@ -1,0 +1,2 @@
+pub mod FilingLemmas
+pub mod DiskLemmas

@@ -1,9 +1,0 @@
-use Rattle.std.proofs.Common.{length}
-use Rattle.dlms_loopback.proofs.CallingLemmas.{HeadFed}
-use Rattle.dlms_loopback.proofs.head_end.HeadEnd.take.Given as goal
-
-abbrev pub invariant-frames : goal.invariant-frames
-invariant-frames g l = HeadFed (g.W.End.past l.fn.end) (g.W.End.past l.end) l.fn.self l.self l.fn.bytes l.rest
-
-abbrev pub decreases-frames : goal.decreases-frames
-decreases-frames g l = length l.rest

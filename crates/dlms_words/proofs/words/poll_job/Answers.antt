@@ -1,0 +1,28 @@
+use Rattle.std.proofs.Common.{rules, refl, subst}
+use Rattle.std.specs.Prelude.{Option}
+use Rattle.clap.specs.Words.{Text}
+use Rattle.dlms_words.specs.Words.{IsSaid, SaysAhead}
+use Rattle.dlms_words.proofs.words.poll_job.Goals as goal
+
+pub returns : goal.returns
+returns c = λ rows met.
+    let address = c.value_for-4.ensures rows met in (
+      rows,
+      refl,
+      search rules,
+      c.value_for-5.ensures rows met,
+      c.value_for-6.ensures rows met,
+      (
+        c.is_given-public.result,
+        c.is_given-reader.result,
+        subst (λ (said : Option Text). IsSaid said c.is_given-public.result) (c.value_for.ensures rows met) c.is_given-public.ensures,
+        subst (λ (said : Option Text). IsSaid said c.is_given-reader.result) (c.value_for-2.ensures rows met) c.is_given-reader.ensures,
+        c.asker.ensures,
+      ),
+      c.number_for.ensures rows met,
+      (
+        c.is_given-checks.result,
+        subst (λ (said : Option Text). IsSaid said c.is_given-checks.result) (c.value_for-3.ensures rows met) c.is_given-checks.ensures,
+        subst (λ (said : Option Text). SaysAhead c.is_given-checks.result said c.ahead.result) (c.value_for-7.ensures rows met) c.ahead.ensures,
+      ),
+    )

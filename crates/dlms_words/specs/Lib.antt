@@ -1,0 +1,4 @@
+pub mod Numbers
+pub mod Addresses
+pub mod Grammar
+pub mod Words

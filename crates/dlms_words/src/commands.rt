@@ -1,0 +1,115 @@
+//! What the program can be asked to do.
+
+use dlms_frame::Client;
+
+/// Which meter is asked, by whom.
+#[derive(Clone, Copy, Debug, PartialEq, Eq)]
+pub struct Asking<'a> {
+    /// Where the meter is.
+    pub place: &'a str,
+    /// The meter's address as it is said.
+    pub server: Option<&'a str>,
+    /// Whether its address has four octets in any case.
+    pub wide: bool,
+    /// The client's address, 1 to 127.
+    pub client: u32,
+    /// The file of the client's secret; without one no secret is sent.
+    pub secret_file: Option<&'a str>,
+    /// Whether the frames are explained.
+    pub verbose: bool,
+}
+
+/// The work that the program is asked to do.
+#[derive(Clone, Copy, Debug, PartialEq, Eq)]
+pub enum Job<'a> {
+    /// Makes a new meter in this file, over whatever it holds; where `demo` is set with a day of captures behind it.
+    Format {
+        file: &'a str,
+        demo: bool,
+    },
+    /// Replays standard input on the meter in this file, or on a new one in memory.
+    Replay {
+        file: Option<&'a str>,
+    },
+    /// Polls a new meter in memory over a socket, into this file where one is named, and so many times more, each time behind a
+    /// stop of the meter.
+    Loopback {
+        readings: Option<&'a str>,
+        stops: u8,
+    },
+    /// Serves the meter in this file on a TCP port, at this address where one is named, or where one is on this serial line; its
+    /// load in watts gives pulses. It is told of
+    /// the seconds of the clock in steps of so many, and says nothing of connections where `quiet` is set. A connection is closed
+    /// on which no frame was answered for `inactivity` seconds; where another waits one on which no frame of an association was
+    /// answered for `idle` seconds, and any once the other has waited for `turn` seconds.
+    Serve {
+        file: &'a str,
+        listen: Option<&'a str>,
+        line: Option<&'a str>,
+        load: u32,
+        tick: u32,
+        quiet: bool,
+        idle: u32,
+        turn: u32,
+        inactivity: u32,
+    },
+    /// Polls the meter at this address or on this serial line once, into this file where one is named, by this client, with the secret in a file, or
+    /// with its first secret where none is named and it has to know one; within so many seconds, and where `ahead` is there with
+    /// no row whose clock is more seconds past the system's.
+    Poll {
+        address: &'a str,
+        readings: Option<&'a str>,
+        secret_file: Option<&'a str>,
+        client: Client,
+        deadline: u32,
+        ahead: Option<u32>,
+    },
+    /// Asks a meter for the attributes with these names, of objects of this class where it is not 0; prints their encodings where
+    /// `raw` is set, and JSON where `json` is.
+    Get {
+        asking: Asking<'a>,
+        names: &'a str,
+        class: u32,
+        raw: bool,
+        json: bool,
+    },
+    /// Lists a meter's objects, as JSON where `json` is set.
+    List {
+        asking: Asking<'a>,
+        json: bool,
+    },
+    /// Sets the attribute with this name, of an object of this class where it is not 0.
+    Set {
+        asking: Asking<'a>,
+        name: &'a str,
+        value: &'a str,
+        class: u32,
+    },
+    /// Calls the method with this name, of an object of this class where it is not 0.
+    Act {
+        asking: Asking<'a>,
+        name: &'a str,
+        value: Option<&'a str>,
+        class: u32,
+    },
+    /// Explains the frames that stand in this file, or on standard input where none is named; where `raw` is set, with strings
+    /// that may be a secret, where `short` is, a frame in one line, where `hex` is, with its octets beside, and where `json` is, as
+    /// an object of JSON.
+    Explain {
+        file: Option<&'a str>,
+        raw: bool,
+        short: bool,
+        hex: bool,
+        json: bool,
+    },
+    /// Shows what stands in a meter's file, and the curve of its load profile where `plot` asks for it.
+    Show {
+        file: &'a str,
+        plot: bool,
+    },
+    /// Plots the load profile of a readings file, as text or as an SVG.
+    Plot {
+        readings: &'a str,
+        svg: bool,
+    },
+}

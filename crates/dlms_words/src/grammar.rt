@@ -1,0 +1,443 @@
+//! The program's commands, and what each may be given.
+
+ghost use Rattle.std.specs.Prelude.{◌≡◌, IfOk, false, map};
+ghost use Rattle.clap.specs.Words.{app_of};
+ghost use Rattle.clap.specs.declared.builder.command.Command.TheViews.{out-Command as fields_of};
+ghost use Rattle.dlms_words.specs.Grammar.{AreAllLocal, app_for, dlms, top};
+
+use crate::arguments::{Argument, Kind, with_arguments, with_commands};
+use crate::help::{
+    ABOUT, ACT_ABOUT, EXPLAIN_ABOUT, FORMAT_ABOUT, GET_ABOUT, LIST_ABOUT, LOOPBACK_ABOUT,
+    PLOT_ABOUT, POLL_ABOUT, REPLAY_ABOUT, SERVE_ABOUT, SET_ABOUT, SHOW_ABOUT,
+};
+use clap::Command;
+use std::alloc::{AllocError, Global};
+
+/// The program's version, as `--version` prints it.
+const VERSION: &str = "0.1.0";
+
+/// A command's words: its name, what it does in a line and in whole, an example, and what it may be given, in two parts.
+#[derive(Clone, Copy, Debug)]
+struct CommandWords {
+    name: &'static str,
+    about: &'static str,
+    long_about: &'static str,
+    example: &'static str,
+    arguments: &'static [Argument],
+    more: &'static [Argument],
+}
+
+/// Which meter is asked, by whom, and whether the frames are explained.
+const ASKING: &[Argument] = &[
+    Argument {
+        name: "server",
+        kind: Kind::Option("UPPER[/LOWER]"),
+        help: "The meter's address, 1 at first",
+    },
+    Argument {
+        name: "wide",
+        kind: Kind::Flag,
+        help: "The meter's address has four octets in any case",
+    },
+    Argument {
+        name: "client",
+        kind: Kind::Number("SAP", 1, 127),
+        help: "The client's address, 1 to 127, 16 at first: the public client's",
+    },
+    Argument {
+        name: "secret-file",
+        kind: Kind::Option("FILE"),
+        help: "The file that the client's secret stands in",
+    },
+    Argument {
+        name: "verbose",
+        kind: Kind::ShortFlag('v'),
+        help: "Explains each frame on standard error",
+    },
+];
+
+/// The program's commands.
+const COMMANDS: [CommandWords; 12] = [
+    CommandWords {
+        name: "format",
+        about: "Makes a new meter in FILE, over whatever FILE holds",
+        long_about: FORMAT_ABOUT,
+        example: "Example:\n  dlms format meter.bin --demo",
+        arguments: &[
+            Argument {
+                name: "FILE",
+                kind: Kind::Wanted,
+                help: "The file that the meter is to stand in",
+            },
+            Argument {
+                name: "demo",
+                kind: Kind::Flag,
+                help: "Gives the meter a day of a household to show",
+            },
+        ],
+        more: &[],
+    },
+    CommandWords {
+        name: "replay",
+        about: "Replays standard input on the meter in FILE, or on a new one in memory",
+        long_about: REPLAY_ABOUT,
+        example: "Example:\n  printf 'P 0 42\\nM 900\\nS\\n' | dlms replay meter.bin",
+        arguments: &[Argument {
+            name: "FILE",
+            kind: Kind::Value,
+            help: "The file that the meter stands in",
+        }],
+        more: &[],
+    },
+    CommandWords {
+        name: "loopback",
+        about: "Polls a meter in memory over a socket, and prints the readings",
+        long_about: LOOPBACK_ABOUT,
+        example: "Example:\n  dlms loopback --readings readings.csv --stops 2",
+        arguments: &[
+            Argument {
+                name: "readings",
+                kind: Kind::Option("FILE"),
+                help: "The file that the readings stand in",
+            },
+            Argument {
+                name: "stops",
+                kind: Kind::Number("N", 0, 100),
+                help: "So many stops of the meter, 0 to 100",
+            },
+        ],
+        more: &[],
+    },
+    CommandWords {
+        name: "serve",
+        about: "Serves the meter in FILE on a TCP port or a serial line",
+        long_about: SERVE_ABOUT,
+        example: "Example:\n  dlms serve meter.bin --load 3000",
+        arguments: &[
+            Argument {
+                name: "FILE",
+                kind: Kind::Wanted,
+                help: "The file that the meter stands in",
+            },
+            Argument {
+                name: "listen",
+                kind: Kind::Option("ADDRESS:PORT"),
+                help: "The address to listen on, 127.0.0.1:4059 at first",
+            },
+            Argument {
+                name: "line",
+                kind: Kind::Option("DEVICE"),
+                help: "The serial line to serve in place of a port",
+            },
+            Argument {
+                name: "load",
+                kind: Kind::Number("WATTS", 0, 1_000_000),
+                help: "So many watts give pulses on channel 0, 0 to 1000000",
+            },
+            Argument {
+                name: "tick",
+                kind: Kind::Number("SECONDS", 1, 60),
+                help: "The meter is told of its seconds in steps of so many, 1 to 60, 1 at first",
+            },
+            Argument {
+                name: "quiet",
+                kind: Kind::Flag,
+                help: "Tells of nothing but the place and a fault",
+            },
+            Argument {
+                name: "idle",
+                kind: Kind::Number("SECONDS", 1, 86_400),
+                help: "Where another waits, a connection may be without an association's frame for so long, 5 at first",
+            },
+            Argument {
+                name: "turn",
+                kind: Kind::Number("SECONDS", 1, 86_400),
+                help: "Where another waits, a connection ends after so long, 60 at first",
+            },
+            Argument {
+                name: "inactivity",
+                kind: Kind::Number("SECONDS", 1, 86_400),
+                help: "A connection may be without an answered frame for so long, 120 at first",
+            },
+        ],
+        more: &[],
+    },
+    CommandWords {
+        name: "poll",
+        about: "Polls the meter at PLACE, and prints the rows that are new",
+        long_about: POLL_ABOUT,
+        example: "Example:\n  dlms poll 127.0.0.1:4059 --readings readings.csv",
+        arguments: &[
+            Argument {
+                name: "PLACE",
+                kind: Kind::Wanted,
+                help: "Where the meter is, HOST:PORT or a serial line",
+            },
+            Argument {
+                name: "readings",
+                kind: Kind::Option("FILE"),
+                help: "The file that the readings stand in",
+            },
+            Argument {
+                name: "secret-file",
+                kind: Kind::Option("FILE"),
+                help: "The file that the client's secret stands in",
+            },
+            Argument {
+                name: "public",
+                kind: Kind::Flag,
+                help: "Asks as the public client",
+            },
+            Argument {
+                name: "reader",
+                kind: Kind::Flag,
+                help: "Asks as the reader",
+            },
+            Argument {
+                name: "deadline",
+                kind: Kind::Number("SECONDS", 1, 86_400),
+                help: "The poll takes so many seconds at most, 1 to 86400, 300 at first",
+            },
+            Argument {
+                name: "check-clock",
+                kind: Kind::Flag,
+                help: "Refuses rows that are too far past the system's clock",
+            },
+            Argument {
+                name: "ahead",
+                kind: Kind::Number("SECONDS", 0, 31_536_000),
+                help: "Checks the clock, and bears so many seconds, 0 to 31536000; with --check-clock alone 86400",
+            },
+        ],
+        more: &[],
+    },
+    CommandWords {
+        name: "get",
+        about: "Asks the meter at PLACE for attributes",
+        long_about: GET_ABOUT,
+        example: "Example:\n  dlms get 127.0.0.1:4059 1.0.1.8.0.255,0.0.1.0.0.255",
+        arguments: &[
+            Argument {
+                name: "PLACE",
+                kind: Kind::Wanted,
+                help: "Where the meter is, HOST:PORT or a serial line",
+            },
+            Argument {
+                name: "NAMES",
+                kind: Kind::Wanted,
+                help: "The attributes, as 1.0.1.8.0.255 or 1.0.99.1.0.255/3, with commas between them",
+            },
+            Argument {
+                name: "class",
+                kind: Kind::Number("CLASS", 1, 65_535),
+                help: "The class of the objects, 1 to 65535; it is not looked up then",
+            },
+            Argument {
+                name: "raw",
+                kind: Kind::Flag,
+                help: "Prints encodings in place of values",
+            },
+            Argument {
+                name: "json",
+                kind: Kind::Flag,
+                help: "Prints JSON",
+            },
+        ],
+        more: ASKING,
+    },
+    CommandWords {
+        name: "list",
+        about: "Lists the objects of the meter at PLACE",
+        long_about: LIST_ABOUT,
+        example: "Example:\n  dlms list 127.0.0.1:4059",
+        arguments: &[
+            Argument {
+                name: "PLACE",
+                kind: Kind::Wanted,
+                help: "Where the meter is, HOST:PORT or a serial line",
+            },
+            Argument {
+                name: "json",
+                kind: Kind::Flag,
+                help: "Prints JSON",
+            },
+        ],
+        more: ASKING,
+    },
+    CommandWords {
+        name: "set",
+        about: "Sets an attribute of the meter at PLACE",
+        long_about: SET_ABOUT,
+        example: "Example:\n  dlms set 127.0.0.1:4059 0.0.1.0.0.255 now --client 1 --secret-file secret",
+        arguments: &[
+            Argument {
+                name: "PLACE",
+                kind: Kind::Wanted,
+                help: "Where the meter is, HOST:PORT or a serial line",
+            },
+            Argument {
+                name: "NAME",
+                kind: Kind::Wanted,
+                help: "The attribute, as 0.0.1.0.0.255",
+            },
+            Argument {
+                name: "VALUE",
+                kind: Kind::Wanted,
+                help: "The value, as u32:900, text:.., hex:.., raw:.., null or now",
+            },
+            Argument {
+                name: "class",
+                kind: Kind::Number("CLASS", 1, 65_535),
+                help: "The class of the objects, 1 to 65535; it is not looked up then",
+            },
+        ],
+        more: ASKING,
+    },
+    CommandWords {
+        name: "act",
+        about: "Calls a method of the meter at PLACE",
+        long_about: ACT_ABOUT,
+        example: "Example:\n  dlms act 127.0.0.1:4059 1.0.1.8.0.255/1 i8:0 --client 1 --secret-file secret",
+        arguments: &[
+            Argument {
+                name: "PLACE",
+                kind: Kind::Wanted,
+                help: "Where the meter is, HOST:PORT or a serial line",
+            },
+            Argument {
+                name: "NAME",
+                kind: Kind::Wanted,
+                help: "The method, as 1.0.1.8.0.255/1",
+            },
+            Argument {
+                name: "VALUE",
+                kind: Kind::Value,
+                help: "The parameter, as the value of set",
+            },
+            Argument {
+                name: "class",
+                kind: Kind::Number("CLASS", 1, 65_535),
+                help: "The class of the objects, 1 to 65535; it is not looked up then",
+            },
+        ],
+        more: ASKING,
+    },
+    CommandWords {
+        name: "explain",
+        about: "Explains the frames that stand in FILE or on standard input, and what they carry",
+        long_about: EXPLAIN_ABOUT,
+        example: "Example:\n  dlms explain line.log",
+        arguments: &[
+            Argument {
+                name: "FILE",
+                kind: Kind::Value,
+                help: "The file that the frames stand in",
+            },
+            Argument {
+                name: "raw",
+                kind: Kind::Flag,
+                help: "Prints strings that may be a secret too",
+            },
+            Argument {
+                name: "short",
+                kind: Kind::Flag,
+                help: "Prints a line for each frame",
+            },
+            Argument {
+                name: "hex",
+                kind: Kind::Flag,
+                help: "Prints the octets of each frame beside it",
+            },
+            Argument {
+                name: "json",
+                kind: Kind::Flag,
+                help: "Prints an object of JSON for each frame",
+            },
+        ],
+        more: &[],
+    },
+    CommandWords {
+        name: "show",
+        about: "Shows what stands in the meter's file FILE, damaged or not",
+        long_about: SHOW_ABOUT,
+        example: "Example:\n  dlms show meter.bin --plot",
+        arguments: &[
+            Argument {
+                name: "FILE",
+                kind: Kind::Wanted,
+                help: "The file that the meter stands in",
+            },
+            Argument {
+                name: "plot",
+                kind: Kind::Flag,
+                help: "Plots the load profile too",
+            },
+        ],
+        more: &[],
+    },
+    CommandWords {
+        name: "plot",
+        about: "Plots the load profile of the readings file READINGS",
+        long_about: PLOT_ABOUT,
+        example: "Example:\n  dlms plot readings.csv --svg > curve.svg",
+        arguments: &[
+            Argument {
+                name: "READINGS",
+                kind: Kind::Wanted,
+                help: "The file that the readings stand in",
+            },
+            Argument {
+                name: "svg",
+                kind: Kind::Flag,
+                help: "Prints an SVG in place of plain text",
+            },
+        ],
+        more: &[],
+    },
+];
+
+/// The command of these words.
+fn command<'a>(alloc: Global, words: &CommandWords) -> Result<Command<'a>, AllocError>
+    ensures shape { IfOk result (λ c. app_of c ≡ app_for words.now) }
+    ensures local { IfOk result (λ c. (fields_of c).has_globals ≡ false) }
+{
+    let command = Command::new(alloc, words.name)
+        .about(words.about)
+        .long_about(words.long_about)
+        .after_help(words.example);
+    let command = with_arguments(alloc, command, words.arguments)?;
+    with_arguments(alloc, command, words.more)
+}
+
+/// The commands of these words.
+fn commands<'a>(alloc: Global, table: &[CommandWords]) -> Result<Vec<Command<'a>>, AllocError>
+    ensures apps { IfOk result (λ commands. map app_of commands.items ≡ map app_for table.now) }
+    ensures local { IfOk result (λ commands. AreAllLocal commands.items) }
+{
+    let mut commands = Vec::new(alloc);
+    for words in table {
+        let command = command(alloc, words)?;
+        commands.push(command)?;
+    }
+    Ok(commands)
+}
+
+/// The program without its commands, of which one is wanted.
+fn top<'a>(alloc: Global) -> Command<'a>
+    ensures { app_of result ≡ top }
+{
+    Command::new(alloc, "dlms")
+        .about(ABOUT)
+        .version(VERSION)
+        .disable_help_subcommand(true)
+        .arg_required_else_help(true)
+        .subcommand_required(true)
+}
+
+/// The program's commands.
+pub fn program<'a>(alloc: Global) -> Result<Command<'a>, AllocError>
+    ensures { IfOk result (λ c. app_of c ≡ dlms) }
+{
+    let commands = commands(alloc, &COMMANDS)?;
+    with_commands(top(alloc), commands)
+}

@@ -1,0 +1,441 @@
+//! What the program's words ask for.
+ghost use Rattle.std.specs.Prelude.{◌≡◌, ◌⊎◌, ◌↔◌, [], List, Some, option_map, OnOk, IfErr, IfNone, IfOk, OnSome, IsTrue, codes, is_some, map};
+ghost use Rattle.clap.specs.Values.{kind_of};
+ghost use Rattle.clap.specs.Words.{fault_of, first_of, Row, FailsBy, HasKind, subcommand_rows_of, subcommand_of};
+ghost use Rattle.dlms_words.specs.Grammar.{dlms};
+ghost use Rattle.dlms_words.specs.Words.{asker as client_by, address_in, Asks, AsksBoth, AsksTwoClients, IsAsking, IsClear, IsUnclear, NamesNoAddress, NamesTwoPlaces, IsSaid, IsSaidFor, Says, SaysAhead, SaysStops, unless_device};
+
+use crate::addresses::{is_address, is_device};
+use crate::commands::{Asking, Job};
+use crate::grammar::program;
+use clap::error::ErrorKind;
+use clap::{ArgMatches, Error};
+use dlms_frame::Client;
+use std::alloc::{AllocError, Global};
+
+/// How many seconds a poll may take where nothing is said.
+const DEADLINE: u32 = 300;
+
+/// The seconds of a step in which a meter that serves is told of the clock where nothing is said.
+const TICK: u32 = 1;
+
+/// For how many seconds a connection may be without an answer of an association where another waits and nothing is said: two frames
+/// that are lost and go again.
+const IDLE: u32 = 5;
+
+/// For how many seconds another connection waits at most where nothing is said: many polls.
+const TURN: u32 = 60;
+
+/// For how many seconds a connection may be without an answer where nothing is said: the default of the inactivity time-out of the
+/// class IEC HDLC setup (Blue Book 4.7.2).
+const INACTIVITY: u32 = 120;
+
+/// By how many seconds a row may be past the system's clock where nothing is said: by a day, since a meter's clock may show the
+/// time of any place.
+const AHEAD: u32 = 86_400;
+
+/// The client that asks where none is said: the public client (IEC 62056-46, reserved addresses).
+const CLIENT: u32 = 16;
+
+/// What is said where two clients are asked for.
+const TWO_CLIENTS: &str = "the argument '--public' cannot be used with '--reader'";
+
+/// What is said where a port and a serial line are named.
+const TWO_PLACES: &str = "the argument '--listen' cannot be used with '--line'";
+
+/// What is said where an address is none.
+const NO_ADDRESS: &str = "an address is wanted as HOST:PORT, with a port of 0 to 65535";
+
+/// What was found for the words.
+fn parsed<'a>(alloc: Global, words: &'a [&'a str]) -> Result<ArgMatches<'a>, Error>
+    ensures kinds { FailsBy (fault_of dlms (map (λ word. word.now) words.entry.now)) result }
+    ensures matches { IfOk result (λ m. subcommand_rows_of m ≡ subcommand_of dlms (map (λ word. word.now) words.entry.now)) }
+{
+    program(alloc)?.try_get_matches_from(words)
+}
+
+/// What was found for one of a command's values, if it was.
+fn value_for<'a>(matches: &ArgMatches<'a>, command: &str, id: &str) -> Option<&'a str>
+    ensures { (rows : List Row) → subcommand_rows_of matches.now ≡ Some (command.now, rows) → option_map (λ value. value.now) result ≡ first_of id.now rows }
+{
+    matches.subcommand_matches(command)?.get_str(id)
+}
+
+/// The count of stops that was said.
+fn stops(said: Option<&str>) -> u8
+    ensures { SaysStops (option_map (λ text. text.now) said.entry) result }
+{
+    match said {
+        Some(text) => text.parse::<u8>().unwrap_or(0),
+        None => 0,
+    }
+}
+
+/// The number that was said, and where none was this one.
+fn number(said: Option<&str>, other: u32) -> u32
+    ensures { Says 32 other (option_map (λ text. text.now) said.entry) result }
+{
+    match said {
+        Some(text) => text.parse::<u32>().unwrap_or(other),
+        None => other,
+    }
+}
+
+/// The number that was said for one of a command's values, and where none was this one.
+fn number_for(matches: &ArgMatches<'_>, command: &str, id: &str, other: u32) -> u32
+    ensures { (rows : List Row) → subcommand_rows_of matches.now ≡ Some (command.now, rows) → IsSaidFor id.now rows other result }
+{
+    number(value_for(matches, command, id), other)
+}
+
+/// By how many seconds a row may be past the system's clock, where that is looked at. Where `clap` takes what is no `u32`, it is
+/// a zero with the sign of a negative number.
+fn ahead(checks: bool, said: Option<&str>) -> Option<u32>
+    ensures { SaysAhead checks (option_map (λ text. text.now) said.entry) result }
+{
+    match said {
+        Some(text) => Some(text.parse::<u32>().unwrap_or(0)),
+        None if checks => Some(AHEAD),
+        None => None,
+    }
+}
+
+/// Whether a flag was given.
+fn is_given(said: Option<&str>) -> bool
+    ensures { IsSaid (option_map (λ text. text.now) said.entry) result }
+{
+    said == Some("true")
+}
+
+/// The values of `format`.
+fn format_job<'a>(matches: &ArgMatches<'a>) -> Job<'a>
+    ensures { (rows : List Row) → subcommand_rows_of matches.now ≡ Some (codes "format", rows) → Asks (Some (codes "format", rows)) result }
+{
+    let demo = is_given(value_for(matches, "format", "demo"));
+    Job::Format {
+        file: value_for(matches, "format", "FILE").unwrap_or(""),
+        demo,
+    }
+}
+
+/// The values of `loopback`.
+fn loopback_job<'a>(matches: &ArgMatches<'a>) -> Job<'a>
+    ensures { (rows : List Row) → subcommand_rows_of matches.now ≡ Some (codes "loopback", rows) → Asks (Some (codes "loopback", rows)) result }
+{
+    Job::Loopback {
+        readings: value_for(matches, "loopback", "readings"),
+        stops: stops(value_for(matches, "loopback", "stops")),
+    }
+}
+
+/// The values of `serve`.
+fn serve_job<'a>(matches: &ArgMatches<'a>) -> Job<'a>
+    ensures { (rows : List Row) → subcommand_rows_of matches.now ≡ Some (codes "serve", rows) → Asks (Some (codes "serve", rows)) result }
+{
+    let quiet = is_given(value_for(matches, "serve", "quiet"));
+    Job::Serve {
+        file: value_for(matches, "serve", "FILE").unwrap_or(""),
+        listen: value_for(matches, "serve", "listen"),
+        line: value_for(matches, "serve", "line"),
+        load: number_for(matches, "serve", "load", 0),
+        tick: number_for(matches, "serve", "tick", TICK),
+        quiet,
+        idle: number_for(matches, "serve", "idle", IDLE),
+        turn: number_for(matches, "serve", "turn", TURN),
+        inactivity: number_for(matches, "serve", "inactivity", INACTIVITY),
+    }
+}
+
+/// Who asks, by the flags that were given.
+fn asker(public: bool, reader: bool) -> Client
+    ensures { result ≡ client_by public reader }
+{
+    if public {
+        Client::Public
+    } else if reader {
+        Client::Reader
+    } else {
+        Client::Management
+    }
+}
+
+/// The values of `poll`.
+fn poll_job<'a>(matches: &ArgMatches<'a>) -> Job<'a>
+    ensures { (rows : List Row) → subcommand_rows_of matches.now ≡ Some (codes "poll", rows) → Asks (Some (codes "poll", rows)) result }
+{
+    let public = is_given(value_for(matches, "poll", "public"));
+    let reader = is_given(value_for(matches, "poll", "reader"));
+    let checks = is_given(value_for(matches, "poll", "check-clock"));
+    Job::Poll {
+        address: value_for(matches, "poll", "PLACE").unwrap_or(""),
+        readings: value_for(matches, "poll", "readings"),
+        secret_file: value_for(matches, "poll", "secret-file"),
+        client: asker(public, reader),
+        deadline: number_for(matches, "poll", "deadline", DEADLINE),
+        ahead: ahead(checks, value_for(matches, "poll", "ahead")),
+    }
+}
+
+/// The values of `show`.
+fn show_job<'a>(matches: &ArgMatches<'a>) -> Job<'a>
+    ensures { (rows : List Row) → subcommand_rows_of matches.now ≡ Some (codes "show", rows) → Asks (Some (codes "show", rows)) result }
+{
+    let plot = is_given(value_for(matches, "show", "plot"));
+    Job::Show {
+        file: value_for(matches, "show", "FILE").unwrap_or(""),
+        plot,
+    }
+}
+
+/// The values of `explain`.
+fn explain_job<'a>(matches: &ArgMatches<'a>) -> Job<'a>
+    ensures { (rows : List Row) → subcommand_rows_of matches.now ≡ Some (codes "explain", rows) → Asks (Some (codes "explain", rows)) result }
+{
+    let raw = is_given(value_for(matches, "explain", "raw"));
+    let short = is_given(value_for(matches, "explain", "short"));
+    let hex = is_given(value_for(matches, "explain", "hex"));
+    let json = is_given(value_for(matches, "explain", "json"));
+    Job::Explain {
+        file: value_for(matches, "explain", "FILE"),
+        raw,
+        short,
+        hex,
+        json,
+    }
+}
+
+/// The values of `plot`.
+fn plot_job<'a>(matches: &ArgMatches<'a>) -> Job<'a>
+    ensures { (rows : List Row) → subcommand_rows_of matches.now ≡ Some (codes "plot", rows) → Asks (Some (codes "plot", rows)) result }
+{
+    let svg = is_given(value_for(matches, "plot", "svg"));
+    Job::Plot {
+        readings: value_for(matches, "plot", "READINGS").unwrap_or(""),
+        svg,
+    }
+}
+
+/// Which meter a command asks, by whom.
+fn asking<'a>(matches: &ArgMatches<'a>, command: &str) -> Asking<'a>
+    ensures { (rows : List Row) → subcommand_rows_of matches.now ≡ Some (command.now, rows) → IsAsking rows result }
+{
+    let wide = is_given(value_for(matches, command, "wide"));
+    let verbose = is_given(value_for(matches, command, "verbose"));
+    Asking {
+        place: value_for(matches, command, "PLACE").unwrap_or(""),
+        server: value_for(matches, command, "server"),
+        wide,
+        client: number_for(matches, command, "client", CLIENT),
+        secret_file: value_for(matches, command, "secret-file"),
+        verbose,
+    }
+}
+
+/// The values of `get`.
+fn get_job<'a>(matches: &ArgMatches<'a>) -> Job<'a>
+    ensures { (rows : List Row) → subcommand_rows_of matches.now ≡ Some (codes "get", rows) → Asks (Some (codes "get", rows)) result }
+{
+    let raw = is_given(value_for(matches, "get", "raw"));
+    let json = is_given(value_for(matches, "get", "json"));
+    Job::Get {
+        asking: asking(matches, "get"),
+        names: value_for(matches, "get", "NAMES").unwrap_or(""),
+        class: number_for(matches, "get", "class", 0),
+        raw,
+        json,
+    }
+}
+
+/// The values of `list`.
+fn list_job<'a>(matches: &ArgMatches<'a>) -> Job<'a>
+    ensures { (rows : List Row) → subcommand_rows_of matches.now ≡ Some (codes "list", rows) → Asks (Some (codes "list", rows)) result }
+{
+    let json = is_given(value_for(matches, "list", "json"));
+    Job::List {
+        asking: asking(matches, "list"),
+        json,
+    }
+}
+
+/// The values of `set`.
+fn set_job<'a>(matches: &ArgMatches<'a>) -> Job<'a>
+    ensures { (rows : List Row) → subcommand_rows_of matches.now ≡ Some (codes "set", rows) → Asks (Some (codes "set", rows)) result }
+{
+    Job::Set {
+        asking: asking(matches, "set"),
+        name: value_for(matches, "set", "NAME").unwrap_or(""),
+        value: value_for(matches, "set", "VALUE").unwrap_or(""),
+        class: number_for(matches, "set", "class", 0),
+    }
+}
+
+/// The values of `act`.
+fn act_job<'a>(matches: &ArgMatches<'a>) -> Job<'a>
+    ensures { (rows : List Row) → subcommand_rows_of matches.now ≡ Some (codes "act", rows) → Asks (Some (codes "act", rows)) result }
+{
+    Job::Act {
+        asking: asking(matches, "act"),
+        name: value_for(matches, "act", "NAME").unwrap_or(""),
+        value: value_for(matches, "act", "VALUE"),
+        class: number_for(matches, "act", "class", 0),
+    }
+}
+
+/// Whether two clients are asked for at once.
+fn asks_two_clients(matches: &ArgMatches<'_>) -> bool
+    ensures { IsTrue result ↔ AsksTwoClients (subcommand_rows_of matches.now) }
+{
+    if matches.subcommand_name() != Some("poll") {
+        return false;
+    }
+    let public = is_given(value_for(matches, "poll", "public"));
+    let reader = is_given(value_for(matches, "poll", "reader"));
+    public && reader
+}
+
+/// Whether one of a command's values was named.
+fn is_named(matches: &ArgMatches<'_>, command: &str, id: &str) -> bool
+    ensures { (rows : List Row) → subcommand_rows_of matches.now ≡ Some (command.now, rows) → result ≡ is_some (first_of id.now rows) }
+{
+    value_for(matches, command, id).is_some()
+}
+
+/// Whether a port and a serial line are named at once.
+fn names_two_places(matches: &ArgMatches<'_>) -> bool
+    ensures { IsTrue result ↔ NamesTwoPlaces (subcommand_rows_of matches.now) }
+{
+    if matches.subcommand_name() != Some("serve") {
+        return false;
+    }
+    let listen = is_named(matches, "serve", "listen");
+    let line = is_named(matches, "serve", "line");
+    listen && line
+}
+
+/// What is said where two are asked for and one is wanted.
+fn conflict(matches: &ArgMatches<'_>) -> Option<&'static str>
+    ensures some { OnSome result (AsksBoth (subcommand_rows_of matches.now)) }
+    ensures none { IfNone result (AsksBoth (subcommand_rows_of matches.now) → ⊥) }
+{
+    if asks_two_clients(matches) {
+        return Some(TWO_CLIENTS);
+    }
+    if names_two_places(matches) {
+        return Some(TWO_PLACES);
+    }
+    None
+}
+
+/// The place, unless it is the device of a serial line.
+fn unless_device(place: Option<&str>) -> Option<&str>
+    ensures { option_map (λ text. text.now) result ≡ unless_device (option_map (λ text. text.now) place.entry) }
+{
+    match place {
+        Some(text) => {
+            if is_device(text.as_bytes()) {
+                None
+            } else {
+                Some(text)
+            }
+        }
+        None => None,
+    }
+}
+
+/// The address that is named, to poll or to listen on.
+fn address_for<'a>(matches: &ArgMatches<'a>) -> Option<&'a str>
+    ensures { option_map (λ text. text.now) result ≡ address_in (subcommand_rows_of matches.now) }
+{
+    if matches.subcommand_name() == Some("poll") {
+        return unless_device(value_for(matches, "poll", "PLACE"));
+    }
+    if matches.subcommand_name() == Some("serve") {
+        return value_for(matches, "serve", "listen");
+    }
+    None
+}
+
+/// Whether the address that is named is none.
+fn names_no_address(matches: &ArgMatches<'_>) -> bool
+    ensures { IsTrue result ↔ NamesNoAddress (subcommand_rows_of matches.now) }
+{
+    match address_for(matches) {
+        Some(text) => !is_address(text.as_bytes()),
+        None => false,
+    }
+}
+
+/// The error of words that clap takes, and that ask for nothing all the same.
+fn complaint(alloc: Global, kind: ErrorKind, message: &str) -> Result<Error, AllocError>
+    ensures { IfOk result (λ e. kind_of e ≡ kind) }
+{
+    let mut program = program(alloc)?;
+    program.error(kind, message)
+}
+
+/// What was found for the words, where it asks for something.
+fn clear<'a>(alloc: Global, words: &'a [&'a str]) -> Result<ArgMatches<'a>, Error>
+    ensures none { OnOk result (fault_of dlms (map (λ word. word.now) words.entry.now) ≡ []) }
+    ensures clear { OnOk result (IsClear (subcommand_of dlms (map (λ word. word.now) words.entry.now))) }
+    ensures matches { IfOk result (λ m. subcommand_rows_of m ≡ subcommand_of dlms (map (λ word. word.now) words.entry.now)) }
+    ensures fault { IfErr result (λ e. HasKind (fault_of dlms (map (λ word. word.now) words.entry.now)) e
+        ⊎ IsUnclear (subcommand_of dlms (map (λ word. word.now) words.entry.now)) e) }
+{
+    let matches = parsed(alloc, words)?;
+    if let Some(message) = conflict(&matches) {
+        return Err(complaint(alloc, ErrorKind::ArgumentConflict, message)?);
+    }
+    if names_no_address(&matches) {
+        return Err(complaint(alloc, ErrorKind::InvalidValue, NO_ADDRESS)?);
+    }
+    Ok(matches)
+}
+
+/// The job that the words name, the first of which is the program's own name: its command and its values are those that `clap`
+/// finds for them. A fault is `clap`'s, or want of memory, or that two clients or two places are asked for, or no address is named
+/// where one is wanted; where there is none of these, it is want of memory.
+#[inline(never)]
+pub fn job<'a>(alloc: Global, words: &'a [&'a str]) -> Result<Job<'a>, Error>
+    ensures ok { IfOk result (Asks (subcommand_of dlms (map (λ word. word.now) words.entry.now))) }
+    ensures clear { OnOk result (IsClear (subcommand_of dlms (map (λ word. word.now) words.entry.now))) }
+    ensures only_ok { OnOk result (fault_of dlms (map (λ word. word.now) words.entry.now) ≡ []) }
+    ensures fault { IfErr result (λ e. HasKind (fault_of dlms (map (λ word. word.now) words.entry.now)) e
+        ⊎ IsUnclear (subcommand_of dlms (map (λ word. word.now) words.entry.now)) e) }
+{
+    let matches = clear(alloc, words)?;
+    if matches.subcommand_name() == Some("format") {
+        return Ok(format_job(&matches));
+    }
+    if matches.subcommand_name() == Some("replay") {
+        let file = value_for(&matches, "replay", "FILE");
+        return Ok(Job::Replay { file });
+    }
+    if matches.subcommand_name() == Some("loopback") {
+        return Ok(loopback_job(&matches));
+    }
+    if matches.subcommand_name() == Some("serve") {
+        return Ok(serve_job(&matches));
+    }
+    if matches.subcommand_name() == Some("get") {
+        return Ok(get_job(&matches));
+    }
+    if matches.subcommand_name() == Some("list") {
+        return Ok(list_job(&matches));
+    }
+    if matches.subcommand_name() == Some("set") {
+        return Ok(set_job(&matches));
+    }
+    if matches.subcommand_name() == Some("act") {
+        return Ok(act_job(&matches));
+    }
+    if matches.subcommand_name() == Some("explain") {
+        return Ok(explain_job(&matches));
+    }
+    if matches.subcommand_name() == Some("show") {
+        return Ok(show_job(&matches));
+    }
+    if matches.subcommand_name() == Some("plot") {
+        return Ok(plot_job(&matches));
+    }
+    Ok(poll_job(&matches))
+}
