@@ -1,0 +1,4 @@
+mod MeterValues
+mod Places
+mod PollerValues
+mod Values

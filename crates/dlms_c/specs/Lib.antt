@@ -1,0 +1,5 @@
+pub mod Codes
+pub mod Kept
+pub mod Meter
+pub mod Place
+pub mod Poll

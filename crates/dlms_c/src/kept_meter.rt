@@ -1,0 +1,257 @@
+//! A meter, and what is to be done for it before its reply goes out.
+ghost use Rattle.std.specs.Prelude.{◌≡◌, ◌≢◌, ◌<◌, ◌≤◌, None, length, take, true, IfSome, IfErr, IfNone, IfOk, MatchOption, option_map};
+ghost use Rattle.dlms_c.specs.declared.codes.TheConstants.{DONE};
+ghost use Rattle.dlms_c.specs.Meter.{Closes, FallsSilent, FallsSilentKept, Fed, FeedsKept, HandsOut, IsClearCode, IsFresh, Judged, JudgesKept, Looked, Replies, event_code};
+ghost use Rattle.dlms_state.specs.declared.event.Event.TheVariants.{Moment, Pulses};
+
+use crate::codes::{CLOSED, DONE, LOST, MEMORY, NOTHING, PAGES, SHORT};
+use crate::meter_codes::{of_event, of_opening};
+use dlms_meter::{Meter, Reply};
+use dlms_pages::Call;
+use dlms_relay::{Relay, RelayedPages};
+use dlms_store::{AddFault, OpenFault};
+use std::alloc::Global;
+
+/// How many writes and syncs have room until they are taken.
+pub const ROOM: usize = 128;
+
+/// A meter whose pages another program keeps: what that program has not done yet stands in the relay, and a reply goes out
+/// behind it.
+#[derive(Drop)]
+pub struct KeptMeter {
+    pub meter: Option<Meter<RelayedPages<Global>, Global>>,
+    pub relay: Relay<Global>,
+    pub reply: Option<Reply>,
+    pub is_lost: bool,
+}
+
+/// A meter over its device, or the code of what went wrong.
+fn kept(
+    opened: Result<Meter<RelayedPages<Global>, Global>, (RelayedPages<Global>, OpenFault)>,
+    relay: Relay<Global>,
+) -> Result<KeptMeter, u32>
+    ensures fresh { IfOk result IsFresh }
+    ensures relay { IfOk result (λ kept. kept.relay ≡ relay) }
+    ensures fault { IfErr result (λ code. code ≢ DONE) }
+{
+    match opened {
+        Ok(meter) => Ok(KeptMeter {
+            meter: Some(meter),
+            relay,
+            reply: None,
+            is_lost: false,
+        }),
+        Err((_, fault)) => Err(of_opening(fault)),
+    }
+}
+
+/// Feeds a meter that is there.
+fn feed_on(
+    meter: &mut Option<Meter<RelayedPages<Global>, Global>>,
+    octets: &[u8],
+) -> Option<(usize, Option<Reply>)>
+    ensures none { meter.old ≡ None → result ≡ None }
+    ensures left { IfNone result (meter.new ≡ meter.old) }
+    ensures within { IfSome result (λ r. r.0 ≤ length octets.now) }
+    ensures fed { IfSome result (λ r. Fed meter.old octets.now r.0 (option_map (λ reply. reply.items) r.1) meter.new) }
+{
+    match meter {
+        Some(running) => Some(running.feed(octets)),
+        None => None,
+    }
+}
+
+/// Gives a meter that is there pulses.
+fn pulses_on(
+    meter: &mut Option<Meter<RelayedPages<Global>, Global>>,
+    channel: u8,
+    count: u32,
+) -> Option<Result<(), AddFault>>
+    ensures none { meter.old ≡ None → result ≡ None }
+    ensures left { IfNone result (meter.new ≡ meter.old) }
+    ensures judged { IfSome result (λ r. Judged meter.old (Pulses channel count) r meter.new) }
+{
+    match meter {
+        Some(running) => Some(running.pulses(channel, count)),
+        None => None,
+    }
+}
+
+/// Gives a meter that is there its second.
+fn moment_on(
+    meter: &mut Option<Meter<RelayedPages<Global>, Global>>,
+    second: u32,
+) -> Option<Result<(), AddFault>>
+    ensures none { meter.old ≡ None → result ≡ None }
+    ensures left { IfNone result (meter.new ≡ meter.old) }
+    ensures judged { IfSome result (λ r. Judged meter.old (Moment second) r meter.new) }
+{
+    match meter {
+        Some(running) => Some(running.moment(second)),
+        None => None,
+    }
+}
+
+/// Lets a meter that is there know of silence.
+fn idle_on(meter: &mut Option<Meter<RelayedPages<Global>, Global>>) -> u32
+    ensures silent { result ≡ DONE → FallsSilent meter.old meter.new }
+    ensures left { result ≢ DONE → meter.new ≡ meter.old }
+{
+    match meter {
+        Some(running) => {
+            running.idle();
+            DONE
+        }
+        None => CLOSED,
+    }
+}
+
+/// What a call answers where it only asks the meter for an event.
+fn code_of(outcome: &Option<Result<(), AddFault>>) -> u32
+    ensures { result ≡ event_code outcome.now }
+{
+    match outcome {
+        Some(outcome) => of_event(outcome),
+        None => CLOSED,
+    }
+}
+
+impl KeptMeter {
+    /// A meter in which nothing has happened.
+    pub fn format(alloc: Global) -> Result<KeptMeter, u32>
+        ensures fresh { IfOk result IsFresh }
+        ensures fault { IfErr result (λ code. code ≢ DONE) }
+    {
+        let Ok((device, relay)) = RelayedPages::new(alloc, dlms_store::PAGES, ROOM) else {
+            return Err(MEMORY);
+        };
+        kept(Meter::format(alloc, device), relay)
+    }
+
+    /// A meter with every event that these pages hold, 544 octets for each.
+    pub fn recover(alloc: Global, slots: &[u8]) -> Result<KeptMeter, u32>
+        requires { 33728 ≤ length slots.now }
+        ensures fresh { IfOk result IsFresh }
+        ensures fault { IfErr result (λ code. code ≢ DONE) }
+    {
+        let Ok((device, relay)) = RelayedPages::over(alloc, slots, dlms_store::PAGES, ROOM) else {
+            return Err(MEMORY);
+        };
+        kept(Meter::recover(alloc, device), relay)
+    }
+
+    /// Whether the meter may be asked for something: no page has failed, and none waits.
+    fn is_clear(&mut self) -> u32
+        ensures looked { Looked self.old self.new }
+        ensures code { IsClearCode self.old result self.new }
+    {
+        if self.is_lost {
+            return LOST;
+        }
+        if self.relay.is_empty() { DONE } else { PAGES }
+    }
+
+    /// Takes octets through at most one frame, and how many. Its reply is given by `reply`.
+    pub fn feed(&mut self, octets: &[u8]) -> (u32, usize)
+        ensures { FeedsKept self.old octets.now result.0 result.1 self.new }
+    {
+        let code = self.is_clear();
+        if code != DONE {
+            return (code, 0);
+        }
+        match feed_on(&mut self.meter, octets) {
+            Some((taken, reply)) => {
+                self.reply = reply;
+                (DONE, taken)
+            }
+            None => (CLOSED, 0),
+        }
+    }
+
+    /// Pulses on a channel.
+    pub fn pulses(&mut self, channel: u8, count: u32) -> u32
+        ensures { JudgesKept self.old (Pulses channel count) result self.new }
+    {
+        let code = self.is_clear();
+        if code != DONE {
+            return code;
+        }
+        let outcome = pulses_on(&mut self.meter, channel, count);
+        code_of(&outcome)
+    }
+
+    /// The meter's own running second.
+    pub fn moment(&mut self, second: u32) -> u32
+        ensures { JudgesKept self.old (Moment second) result self.new }
+    {
+        let code = self.is_clear();
+        if code != DONE {
+            return code;
+        }
+        let outcome = moment_on(&mut self.meter, second);
+        code_of(&outcome)
+    }
+
+    /// The next write or sync that is to be done; none where a page was lost.
+    pub fn next_page(&mut self) -> Option<Call>
+        ensures { HandsOut self.old result self.new }
+    {
+        if self.is_lost {
+            return None;
+        }
+        self.relay.pop().ok()
+    }
+
+    /// A write or a sync could not be done.
+    pub fn lose(&mut self)
+        ensures { self.new ≡ record self.old { is_lost = true } }
+    {
+        self.is_lost = true;
+    }
+
+    /// The reply is put into room that is not too short for it, and is gone then; how many octets it has.
+    pub fn give(&mut self, room: &mut [u8]) -> (u32, usize)
+        ensures { Replies self.old (length room.old) result.0 (take result.1 room.new) self.new }
+    {
+        let code = self.is_clear();
+        if code != DONE {
+            return (code, 0);
+        }
+        let Some(reply) = self.reply.take() else {
+            return (NOTHING, 0);
+        };
+        let count = reply.len();
+        if room.len() < count {
+            self.reply = Some(reply);
+            return (SHORT, count);
+        }
+        room[..count].copy_from_slice(reply.as_slice());
+        (DONE, count)
+    }
+
+    /// Settles what is pending. What that writes and syncs is still to be taken; nothing else is asked of the meter any more.
+    pub fn close(&mut self) -> u32
+        ensures { Closes self.old result self.new }
+    {
+        let code = self.is_clear();
+        if code != DONE {
+            return code;
+        }
+        let Some(running) = self.meter.take() else {
+            return CLOSED;
+        };
+        let _device = running.close();
+        self.reply = None;
+        DONE
+    }
+
+    /// Silence on the line: half a frame is forgotten.
+    pub fn idle(&mut self) -> u32
+        ensures { FallsSilentKept self.old result self.new }
+    {
+        if self.is_lost {
+            return LOST;
+        }
+        idle_on(&mut self.meter)
+    }
+}

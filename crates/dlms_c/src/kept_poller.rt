@@ -1,0 +1,57 @@
+//! A poller, and the frames that it finds in octets.
+ghost use Rattle.std.specs.Prelude.{[], ◌≡◌, ◌≤◌, ℕ, List, None, Some, IfNone, IfSome, IsSome, length, take};
+ghost use Rattle.dlms_data.specs.declared.date_time.TheConstants.{LAST_SECOND};
+ghost use Rattle.dlms_frame.specs.Frame.{Parts};
+ghost use Rattle.dlms_frame.specs.Stream.{Takes};
+ghost use Rattle.dlms_headend.specs.Polling.{CanTimeOut, Fits, Polls, TimesOut};
+
+use dlms_frame::{Deframer, SentFrame};
+use dlms_headend::{Plan, PollFault, PollStep, Poller};
+use std::alloc::Global;
+
+/// A poller, and the stretch of octets in which its meter's frames are found.
+#[derive(Drop)]
+pub struct KeptPoller {
+    pub poller: Poller<Global>,
+    pub deframer: Deframer,
+}
+
+impl KeptPoller {
+    /// A poll by this plan.
+    pub fn new(alloc: Global, plan: Plan) -> KeptPoller
+        requires { IfSome plan.after (λ second. second ≤ LAST_SECOND) }
+        ensures { Fits result.poller [] }
+    {
+        KeptPoller {
+            poller: Poller::new(alloc, plan),
+            deframer: Deframer::new(),
+        }
+    }
+
+    /// Takes octets through at most one frame, and how many; what the poll makes of the frame, if there is one.
+    pub fn on(&mut self, octets: &[u8]) -> (usize, Option<Result<PollStep, PollFault>>)
+        ensures within { result.0 ≤ length octets.now }
+        ensures takes { Takes self.old.deframer.bytes (take result.0 octets.now) self.new.deframer.frame self.new.deframer.bytes }
+        ensures none { self.new.deframer.frame ≡ None → (result.1 ≡ None) × (self.new.poller ≡ self.old.poller) }
+        ensures polls { (f : Parts) → self.new.deframer.frame ≡ Some f → IfSome result.1 (λ step. (apdus : List (List ℕ)) → Fits self.old.poller apdus → Polls apdus f self.old.poller step self.new.poller) }
+        ensures some { (f : Parts) → self.new.deframer.frame ≡ Some f → IsSome result.1 }
+    {
+        let taken = self.deframer.feed(octets);
+        match self.deframer.frame() {
+            Some(frame) => (taken, Some(self.poller.on(&frame))),
+            None => (taken, None),
+        }
+    }
+
+    /// What comes of a time-out, where a frame is out or the poll has failed.
+    pub fn again(&mut self) -> Option<Result<SentFrame, PollFault>>
+        ensures none { IfNone result ((CanTimeOut self.old.poller → ⊥) × (self.new ≡ self.old)) }
+        ensures again { IfSome result (λ again. CanTimeOut self.old.poller × TimesOut self.old.poller again self.new.poller) }
+    {
+        if self.poller.is_waiting() {
+            Some(self.poller.timeout())
+        } else {
+            None
+        }
+    }
+}

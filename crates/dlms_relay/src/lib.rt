@@ -1,0 +1,9 @@
+//! Pages in memory, each of whose writes and syncs is queued for another program to do.
+#![tactic(auto)]
+
+mod loading;
+mod pages;
+mod seal;
+
+pub use pages::{Relay, RelayedPages};
+pub use seal::sealed;

@@ -1,0 +1,56 @@
+//! The pages that stand in slots.
+ghost use Rattle.std.specs.Prelude.{◌≡◌, ◌<◌, ◌≤◌, ◌+◌, ◌*◌, [], ℕ, IfOk, length};
+ghost use Rattle.dlms_pages.specs.Memory.{view_of};
+ghost use Rattle.dlms_pages.specs.Pick.{chosen};
+ghost use Rattle.dlms_pages.specs.declared.device.PageRead.{PageRead as PageReadOf};
+ghost use Rattle.dlms_pages.specs.declared.device.PageRead.TheVariants.{Content};
+ghost use Rattle.dlms_pages.specs.Seal.{ReadsSlot};
+ghost use Rattle.dlms_pages.specs.Stops.{IsFixed};
+ghost use Rattle.dlms_relay.specs.Loaded.{IsLoaded, slot_in};
+
+use dlms_pages::{Choice, MemoryPages, PAGE_BYTES, PageRead, Pages, Pick, SLOT_BYTES, opened};
+use std::alloc::{AllocError, Allocator};
+
+/// What the slot of a page says.
+fn page_of(octets: &[u8], index: u16) -> PageRead
+    requires { 544 * index + 544 ≤ length octets.now }
+    ensures { ReadsSlot index (slot_in octets.now index) result }
+{
+    let start = index as usize * SLOT_BYTES;
+    let mut slot = [0u8; SLOT_BYTES];
+    slot.copy_from_slice(&octets[start..start + SLOT_BYTES]);
+    opened(index, &slot)
+}
+
+/// What is written so that a stop leaves the page, and what is chosen then.
+fn written_as(page: PageRead) -> ([u8; PAGE_BYTES], Choice)
+    ensures { (stable : PageReadOf) → chosen result.1 stable (Content result.0) ≡ page }
+{
+    match page {
+        PageRead::Content(content) => (content, Choice::New),
+        PageRead::Damaged => ([0; PAGE_BYTES], Choice::Torn),
+    }
+}
+
+/// So many pages as they stand in these octets, as after a sync.
+pub(crate) fn loaded<A: Allocator + Copy>(
+    alloc: A,
+    octets: &[u8],
+    count: u16,
+) -> Result<MemoryPages<A>, AllocError>
+    requires { 544 * count ≤ length octets.now }
+    ensures image { IfOk result (λ pages. IsLoaded octets.now count pages.first) }
+    ensures calls { IfOk result (λ pages. pages.calls ≡ []) }
+    ensures fixed { IfOk result (λ pages. IsFixed (view_of pages) pages.first) }
+{
+    let mut pages = MemoryPages::new(alloc, count)?;
+    let mut choices = vec![in alloc; Choice::Old; count as usize]?;
+    for index in 0..count {
+        let (content, choice) = written_as(page_of(octets, index));
+        if pages.write(index, &content).is_err() {
+            return Err(AllocError);
+        }
+        choices[index as usize] = choice;
+    }
+    Ok(pages.cut(Pick::Each(&choices)))
+}
