@@ -3,9 +3,9 @@
 ghost use Rattle.std.specs.Prelude.{◌≡◌, [], ◌∷◌, ◌++◌, Some, map};
 ghost use Rattle.test_scripts.specs.Scripts.{sight_of};
 
-use crate::line::{Play, SNRM, Script};
+use crate::line::{Play, SNRM, Script, UA};
 use crate::noted::{Noted, are_numbered};
-use dlms_field::{FieldFault, Log, Peer, Rules, Site, Ticks, Times, Watch, serve_all};
+use dlms_field::{FieldFault, Log, Peer, Rules, Site, Ticks, Times, Watch, serve_all, serve_turns};
 use dlms_meter::Meter;
 use dlms_pages::MemoryPages;
 use dlms_store::PAGES;
@@ -138,5 +138,48 @@ fn a_connection_is_served(rt: HostRuntime) {
         );
         assert!(rt; served.is_err());
         assert!(rt; are_numbered(site.watch.noted.as_slice(), numbers));
+    }
+}
+
+/// A serial line is served one turn after another: the clock is looked at when a turn begins, before each read and behind each
+/// frame; three seconds without a frame end a turn, and the next one begins; and where the line is gone, or the clock fails, the
+/// serving ends with that.
+#[test]
+fn a_line_is_served(rt: HostRuntime) {
+    let rules = Rules {
+        tick: 1,
+        times: Times {
+            inactivity: 3,
+            idle: 5,
+            longest: 60,
+        },
+    };
+    let asking = [Play::Bytes(&SNRM), Play::Nothing];
+    let silent = [Play::Nothing, Play::Nothing];
+    let served: [(bool, u64, bool, &[u8]); 4] = [
+        (true, 100, true, &[0, 0, 1, 0, 1, 0, 1, 0, 1]),
+        (true, 4, false, &[0, 0, 1, 0, 1, 0, 1, 0]),
+        (true, 0, false, &[0]),
+        (false, 100, true, &[0, 0, 1, 0, 1, 0, 1, 0, 0, 1]),
+    ];
+    for (asks, end, is_gone, numbers) in served {
+        let pages = MemoryPages::new(rt.alloc(), PAGES).expect(&rt, "memory");
+        let Ok(mut meter) = Meter::format(rt.alloc(), pages) else {
+            panic!(rt; "no meter");
+        };
+        let mut errors: Vec<u8> = Vec::new(rt.alloc());
+        let plays = if asks { &asking } else { &silent };
+        let mut line = Script::new(&rt, rt.alloc(), plays);
+        let porch = Porch::new(&rt, rt.alloc(), &[], end);
+        let mut site = Site::new(porch, Ticks::new(0, 0), Log::quiet(), &mut errors);
+        let served = serve_turns(&mut site, rules, &mut meter, &mut line, "here");
+        assert_eq!(rt;
+            matches!(served, Err(FieldFault::System("here", _))),
+            is_gone
+        );
+        assert!(rt; served.is_err());
+        assert!(rt; are_numbered(site.watch.noted.as_slice(), numbers));
+        let is_answered = line.has(2, false, true, &UA);
+        assert_eq!(rt; is_answered, asks && is_gone);
     }
 }
