@@ -14,4 +14,4 @@ pub use page::{
     version_of,
 };
 pub use records::{Records, records_of};
-pub use writing::record_of;
+pub use writing::{Record, append_record, record_length, record_of};

@@ -1,6 +1,7 @@
 -- What memory keeps of its calls leads to the same disk as all of them.
-use Rattle.std.proofs.Common.{◌≡◌, ◌<◌, ◌^◌, ℕ, List, [], ◌∷◌, ◌++◌, length, set, sym, ◌∙◌, ap, subst}
-use Rattle.std.proofs.lemmas.List.{length-set}
+use Rattle.std.proofs.Common.{◌≡◌, ◌<◌, ◌^◌, ℕ, List, [], ◌∷◌, ◌++◌, length, drop, take, set, sym, ◌∙◌, ap, subst, arith}
+use Rattle.std.proofs.lemmas.List.{append-nil, length-set, take_all}
+use Rattle.std.proofs.Math.ListN.{drop_of_length-le}
 use Rattle.dlms_pages.specs.declared.device.PageRead.TheVariants.{Content}
 use Rattle.dlms_pages.specs.declared.memory.Call.{Call}
 use Rattle.dlms_pages.specs.declared.memory.Call.TheVariants.{Write, Sync}
@@ -8,6 +9,11 @@ use Rattle.dlms_pages.specs.Disk.{Disk, at_first, after, disk_after}
 use Rattle.dlms_pages.specs.Memory.{IsKept}
 use Rattle.dlms_pages.specs.Device.{Image}
 use Rattle.dlms_pages.proofs.Calls.{one_more}
+
+-- pages that take the place of as many
+pub refilled : (count : ℕ) (olds news : Image) → count ≡ length olds → length news ≡ length olds → take count (news ++ drop (length news) olds) ≡ news
+refilled count olds news all same =
+    ap (λ (l : Image). take count (news ++ l)) (drop_of_length-le olds (omega (arith, same))) ∙ ap (take count) (append-nil news) ∙ take_all count news (omega (arith, all, same))
 
 module _ (first : Image) (calls : List Call) (synced : Image) (since : List Call) (pages : Image) (is : IsKept first calls synced since pages) where
   pub kept_write : (calls_now since_now : List Call) (index : ℕ) (bytes : List ℕ) → calls_now ≡ calls ++ Write index bytes ∷ [] → since_now ≡ since ++ Write index bytes ∷ [] → IsKept first calls_now synced since_now (set pages index (Content bytes))

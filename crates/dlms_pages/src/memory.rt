@@ -2,7 +2,7 @@
 //! kept for proofs alone.
 ghost use Rattle.std.specs.Prelude.{◌≡◌, ◌<◌, ◌≤◌, ◌+◌, ◌-◌, ◌^◌, ◌⊎◌, ◌↔◌, ℕ, [], ◌∷◌, ◌++◌, min, true, false, length, nat_eq, nat_le, IfOk, IsErr, OnErr, OnOk};
 ghost use Rattle.dlms_pages.specs.Device.{page_at};
-ghost use Rattle.dlms_pages.specs.Disk.{Disk, at_first, disk_after};
+ghost use Rattle.dlms_pages.specs.Disk.{Disk, after, at_first, disk_after};
 ghost use Rattle.dlms_pages.specs.History.{IsHistory};
 ghost use Rattle.dlms_pages.specs.Memory.{fails_at, Passes, Fails};
 ghost use Rattle.dlms_pages.specs.Pick.{choice_at, page_left};
@@ -187,10 +187,31 @@ impl<A: Allocator + Copy> MemoryPages<A> {
         ensures failed { OnErr result (Fails self.old self.new) }
     {
         self.pass()?;
-        self.synced.copy_from_slice(&self.pages);
+        settle(&mut self.synced, &self.since);
         self.since.clear();
         self.past = self.past.and(&Call::Sync);
         Ok(())
+    }
+}
+
+// A call is done on the pages.
+fn settle_one(pages: &mut [PageRead], call: &Call)
+    ensures { (disk : Disk) → disk.seen ≡ pages.old → pages.new ≡ (after disk call.now).seen }
+{
+    if let Call::Write { index, bytes } = call {
+        let place = *index as usize;
+        if place < pages.len() {
+            pages[place] = PageRead::Content(*bytes);
+        }
+    }
+}
+
+// The calls are done on the pages: those that were written since hold what was written last, and no other is touched.
+fn settle(pages: &mut [PageRead], calls: &[Call])
+    ensures { pages.new ≡ (disk_after (at_first pages.old) calls.now).seen }
+{
+    for call in calls {
+        settle_one(pages, call);
     }
 }
 

@@ -20,7 +20,7 @@ use crate::renew::renew;
 use crate::slot::write_slot;
 use arrayvec::ArrayVec;
 use dlms_checkpoint::checkpoint_of;
-use dlms_journal::{MOST_PAYLOAD, PageKind, page_of, record_of};
+use dlms_journal::{MOST_PAYLOAD, PageKind, append_record, page_of, record_length};
 use dlms_pages::{DeviceFault, Pages};
 use dlms_state::{Event, State};
 use std::alloc::{Allocator, Global};
@@ -221,9 +221,8 @@ impl<P: Pages, A: Allocator + Copy> Store<P, A> {
         if !has_number_for(&self.state, &event) {
             return Err(AddFault::Exhausted);
         }
-        let record = record_of(&event);
-        self.make_room(&event, record.len())?;
-        self.push(event, record.as_slice());
+        self.make_room(&event, record_length(&event))?;
+        self.push(event);
         Ok(())
     }
 
@@ -257,9 +256,8 @@ impl<P: Pages, A: Allocator + Copy> Store<P, A> {
     }
 
     // Takes an event whose record fits, and tells what that is for the events and the device.
-    fn push(&mut self, event: Event, spelled: &[u8])
+    fn push(&mut self, event: Event)
         requires passes { refusal_in self.old event ≡ None }
-        requires spelled { spelled.now ≡ record_of event }
         requires room { JoinsPending self.old event }
         requires number { HasNumberFor (state_in self.old) event }
         ensures run { (before : StoreWorld) → IsRunning self.old → StoreFits self.old before → Moves (Adds event) before self.old self.new }
@@ -268,13 +266,12 @@ impl<P: Pages, A: Allocator + Copy> Store<P, A> {
         ensures number { (state_in self.old).rows.next ≤ (state_in self.new).rows.next }
         ensures page { length (records_in self.new) ≤ MOST_PAYLOAD }
     {
-        self.join(event, spelled);
+        self.join(event);
     }
 
     // Takes an event whose record fits.
-    fn join(&mut self, event: Event, spelled: &[u8])
+    fn join(&mut self, event: Event)
         requires passes { refusal_in self.old event ≡ None }
-        requires spelled { spelled.now ≡ record_of event }
         requires room { JoinsPending self.old event }
         requires number { HasNumberFor (state_in self.old) event }
         ensures joins { Joins event self.old self.new }
@@ -284,7 +281,7 @@ impl<P: Pages, A: Allocator + Copy> Store<P, A> {
         ensures page { length (records_in self.new) ≤ MOST_PAYLOAD }
     {
         event.fits();
-        let _fits = self.pending.try_extend_from_slice(spelled);
+        append_record(&mut self.pending, &event);
         self.captured += apply_counted(&mut self.state, event);
     }
 
