@@ -42,7 +42,7 @@ pub enum RingFault {
 }
 
 /// The most bytes of the ring pages that a checkpoint names: 32 pages.
-const MOST_RING: usize = 32 * RING_BYTES;
+const MOST_RING: usize = CAPACITY / RING_ROWS * RING_BYTES;
 
 /// The bodies of a checkpoint taken so far, in their order, as they stand on the medium. They stand in a fixed buffer of 788
 /// bytes.

@@ -8,7 +8,7 @@ use Rattle.dlms_field.specs.Watching.{Sight, Sees}
 use Rattle.dlms_field.specs.Watching.Sight.{Reads}
 use Rattle.dlms_field.specs.declared.fault.FieldFault.{FieldFault}
 use Rattle.dlms_field.specs.declared.fault.FieldFault.TheVariants.{System, Secret}
-use Rattle.dlms_field.specs.declared.secret.TheConstants.{MOST_SECRET}
+use Rattle.dlms_state.specs.declared.event.TheConstants.{MOST_SECRET}
 
 -- the bytes without one line feed at their end, if they have one
 abbrev pub IsWithoutLineFeed : List ℕ → List ℕ → Type 0

@@ -3,13 +3,13 @@
 ghost use Rattle.std.specs.Prelude.{◌≡◌, ◌+◌, List, length, sum_by};
 ghost use Rattle.dlms_field.specs.declared.clocks.TheConstants.{YEAR_2000};
 ghost use Rattle.dlms_field.specs.declared.hanging_up.TheConstants.{DISC, METER};
-ghost use Rattle.dlms_field.specs.declared.secret.TheConstants.{MOST_SECRET};
 ghost use Rattle.dlms_field.specs.declared.telling.TheConstants.{CATCH_UP};
 ghost use Rattle.dlms_field.specs.declared.turns.TheConstants.{MOST_REFUSALS};
 ghost use Rattle.dlms_field.specs.Captures.{PlaceHoldsCaptures};
 ghost use Rattle.dlms_field.specs.Load.{pulses_after};
 ghost use Rattle.dlms_field.specs.Ticks.{AreNext};
 ghost use Rattle.dlms_field.specs.declared.ticks.Ticks.{Ticks as TicksOf};
+ghost use Rattle.dlms_state.specs.declared.event.TheConstants.{MOST_SECRET};
 ghost use Rattle.dlms_field.specs.declared.ticks.Second.{Second as SecondOf};
 
 use dlms_meter::Meter;

@@ -7,12 +7,10 @@ use crate::desk::Desk;
 use crate::fault::FieldFault;
 use arrayvec::ArrayVec;
 use dlms_frame::Client;
+use dlms_state::{MOST_SECRET, SecretOf};
 use std::fs::Files;
 use std::io::Read;
 use std::{fs, io};
-
-/// The most bytes of a secret.
-const MOST_SECRET: usize = 16;
 
 /// The bytes that are read of a file: those of the longest secret, a line feed, and one that is too many.
 pub const MOST_READ: usize = 18;
@@ -60,8 +58,8 @@ fn first_secret(client: Client) -> &'static [u8]
 {
     match client {
         Client::Public => &[],
-        Client::Management => b"12345678",
-        Client::Reader => b"23456789",
+        Client::Management => SecretOf::Management.first(),
+        Client::Reader => SecretOf::Reader.first(),
     }
 }
 

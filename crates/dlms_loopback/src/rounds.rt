@@ -15,12 +15,13 @@ use dlms_frame::Client;
 use dlms_headend::{Poller, Readings};
 use dlms_meter::Meter;
 use dlms_pages::{MemoryPages, Pages, Pick};
+use dlms_state::FIRST_SECRET;
 use dlms_store::PAGES;
 use std::alloc::Global;
 use std::io;
 
 /// Management's first secret.
-const SECRET: &[u8] = b"12345678";
+const SECRET: &[u8] = FIRST_SECRET;
 
 /// The seconds of a new meter's capture period.
 const PERIOD: u32 = 900;

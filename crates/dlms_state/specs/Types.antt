@@ -2,6 +2,7 @@
 use Rattle.std.specs.Prelude.{ℕ, ◌<◌, ◌≤◌, ◌^◌, pos, negsuc, ◌≤ℤ◌, List, All, length, ⊤}
 use Rattle.dlms_state.specs.declared.event.Event.{Event}
 use Rattle.dlms_state.specs.declared.event.Event.TheVariants.{Pulses, Moment, SetTime, Shift, AdjustMinute, SetPeriod, SetText, SetSecret, ResetRegister, ResetProfile, Capture, SetColumns}
+use Rattle.dlms_state.specs.declared.event.TheConstants.{MOST_COLUMNS, MOST_SECRET, MOST_TEXT}
 
 -- bytes, at most so many
 pub record AreBytes (longest : ℕ) (bytes : List ℕ) : Type 0 where
@@ -15,9 +16,9 @@ FitsType (SetTime s) = s < 2 ^ 32
 FitsType (Shift s) = (negsuc 32767 ≤ℤ s) × (s ≤ℤ pos 32767)
 FitsType AdjustMinute = ⊤
 FitsType (SetPeriod p) = p < 2 ^ 32
-FitsType (SetText b) = AreBytes 240 b.items
-FitsType (SetSecret of b) = AreBytes 16 b.items
+FitsType (SetText b) = AreBytes MOST_TEXT b.items
+FitsType (SetSecret of b) = AreBytes MOST_SECRET b.items
 FitsType (ResetRegister c) = c < 2 ^ 8
 FitsType ResetProfile = ⊤
 FitsType Capture = ⊤
-FitsType (SetColumns ids) = AreBytes 4 ids.items
+FitsType (SetColumns ids) = AreBytes MOST_COLUMNS ids.items

@@ -3,6 +3,9 @@ ghost use Rattle.std.specs.Prelude.{◌≡◌, ◌≤◌, ◌<◌, ◌+◌, ◌%
 ghost use Rattle.dlms_store.specs.Layout.{gate_of, index_of, other_of};
 ghost use Rattle.dlms_store.specs.declared.layout.TheConstants.{BODIES, RING_PAGES};
 
+use dlms_checkpoint::RING_ROWS;
+use dlms_profile::CAPACITY;
+
 /// How many pages a store needs: 62.
 pub const PAGES: u16 = RING + RING_PAGES;
 
@@ -18,14 +21,20 @@ pub const BODIES: u16 = 2;
 /// Where the ring pages begin: 22.
 pub const RING: u16 = JOURNAL + JOURNAL_PAGES;
 
-/// How many ring pages there are.
-pub const RING_PAGES: u16 = 40;
+/// The rows of a ring page.
+const ROWS_A_PAGE: u16 = RING_ROWS as u16;
 
-/// The most ring pages that a checkpoint names.
-pub(crate) const MOST_NAMED: u16 = 32;
+/// The most ring pages that a checkpoint names, those of a full buffer: 32.
+pub(crate) const MOST_NAMED: u16 = CAPACITY as u16 / ROWS_A_PAGE;
 
-/// The most rows that are captured between two checkpoints, so that no ring page that the active one names is written over.
-pub(crate) const MOST_CAPTURED: u16 = 240;
+/// How many ring pages more there are than a checkpoint names.
+const SPARE_PAGES: u16 = 8;
+
+/// How many ring pages there are: 40.
+pub const RING_PAGES: u16 = MOST_NAMED + SPARE_PAGES;
+
+/// The most rows that are captured between two checkpoints, so that no ring page that the active one names is written over: 240.
+pub(crate) const MOST_CAPTURED: u16 = SPARE_PAGES * ROWS_A_PAGE;
 
 /// The last number that a checkpoint can have.
 pub(crate) const LAST_GENERATION: u64 = 18_446_744_073_709_551_615;

@@ -7,7 +7,7 @@ ghost use Rattle.dlms_state.specs.declared.event.TheConstants.{LONGEST_PERIOD};
 
 use crate::clock::passes;
 use crate::columns::row_of;
-use crate::event::{MOST_COLUMNS, SecretOf};
+use crate::event::{MOST_COLUMNS, MOST_SECRET, MOST_TEXT, SecretOf};
 use crate::state::State;
 use arrayvec::ArrayVec;
 use std::alloc::Allocator;
@@ -66,13 +66,13 @@ impl<A: Allocator + Copy> State<A> {
         self.rows.clear();
     }
 
-    pub(super) fn set_text(&mut self, text: ArrayVec<u8, 240>)
+    pub(super) fn set_text(&mut self, text: ArrayVec<u8, MOST_TEXT>)
         ensures { self.new ≡ step (Event.SetText text) self.old }
     {
         self.text = text;
     }
 
-    pub(super) fn set_secret(&mut self, of: SecretOf, secret: ArrayVec<u8, 16>)
+    pub(super) fn set_secret(&mut self, of: SecretOf, secret: ArrayVec<u8, MOST_SECRET>)
         requires { 0 < array_vec_len secret }
         ensures { self.new ≡ step (Event.SetSecret of secret) self.old }
     {

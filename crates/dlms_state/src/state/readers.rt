@@ -1,6 +1,6 @@
 //! What a state holds. Each reader's value is that of the definitions, for every list of events that leaves the state.
 ghost use Rattle.std.specs.Prelude.{◌≡◌, ◌<◌, ◌≤◌, ◌-◌, ◌^◌, List, All, length, true};
-ghost use Rattle.dlms_state.specs.declared.event.TheConstants.{LAST_SECOND, LONGEST_PERIOD, MOST_COLUMNS};
+ghost use Rattle.dlms_state.specs.declared.event.TheConstants.{LAST_SECOND, LONGEST_PERIOD, MOST_COLUMNS, MOST_TEXT};
 ghost use Rattle.dlms_state.specs.Events.{clock_at, registers_after, clock_after, moment_after, offset_after, period_after, text_after, secret_after, columns_after, buffer_after, captures};
 
 use crate::event::SecretOf;
@@ -60,7 +60,7 @@ impl<A: Allocator + Copy> State<A> {
     pub fn text(&self) -> &[u8]
         ensures value { result.now ≡ self.now.text }
         ensures after { (E : List Event) → IsStateOf E self.now → result.now ≡ text_after E }
-        ensures limit { length self.now.text ≤ 240 }
+        ensures limit { length self.now.text ≤ MOST_TEXT }
     {
         self.text.as_slice()
     }
