@@ -2,18 +2,21 @@
 ghost use Rattle.std.specs.Prelude.{◌<◌, ◌^◌, ℕ, IfSome, IfNone};
 ghost use Rattle.dlms_words.specs.Numbers.{IsNumberOf};
 
-use std::str;
-
 /// The number that these digits spell. Leading zeros and any count of digits are taken; there is no sign.
 pub fn number(digits: &[u8]) -> Option<u32>
     ensures some { IfSome result (IsNumberOf digits.now) }
     ensures none { IfNone result ((n : ℕ) → n < 2 ^ 32 → IsNumberOf digits.now n → ⊥) }
 {
-    if *digits.first()? == b'+' {
+    if digits.is_empty() {
         return None;
     }
-    let Ok(text) = str::from_utf8(digits) else {
-        return None;
-    };
-    text.parse::<u32>().ok()
+    let mut number = 0u32;
+    for &digit in digits {
+        if !digit.is_ascii_digit() {
+            return None;
+        }
+        let next = u64::from(number) * 10 + u64::from(digit - b'0');
+        number = u32::try_from(next).ok()?;
+    }
+    Some(number)
 }
