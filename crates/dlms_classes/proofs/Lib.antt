@@ -9,3 +9,4 @@ pub mod Times
 pub mod Sizes
 pub mod Sendable
 pub mod Readers
+pub mod Appending

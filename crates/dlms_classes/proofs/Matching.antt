@@ -33,7 +33,7 @@ rows_more R f xs i d done vs ws v lt e h r =
 -- ---- the fields of rows
 
 -- the field at a place
-cell_at : (columns values : List ℕ) (i : ℕ) (d : Cell) → i < length columns → length values ≡ length columns
+pub cell_at : (columns values : List ℕ) (i : ℕ) (d : Cell) → i < length columns → length values ≡ length columns
     → get_or (cells_of columns values) i d ≡ cell_of (slice_index columns i) (slice_index values i)
 cell_at [] values i d lt same = absurd (omega arith)
 cell_at (id ∷ columns) [] i d lt same = absurd (omega arith)
@@ -51,7 +51,7 @@ few_cells (id ∷ columns) [] = omega arith
 few_cells (id ∷ columns) (value ∷ values) = let rest = few_cells columns values in omega (arith, rest)
 
 -- one more of a part of a list
-range_more : {X : Type 0} (xs : List X) (first i : ℕ) (d : X) → first ≤ i → i < length xs → slice_range xs first (i + 1) ≡ slice_range xs first i ++ get_or xs i d ∷ []
+pub range_more : {X : Type 0} (xs : List X) (first i : ℕ) (d : X) → first ≤ i → i < length xs → slice_range xs first (i + 1) ≡ slice_range xs first i ++ get_or xs i d ∷ []
 range_more xs first i d le lt =
     let steps : (i + 1) - first ≡ (i - first) + 1 = omega (arith, le) in
     let place : first + (i - first) ≡ i = omega (arith, le) in

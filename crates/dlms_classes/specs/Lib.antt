@@ -7,3 +7,4 @@ pub mod Listing
 pub mod Shown
 pub mod Choice
 pub mod Answer
+pub mod Encoded

@@ -4,10 +4,14 @@
 mod access;
 mod choosing;
 mod column;
+mod encoding;
 pub mod laws;
 mod listing;
 mod lookup;
 mod planning;
+mod putting;
+mod putting_list;
+mod putting_rows;
 mod reading;
 mod rows;
 mod secrets;
@@ -15,6 +19,7 @@ mod showing;
 mod table;
 
 pub use access::AccessResult;
+pub use encoding::get_encoded;
 pub use planning::{plan_action, plan_set};
 pub use reading::get;
 pub use secrets::secret_of;

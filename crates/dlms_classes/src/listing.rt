@@ -15,7 +15,7 @@ use dlms_frame::Client;
 use std::alloc::{AllocError, Allocator};
 
 /// The number of the access mode.
-fn mode_of(rights: Rights) -> u8
+pub fn mode_of(rights: Rights) -> u8
     ensures { result ≡ mode rights }
 {
     match rights {

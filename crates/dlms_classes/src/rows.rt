@@ -23,7 +23,7 @@ pub enum Cell {
 }
 
 /// The field of a column.
-fn field(id: u8, value: u32) -> Cell
+pub fn field(id: u8, value: u32) -> Cell
     ensures { result ≡ field_of id value }
 {
     if id == CLOCK_ID {

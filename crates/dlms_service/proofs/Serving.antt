@@ -11,12 +11,13 @@ use Rattle.dlms_data.specs.declared.descriptor.Selector.{Selector}
 use Rattle.dlms_blocks.specs.Coming.{Coming, more_answer, more_after}
 use Rattle.dlms_blocks.specs.declared.block.PutStep.{PutStep}
 use Rattle.dlms_state.specs.declared.event.Event.{Event}
-use Rattle.dlms_state.specs.StateValue.{StateValue, state_of}
+use Rattle.dlms_state.specs.StateValue.{state_of}
 use Rattle.dlms_classes.specs.declared.access.AccessResult.{AccessResult}
 use Rattle.dlms_classes.specs.declared.access.AccessResult.TheVariants.{TemporaryFailure}
 use Rattle.dlms_classes.specs.Access.{number_of}
 use Rattle.dlms_frame.specs.declared.client.Client.{Client}
-use Rattle.dlms_classes.specs.Answer.{Wanted, IsShown, IsGranted, NeedsMemory}
+use Rattle.dlms_classes.specs.Answer.{IsShown, IsGranted}
+use Rattle.dlms_classes.specs.Encoded.{IsRefused}
 use Rattle.dlms_classes.proofs.ShownOnce.{granted}
 use Rattle.dlms_service.specs.declared.association.Association.{Association}
 use Rattle.dlms_service.specs.declared.target.Target.{Target}
@@ -41,19 +42,15 @@ pub given : (E : List Event) (s : SessionValue) (a : Association) (invoke : ℕ)
 given E s a invoke d selector v own answer shown (inl sends) = inl (Ok v, shown, sends)
 given E s a invoke d selector v own answer shown (inr lacks) = inr (granted (state_of E) s.client d (seen a selector) v shown, rw (lacks.0, lacks.1) refl)
 
--- a refusal, or want of memory for the value
-needed : (s : StateValue) (w : Result Wanted AccessResult) → NeedsMemory s w → IsGranted s.columns w
-needed s (Ok w) h = h.0
-needed s (Err r) h = absurd h
-
+-- a refusal, or want of memory for the encoding
 pub refusing : (E : List Event) (s : SessionValue) (a : Association) (invoke : ℕ) (d : Descriptor) (selector : Option apdu.Selection) (client : Client) (r : AccessResult) (own : SessionValue) (answer : List ℕ)
     → client ≡ s.client → own ≡ without_get s → answer ≡ response_bytes (get_result invoke (number_of r))
-    → IsShown (state_of E) client d (asked client a d selector) (Err r) ⊎ (NeedsMemory (state_of E) (asked client a d selector) × (r ≡ TemporaryFailure))
+    → IsRefused (state_of E) client d (asked client a d selector) r
     → Asks E s a (get_normal invoke d selector) (record { own = own; answer = answer; accepted = [] }) ⊎ LacksToAnswer E s a (get_normal invoke d selector) (record { own = own; answer = answer; accepted = [] })
 refusing E s a invoke d selector client r own answer same is says (inl shown) =
     inl (Err r, subst (λ (c : Client). IsShown (state_of E) c d (asked c a d selector) (Err r)) same shown, rw (is, says) refl)
 refusing E s a invoke d selector client r own answer same is says (inr lacks) =
-    inr (needed (state_of E) (asked s.client a d selector) (subst (λ (c : Client). NeedsMemory (state_of E) (asked c a d selector)) same lacks.0), rw (is, says, lacks.1) refl)
+    inr (subst (λ (c : Client). IsGranted (state_of E).columns (asked c a d selector)) same lacks.0, rw (is, says, lacks.1) refl)
 
 -- ---- blocks that come
 

@@ -1,10 +1,13 @@
-//! The whole meter on one heap of a fixed size: it is made, it captures 960 rows, one client reads them in blocks while the
-//! other has a transfer open too, and it is recovered.
+//! The whole meter on one heap of a fixed size: it is made, it captures 960 rows, two clients read them in blocks at once while the
+//! third has a transfer open too, and it is recovered.
+
+ghost use Rattle.std.specs.Prelude.{◌≡◌, None};
 
 use crate::life::seen_in;
 use crate::polls::{are_captures, meter_with};
-use dlms_frame::Client;
-use dlms_headend::{Columns, PollStep, Poller};
+use arrayvec::ArrayVec;
+use dlms_frame::{Client, SentFrame};
+use dlms_headend::{Columns, Plan, PollStep, Poller};
 use dlms_link::ClientLink;
 use dlms_meter::Meter;
 use dlms_pages::{MemoryPages, Pages};
@@ -36,31 +39,81 @@ fn is_given<P: Pages + Drop, A: Allocator + Copy>(
     }
 }
 
-/// Whether management polls so many rows, in blocks. The head end's memory is its own.
-fn is_polled<P: Pages + Drop, A: Allocator + Copy>(
+/// The reader's first secret.
+const READERS_SECRET: &[u8] = b"23456789";
+
+/// What the reader polls with its first secret.
+fn readers_plan() -> Plan
+    ensures { result.after ≡ None }
+{
+    let mut secret = ArrayVec::new();
+    let _fits = secret.try_extend_from_slice(READERS_SECRET);
+    Plan {
+        client: Client::Reader,
+        secret,
+        after: None,
+        columns: Columns::Trusted,
+    }
+}
+
+/// A poll on its way, and the frame that it sends next; none where it is done. The head end's memory is its own.
+#[derive(Drop)]
+struct Polling {
+    poller: Poller,
+    next: Option<SentFrame>,
+}
+
+impl Polling {
+    fn new(alloc: Global, plan: Plan) -> Polling
+        requires { plan.after ≡ None }
+    {
+        let mut poller = Poller::new(alloc, plan);
+        let next = poller.next();
+        Polling { poller, next }
+    }
+
+    /// Sends the next frame, and takes its reply. Says whether the poll is well.
+    fn go_on<P: Pages + Drop, A: Allocator + Copy>(&mut self, meter: &mut Meter<P, A>) -> bool {
+        let Some(frame) = self.next.take() else {
+            return true;
+        };
+        let Some(reply) = reply_to(meter, &frame) else {
+            return false;
+        };
+        match self.poller.on(&reply.lent()) {
+            Ok(PollStep::Send(next)) => {
+                self.next = Some(next);
+                true
+            }
+            Ok(PollStep::Done) => true,
+            _ => false,
+        }
+    }
+
+    /// Whether it is done, with so many rows.
+    fn has(&self, rows: usize) -> bool {
+        self.next.is_none() && are_captures(self.poller.rows(), rows)
+    }
+}
+
+/// Whether management and the reader poll so many rows in blocks, a frame of the one and then one of the other.
+fn are_polled<P: Pages + Drop, A: Allocator + Copy>(
     alloc: Global,
     meter: &mut Meter<P, A>,
     rows: usize,
 ) -> bool {
-    let mut poller = Poller::new(alloc, managements_plan(None, Columns::Trusted));
-    let Some(mut frame) = poller.next() else {
-        return false;
-    };
+    let mut managements = Polling::new(alloc, managements_plan(None, Columns::Trusted));
+    let mut readers = Polling::new(alloc, readers_plan());
     for _ in 0..400u16 {
-        let Some(reply) = reply_to(meter, &frame) else {
+        if !managements.go_on(meter) || !readers.go_on(meter) {
             return false;
-        };
-        match poller.on(&reply.lent()) {
-            Ok(PollStep::Send(next)) => frame = next,
-            Ok(PollStep::Done) => return are_captures(poller.rows(), rows),
-            _ => return false,
         }
     }
-    false
+    managements.has(rows) && readers.has(rows)
 }
 
-/// Whether both clients are served at once: the poll stands between two blocks of the public client's transfer.
-fn serves_both<P: Pages + Drop, A: Allocator + Copy>(
+/// Whether all clients are served at once: the two polls stand between two blocks of the public client's transfer.
+fn serves_all<P: Pages + Drop, A: Allocator + Copy>(
     alloc: Global,
     meter: &mut Meter<P, A>,
 ) -> bool {
@@ -68,7 +121,7 @@ fn serves_both<P: Pages + Drop, A: Allocator + Copy>(
         return false;
     };
     is_given(meter, &mut link, &GET_LIST, 1)
-        && is_polled(alloc, meter, ROWS as usize)
+        && are_polled(alloc, meter, ROWS as usize)
         && is_given(meter, &mut link, &GET_SECOND, 2)
 }
 
@@ -77,7 +130,7 @@ fn lives<P: Pages + Drop, A: Allocator + Copy>(alloc: Global, own: A, device: P)
     let Some(mut meter) = meter_with(own, device, ROWS) else {
         return false;
     };
-    let is_served = serves_both(alloc, &mut meter);
+    let is_served = serves_all(alloc, &mut meter);
     let seen = seen_in(&meter);
     match Meter::recover(own, meter.close()) {
         Ok(meter) => is_served && seen_in(&meter) == seen,
