@@ -3,7 +3,7 @@
 use crate::connection::Connection;
 use crate::json::{begin_note, end_note, write_note};
 use crate::session::Form;
-use crate::words::number;
+use crate::words::{Text, number};
 use dlms_capture::{File, Next, Packet, Segment, segment_of};
 use std::alloc::{AllocError, Allocator};
 
@@ -50,19 +50,34 @@ fn explain_packet<A: Allocator + Copy>(
     form: Form,
     connections: &mut Vec<Connection<A>, A>,
     packet: Packet<'_>,
-    text: &mut String<A>,
-) -> Result<bool, AllocError> {
+    text: &mut Text<'_, A>,
+) -> bool {
     let Some(segment) = segment_of(packet) else {
-        return Ok(true);
+        return true;
     };
     let mut connection = connection_of(alloc, form, connections, segment);
     let explained = connection.explain(packet.stamp, segment, text);
-    connections.push(connection)?;
+    if connections.push(connection).is_err() {
+        text.refuse();
+        return false;
+    }
     if connections.len() > MOST_CONNECTIONS {
         let mut oldest = connections.remove(0);
-        oldest.end(text)?;
+        oldest.end(text);
     }
     explained
+}
+
+/// The line of how many packets were of other traffic, where some were.
+fn write_others<A: Allocator>(text: &mut Text<'_, A>, is_json: bool, count: u64) {
+    if count == 0 {
+        return;
+    }
+    begin_note(text, is_json);
+    text.push("(packets of other traffic: ");
+    number(text, count);
+    text.push(")");
+    end_note(text, is_json);
 }
 
 impl<A: Allocator + Copy> Captured<A> {
@@ -78,45 +93,48 @@ impl<A: Allocator + Copy> Captured<A> {
         }
     }
 
-    /// Takes octets of the capture, and appends what is told of the packets that are whole then.
-    pub fn feed(&mut self, octets: &[u8], text: &mut String<A>) -> Result<(), AllocError> {
-        if self.is_broken {
-            return Ok(());
-        }
-        self.file.feed(octets)?;
+    /// What is told of the packets that are whole.
+    fn tell(&mut self, text: &mut Text<'_, A>) -> Result<(), AllocError> {
         for _ in 0..u64::MAX {
             match self.file.next()? {
                 Next::Packet(packet) => {
                     let connections = &mut self.connections;
-                    if explain_packet(self.alloc, self.form, connections, packet, text)? {
+                    if explain_packet(self.alloc, self.form, connections, packet, text) {
                         self.others = self.others.saturating_add(1);
                     }
                 }
                 Next::More => return Ok(()),
                 Next::Broken => {
                     self.is_broken = true;
-                    return write_note(text, self.form.json, BROKEN);
+                    write_note(text, self.form.json, BROKEN);
+                    return Ok(());
                 }
             }
         }
         Ok(())
     }
 
-    /// The capture is at its end: what is told of octets that are no frame, and of other traffic.
-    pub fn end(&mut self, text: &mut String<A>) -> Result<(), AllocError> {
-        for connection in self.connections.iter_mut() {
-            connection.end(text)?;
-        }
-        if !self.is_broken && !self.file.is_whole() {
-            write_note(text, self.form.json, CUT)?;
-        }
-        if self.others == 0 {
+    /// Takes octets of the capture, and appends what is told of the packets that are whole then.
+    pub fn feed(&mut self, octets: &[u8], text: &mut String<A>) -> Result<(), AllocError> {
+        if self.is_broken {
             return Ok(());
         }
-        begin_note(text, self.form.json)?;
-        text.push_str("(packets of other traffic: ")?;
-        number(text, self.others)?;
-        text.push_str(")")?;
-        end_note(text, self.form.json)
+        self.file.feed(octets)?;
+        let mut text = Text::new(text);
+        self.tell(&mut text)?;
+        text.end()
+    }
+
+    /// The capture is at its end: what is told of octets that are no frame, and of other traffic.
+    pub fn end(&mut self, text: &mut String<A>) -> Result<(), AllocError> {
+        let mut text = Text::new(text);
+        for connection in self.connections.iter_mut() {
+            connection.end(&mut text);
+        }
+        if !self.is_broken && !self.file.is_whole() {
+            write_note(&mut text, self.form.json, CUT);
+        }
+        write_others(&mut text, self.form.json, self.others);
+        text.end()
     }
 }

@@ -3,9 +3,10 @@
 use crate::explainer::Explainer;
 use crate::place_text::{write_missing, write_segment};
 use crate::session::Form;
+use crate::words::Text;
 use crate::wrapper::Wrapped;
 use dlms_capture::{Ends, Order, Segment, Stamp, Transport};
-use dlms_talks::Side;
+use dlms_dissect::Side;
 use std::alloc::{AllocError, Allocator};
 
 /// The port of DLMS/COSEM (the registry of service names: dlms-cosem).
@@ -15,7 +16,7 @@ const PORT: u16 = 4059;
 const FLAG: u8 = 0x7e;
 
 /// What a connection carries, told by its first octets: frames of HDLC, or APDUs in the wrapper.
-#[derive(Clone, Copy, Debug, PartialEq, Eq)]
+#[derive(Clone, Copy, PartialEq, Eq)]
 enum Carries {
     Nothing,
     Frames,
@@ -121,27 +122,25 @@ impl<A: Allocator + Copy> Connection<A> {
     }
 
     /// What is told of the octets that are next.
-    fn tell(&mut self, side: Side, text: &mut String<A>) -> Result<(), AllocError> {
+    fn tell(&mut self, side: Side, text: &mut Text<'_, A>) {
         match self.carries {
             Carries::Frames => {
-                self.frames.octets(Some(side), self.fresh.as_slice(), text)?;
+                self.frames.take(Some(side), self.fresh.as_slice(), text);
             }
-            Carries::Wrapped => self.wrapped.octets(side, self.fresh.as_slice(), text)?,
+            Carries::Wrapped => self.wrapped.octets(side, self.fresh.as_slice(), text),
             Carries::Nothing | Carries::Other => {}
         }
         self.fresh.clear();
-        Ok(())
     }
 
     /// When octets came, and between which ends.
-    fn tell_stamp(
-        &mut self,
-        stamp: Option<Stamp>,
-        ends: Ends,
-        text: &mut String<A>,
-    ) -> Result<(), AllocError> {
+    fn tell_stamp(&mut self, stamp: Option<Stamp>, ends: Ends, text: &mut Text<'_, A>) {
         let mut words = String::new(self.alloc);
-        write_segment(&mut words, self.form.is_one_line(), stamp, ends)?;
+        let mut told = Text::new(&mut words);
+        write_segment(&mut told, self.form.is_one_line(), stamp, ends);
+        if told.end().is_err() {
+            text.refuse();
+        }
         match self.carries {
             Carries::Wrapped => self.wrapped.stamp(words.as_str(), text),
             _ => self.frames.stamp(words.as_str(), text),
@@ -153,54 +152,60 @@ impl<A: Allocator + Copy> Connection<A> {
         &mut self,
         stamp: Option<Stamp>,
         segment: Segment<'_>,
-        text: &mut String<A>,
-    ) -> Result<bool, AllocError> {
+        text: &mut Text<'_, A>,
+    ) -> bool {
         let side = if self.ends == segment.ends {
             Side::Client
         } else {
             Side::Meter
         };
-        let missing = self.take(side, segment)?;
+        let Ok(missing) = self.take(side, segment) else {
+            text.refuse();
+            return false;
+        };
         if self.fresh.is_empty() {
-            return Ok(self.carries == Carries::Other);
+            return self.carries == Carries::Other;
         }
         if self.carries == Carries::Nothing {
             self.carries = carried(self.ends, self.fresh.as_slice());
         }
         if self.carries == Carries::Other {
             self.fresh.clear();
-            return Ok(true);
+            return true;
         }
-        self.tell_stamp(stamp, segment.ends, text)?;
-        write_missing(text, self.form.json, missing)?;
-        self.tell(side, text)?;
-        Ok(false)
+        self.tell_stamp(stamp, segment.ends, text);
+        write_missing(text, self.form.json, missing);
+        self.tell(side, text);
+        false
     }
 
     /// What is told of one direction's octets behind some that are missing at the end of a capture.
-    fn tell_rest(&mut self, side: Side, text: &mut String<A>) -> Result<(), AllocError> {
+    fn tell_rest(&mut self, side: Side, text: &mut Text<'_, A>) {
         for _ in 0..u64::MAX {
-            let missing = match side {
-                Side::Client => self.up.rest(&mut self.fresh)?,
-                Side::Meter => self.down.rest(&mut self.fresh)?,
+            let rest = match side {
+                Side::Client => self.up.rest(&mut self.fresh),
+                Side::Meter => self.down.rest(&mut self.fresh),
+            };
+            let Ok(missing) = rest else {
+                text.refuse();
+                return;
             };
             if missing == 0 {
-                return Ok(());
+                return;
             }
-            write_missing(text, self.form.json, missing)?;
-            self.tell(side, text)?;
+            write_missing(text, self.form.json, missing);
+            self.tell(side, text);
         }
-        Ok(())
     }
 
     /// No more segments come: what is told of octets that are no frame.
-    pub fn end(&mut self, text: &mut String<A>) -> Result<(), AllocError> {
+    pub fn end(&mut self, text: &mut Text<'_, A>) {
         if matches!(self.carries, Carries::Nothing | Carries::Other) {
-            return Ok(());
+            return;
         }
-        self.tell_rest(Side::Client, text)?;
-        self.tell_rest(Side::Meter, text)?;
-        self.frames.end(text)?;
-        self.wrapped.end(text)
+        self.tell_rest(Side::Client, text);
+        self.tell_rest(Side::Meter, text);
+        self.frames.close(text);
+        self.wrapped.end(text);
     }
 }

@@ -1,11 +1,11 @@
 //! Values as an indented tree.
 
 use crate::date_text::{write_date, write_date_time, write_time};
-use crate::names_text::{is_quantity, write_code};
-use crate::words::{begin, end, number, octets, signed};
+use crate::names_text::{is_quantity, write_name};
+use crate::words::{Text, begin, end, number, octets, signed};
 use dlms_data::{Bits, Data};
+use dlms_dissect::{Part, Veiled, is_date_time};
 use dlms_names::code_name;
-use dlms_talks::{Part, Veiled, is_date_time};
 use std::alloc::{AllocError, Allocator};
 
 /// How many levels of arrays and structures a value has at most.
@@ -22,15 +22,16 @@ fn is_plain_text(bytes: &[u8]) -> bool {
 }
 
 /// Bytes that are text between quotes, others in hexadecimal digits.
-fn write_string<A: Allocator>(text: &mut String<A>, bytes: &[u8]) -> Result<(), AllocError> {
+fn write_string<A: Allocator>(text: &mut Text<'_, A>, bytes: &[u8]) {
     if !is_plain_text(bytes) {
-        return octets(text, bytes);
+        octets(text, bytes);
+        return;
     }
-    text.push_str("\"")?;
+    text.push("\"");
     for byte in bytes {
-        text.push(char::from(*byte))?;
+        text.letter(char::from(*byte));
     }
-    text.push_str("\"")
+    text.push("\"");
 }
 
 /// The twelve octets of a date-time.
@@ -58,28 +59,26 @@ fn code_in(bytes: &[u8]) -> Option<[u8; 6]> {
 }
 
 /// The octets, and behind them the date-time, the OBIS code or the text that they are.
-fn write_octets<A: Allocator>(text: &mut String<A>, bytes: &[u8]) -> Result<(), AllocError> {
-    octets(text, bytes)?;
+fn write_octets<A: Allocator>(text: &mut Text<'_, A>, bytes: &[u8]) {
+    octets(text, bytes);
     if let Some(octets) = date_time_in(bytes) {
-        text.push_str(" ")?;
-        return write_date_time(text, octets);
+        text.push(" ");
+        write_date_time(text, octets);
+        return;
     }
     if let Some(code) = code_in(bytes) {
-        text.push_str(" ")?;
-        return write_code(text, code);
+        text.push(" ");
+        write_name(text, code);
+        return;
     }
     if is_plain_text(bytes) {
-        text.push_str(" ")?;
-        write_string(text, bytes)?;
+        text.push(" ");
+        write_string(text, bytes);
     }
-    Ok(())
 }
 
 /// The date-time of an octet-string, or its octets where it is none.
-pub fn write_string_time<A: Allocator>(
-    text: &mut String<A>,
-    bytes: &[u8],
-) -> Result<(), AllocError> {
+pub fn write_string_time<A: Allocator>(text: &mut Text<'_, A>, bytes: &[u8]) {
     match date_time_in(bytes) {
         Some(octets) => write_date_time(text, octets),
         None => octets(text, bytes),
@@ -87,7 +86,7 @@ pub fn write_string_time<A: Allocator>(
 }
 
 /// Bits, the first one first.
-fn write_bits<A: Allocator>(text: &mut String<A>, bits: &Bits<A>) -> Result<(), AllocError> {
+fn write_bits<A: Allocator>(text: &mut Text<'_, A>, bits: &Bits<A>) {
     let mut left = bits.len();
     for byte in bits.as_bytes() {
         let mut weight = 128u8;
@@ -95,47 +94,38 @@ fn write_bits<A: Allocator>(text: &mut String<A>, bits: &Bits<A>) -> Result<(), 
             if left == 0 || weight == 0 {
                 break;
             }
-            text.push_str(if *byte & weight != 0 { "1" } else { "0" })?;
+            text.push(if *byte & weight != 0 { "1" } else { "0" });
             weight /= 2;
             left -= 1;
         }
     }
-    Ok(())
 }
 
 /// A type with a number.
-fn write_unsigned<A: Allocator>(
-    text: &mut String<A>,
-    kind: &str,
-    value: u64,
-) -> Result<(), AllocError> {
-    text.push_str(kind)?;
-    number(text, value)
+fn write_unsigned<A: Allocator>(text: &mut Text<'_, A>, kind: &str, value: u64) {
+    text.push(kind);
+    number(text, value);
 }
 
 /// A type with a number that may be below 0.
-fn write_signed<A: Allocator>(
-    text: &mut String<A>,
-    kind: &str,
-    value: i64,
-) -> Result<(), AllocError> {
-    text.push_str(kind)?;
-    signed(text, value)
+fn write_signed<A: Allocator>(text: &mut Text<'_, A>, kind: &str, value: i64) {
+    text.push(kind);
+    signed(text, value);
 }
 
 /// The line of a number, or of a value without a part; nothing of the others.
-fn write_number<A: Allocator>(text: &mut String<A>, value: &Data<A>) -> Result<(), AllocError> {
+fn write_number<A: Allocator>(text: &mut Text<'_, A>, value: &Data<A>) {
     match value {
-        Data::Null => text.push_str("null-data"),
-        Data::Boolean(true) => text.push_str("boolean true"),
-        Data::Boolean(false) => text.push_str("boolean false"),
+        Data::Null => text.push("null-data"),
+        Data::Boolean(true) => text.push("boolean true"),
+        Data::Boolean(false) => text.push("boolean false"),
         Data::DoubleLong(z) => write_signed(text, "double-long ", i64::from(*z)),
         Data::DoubleLongUnsigned(n) => {
-            write_unsigned(text, "double-long-unsigned ", u64::from(*n))
+            write_unsigned(text, "double-long-unsigned ", u64::from(*n));
         }
         Data::Bcd(n) => {
-            text.push_str("bcd ")?;
-            octets(text, &[*n])
+            text.push("bcd ");
+            octets(text, &[*n]);
         }
         Data::Integer(z) => write_signed(text, "integer ", i64::from(*z)),
         Data::Long(z) => write_signed(text, "long ", i64::from(*z)),
@@ -144,40 +134,40 @@ fn write_number<A: Allocator>(text: &mut String<A>, value: &Data<A>) -> Result<(
         Data::Long64(z) => write_signed(text, "long64 ", *z),
         Data::Long64Unsigned(n) => write_unsigned(text, "long64-unsigned ", *n),
         Data::Enum(n) => write_unsigned(text, "enum ", u64::from(*n)),
-        _ => Ok(()),
+        _ => {}
     }
 }
 
 /// The line of a value that holds no other values.
-pub fn write_plain<A: Allocator>(text: &mut String<A>, value: &Data<A>) -> Result<(), AllocError> {
+pub fn write_plain<A: Allocator>(text: &mut Text<'_, A>, value: &Data<A>) {
     match value {
         Data::BitString(bits) => {
-            text.push_str("bit-string ")?;
-            write_bits(text, bits)
+            text.push("bit-string ");
+            write_bits(text, bits);
         }
         Data::OctetString(bytes) => {
-            text.push_str("octet-string ")?;
-            write_octets(text, bytes.as_slice())
+            text.push("octet-string ");
+            write_octets(text, bytes.as_slice());
         }
         Data::VisibleString(bytes) => {
-            text.push_str("visible-string ")?;
-            write_string(text, bytes.as_slice())
+            text.push("visible-string ");
+            write_string(text, bytes.as_slice());
         }
         Data::Utf8String(bytes) => {
-            text.push_str("utf8-string ")?;
-            write_string(text, bytes.as_slice())
+            text.push("utf8-string ");
+            write_string(text, bytes.as_slice());
         }
         Data::DateTime(octets) => {
-            text.push_str("date-time ")?;
-            write_date_time(text, *octets)
+            text.push("date-time ");
+            write_date_time(text, *octets);
         }
         Data::Date(octets) => {
-            text.push_str("date ")?;
-            write_date(text, *octets)
+            text.push("date ");
+            write_date(text, *octets);
         }
         Data::Time(octets) => {
-            text.push_str("time ")?;
-            write_time(text, *octets)
+            text.push("time ");
+            write_time(text, *octets);
         }
         other => write_number(text, other),
     }
@@ -185,68 +175,69 @@ pub fn write_plain<A: Allocator>(text: &mut String<A>, value: &Data<A>) -> Resul
 
 /// The line of what has so many parts.
 pub fn write_count<A: Allocator>(
-    text: &mut String<A>,
+    text: &mut Text<'_, A>,
     depth: u8,
     kind: &str,
     count: usize,
     parts: &str,
-) -> Result<(), AllocError> {
-    begin(text, depth)?;
-    text.push_str(kind)?;
-    number(text, count as u64)?;
-    text.push_str(parts)?;
-    end(text)
+) {
+    begin(text, depth);
+    text.push(kind);
+    number(text, count as u64);
+    text.push(parts);
+    end(text);
 }
 
 /// The line of an array or a structure, with how many values it holds, and these below it.
 #[cycle(tree)]
 fn write_items<A: Allocator>(
-    text: &mut String<A>,
+    text: &mut Text<'_, A>,
     depth: u8,
     room: u8,
     kind: &str,
     items: &[Data<A>],
-) -> Result<(), AllocError> {
-    write_count(text, depth, kind, items.len(), "")?;
+) {
+    write_count(text, depth, kind, items.len(), "");
     if room == 0 {
-        return Ok(());
+        return;
     }
     for item in items {
-        write_tree(text, depth.saturating_add(1), room - 1, item)?;
+        write_tree(text, depth.saturating_add(1), room - 1, item);
     }
-    Ok(())
 }
 
 /// The lines of a value with so many levels.
 #[cycle(tree)]
-fn write_tree<A: Allocator>(
-    text: &mut String<A>,
-    depth: u8,
-    room: u8,
-    value: &Data<A>,
-) -> Result<(), AllocError> {
+fn write_tree<A: Allocator>(text: &mut Text<'_, A>, depth: u8, room: u8, value: &Data<A>) {
     match value {
         Data::Array(items) => write_items(text, depth, room, "array of ", items.as_slice()),
         Data::Structure(items) => write_items(text, depth, room, "structure of ", items.as_slice()),
         plain => {
-            begin(text, depth)?;
-            write_plain(text, plain)?;
-            end(text)
+            begin(text, depth);
+            write_plain(text, plain);
+            end(text);
         }
     }
 }
 
-/// The lines of a value that was read: the first one stands so deep, and what it holds a level deeper.
+/// The lines of a value: the first one stands so deep, and what it holds a level deeper.
+pub fn write_levels<A: Allocator>(text: &mut Text<'_, A>, depth: u8, value: &Data<A>) {
+    write_tree(text, depth, MOST_LEVELS, value);
+}
+
+/// Appends to the text the lines of a value that was read: the first one stands so deep, and what it holds a level deeper.
 pub fn write_value<A: Allocator>(
     text: &mut String<A>,
     depth: u8,
     value: &Data<A>,
 ) -> Result<(), AllocError> {
-    write_tree(text, depth, MOST_LEVELS, value)
+    let mut text = Text::new(text);
+    write_levels(&mut text, depth, value);
+    text.end()
 }
 
 /// A value within a line: of a time its date, of an array or a structure how many it holds.
-pub fn write_inline<A: Allocator>(text: &mut String<A>, value: &Data<A>) -> Result<(), AllocError> {
+pub fn write_inline<A: Allocator>(text: &mut Text<'_, A>, value: &Data<A>) {
     match value {
         Data::Array(items) => write_unsigned(text, "array of ", items.len() as u64),
         Data::Structure(items) => write_unsigned(text, "structure of ", items.len() as u64),
@@ -263,57 +254,52 @@ pub fn write_inline<A: Allocator>(text: &mut String<A>, value: &Data<A>) -> Resu
 /// The line of an array or a structure that may hold a secret, and the lines of its values below it.
 #[cycle(veiled)]
 fn write_veiled_items<A: Allocator>(
-    text: &mut String<A>,
+    text: &mut Text<'_, A>,
     depth: u8,
     room: u8,
     kind: &str,
     count: usize,
     veiled: &Veiled<'_, A>,
-) -> Result<(), AllocError> {
-    write_count(text, depth, kind, count, "")?;
+) {
+    write_count(text, depth, kind, count, "");
     if room == 0 {
-        return Ok(());
+        return;
     }
     for at in 0..count {
         if let Some(item) = veiled.item(at) {
-            write_veiled_tree(text, depth.saturating_add(1), room - 1, &item)?;
+            write_veiled_tree(text, depth.saturating_add(1), room - 1, &item);
         }
     }
-    Ok(())
 }
 
 /// The lines of a value with so many levels that may be a secret, or hold one.
 #[cycle(veiled)]
 fn write_veiled_tree<A: Allocator>(
-    text: &mut String<A>,
+    text: &mut Text<'_, A>,
     depth: u8,
     room: u8,
     veiled: &Veiled<'_, A>,
-) -> Result<(), AllocError> {
+) {
     match veiled.part() {
         Part::Array(count) => write_veiled_items(text, depth, room, "array of ", count, veiled),
         Part::Structure(count) => {
-            write_veiled_items(text, depth, room, "structure of ", count, veiled)
+            write_veiled_items(text, depth, room, "structure of ", count, veiled);
         }
         Part::OctetString(len) => write_count(text, depth, "octet-string of ", len, " octets"),
         Part::VisibleString(len) => {
-            write_count(text, depth, "visible-string of ", len, " octets")
+            write_count(text, depth, "visible-string of ", len, " octets");
         }
         Part::Utf8String(len) => write_count(text, depth, "utf8-string of ", len, " octets"),
         Part::BitString(len) => write_count(text, depth, "bit-string of ", len, " bits"),
         Part::Plain(plain) => {
-            begin(text, depth)?;
-            write_plain(text, plain)?;
-            end(text)
+            begin(text, depth);
+            write_plain(text, plain);
+            end(text);
         }
     }
 }
 
 /// The lines of a value that may be a secret, or hold one: of a string how long it is.
-pub fn write_veiled<A: Allocator>(
-    text: &mut String<A>,
-    depth: u8,
-    veiled: &Veiled<'_, A>,
-) -> Result<(), AllocError> {
-    write_veiled_tree(text, depth, MOST_LEVELS, veiled)
+pub fn write_veiled<A: Allocator>(text: &mut Text<'_, A>, depth: u8, veiled: &Veiled<'_, A>) {
+    write_veiled_tree(text, depth, MOST_LEVELS, veiled);
 }

@@ -1,7 +1,7 @@
 //! Date-times, dates and times as text (the Blue Book, date and time notation).
 
-use crate::words::{number, octet, signed, two_digits};
-use std::alloc::{AllocError, Allocator};
+use crate::words::{Text, number, octet, signed, two_digits};
+use std::alloc::Allocator;
 
 /// A field that is left open.
 const OPEN: u8 = 0xff;
@@ -10,79 +10,70 @@ const OPEN: u8 = 0xff;
 const NO_DEVIATION: u16 = 0x8000;
 
 /// A field of two digits; `*` where it is left open.
-fn write_field<A: Allocator>(text: &mut String<A>, field: u8) -> Result<(), AllocError> {
+fn write_field<A: Allocator>(text: &mut Text<'_, A>, field: u8) {
     if field == OPEN {
-        text.push_str("*")
+        text.push("*");
     } else {
-        two_digits(text, field)
+        two_digits(text, field);
     }
 }
 
 /// The year; `*` where it is left open.
-fn write_year<A: Allocator>(text: &mut String<A>, high: u8, low: u8) -> Result<(), AllocError> {
+fn write_year<A: Allocator>(text: &mut Text<'_, A>, high: u8, low: u8) {
     if high == OPEN && low == OPEN {
-        text.push_str("*")
+        text.push("*");
     } else {
-        number(text, u64::from(high) * 256 + u64::from(low))
+        number(text, u64::from(high) * 256 + u64::from(low));
     }
 }
 
 /// Year, month and day. In the month `fe` begins and `fd` ends daylight saving, in the day they count from the month's end.
-fn write_day<A: Allocator>(text: &mut String<A>, fields: [u8; 4]) -> Result<(), AllocError> {
+fn write_day<A: Allocator>(text: &mut Text<'_, A>, fields: [u8; 4]) {
     let [high, low, month, day] = fields;
-    write_year(text, high, low)?;
-    text.push_str("-")?;
+    write_year(text, high, low);
+    text.push("-");
     match month {
-        0xfe => text.push_str("daylight-saving-begin")?,
-        0xfd => text.push_str("daylight-saving-end")?,
-        _ => write_field(text, month)?,
+        0xfe => text.push("daylight-saving-begin"),
+        0xfd => text.push("daylight-saving-end"),
+        _ => write_field(text, month),
     }
-    text.push_str("-")?;
+    text.push("-");
     match day {
-        0xfe => text.push_str("last"),
-        0xfd => text.push_str("second-last"),
+        0xfe => text.push("last"),
+        0xfd => text.push("second-last"),
         _ => write_field(text, day),
     }
 }
 
 /// Hour, minute and second, and hundredths where there are any.
-fn write_hour<A: Allocator>(text: &mut String<A>, fields: [u8; 4]) -> Result<(), AllocError> {
+fn write_hour<A: Allocator>(text: &mut Text<'_, A>, fields: [u8; 4]) {
     let [hour, minute, second, hundredths] = fields;
-    write_field(text, hour)?;
-    text.push_str(":")?;
-    write_field(text, minute)?;
-    text.push_str(":")?;
-    write_field(text, second)?;
+    write_field(text, hour);
+    text.push(":");
+    write_field(text, minute);
+    text.push(":");
+    write_field(text, second);
     if hundredths != 0 && hundredths != OPEN {
-        text.push_str(".")?;
-        two_digits(text, hundredths)?;
+        text.push(".");
+        two_digits(text, hundredths);
     }
-    Ok(())
 }
 
 /// The minutes from UTC and the status of the clock, where they say anything.
-fn write_rest<A: Allocator>(
-    text: &mut String<A>,
-    deviation: u16,
-    status: u8,
-) -> Result<(), AllocError> {
+fn write_rest<A: Allocator>(text: &mut Text<'_, A>, deviation: u16, status: u8) {
     if deviation != NO_DEVIATION && deviation != 0 {
-        text.push_str(", deviation ")?;
+        text.push(", deviation ");
         let [high, low] = deviation.to_be_bytes();
-        signed(text, i64::from(i16::from_be_bytes([high, low])))?;
+        signed(text, i64::from(i16::from_be_bytes([high, low])));
     }
     if status != 0 && status != OPEN {
-        text.push_str(", status ")?;
-        octet(text, status)?;
+        text.push(", status ");
+        octet(text, status);
     }
-    Ok(())
 }
 
 /// A date-time of twelve octets, as `2026-11-24 09:30:00`; what is left open is `*`.
-pub fn write_date_time<A: Allocator>(
-    text: &mut String<A>,
-    octets: [u8; 12],
-) -> Result<(), AllocError> {
+pub fn write_date_time<A: Allocator>(text: &mut Text<'_, A>, octets: [u8; 12]) {
     let [
         high,
         low,
@@ -97,19 +88,19 @@ pub fn write_date_time<A: Allocator>(
         behind,
         status,
     ] = octets;
-    write_day(text, [high, low, month, day])?;
-    text.push_str(" ")?;
-    write_hour(text, [hour, minute, second, hundredths])?;
-    write_rest(text, u16::from_be_bytes([deviation, behind]), status)
+    write_day(text, [high, low, month, day]);
+    text.push(" ");
+    write_hour(text, [hour, minute, second, hundredths]);
+    write_rest(text, u16::from_be_bytes([deviation, behind]), status);
 }
 
 /// A date of five octets.
-pub fn write_date<A: Allocator>(text: &mut String<A>, octets: [u8; 5]) -> Result<(), AllocError> {
+pub fn write_date<A: Allocator>(text: &mut Text<'_, A>, octets: [u8; 5]) {
     let [high, low, month, day, _] = octets;
-    write_day(text, [high, low, month, day])
+    write_day(text, [high, low, month, day]);
 }
 
 /// A time of four octets.
-pub fn write_time<A: Allocator>(text: &mut String<A>, octets: [u8; 4]) -> Result<(), AllocError> {
-    write_hour(text, octets)
+pub fn write_time<A: Allocator>(text: &mut Text<'_, A>, octets: [u8; 4]) {
+    write_hour(text, octets);
 }

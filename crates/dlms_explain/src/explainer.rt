@@ -1,5 +1,8 @@
-//! Lines, explained: the octets of each line go to the readers of `dlms_talks`, and what these tell goes to the text functions,
+//! Lines, explained: the octets of each line go to the readers of `dlms_dissect`, and what these tell goes to the text functions,
 //! which see no octet.
+
+ghost use Rattle.std.specs.Prelude.{◌≡◌, ◌≤◌, length, nat_le};
+ghost use Rattle.dlms_explain.specs.Beside.{beside};
 
 use crate::association_text;
 use crate::foreign_text::write_foreign;
@@ -8,17 +11,17 @@ use crate::json::write_note;
 use crate::service_text::{write_fault, write_joined, write_said, write_whole};
 use crate::session::Form;
 use crate::short::{Beside, View, write_view};
-use crate::words::{end, line};
+use crate::words::{Text, end, line};
 use arrayvec::ArrayVec;
 use dlms_apdu::{Request, Response};
-use dlms_frame::Frame;
-use dlms_names::apdu_name;
-use dlms_talks::{
+use dlms_dissect::{
     Apdu, Came, Control, Fault, Found, Joined, Line, Numbers, Services, Side, Stretch, Talk, Talks,
     acse_of, behind_llc, first_pair, first_piece, has_poll, heading_of, is_counted, left_of_acse,
     line_of, misfit, parameters_of, parties_of, read, read_apdu, read_foreign, side_of,
     without_secret,
 };
+use dlms_frame::Frame;
+use dlms_names::apdu_name;
 use std::alloc::{AllocError, Allocator, Global};
 use std::str;
 
@@ -46,37 +49,42 @@ const BEHIND: usize = 3;
 
 /// The lines of a request, and of what its blocks join to.
 fn explain_request<A: Allocator + Copy>(
-    text: &mut String<A>,
+    text: &mut Text<'_, A>,
     alloc: A,
     services: &mut Services<A>,
     request: &Request<'_, A>,
-) -> Result<(), AllocError> {
+) {
     let heard = services.ask(alloc, request);
-    write_said(text, "", &heard.said)?;
+    write_said(text, "", &heard.said);
     match heard.joined {
-        Some(Joined::Whole) => {
-            write_whole(text, services.put_len(), &services.put_whole(alloc)?)
-        }
+        Some(Joined::Whole) => match services.put_whole(alloc) {
+            Ok(whole) => write_whole(text, services.put_len(), &whole),
+            Err(_) => text.refuse(),
+        },
         Some(joined) => write_joined(text, joined),
-        None => Ok(()),
+        None => {}
     }
 }
 
 /// The lines of a response, and of what its blocks join to.
 fn explain_response<A: Allocator + Copy>(
-    text: &mut String<A>,
+    text: &mut Text<'_, A>,
     alloc: A,
     services: &mut Services<A>,
     response: &Response<'_, A>,
-) -> Result<(), AllocError> {
-    let heard = services.answer(alloc, response)?;
-    write_said(text, "of ", &heard.said)?;
+) {
+    let Ok(heard) = services.answer(alloc, response) else {
+        text.refuse();
+        return;
+    };
+    write_said(text, "of ", &heard.said);
     match heard.joined {
-        Some(Joined::Whole) => {
-            write_whole(text, services.got_len(), &services.got_whole(alloc)?)
-        }
+        Some(Joined::Whole) => match services.got_whole(alloc) {
+            Ok(whole) => write_whole(text, services.got_len(), &whole),
+            Err(_) => text.refuse(),
+        },
         Some(joined) => write_joined(text, joined),
-        None => Ok(()),
+        None => {}
     }
 }
 
@@ -85,25 +93,25 @@ const ASSOCIATION_RESPONSE: u8 = 0x61;
 
 /// The line of an APDU that is not readable. What the meter's readers refuse at its first two octets may be of a form of the
 /// standard, and does not fit that; of an association response the initiate response may be ciphered.
-fn write_unreadable<A: Allocator>(
-    text: &mut String<A>,
-    bytes: &[u8],
-    fault: Fault,
-) -> Result<(), AllocError> {
+fn write_unreadable<A: Allocator>(text: &mut Text<'_, A>, bytes: &[u8], fault: Fault) {
     if fault.octet <= 2
         && let Some((form, octet)) = misfit(bytes)
     {
         let words = "not of this form";
-        return write_fault(text, Some(form.name), Fault { words, octet });
+        write_fault(text, Some(form.name), Fault { words, octet });
+        return;
     }
     if bytes.first() == Some(&ASSOCIATION_RESPONSE) && is_counted(bytes) {
         let acse = acse_of(bytes);
         if let (Some(outcome), Some(initiate)) = (acse.outcome, acse.ciphered) {
-            return association_text::write_ciphered_response(text, acse, outcome, initiate);
+            association_text::write_ciphered_response(text, acse, outcome, initiate);
+            return;
         }
     }
-    let name = bytes.first().and_then(|octet| apdu_name(*octet));
-    write_fault(text, name, fault)
+    match bytes.first() {
+        Some(octet) => write_fault(text, apdu_name(*octet), fault),
+        None => write_fault(text, None, fault),
+    }
 }
 
 /// How many octets of an APDU stand before the first field that is told by its length or not at all: those may stand beside what
@@ -126,38 +134,41 @@ fn open_len<A: Allocator + Copy>(
 
 /// The lines of an APDU, and where `hex` is set, how many of its octets may stand beside.
 pub fn explain_apdu<A: Allocator + Copy>(
-    text: &mut String<A>,
+    text: &mut Text<'_, A>,
     alloc: A,
     hex: bool,
     side: Option<Side>,
     services: &mut Services<A>,
     bytes: &[u8],
-) -> Result<usize, AllocError> {
-    let apdu = read_apdu(alloc, side, bytes)?;
+) -> usize {
+    let Ok(apdu) = read_apdu(alloc, side, bytes) else {
+        text.refuse();
+        return 0;
+    };
     let shown = if hex {
         open_len(services, &apdu, bytes)
     } else {
         0
     };
-    explain_read(text, alloc, side, services, bytes, apdu)?;
-    Ok(shown)
+    explain_read(text, alloc, side, services, bytes, apdu);
+    shown
 }
 
 /// The lines of an APDU that was read.
 fn explain_read<A: Allocator + Copy>(
-    text: &mut String<A>,
+    text: &mut Text<'_, A>,
     alloc: A,
     side: Option<Side>,
     services: &mut Services<A>,
     bytes: &[u8],
     apdu: Apdu<'_, A>,
-) -> Result<(), AllocError> {
+) {
     match apdu {
         Apdu::AssociationRequest(request) => {
-            association_text::write_request(text, without_secret(&request), acse_of(bytes))
+            association_text::write_request(text, without_secret(&request), acse_of(bytes));
         }
         Apdu::AssociationResponse(response) => {
-            association_text::write_response(text, response, acse_of(bytes))
+            association_text::write_response(text, response, acse_of(bytes));
         }
         Apdu::ReleaseRequest(reason) => association_text::write_release_request(text, reason),
         Apdu::ReleaseResponse(reason) => association_text::write_release_response(text, reason),
@@ -166,31 +177,31 @@ fn explain_read<A: Allocator + Copy>(
         Apdu::Foreign(foreign) => {
             let of = services.answered_with(foreign);
             let secrecy = services.hear(alloc, foreign);
-            write_foreign(text, alloc, foreign, of, secrecy)
+            write_foreign(text, alloc, foreign, of, secrecy);
         }
         Apdu::Unreadable(fault) => {
             if side != Some(Side::Meter) {
                 services.forget(alloc);
             }
-            write_unreadable(text, bytes, fault)
+            write_unreadable(text, bytes, fault);
         }
     }
 }
 
 /// The lines of the APDU that the last information frame of this side was the end of, and how many of its octets may stand beside.
 fn explain_whole<A: Allocator + Copy>(
-    text: &mut String<A>,
+    text: &mut Text<'_, A>,
     alloc: A,
     hex: bool,
     side: Option<Side>,
     talk: &mut Talk<A>,
-) -> Result<usize, AllocError> {
+) -> usize {
     match side {
         Some(Side::Meter) => {
             let apdu = talk.meter.apdu();
-            let shown = explain_apdu(text, alloc, hex, side, &mut talk.services, apdu)?;
+            let shown = explain_apdu(text, alloc, hex, side, &mut talk.services, apdu);
             talk.services.pass();
-            Ok(shown)
+            shown
         }
         _ => {
             let apdu = talk.client.apdu();
@@ -202,108 +213,94 @@ fn explain_whole<A: Allocator + Copy>(
 /// The lines of an APDU that stands by itself, as in a frame that is not taken: of what came before it nothing is known, and
 /// it changes nothing.
 fn explain_alone<A: Allocator + Copy>(
-    text: &mut String<A>,
+    text: &mut Text<'_, A>,
     alloc: A,
     hex: bool,
     side: Option<Side>,
     raw: bool,
     info: &[u8],
-) -> Result<usize, AllocError> {
+) -> usize {
     let Some(apdu) = behind_llc(side, info) else {
-        write_no_llc(text)?;
-        return Ok(0);
+        write_no_llc(text);
+        return 0;
     };
-    let shown = explain_apdu(text, alloc, hex, side, &mut Services::new(alloc, raw), apdu)?;
-    Ok(shown.saturating_add(LLC))
+    explain_apdu(text, alloc, hex, side, &mut Services::new(alloc, raw), apdu).saturating_add(LLC)
+}
+
+/// Appends the lines of an APDU that stands by itself, from this side or from either: of what came before it nothing is known. Of
+/// secrets, and of strings that may be one, the length alone is told. Where memory is refused the text may end within a line.
+pub fn write_apdu<A: Allocator + Copy>(
+    text: &mut String<A>,
+    alloc: A,
+    side: Option<Side>,
+    bytes: &[u8],
+) -> Result<(), AllocError> {
+    let mut text = Text::new(text);
+    let mut services = Services::new(alloc, false);
+    explain_apdu(&mut text, alloc, false, side, &mut services, bytes);
+    text.end()
 }
 
 /// The lines of an information frame, and how many octets of its information may stand beside: of an APDU in segments none.
 fn explain_information<A: Allocator + Copy>(
-    text: &mut String<A>,
+    text: &mut Text<'_, A>,
     alloc: A,
     hex: bool,
     side: Option<Side>,
     talk: &mut Talk<A>,
     numbers: Numbers,
     frame: &Frame<'_>,
-) -> Result<usize, AllocError> {
+) -> usize {
     let info = frame.info;
-    let came = talk.take(alloc, side, numbers, frame.segmented, info)?;
-    write_came(text, came)?;
+    let Ok(came) = talk.take(alloc, side, numbers, frame.segmented, info) else {
+        text.refuse();
+        return 0;
+    };
+    write_came(text, came);
     let raw = talk.services.is_raw();
     match came {
         Came::Apart => explain_alone(text, alloc, hex, side, raw, info),
         Came::NoPoll if !frame.segmented => explain_alone(text, alloc, hex, side, raw, info),
         Came::Whole(count) => {
-            let shown = explain_whole(text, alloc, hex, side, talk)?;
-            Ok(if count == 1 {
+            let shown = explain_whole(text, alloc, hex, side, talk);
+            if count == 1 {
                 shown.saturating_add(LLC)
             } else {
                 0
-            })
+            }
         }
-        _ => Ok(0),
+        _ => 0,
     }
 }
 
 /// The lines of the parameters of an SNRM or a UA, where it has any, and how many octets of these may stand beside: all but those
 /// behind the parameters, where each is readable.
-fn explain_parameters<A: Allocator>(
-    text: &mut String<A>,
-    info: &[u8],
-) -> Result<usize, AllocError> {
+fn explain_parameters<A: Allocator>(text: &mut Text<'_, A>, info: &[u8]) -> usize {
     if info.is_empty() {
-        return Ok(0);
+        return 0;
     }
     let parameters = parameters_of(info);
-    write_information(text, parameters)?;
-    Ok(match parameters {
+    write_information(text, parameters);
+    match parameters {
         Some(parameters) if parameters.wrong.is_none() => {
             info.len().saturating_sub(parameters.behind)
         }
         _ => 0,
-    })
-}
-
-/// Whether a frame without numbers is heeded: with the poll bit, or from the meter the final bit, which are one bit; SNRM and DISC
-/// from the client, UA and DM from the meter.
-fn is_heeded(side: Option<Side>, control: u8) -> bool {
-    let other = match read(control) {
-        Control::Snrm | Control::Disc => Side::Meter,
-        _ => Side::Client,
-    };
-    has_poll(control) && side != Some(other)
+    }
 }
 
 /// The lines of what a frame holds, and how many octets of its information may stand beside.
 fn explain_content<A: Allocator + Copy>(
-    text: &mut String<A>,
+    text: &mut Text<'_, A>,
     alloc: A,
     hex: bool,
     side: Option<Side>,
     talk: &mut Talk<A>,
     frame: &Frame<'_>,
-) -> Result<usize, AllocError> {
-    let heeded = is_heeded(side, frame.control);
+) -> usize {
+    talk.heed(alloc, side, frame.control);
     match read(frame.control) {
-        Control::Snrm => {
-            if heeded {
-                talk.forget(alloc);
-            }
-            explain_parameters(text, frame.info)
-        }
-        Control::Ua => {
-            if heeded {
-                talk.open(alloc);
-            }
-            explain_parameters(text, frame.info)
-        }
-        Control::Disc | Control::Dm => {
-            if heeded {
-                talk.forget(alloc);
-            }
-            Ok(0)
-        }
+        Control::Snrm | Control::Ua => explain_parameters(text, frame.info),
         Control::Information { send, receive } => {
             let poll = has_poll(frame.control);
             let numbers = Numbers {
@@ -313,22 +310,19 @@ fn explain_content<A: Allocator + Copy>(
             };
             explain_information(text, alloc, hex, side, talk, numbers, frame)
         }
-        Control::Ready { receive } | Control::NotReady { receive } => {
-            if side == Some(Side::Meter) {
-                talk.expect(alloc, receive);
-            }
-            Ok(0)
-        }
         Control::Ui => {
             let raw = talk.services.is_raw();
             explain_alone(text, alloc, hex, side, raw, frame.info)
         }
-        _ => Ok(0),
+        _ => 0,
     }
 }
 
 /// The octets of a frame that stand beside, of whose information so many may: all, or its head with those.
-fn beside_of<'a>(octets: &'a [u8], info: usize, shown: usize) -> Beside<'a> {
+fn beside_of<'a>(octets: &'a [u8], info: usize, shown: usize) -> Beside<'a>
+    ensures octets { result.octets.now ≡ beside octets.now info shown }
+    ensures whole { result.is_whole ≡ nat_le info shown }
+{
     if shown >= info {
         return Beside {
             octets,
@@ -339,105 +333,118 @@ fn beside_of<'a>(octets: &'a [u8], info: usize, shown: usize) -> Beside<'a> {
         .len()
         .saturating_sub(info)
         .saturating_sub(BEHIND)
-        .saturating_add(shown);
+        .saturating_add(shown)
+        .min(octets.len());
     Beside {
-        octets: octets.get(..len).unwrap_or(&[]),
+        octets: &octets[..len],
         is_whole: false,
+    }
+}
+
+/// Puts a talk back among the others.
+fn put_back<A: Allocator + Copy>(text: &mut Text<'_, A>, talks: &mut Talks<A>, talk: Talk<A>) {
+    if talks.put(talk).is_err() {
+        text.refuse();
     }
 }
 
 /// What is told of a frame, whose octets are these.
 fn explain_frame<A: Allocator + Copy>(
-    text: &mut String<A>,
+    text: &mut Text<'_, A>,
     view: &mut View<A>,
     alloc: A,
     said: Option<Side>,
     talks: &mut Talks<A>,
     frame: Frame<'_>,
     octets: &[u8],
-) -> Result<(), AllocError> {
+) {
     let side = side_of(said, &frame);
     let heading = heading_of(&frame);
     let info = frame.info.len();
     let hex = view.form.hex;
     let mut talk = talks.take(alloc, parties_of(side, &frame));
     if view.form.is_at_once() {
-        write_frame(text, side, heading)?;
-        end(text)?;
-        let explained = explain_content(text, alloc, hex, side, &mut talk, &frame);
-        talks.put(talk)?;
-        explained?;
-        return Ok(());
+        write_frame(text, side, heading);
+        end(text);
+        explain_content(text, alloc, hex, side, &mut talk, &frame);
+        put_back(text, talks, talk);
+        return;
     }
     view.full.clear();
-    let explained = explain_content(&mut view.full, alloc, hex, side, &mut talk, &frame);
-    talks.put(talk)?;
-    let shown = explained?;
+    let mut full = Text::new(&mut view.full);
+    let shown = explain_content(&mut full, alloc, hex, side, &mut talk, &frame);
+    if full.end().is_err() {
+        text.refuse();
+    }
+    put_back(text, talks, talk);
     let beside = beside_of(if hex { octets } else { &[] }, info, shown);
-    write_view(text, view, side, heading, beside)
+    write_view(text, view, side, heading, beside);
 }
 
 /// The lines of the first bytes of a stretch, which belong to no frame.
 fn explain_stray<A: Allocator>(
-    text: &mut String<A>,
+    text: &mut Text<'_, A>,
     is_json: bool,
     said: Option<Side>,
     stretch: &Stretch<A>,
     before: usize,
-) -> Result<(), AllocError> {
+) {
     let (place, bytes) = stretch.stray(before);
     let mut place = place;
     let mut rest = bytes;
     'pieces: while !rest.is_empty() {
         let piece = first_piece(rest);
-        write_stray(text, is_json, said, place, piece)?;
+        write_stray(text, is_json, said, place, piece);
         place = place.saturating_add(piece.len as u64);
         rest = &rest[piece.len..];
     }
-    Ok(())
 }
 
 /// The lines of the bytes of a stretch.
 fn explain_bytes<A: Allocator + Copy>(
-    text: &mut String<A>,
+    text: &mut Text<'_, A>,
     view: &mut View<A>,
     alloc: A,
     said: Option<Side>,
     stretch: &mut Stretch<A>,
     talks: &mut Talks<A>,
     bytes: &[u8],
-) -> Result<(), AllocError> {
+) {
     let mut rest = bytes;
     'frames: while !rest.is_empty() {
-        let taken = stretch.feed(rest)?;
+        let Ok(taken) = stretch.feed(rest) else {
+            text.refuse();
+            return;
+        };
         if let Some(Found { frame, before }) = stretch.found() {
-            explain_stray(text, view.form.json, said, stretch, before)?;
+            explain_stray(text, view.form.json, said, stretch, before);
             let octets = stretch.behind(before);
-            let explained = explain_frame(text, view, alloc, said, talks, frame, octets);
+            explain_frame(text, view, alloc, said, talks, frame, octets);
             stretch.pass_frame();
-            explained?;
         }
         rest = &rest[taken..];
     }
     let old = stretch.old();
     if old > 0 {
-        explain_stray(text, view.form.json, said, stretch, old)?;
+        explain_stray(text, view.form.json, said, stretch, old);
         stretch.drop_front(old);
     }
-    Ok(())
 }
 
 /// What is told in place of octets that are no text.
 const NO_TEXT: &str = "(a line that is no text)";
 
 /// A line that holds no bytes of a frame, as it is.
-fn pass<A: Allocator>(text: &mut String<A>, is_json: bool, bytes: &[u8]) -> Result<(), AllocError> {
-    write_note(text, is_json, str::from_utf8(bytes).unwrap_or(NO_TEXT))
+fn pass<A: Allocator>(text: &mut Text<'_, A>, is_json: bool, bytes: &[u8]) {
+    write_note(text, is_json, str::from_utf8(bytes).unwrap_or(NO_TEXT));
 }
 
 impl<A: Allocator + Copy> Explainer<A> {
     /// Before the first line. No memory is taken here.
-    pub fn new(alloc: A, form: Form) -> Self {
+    pub fn new(alloc: A, form: Form) -> Self
+        ensures raw { result.talks.raw ≡ form.raw }
+        ensures form { result.view.form ≡ form }
+    {
         Explainer {
             alloc,
             client: Stretch::new(alloc),
@@ -449,138 +456,121 @@ impl<A: Allocator + Copy> Explainer<A> {
     }
 
     /// Bytes of this direction: the frames that end in them.
-    pub fn octets(
-        &mut self,
-        said: Option<Side>,
-        bytes: &[u8],
-        text: &mut String<A>,
-    ) -> Result<(), AllocError> {
+    pub(crate) fn take(&mut self, said: Option<Side>, bytes: &[u8], text: &mut Text<'_, A>) {
         let alloc = self.alloc;
+        let talks = &mut self.talks;
         let view = &mut self.view;
         match said {
             Some(Side::Client) => {
-                explain_bytes(
-                    text,
-                    view,
-                    alloc,
-                    said,
-                    &mut self.client,
-                    &mut self.talks,
-                    bytes,
-                )
+                explain_bytes(text, view, alloc, said, &mut self.client, talks, bytes);
             }
             Some(Side::Meter) => {
-                explain_bytes(
-                    text,
-                    view,
-                    alloc,
-                    said,
-                    &mut self.meter,
-                    &mut self.talks,
-                    bytes,
-                )
+                explain_bytes(text, view, alloc, said, &mut self.meter, talks, bytes);
             }
-            None => explain_bytes(
-                text,
-                view,
-                alloc,
-                said,
-                &mut self.bare,
-                &mut self.talks,
-                bytes,
-            ),
+            None => explain_bytes(text, view, alloc, said, &mut self.bare, talks, bytes),
         }
     }
 
     /// The words that stand before octets, as their time: a line, or in front of each frame's.
-    pub fn stamp(&mut self, words: &str, text: &mut String<A>) -> Result<(), AllocError> {
+    pub(crate) fn stamp(&mut self, words: &str, text: &mut Text<'_, A>) {
         if self.view.form.is_one_line() {
-            self.view.stamp.clear();
-            return self.view.stamp.push_str(words);
+            self.view.stamp_with(words, text);
+        } else if !words.is_empty() {
+            line(text, 0, words);
         }
-        if words.is_empty() {
-            return Ok(());
-        }
-        line(text, 0, words)
     }
 
     /// The bytes of a line's pairs.
-    fn pairs(
-        &mut self,
-        said: Option<Side>,
-        digits: &[u8],
-        text: &mut String<A>,
-    ) -> Result<(), AllocError> {
+    fn pairs(&mut self, said: Option<Side>, digits: &[u8], text: &mut Text<'_, A>) {
         let mut bytes: ArrayVec<u8, MOST_PIECE> = ArrayVec::new();
         let mut rest = digits;
         'pairs: while let Some((byte, behind)) = first_pair(rest) {
             if bytes.is_full() {
-                self.octets(said, bytes.as_slice(), text)?;
+                self.take(said, bytes.as_slice(), text);
                 bytes.clear();
             }
             let _room = bytes.try_push(byte);
             rest = behind;
         }
-        self.octets(said, bytes.as_slice(), text)
+        self.take(said, bytes.as_slice(), text);
     }
 
     /// What is left of the client's bytes is no frame, and a new stretch begins.
-    fn end_client(&mut self, text: &mut String<A>) -> Result<(), AllocError> {
+    fn end_client(&mut self, text: &mut Text<'_, A>) {
         let is_json = self.view.form.json;
-        explain_stray(
-            text,
-            is_json,
-            Some(Side::Client),
-            &self.client,
-            self.client.len(),
-        )?;
+        let said = Some(Side::Client);
+        explain_stray(text, is_json, said, &self.client, self.client.len());
         self.client.reset();
-        Ok(())
     }
 
-    /// Appends to the text what is told of a line, which is given without its line feed: of bytes the frames that end in them,
-    /// with what stood before each and is none; before them the words of a log, as its time. A line without bytes is passed on as
-    /// it is. Where memory is refused the text may end within a line.
-    pub fn line(&mut self, line: &[u8], text: &mut String<A>) -> Result<(), AllocError> {
+    /// What is told of a line.
+    pub(crate) fn tell(&mut self, line: &[u8], text: &mut Text<'_, A>) {
         let is_json = self.view.form.json;
         match line_of(line) {
             Line::Pairs(said, digits) => {
                 self.view.stamp.clear();
-                self.pairs(said, digits, text)
+                self.pairs(said, digits, text);
             }
             Line::NoPairs => pass(text, is_json, b"(no pairs of hexadecimal digits)"),
             Line::Logged(words, side, digits) => {
                 let words = str::from_utf8(words.trim_ascii()).unwrap_or(NO_TEXT);
-                self.stamp(words, text)?;
-                self.pairs(Some(side), digits, text)
+                self.stamp(words, text);
+                self.pairs(Some(side), digits, text);
             }
             Line::Silence => {
-                self.end_client(text)?;
-                pass(text, is_json, line)
+                self.end_client(text);
+                pass(text, is_json, line);
             }
             Line::Stop => {
-                self.end_client(text)?;
+                self.end_client(text);
                 self.talks.reset();
-                pass(text, is_json, line)
+                pass(text, is_json, line);
             }
             Line::Other => pass(text, is_json, line),
         }
     }
 
-    /// Appends to the text what is told of the bytes behind the last frames, which are none. New stretches begin.
-    pub fn end(&mut self, text: &mut String<A>) -> Result<(), AllocError> {
+    /// What is told of the bytes behind the last frames.
+    pub(crate) fn close(&mut self, text: &mut Text<'_, A>) {
         let is_json = self.view.form.json;
-        self.end_client(text)?;
+        self.end_client(text);
         explain_stray(
             text,
             is_json,
             Some(Side::Meter),
             &self.meter,
             self.meter.len(),
-        )?;
+        );
         self.meter.reset();
-        explain_stray(text, is_json, None, &self.bare, self.bare.len())?;
+        explain_stray(text, is_json, None, &self.bare, self.bare.len());
         self.bare.reset();
-        Ok(())
+    }
+
+    /// Appends to the text what is told of bytes of this direction: the frames that end in them.
+    pub fn octets(
+        &mut self,
+        said: Option<Side>,
+        bytes: &[u8],
+        text: &mut String<A>,
+    ) -> Result<(), AllocError> {
+        let mut text = Text::new(text);
+        self.take(said, bytes, &mut text);
+        text.end()
+    }
+
+    /// Appends to the text what is told of a line, which is given without its line feed: of bytes the frames that end in them,
+    /// with what stood before each and is none; before them the words of a log, as its time. A line without bytes is passed on as
+    /// it is. Where memory is refused the text may end within a line.
+    pub fn line(&mut self, line: &[u8], text: &mut String<A>) -> Result<(), AllocError> {
+        let mut text = Text::new(text);
+        self.tell(line, &mut text);
+        text.end()
+    }
+
+    /// Appends to the text what is told of the bytes behind the last frames, which are none. New stretches begin.
+    pub fn end(&mut self, text: &mut String<A>) -> Result<(), AllocError> {
+        let mut text = Text::new(text);
+        self.close(&mut text);
+        text.end()
     }
 }

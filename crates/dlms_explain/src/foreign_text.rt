@@ -5,37 +5,32 @@ use crate::node_text::{behind_length, write_shown};
 use crate::service_text::{
     write_access, write_block, write_exception, write_form, write_named, write_number, write_result,
 };
-use crate::words::{begin, end, line, number, octet, octets};
+use crate::words::{Text, begin, end, line, number, octet, octets};
+use dlms_dissect::{Field, Foreign, Item, Named, Secrecy, Step, name_at};
 use dlms_names::action_result;
-use dlms_talks::{Field, Foreign, Item, Named, Secrecy, Step, name_at};
-use std::alloc::{AllocError, Allocator};
+use std::alloc::Allocator;
 
 /// A line of a label and a number.
 fn write_count<A: Allocator>(
-    text: &mut String<A>,
+    text: &mut Text<'_, A>,
     depth: u8,
     label: &str,
     value: u64,
     behind: &str,
-) -> Result<(), AllocError> {
-    begin(text, depth)?;
-    text.push_str(label)?;
-    number(text, value)?;
-    text.push_str(behind)?;
-    end(text)
+) {
+    begin(text, depth);
+    text.push(label);
+    number(text, value);
+    text.push(behind);
+    end(text);
 }
 
 /// A line of a label and octets.
-fn write_octets<A: Allocator>(
-    text: &mut String<A>,
-    depth: u8,
-    label: &str,
-    bytes: &[u8],
-) -> Result<(), AllocError> {
-    begin(text, depth)?;
-    text.push_str(label)?;
-    octets(text, bytes)?;
-    end(text)
+fn write_octets<A: Allocator>(text: &mut Text<'_, A>, depth: u8, label: &str, bytes: &[u8]) {
+    begin(text, depth);
+    text.push(label);
+    octets(text, bytes);
+    end(text);
 }
 
 /// The number of octets of which the first is the highest.
@@ -50,12 +45,12 @@ fn number_of(bytes: &[u8]) -> u64 {
 
 /// The line of an attribute or a method, and of the selector of a selection.
 fn write_name<A: Allocator>(
-    text: &mut String<A>,
+    text: &mut Text<'_, A>,
     label: &str,
     named: Option<Named>,
     selector: Option<u8>,
-) -> Result<(), AllocError> {
-    write_named(text, label, named)?;
+) {
+    write_named(text, label, named);
     match selector {
         Some(selector) => write_count(
             text,
@@ -64,33 +59,29 @@ fn write_name<A: Allocator>(
             u64::from(selector),
             "",
         ),
-        None => Ok(()),
+        None => {}
     }
 }
 
 /// The line of a date-time, where there is one.
-fn write_when<A: Allocator>(text: &mut String<A>, bytes: &[u8]) -> Result<(), AllocError> {
+fn write_when<A: Allocator>(text: &mut Text<'_, A>, bytes: &[u8]) {
     if bytes.is_empty() {
-        return Ok(());
+        return;
     }
-    begin(text, 2)?;
-    text.push_str("date-time ")?;
-    write_string_time(text, bytes)?;
-    end(text)
+    begin(text, 2);
+    text.push("date-time ");
+    write_string_time(text, bytes);
+    end(text);
 }
 
 /// The lines of what is named.
-fn write_names<A: Allocator>(
-    text: &mut String<A>,
-    field: Field,
-    bytes: &[u8],
-) -> Result<(), AllocError> {
+fn write_names<A: Allocator>(text: &mut Text<'_, A>, field: Field, bytes: &[u8]) {
     match (field, bytes) {
         (Field::Attribute, [front @ .., 1, selector]) if front.len() == 9 => {
-            write_name(text, "", name_at(front, false), Some(*selector))
+            write_name(text, "", name_at(front, false), Some(*selector));
         }
         (Field::Attribute | Field::Notified, _) => {
-            write_name(text, "", name_at(bytes, false), None)
+            write_name(text, "", name_at(bytes, false), None);
         }
         (Field::Method, _) => write_name(text, "", name_at(bytes, true), None),
         (Field::Access, [choice, front @ ..]) => {
@@ -99,78 +90,70 @@ fn write_names<A: Allocator>(
                 2 | 5 => "set ",
                 _ => "act ",
             };
-            write_name(text, label, name_at(front, *choice == 3), None)
+            write_name(text, label, name_at(front, *choice == 3), None);
         }
         (Field::ShortName, [5, front @ ..]) => {
-            write_count(text, 2, "block ", number_of(front), "")
+            write_count(text, 2, "block ", number_of(front), "");
         }
         (Field::ShortName, [_, high, low, ..]) => {
-            write_octets(text, 2, "short name ", &[*high, *low])
+            write_octets(text, 2, "short name ", &[*high, *low]);
         }
-        _ => Ok(()),
+        _ => {}
     }
 }
 
 /// The line of an Action-Result.
-fn write_action<A: Allocator>(text: &mut String<A>, code: u8) -> Result<(), AllocError> {
-    write_result(text, "action-result ", action_result(code), code)
+fn write_action<A: Allocator>(text: &mut Text<'_, A>, code: u8) {
+    write_result(text, "action-result ", action_result(code), code);
 }
 
 /// The lines of results.
-fn write_results<A: Allocator>(
-    text: &mut String<A>,
-    field: Field,
-    bytes: &[u8],
-) -> Result<(), AllocError> {
+fn write_results<A: Allocator>(text: &mut Text<'_, A>, field: Field, bytes: &[u8]) {
     match (field, bytes) {
         (Field::GetResult | Field::ShortData | Field::ShortResult, [1, code]) => {
-            write_access(text, *code)
+            write_access(text, *code);
         }
         (Field::ShortResult, [0]) => line(text, 2, "success"),
         (Field::ShortData | Field::ShortResult, [_, high, low]) => {
-            write_count(text, 2, "block ", number_of(&[*high, *low]), "")
+            write_count(text, 2, "block ", number_of(&[*high, *low]), "");
         }
         (Field::AccessResult, [code]) => write_access(text, *code),
         (Field::Return, [code, 1, 1, access]) => {
-            write_action(text, *code)?;
-            write_access(text, *access)
+            write_action(text, *code);
+            write_access(text, *access);
         }
         (Field::Return, [code, ..]) => write_action(text, *code),
         (Field::AccessDone, [3, code]) => write_action(text, *code),
         (Field::AccessDone, [_, code]) => write_access(text, *code),
         (Field::BlockResult, [_, a, b, c, d, _, code]) => {
-            write_number(text, "block ", u32::from_be_bytes([*a, *b, *c, *d]))?;
-            write_access(text, *code)
+            write_number(text, "block ", u32::from_be_bytes([*a, *b, *c, *d]));
+            write_access(text, *code);
         }
         (Field::Exception, [state, service, counter @ ..]) => {
-            write_exception(text, *state, *service)?;
+            write_exception(text, *state, *service);
             if counter.is_empty() {
-                return Ok(());
+                return;
             }
-            write_count(text, 2, "invocation counter ", number_of(counter), "")
+            write_count(text, 2, "invocation counter ", number_of(counter), "");
         }
         (Field::ServiceError, _) => write_octets(text, 2, "service and error ", bytes),
-        _ => Ok(()),
+        _ => {}
     }
 }
 
 /// The lines of a field that is told as it is.
-fn write_field<A: Allocator>(
-    text: &mut String<A>,
-    field: Field,
-    bytes: &[u8],
-) -> Result<(), AllocError> {
+fn write_field<A: Allocator>(text: &mut Text<'_, A>, field: Field, bytes: &[u8]) {
     match field {
         Field::LongInvoke => write_octets(text, 2, "long-invoke-id-and-priority ", bytes),
         Field::Number | Field::ShortNumber => {
-            write_count(text, 2, "block ", number_of(bytes), "")
+            write_count(text, 2, "block ", number_of(bytes), "");
         }
         Field::Control => write_octets(text, 2, "block control ", bytes),
         Field::Title => write_octets(text, 2, "system title ", behind_length(bytes)),
         Field::Time => write_when(text, behind_length(bytes)),
         Field::OptionalTime => match bytes {
             [1, rest @ ..] => write_when(text, behind_length(rest)),
-            _ => Ok(()),
+            _ => {}
         },
         Field::Attribute | Field::Method | Field::Notified | Field::Access | Field::ShortName =>
             write_names(text, field, bytes),
@@ -179,32 +162,27 @@ fn write_field<A: Allocator>(
 }
 
 /// The line of what is ciphered, with its security header (IEC 62056-5-3, 9.2.7.2.4.1).
-pub fn write_ciphered<A: Allocator>(
-    text: &mut String<A>,
-    control: u8,
-    counter: u32,
-    len: usize,
-) -> Result<(), AllocError> {
-    begin(text, 2)?;
-    text.push_str("security control ")?;
-    octet(text, control)?;
+pub fn write_ciphered<A: Allocator>(text: &mut Text<'_, A>, control: u8, counter: u32, len: usize) {
+    begin(text, 2);
+    text.push("security control ");
+    octet(text, control);
     if control / 16 % 2 == 1 {
-        text.push_str(", authenticated")?;
+        text.push(", authenticated");
     }
     if control / 32 % 2 == 1 {
-        text.push_str(", encrypted")?;
+        text.push(", encrypted");
     }
     if control / 64 % 2 == 1 {
-        text.push_str(", broadcast key")?;
+        text.push(", broadcast key");
     }
     if control / 128 == 1 {
-        text.push_str(", compressed")?;
+        text.push(", compressed");
     }
-    text.push_str(", suite ")?;
-    number(text, u64::from(control % 16))?;
-    end(text)?;
-    write_count(text, 2, "invocation counter ", u64::from(counter), "")?;
-    write_count(text, 2, "ciphered: ", len as u64, " octets")
+    text.push(", suite ");
+    number(text, u64::from(control % 16));
+    end(text);
+    write_count(text, 2, "invocation counter ", u64::from(counter), "");
+    write_count(text, 2, "ciphered: ", len as u64, " octets");
 }
 
 /// What octets are that are told by their length.
@@ -218,22 +196,17 @@ fn length_label(field: Field) -> &'static str {
 }
 
 /// The lines of a field.
-fn write_item<A: Allocator + Copy>(
-    text: &mut String<A>,
-    alloc: A,
-    level: usize,
-    item: Item<'_>,
-) -> Result<(), AllocError> {
+fn write_item<A: Allocator + Copy>(text: &mut Text<'_, A>, alloc: A, level: usize, item: Item<'_>) {
     match item {
         Item::Plain(field, bytes) => write_field(text, field, bytes),
         Item::List(_, count) => write_count(text, 2, "list of ", u64::from(count), ""),
         Item::Value(shown) => {
             let depth = level.min(64) as u8;
-            write_shown(text, alloc, depth + 2, shown)
+            write_shown(text, alloc, depth + 2, shown);
         }
         Item::Block { last, number, len } => write_block(text, last, number, len as usize),
         Item::Length(field, count) => {
-            write_count(text, 2, length_label(field), u64::from(count), " octets")
+            write_count(text, 2, length_label(field), u64::from(count), " octets");
         }
         Item::Ciphered {
             control,
@@ -254,22 +227,21 @@ fn has_list(foreign: Foreign<'_>) -> bool {
 
 /// The lines of such an APDU, whose values are told as this is known of them; what it answers, where that is known.
 pub fn write_foreign<A: Allocator + Copy>(
-    text: &mut String<A>,
+    text: &mut Text<'_, A>,
     alloc: A,
     foreign: Foreign<'_>,
     of: Option<Named>,
     secrecy: Secrecy,
-) -> Result<(), AllocError> {
-    write_form(text, foreign.form.name, foreign.survey.invoke)?;
+) {
+    write_form(text, foreign.form.name, foreign.survey.invoke);
     if !has_list(foreign) {
-        write_named(text, "of ", of)?;
+        write_named(text, "of ", of);
     }
     let mut telling = foreign.telling(secrecy);
     for _ in 0..u64::MAX {
         let Some((level, item)) = telling.next() else {
-            return Ok(());
+            return;
         };
-        write_item(text, alloc, level, item)?;
+        write_item(text, alloc, level, item);
     }
-    Ok(())
 }

@@ -1,12 +1,12 @@
 //! The line of a frame, and the lines of what is no frame.
 
 use crate::json::{begin_note, end_note};
-use crate::words::{begin, end, line, number};
-use dlms_frame::{Address, Client};
-use dlms_talks::{
+use crate::words::{Text, begin, end, line, number};
+use dlms_dissect::{
     Came, Control, Damage, Heading, Parameters, Piece, Side, has_poll, lower, name_of, read, upper,
 };
-use std::alloc::{AllocError, Allocator};
+use dlms_frame::{Address, Client};
+use std::alloc::Allocator;
 
 /// The sign of a side at the front of a line, as in a transcript; `-` where it is not known.
 fn sign(side: Option<Side>) -> &'static str {
@@ -31,59 +31,47 @@ fn client_name(address: Address) -> &'static str {
 }
 
 /// An end with its address, as `meter (1, 17)`.
-fn write_end<A: Allocator>(
-    text: &mut String<A>,
-    name: &str,
-    address: Address,
-) -> Result<(), AllocError> {
-    text.push_str(name)?;
-    text.push_str(" (")?;
-    number(text, u64::from(upper(address)))?;
+fn write_end<A: Allocator>(text: &mut Text<'_, A>, name: &str, address: Address) {
+    text.push(name);
+    text.push(" (");
+    number(text, u64::from(upper(address)));
     if let Some(lower) = lower(address) {
-        text.push_str(", ")?;
-        number(text, u64::from(lower))?;
+        text.push(", ");
+        number(text, u64::from(lower));
     }
-    text.push_str(")")
+    text.push(")");
 }
 
 /// Who sends the frame, and to whom.
-fn write_ends<A: Allocator>(
-    text: &mut String<A>,
-    side: Option<Side>,
-    heading: Heading,
-) -> Result<(), AllocError> {
+fn write_ends<A: Allocator>(text: &mut Text<'_, A>, side: Option<Side>, heading: Heading) {
     let (src, dest) = match side {
         Some(Side::Client) => (client_name(heading.src), "meter"),
         Some(Side::Meter) => ("meter", client_name(heading.dest)),
         None => ("station", "station"),
     };
-    write_end(text, src, heading.src)?;
-    text.push_str(" to ")?;
-    write_end(text, dest, heading.dest)
+    write_end(text, src, heading.src);
+    text.push(" to ");
+    write_end(text, dest, heading.dest);
 }
 
 /// A number of the control field.
-fn write_sequence<A: Allocator>(
-    text: &mut String<A>,
-    name: &str,
-    value: u8,
-) -> Result<(), AllocError> {
-    text.push_str(name)?;
-    number(text, u64::from(value))
+fn write_sequence<A: Allocator>(text: &mut Text<'_, A>, name: &str, value: u8) {
+    text.push(name);
+    number(text, u64::from(value));
 }
 
 /// The control field by its name, with its numbers.
-fn write_control<A: Allocator>(text: &mut String<A>, control: Control) -> Result<(), AllocError> {
-    text.push_str(name_of(control))?;
+fn write_control<A: Allocator>(text: &mut Text<'_, A>, control: Control) {
+    text.push(name_of(control));
     match control {
         Control::Information { send, receive } => {
-            write_sequence(text, ", N(S) ", send)?;
-            write_sequence(text, ", N(R) ", receive)
+            write_sequence(text, ", N(S) ", send);
+            write_sequence(text, ", N(R) ", receive);
         }
         Control::Ready { receive } | Control::NotReady { receive } => {
-            write_sequence(text, ", N(R) ", receive)
+            write_sequence(text, ", N(R) ", receive);
         }
-        _ => Ok(()),
+        _ => {}
     }
 }
 
@@ -97,22 +85,18 @@ fn poll_words(side: Option<Side>, octet: u8) -> &'static str {
 }
 
 /// The words of a frame, without the end of their line. The deframer gives frames alone of which each check is right.
-pub fn write_frame<A: Allocator>(
-    text: &mut String<A>,
-    side: Option<Side>,
-    heading: Heading,
-) -> Result<(), AllocError> {
-    text.push_str(sign(side))?;
-    write_ends(text, side, heading)?;
-    text.push_str(": ")?;
-    write_control(text, read(heading.control))?;
-    text.push_str(poll_words(side, heading.control))?;
+pub fn write_frame<A: Allocator>(text: &mut Text<'_, A>, side: Option<Side>, heading: Heading) {
+    text.push(sign(side));
+    write_ends(text, side, heading);
+    text.push(": ");
+    write_control(text, read(heading.control));
+    text.push(poll_words(side, heading.control));
     if heading.segmented {
-        text.push_str(", segmented")?;
+        text.push(", segmented");
     }
-    text.push_str("; length ")?;
-    number(text, heading.len as u64)?;
-    text.push_str(if heading.has_information {
+    text.push("; length ");
+    number(text, heading.len as u64);
+    text.push(if heading.has_information {
         "; header and frame check right"
     } else {
         "; check right"
@@ -120,65 +104,53 @@ pub fn write_frame<A: Allocator>(
 }
 
 /// The line of a parameter that is there.
-fn write_parameter<A: Allocator>(
-    text: &mut String<A>,
-    name: &str,
-    value: Option<u32>,
-) -> Result<(), AllocError> {
+fn write_parameter<A: Allocator>(text: &mut Text<'_, A>, name: &str, value: Option<u32>) {
     match value {
         Some(value) => {
-            begin(text, 2)?;
-            text.push_str(name)?;
-            number(text, u64::from(value))?;
-            end(text)
+            begin(text, 2);
+            text.push(name);
+            number(text, u64::from(value));
+            end(text);
         }
-        None => Ok(()),
+        None => {}
     }
 }
 
 /// The line of octets behind the parameters, where there are some.
-fn write_behind<A: Allocator>(text: &mut String<A>, count: usize) -> Result<(), AllocError> {
+fn write_behind<A: Allocator>(text: &mut Text<'_, A>, count: usize) {
     if count == 0 {
-        return Ok(());
+        return;
     }
-    begin(text, 2)?;
-    text.push_str("behind the parameters: ")?;
-    number(text, count as u64)?;
-    text.push_str(" octets")?;
-    end(text)
+    begin(text, 2);
+    text.push("behind the parameters: ");
+    number(text, count as u64);
+    text.push(" octets");
+    end(text);
 }
 
 /// The lines of a link's parameters.
-fn write_parameters<A: Allocator>(
-    text: &mut String<A>,
-    parameters: Parameters,
-) -> Result<(), AllocError> {
-    line(text, 1, "link parameters")?;
+fn write_parameters<A: Allocator>(text: &mut Text<'_, A>, parameters: Parameters) {
+    line(text, 1, "link parameters");
     write_parameter(
         text,
         "maximum information field length, transmit: ",
         parameters.sent,
-    )?;
+    );
     write_parameter(
         text,
         "maximum information field length, receive: ",
         parameters.received,
-    )?;
-    write_parameter(text, "window size, transmit: ", parameters.window_sent)?;
-    write_parameter(text, "window size, receive: ", parameters.window_received)?;
-    write_parameter(
-        text,
-        "not readable: parameter ",
-        parameters.wrong.map(|id| u32::from(id)),
-    )?;
-    write_behind(text, parameters.behind)
+    );
+    write_parameter(text, "window size, transmit: ", parameters.window_sent);
+    write_parameter(text, "window size, receive: ", parameters.window_received);
+    if let Some(id) = parameters.wrong {
+        write_parameter(text, "not readable: parameter ", Some(u32::from(id)));
+    }
+    write_behind(text, parameters.behind);
 }
 
 /// The lines of the information of an SNRM or a UA; none is what is not readable.
-pub fn write_information<A: Allocator>(
-    text: &mut String<A>,
-    parameters: Option<Parameters>,
-) -> Result<(), AllocError> {
+pub fn write_information<A: Allocator>(text: &mut Text<'_, A>, parameters: Option<Parameters>) {
     match parameters {
         Some(parameters) => write_parameters(text, parameters),
         None => line(text, 1, "link parameters: not readable"),
@@ -191,72 +163,70 @@ fn check_words(right: bool) -> &'static str {
 }
 
 /// What is wrong with bytes that have the form of a frame.
-fn write_damage<A: Allocator>(text: &mut String<A>, damage: Damage) -> Result<(), AllocError> {
+fn write_damage<A: Allocator>(text: &mut Text<'_, A>, damage: Damage) {
     match damage {
-        Damage::Check => text.push_str(", check wrong"),
-        Damage::Form => text.push_str(
-            ", with a frame's flags and length, but no addresses or checks",
-        ),
+        Damage::Check => text.push(", check wrong"),
+        Damage::Form => text.push(", with a frame's flags and length, but no addresses or checks"),
         Damage::Checks { header, frame } => {
-            text.push_str(", header check ")?;
-            text.push_str(check_words(header))?;
-            text.push_str(", frame check ")?;
-            text.push_str(check_words(frame))
+            text.push(", header check ");
+            text.push(check_words(header));
+            text.push(", frame check ");
+            text.push(check_words(frame));
         }
     }
 }
 
 /// The line of bytes that are no frame, with their places in the stretch, of which the first is 0.
 pub fn write_stray<A: Allocator>(
-    text: &mut String<A>,
+    text: &mut Text<'_, A>,
     is_json: bool,
     side: Option<Side>,
     place: u64,
     piece: Piece,
-) -> Result<(), AllocError> {
+) {
     let len = piece.len as u64;
-    begin_note(text, is_json)?;
-    text.push_str(sign(side))?;
-    text.push_str("octets ")?;
-    number(text, place)?;
-    text.push_str(" to ")?;
-    number(text, place.saturating_add(len.saturating_sub(1)))?;
-    text.push_str(": no frame")?;
+    begin_note(text, is_json);
+    text.push(sign(side));
+    text.push("octets ");
+    number(text, place);
+    text.push(" to ");
+    number(text, place.saturating_add(len.saturating_sub(1)));
+    text.push(": no frame");
     if let Some(damage) = piece.damage {
-        write_damage(text, damage)?;
+        write_damage(text, damage);
     }
-    end_note(text, is_json)
+    end_note(text, is_json);
 }
 
 /// What is said of information without the LLC.
 const NO_LLC: &str = "not readable: no LLC stands in front of the APDU, at octet 1";
 
 /// The line of information without the LLC.
-pub fn write_no_llc<A: Allocator>(text: &mut String<A>) -> Result<(), AllocError> {
-    line(text, 1, NO_LLC)
+pub fn write_no_llc<A: Allocator>(text: &mut Text<'_, A>) {
+    line(text, 1, NO_LLC);
 }
 
 /// The line of how many segments an APDU came in, where they are several.
-fn write_segments<A: Allocator>(text: &mut String<A>, count: u32) -> Result<(), AllocError> {
+fn write_segments<A: Allocator>(text: &mut Text<'_, A>, count: u32) {
     if count < 2 {
-        return Ok(());
+        return;
     }
-    begin(text, 1)?;
-    number(text, u64::from(count))?;
-    text.push_str(" segments joined")?;
-    end(text)
+    begin(text, 1);
+    number(text, u64::from(count));
+    text.push(" segments joined");
+    end(text);
 }
 
 /// The line of a segment that others follow.
-fn write_segment<A: Allocator>(text: &mut String<A>, count: u32) -> Result<(), AllocError> {
-    begin(text, 1)?;
-    text.push_str("segment ")?;
-    number(text, u64::from(count))?;
-    end(text)
+fn write_segment<A: Allocator>(text: &mut Text<'_, A>, count: u32) {
+    begin(text, 1);
+    text.push("segment ");
+    number(text, u64::from(count));
+    end(text);
 }
 
 /// The line of what an information frame is among those before it; of an APDU in one frame none.
-pub fn write_came<A: Allocator>(text: &mut String<A>, came: Came) -> Result<(), AllocError> {
+pub fn write_came<A: Allocator>(text: &mut Text<'_, A>, came: Came) {
     match came {
         Came::Again => line(text, 1, "the number of the frame before: not taken again"),
         Came::OutOfTurn | Came::Apart => line(text, 1, "out of turn: not taken"),

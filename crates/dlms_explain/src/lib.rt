@@ -21,7 +21,8 @@ mod words;
 mod wrapper;
 
 pub use data_text::write_value;
-pub use explainer::Explainer;
+pub use dlms_dissect::Side;
+pub use explainer::{Explainer, write_apdu};
 pub use fault::ExplainFault;
 pub use names_text::write_code;
 pub use session::{Form, MOST_LINE, explain};

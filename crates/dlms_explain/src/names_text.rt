@@ -1,6 +1,6 @@
 //! Names in a line.
 
-use crate::words::{begin, end, number};
+use crate::words::{Text, begin, end, number};
 use dlms_acse::Conformance;
 use dlms_names::{
     code_name, medium_name, phase_name, processing_name, quantity_name, service_name,
@@ -8,17 +8,12 @@ use dlms_names::{
 use std::alloc::{AllocError, Allocator};
 
 /// A number behind a label, where it is another one than this.
-fn write_unless<A: Allocator>(
-    text: &mut String<A>,
-    label: &str,
-    value: u8,
-    usual: u8,
-) -> Result<(), AllocError> {
+fn write_unless<A: Allocator>(text: &mut Text<'_, A>, label: &str, value: u8, usual: u8) {
     if value == usual {
-        return Ok(());
+        return;
     }
-    text.push_str(label)?;
-    number(text, u64::from(value))
+    text.push(label);
+    number(text, u64::from(value));
 }
 
 /// The value group D of what is measured now, of which value group E names no rate.
@@ -26,44 +21,44 @@ const NOW: u8 = 7;
 
 /// What the value groups C, D and E of a code of electricity name.
 fn write_quantity<A: Allocator>(
-    text: &mut String<A>,
+    text: &mut Text<'_, A>,
     quantity: &str,
     group_c: u8,
     group_d: u8,
     group_e: u8,
-) -> Result<(), AllocError> {
-    text.push_str(": ")?;
-    text.push_str(quantity)?;
+) {
+    text.push(": ");
+    text.push(quantity);
     if let Some(phase) = phase_name(group_c) {
-        text.push_str(" ")?;
-        text.push_str(phase)?;
+        text.push(" ");
+        text.push(phase);
     }
     if let Some(processing) = processing_name(group_d) {
-        text.push_str(", ")?;
-        text.push_str(processing)?;
+        text.push(", ");
+        text.push(processing);
     }
     if group_d == NOW {
-        return Ok(());
+        return;
     }
-    write_unless(text, ", rate ", group_e, 0)
+    write_unless(text, ", rate ", group_e, 0);
 }
 
 /// What the value groups of a code name: the medium, the quantity with its phase, its processing and its rate, the billing period
 /// and the channel.
-fn write_groups<A: Allocator>(text: &mut String<A>, code: [u8; 6]) -> Result<(), AllocError> {
+fn write_groups<A: Allocator>(text: &mut Text<'_, A>, code: [u8; 6]) {
     let [a, b, c, d, e, f] = code;
     let Some(medium) = medium_name(a) else {
-        return Ok(());
+        return;
     };
-    text.push_str(" ")?;
-    text.push_str(medium)?;
+    text.push(" ");
+    text.push(medium);
     if a == 1
         && let Some(quantity) = quantity_name(c)
     {
-        write_quantity(text, quantity, c, d, e)?;
+        write_quantity(text, quantity, c, d, e);
     }
-    write_unless(text, ", billing period ", f, 0xff)?;
-    write_unless(text, ", channel ", b, 0)
+    write_unless(text, ", billing period ", f, 0xff);
+    write_unless(text, ", channel ", b, 0);
 }
 
 /// Whether the value groups of a code name a quantity of electricity, and how it is processed.
@@ -73,56 +68,63 @@ pub fn is_quantity(code: [u8; 6]) -> bool {
 }
 
 /// A code as `1.0.1.8.0.255`, and behind it what it names, or what its value groups do.
-pub fn write_code<A: Allocator>(text: &mut String<A>, code: [u8; 6]) -> Result<(), AllocError> {
+pub fn write_name<A: Allocator>(text: &mut Text<'_, A>, code: [u8; 6]) {
     for (at, group) in code.iter().enumerate() {
         if at > 0 {
-            text.push_str(".")?;
+            text.push(".");
         }
-        number(text, u64::from(*group))?;
+        number(text, u64::from(*group));
     }
     match code_name(code) {
         Some(name) => {
-            text.push_str(" ")?;
-            text.push_str(name)
+            text.push(" ");
+            text.push(name);
         }
         None => write_groups(text, code),
     }
+}
+
+/// Appends to the text a code as `1.0.1.8.0.255`, and behind it what it names, or what its value groups do.
+pub fn write_code<A: Allocator>(text: &mut String<A>, code: [u8; 6]) -> Result<(), AllocError> {
+    let mut text = Text::new(text);
+    write_name(&mut text, code);
+    text.end()
 }
 
 /// The value of the first of the 24 bits of a conformance block.
 const FIRST_BIT: u32 = 0x80_0000;
 
 /// The name of the service that a bit stands for.
-fn write_service<A: Allocator>(text: &mut String<A>, bit: u8) -> Result<(), AllocError> {
+fn write_service<A: Allocator>(text: &mut Text<'_, A>, bit: u8) {
     match service_name(bit) {
-        Some(name) => text.push_str(name),
+        Some(name) => text.push(name),
         None => {
-            text.push_str("reserved bit ")?;
-            number(text, u64::from(bit))
+            text.push("reserved bit ");
+            number(text, u64::from(bit));
         }
     }
 }
 
 /// A line with the names of the services that are there.
 pub fn write_conformance<A: Allocator>(
-    text: &mut String<A>,
+    text: &mut Text<'_, A>,
     depth: u8,
     conformance: Conformance,
-) -> Result<(), AllocError> {
-    begin(text, depth)?;
-    text.push_str("conformance:")?;
+) {
+    begin(text, depth);
+    text.push("conformance:");
     let mut weight = FIRST_BIT;
     let mut parting = " ";
     for bit in 0..24u8 {
         if conformance.0 & weight != 0 {
-            text.push_str(parting)?;
-            write_service(text, bit)?;
+            text.push(parting);
+            write_service(text, bit);
             parting = ", ";
         }
         weight /= 2;
     }
     if parting == " " {
-        text.push_str(" none")?;
+        text.push(" none");
     }
-    end(text)
+    end(text);
 }

@@ -1,11 +1,11 @@
 //! Values by their octets, a line each.
 
 use crate::data_text::{write_count, write_plain};
-use crate::words::{begin, end, line, number, octets, signed};
+use crate::words::{Text, begin, end, line, number, octets, signed};
 use dlms_data::read;
-use dlms_talks::{Field, Shown, front_at, length_at};
+use dlms_dissect::{Field, Shown, front_at, length_at};
 use ryu::Buffer;
-use std::alloc::{AllocError, Allocator};
+use std::alloc::Allocator;
 use std::num::{f32_from_bits_with_nan, f64_from_bits_with_nan};
 
 /// The name of a string's type, and of what it is counted in.
@@ -20,34 +20,30 @@ fn string_name(tag: u8) -> (&'static str, &'static str) {
 }
 
 /// A float of four octets; digits where it is no number.
-fn write_float32<A: Allocator>(text: &mut String<A>, fields: [u8; 4]) -> Result<(), AllocError> {
-    text.push_str("float32 ")?;
+fn write_float32<A: Allocator>(text: &mut Text<'_, A>, fields: [u8; 4]) {
+    text.push("float32 ");
     let value = f32_from_bits_with_nan(u32::from_be_bytes(fields));
     if value.is_finite() {
-        text.push_str(Buffer::new().format_finite(value))
+        text.push(Buffer::new().format_finite(value));
     } else {
-        octets(text, &fields)
+        octets(text, &fields);
     }
 }
 
 /// A float of eight octets; digits where it is no number.
-fn write_float64<A: Allocator>(text: &mut String<A>, fields: [u8; 8]) -> Result<(), AllocError> {
-    text.push_str("float64 ")?;
+fn write_float64<A: Allocator>(text: &mut Text<'_, A>, fields: [u8; 8]) {
+    text.push("float64 ");
     let value = f64_from_bits_with_nan(u64::from_be_bytes(fields));
     if value.is_finite() {
-        text.push_str(Buffer::new().format_finite(value))
+        text.push(Buffer::new().format_finite(value));
     } else {
-        octets(text, &fields)
+        octets(text, &fields);
     }
 }
 
 /// A difference to a value before it, of one, two or four octets.
-fn write_delta<A: Allocator>(
-    text: &mut String<A>,
-    tag: u8,
-    fields: &[u8],
-) -> Result<(), AllocError> {
-    text.push_str("delta ")?;
+fn write_delta<A: Allocator>(text: &mut Text<'_, A>, tag: u8, fields: &[u8]) {
+    text.push("delta ");
     match (tag, fields) {
         (28, [a]) => signed(text, i64::from(i8::from_be_bytes([*a]))),
         (29, [a, b]) => signed(text, i64::from(i16::from_be_bytes([*a, *b]))),
@@ -68,18 +64,14 @@ fn count_in(bytes: &[u8]) -> usize {
 }
 
 /// A value of a type that holds no others.
-fn write_leaf<A: Allocator + Copy>(
-    text: &mut String<A>,
-    alloc: A,
-    bytes: &[u8],
-) -> Result<(), AllocError> {
+fn write_leaf<A: Allocator + Copy>(text: &mut Text<'_, A>, alloc: A, bytes: &[u8]) {
     match bytes {
         [23, a, b, c, d] => write_float32(text, [*a, *b, *c, *d]),
         [24, a, b, c, d, e, f, g, h] => write_float64(text, [*a, *b, *c, *d, *e, *f, *g, *h]),
-        [255] => text.push_str("dont-care"),
+        [255] => text.push("dont-care"),
         [19, rest @ ..] => {
-            text.push_str("compact-array ")?;
-            octets(text, rest)
+            text.push("compact-array ");
+            octets(text, rest);
         }
         [tag, rest @ ..] if 28 <= *tag && *tag <= 33 => write_delta(text, *tag, rest),
         _ => match read(alloc, bytes) {
@@ -90,36 +82,31 @@ fn write_leaf<A: Allocator + Copy>(
 }
 
 /// The line of a value by its octets, without the values that it holds.
-fn write_open<A: Allocator + Copy>(
-    text: &mut String<A>,
-    alloc: A,
-    depth: u8,
-    bytes: &[u8],
-) -> Result<(), AllocError> {
+fn write_open<A: Allocator + Copy>(text: &mut Text<'_, A>, alloc: A, depth: u8, bytes: &[u8]) {
     match bytes {
         [1, ..] => write_count(text, depth, "array of ", count_in(bytes), ""),
         [2, ..] => write_count(text, depth, "structure of ", count_in(bytes), ""),
         _ => {
-            begin(text, depth)?;
-            write_leaf(text, alloc, bytes)?;
-            end(text)
+            begin(text, depth);
+            write_leaf(text, alloc, bytes);
+            end(text);
         }
     }
 }
 
 /// The line of what is shown of a value.
 pub fn write_shown<A: Allocator + Copy>(
-    text: &mut String<A>,
+    text: &mut Text<'_, A>,
     alloc: A,
     depth: u8,
     shown: Shown<'_>,
-) -> Result<(), AllocError> {
+) {
     match shown {
         Shown::Secret => line(text, depth, "(secret)"),
         Shown::Veiled { tag: 19, .. } => line(text, depth, "compact-array"),
         Shown::Veiled { tag, count } => {
             let (kind, parts) = string_name(tag);
-            write_count(text, depth, kind, count as usize, parts)
+            write_count(text, depth, kind, count as usize, parts);
         }
         Shown::Open(bytes) => write_open(text, alloc, depth, bytes),
     }

@@ -1,11 +1,12 @@
 //! The lines of an input, explained as they come.
 
-ghost use Rattle.std.specs.Prelude.{◌≤◌, length, IfOk};
+ghost use Rattle.std.specs.Prelude.{◌≡◌, ◌≤◌, ◌&&◌, ◌||◌, not, false, length, IfOk};
 
 use crate::captured::Captured;
 use crate::explainer::Explainer;
 use crate::fault::ExplainFault;
 use crate::json::write_note;
+use crate::words::Text;
 use dlms_capture::is_capture;
 use memchr::memchr;
 use std::alloc::{AllocError, Allocator};
@@ -48,7 +49,9 @@ pub struct Form {
 
 impl Form {
     /// In lines, and without strings that may be a secret.
-    pub fn full() -> Form {
+    pub fn full() -> Form
+        ensures { result ≡ record { raw = false; short = false; hex = false; json = false } }
+    {
         Form {
             raw: false,
             short: false,
@@ -58,12 +61,16 @@ impl Form {
     }
 
     /// Whether what is told of a frame is written as it comes, and not put together behind it.
-    pub fn is_at_once(self) -> bool {
+    pub fn is_at_once(self) -> bool
+        ensures { result ≡ ((not self.short && not self.hex) && not self.json) }
+    {
         !self.short && !self.hex && !self.json
     }
 
     /// Whether a frame is told in one line, in which its time stands too.
-    pub fn is_one_line(self) -> bool {
+    pub fn is_one_line(self) -> bool
+        ensures { result ≡ (self.short || self.json) }
+    {
         self.short || self.json
     }
 }
@@ -105,14 +112,15 @@ impl<A: Allocator + Copy> Session<A> {
 
     /// A line is whole: what is told of it.
     fn tell_line(&mut self) -> Result<(), AllocError> {
+        let mut text = Text::new(&mut self.text);
         if self.is_long {
-            write_note(&mut self.text, self.is_json, TOO_LONG)?;
+            write_note(&mut text, self.is_json, TOO_LONG);
         } else {
-            self.explainer.line(self.line.as_slice(), &mut self.text)?;
+            self.explainer.tell(self.line.as_slice(), &mut text);
         }
         self.line.clear();
         self.is_long = false;
-        Ok(())
+        text.end()
     }
 
     /// Takes octets of the input, and appends what is told of the lines that are whole then.

@@ -1,12 +1,14 @@
 //! A frame in one line, or with its octets beside: made of what is told of it in full.
 
+ghost use Rattle.std.specs.Prelude.{◌≡◌};
+
 use crate::frame_text::write_frame;
 use crate::json::{write_json, write_json_wrapped};
 use crate::session::Form;
-use crate::words::{end, number, octets};
+use crate::words::{Text, end, number, octets};
+use dlms_dissect::{Control, Heading, Side, lower, name_of, read, upper};
 use dlms_frame::Address;
-use dlms_talks::{Control, Heading, Side, lower, name_of, read, upper};
-use std::alloc::{AllocError, Allocator};
+use std::alloc::Allocator;
 
 /// How wide the column of the two ends is, and that of the service.
 const ENDS: usize = 14;
@@ -25,61 +27,66 @@ pub struct View<A: Allocator> {
 
 impl<A: Allocator + Copy> View<A> {
     /// Before the first frame. No memory is taken here.
-    pub fn new(alloc: A, form: Form) -> Self {
+    pub fn new(alloc: A, form: Form) -> Self
+        ensures { result.form ≡ form }
+    {
         View {
             form,
             stamp: String::new(alloc),
             full: String::new(alloc),
         }
     }
+
+    /// The time of the octets that come is this.
+    pub fn stamp_with(&mut self, words: &str, text: &mut Text<'_, A>) {
+        self.stamp.clear();
+        if self.stamp.push_str(words).is_err() {
+            text.refuse();
+        }
+    }
 }
 
 /// Blanks up to the end of a column of this width that began at this place, one at least.
-fn fill<A: Allocator>(text: &mut String<A>, from: usize, width: usize) -> Result<(), AllocError> {
+fn fill<A: Allocator>(text: &mut Text<'_, A>, from: usize, width: usize) {
     let len = text.len().saturating_sub(from);
     for _ in 0..width.saturating_sub(len) {
-        text.push_str(" ")?;
+        text.push(" ");
     }
-    text.push_str(" ")
+    text.push(" ");
 }
 
 /// An address by its numbers, as `1,17`.
-fn write_address<A: Allocator>(text: &mut String<A>, address: Address) -> Result<(), AllocError> {
-    number(text, u64::from(upper(address)))?;
+fn write_address<A: Allocator>(text: &mut Text<'_, A>, address: Address) {
+    number(text, u64::from(upper(address)));
     if let Some(lower) = lower(address) {
-        text.push_str(",")?;
-        number(text, u64::from(lower))?;
+        text.push(",");
+        number(text, u64::from(lower));
     }
-    Ok(())
 }
 
 /// The column of the two ends, the client's first: `16 > 1` is to the meter, `16 < 1` from it.
-fn write_ends<A: Allocator>(
-    text: &mut String<A>,
-    side: Option<Side>,
-    heading: Heading,
-) -> Result<(), AllocError> {
+fn write_ends<A: Allocator>(text: &mut Text<'_, A>, side: Option<Side>, heading: Heading) {
     let from = text.len();
     let (client, sign, meter) = match side {
         Some(Side::Client) => (heading.src, " > ", heading.dest),
         Some(Side::Meter) => (heading.dest, " < ", heading.src),
         None => (heading.src, " - ", heading.dest),
     };
-    write_address(text, client)?;
-    text.push_str(sign)?;
-    write_address(text, meter)?;
-    fill(text, from, ENDS)
+    write_address(text, client);
+    text.push(sign);
+    write_address(text, meter);
+    fill(text, from, ENDS);
 }
 
 /// The name of a control field, with the number that a ready end awaits.
-fn write_control<A: Allocator>(text: &mut String<A>, control: Control) -> Result<(), AllocError> {
-    text.push_str(name_of(control))?;
+fn write_control<A: Allocator>(text: &mut Text<'_, A>, control: Control) {
+    text.push(name_of(control));
     match control {
         Control::Ready { receive } | Control::NotReady { receive } => {
-            text.push_str(" ")?;
-            number(text, u64::from(receive))
+            text.push(" ");
+            number(text, u64::from(receive));
         }
-        _ => Ok(()),
+        _ => {}
     }
 }
 
@@ -97,12 +104,12 @@ pub fn service(line: &str) -> &str {
 }
 
 /// The time of what is told in one line.
-fn write_front<A: Allocator>(text: &mut String<A>, view: &View<A>) -> Result<(), AllocError> {
+fn write_front<A: Allocator>(text: &mut Text<'_, A>, view: &View<A>) {
     if view.stamp.is_empty() {
-        return Ok(());
+        return;
     }
-    text.push_str(view.stamp.as_str())?;
-    text.push_str(" ")
+    text.push(view.stamp.as_str());
+    text.push(" ");
 }
 
 /// Whether a line in full is left out: how many segments an APDU came in, and which services the ends have.
@@ -111,7 +118,7 @@ fn is_left_out(line: &str) -> bool {
 }
 
 /// The service and what stands below it in full, but for the parts of a value.
-fn write_rest<A: Allocator>(text: &mut String<A>, view: &View<A>) -> Result<(), AllocError> {
+fn write_rest<A: Allocator>(text: &mut Text<'_, A>, view: &View<A>) {
     let from = text.len();
     let mut count: u64 = 0;
     for line in view.full.as_str().lines() {
@@ -120,19 +127,18 @@ fn write_rest<A: Allocator>(text: &mut String<A>, view: &View<A>) -> Result<(), 
         }
         let words = line.trim_start();
         match count {
-            0 => text.push_str(service(words))?,
+            0 => text.push(service(words)),
             1 => {
-                fill(text, from, SERVICE)?;
-                text.push_str(words)?;
+                fill(text, from, SERVICE);
+                text.push(words);
             }
             _ => {
-                text.push_str("; ")?;
-                text.push_str(words)?;
+                text.push("; ");
+                text.push(words);
             }
         }
         count = count.saturating_add(1);
     }
-    Ok(())
 }
 
 /// Octets that stand beside; of what is not whole two points tell it.
@@ -143,16 +149,13 @@ pub struct Beside<'a> {
 }
 
 /// The octets beside, where there are some.
-pub fn write_beside<A: Allocator>(
-    text: &mut String<A>,
-    beside: Beside<'_>,
-) -> Result<(), AllocError> {
+pub fn write_beside<A: Allocator>(text: &mut Text<'_, A>, beside: Beside<'_>) {
     if beside.octets.is_empty() {
-        return Ok(());
+        return;
     }
-    text.push_str(" | ")?;
-    octets(text, beside.octets)?;
-    text.push_str(if beside.is_whole { "" } else { " .." })
+    text.push(" | ");
+    octets(text, beside.octets);
+    text.push(if beside.is_whole { "" } else { " .." });
 }
 
 /// Whether a frame with this control field holds what is told below it.
@@ -162,62 +165,65 @@ pub fn has_service(control: Control) -> bool {
 
 /// The line of a frame: the time, the ends, and the service with what stands below it in full, or the control field.
 fn write_short<A: Allocator>(
-    text: &mut String<A>,
+    text: &mut Text<'_, A>,
     view: &View<A>,
     side: Option<Side>,
     heading: Heading,
     beside: Beside<'_>,
-) -> Result<(), AllocError> {
-    write_front(text, view)?;
-    write_ends(text, side, heading)?;
+) {
+    write_front(text, view);
+    write_ends(text, side, heading);
     let control = read(heading.control);
     if has_service(control) {
-        write_rest(text, view)?;
+        write_rest(text, view);
     } else {
-        write_control(text, control)?;
+        write_control(text, control);
     }
-    write_beside(text, beside)?;
-    end(text)
+    write_beside(text, beside);
+    end(text);
 }
 
 /// What is told of a frame, put together as the form asks for it.
 pub fn write_view<A: Allocator>(
-    text: &mut String<A>,
+    text: &mut Text<'_, A>,
     view: &View<A>,
     side: Option<Side>,
     heading: Heading,
     beside: Beside<'_>,
-) -> Result<(), AllocError> {
+) {
     if view.form.json {
-        return write_json(text, view, side, heading, beside.octets);
+        write_json(text, view, side, heading, beside.octets);
+        return;
     }
     if view.form.short {
-        return write_short(text, view, side, heading, beside);
+        write_short(text, view, side, heading, beside);
+        return;
     }
-    write_frame(text, side, heading)?;
-    write_beside(text, beside)?;
-    end(text)?;
-    text.push_str(view.full.as_str())
+    write_frame(text, side, heading);
+    write_beside(text, beside);
+    end(text);
+    text.push(view.full.as_str());
 }
 
 /// The line of an APDU in the wrapper: the time, the client's port and the meter's, and the service.
 pub fn write_wrapped<A: Allocator>(
-    text: &mut String<A>,
+    text: &mut Text<'_, A>,
     view: &View<A>,
     side: Side,
     ports: (u16, u16),
     beside: Beside<'_>,
-) -> Result<(), AllocError> {
+) {
     if view.form.json {
-        return write_json_wrapped(text, view, side, ports, beside.octets);
+        write_json_wrapped(text, view, side, ports, beside.octets);
+        return;
     }
-    write_front(text, view)?;
+    write_front(text, view);
     let from = text.len();
-    number(text, u64::from(ports.0))?;
-    text.push_str(if side == Side::Client { " > " } else { " < " })?;
-    number(text, u64::from(ports.1))?;
-    fill(text, from, ENDS)?;
-    write_rest(text, view)?;
-    write_beside(text, beside)?;
-    end(text)
+    number(text, u64::from(ports.0));
+    text.push(if side == Side::Client { " > " } else { " < " });
+    number(text, u64::from(ports.1));
+    fill(text, from, ENDS);
+    write_rest(text, view);
+    write_beside(text, beside);
+    end(text);
 }

@@ -1,5 +1,7 @@
 //! The words that a text is put together of.
 
+ghost use Rattle.std.specs.Prelude.{◌≡◌, true, false, IsErr, OnOk};
+
 use itoa::Buffer;
 use std::alloc::{AllocError, Allocator};
 
@@ -8,83 +10,137 @@ const DIGITS: [&str; 16] = [
     "0", "1", "2", "3", "4", "5", "6", "7", "8", "9", "a", "b", "c", "d", "e", "f",
 ];
 
-/// Begins a line, two blanks deeper for each level.
-pub fn begin<A: Allocator>(text: &mut String<A>, depth: u8) -> Result<(), AllocError> {
-    for _ in 0..depth {
-        text.push_str("  ")?;
+/// A text that is put together. Once a growth was refused it takes no more words, and says so at its end.
+#[derive(Drop)]
+pub struct Text<'a, A: Allocator> {
+    words: &'a mut String<A>,
+    is_refused: bool,
+}
+
+impl<'a, A: Allocator> Text<'a, A> {
+    /// What comes is appended to these words.
+    pub fn new(words: &'a mut String<A>) -> Text<'a, A>
+        ensures { result.is_refused ≡ false }
+    {
+        Text {
+            words,
+            is_refused: false,
+        }
     }
-    Ok(())
+
+    /// Appends words.
+    pub fn push(&mut self, words: &str)
+        ensures { self.old.is_refused ≡ true → self.new.is_refused ≡ true }
+    {
+        if !self.is_refused {
+            self.is_refused = self.words.push_str(words).is_err();
+        }
+    }
+
+    /// Appends a letter.
+    pub fn letter(&mut self, letter: char)
+        ensures { self.old.is_refused ≡ true → self.new.is_refused ≡ true }
+    {
+        if !self.is_refused {
+            self.is_refused = self.words.push(letter).is_err();
+        }
+    }
+
+    /// How many octets stand in it.
+    pub fn len(&self) -> usize {
+        self.words.len()
+    }
+
+    /// A growth of something else was refused.
+    pub fn refuse(&mut self)
+        ensures { self.new.is_refused ≡ true }
+    {
+        self.is_refused = true;
+    }
+
+    /// Whether each growth was granted.
+    pub fn end(self) -> Result<(), AllocError>
+        ensures granted { OnOk result (self.entry.is_refused ≡ false) }
+        ensures refused { IsErr result → self.entry.is_refused ≡ true }
+    {
+        if self.is_refused {
+            Err(AllocError)
+        } else {
+            Ok(())
+        }
+    }
+}
+
+/// Begins a line, two blanks deeper for each level.
+pub fn begin<A: Allocator>(text: &mut Text<'_, A>, depth: u8) {
+    for _ in 0..depth {
+        text.push("  ");
+    }
 }
 
 /// Ends a line.
-pub fn end<A: Allocator>(text: &mut String<A>) -> Result<(), AllocError> {
-    text.push_str("\n")
+pub fn end<A: Allocator>(text: &mut Text<'_, A>) {
+    text.push("\n");
 }
 
 /// A line of these words.
-pub fn line<A: Allocator>(text: &mut String<A>, depth: u8, words: &str) -> Result<(), AllocError> {
-    begin(text, depth)?;
-    text.push_str(words)?;
-    end(text)
+pub fn line<A: Allocator>(text: &mut Text<'_, A>, depth: u8, words: &str) {
+    begin(text, depth);
+    text.push(words);
+    end(text);
 }
 
 /// A number in decimal digits.
-pub fn number<A: Allocator>(text: &mut String<A>, value: u64) -> Result<(), AllocError> {
+pub fn number<A: Allocator>(text: &mut Text<'_, A>, value: u64) {
     let mut digits = Buffer::new();
-    text.push_str(digits.format(value))
+    text.push(digits.format(value));
 }
 
 /// A number with its sign, where it is below 0.
-pub fn signed<A: Allocator>(text: &mut String<A>, value: i64) -> Result<(), AllocError> {
+pub fn signed<A: Allocator>(text: &mut Text<'_, A>, value: i64) {
     let mut digits = Buffer::new();
-    text.push_str(digits.format(value))
+    text.push(digits.format(value));
 }
 
 /// A number of two decimal digits, or more where it has them.
-pub fn two_digits<A: Allocator>(text: &mut String<A>, value: u8) -> Result<(), AllocError> {
+pub fn two_digits<A: Allocator>(text: &mut Text<'_, A>, value: u8) {
     if value < 10 {
-        text.push_str("0")?;
+        text.push("0");
     }
-    number(text, u64::from(value))
+    number(text, u64::from(value));
 }
 
 /// A hexadecimal digit; of a greater number its last one.
-pub fn hexadecimal<A: Allocator>(text: &mut String<A>, value: u8) -> Result<(), AllocError> {
-    text.push_str(DIGITS[usize::from(value % 16)])
+pub fn hexadecimal<A: Allocator>(text: &mut Text<'_, A>, value: u8) {
+    text.push(DIGITS[usize::from(value % 16)]);
 }
 
 /// An octet in two hexadecimal digits.
-pub fn octet<A: Allocator>(text: &mut String<A>, value: u8) -> Result<(), AllocError> {
-    hexadecimal(text, value / 16)?;
-    hexadecimal(text, value)
+pub fn octet<A: Allocator>(text: &mut Text<'_, A>, value: u8) {
+    hexadecimal(text, value / 16);
+    hexadecimal(text, value);
 }
 
 /// Octets in hexadecimal digits.
-pub fn octets<A: Allocator>(text: &mut String<A>, values: &[u8]) -> Result<(), AllocError> {
+pub fn octets<A: Allocator>(text: &mut Text<'_, A>, values: &[u8]) {
     for value in values {
-        octet(text, *value)?;
+        octet(text, *value);
     }
-    Ok(())
 }
 
 /// A name and its number, as `object-undefined (4)`; a number that has no name stands with a word for what it is.
-pub fn named<A: Allocator>(
-    text: &mut String<A>,
-    name: Option<&str>,
-    kind: &str,
-    value: u64,
-) -> Result<(), AllocError> {
+pub fn named<A: Allocator>(text: &mut Text<'_, A>, name: Option<&str>, kind: &str, value: u64) {
     match name {
         Some(name) => {
-            text.push_str(name)?;
-            text.push_str(" (")?;
-            number(text, value)?;
-            text.push_str(")")
+            text.push(name);
+            text.push(" (");
+            number(text, value);
+            text.push(")");
         }
         None => {
-            text.push_str(kind)?;
-            text.push_str(" ")?;
-            number(text, value)
+            text.push(kind);
+            text.push(" ");
+            number(text, value);
         }
     }
 }

@@ -1,13 +1,15 @@
 //! APDUs in the wrapper of IEC 62056-47: behind a head of its version, the two ports and the length.
 
+ghost use Rattle.std.specs.Prelude.{◌≡◌};
+
 use crate::explainer::explain_apdu;
 use crate::json::write_note;
 use crate::session::Form;
 use crate::short::{Beside, View, write_beside, write_wrapped};
-use crate::words::{end, line, number};
+use crate::words::{Text, end, line, number};
 use byteorder::{BigEndian, ByteOrder};
-use dlms_talks::{Services, Side};
-use std::alloc::{AllocError, Allocator};
+use dlms_dissect::{Services, Side};
+use std::alloc::Allocator;
 
 /// How long the head is.
 const HEAD: usize = 8;
@@ -16,7 +18,7 @@ const HEAD: usize = 8;
 const VERSION: u16 = 1;
 
 /// The head of an APDU.
-#[derive(Clone, Copy, Debug, PartialEq, Eq)]
+#[derive(Clone, Copy)]
 struct Head {
     version: u16,
     from: u16,
@@ -51,20 +53,16 @@ fn head_of(octets: &[u8]) -> Option<Head> {
 }
 
 /// The words of a head, without the end of their line.
-fn write_head<A: Allocator>(
-    text: &mut String<A>,
-    side: Side,
-    head: Head,
-) -> Result<(), AllocError> {
-    text.push_str(match side {
+fn write_head<A: Allocator>(text: &mut Text<'_, A>, side: Side, head: Head) {
+    text.push(match side {
         Side::Client => "> wrapper port ",
         Side::Meter => "< wrapper port ",
-    })?;
-    number(text, u64::from(head.from))?;
-    text.push_str(" to ")?;
-    number(text, u64::from(head.to))?;
-    text.push_str("; length ")?;
-    number(text, head.len as u64)
+    });
+    number(text, u64::from(head.from));
+    text.push(" to ");
+    number(text, u64::from(head.to));
+    text.push("; length ");
+    number(text, head.len as u64);
 }
 
 /// What is told where no head stands.
@@ -75,7 +73,10 @@ const NOT_WHOLE: &str = "(the last APDU is not whole)";
 
 impl<A: Allocator + Copy> Wrapped<A> {
     /// Before the first octet. No memory is taken here.
-    pub fn new(alloc: A, form: Form) -> Self {
+    pub fn new(alloc: A, form: Form) -> Self
+        ensures raw { result.services.raw ≡ form.raw }
+        ensures form { result.view.form ≡ form }
+    {
         Wrapped {
             alloc,
             raw: form.raw,
@@ -100,27 +101,25 @@ impl<A: Allocator + Copy> Wrapped<A> {
     }
 
     /// When octets came: a line, or in front of each APDU's.
-    pub fn stamp(&mut self, words: &str, text: &mut String<A>) -> Result<(), AllocError> {
+    pub fn stamp(&mut self, words: &str, text: &mut Text<'_, A>) {
         if self.view.form.is_one_line() {
-            self.view.stamp.clear();
-            return self.view.stamp.push_str(words);
+            self.view.stamp_with(words, text);
+        } else {
+            line(text, 0, words);
         }
-        line(text, 0, words)
     }
 
     /// What is told of an APDU, behind its head, put together as the form asks for it.
-    fn tell_view(
-        &mut self,
-        side: Side,
-        head: Head,
-        whole: &[u8],
-        text: &mut String<A>,
-    ) -> Result<(), AllocError> {
+    fn tell_view(&mut self, side: Side, head: Head, whole: &[u8], text: &mut Text<'_, A>) {
         let apdu = whole.get(HEAD..).unwrap_or(&[]);
         let hex = self.view.form.hex;
         self.view.full.clear();
-        let full = &mut self.view.full;
-        let shown = explain_apdu(full, self.alloc, hex, Some(side), &mut self.services, apdu)?;
+        let mut full = Text::new(&mut self.view.full);
+        let said = Some(side);
+        let shown = explain_apdu(&mut full, self.alloc, hex, said, &mut self.services, apdu);
+        if full.end().is_err() {
+            text.refuse();
+        }
         let beside = Beside {
             octets: if hex {
                 whole.get(..shown.saturating_add(HEAD)).unwrap_or(whole)
@@ -130,85 +129,65 @@ impl<A: Allocator + Copy> Wrapped<A> {
             is_whole: shown >= apdu.len(),
         };
         if self.view.form.is_one_line() {
-            return write_wrapped(text, &self.view, side, self.ports, beside);
+            write_wrapped(text, &self.view, side, self.ports, beside);
+            return;
         }
-        write_head(text, side, head)?;
-        write_beside(text, beside)?;
-        end(text)?;
-        text.push_str(self.view.full.as_str())
+        write_head(text, side, head);
+        write_beside(text, beside);
+        end(text);
+        text.push(self.view.full.as_str());
     }
 
     /// What is told of an APDU, which stands behind its head.
-    fn tell(
-        &mut self,
-        side: Side,
-        head: Head,
-        whole: &[u8],
-        text: &mut String<A>,
-    ) -> Result<(), AllocError> {
+    fn tell(&mut self, side: Side, head: Head, whole: &[u8], text: &mut Text<'_, A>) {
         self.follow(side, head);
         if self.view.form.is_at_once() {
             let apdu = whole.get(HEAD..).unwrap_or(&[]);
-            write_head(text, side, head)?;
-            end(text)?;
-            explain_apdu(
-                text,
-                self.alloc,
-                false,
-                Some(side),
-                &mut self.services,
-                apdu,
-            )?;
+            let said = Some(side);
+            write_head(text, side, head);
+            end(text);
+            explain_apdu(text, self.alloc, false, said, &mut self.services, apdu);
         } else {
-            self.tell_view(side, head, whole, text)?;
+            self.tell_view(side, head, whole, text);
         }
         if side == Side::Meter {
             self.services.pass();
         }
-        Ok(())
     }
 
     /// The octets that one end has sent, with those of before, and how many of them are told.
-    fn tell_all(
-        &mut self,
-        side: Side,
-        octets: &[u8],
-        text: &mut String<A>,
-    ) -> Result<usize, AllocError> {
+    fn tell_all(&mut self, side: Side, octets: &[u8], text: &mut Text<'_, A>) -> usize {
         let mut rest = octets;
         for _ in 0..octets.len() {
             let Some(head) = head_of(rest) else {
                 break;
             };
             if head.version != VERSION {
-                write_note(text, self.view.form.json, NO_WRAPPER)?;
-                return Ok(octets.len());
+                write_note(text, self.view.form.json, NO_WRAPPER);
+                return octets.len();
             }
             let len = head.len.saturating_add(HEAD);
             let (Some(whole), Some(next)) = (rest.get(..len), rest.get(len..)) else {
                 break;
             };
-            self.tell(side, head, whole, text)?;
+            self.tell(side, head, whole, text);
             rest = next;
         }
-        Ok(octets.len().saturating_sub(rest.len()))
+        octets.len().saturating_sub(rest.len())
     }
 
     /// Takes octets of one end, and appends what is told of the APDUs that are whole then.
-    pub fn octets(
-        &mut self,
-        side: Side,
-        octets: &[u8],
-        text: &mut String<A>,
-    ) -> Result<(), AllocError> {
+    pub fn octets(&mut self, side: Side, octets: &[u8], text: &mut Text<'_, A>) {
         let mut kept = Vec::new(self.alloc);
         match side {
             Side::Client => std::mem::swap(&mut kept, &mut self.client),
             Side::Meter => std::mem::swap(&mut kept, &mut self.meter),
         }
-        kept.extend_from_slice(octets)?;
-        let told = self.tell_all(side, kept.as_slice(), text)?;
-        let told = told.min(kept.len());
+        if kept.extend_from_slice(octets).is_err() {
+            text.refuse();
+            return;
+        }
+        let told = self.tell_all(side, kept.as_slice(), text).min(kept.len());
         let left = kept.len() - told;
         kept.copy_within(told.., 0);
         kept.truncate(left);
@@ -216,14 +195,12 @@ impl<A: Allocator + Copy> Wrapped<A> {
             Side::Client => self.client = kept,
             Side::Meter => self.meter = kept,
         }
-        Ok(())
     }
 
     /// No more octets come.
-    pub fn end(&mut self, text: &mut String<A>) -> Result<(), AllocError> {
-        if self.client.is_empty() && self.meter.is_empty() {
-            return Ok(());
+    pub fn end(&mut self, text: &mut Text<'_, A>) {
+        if !self.client.is_empty() || !self.meter.is_empty() {
+            write_note(text, self.view.form.json, NOT_WHOLE);
         }
-        write_note(text, self.view.form.json, NOT_WHOLE)
     }
 }

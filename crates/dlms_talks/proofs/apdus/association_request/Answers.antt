@@ -1,5 +1,0 @@
-use Rattle.dlms_talks.proofs.PlaceLemmas.{acse-told}
-use Rattle.dlms_talks.proofs.apdus.association_request.Goals as goal
-
-pub returns-in-Err : goal.returns-in-Err
-returns-in-Err g c = (c.in-Err.ensures.only, acse-told _ c.in-Err.fault c.acse_fault.result c.in-Err.ensures.exact c.acse_fault.ensures)
