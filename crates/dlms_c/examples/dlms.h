@@ -94,6 +94,13 @@ bool dlms_next_frame(const uint8_t *octets, size_t length, dlms_frame_place *pla
  * is how many octets the text has. DLMS_SHORT: it is longer than `room`, and nothing was written. DLMS_MEMORY. */
 uint32_t dlms_explain(const uint8_t *octets, size_t length, char *text, size_t room, size_t *size);
 
+/* Who sent an APDU. */
+enum dlms_side { DLMS_EITHER = 0, DLMS_FROM_CLIENT = 1, DLMS_FROM_METER = 2 };
+
+/* The same of one APDU, with no LLC before it: of what came before it nothing is known, so of a block or of a meter's answer the
+ * value alone is told, and not of what. DLMS_ARGUMENT for another `side`. */
+uint32_t dlms_explain_apdu(const uint8_t *apdu, size_t length, uint8_t side, char *text, size_t room, size_t *size);
+
 #define DLMS_NONE { NULL, false }
 
 /* The most octets of a frame that is sent: the least room for one. */
@@ -131,8 +138,9 @@ typedef struct {
     size_t rows;        /* how many the load profile has */
 } dlms_meter_state_values;
 
-/* A meter in which nothing has happened, or with every event that these slots hold (at least DLMS_SLOTS octets), in an empty
- * handle. With another code than DLMS_DONE the handle is empty, and what waited is gone: the file is as it was. */
+/* A meter in which nothing has happened, or with every event that these slots hold (at least DLMS_SLOTS octets, else DLMS_SIZE), in
+ * an empty handle. With another code than DLMS_DONE the handle is empty, and what waited is gone: the file is as it was. `new` has
+ * DLMS_MEMORY and DLMS_DEVICE, `recover` also DLMS_NO_CHECKPOINT, DLMS_CORRUPT and DLMS_EXHAUSTED, each for what stands there. */
 uint32_t dlms_meter_new(dlms_meter *meter);
 uint32_t dlms_meter_recover(dlms_meter *meter, const uint8_t *slots, size_t length);
 
@@ -158,7 +166,8 @@ uint32_t dlms_meter_reply(dlms_meter *meter, uint8_t *frame, size_t room, size_t
 
 uint32_t dlms_meter_state(dlms_meter *meter, dlms_meter_state_values *state);
 
-/* Settles what is pending; its pages are still to be done. Then `free`. Without it pulses that no answer has told may be lost. */
+/* Settles what is pending; its pages are still to be done. Then `free`. Without it pulses that no answer has told may be lost.
+ * DLMS_DEVICE: the queue of pages was full or had no memory, in this call or an earlier one, and they may be lost too. */
 uint32_t dlms_meter_close(dlms_meter *meter);
 void dlms_meter_free(dlms_meter *meter);
 

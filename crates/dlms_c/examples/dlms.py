@@ -4,6 +4,7 @@
     gcc -shared -o libdlms.so heap.c -Wl,--whole-archive libdlms_c.a -Wl,--no-whole-archive
     dlms.py libdlms.so frame 7ea0070321930f017e      tells where a frame stands, and what its header says
     dlms.py libdlms.so explain 7ea0070321930f017e    tells what the frames say
+    dlms.py libdlms.so apdu c001c10001000060000ff0200 client
     dlms.py libdlms.so poll 127.0.0.1:4059           polls a meter's load profile as management, and prints its rows
 """
 import ctypes
@@ -11,6 +12,7 @@ import socket
 import sys
 
 SEND, DONE, NOTHING, SHORT = 4, 0, 1, 18
+SIDES = {"client": 1, "meter": 2}
 FRAME = 160
 
 
@@ -49,17 +51,25 @@ def tell_frame(dlms, data):
             f"{', segmented' if place.is_segmented else ''}, information {information.hex() or 'none'}")
 
 
-def explain(dlms, data):
-    """What the frames say; where the room is too short, once more with as much as is asked for."""
+def told(call):
+    """The text that a call puts; where the room is too short, once more with as much as is asked for."""
     size = ctypes.c_size_t(0)
     for room in (4096, None):
         length = room or size.value
         text = (ctypes.c_uint8 * length)()
-        code = dlms.dlms_explain(*octets(data), text, ctypes.c_size_t(length), ctypes.byref(size))
+        code = call(text, ctypes.c_size_t(length), ctypes.byref(size))
         if code == DONE:
             return bytes(text[:size.value]).decode().rstrip("\n")
         assert code == SHORT, code
     raise AssertionError("the text grew")
+
+
+def explain(dlms, data):
+    return told(lambda *room: dlms.dlms_explain(*octets(data), *room))
+
+
+def explain_apdu(dlms, data, side):
+    return told(lambda *room: dlms.dlms_explain_apdu(*octets(data), ctypes.c_uint8(side), *room))
 
 
 class Poller:
@@ -129,6 +139,8 @@ def main():
         print(tell_frame(dlms, bytes.fromhex(sys.argv[3])))
     elif sys.argv[2] == "explain":
         print(explain(dlms, bytes.fromhex(sys.argv[3])))
+    elif sys.argv[2] == "apdu":
+        print(explain_apdu(dlms, bytes.fromhex(sys.argv[3]), SIDES[sys.argv[4]] if len(sys.argv) > 4 else 0))
     else:
         poll(dlms, sys.argv[3])
 

@@ -1,4 +1,5 @@
 mod MeterValues
+mod Openings
 mod Places
 mod PollerValues
 mod Values

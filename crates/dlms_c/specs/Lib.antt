@@ -1,5 +1,7 @@
 pub mod Codes
 pub mod Kept
 pub mod Meter
+pub mod Opening
 pub mod Place
 pub mod Poll
+pub mod Text

@@ -1,6 +1,6 @@
 -- What the calls of a kept meter do: what its store wrote and synced in a call is handed out before the call's reply, and
 -- before the next call.
-use Rattle.std.specs.Prelude.{◌≡◌, ◌≢◌, ◌<◌, ◌≤◌, ℕ, Bool, true, false, List, [], ◌∷◌, ◌++◌, Option, Some, None, Result, ◌⊎◌, length, take, IfSome, IfNone, IsSome, option_map}
+use Rattle.std.specs.Prelude.{◌≡◌, ◌≢◌, ◌<◌, ◌≤◌, ℕ, true, false, List, [], ◌∷◌, ◌++◌, Option, Some, None, Result, ◌⊎◌, ◌↔◌, length, take, IfSome, IfNone, IsSome, option_map}
 use Rattle.rtrb.specs.Ring.{known_items, received}
 use Rattle.dlms_meter.specs.Run.{Feeds, Judges, MeterWorld, Stands, events_of, silent}
 use Rattle.dlms_meter.specs.declared.meter.Meter.{Meter}
@@ -9,6 +9,10 @@ use Rattle.dlms_pages.specs.Seal.{slot_of}
 use Rattle.dlms_pages.specs.declared.memory.Call.{Call}
 use Rattle.dlms_pages.specs.declared.memory.Call.TheVariants.{Write, Sync}
 use Rattle.dlms_state.specs.declared.event.Event.{Event}
+use Rattle.dlms_store.specs.Fitting.{GivesUp, StoreFits}
+use Rattle.dlms_store.specs.Store.{CommitIsExhausted, view_of}
+use Rattle.dlms_store.specs.World.StoreStep.{Closes as Closing}
+use Rattle.dlms_store.specs.World.StoreWorld.{Runs}
 use Rattle.dlms_store.specs.declared.fault.AddFault.{AddFault}
 use Rattle.dlms_c.specs.Codes.{add_code}
 use Rattle.dlms_state.specs.Events.{buffer_after, clock_after, moment_after, registers_after}
@@ -30,10 +34,6 @@ Judged old event outcome new = Both old new (λ before after. Judges before even
 
 abbrev pub FallsSilent : {P A : Type 0} → {ghosts : Ghosts P} → Option (Meter P A ghosts) → Option (Meter P A ghosts) → Type 0
 FallsSilent old new = Both old new (λ before after. (w : MeterWorld) → Stands before w → Stands after (silent w))
-
--- a meter is there, and nothing is to be done for it but what waits in the relay
-abbrev pub IsFresh : KeptMeter → Type 0
-IsFresh k = IsSome k.meter × (k.is_lost ≡ false)
 
 -- nothing was handed out, and no page was lost
 pub record Rests (old new : KeptMeter) : Type 0 where
@@ -95,10 +95,18 @@ pub record FallsSilentKept (old : KeptMeter) (code : ℕ) (new : KeptMeter) : Ty
   pub reply : new.reply ≡ old.reply
   pub rests : Rests old new
 
--- The meter is closed, and its last writes and syncs wait; or it was not asked.
+-- The store gave its device back. Where that never failed, it is told to be done, and all that was accepted is settled on it, but
+-- where the store has no further generation.
+abbrev pub IsGivenBack : {P A : Type 0} → {ghosts : Ghosts P} → Option (Meter P A ghosts) → ℕ → Type 0
+IsGivenBack None code = ⊥
+IsGivenBack {P = P} {ghosts = ghosts} (Some meter) code = (device : P) × ((code ≡ 0) ↔ ((ghosts.view device).faults ≡ 0))
+    × ((settled pending : List Event) → code ≡ 0 → StoreFits meter.store (Runs settled pending) → (CommitIsExhausted meter.store → ⊥)
+    → GivesUp Closing (Runs settled pending) (view_of meter.store) (ghosts.view device))
+
+-- The meter is closed, and its last writes and syncs wait: done, or the device failed (33). Or it was not asked.
 pub record Closes (old : KeptMeter) (code : ℕ) (new : KeptMeter) : Type 0 where
-  pub closed : code ≡ 0 → (IsSome old.meter) × (new.meter ≡ None) × (new.reply ≡ None)
-  pub refused : code ≢ 0 → (new.meter ≡ old.meter) × (new.reply ≡ old.reply)
+  pub closed : (code ≡ 0) ⊎ (code ≡ 33) → IsGivenBack old.meter code × (new.meter ≡ None) × (new.reply ≡ None)
+  pub refused : code ≢ 0 → code ≢ 33 → ((code ≡ 19) ⊎ ((code ≡ 20) ⊎ (code ≡ 21))) × (new.meter ≡ old.meter) × (new.reply ≡ old.reply)
   pub rests : Rests old new
 
 -- what is answered of a write or a sync

@@ -1,13 +1,16 @@
 //! A meter, and what is to be done for it before its reply goes out.
-ghost use Rattle.std.specs.Prelude.{◌≡◌, ◌≢◌, ◌<◌, ◌≤◌, None, length, take, true, IfSome, IfErr, IfNone, IfOk, MatchOption, option_map};
-ghost use Rattle.dlms_c.specs.declared.codes.TheConstants.{DONE};
-ghost use Rattle.dlms_c.specs.Meter.{Closes, FallsSilent, FallsSilentKept, Fed, FeedsKept, HandsOut, IsClearCode, IsFresh, Judged, JudgesKept, Looked, Replies, event_code};
+ghost use Rattle.std.specs.Prelude.{◌≡◌, ◌≢◌, ◌⊎◌, ◌≤◌, [], None, length, take, true, Ok, IfSome, IfNone, MatchOption, MatchResult, option_map};
+ghost use Rattle.rtrb.specs.Ring.{received};
+ghost use Rattle.dlms_c.specs.declared.codes.TheConstants.{DEVICE, DONE, MEMORY};
+ghost use Rattle.dlms_c.specs.Codes.{open_code};
+ghost use Rattle.dlms_c.specs.Meter.{Closes, FallsSilent, FallsSilentKept, Fed, FeedsKept, HandsOut, IsClearCode, Judged, JudgesKept, Looked, Replies, event_code};
+ghost use Rattle.dlms_c.specs.Opening.{Begins, IsNewKept, IsRecovered, IsUnrecovered};
 ghost use Rattle.dlms_state.specs.declared.event.Event.TheVariants.{Moment, Pulses};
 
-use crate::codes::{CLOSED, DONE, LOST, MEMORY, NOTHING, PAGES, SHORT};
+use crate::codes::{CLOSED, DEVICE, DONE, LOST, MEMORY, NOTHING, PAGES, SHORT};
 use crate::meter_codes::{of_event, of_opening};
 use dlms_meter::{Meter, Reply};
-use dlms_pages::Call;
+use dlms_pages::{Call, Pages};
 use dlms_relay::{Relay, RelayedPages};
 use dlms_store::{AddFault, OpenFault};
 use std::alloc::Global;
@@ -25,14 +28,15 @@ pub struct KeptMeter {
     pub is_lost: bool,
 }
 
-/// A meter over its device, or the code of what went wrong.
-fn kept(
+/// A meter that was opened, before its first call; or the code of why there is none.
+fn begun(
     opened: Result<Meter<RelayedPages<Global>, Global>, (RelayedPages<Global>, OpenFault)>,
     relay: Relay<Global>,
 ) -> Result<KeptMeter, u32>
-    ensures fresh { IfOk result IsFresh }
-    ensures relay { IfOk result (λ kept. kept.relay ≡ relay) }
-    ensures fault { IfErr result (λ code. code ≢ DONE) }
+    requires { received relay ≡ [] }
+    ensures { MatchResult result
+        (λ kept. Begins kept × MatchOption kept.meter ⊥ (λ meter. opened ≡ Ok meter))
+        (λ code. MatchResult opened (λ meter. ⊥) (λ e. code ≡ open_code e.1)) }
 {
     match opened {
         Ok(meter) => Ok(KeptMeter {
@@ -119,25 +123,23 @@ fn code_of(outcome: &Option<Result<(), AddFault>>) -> u32
 impl KeptMeter {
     /// A meter in which nothing has happened.
     pub fn format(alloc: Global) -> Result<KeptMeter, u32>
-        ensures fresh { IfOk result IsFresh }
-        ensures fault { IfErr result (λ code. code ≢ DONE) }
+        ensures { MatchResult result IsNewKept (λ code. (code ≡ MEMORY) ⊎ (code ≡ DEVICE)) }
     {
         let Ok((device, relay)) = RelayedPages::new(alloc, dlms_store::PAGES, ROOM) else {
             return Err(MEMORY);
         };
-        kept(Meter::format(alloc, device), relay)
+        begun(Meter::format(alloc, device), relay)
     }
 
     /// A meter with every event that these pages hold, 544 octets for each.
     pub fn recover(alloc: Global, slots: &[u8]) -> Result<KeptMeter, u32>
         requires { 33728 ≤ length slots.now }
-        ensures fresh { IfOk result IsFresh }
-        ensures fault { IfErr result (λ code. code ≢ DONE) }
+        ensures { MatchResult result (IsRecovered slots.now) (IsUnrecovered slots.now) }
     {
         let Ok((device, relay)) = RelayedPages::over(alloc, slots, dlms_store::PAGES, ROOM) else {
             return Err(MEMORY);
         };
-        kept(Meter::recover(alloc, device), relay)
+        begun(Meter::recover(alloc, device), relay)
     }
 
     /// Whether the meter may be asked for something: no page has failed, and none waits.
@@ -229,7 +231,8 @@ impl KeptMeter {
         (DONE, count)
     }
 
-    /// Settles what is pending. What that writes and syncs is still to be taken; nothing else is asked of the meter any more.
+    /// Settles what is pending. What that writes and syncs is still to be taken; nothing else is asked of the meter any more. Where
+    /// the device has failed, in this call or in an earlier one, what was pending is in doubt, and that is told.
     pub fn close(&mut self) -> u32
         ensures { Closes self.old result self.new }
     {
@@ -240,9 +243,9 @@ impl KeptMeter {
         let Some(running) = self.meter.take() else {
             return CLOSED;
         };
-        let _device = running.close();
+        let device = running.close();
         self.reply = None;
-        DONE
+        if device.faults() == 0 { DONE } else { DEVICE }
     }
 
     /// Silence on the line: half a frame is forgotten.

@@ -1,9 +1,10 @@
 //! A meter, as C keeps it.
-ghost use Rattle.std.specs.Prelude.{◌≡◌, ◌≢◌, ◌<◌, ◌≤◌, None, Some, IfErr, IfOk, MatchOption, false, length, take, true};
+ghost use Rattle.std.specs.Prelude.{◌≡◌, ◌≢◌, ◌⊎◌, ◌<◌, ◌≤◌, None, Some, Ok, Err, MatchOption, false, length, take, true};
 ghost use Rattle.dlms_state.specs.declared.event.Event.TheVariants.{Moment, Pulses};
 ghost use Rattle.dlms_pages.specs.declared.seal.TheConstants.{SLOT_BYTES};
-ghost use Rattle.dlms_c.specs.Meter.{Closes, FallsSilentKept, FeedsKept, HandsPage, IsFresh, JudgesKept, Replies, Shows, TellsPage};
-ghost use Rattle.dlms_c.specs.declared.codes.TheConstants.{DONE, EMPTY, FULL, LOST, SHORT, SIZE};
+ghost use Rattle.dlms_c.specs.Meter.{Closes, FallsSilentKept, FeedsKept, HandsPage, JudgesKept, Replies, Shows, TellsPage};
+ghost use Rattle.dlms_c.specs.Opening.{IsNewKept, IsRecovered, IsUnrecovered};
+ghost use Rattle.dlms_c.specs.declared.codes.TheConstants.{DEVICE, DONE, EMPTY, FULL, LOST, MEMORY, SHORT, SIZE};
 ghost use Rattle.dlms_c.specs.declared.kept_meter.KeptMeter.{KeptMeter as KeptMeterOf};
 
 use crate::codes::{CLOSED, DONE, EMPTY, FULL, LOST, MEMORY, NOTHING, SHORT, SIZE, SYNC, WRITE};
@@ -31,12 +32,12 @@ pub struct MeterState {
     pub rows: usize,
 }
 
-/// A meter that was made is put into the handle.
+/// A meter that was made is put into the handle; else the handle stays empty, and why is told.
 fn filled(alloc: Global, made: Result<KeptMeter, u32>, meter: &mut MeterHandle) -> u32
-    requires none { meter.old.value ≡ None }
-    requires fresh { IfOk made IsFresh }
-    requires faults { IfErr made (λ code. code ≢ DONE) }
-    ensures { MatchOption meter.new.value (result ≢ DONE) (λ new. (result ≡ DONE) × IsFresh new) }
+    requires { meter.old.value ≡ None }
+    ensures { MatchOption meter.new.value
+        ((result ≡ MEMORY) ⊎ (made ≡ Err result))
+        (λ new. (result ≡ DONE) × (made ≡ Ok new)) }
 {
     match made {
         Ok(kept_meter) => match Box::new(alloc, kept_meter) {
@@ -54,7 +55,8 @@ fn filled(alloc: Global, made: Result<KeptMeter, u32>, meter: &mut MeterHandle) 
 #[unsafe(no_mangle)]
 pub extern "C" fn dlms_meter_new(alloc: Global, meter: &mut MeterHandle) -> u32
     ensures full { (old : KeptMeterOf) → meter.old.value ≡ Some old → (result ≡ FULL) × (meter.new.value ≡ Some old) }
-    ensures new { meter.old.value ≡ None → MatchOption meter.new.value (result ≢ DONE) (λ new. (result ≡ DONE) × IsFresh new) }
+    ensures new { meter.old.value ≡ None
+        → MatchOption meter.new.value ((result ≡ MEMORY) ⊎ (result ≡ DEVICE)) (λ new. (result ≡ DONE) × IsNewKept new) }
 {
     let handle = replace(meter, none());
     if let Some(loose) = loosened(handle, alloc) {
@@ -69,7 +71,8 @@ pub extern "C" fn dlms_meter_new(alloc: Global, meter: &mut MeterHandle) -> u32
 pub extern "C" fn dlms_meter_recover(alloc: Global, meter: &mut MeterHandle, slots: &[u8]) -> u32
     ensures full { (old : KeptMeterOf) → meter.old.value ≡ Some old → (result ≡ FULL) × (meter.new.value ≡ Some old) }
     ensures size { meter.old.value ≡ None → length slots.now < 33728 → (result ≡ SIZE) × (meter.new.value ≡ None) }
-    ensures new { meter.old.value ≡ None → MatchOption meter.new.value (result ≢ DONE) (λ new. (result ≡ DONE) × IsFresh new) }
+    ensures recovers { meter.old.value ≡ None → 33728 ≤ length slots.now
+        → MatchOption meter.new.value (IsUnrecovered slots.now result) (λ new. (result ≡ DONE) × IsRecovered slots.now new) }
 {
     let handle = replace(meter, none());
     if let Some(loose) = loosened(handle, alloc) {
@@ -297,7 +300,7 @@ pub extern "C" fn dlms_meter_state(
     code
 }
 
-/// Settles what is pending: what that writes and syncs is still to be taken.
+/// Settles what is pending: what that writes and syncs is still to be taken. Where the device has failed, what was pending is in doubt.
 #[unsafe(no_mangle)]
 pub extern "C" fn dlms_meter_close(alloc: Global, meter: &mut MeterHandle) -> u32
     ensures empty { meter.old.value ≡ None → (result ≡ EMPTY) × (meter.new.value ≡ None) }
