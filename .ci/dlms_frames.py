@@ -12,10 +12,10 @@ def check(data):
     return (rest ^ 0xFFFF).to_bytes(2, "little")
 
 
-def frame(source, control, information=b""):
-    """A frame to the meter's one-byte address."""
+def frame(source, control, information=b"", to=0x03):
+    """A frame to the meter's one-byte address, or to another."""
     length = 2 + 2 + 1 + 2 + (2 + len(information) if information else 0)
-    head = (0xA000 | length).to_bytes(2, "big") + bytes([0x03, source, control])
+    head = (0xA000 | length).to_bytes(2, "big") + bytes([to, source, control])
     body = head + check(head) + information if information else head
     return b"\x7e" + body + check(body) + b"\x7e"
 
