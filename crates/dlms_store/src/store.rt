@@ -11,10 +11,10 @@ ghost use Rattle.dlms_journal.specs.declared.page.TheConstants.{MOST_PAYLOAD};
 ghost use Rattle.dlms_store.specs.declared.layout.TheConstants.{LAST_GENERATION, MOST_CAPTURED};
 
 use crate::fault::{AddFault, OpenFault, StoreFault};
-use crate::format::{begin, clear};
+use crate::format::{begin, make_clear};
 use crate::layout::{JOURNAL, JOURNAL_PAGES, LAST_GENERATION, MOST_CAPTURED, PAGES, Slot};
 use crate::numbers::{apply_counted, has_number_for};
-use crate::open::{Found, find, settle};
+use crate::open::{Found, settle_and_find};
 use crate::put::put;
 use crate::renew::renew;
 use crate::slot::write_slot;
@@ -74,12 +74,8 @@ impl<P: Pages, A: Allocator + Copy> Store<P, A> {
         ensures memory { (P.view device).honest ≡ true → IfErr result (λ e. e.1 ≡ OpenFault.Memory → Leaves (P.view e.0) IsClear) }
     {
         let mut device = device;
-        let count = device.count();
-        if count < PAGES {
-            return Err((device, OpenFault::Size));
-        }
-        if let Err(fault) = clear(&mut device) {
-            return Err((device, fault.into()));
+        if let Err(fault) = make_clear(&mut device) {
+            return Err((device, fault));
         }
         let Ok(state) = State::new(alloc) else {
             return Err((device, OpenFault::Memory));
@@ -121,16 +117,47 @@ impl<P: Pages, A: Allocator + Copy> Store<P, A> {
         ensures stands { (events : List EventOf) → (P.view device).honest ≡ true → StandsFor events (P.view device).seen → MatchResult result (Remembers events []) (λ e. IsRefusal e.1) }
     {
         let mut device = device;
-        if device.count() < PAGES {
-            return Err((device, OpenFault::Size));
-        }
-        if let Err(fault) = settle(&mut device) {
-            return Err((device, fault.into()));
-        }
-        match find(alloc, &mut device) {
+        match settle_and_find(alloc, &mut device) {
             Ok(found) => Store::recovered(device, found),
             Err(refusal) => Err((device, refusal)),
         }
+    }
+
+    /// Gives a device back as `open` does that is refused memory: Memory is told where all else is right, and nothing is written.
+    pub fn unopened(alloc: A, device: P) -> (P, OpenFault)
+        ensures gives_back { (before : StoreWorld) → DeviceFits (P.view device) before → GivesBack before (P.view device) (P.view result.0) result.1 }
+        ensures size { (result.1 ≡ OpenFault.Size) ↔ IsTooSmall (P.view device) }
+        ensures device { result.1 ≡ OpenFault.Device → Rose (P.view device).faults (P.view result.0).faults }
+        ensures small { result.1 ≡ OpenFault.Size → result.0 ≡ device }
+        ensures later { GoesOn (P.view device) (P.view result.0) }
+        ensures spared { (P.view device).honest ≡ true → IsSpared (P.view device) (P.view result.0) result.1 }
+        ensures exact { (P.view device).honest ≡ true → IsCause result.1 (P.view device).seen }
+        ensures steady { (events : List EventOf) → (P.view device).honest ≡ true → ((image : Image) → (P.view device).may_leave image → StandsFor events image) → Steady events (P.view device) (P.view result.0) }
+        ensures fixes { (settled pending : List EventOf) → (P.view device).honest ≡ true → ((image : Image) → (P.view device).may_leave image → StandsBetween settled pending image)
+            → Fixes settled pending (P.view device) (P.view result.0) ⊎ ((result.1 ≡ OpenFault.Device) × FixesNothing settled pending (P.view device) (P.view result.0)) }
+        ensures stands { (events : List EventOf) → (P.view device).honest ≡ true → StandsFor events (P.view device).seen → IsRefusal result.1 }
+    {
+        let mut device = device;
+        if let Err(refusal) = settle_and_find(alloc, &mut device) {
+            return (device, refusal);
+        }
+        (device, OpenFault::Memory)
+    }
+
+    /// Gives a device back as `format` does that is refused memory: cleared, with Memory, where all else is right.
+    pub fn unformatted(device: P) -> (P, OpenFault)
+        ensures memory { (P.view device).honest ≡ true → result.1 ≡ OpenFault.Memory → Leaves (P.view result.0) IsClear }
+        ensures size { (result.1 ≡ OpenFault.Size) ↔ IsTooSmall (P.view device) }
+        ensures small { result.1 ≡ OpenFault.Size → result.0 ≡ device }
+        ensures device { result.1 ≡ OpenFault.Device → Rose (P.view device).faults (P.view result.0).faults }
+        ensures later { GoesOn (P.view device) (P.view result.0) }
+        ensures faults { (result.1 ≢ OpenFault.NoCheckpoint) × ((page : ℕ) → result.1 ≢ OpenFault.Corrupt page) × (result.1 ≢ OpenFault.Exhausted) }
+    {
+        let mut device = device;
+        if let Err(fault) = make_clear(&mut device) {
+            return (device, fault);
+        }
+        (device, OpenFault::Memory)
     }
 
     // The store of what was found, with a checkpoint where one is due.
