@@ -3,6 +3,7 @@
 ghost use Rattle.std.specs.Prelude.{◌≡◌, ◌≤◌, ◌<◌, ◌≢◌, ◌⊎◌, ◌++◌, ◌↔◌, [], ℕ, List, None, Some, length, take, IfOk, IfErr, IsSome, IsTrue, MatchResult, option_map, true};
 ghost use Rattle.dlms_frame.specs.Stream.{Fits};
 ghost use Rattle.dlms_frame.specs.declared.client.Client.{Client};
+ghost use Rattle.dlms_frame.specs.declared.client.Client.TheVariants as ClientOf;
 ghost use Rattle.dlms_meter.specs.ClientRecord.{fresh_record};
 ghost use Rattle.dlms_pages.specs.Device.{Rose};
 ghost use Rattle.dlms_state.specs.declared.event.Event.{Event};
@@ -19,8 +20,9 @@ ghost use Rattle.dlms_store.specs.World.StoreStep.{Closes, ClosesInDoubt};
 ghost use Rattle.dlms_meter.specs.Run.{Stands, Feeds, EndsFrame, Judges, MeterWorld, first_world, recovered, silent, client_at, Replies, events_of, record_for};
 ghost use Rattle.dlms_meter.specs.Sparing.{SparesSlots};
 
-use crate::connection::{Connection, Reply};
-use dlms_frame::{Address, Client, Deframer};
+use crate::connection::Reply;
+use crate::kept::{KeptConnection, KeptDeframer, Lines};
+use dlms_frame::{Address, Client};
 use dlms_pages::Pages;
 use dlms_state::{Event, State};
 use dlms_store::{AddFault, OpenFault, Store};
@@ -28,13 +30,14 @@ use std::alloc::{Allocator, Global};
 
 /// A meter with its registers, its clock and its load profile, which its clients read and set over one line, each with a link,
 /// an association and transfers of its own. What an answer of success, or with data, speaks of outlasts a stop of the power.
+/// The line and the connections, some 34 KB, are on the heap: `format` and `recover` take memory for them, and no other call does.
 #[derive(Drop)]
 pub struct Meter<P: Pages, A: Allocator + Copy = Global> {
     alloc: A,
-    deframer: Deframer,
-    public: Connection<A>,
-    management: Connection<A>,
-    reader: Connection<A>,
+    deframer: KeptDeframer<A>,
+    public: KeptConnection<A>,
+    management: KeptConnection<A>,
+    reader: KeptConnection<A>,
     store: Store<P, A>,
 }
 
@@ -61,8 +64,11 @@ impl<P: Pages, A: Allocator + Copy> Meter<P, A> {
         ensures faults { IfErr result (λ e. (e.1 ≢ OpenFault.NoCheckpoint) × ((page : ℕ) → e.1 ≢ OpenFault.Corrupt page) × (e.1 ≢ OpenFault.Exhausted)) }
         ensures memory { (P.view device).honest ≡ true → IfErr result (λ e. e.1 ≡ OpenFault.Memory → Leaves (P.view e.0) IsClear) }
     {
+        let Ok(lines) = Lines::new(alloc) else {
+            return Err(Store::<P, A>::unformatted(device));
+        };
         let store = Store::format(alloc, device)?;
-        Ok(Meter::over(alloc, store))
+        Ok(Meter::over(alloc, lines, store))
     }
 
     /// A meter with every event that its device held, its links down.
@@ -78,22 +84,29 @@ impl<P: Pages, A: Allocator + Copy> Meter<P, A> {
         ensures device { IfErr result (λ e. e.1 ≡ OpenFault.Device → Rose (P.view device).faults (P.view e.0).faults) }
         ensures later { MatchResult result (λ meter. GoesOn (P.view device) (view_of meter.store)) (λ e. GoesOn (P.view device) (P.view e.0)) }
     {
+        let Ok(lines) = Lines::new(alloc) else {
+            return Err(Store::unopened(alloc, device));
+        };
         let store = Store::open(alloc, device)?;
-        Ok(Meter::over(alloc, store))
+        Ok(Meter::over(alloc, lines, store))
     }
 
     /// New links over a store.
-    fn over(alloc: A, store: Store<P, A>) -> Self
+    fn over(alloc: A, lines: Lines<A>, store: Store<P, A>) -> Self
+        requires line { Fits lines.deframer.bytes [] 0 }
+        requires public { lines.public ≡ fresh_record ClientOf.Public }
+        requires management { lines.management ≡ fresh_record ClientOf.Management }
+        requires reader { lines.reader ≡ fresh_record ClientOf.Reader }
         ensures store { result.store ≡ store }
         ensures line { Fits result.deframer.bytes [] 0 }
         ensures own { (who : Client) → fresh_record who ≡ record_for result who }
     {
         Meter {
             alloc,
-            deframer: Deframer::new(),
-            public: Connection::new(Client::Public),
-            management: Connection::new(Client::Management),
-            reader: Connection::new(Client::Reader),
+            deframer: lines.deframer,
+            public: lines.public,
+            management: lines.management,
+            reader: lines.reader,
             store,
         }
     }

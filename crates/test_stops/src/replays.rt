@@ -1,5 +1,6 @@
 //! Replays whose streams or device fail, or are interrupted.
 
+use crate::heaps::LEAST;
 use crate::stops::Fault;
 use crate::{FORMATS, formatted};
 use dlms_meter::Meter;
@@ -209,11 +210,11 @@ fn refused_on(alloc: Global, size: usize) -> Result<Option<bool>, AllocError> {
     Ok(None)
 }
 
-/// Whether a line `O` is refused its memory on each heap that lacks the room of the rows, and on no larger one, a step apart.
+/// Whether a line `O` is refused its memory on each heap that lacks the room of the lines and rows, and on no larger one, a step apart.
 pub fn is_refused_at_recovery(alloc: Global) -> Result<bool, AllocError> {
-    for step in 0..60usize {
+    for step in 0..120usize {
         let size = step.saturating_mul(512);
-        if refused_on(alloc, size)? != Some(size < 23_040) {
+        if refused_on(alloc, size)? != Some(size < LEAST) {
             return Ok(false);
         }
     }
