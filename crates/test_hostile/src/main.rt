@@ -101,7 +101,7 @@ fn run_others<R: Print + AllocGlobal>(rt: &R) -> Result<u32> {
         rt,
         "made and recovered",
         "refused",
-        recoveries(alloc, 1024, 64)?,
+        recoveries(alloc, 512, 128)?,
     )?;
     let written = report(rt, "pages written", "refused", devices(alloc, 512, 256)?)?;
     let none = report(rt, "polls of no row", "refused", polls(alloc, 0, 16, 64)?)?;
