@@ -9,6 +9,6 @@ mod version;
 mod writing;
 
 pub use fields::MOST_ROW_BYTES;
-pub use reading::{BodyFault, Refilling, Restoring, RingFault};
+pub use reading::{BodyFault, Joined, Refilling, Restoring, RingFault};
 pub use version::Version;
 pub use writing::{Checkpoint, MOST_BODY, RING_BYTES, RING_ROWS, checkpoint_of, ring_page_of};

@@ -81,6 +81,36 @@ impl Model for Refilling {
     ghost invariant = { λ r. IsFilling (record { bytes = r.bytes.items; ring = r.ring.items }) };
 }
 
+/// All bodies of a checkpoint in the present layout, where they are the bytes of a state: what a `Refilling` begins with, without its
+/// buffer for the ring pages.
+#[derive(Drop)]
+pub struct Joined {
+    bytes: ArrayVec<u8, MOST_BYTES>,
+}
+
+impl Model for Joined {
+    ghost use Rattle.std.specs.Prelude.{[]};
+    ghost use Rattle.dlms_checkpoint.specs.Reading.{Filled, IsFilling};
+
+    ghost Value = { Filled };
+
+    ghost view = { λ j. record { bytes = j.bytes.items; ring = [] } };
+
+    ghost invariant = { λ j. IsFilling (record { bytes = j.bytes.items; ring = [] }) };
+}
+
+impl Joined {
+    /// The bodies, and none of the ring pages that they name. The buffer for these is large.
+    pub fn refilling(self) -> Refilling
+        ensures { result ≡ self }
+    {
+        Refilling {
+            bytes: self.bytes,
+            ring: ArrayVec::new(),
+        }
+    }
+}
+
 /// The number after the last row, as a first body says it.
 fn next_of(bytes: &[u8]) -> u128
     requires { HEAD_BYTES ≤ length bytes.now }
@@ -201,19 +231,16 @@ impl Restoring {
     }
 
     /// All bodies, where they are the bytes of a state, whatever rows the ring pages hold that they name; else nothing.
-    pub fn joined(self) -> Option<Refilling>
+    pub fn joined(self) -> Option<Joined>
         requires { awaited (as_present self.version self.bytes) ≡ 0 }
-        ensures filled { IfSome result (λ refilling. refilling ≡ record { bytes = as_present self.version self.bytes; ring = [] }) }
+        ensures filled { IfSome result (λ joined. joined ≡ record { bytes = as_present self.version self.bytes; ring = [] }) }
         ensures spelled { MatchOption result ((s : StateValue) → IsCheckpointOf self.version s self.bytes → ⊥) (λ _. (s : StateValue) × IsCheckpointOf self.version s self.bytes) }
     {
         let bytes = present_of(self.version, self.bytes.as_slice());
         if !are_spelled(bytes.as_slice()) {
             return None;
         }
-        Some(Refilling {
-            bytes,
-            ring: ArrayVec::new(),
-        })
+        Some(Joined { bytes })
     }
 }
 

@@ -149,7 +149,8 @@ fn bodies_of<A: Allocator + Copy>(
     if restoring.awaited() != 0 {
         return None;
     }
-    restoring.joined()
+    let joined = restoring.joined()?;
+    Some(joined.refilling())
 }
 
 /// Whether a slot's first body asks for a second one.

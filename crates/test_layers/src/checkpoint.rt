@@ -136,9 +136,12 @@ impl<'h> CheckpointBench<'h> {
             self.restoring = Some(restoring);
             return put_with_number(answer, "awaits ", awaited as u64);
         }
-        self.refilling = restoring.joined();
-        if self.refilling.is_none() {
-            answer.push_str("spelling")?;
+        match restoring.joined() {
+            Some(joined) => self.refilling = Some(joined.refilling()),
+            None => {
+                self.refilling = None;
+                answer.push_str("spelling")?;
+            }
         }
         Ok(())
     }
@@ -181,9 +184,10 @@ impl<'h> CheckpointBench<'h> {
         if restoring.awaited() != 0 {
             return Err(RowFault::Missing);
         }
-        let Some(mut refilling) = restoring.joined() else {
+        let Some(joined) = restoring.joined() else {
             return Err(RowFault::Missing);
         };
+        let mut refilling = joined.refilling();
         refill(&mut refilling, state)?;
         self.refilling = Some(refilling);
         Ok(())

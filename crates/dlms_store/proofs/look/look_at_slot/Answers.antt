@@ -1,8 +1,9 @@
-use Rattle.std.proofs.Common.{◌⊎◌, ◌∙◌, inl, inr, ℕ, List, Ok, subst, refl}
+use Rattle.std.proofs.Common.{◌≡◌, ◌⊎◌, ◌∙◌, inl, inr, ℕ, List, Ok, ap, subst, refl}
 use Rattle.dlms_pages.specs.Device.{Image}
 use Rattle.dlms_pages.proofs.Moments.{looks_on}
 use Rattle.dlms_store.specs.declared.page.Edition.{Edition}
-use Rattle.dlms_checkpoint.specs.Layouts.{IsCheckpointOf}
+use Rattle.dlms_checkpoint.specs.Layouts.{IsCheckpointOf, as_present}
+use Rattle.dlms_checkpoint.specs.Reading.{Filled}
 use Rattle.dlms_checkpoint.specs.declared.version.Version.TheVariants.{Columns}
 use Rattle.dlms_checkpoint.proofs.Presents.{from_present}
 use Rattle.dlms_store.specs.Cause.{AreOf, IsBodyFault, IsRingFault, IsRingUnfit, IsSlotFault}
@@ -30,11 +31,11 @@ returns-in-Err-clause-looks g c image fixed =
     let one = c.look_at_bodies.ensures.looks image fixed in
     looks_on _ _ _ image one (c.look_at_rings.ensures.looks image one.fixed)
 
-pub returns-in_err-refilling-clause-cause : goal.returns-in_err-refilling-clause-cause
-returns-in_err-refilling-clause-cause g c image fixed =
+pub returns-in_err-joined-clause-cause : goal.returns-in_err-joined-clause-cause
+returns-in_err-joined-clause-cause g c image fixed =
     let gate = gate_of c.args.slot in
-    let fault = c.in_err-refilling.field-0.0 in
-    let told = c.in_err-refilling.ensures.cause image fixed in
+    let fault = c.in_err-joined.field-0.0 in
+    let told = c.in_err-joined.ensures.cause image fixed in
     carried c.from_residual.result fault (λ state. AreOf c.args.slot c.args.edition state image) (IsSlotFault c.args.slot c.args.edition image) c.from_residual.ensures
     (page_of_slot c.args.slot c.args.edition image fault (of_page fault (IsBodyFault gate c.args.edition image) (SlotFault gate c.args.edition image) (λ _ body. inl body) told))
 
@@ -43,17 +44,18 @@ returns-in_err-look_at_rings-clause-cause g c image fixed =
     let gate = gate_of c.args.slot in
     let fault = c.in_err-look_at_rings.field-0.0 in
     let one = c.look_at_bodies.ensures.looks image fixed in
-    let (bytes, present, fit) = c.in_ok-refilling.ensures.cause image fixed in
-    let known = c.in_ok-refilling.ensures.spelled in
+    let (bytes, present, fit) = c.in_ok-joined.ensures.cause image fixed in
+    let known = c.in_ok-joined.ensures.spelled in
     let told = c.in_err-look_at_rings.ensures.cause image one.fixed in
+    let begun : c.refilling-refilling.result.bytes ≡ as_present c.args.edition.version bytes = ap (λ (filled : Filled). filled.bytes) c.refilling-refilling.ensures ∙ present in
     carried c.from_residual-in_err-look_at_rings.result fault (λ state. AreOf c.args.slot c.args.edition state image) (IsSlotFault c.args.slot c.args.edition image) c.from_residual-in_err-look_at_rings.ensures
-    (page_of_slot c.args.slot c.args.edition image fault (of_page fault (IsRingUnfit c.args.edition.version c.in_ok-refilling.refilling.bytes image) (SlotFault gate c.args.edition image)
+    (page_of_slot c.args.slot c.args.edition image fault (of_page fault (IsRingUnfit c.args.edition.version c.refilling-refilling.result.bytes image) (SlotFault gate c.args.edition image)
     (λ page unfit. inr (record {
       bytes = bytes;
       fit = fit;
       state = known.0;
       spelled = from_present c.args.edition.version known.0 bytes (subst (IsCheckpointOf Columns known.0) present known.1);
-      unfit = subst (λ (b : List ℕ). IsRingUnfit c.args.edition.version b image page) present unfit;
+      unfit = subst (λ (b : List ℕ). IsRingUnfit c.args.edition.version b image page) begun unfit;
     })) told))
 
 pub returns-in-Ok-clause-cause : goal.returns-in-Ok-clause-cause
@@ -61,8 +63,8 @@ returns-in-Ok-clause-cause g c image fixed =
     let gate = gate_of c.args.slot in
     let one = c.look_at_bodies.ensures.looks image fixed in
     let filled = c.look_at_rings.new.refilling in
-    let (bytes, present, fit) = c.in_ok-refilling.ensures.cause image fixed in
-    let same = c.look_at_rings.ensures.bodies ∙ present in
+    let (bytes, present, fit) = c.in_ok-joined.ensures.cause image fixed in
+    let same = c.look_at_rings.ensures.bodies ∙ ap (λ (filled : Filled). filled.bytes) c.refilling-refilling.ensures ∙ present in
     let taken = c.in_ok-look_at_rings.ensures.cause image one.fixed in
     are_of c.args.slot c.args.edition c.in-Ok.state bytes filled image same fit taken c.in-Ok.ensures.state
 
@@ -71,15 +73,15 @@ returns-in-Err-clause-cause g c image fixed =
     let gate = gate_of c.args.slot in
     let one = c.look_at_bodies.ensures.looks image fixed in
     let filled = c.look_at_rings.new.refilling in
-    let (bytes, present, fit) = c.in_ok-refilling.ensures.cause image fixed in
-    let same = c.look_at_rings.ensures.bodies ∙ present in
+    let (bytes, present, fit) = c.in_ok-joined.ensures.cause image fixed in
+    let same = c.look_at_rings.ensures.bodies ∙ ap (λ (filled : Filled). filled.bytes) c.refilling-refilling.ensures ∙ present in
     let taken = c.in_ok-look_at_rings.ensures.cause image one.fixed in
     let state = c.in-Err.ensures.memory refl in
     (state.0, are_of c.args.slot c.args.edition state.0 bytes filled image same fit taken state.1)
 
-pub returns-in_err-refilling-clause-state : goal.returns-in_err-refilling-clause-state
-returns-in_err-refilling-clause-state g c image base fixed legal within rings =
-    read_so c.args.slot c.args.edition image base c.from_residual.result legal within rings (returns-in_err-refilling-clause-cause g c image fixed)
+pub returns-in_err-joined-clause-state : goal.returns-in_err-joined-clause-state
+returns-in_err-joined-clause-state g c image base fixed legal within rings =
+    read_so c.args.slot c.args.edition image base c.from_residual.result legal within rings (returns-in_err-joined-clause-cause g c image fixed)
 
 pub returns-in_err-look_at_rings-clause-state : goal.returns-in_err-look_at_rings-clause-state
 returns-in_err-look_at_rings-clause-state g c image base fixed legal within rings =
