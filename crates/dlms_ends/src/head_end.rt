@@ -4,7 +4,7 @@ ghost use Rattle.dlms_frame.specs.Frame.{spelling};
 ghost use Rattle.dlms_frame.specs.Stream.{Fits};
 ghost use Rattle.dlms_headend.specs.declared.poll_fault.PollFault.TheVariants.{Protocol};
 ghost use Rattle.dlms_ends.specs.Moments.{Puts};
-ghost use Rattle.dlms_ends.specs.Calling.{HeadWorld, IsAt, IsIn, Begins, Repeats, TakesFrame, TakesPiece, TakesTurn};
+ghost use Rattle.dlms_ends.specs.Calling.{HeadWorld, IsAt, IsIn, Begins, Dials, Repeats, TakesFrame, TakesPiece, TakesTurn, first_world};
 
 use crate::end::{End, Heard, PIECE, READS, bytes_of};
 use crate::fault::LoopFault;
@@ -29,10 +29,12 @@ pub enum Turn {
 #[derive(Drop)]
 pub struct HeadEnd<A: Allocator = Global> {
     deframer: Deframer,
-    poller: Poller<A>,
     left: usize,
+    pub poller: Poller<A>,
 }
 
+/// A frame goes out.
+#[inline(never)]
 fn send<W: End>(end: &mut W, frame: &SentFrame) -> io::Result<()>
     ensures { Puts (W.past end.old) (W.past end.new) (spelling frame.now) result }
 {
@@ -59,21 +61,39 @@ fn take_frame<W: End, A: Allocator + Copy>(
     }
 }
 
+/// Sends the poll's first frame.
+#[inline(never)]
+pub fn dial<W: End, A: Allocator + Copy>(poller: &mut Poller<A>, end: &mut W) -> io::Result<()>
+    ensures { Dials (W.past end.old) (W.past end.new) poller.old poller.new result }
+{
+    match poller.next() {
+        Some(frame) => send(end, &frame),
+        None => Ok(()),
+    }
+}
+
 impl<A: Allocator + Copy> HeadEnd<A> {
+    /// The head end of a poll whose first frame is out, at which nothing has come.
+    pub fn of(poller: Poller<A>) -> Self
+        ensures poller { result.poller ≡ poller }
+        ensures stands { IsIn result (first_world poller) }
+    {
+        HeadEnd {
+            deframer: Deframer::new(),
+            left: MOST_BYTES,
+            poller,
+        }
+    }
+
     /// Sends the poll's first frame.
     pub fn begin<W: End>(end: &mut W, poller: Poller<A>) -> io::Result<Self>
         ensures { Begins (W.past end.old) (W.past end.new) poller result }
     {
         let mut poller = poller;
-        match poller.next() {
-            Some(frame) => send(end, &frame)?,
-            None => {}
+        match dial(&mut poller, end) {
+            Ok(()) => Ok(HeadEnd::of(poller)),
+            Err(error) => Err(error),
         }
-        Ok(HeadEnd {
-            deframer: Deframer::new(),
-            poller,
-            left: MOST_BYTES,
-        })
     }
 
     /// The poll as it stands.
@@ -138,6 +158,7 @@ impl<A: Allocator + Copy> HeadEnd<A> {
 
     /// The head end takes what comes, until a frame of its own is out or the poll is done. What comes in more than so many pieces
     /// without one is a fault of the line.
+    #[inline(never)]
     pub fn turn<S: End>(&mut self, end: &mut S) -> Result<Turn, LoopFault>
         ensures { (h : HeadWorld) → IsIn self.old h → TakesTurn (S.past end.old) (S.past end.new) h self.new result }
     {

@@ -9,6 +9,6 @@ mod polling;
 
 pub use end::{End, Heard, PIECE, bytes_of, put};
 pub use fault::LoopFault;
-pub use head_end::{HeadEnd, MOST_BYTES, Turn};
+pub use head_end::{HeadEnd, MOST_BYTES, Turn, dial};
 pub use meter_end::{Taken, answer};
 pub use polling::{TURNS, poll, poller};

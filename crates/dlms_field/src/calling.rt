@@ -11,7 +11,7 @@ use crate::deadline::{Timer, is_over};
 use crate::desk::Desk;
 use crate::fault::FieldFault;
 use crate::phone::Dialling;
-use dlms_ends::{End, HeadEnd, LoopFault, TURNS, Turn};
+use dlms_ends::{End, HeadEnd, LoopFault, TURNS, Turn, dial};
 use dlms_headend::{PollFault, Poller};
 use std::io;
 
@@ -24,6 +24,7 @@ fn has_to_end(seconds: u32, time: u64) -> bool
 
 /// Does a poll over a line whose other end is the meter; none where the deadline, so many seconds, is over. The clock is looked at
 /// before each turn.
+#[inline(never)]
 fn done<T: Timer, S: End>(
     line: &mut S,
     timer: &mut T,
@@ -33,14 +34,15 @@ fn done<T: Timer, S: End>(
     ensures does { Does seconds (S.past line.old) (S.past line.new) (T.seen timer.old) (T.seen timer.new) poller result }
     ensures done { (plan : PlanValue) → poller ≡ fresh_poll plan → IfOk result (λ done. IfSome done (IsDonePoll plan)) }
 {
-    let mut head_end = HeadEnd::begin(line, poller)?;
+    let mut head_end = HeadEnd::of(poller);
+    dial(&mut head_end.poller, line)?;
     'turns: for _turn in 0..TURNS {
         let time = timer.seconds()?;
         if has_to_end(seconds, time) {
             return Ok(None);
         }
         match head_end.turn(line)? {
-            Turn::Done => return Ok(Some(head_end.into_poller())),
+            Turn::Done => return Ok(Some(head_end.poller)),
             Turn::Sent => {}
         }
     }
