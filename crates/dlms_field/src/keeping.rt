@@ -110,6 +110,7 @@ fn last_row(rows: &[Row]) -> Option<Row>
 }
 
 /// Files the rows of a poll that is done, in the file where one is named; how many are left out of it is told first.
+#[inline(never)]
 pub fn filed<'a, F: Filing, O: Output, E: Output>(
     alloc: Global,
     place: &mut F,

@@ -36,6 +36,7 @@ pub trait Dialling: End {
 }
 
 /// Drops what stands on the line: until nothing comes for as long as it waits, or so much has come that silence is not waited for.
+#[inline(never)]
 fn quiet<S: Read + Write>(stream: &mut S) -> io::Result<()> {
     let mut piece = [0u8; PIECE];
     for _ in 0..QUIET_READS {
@@ -60,6 +61,7 @@ fn prepare<S: Read + Write + OpenStream>(stream: &mut S) -> io::Result<()> {
 }
 
 /// A connection to the first address that answers; none where the deadline is over.
+#[inline(never)]
 fn connected<R: Net, C: Clock>(
     rt: &R,
     address: &str,
@@ -80,6 +82,7 @@ fn connected<R: Net, C: Clock>(
 }
 
 /// The serial line of a device, on which nothing stands.
+#[inline(never)]
 fn opened<R: Net + Files<File = File> + AllocGlobal>(rt: &R, device: &str) -> io::Result<Serial> {
     let mut line = Serial::open(rt, device)?;
     line.waits(Duration::from_millis(QUIET_MILLISECONDS));

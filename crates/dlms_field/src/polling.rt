@@ -107,6 +107,7 @@ fn judge_filed<'a>(
 }
 
 /// Reads the secret and the file, and judges the rows that stand there.
+#[inline(never)]
 fn prepared<'a, D: Desk, F: Holding>(
     alloc: Global,
     desk: &mut D,

@@ -41,6 +41,7 @@ fn carries_refusal(info: &[u8]) -> bool
 }
 
 /// Whether a reply of the meter refuses an association: its first frame does.
+#[inline(never)]
 pub fn is_refusal(reply: &[u8]) -> bool
     ensures { IsTrue result ↔ RefusesAssociation reply.now }
 {
