@@ -39,6 +39,7 @@ fn tell(told: &mut Option<io::Error>, error: io::Error) -> LoopFault
 }
 
 /// Whether rows were filed, and what the system says where they were not.
+#[inline(never)]
 fn filed(told: &mut Option<io::Error>, outcome: Result<(), FilingFault>) -> Result<(), LoopFault>
     ensures { TellsKept told.old told.new outcome result }
 {
@@ -51,6 +52,7 @@ fn filed(told: &mut Option<io::Error>, outcome: Result<(), FilingFault>) -> Resu
 }
 
 /// The readings that stand at a place.
+#[inline(never)]
 fn opened<F: Filing>(
     alloc: Global,
     place: &mut F,
@@ -66,6 +68,7 @@ fn opened<F: Filing>(
 }
 
 /// Holds the file, where one is named.
+#[inline(never)]
 fn held<F: Holding>(
     place: &mut F,
     file: Option<&str>,
@@ -93,6 +96,7 @@ fn joined<S: Joining>(line: &mut Line<S>) -> Result<(), LoopFault>
 }
 
 /// Prints the readings.
+#[inline(never)]
 fn print<O: Output>(readings: &Readings, output: &mut O) -> Result<(), LoopFault>
     ensures { PrintsText (O.printed output.old) (O.printed output.new) readings.now result }
 {
@@ -102,6 +106,7 @@ fn print<O: Output>(readings: &Readings, output: &mut O) -> Result<(), LoopFault
 }
 
 /// A new meter with 42 pulses on channel 0 and two captures.
+#[inline(never)]
 fn new_meter(alloc: Global) -> Result<MemoryMeter, LoopFault>
     ensures { IfErr result MakesNone }
 {
@@ -117,6 +122,7 @@ fn new_meter(alloc: Global) -> Result<MemoryMeter, LoopFault>
 }
 
 /// The meter as it comes back from a stop of the power, with one more pulse and one more capture.
+#[inline(never)]
 fn stopped(alloc: Global, meter: MemoryMeter, round: u8) -> Result<MemoryMeter, LoopFault>
     ensures { IfErr result IsOfMeter }
 {
