@@ -93,6 +93,7 @@ fn answered<S: End, A: Allocator + Copy>(
 }
 
 /// Opens an association by this plan over a line.
+#[inline(never)]
 pub fn begin<S: End, A: Allocator + Copy>(
     alloc: A,
     line: &mut S,
@@ -183,6 +184,7 @@ pub fn act<S: End, A: Allocator + Copy>(
 }
 
 /// Ends the link, and with it the association.
+#[inline(never)]
 pub fn end<S: End, A: Allocator + Copy>(
     line: &mut S,
     head: &mut ClientEnd<A>,

@@ -36,8 +36,8 @@ pub enum Turn {
 #[derive(Drop)]
 pub struct ClientEnd<A: Allocator = Global> {
     deframer: Deframer,
-    pub client: Client<A>,
     left: usize,
+    pub client: Client<A>,
 }
 
 /// An error of the system as a fault.
@@ -103,8 +103,8 @@ impl<A: Allocator + Copy> ClientEnd<A> {
         match dial(&mut client, end) {
             Ok(()) => Ok(ClientEnd {
                 deframer: Deframer::new(),
-                client,
                 left: MOST_BYTES,
+                client,
             }),
             Err(fault) => Err(fault),
         }
