@@ -2,7 +2,7 @@
 
 use crate::foreign_text::write_ciphered;
 use crate::names_text::write_conformance;
-use crate::words::{Text, begin, end, line, named, number, octets};
+use crate::words::{Text, line, named_line, number_line, octets_line};
 use dlms_acse::{Initiate, Mechanism, Verdict};
 use dlms_dissect::{Acse, Association, CipheredInitiate};
 use dlms_names::{diagnostic, initiate_error, release_request, release_response};
@@ -23,6 +23,24 @@ fn mechanism_words(number: u8) -> &'static str {
     }
 }
 
+/// What is said of the mechanism that a request names.
+fn requested_words(mechanism: Mechanism, number: Option<u8>) -> &'static str {
+    match (mechanism, number) {
+        (Mechanism::Absent, _) => "mechanism: none is named",
+        (_, Some(number)) => mechanism_words(number),
+        (_, None) => "mechanism: another one",
+    }
+}
+
+/// What is said of a request's authentication value.
+fn secret_words(has_secret: bool) -> &'static str {
+    if has_secret {
+        "authentication value: (secret)"
+    } else {
+        "authentication value: none that is readable"
+    }
+}
+
 /// What is said of an application context.
 fn context_words(number: Option<u8>) -> &'static str {
     match number {
@@ -35,18 +53,15 @@ fn context_words(number: Option<u8>) -> &'static str {
 }
 
 /// The line of a title, where there is one.
-fn write_title<A: Allocator>(text: &mut Text<'_, A>, label: &str, title: Option<&[u8]>) {
+fn write_title<A: Allocator>(text: &mut Text<A>, label: &str, title: Option<&[u8]>) {
     let Some(title) = title else {
         return;
     };
-    begin(text, 2);
-    text.push(label);
-    octets(text, title);
-    end(text);
+    octets_line(text, 2, label, title);
 }
 
 /// The lines of titles and of requirements.
-fn write_acse<A: Allocator>(text: &mut Text<'_, A>, acse: Acse<'_>) {
+fn write_acse<A: Allocator>(text: &mut Text<A>, acse: Acse<'_>) {
     write_title(text, "called AP title: ", acse.called_title);
     write_title(text, "calling AP title: ", acse.calling_title);
     write_title(text, "responding AP title: ", acse.responding_title);
@@ -57,12 +72,17 @@ fn write_acse<A: Allocator>(text: &mut Text<'_, A>, acse: Acse<'_>) {
     }
 }
 
-/// The lines of what a response names.
-fn write_response_names<A: Allocator>(text: &mut Text<'_, A>, acse: Acse<'_>) {
-    line(text, 2, context_words(acse.context));
-    if let Some(number) = acse.mechanism {
+/// The line of a response's mechanism, where it names one.
+fn write_mechanism<A: Allocator>(text: &mut Text<A>, mechanism: Option<u8>) {
+    if let Some(number) = mechanism {
         line(text, 2, mechanism_words(number));
     }
+}
+
+/// The lines of what a response names.
+fn write_response_names<A: Allocator>(text: &mut Text<A>, acse: Acse<'_>) {
+    line(text, 2, context_words(acse.context));
+    write_mechanism(text, acse.mechanism);
     if acse.has_value {
         line(text, 2, "authentication value: (secret)");
     }
@@ -70,21 +90,17 @@ fn write_response_names<A: Allocator>(text: &mut Text<'_, A>, acse: Acse<'_>) {
 }
 
 /// The line of a response, by its result.
-fn write_outcome<A: Allocator>(text: &mut Text<'_, A>, outcome: u8) {
-    line(
-        text,
-        1,
-        if outcome == 0 {
-            "association response: accepted"
-        } else {
-            "association response: rejected"
-        },
-    )
+fn write_outcome<A: Allocator>(text: &mut Text<A>, outcome: u8) {
+    if outcome == 0 {
+        line(text, 1, "association response: accepted");
+    } else {
+        line(text, 1, "association response: rejected");
+    }
 }
 
 /// The lines of a response whose initiate response is ciphered.
 pub fn write_ciphered_response<A: Allocator>(
-    text: &mut Text<'_, A>,
+    text: &mut Text<A>,
     acse: Acse<'_>,
     outcome: u8,
     initiate: CipheredInitiate,
@@ -95,26 +111,20 @@ pub fn write_ciphered_response<A: Allocator>(
 }
 
 /// The greatest APDU that is received; 0 says that there is no limit.
-fn write_size<A: Allocator>(text: &mut Text<'_, A>, size: u16) {
-    begin(text, 2);
-    text.push("maximum APDU received: ");
+fn write_size<A: Allocator>(text: &mut Text<A>, size: u16) {
     if size == 0 {
-        text.push("0, no limit");
+        line(text, 2, "maximum APDU received: 0, no limit");
     } else {
-        number(text, u64::from(size));
+        number_line(text, 2, "maximum APDU received: ", u64::from(size), "");
     }
-    end(text);
 }
 
 /// The lines of an initiate request.
-fn write_initiate<A: Allocator>(text: &mut Text<'_, A>, initiate: Option<Initiate>) {
+fn write_initiate<A: Allocator>(text: &mut Text<A>, initiate: Option<Initiate>) {
     match initiate {
         None => line(text, 2, "initiate request: none that is readable"),
         Some(initiate) => {
-            begin(text, 2);
-            text.push("DLMS version ");
-            number(text, u64::from(initiate.version));
-            end(text);
+            number_line(text, 2, "DLMS version ", u64::from(initiate.version), "");
             write_conformance(text, 2, initiate.conformance);
             write_size(text, initiate.size);
         }
@@ -122,27 +132,11 @@ fn write_initiate<A: Allocator>(text: &mut Text<'_, A>, initiate: Option<Initiat
 }
 
 /// The lines of an association request.
-pub fn write_request<A: Allocator>(text: &mut Text<'_, A>, request: Association, acse: Acse<'_>) {
+pub fn write_request<A: Allocator>(text: &mut Text<A>, request: Association, acse: Acse<'_>) {
     line(text, 1, "association request");
     line(text, 2, context_words(acse.context));
-    line(
-        text,
-        2,
-        match (request.mechanism, acse.mechanism) {
-            (Mechanism::Absent, _) => "mechanism: none is named",
-            (_, Some(number)) => mechanism_words(number),
-            (_, None) => "mechanism: another one",
-        },
-    );
-    line(
-        text,
-        2,
-        if request.has_secret {
-            "authentication value: (secret)"
-        } else {
-            "authentication value: none that is readable"
-        },
-    );
+    line(text, 2, requested_words(request.mechanism, acse.mechanism));
+    line(text, 2, secret_words(request.has_secret));
     write_acse(text, acse);
     match acse.ciphered {
         Some(initiate) => { write_ciphered(text, initiate.control, initiate.counter, initiate.len) }
@@ -151,15 +145,12 @@ pub fn write_request<A: Allocator>(text: &mut Text<'_, A>, request: Association,
 }
 
 /// A number by its name, in a line.
-fn write_named<A: Allocator>(text: &mut Text<'_, A>, label: &str, name: Option<&str>, value: u8) {
-    begin(text, 2);
-    text.push(label);
-    named(text, name, "number", u64::from(value));
-    end(text);
+fn write_named<A: Allocator>(text: &mut Text<A>, label: &str, name: Option<&str>, value: u8) {
+    named_line(text, 2, label, name, "number", u64::from(value));
 }
 
 /// The lines of an association response.
-pub fn write_response<A: Allocator>(text: &mut Text<'_, A>, response: Verdict, acse: Acse<'_>) {
+pub fn write_response<A: Allocator>(text: &mut Text<A>, response: Verdict, acse: Acse<'_>) {
     match response {
         Verdict::Accepted { conformance, size } => {
             write_outcome(text, 0);
@@ -186,31 +177,22 @@ pub fn write_response<A: Allocator>(text: &mut Text<'_, A>, response: Verdict, a
 }
 
 /// The line of a release, with the name of its reason, where it gives one.
-fn write_release<A: Allocator>(
-    text: &mut Text<'_, A>,
-    label: &str,
-    name: Option<&str>,
-    reason: u8,
-) {
-    begin(text, 1);
-    text.push(label);
-    text.push(": ");
-    named(text, name, "reason", u64::from(reason));
-    end(text);
+fn write_release<A: Allocator>(text: &mut Text<A>, label: &str, name: Option<&str>, reason: u8) {
+    named_line(text, 1, label, name, "reason", u64::from(reason));
 }
 
 /// The line of a release request.
-pub fn write_release_request<A: Allocator>(text: &mut Text<'_, A>, reason: Option<u8>) {
+pub fn write_release_request<A: Allocator>(text: &mut Text<A>, reason: Option<u8>) {
     match reason {
-        Some(code) => write_release(text, "release request", release_request(code), code),
+        Some(code) => write_release(text, "release request: ", release_request(code), code),
         None => line(text, 1, "release request"),
     }
 }
 
 /// The line of a release response.
-pub fn write_release_response<A: Allocator>(text: &mut Text<'_, A>, reason: Option<u8>) {
+pub fn write_release_response<A: Allocator>(text: &mut Text<A>, reason: Option<u8>) {
     match reason {
-        Some(code) => write_release(text, "release response", release_response(code), code),
+        Some(code) => write_release(text, "release response: ", release_response(code), code),
         None => line(text, 1, "release response"),
     }
 }

@@ -50,7 +50,7 @@ fn explain_packet<A: Allocator + Copy>(
     form: Form,
     connections: &mut Vec<Connection<A>, A>,
     packet: Packet<'_>,
-    text: &mut Text<'_, A>,
+    text: &mut Text<A>,
 ) -> bool {
     let Some(segment) = segment_of(packet) else {
         return true;
@@ -69,7 +69,7 @@ fn explain_packet<A: Allocator + Copy>(
 }
 
 /// The line of how many packets were of other traffic, where some were.
-fn write_others<A: Allocator>(text: &mut Text<'_, A>, is_json: bool, count: u64) {
+fn write_others<A: Allocator>(text: &mut Text<A>, is_json: bool, count: u64) {
     if count == 0 {
         return;
     }
@@ -94,7 +94,7 @@ impl<A: Allocator + Copy> Captured<A> {
     }
 
     /// What is told of the packets that are whole.
-    fn tell(&mut self, text: &mut Text<'_, A>) -> Result<(), AllocError> {
+    fn tell(&mut self, text: &mut Text<A>) -> Result<(), AllocError> {
         for _ in 0..u64::MAX {
             match self.file.next()? {
                 Next::Packet(packet) => {
@@ -115,26 +115,24 @@ impl<A: Allocator + Copy> Captured<A> {
     }
 
     /// Takes octets of the capture, and appends what is told of the packets that are whole then.
-    pub fn feed(&mut self, octets: &[u8], text: &mut String<A>) -> Result<(), AllocError> {
+    pub fn feed(&mut self, octets: &[u8], text: &mut Text<A>) -> Result<(), AllocError> {
         if self.is_broken {
             return Ok(());
         }
         self.file.feed(octets)?;
-        let mut text = Text::new(text);
-        self.tell(&mut text)?;
-        text.end()
+        self.tell(text)?;
+        text.granted()
     }
 
     /// The capture is at its end: what is told of octets that are no frame, and of other traffic.
-    pub fn end(&mut self, text: &mut String<A>) -> Result<(), AllocError> {
-        let mut text = Text::new(text);
+    pub fn end(&mut self, text: &mut Text<A>) -> Result<(), AllocError> {
         for connection in self.connections.iter_mut() {
-            connection.end(&mut text);
+            connection.end(text);
         }
         if !self.is_broken && !self.file.is_whole() {
-            write_note(&mut text, self.form.json, CUT);
+            write_note(text, self.form.json, CUT);
         }
-        write_others(&mut text, self.form.json, self.others);
-        text.end()
+        write_others(text, self.form.json, self.others);
+        text.granted()
     }
 }

@@ -16,7 +16,7 @@ const PORT: u16 = 4059;
 const FLAG: u8 = 0x7e;
 
 /// What a connection carries, told by its first octets: frames of HDLC, or APDUs in the wrapper.
-#[derive(Clone, Copy, PartialEq, Eq)]
+#[derive(Clone, Copy)]
 enum Carries {
     Nothing,
     Frames,
@@ -122,7 +122,7 @@ impl<A: Allocator + Copy> Connection<A> {
     }
 
     /// What is told of the octets that are next.
-    fn tell(&mut self, side: Side, text: &mut Text<'_, A>) {
+    fn tell(&mut self, side: Side, text: &mut Text<A>) {
         match self.carries {
             Carries::Frames => {
                 self.frames.take(Some(side), self.fresh.as_slice(), text);
@@ -134,16 +134,15 @@ impl<A: Allocator + Copy> Connection<A> {
     }
 
     /// When octets came, and between which ends.
-    fn tell_stamp(&mut self, stamp: Option<Stamp>, ends: Ends, text: &mut Text<'_, A>) {
-        let mut words = String::new(self.alloc);
-        let mut told = Text::new(&mut words);
+    fn tell_stamp(&mut self, stamp: Option<Stamp>, ends: Ends, text: &mut Text<A>) {
+        let mut told = Text::new(String::new(self.alloc));
         write_segment(&mut told, self.form.is_one_line(), stamp, ends);
-        if told.end().is_err() {
+        if told.granted().is_err() {
             text.refuse();
         }
         match self.carries {
-            Carries::Wrapped => self.wrapped.stamp(words.as_str(), text),
-            _ => self.frames.stamp(words.as_str(), text),
+            Carries::Wrapped => self.wrapped.stamp(told.as_str(), text),
+            _ => self.frames.stamp(told.as_str(), text),
         }
     }
 
@@ -152,7 +151,7 @@ impl<A: Allocator + Copy> Connection<A> {
         &mut self,
         stamp: Option<Stamp>,
         segment: Segment<'_>,
-        text: &mut Text<'_, A>,
+        text: &mut Text<A>,
     ) -> bool {
         let side = if self.ends == segment.ends {
             Side::Client
@@ -164,12 +163,12 @@ impl<A: Allocator + Copy> Connection<A> {
             return false;
         };
         if self.fresh.is_empty() {
-            return self.carries == Carries::Other;
+            return matches!(self.carries, Carries::Other);
         }
-        if self.carries == Carries::Nothing {
+        if matches!(self.carries, Carries::Nothing) {
             self.carries = carried(self.ends, self.fresh.as_slice());
         }
-        if self.carries == Carries::Other {
+        if matches!(self.carries, Carries::Other) {
             self.fresh.clear();
             return true;
         }
@@ -180,7 +179,7 @@ impl<A: Allocator + Copy> Connection<A> {
     }
 
     /// What is told of one direction's octets behind some that are missing at the end of a capture.
-    fn tell_rest(&mut self, side: Side, text: &mut Text<'_, A>) {
+    fn tell_rest(&mut self, side: Side, text: &mut Text<A>) {
         for _ in 0..u64::MAX {
             let rest = match side {
                 Side::Client => self.up.rest(&mut self.fresh),
@@ -199,7 +198,7 @@ impl<A: Allocator + Copy> Connection<A> {
     }
 
     /// No more segments come: what is told of octets that are no frame.
-    pub fn end(&mut self, text: &mut Text<'_, A>) {
+    pub fn end(&mut self, text: &mut Text<A>) {
         if matches!(self.carries, Carries::Nothing | Carries::Other) {
             return;
         }

@@ -2,7 +2,7 @@
 
 use crate::date_text::{write_date, write_date_time, write_time};
 use crate::names_text::{is_quantity, write_name};
-use crate::words::{Text, begin, end, number, octets, signed};
+use crate::words::{Text, begin, end, number, number_line, octets, signed};
 use dlms_data::{Bits, Data};
 use dlms_dissect::{Part, Veiled, is_date_time};
 use dlms_names::code_name;
@@ -22,7 +22,7 @@ fn is_plain_text(bytes: &[u8]) -> bool {
 }
 
 /// Bytes that are text between quotes, others in hexadecimal digits.
-fn write_string<A: Allocator>(text: &mut Text<'_, A>, bytes: &[u8]) {
+fn write_string<A: Allocator>(text: &mut Text<A>, bytes: &[u8]) {
     if !is_plain_text(bytes) {
         octets(text, bytes);
         return;
@@ -59,7 +59,7 @@ fn code_in(bytes: &[u8]) -> Option<[u8; 6]> {
 }
 
 /// The octets, and behind them the date-time, the OBIS code or the text that they are.
-fn write_octets<A: Allocator>(text: &mut Text<'_, A>, bytes: &[u8]) {
+fn write_octets<A: Allocator>(text: &mut Text<A>, bytes: &[u8]) {
     octets(text, bytes);
     if let Some(octets) = date_time_in(bytes) {
         text.push(" ");
@@ -78,7 +78,7 @@ fn write_octets<A: Allocator>(text: &mut Text<'_, A>, bytes: &[u8]) {
 }
 
 /// The date-time of an octet-string, or its octets where it is none.
-pub fn write_string_time<A: Allocator>(text: &mut Text<'_, A>, bytes: &[u8]) {
+pub fn write_string_time<A: Allocator>(text: &mut Text<A>, bytes: &[u8]) {
     match date_time_in(bytes) {
         Some(octets) => write_date_time(text, octets),
         None => octets(text, bytes),
@@ -86,7 +86,7 @@ pub fn write_string_time<A: Allocator>(text: &mut Text<'_, A>, bytes: &[u8]) {
 }
 
 /// Bits, the first one first.
-fn write_bits<A: Allocator>(text: &mut Text<'_, A>, bits: &Bits<A>) {
+fn write_bits<A: Allocator>(text: &mut Text<A>, bits: &Bits<A>) {
     let mut left = bits.len();
     for byte in bits.as_bytes() {
         let mut weight = 128u8;
@@ -94,7 +94,7 @@ fn write_bits<A: Allocator>(text: &mut Text<'_, A>, bits: &Bits<A>) {
             if left == 0 || weight == 0 {
                 break;
             }
-            text.push(if *byte & weight != 0 { "1" } else { "0" });
+            text.either(*byte & weight != 0, "1", "0");
             weight /= 2;
             left -= 1;
         }
@@ -102,19 +102,19 @@ fn write_bits<A: Allocator>(text: &mut Text<'_, A>, bits: &Bits<A>) {
 }
 
 /// A type with a number.
-fn write_unsigned<A: Allocator>(text: &mut Text<'_, A>, kind: &str, value: u64) {
+fn write_unsigned<A: Allocator>(text: &mut Text<A>, kind: &str, value: u64) {
     text.push(kind);
     number(text, value);
 }
 
 /// A type with a number that may be below 0.
-fn write_signed<A: Allocator>(text: &mut Text<'_, A>, kind: &str, value: i64) {
+fn write_signed<A: Allocator>(text: &mut Text<A>, kind: &str, value: i64) {
     text.push(kind);
     signed(text, value);
 }
 
 /// The line of a number, or of a value without a part; nothing of the others.
-fn write_number<A: Allocator>(text: &mut Text<'_, A>, value: &Data<A>) {
+fn write_number<A: Allocator>(text: &mut Text<A>, value: &Data<A>) {
     match value {
         Data::Null => text.push("null-data"),
         Data::Boolean(true) => text.push("boolean true"),
@@ -139,7 +139,7 @@ fn write_number<A: Allocator>(text: &mut Text<'_, A>, value: &Data<A>) {
 }
 
 /// The line of a value that holds no other values.
-pub fn write_plain<A: Allocator>(text: &mut Text<'_, A>, value: &Data<A>) {
+pub fn write_plain<A: Allocator>(text: &mut Text<A>, value: &Data<A>) {
     match value {
         Data::BitString(bits) => {
             text.push("bit-string ");
@@ -173,31 +173,16 @@ pub fn write_plain<A: Allocator>(text: &mut Text<'_, A>, value: &Data<A>) {
     }
 }
 
-/// The line of what has so many parts.
-pub fn write_count<A: Allocator>(
-    text: &mut Text<'_, A>,
-    depth: u8,
-    kind: &str,
-    count: usize,
-    parts: &str,
-) {
-    begin(text, depth);
-    text.push(kind);
-    number(text, count as u64);
-    text.push(parts);
-    end(text);
-}
-
 /// The line of an array or a structure, with how many values it holds, and these below it.
 #[cycle(tree)]
 fn write_items<A: Allocator>(
-    text: &mut Text<'_, A>,
+    text: &mut Text<A>,
     depth: u8,
     room: u8,
     kind: &str,
     items: &[Data<A>],
 ) {
-    write_count(text, depth, kind, items.len(), "");
+    number_line(text, depth, kind, items.len() as u64, "");
     if room == 0 {
         return;
     }
@@ -208,7 +193,7 @@ fn write_items<A: Allocator>(
 
 /// The lines of a value with so many levels.
 #[cycle(tree)]
-fn write_tree<A: Allocator>(text: &mut Text<'_, A>, depth: u8, room: u8, value: &Data<A>) {
+fn write_tree<A: Allocator>(text: &mut Text<A>, depth: u8, room: u8, value: &Data<A>) {
     match value {
         Data::Array(items) => write_items(text, depth, room, "array of ", items.as_slice()),
         Data::Structure(items) => write_items(text, depth, room, "structure of ", items.as_slice()),
@@ -221,23 +206,23 @@ fn write_tree<A: Allocator>(text: &mut Text<'_, A>, depth: u8, room: u8, value: 
 }
 
 /// The lines of a value: the first one stands so deep, and what it holds a level deeper.
-pub fn write_levels<A: Allocator>(text: &mut Text<'_, A>, depth: u8, value: &Data<A>) {
+pub fn write_levels<A: Allocator>(text: &mut Text<A>, depth: u8, value: &Data<A>) {
     write_tree(text, depth, MOST_LEVELS, value);
 }
 
 /// Appends to the text the lines of a value that was read: the first one stands so deep, and what it holds a level deeper.
-pub fn write_value<A: Allocator>(
-    text: &mut String<A>,
+pub fn write_value<A: Allocator + Copy>(
+    words: &mut String<A>,
     depth: u8,
     value: &Data<A>,
 ) -> Result<(), AllocError> {
-    let mut text = Text::new(text);
+    let mut text = Text::behind(words);
     write_levels(&mut text, depth, value);
-    text.end()
+    text.end(words)
 }
 
 /// A value within a line: of a time its date, of an array or a structure how many it holds.
-pub fn write_inline<A: Allocator>(text: &mut Text<'_, A>, value: &Data<A>) {
+pub fn write_inline<A: Allocator>(text: &mut Text<A>, value: &Data<A>) {
     match value {
         Data::Array(items) => write_unsigned(text, "array of ", items.len() as u64),
         Data::Structure(items) => write_unsigned(text, "structure of ", items.len() as u64),
@@ -254,14 +239,14 @@ pub fn write_inline<A: Allocator>(text: &mut Text<'_, A>, value: &Data<A>) {
 /// The line of an array or a structure that may hold a secret, and the lines of its values below it.
 #[cycle(veiled)]
 fn write_veiled_items<A: Allocator>(
-    text: &mut Text<'_, A>,
+    text: &mut Text<A>,
     depth: u8,
     room: u8,
     kind: &str,
     count: usize,
     veiled: &Veiled<'_, A>,
 ) {
-    write_count(text, depth, kind, count, "");
+    number_line(text, depth, kind, count as u64, "");
     if room == 0 {
         return;
     }
@@ -275,7 +260,7 @@ fn write_veiled_items<A: Allocator>(
 /// The lines of a value with so many levels that may be a secret, or hold one.
 #[cycle(veiled)]
 fn write_veiled_tree<A: Allocator>(
-    text: &mut Text<'_, A>,
+    text: &mut Text<A>,
     depth: u8,
     room: u8,
     veiled: &Veiled<'_, A>,
@@ -285,12 +270,16 @@ fn write_veiled_tree<A: Allocator>(
         Part::Structure(count) => {
             write_veiled_items(text, depth, room, "structure of ", count, veiled);
         }
-        Part::OctetString(len) => write_count(text, depth, "octet-string of ", len, " octets"),
-        Part::VisibleString(len) => {
-            write_count(text, depth, "visible-string of ", len, " octets");
+        Part::OctetString(len) => {
+            number_line(text, depth, "octet-string of ", len as u64, " octets");
         }
-        Part::Utf8String(len) => write_count(text, depth, "utf8-string of ", len, " octets"),
-        Part::BitString(len) => write_count(text, depth, "bit-string of ", len, " bits"),
+        Part::VisibleString(len) => {
+            number_line(text, depth, "visible-string of ", len as u64, " octets");
+        }
+        Part::Utf8String(len) => {
+            number_line(text, depth, "utf8-string of ", len as u64, " octets");
+        }
+        Part::BitString(len) => number_line(text, depth, "bit-string of ", len as u64, " bits"),
         Part::Plain(plain) => {
             begin(text, depth);
             write_plain(text, plain);
@@ -300,6 +289,6 @@ fn write_veiled_tree<A: Allocator>(
 }
 
 /// The lines of a value that may be a secret, or hold one: of a string how long it is.
-pub fn write_veiled<A: Allocator>(text: &mut Text<'_, A>, depth: u8, veiled: &Veiled<'_, A>) {
+pub fn write_veiled<A: Allocator>(text: &mut Text<A>, depth: u8, veiled: &Veiled<'_, A>) {
     write_veiled_tree(text, depth, MOST_LEVELS, veiled);
 }

@@ -10,7 +10,7 @@ const OPEN: u8 = 0xff;
 const NO_DEVIATION: u16 = 0x8000;
 
 /// A field of two digits; `*` where it is left open.
-fn write_field<A: Allocator>(text: &mut Text<'_, A>, field: u8) {
+fn write_field<A: Allocator>(text: &mut Text<A>, field: u8) {
     if field == OPEN {
         text.push("*");
     } else {
@@ -19,7 +19,7 @@ fn write_field<A: Allocator>(text: &mut Text<'_, A>, field: u8) {
 }
 
 /// The year; `*` where it is left open.
-fn write_year<A: Allocator>(text: &mut Text<'_, A>, high: u8, low: u8) {
+fn write_year<A: Allocator>(text: &mut Text<A>, high: u8, low: u8) {
     if high == OPEN && low == OPEN {
         text.push("*");
     } else {
@@ -27,16 +27,21 @@ fn write_year<A: Allocator>(text: &mut Text<'_, A>, high: u8, low: u8) {
     }
 }
 
-/// Year, month and day. In the month `fe` begins and `fd` ends daylight saving, in the day they count from the month's end.
-fn write_day<A: Allocator>(text: &mut Text<'_, A>, fields: [u8; 4]) {
-    let [high, low, month, day] = fields;
-    write_year(text, high, low);
-    text.push("-");
+/// The month, or where daylight saving begins or ends.
+fn write_month<A: Allocator>(text: &mut Text<A>, month: u8) {
     match month {
         0xfe => text.push("daylight-saving-begin"),
         0xfd => text.push("daylight-saving-end"),
         _ => write_field(text, month),
     }
+}
+
+/// Year, month and day. In the month `fe` begins and `fd` ends daylight saving, in the day they count from the month's end.
+fn write_day<A: Allocator>(text: &mut Text<A>, fields: [u8; 4]) {
+    let [high, low, month, day] = fields;
+    write_year(text, high, low);
+    text.push("-");
+    write_month(text, month);
     text.push("-");
     match day {
         0xfe => text.push("last"),
@@ -46,7 +51,7 @@ fn write_day<A: Allocator>(text: &mut Text<'_, A>, fields: [u8; 4]) {
 }
 
 /// Hour, minute and second, and hundredths where there are any.
-fn write_hour<A: Allocator>(text: &mut Text<'_, A>, fields: [u8; 4]) {
+fn write_hour<A: Allocator>(text: &mut Text<A>, fields: [u8; 4]) {
     let [hour, minute, second, hundredths] = fields;
     write_field(text, hour);
     text.push(":");
@@ -59,13 +64,17 @@ fn write_hour<A: Allocator>(text: &mut Text<'_, A>, fields: [u8; 4]) {
     }
 }
 
-/// The minutes from UTC and the status of the clock, where they say anything.
-fn write_rest<A: Allocator>(text: &mut Text<'_, A>, deviation: u16, status: u8) {
-    if deviation != NO_DEVIATION && deviation != 0 {
+/// The minutes from UTC, where they say anything.
+fn write_deviation<A: Allocator>(text: &mut Text<A>, deviation: [u8; 2]) {
+    let number = u16::from_be_bytes(deviation);
+    if number != NO_DEVIATION && number != 0 {
         text.push(", deviation ");
-        let [high, low] = deviation.to_be_bytes();
-        signed(text, i64::from(i16::from_be_bytes([high, low])));
+        signed(text, i64::from(i16::from_be_bytes(deviation)));
     }
+}
+
+/// The status of the clock, where it says anything.
+fn write_status<A: Allocator>(text: &mut Text<A>, status: u8) {
     if status != 0 && status != OPEN {
         text.push(", status ");
         octet(text, status);
@@ -73,7 +82,7 @@ fn write_rest<A: Allocator>(text: &mut Text<'_, A>, deviation: u16, status: u8) 
 }
 
 /// A date-time of twelve octets, as `2026-11-24 09:30:00`; what is left open is `*`.
-pub fn write_date_time<A: Allocator>(text: &mut Text<'_, A>, octets: [u8; 12]) {
+pub fn write_date_time<A: Allocator>(text: &mut Text<A>, octets: [u8; 12]) {
     let [
         high,
         low,
@@ -91,16 +100,17 @@ pub fn write_date_time<A: Allocator>(text: &mut Text<'_, A>, octets: [u8; 12]) {
     write_day(text, [high, low, month, day]);
     text.push(" ");
     write_hour(text, [hour, minute, second, hundredths]);
-    write_rest(text, u16::from_be_bytes([deviation, behind]), status);
+    write_deviation(text, [deviation, behind]);
+    write_status(text, status);
 }
 
 /// A date of five octets.
-pub fn write_date<A: Allocator>(text: &mut Text<'_, A>, octets: [u8; 5]) {
+pub fn write_date<A: Allocator>(text: &mut Text<A>, octets: [u8; 5]) {
     let [high, low, month, day, _] = octets;
     write_day(text, [high, low, month, day]);
 }
 
 /// A time of four octets.
-pub fn write_time<A: Allocator>(text: &mut Text<'_, A>, octets: [u8; 4]) {
+pub fn write_time<A: Allocator>(text: &mut Text<A>, octets: [u8; 4]) {
     write_hour(text, octets);
 }

@@ -49,7 +49,7 @@ const BEHIND: usize = 3;
 
 /// The lines of a request, and of what its blocks join to.
 fn explain_request<A: Allocator + Copy>(
-    text: &mut Text<'_, A>,
+    text: &mut Text<A>,
     alloc: A,
     services: &mut Services<A>,
     request: &Request<'_, A>,
@@ -68,7 +68,7 @@ fn explain_request<A: Allocator + Copy>(
 
 /// The lines of a response, and of what its blocks join to.
 fn explain_response<A: Allocator + Copy>(
-    text: &mut Text<'_, A>,
+    text: &mut Text<A>,
     alloc: A,
     services: &mut Services<A>,
     response: &Response<'_, A>,
@@ -93,7 +93,7 @@ const ASSOCIATION_RESPONSE: u8 = 0x61;
 
 /// The line of an APDU that is not readable. What the meter's readers refuse at its first two octets may be of a form of the
 /// standard, and does not fit that; of an association response the initiate response may be ciphered.
-fn write_unreadable<A: Allocator>(text: &mut Text<'_, A>, bytes: &[u8], fault: Fault) {
+fn write_unreadable<A: Allocator>(text: &mut Text<A>, bytes: &[u8], fault: Fault) {
     if fault.octet <= 2
         && let Some((form, octet)) = misfit(bytes)
     {
@@ -134,7 +134,7 @@ fn open_len<A: Allocator + Copy>(
 
 /// The lines of an APDU, and where `hex` is set, how many of its octets may stand beside.
 pub fn explain_apdu<A: Allocator + Copy>(
-    text: &mut Text<'_, A>,
+    text: &mut Text<A>,
     alloc: A,
     hex: bool,
     side: Option<Side>,
@@ -150,47 +150,47 @@ pub fn explain_apdu<A: Allocator + Copy>(
     } else {
         0
     };
-    explain_read(text, alloc, side, services, bytes, apdu);
+    explain_read(text, alloc, side, services, bytes, &apdu);
     shown
 }
 
 /// The lines of an APDU that was read.
 fn explain_read<A: Allocator + Copy>(
-    text: &mut Text<'_, A>,
+    text: &mut Text<A>,
     alloc: A,
     side: Option<Side>,
     services: &mut Services<A>,
     bytes: &[u8],
-    apdu: Apdu<'_, A>,
+    apdu: &Apdu<'_, A>,
 ) {
     match apdu {
         Apdu::AssociationRequest(request) => {
-            association_text::write_request(text, without_secret(&request), acse_of(bytes));
+            association_text::write_request(text, without_secret(request), acse_of(bytes));
         }
         Apdu::AssociationResponse(response) => {
-            association_text::write_response(text, response, acse_of(bytes));
+            association_text::write_response(text, *response, acse_of(bytes));
         }
-        Apdu::ReleaseRequest(reason) => association_text::write_release_request(text, reason),
-        Apdu::ReleaseResponse(reason) => association_text::write_release_response(text, reason),
-        Apdu::Request(request) => explain_request(text, alloc, services, &request),
-        Apdu::Response(response) => explain_response(text, alloc, services, &response),
+        Apdu::ReleaseRequest(reason) => association_text::write_release_request(text, *reason),
+        Apdu::ReleaseResponse(reason) => association_text::write_release_response(text, *reason),
+        Apdu::Request(request) => explain_request(text, alloc, services, request),
+        Apdu::Response(response) => explain_response(text, alloc, services, response),
         Apdu::Foreign(foreign) => {
-            let of = services.answered_with(foreign);
-            let secrecy = services.hear(alloc, foreign);
-            write_foreign(text, alloc, foreign, of, secrecy);
+            let of = services.answered_with(*foreign);
+            let secrecy = services.hear(alloc, *foreign);
+            write_foreign(text, alloc, *foreign, of, secrecy);
         }
         Apdu::Unreadable(fault) => {
             if side != Some(Side::Meter) {
                 services.forget(alloc);
             }
-            write_unreadable(text, bytes, fault);
+            write_unreadable(text, bytes, *fault);
         }
     }
 }
 
 /// The lines of the APDU that the last information frame of this side was the end of, and how many of its octets may stand beside.
 fn explain_whole<A: Allocator + Copy>(
-    text: &mut Text<'_, A>,
+    text: &mut Text<A>,
     alloc: A,
     hex: bool,
     side: Option<Side>,
@@ -213,7 +213,7 @@ fn explain_whole<A: Allocator + Copy>(
 /// The lines of an APDU that stands by itself, as in a frame that is not taken: of what came before it nothing is known, and
 /// it changes nothing.
 fn explain_alone<A: Allocator + Copy>(
-    text: &mut Text<'_, A>,
+    text: &mut Text<A>,
     alloc: A,
     hex: bool,
     side: Option<Side>,
@@ -230,20 +230,20 @@ fn explain_alone<A: Allocator + Copy>(
 /// Appends the lines of an APDU that stands by itself, from this side or from either: of what came before it nothing is known. Of
 /// secrets, and of strings that may be one, the length alone is told. Where memory is refused the text may end within a line.
 pub fn write_apdu<A: Allocator + Copy>(
-    text: &mut String<A>,
+    words: &mut String<A>,
     alloc: A,
     side: Option<Side>,
     bytes: &[u8],
 ) -> Result<(), AllocError> {
-    let mut text = Text::new(text);
+    let mut text = Text::behind(words);
     let mut services = Services::new(alloc, false);
     explain_apdu(&mut text, alloc, false, side, &mut services, bytes);
-    text.end()
+    text.end(words)
 }
 
 /// The lines of an information frame, and how many octets of its information may stand beside: of an APDU in segments none.
 fn explain_information<A: Allocator + Copy>(
-    text: &mut Text<'_, A>,
+    text: &mut Text<A>,
     alloc: A,
     hex: bool,
     side: Option<Side>,
@@ -275,7 +275,7 @@ fn explain_information<A: Allocator + Copy>(
 
 /// The lines of the parameters of an SNRM or a UA, where it has any, and how many octets of these may stand beside: all but those
 /// behind the parameters, where each is readable.
-fn explain_parameters<A: Allocator>(text: &mut Text<'_, A>, info: &[u8]) -> usize {
+fn explain_parameters<A: Allocator>(text: &mut Text<A>, info: &[u8]) -> usize {
     if info.is_empty() {
         return 0;
     }
@@ -291,7 +291,7 @@ fn explain_parameters<A: Allocator>(text: &mut Text<'_, A>, info: &[u8]) -> usiz
 
 /// The lines of what a frame holds, and how many octets of its information may stand beside.
 fn explain_content<A: Allocator + Copy>(
-    text: &mut Text<'_, A>,
+    text: &mut Text<A>,
     alloc: A,
     hex: bool,
     side: Option<Side>,
@@ -341,49 +341,55 @@ fn beside_of<'a>(octets: &'a [u8], info: usize, shown: usize) -> Beside<'a>
     }
 }
 
-/// Puts a talk back among the others.
-fn put_back<A: Allocator + Copy>(text: &mut Text<'_, A>, talks: &mut Talks<A>, talk: Talk<A>) {
+/// What is told of a frame, whose octets are these and whose side is this, in its talk.
+fn tell_frame<A: Allocator + Copy>(
+    text: &mut Text<A>,
+    view: &mut View<A>,
+    alloc: A,
+    side: Option<Side>,
+    talk: &mut Talk<A>,
+    frame: &Frame<'_>,
+    octets: &[u8],
+) {
+    let heading = heading_of(frame);
+    if view.form.is_at_once() {
+        write_frame(text, side, heading);
+        end(text);
+        explain_content(text, alloc, false, side, talk, frame);
+        return;
+    }
+    let hex = view.form.hex;
+    view.full.clear();
+    let shown = explain_content(&mut view.full, alloc, hex, side, talk, frame);
+    if view.full.granted().is_err() {
+        text.refuse();
+    }
+    let octets: &[u8] = if hex { octets } else { &[] };
+    let beside = beside_of(octets, frame.info.len(), shown);
+    write_view(text, view, side, heading, beside);
+}
+
+/// What is told of a frame, whose octets are these.
+fn explain_frame<A: Allocator + Copy>(
+    text: &mut Text<A>,
+    view: &mut View<A>,
+    alloc: A,
+    said: Option<Side>,
+    talks: &mut Talks<A>,
+    frame: &Frame<'_>,
+    octets: &[u8],
+) {
+    let side = side_of(said, frame);
+    let mut talk = talks.take(alloc, parties_of(side, frame));
+    tell_frame(text, view, alloc, side, &mut talk, frame, octets);
     if talks.put(talk).is_err() {
         text.refuse();
     }
 }
 
-/// What is told of a frame, whose octets are these.
-fn explain_frame<A: Allocator + Copy>(
-    text: &mut Text<'_, A>,
-    view: &mut View<A>,
-    alloc: A,
-    said: Option<Side>,
-    talks: &mut Talks<A>,
-    frame: Frame<'_>,
-    octets: &[u8],
-) {
-    let side = side_of(said, &frame);
-    let heading = heading_of(&frame);
-    let info = frame.info.len();
-    let hex = view.form.hex;
-    let mut talk = talks.take(alloc, parties_of(side, &frame));
-    if view.form.is_at_once() {
-        write_frame(text, side, heading);
-        end(text);
-        explain_content(text, alloc, hex, side, &mut talk, &frame);
-        put_back(text, talks, talk);
-        return;
-    }
-    view.full.clear();
-    let mut full = Text::new(&mut view.full);
-    let shown = explain_content(&mut full, alloc, hex, side, &mut talk, &frame);
-    if full.end().is_err() {
-        text.refuse();
-    }
-    put_back(text, talks, talk);
-    let beside = beside_of(if hex { octets } else { &[] }, info, shown);
-    write_view(text, view, side, heading, beside);
-}
-
 /// The lines of the first bytes of a stretch, which belong to no frame.
 fn explain_stray<A: Allocator>(
-    text: &mut Text<'_, A>,
+    text: &mut Text<A>,
     is_json: bool,
     said: Option<Side>,
     stretch: &Stretch<A>,
@@ -402,7 +408,7 @@ fn explain_stray<A: Allocator>(
 
 /// The lines of the bytes of a stretch.
 fn explain_bytes<A: Allocator + Copy>(
-    text: &mut Text<'_, A>,
+    text: &mut Text<A>,
     view: &mut View<A>,
     alloc: A,
     said: Option<Side>,
@@ -419,7 +425,7 @@ fn explain_bytes<A: Allocator + Copy>(
         if let Some(Found { frame, before }) = stretch.found() {
             explain_stray(text, view.form.json, said, stretch, before);
             let octets = stretch.behind(before);
-            explain_frame(text, view, alloc, said, talks, frame, octets);
+            explain_frame(text, view, alloc, said, talks, &frame, octets);
             stretch.pass_frame();
         }
         rest = &rest[taken..];
@@ -435,7 +441,7 @@ fn explain_bytes<A: Allocator + Copy>(
 const NO_TEXT: &str = "(a line that is no text)";
 
 /// A line that holds no bytes of a frame, as it is.
-fn pass<A: Allocator>(text: &mut Text<'_, A>, is_json: bool, bytes: &[u8]) {
+fn pass<A: Allocator>(text: &mut Text<A>, is_json: bool, bytes: &[u8]) {
     write_note(text, is_json, str::from_utf8(bytes).unwrap_or(NO_TEXT));
 }
 
@@ -456,7 +462,7 @@ impl<A: Allocator + Copy> Explainer<A> {
     }
 
     /// Bytes of this direction: the frames that end in them.
-    pub(crate) fn take(&mut self, said: Option<Side>, bytes: &[u8], text: &mut Text<'_, A>) {
+    pub(crate) fn take(&mut self, said: Option<Side>, bytes: &[u8], text: &mut Text<A>) {
         let alloc = self.alloc;
         let talks = &mut self.talks;
         let view = &mut self.view;
@@ -472,7 +478,7 @@ impl<A: Allocator + Copy> Explainer<A> {
     }
 
     /// The words that stand before octets, as their time: a line, or in front of each frame's.
-    pub(crate) fn stamp(&mut self, words: &str, text: &mut Text<'_, A>) {
+    pub(crate) fn stamp(&mut self, words: &str, text: &mut Text<A>) {
         if self.view.form.is_one_line() {
             self.view.stamp_with(words, text);
         } else if !words.is_empty() {
@@ -481,7 +487,7 @@ impl<A: Allocator + Copy> Explainer<A> {
     }
 
     /// The bytes of a line's pairs.
-    fn pairs(&mut self, said: Option<Side>, digits: &[u8], text: &mut Text<'_, A>) {
+    fn pairs(&mut self, said: Option<Side>, digits: &[u8], text: &mut Text<A>) {
         let mut bytes: ArrayVec<u8, MOST_PIECE> = ArrayVec::new();
         let mut rest = digits;
         'pairs: while let Some((byte, behind)) = first_pair(rest) {
@@ -496,7 +502,7 @@ impl<A: Allocator + Copy> Explainer<A> {
     }
 
     /// What is left of the client's bytes is no frame, and a new stretch begins.
-    fn end_client(&mut self, text: &mut Text<'_, A>) {
+    fn end_client(&mut self, text: &mut Text<A>) {
         let is_json = self.view.form.json;
         let said = Some(Side::Client);
         explain_stray(text, is_json, said, &self.client, self.client.len());
@@ -504,7 +510,7 @@ impl<A: Allocator + Copy> Explainer<A> {
     }
 
     /// What is told of a line.
-    pub(crate) fn tell(&mut self, line: &[u8], text: &mut Text<'_, A>) {
+    pub(crate) fn tell(&mut self, line: &[u8], text: &mut Text<A>) {
         let is_json = self.view.form.json;
         match line_of(line) {
             Line::Pairs(said, digits) => {
@@ -531,7 +537,7 @@ impl<A: Allocator + Copy> Explainer<A> {
     }
 
     /// What is told of the bytes behind the last frames.
-    pub(crate) fn close(&mut self, text: &mut Text<'_, A>) {
+    pub(crate) fn close(&mut self, text: &mut Text<A>) {
         let is_json = self.view.form.json;
         self.end_client(text);
         explain_stray(
@@ -551,26 +557,26 @@ impl<A: Allocator + Copy> Explainer<A> {
         &mut self,
         said: Option<Side>,
         bytes: &[u8],
-        text: &mut String<A>,
+        words: &mut String<A>,
     ) -> Result<(), AllocError> {
-        let mut text = Text::new(text);
+        let mut text = Text::behind(words);
         self.take(said, bytes, &mut text);
-        text.end()
+        text.end(words)
     }
 
     /// Appends to the text what is told of a line, which is given without its line feed: of bytes the frames that end in them,
     /// with what stood before each and is none; before them the words of a log, as its time. A line without bytes is passed on as
     /// it is. Where memory is refused the text may end within a line.
-    pub fn line(&mut self, line: &[u8], text: &mut String<A>) -> Result<(), AllocError> {
-        let mut text = Text::new(text);
+    pub fn line(&mut self, line: &[u8], words: &mut String<A>) -> Result<(), AllocError> {
+        let mut text = Text::behind(words);
         self.tell(line, &mut text);
-        text.end()
+        text.end(words)
     }
 
     /// Appends to the text what is told of the bytes behind the last frames, which are none. New stretches begin.
-    pub fn end(&mut self, text: &mut String<A>) -> Result<(), AllocError> {
-        let mut text = Text::new(text);
+    pub fn end(&mut self, words: &mut String<A>) -> Result<(), AllocError> {
+        let mut text = Text::behind(words);
         self.close(&mut text);
-        text.end()
+        text.end(words)
     }
 }

@@ -5,33 +5,10 @@ use crate::node_text::{behind_length, write_shown};
 use crate::service_text::{
     write_access, write_block, write_exception, write_form, write_named, write_number, write_result,
 };
-use crate::words::{Text, begin, end, line, number, octet, octets};
+use crate::words::{Text, begin, end, line, number, number_line, octet, octets_line};
 use dlms_dissect::{Field, Foreign, Item, Named, Secrecy, Step, name_at};
 use dlms_names::action_result;
 use std::alloc::Allocator;
-
-/// A line of a label and a number.
-fn write_count<A: Allocator>(
-    text: &mut Text<'_, A>,
-    depth: u8,
-    label: &str,
-    value: u64,
-    behind: &str,
-) {
-    begin(text, depth);
-    text.push(label);
-    number(text, value);
-    text.push(behind);
-    end(text);
-}
-
-/// A line of a label and octets.
-fn write_octets<A: Allocator>(text: &mut Text<'_, A>, depth: u8, label: &str, bytes: &[u8]) {
-    begin(text, depth);
-    text.push(label);
-    octets(text, bytes);
-    end(text);
-}
 
 /// The number of octets of which the first is the highest.
 fn number_of(bytes: &[u8]) -> u64 {
@@ -45,14 +22,14 @@ fn number_of(bytes: &[u8]) -> u64 {
 
 /// The line of an attribute or a method, and of the selector of a selection.
 fn write_name<A: Allocator>(
-    text: &mut Text<'_, A>,
+    text: &mut Text<A>,
     label: &str,
     named: Option<Named>,
     selector: Option<u8>,
 ) {
     write_named(text, label, named);
     match selector {
-        Some(selector) => write_count(
+        Some(selector) => number_line(
             text,
             2,
             "selective access by selector ",
@@ -64,7 +41,7 @@ fn write_name<A: Allocator>(
 }
 
 /// The line of a date-time, where there is one.
-fn write_when<A: Allocator>(text: &mut Text<'_, A>, bytes: &[u8]) {
+fn write_when<A: Allocator>(text: &mut Text<A>, bytes: &[u8]) {
     if bytes.is_empty() {
         return;
     }
@@ -74,8 +51,17 @@ fn write_when<A: Allocator>(text: &mut Text<'_, A>, bytes: &[u8]) {
     end(text);
 }
 
+/// What an access does.
+fn access_label(choice: u8) -> &'static str {
+    match choice {
+        1 | 4 => "get ",
+        2 | 5 => "set ",
+        _ => "act ",
+    }
+}
+
 /// The lines of what is named.
-fn write_names<A: Allocator>(text: &mut Text<'_, A>, field: Field, bytes: &[u8]) {
+fn write_names<A: Allocator>(text: &mut Text<A>, field: Field, bytes: &[u8]) {
     match (field, bytes) {
         (Field::Attribute, [front @ .., 1, selector]) if front.len() == 9 => {
             write_name(text, "", name_at(front, false), Some(*selector));
@@ -85,37 +71,37 @@ fn write_names<A: Allocator>(text: &mut Text<'_, A>, field: Field, bytes: &[u8])
         }
         (Field::Method, _) => write_name(text, "", name_at(bytes, true), None),
         (Field::Access, [choice, front @ ..]) => {
-            let label = match *choice {
-                1 | 4 => "get ",
-                2 | 5 => "set ",
-                _ => "act ",
-            };
-            write_name(text, label, name_at(front, *choice == 3), None);
+            write_name(
+                text,
+                access_label(*choice),
+                name_at(front, *choice == 3),
+                None,
+            );
         }
         (Field::ShortName, [5, front @ ..]) => {
-            write_count(text, 2, "block ", number_of(front), "");
+            number_line(text, 2, "block ", number_of(front), "");
         }
         (Field::ShortName, [_, high, low, ..]) => {
-            write_octets(text, 2, "short name ", &[*high, *low]);
+            octets_line(text, 2, "short name ", &[*high, *low]);
         }
         _ => {}
     }
 }
 
 /// The line of an Action-Result.
-fn write_action<A: Allocator>(text: &mut Text<'_, A>, code: u8) {
+fn write_action<A: Allocator>(text: &mut Text<A>, code: u8) {
     write_result(text, "action-result ", action_result(code), code);
 }
 
 /// The lines of results.
-fn write_results<A: Allocator>(text: &mut Text<'_, A>, field: Field, bytes: &[u8]) {
+fn write_results<A: Allocator>(text: &mut Text<A>, field: Field, bytes: &[u8]) {
     match (field, bytes) {
         (Field::GetResult | Field::ShortData | Field::ShortResult, [1, code]) => {
             write_access(text, *code);
         }
         (Field::ShortResult, [0]) => line(text, 2, "success"),
         (Field::ShortData | Field::ShortResult, [_, high, low]) => {
-            write_count(text, 2, "block ", number_of(&[*high, *low]), "");
+            number_line(text, 2, "block ", number_of(&[*high, *low]), "");
         }
         (Field::AccessResult, [code]) => write_access(text, *code),
         (Field::Return, [code, 1, 1, access]) => {
@@ -134,22 +120,22 @@ fn write_results<A: Allocator>(text: &mut Text<'_, A>, field: Field, bytes: &[u8
             if counter.is_empty() {
                 return;
             }
-            write_count(text, 2, "invocation counter ", number_of(counter), "");
+            number_line(text, 2, "invocation counter ", number_of(counter), "");
         }
-        (Field::ServiceError, _) => write_octets(text, 2, "service and error ", bytes),
+        (Field::ServiceError, _) => octets_line(text, 2, "service and error ", bytes),
         _ => {}
     }
 }
 
 /// The lines of a field that is told as it is.
-fn write_field<A: Allocator>(text: &mut Text<'_, A>, field: Field, bytes: &[u8]) {
+fn write_field<A: Allocator>(text: &mut Text<A>, field: Field, bytes: &[u8]) {
     match field {
-        Field::LongInvoke => write_octets(text, 2, "long-invoke-id-and-priority ", bytes),
+        Field::LongInvoke => octets_line(text, 2, "long-invoke-id-and-priority ", bytes),
         Field::Number | Field::ShortNumber => {
-            write_count(text, 2, "block ", number_of(bytes), "");
+            number_line(text, 2, "block ", number_of(bytes), "");
         }
-        Field::Control => write_octets(text, 2, "block control ", bytes),
-        Field::Title => write_octets(text, 2, "system title ", behind_length(bytes)),
+        Field::Control => octets_line(text, 2, "block control ", bytes),
+        Field::Title => octets_line(text, 2, "system title ", behind_length(bytes)),
         Field::Time => write_when(text, behind_length(bytes)),
         Field::OptionalTime => match bytes {
             [1, rest @ ..] => write_when(text, behind_length(rest)),
@@ -162,27 +148,19 @@ fn write_field<A: Allocator>(text: &mut Text<'_, A>, field: Field, bytes: &[u8])
 }
 
 /// The line of what is ciphered, with its security header (IEC 62056-5-3, 9.2.7.2.4.1).
-pub fn write_ciphered<A: Allocator>(text: &mut Text<'_, A>, control: u8, counter: u32, len: usize) {
+pub fn write_ciphered<A: Allocator>(text: &mut Text<A>, control: u8, counter: u32, len: usize) {
     begin(text, 2);
     text.push("security control ");
     octet(text, control);
-    if control / 16 % 2 == 1 {
-        text.push(", authenticated");
-    }
-    if control / 32 % 2 == 1 {
-        text.push(", encrypted");
-    }
-    if control / 64 % 2 == 1 {
-        text.push(", broadcast key");
-    }
-    if control / 128 == 1 {
-        text.push(", compressed");
-    }
+    text.push_if(control / 16 % 2 == 1, ", authenticated");
+    text.push_if(control / 32 % 2 == 1, ", encrypted");
+    text.push_if(control / 64 % 2 == 1, ", broadcast key");
+    text.push_if(control / 128 == 1, ", compressed");
     text.push(", suite ");
     number(text, u64::from(control % 16));
     end(text);
-    write_count(text, 2, "invocation counter ", u64::from(counter), "");
-    write_count(text, 2, "ciphered: ", len as u64, " octets");
+    number_line(text, 2, "invocation counter ", u64::from(counter), "");
+    number_line(text, 2, "ciphered: ", len as u64, " octets");
 }
 
 /// What octets are that are told by their length.
@@ -196,17 +174,17 @@ fn length_label(field: Field) -> &'static str {
 }
 
 /// The lines of a field.
-fn write_item<A: Allocator + Copy>(text: &mut Text<'_, A>, alloc: A, level: usize, item: Item<'_>) {
+fn write_item<A: Allocator + Copy>(text: &mut Text<A>, alloc: A, level: usize, item: Item<'_>) {
     match item {
         Item::Plain(field, bytes) => write_field(text, field, bytes),
-        Item::List(_, count) => write_count(text, 2, "list of ", u64::from(count), ""),
+        Item::List(_, count) => number_line(text, 2, "list of ", u64::from(count), ""),
         Item::Value(shown) => {
             let depth = level.min(64) as u8;
             write_shown(text, alloc, depth + 2, shown);
         }
         Item::Block { last, number, len } => write_block(text, last, number, len as usize),
         Item::Length(field, count) => {
-            write_count(text, 2, length_label(field), u64::from(count), " octets");
+            number_line(text, 2, length_label(field), u64::from(count), " octets");
         }
         Item::Ciphered {
             control,
@@ -227,7 +205,7 @@ fn has_list(foreign: Foreign<'_>) -> bool {
 
 /// The lines of such an APDU, whose values are told as this is known of them; what it answers, where that is known.
 pub fn write_foreign<A: Allocator + Copy>(
-    text: &mut Text<'_, A>,
+    text: &mut Text<A>,
     alloc: A,
     foreign: Foreign<'_>,
     of: Option<Named>,

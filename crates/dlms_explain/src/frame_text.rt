@@ -1,7 +1,7 @@
 //! The line of a frame, and the lines of what is no frame.
 
 use crate::json::{begin_note, end_note};
-use crate::words::{Text, begin, end, line, number};
+use crate::words::{Text, line, number, number_line};
 use dlms_dissect::{
     Came, Control, Damage, Heading, Parameters, Piece, Side, has_poll, lower, name_of, read, upper,
 };
@@ -31,19 +31,22 @@ fn client_name(address: Address) -> &'static str {
 }
 
 /// An end with its address, as `meter (1, 17)`.
-fn write_end<A: Allocator>(text: &mut Text<'_, A>, name: &str, address: Address) {
+fn write_end<A: Allocator>(text: &mut Text<A>, name: &str, address: Address) {
     text.push(name);
     text.push(" (");
     number(text, u64::from(upper(address)));
-    if let Some(lower) = lower(address) {
-        text.push(", ");
-        number(text, u64::from(lower));
+    match lower(address) {
+        Some(lower) => {
+            text.push(", ");
+            number(text, u64::from(lower));
+            text.push(")");
+        }
+        None => text.push(")"),
     }
-    text.push(")");
 }
 
 /// Who sends the frame, and to whom.
-fn write_ends<A: Allocator>(text: &mut Text<'_, A>, side: Option<Side>, heading: Heading) {
+fn write_ends<A: Allocator>(text: &mut Text<A>, side: Option<Side>, heading: Heading) {
     let (src, dest) = match side {
         Some(Side::Client) => (client_name(heading.src), "meter"),
         Some(Side::Meter) => ("meter", client_name(heading.dest)),
@@ -55,13 +58,13 @@ fn write_ends<A: Allocator>(text: &mut Text<'_, A>, side: Option<Side>, heading:
 }
 
 /// A number of the control field.
-fn write_sequence<A: Allocator>(text: &mut Text<'_, A>, name: &str, value: u8) {
+fn write_sequence<A: Allocator>(text: &mut Text<A>, name: &str, value: u8) {
     text.push(name);
     number(text, u64::from(value));
 }
 
 /// The control field by its name, with its numbers.
-fn write_control<A: Allocator>(text: &mut Text<'_, A>, control: Control) {
+fn write_control<A: Allocator>(text: &mut Text<A>, control: Control) {
     text.push(name_of(control));
     match control {
         Control::Information { send, receive } => {
@@ -85,51 +88,48 @@ fn poll_words(side: Option<Side>, octet: u8) -> &'static str {
 }
 
 /// The words of a frame, without the end of their line. The deframer gives frames alone of which each check is right.
-pub fn write_frame<A: Allocator>(text: &mut Text<'_, A>, side: Option<Side>, heading: Heading) {
+pub fn write_frame<A: Allocator>(text: &mut Text<A>, side: Option<Side>, heading: Heading) {
     text.push(sign(side));
     write_ends(text, side, heading);
     text.push(": ");
     write_control(text, read(heading.control));
     text.push(poll_words(side, heading.control));
-    if heading.segmented {
-        text.push(", segmented");
-    }
+    text.push_if(heading.segmented, ", segmented");
     text.push("; length ");
     number(text, heading.len as u64);
-    text.push(if heading.has_information {
-        "; header and frame check right"
-    } else {
-        "; check right"
-    })
+    text.either(
+        heading.has_information,
+        "; header and frame check right",
+        "; check right",
+    );
 }
 
 /// The line of a parameter that is there.
-fn write_parameter<A: Allocator>(text: &mut Text<'_, A>, name: &str, value: Option<u32>) {
+fn write_parameter<A: Allocator>(text: &mut Text<A>, name: &str, value: Option<u32>) {
     match value {
-        Some(value) => {
-            begin(text, 2);
-            text.push(name);
-            number(text, u64::from(value));
-            end(text);
-        }
+        Some(value) => number_line(text, 2, name, u64::from(value), ""),
+        None => {}
+    }
+}
+
+/// The line of a parameter that is not readable, where there is one.
+fn write_wrong<A: Allocator>(text: &mut Text<A>, wrong: Option<u8>) {
+    match wrong {
+        Some(id) => number_line(text, 2, "not readable: parameter ", u64::from(id), ""),
         None => {}
     }
 }
 
 /// The line of octets behind the parameters, where there are some.
-fn write_behind<A: Allocator>(text: &mut Text<'_, A>, count: usize) {
+fn write_behind<A: Allocator>(text: &mut Text<A>, count: usize) {
     if count == 0 {
         return;
     }
-    begin(text, 2);
-    text.push("behind the parameters: ");
-    number(text, count as u64);
-    text.push(" octets");
-    end(text);
+    number_line(text, 2, "behind the parameters: ", count as u64, " octets");
 }
 
 /// The lines of a link's parameters.
-fn write_parameters<A: Allocator>(text: &mut Text<'_, A>, parameters: Parameters) {
+fn write_parameters<A: Allocator>(text: &mut Text<A>, parameters: Parameters) {
     line(text, 1, "link parameters");
     write_parameter(
         text,
@@ -143,14 +143,12 @@ fn write_parameters<A: Allocator>(text: &mut Text<'_, A>, parameters: Parameters
     );
     write_parameter(text, "window size, transmit: ", parameters.window_sent);
     write_parameter(text, "window size, receive: ", parameters.window_received);
-    if let Some(id) = parameters.wrong {
-        write_parameter(text, "not readable: parameter ", Some(u32::from(id)));
-    }
+    write_wrong(text, parameters.wrong);
     write_behind(text, parameters.behind);
 }
 
 /// The lines of the information of an SNRM or a UA; none is what is not readable.
-pub fn write_information<A: Allocator>(text: &mut Text<'_, A>, parameters: Option<Parameters>) {
+pub fn write_information<A: Allocator>(text: &mut Text<A>, parameters: Option<Parameters>) {
     match parameters {
         Some(parameters) => write_parameters(text, parameters),
         None => line(text, 1, "link parameters: not readable"),
@@ -162,12 +160,15 @@ fn check_words(right: bool) -> &'static str {
     if right { "right" } else { "wrong" }
 }
 
-/// What is wrong with bytes that have the form of a frame.
-fn write_damage<A: Allocator>(text: &mut Text<'_, A>, damage: Damage) {
+/// What is wrong with bytes that have the form of a frame; nothing of others.
+fn write_damage<A: Allocator>(text: &mut Text<A>, damage: Option<Damage>) {
     match damage {
-        Damage::Check => text.push(", check wrong"),
-        Damage::Form => text.push(", with a frame's flags and length, but no addresses or checks"),
-        Damage::Checks { header, frame } => {
+        None => {}
+        Some(Damage::Check) => text.push(", check wrong"),
+        Some(Damage::Form) => {
+            text.push(", with a frame's flags and length, but no addresses or checks");
+        }
+        Some(Damage::Checks { header, frame }) => {
             text.push(", header check ");
             text.push(check_words(header));
             text.push(", frame check ");
@@ -178,7 +179,7 @@ fn write_damage<A: Allocator>(text: &mut Text<'_, A>, damage: Damage) {
 
 /// The line of bytes that are no frame, with their places in the stretch, of which the first is 0.
 pub fn write_stray<A: Allocator>(
-    text: &mut Text<'_, A>,
+    text: &mut Text<A>,
     is_json: bool,
     side: Option<Side>,
     place: u64,
@@ -192,9 +193,7 @@ pub fn write_stray<A: Allocator>(
     text.push(" to ");
     number(text, place.saturating_add(len.saturating_sub(1)));
     text.push(": no frame");
-    if let Some(damage) = piece.damage {
-        write_damage(text, damage);
-    }
+    write_damage(text, piece.damage);
     end_note(text, is_json);
 }
 
@@ -202,31 +201,25 @@ pub fn write_stray<A: Allocator>(
 const NO_LLC: &str = "not readable: no LLC stands in front of the APDU, at octet 1";
 
 /// The line of information without the LLC.
-pub fn write_no_llc<A: Allocator>(text: &mut Text<'_, A>) {
+pub fn write_no_llc<A: Allocator>(text: &mut Text<A>) {
     line(text, 1, NO_LLC);
 }
 
 /// The line of how many segments an APDU came in, where they are several.
-fn write_segments<A: Allocator>(text: &mut Text<'_, A>, count: u32) {
+fn write_segments<A: Allocator>(text: &mut Text<A>, count: u32) {
     if count < 2 {
         return;
     }
-    begin(text, 1);
-    number(text, u64::from(count));
-    text.push(" segments joined");
-    end(text);
+    number_line(text, 1, "", u64::from(count), " segments joined");
 }
 
 /// The line of a segment that others follow.
-fn write_segment<A: Allocator>(text: &mut Text<'_, A>, count: u32) {
-    begin(text, 1);
-    text.push("segment ");
-    number(text, u64::from(count));
-    end(text);
+fn write_segment<A: Allocator>(text: &mut Text<A>, count: u32) {
+    number_line(text, 1, "segment ", u64::from(count), "");
 }
 
 /// The line of what an information frame is among those before it; of an APDU in one frame none.
-pub fn write_came<A: Allocator>(text: &mut Text<'_, A>, came: Came) {
+pub fn write_came<A: Allocator>(text: &mut Text<A>, came: Came) {
     match came {
         Came::Again => line(text, 1, "the number of the frame before: not taken again"),
         Came::OutOfTurn | Came::Apart => line(text, 1, "out of turn: not taken"),

@@ -3,10 +3,11 @@
 use crate::short::{View, has_service, service};
 use crate::words::{Text, number, octet, octets};
 use dlms_dissect::{Heading, Side, lower, name_of, read, upper};
+use dlms_frame::Address;
 use std::alloc::Allocator;
 
 /// A letter of a string of JSON (RFC 8259, 7).
-fn write_letter<A: Allocator>(text: &mut Text<'_, A>, letter: char) {
+fn write_letter<A: Allocator>(text: &mut Text<A>, letter: char) {
     match letter {
         '"' => text.push("\\\""),
         '\\' => text.push("\\\\"),
@@ -19,7 +20,7 @@ fn write_letter<A: Allocator>(text: &mut Text<'_, A>, letter: char) {
 }
 
 /// Words as a string of JSON.
-fn quoted<A: Allocator>(text: &mut Text<'_, A>, words: &str) {
+fn quoted<A: Allocator>(text: &mut Text<A>, words: &str) {
     text.push("\"");
     for letter in words.chars() {
         write_letter(text, letter);
@@ -28,52 +29,56 @@ fn quoted<A: Allocator>(text: &mut Text<'_, A>, words: &str) {
 }
 
 /// What is told of no frame begins: in JSON an object with its words alone. They have no letter that JSON writes otherwise.
-pub fn begin_note<A: Allocator>(text: &mut Text<'_, A>, is_json: bool) {
-    text.push(if is_json { "{\"text\":\"" } else { "" });
+pub fn begin_note<A: Allocator>(text: &mut Text<A>, is_json: bool) {
+    text.push_if(is_json, "{\"text\":\"");
 }
 
 /// What is told of no frame ends.
-pub fn end_note<A: Allocator>(text: &mut Text<'_, A>, is_json: bool) {
-    text.push(if is_json { "\"}\n" } else { "\n" });
+pub fn end_note<A: Allocator>(text: &mut Text<A>, is_json: bool) {
+    text.either(is_json, "\"}\n", "\n");
 }
 
 /// A line of what is told of no frame.
-pub fn write_note<A: Allocator>(text: &mut Text<'_, A>, is_json: bool, words: &str) {
+pub fn write_note<A: Allocator>(text: &mut Text<A>, is_json: bool, words: &str) {
     if is_json {
-        text.push("{\"text\":");
-        quoted(text, words);
+        write_string(text, "{\"text\":", words);
         text.push("}\n");
-        return;
+    } else {
+        text.push(words);
+        text.push("\n");
     }
-    text.push(words);
-    text.push("\n");
 }
 
 /// A member that is a number.
-fn write_number<A: Allocator>(text: &mut Text<'_, A>, name: &str, value: u64) {
+fn write_number<A: Allocator>(text: &mut Text<A>, name: &str, value: u64) {
     text.push(name);
     number(text, value);
 }
 
 /// A member that is a string.
-fn write_string<A: Allocator>(text: &mut Text<'_, A>, name: &str, words: &str) {
+fn write_string<A: Allocator>(text: &mut Text<A>, name: &str, words: &str) {
     text.push(name);
     quoted(text, words);
 }
 
-/// The time, and who sends.
-fn begin_object<A: Allocator>(text: &mut Text<'_, A>, stamp: &str, side: Option<Side>) {
-    text.push("{");
-    if !stamp.is_empty() {
-        text.push("\"time\":");
-        quoted(text, stamp);
-        text.push(",");
+/// The time, where there is one.
+fn write_time<A: Allocator>(text: &mut Text<A>, stamp: &str) {
+    if stamp.is_empty() {
+        return;
     }
-    text.push(match side {
-        Some(Side::Client) => "\"from\":\"client\"",
-        Some(Side::Meter) => "\"from\":\"meter\"",
-        None => "\"from\":null",
-    })
+    write_string(text, "\"time\":", stamp);
+    text.push(",");
+}
+
+/// The time, and who sends.
+fn begin_object<A: Allocator>(text: &mut Text<A>, stamp: &str, side: Option<Side>) {
+    text.push("{");
+    write_time(text, stamp);
+    match side {
+        Some(Side::Client) => text.push("\"from\":\"client\""),
+        Some(Side::Meter) => text.push("\"from\":\"meter\""),
+        None => text.push("\"from\":null"),
+    }
 }
 
 /// Whether a line in full says which attribute or method a service names: its name begins with a digit.
@@ -107,7 +112,7 @@ fn service_line(full: &str) -> Option<&str> {
 }
 
 /// What is told in full beside the service and the object, a string a line.
-fn write_told<A: Allocator>(text: &mut Text<'_, A>, full: &str, has_service: bool) {
+fn write_told<A: Allocator>(text: &mut Text<A>, full: &str, has_service: bool) {
     let mut is_begun = false;
     let mut is_behind = !has_service;
     let mut has_object = false;
@@ -120,54 +125,70 @@ fn write_told<A: Allocator>(text: &mut Text<'_, A>, full: &str, has_service: boo
             has_object = true;
             continue;
         }
-        text.push(if is_begun { "," } else { ",\"told\":[" });
+        text.either(is_begun, ",", ",\"told\":[");
         quoted(text, line.trim_start());
         is_begun = true;
     }
-    text.push(if is_begun { "]" } else { "" });
+    text.push_if(is_begun, "]");
+}
+
+/// The service that is told in full, where there is one.
+fn write_service<A: Allocator>(text: &mut Text<A>, full: &str) {
+    match service_line(full) {
+        Some(line) => write_string(text, ",\"service\":", service(line.trim_start())),
+        None => {}
+    }
+}
+
+/// The object that is told in full, where there is one.
+fn write_object<A: Allocator>(text: &mut Text<A>, full: &str) {
+    match full.lines().find(|line| is_object(line)) {
+        Some(line) => write_string(text, ",\"object\":", object(line)),
+        None => {}
+    }
 }
 
 /// The service, the object and what else is told in full.
-fn write_rest<A: Allocator>(text: &mut Text<'_, A>, full: &str, has_service: bool) {
+fn write_rest<A: Allocator>(text: &mut Text<A>, full: &str, has_service: bool) {
     if has_service {
-        if let Some(line) = service_line(full) {
-            write_string(text, ",\"service\":", service(line.trim_start()));
-        }
+        write_service(text, full);
     }
-    let named = full.lines().find(|line| is_object(line));
-    if let Some(line) = named {
-        write_string(text, ",\"object\":", object(line));
-    }
+    write_object(text, full);
     write_told(text, full, has_service);
 }
 
 /// The octets beside, where there are some, and the end of an object.
-fn end_object<A: Allocator>(text: &mut Text<'_, A>, beside: &[u8]) {
-    if !beside.is_empty() {
+fn end_object<A: Allocator>(text: &mut Text<A>, beside: &[u8]) {
+    if beside.is_empty() {
+        text.push("}\n");
+    } else {
         text.push(",\"octets\":\"");
         octets(text, beside);
-        text.push("\"");
+        text.push("\"}\n");
     }
-    text.push("}\n");
+}
+
+/// The client's address, and the meter's.
+fn write_ends<A: Allocator>(text: &mut Text<A>, client: Address, meter: Address) {
+    write_number(text, ",\"client\":", u64::from(upper(client)));
+    write_number(text, ",\"meter\":", u64::from(upper(meter)));
+    if let Some(lower) = lower(meter) {
+        write_number(text, ",\"lower\":", u64::from(lower));
+    }
 }
 
 /// A frame: its time, its ends, its control field, how many octets stand between its flags, and what is told of it in full.
 pub fn write_json<A: Allocator>(
-    text: &mut Text<'_, A>,
+    text: &mut Text<A>,
     view: &View<A>,
     side: Option<Side>,
     heading: Heading,
     beside: &[u8],
 ) {
     begin_object(text, view.stamp.as_str(), side);
-    let (client, meter) = match side {
-        Some(Side::Meter) => (heading.dest, heading.src),
-        _ => (heading.src, heading.dest),
-    };
-    write_number(text, ",\"client\":", u64::from(upper(client)));
-    write_number(text, ",\"meter\":", u64::from(upper(meter)));
-    if let Some(lower) = lower(meter) {
-        write_number(text, ",\"lower\":", u64::from(lower));
+    match side {
+        Some(Side::Meter) => write_ends(text, heading.dest, heading.src),
+        _ => write_ends(text, heading.src, heading.dest),
     }
     let control = read(heading.control);
     write_string(text, ",\"kind\":", name_of(control));
@@ -178,7 +199,7 @@ pub fn write_json<A: Allocator>(
 
 /// An APDU in the wrapper: its time, the client's port and the meter's, and what is told of it in full.
 pub fn write_json_wrapped<A: Allocator>(
-    text: &mut Text<'_, A>,
+    text: &mut Text<A>,
     view: &View<A>,
     side: Side,
     ports: (u16, u16),

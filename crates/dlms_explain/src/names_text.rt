@@ -8,7 +8,7 @@ use dlms_names::{
 use std::alloc::{AllocError, Allocator};
 
 /// A number behind a label, where it is another one than this.
-fn write_unless<A: Allocator>(text: &mut Text<'_, A>, label: &str, value: u8, usual: u8) {
+fn write_unless<A: Allocator>(text: &mut Text<A>, label: &str, value: u8, usual: u8) {
     if value == usual {
         return;
     }
@@ -16,12 +16,20 @@ fn write_unless<A: Allocator>(text: &mut Text<'_, A>, label: &str, value: u8, us
     number(text, u64::from(value));
 }
 
+/// A name behind a mark, where there is one.
+fn write_known<A: Allocator>(text: &mut Text<A>, mark: &str, name: Option<&str>) {
+    if let Some(name) = name {
+        text.push(mark);
+        text.push(name);
+    }
+}
+
 /// The value group D of what is measured now, of which value group E names no rate.
 const NOW: u8 = 7;
 
 /// What the value groups C, D and E of a code of electricity name.
 fn write_quantity<A: Allocator>(
-    text: &mut Text<'_, A>,
+    text: &mut Text<A>,
     quantity: &str,
     group_c: u8,
     group_d: u8,
@@ -29,23 +37,16 @@ fn write_quantity<A: Allocator>(
 ) {
     text.push(": ");
     text.push(quantity);
-    if let Some(phase) = phase_name(group_c) {
-        text.push(" ");
-        text.push(phase);
+    write_known(text, " ", phase_name(group_c));
+    write_known(text, ", ", processing_name(group_d));
+    if group_d != NOW {
+        write_unless(text, ", rate ", group_e, 0);
     }
-    if let Some(processing) = processing_name(group_d) {
-        text.push(", ");
-        text.push(processing);
-    }
-    if group_d == NOW {
-        return;
-    }
-    write_unless(text, ", rate ", group_e, 0);
 }
 
 /// What the value groups of a code name: the medium, the quantity with its phase, its processing and its rate, the billing period
 /// and the channel.
-fn write_groups<A: Allocator>(text: &mut Text<'_, A>, code: [u8; 6]) {
+fn write_groups<A: Allocator>(text: &mut Text<A>, code: [u8; 6]) {
     let [a, b, c, d, e, f] = code;
     let Some(medium) = medium_name(a) else {
         return;
@@ -68,7 +69,7 @@ pub fn is_quantity(code: [u8; 6]) -> bool {
 }
 
 /// A code as `1.0.1.8.0.255`, and behind it what it names, or what its value groups do.
-pub fn write_name<A: Allocator>(text: &mut Text<'_, A>, code: [u8; 6]) {
+pub fn write_name<A: Allocator>(text: &mut Text<A>, code: [u8; 6]) {
     for (at, group) in code.iter().enumerate() {
         if at > 0 {
             text.push(".");
@@ -85,17 +86,20 @@ pub fn write_name<A: Allocator>(text: &mut Text<'_, A>, code: [u8; 6]) {
 }
 
 /// Appends to the text a code as `1.0.1.8.0.255`, and behind it what it names, or what its value groups do.
-pub fn write_code<A: Allocator>(text: &mut String<A>, code: [u8; 6]) -> Result<(), AllocError> {
-    let mut text = Text::new(text);
+pub fn write_code<A: Allocator + Copy>(
+    words: &mut String<A>,
+    code: [u8; 6],
+) -> Result<(), AllocError> {
+    let mut text = Text::behind(words);
     write_name(&mut text, code);
-    text.end()
+    text.end(words)
 }
 
 /// The value of the first of the 24 bits of a conformance block.
 const FIRST_BIT: u32 = 0x80_0000;
 
 /// The name of the service that a bit stands for.
-fn write_service<A: Allocator>(text: &mut Text<'_, A>, bit: u8) {
+fn write_service<A: Allocator>(text: &mut Text<A>, bit: u8) {
     match service_name(bit) {
         Some(name) => text.push(name),
         None => {
@@ -106,11 +110,7 @@ fn write_service<A: Allocator>(text: &mut Text<'_, A>, bit: u8) {
 }
 
 /// A line with the names of the services that are there.
-pub fn write_conformance<A: Allocator>(
-    text: &mut Text<'_, A>,
-    depth: u8,
-    conformance: Conformance,
-) {
+pub fn write_conformance<A: Allocator>(text: &mut Text<A>, depth: u8, conformance: Conformance) {
     begin(text, depth);
     text.push("conformance:");
     let mut weight = FIRST_BIT;

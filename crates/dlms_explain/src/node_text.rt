@@ -1,7 +1,7 @@
 //! Values by their octets, a line each.
 
-use crate::data_text::{write_count, write_plain};
-use crate::words::{Text, begin, end, line, number, octets, signed};
+use crate::data_text::write_plain;
+use crate::words::{Text, begin, end, line, number, number_line, octets, signed};
 use dlms_data::read;
 use dlms_dissect::{Field, Shown, front_at, length_at};
 use ryu::Buffer;
@@ -20,7 +20,7 @@ fn string_name(tag: u8) -> (&'static str, &'static str) {
 }
 
 /// A float of four octets; digits where it is no number.
-fn write_float32<A: Allocator>(text: &mut Text<'_, A>, fields: [u8; 4]) {
+fn write_float32<A: Allocator>(text: &mut Text<A>, fields: [u8; 4]) {
     text.push("float32 ");
     let value = f32_from_bits_with_nan(u32::from_be_bytes(fields));
     if value.is_finite() {
@@ -31,7 +31,7 @@ fn write_float32<A: Allocator>(text: &mut Text<'_, A>, fields: [u8; 4]) {
 }
 
 /// A float of eight octets; digits where it is no number.
-fn write_float64<A: Allocator>(text: &mut Text<'_, A>, fields: [u8; 8]) {
+fn write_float64<A: Allocator>(text: &mut Text<A>, fields: [u8; 8]) {
     text.push("float64 ");
     let value = f64_from_bits_with_nan(u64::from_be_bytes(fields));
     if value.is_finite() {
@@ -42,7 +42,7 @@ fn write_float64<A: Allocator>(text: &mut Text<'_, A>, fields: [u8; 8]) {
 }
 
 /// A difference to a value before it, of one, two or four octets.
-fn write_delta<A: Allocator>(text: &mut Text<'_, A>, tag: u8, fields: &[u8]) {
+fn write_delta<A: Allocator>(text: &mut Text<A>, tag: u8, fields: &[u8]) {
     text.push("delta ");
     match (tag, fields) {
         (28, [a]) => signed(text, i64::from(i8::from_be_bytes([*a]))),
@@ -64,7 +64,7 @@ fn count_in(bytes: &[u8]) -> usize {
 }
 
 /// A value of a type that holds no others.
-fn write_leaf<A: Allocator + Copy>(text: &mut Text<'_, A>, alloc: A, bytes: &[u8]) {
+fn write_leaf<A: Allocator + Copy>(text: &mut Text<A>, alloc: A, bytes: &[u8]) {
     match bytes {
         [23, a, b, c, d] => write_float32(text, [*a, *b, *c, *d]),
         [24, a, b, c, d, e, f, g, h] => write_float64(text, [*a, *b, *c, *d, *e, *f, *g, *h]),
@@ -82,10 +82,10 @@ fn write_leaf<A: Allocator + Copy>(text: &mut Text<'_, A>, alloc: A, bytes: &[u8
 }
 
 /// The line of a value by its octets, without the values that it holds.
-fn write_open<A: Allocator + Copy>(text: &mut Text<'_, A>, alloc: A, depth: u8, bytes: &[u8]) {
+fn write_open<A: Allocator + Copy>(text: &mut Text<A>, alloc: A, depth: u8, bytes: &[u8]) {
     match bytes {
-        [1, ..] => write_count(text, depth, "array of ", count_in(bytes), ""),
-        [2, ..] => write_count(text, depth, "structure of ", count_in(bytes), ""),
+        [1, ..] => number_line(text, depth, "array of ", count_in(bytes) as u64, ""),
+        [2, ..] => number_line(text, depth, "structure of ", count_in(bytes) as u64, ""),
         _ => {
             begin(text, depth);
             write_leaf(text, alloc, bytes);
@@ -95,18 +95,13 @@ fn write_open<A: Allocator + Copy>(text: &mut Text<'_, A>, alloc: A, depth: u8, 
 }
 
 /// The line of what is shown of a value.
-pub fn write_shown<A: Allocator + Copy>(
-    text: &mut Text<'_, A>,
-    alloc: A,
-    depth: u8,
-    shown: Shown<'_>,
-) {
+pub fn write_shown<A: Allocator + Copy>(text: &mut Text<A>, alloc: A, depth: u8, shown: Shown<'_>) {
     match shown {
         Shown::Secret => line(text, depth, "(secret)"),
         Shown::Veiled { tag: 19, .. } => line(text, depth, "compact-array"),
         Shown::Veiled { tag, count } => {
             let (kind, parts) = string_name(tag);
-            write_count(text, depth, kind, count as usize, parts);
+            number_line(text, depth, kind, u64::from(count), parts);
         }
         Shown::Open(bytes) => write_open(text, alloc, depth, bytes),
     }

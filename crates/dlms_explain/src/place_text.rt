@@ -12,7 +12,7 @@ use std::alloc::Allocator;
 const FIRST_SECOND: u64 = 946_684_800;
 
 /// Six digits, the microseconds of a second.
-fn write_microseconds<A: Allocator>(text: &mut Text<'_, A>, nanoseconds: u32) {
+fn write_microseconds<A: Allocator>(text: &mut Text<A>, nanoseconds: u32) {
     text.push(".");
     let mut rest = nanoseconds / 1000 % 1_000_000;
     let mut unit = 100_000;
@@ -26,7 +26,7 @@ fn write_microseconds<A: Allocator>(text: &mut Text<'_, A>, nanoseconds: u32) {
 }
 
 /// A second as a date and a time, in UTC.
-fn write_second<A: Allocator>(text: &mut Text<'_, A>, second: u32)
+fn write_second<A: Allocator>(text: &mut Text<A>, second: u32)
     requires { second ≤ LAST_SECOND }
 {
     let [high, low, month, day, _, hour, minute, second, ..] = octets(second);
@@ -43,17 +43,22 @@ fn write_second<A: Allocator>(text: &mut Text<'_, A>, second: u32)
     }
 }
 
-/// A stamp; one before 2000 or behind 2099 as seconds since 1970.
-fn write_stamp<A: Allocator>(text: &mut Text<'_, A>, stamp: Stamp) {
-    match stamp.seconds.checked_sub(FIRST_SECOND) {
+/// The seconds of a stamp; one before 2000 or behind 2099 as they are, since 1970.
+fn write_seconds<A: Allocator>(text: &mut Text<A>, seconds: u64) {
+    match seconds.checked_sub(FIRST_SECOND) {
         Some(second) if second <= u64::from(LAST_SECOND) => write_second(text, second as u32),
-        _ => number(text, stamp.seconds),
+        _ => number(text, seconds),
     }
+}
+
+/// A stamp.
+fn write_stamp<A: Allocator>(text: &mut Text<A>, stamp: Stamp) {
+    write_seconds(text, stamp.seconds);
     write_microseconds(text, stamp.nanoseconds);
 }
 
 /// The digits of a group of an address of IP of version 6, without leading zeros (RFC 5952).
-fn write_group<A: Allocator>(text: &mut Text<'_, A>, group: u16) {
+fn write_group<A: Allocator>(text: &mut Text<A>, group: u16) {
     let mut is_begun = false;
     for shift in [12u16, 8, 4, 0] {
         let digit = (group >> shift) % 16;
@@ -65,7 +70,7 @@ fn write_group<A: Allocator>(text: &mut Text<'_, A>, group: u16) {
 }
 
 /// An address of IP of version 6, in its eight groups.
-fn write_six<A: Allocator>(text: &mut Text<'_, A>, octets: [u8; 16]) {
+fn write_six<A: Allocator>(text: &mut Text<A>, octets: [u8; 16]) {
     text.push("[");
     for group in 0..8usize {
         if group > 0 {
@@ -79,7 +84,7 @@ fn write_six<A: Allocator>(text: &mut Text<'_, A>, octets: [u8; 16]) {
 }
 
 /// An address of IP of version 4.
-fn write_four<A: Allocator>(text: &mut Text<'_, A>, octets: [u8; 4]) {
+fn write_four<A: Allocator>(text: &mut Text<A>, octets: [u8; 4]) {
     let mut mark = "";
     for octet in octets {
         text.push(mark);
@@ -89,7 +94,7 @@ fn write_four<A: Allocator>(text: &mut Text<'_, A>, octets: [u8; 4]) {
 }
 
 /// An address of IP.
-fn write_address<A: Allocator>(text: &mut Text<'_, A>, address: Address) {
+fn write_address<A: Allocator>(text: &mut Text<A>, address: Address) {
     match address {
         Address::Four(octets) => write_four(text, octets),
         Address::Six(octets) => write_six(text, octets),
@@ -97,7 +102,7 @@ fn write_address<A: Allocator>(text: &mut Text<'_, A>, address: Address) {
 }
 
 /// An address and a port.
-fn write_place<A: Allocator>(text: &mut Text<'_, A>, place: Place) {
+fn write_place<A: Allocator>(text: &mut Text<A>, place: Place) {
     write_address(text, place.address);
     text.push(":");
     number(text, u64::from(place.port));
@@ -105,7 +110,7 @@ fn write_place<A: Allocator>(text: &mut Text<'_, A>, place: Place) {
 
 /// When a segment came, in UTC, and from where to where; in one line with what it holds the time alone.
 pub fn write_segment<A: Allocator>(
-    text: &mut Text<'_, A>,
+    text: &mut Text<A>,
     is_one_line: bool,
     stamp: Option<Stamp>,
     ends: Ends,
@@ -125,7 +130,7 @@ pub fn write_segment<A: Allocator>(
 }
 
 /// The line of octets that a capture does not have, where there are some.
-pub fn write_missing<A: Allocator>(text: &mut Text<'_, A>, is_json: bool, count: u64) {
+pub fn write_missing<A: Allocator>(text: &mut Text<A>, is_json: bool, count: u64) {
     if count == 0 {
         return;
     }

@@ -2,33 +2,29 @@
 
 use crate::data_text::{write_inline, write_levels, write_veiled};
 use crate::names_text::write_name;
-use crate::words::{Text, begin, end, line, named, number, signed};
+use crate::words::{Text, begin, end, line, named, named_line, number, number_line, signed};
 use dlms_data::{Data, Selector};
 use dlms_dissect::{Content, Fault, Joined, Named, Said, Whole};
 use dlms_names::{access_result, action_result, class_of, service_error, state_error, unit_name};
 use std::alloc::Allocator;
 
-/// The line of a form with its invoke-id-and-priority.
-pub fn write_form<A: Allocator>(text: &mut Text<'_, A>, form: &str, invoke: Option<u8>) {
-    begin(text, 1);
-    text.push(form);
-    let Some(invoke) = invoke else {
-        end(text);
-        return;
-    };
+/// An invoke-id-and-priority, up to the end of its line.
+fn write_invoke<A: Allocator>(text: &mut Text<A>, invoke: u8) {
     text.push(", invoke-id ");
     number(text, u64::from(invoke % 16));
-    text.push(if invoke / 64 % 2 == 1 {
-        ", confirmed"
-    } else {
-        ", unconfirmed"
-    });
-    text.push(if invoke / 128 == 1 {
-        ", priority high"
-    } else {
-        ", priority normal"
-    });
+    text.either(invoke / 64 % 2 == 1, ", confirmed", ", unconfirmed");
+    text.either(invoke / 128 == 1, ", priority high", ", priority normal");
     end(text);
+}
+
+/// The line of a form with its invoke-id-and-priority.
+pub fn write_form<A: Allocator>(text: &mut Text<A>, form: &str, invoke: Option<u8>) {
+    begin(text, 1);
+    text.push(form);
+    match invoke {
+        Some(invoke) => write_invoke(text, invoke),
+        None => end(text),
+    }
 }
 
 /// The name of a class.
@@ -47,7 +43,7 @@ fn member_name(named_one: Named) -> Option<&'static str> {
 }
 
 /// An attribute or a method by its name and its number, and its class.
-fn write_member<A: Allocator>(text: &mut Text<'_, A>, named_one: Named) {
+fn write_member<A: Allocator>(text: &mut Text<A>, named_one: Named) {
     let Named { descriptor, method } = named_one;
     let kind = if method { "method" } else { "attribute" };
     named(text, member_name(named_one), kind, u64::from(descriptor.id));
@@ -57,7 +53,7 @@ fn write_member<A: Allocator>(text: &mut Text<'_, A>, named_one: Named) {
 }
 
 /// The line of what a service names, as `1.0.1.8.0.255 active energy import, value`, with its numbers.
-pub fn write_named<A: Allocator>(text: &mut Text<'_, A>, label: &str, named_one: Option<Named>) {
+pub fn write_named<A: Allocator>(text: &mut Text<A>, label: &str, named_one: Option<Named>) {
     let Some(named_one) = named_one else {
         return;
     };
@@ -70,7 +66,7 @@ pub fn write_named<A: Allocator>(text: &mut Text<'_, A>, label: &str, named_one:
 }
 
 /// A line of a part of a selector.
-fn write_part<A: Allocator>(text: &mut Text<'_, A>, label: &str, value: &Data<A>) {
+fn write_part<A: Allocator>(text: &mut Text<A>, label: &str, value: &Data<A>) {
     begin(text, 3);
     text.push(label);
     write_inline(text, value);
@@ -78,7 +74,7 @@ fn write_part<A: Allocator>(text: &mut Text<'_, A>, label: &str, value: &Data<A>
 }
 
 /// The lines of a selection by range: the restricting object, from, to, the selected columns.
-fn write_range<A: Allocator>(text: &mut Text<'_, A>, value: &Data<A>) {
+fn write_range<A: Allocator>(text: &mut Text<A>, value: &Data<A>) {
     line(text, 2, "selective access by range (1)");
     if let Data::Structure(items) = value
         && let [object, from, to, columns] = items.as_slice()
@@ -94,7 +90,7 @@ fn write_range<A: Allocator>(text: &mut Text<'_, A>, value: &Data<A>) {
 }
 
 /// The lines of a selection by entry: from and to an entry, from and to a column.
-fn write_entries<A: Allocator>(text: &mut Text<'_, A>, value: &Data<A>) {
+fn write_entries<A: Allocator>(text: &mut Text<A>, value: &Data<A>) {
     line(text, 2, "selective access by entry (2)");
     if let Data::Structure(items) = value
         && let [from, to, first, last] = items.as_slice()
@@ -109,7 +105,7 @@ fn write_entries<A: Allocator>(text: &mut Text<'_, A>, value: &Data<A>) {
 }
 
 /// The lines of a selector, where there is one.
-fn write_selector<A: Allocator>(text: &mut Text<'_, A>, selector: Option<&Selector<A>>) {
+fn write_selector<A: Allocator>(text: &mut Text<A>, selector: Option<&Selector<A>>) {
     let Some(selector) = selector else {
         return;
     };
@@ -117,69 +113,53 @@ fn write_selector<A: Allocator>(text: &mut Text<'_, A>, selector: Option<&Select
         1 => write_range(text, &selector.value),
         2 => write_entries(text, &selector.value),
         other => {
-            begin(text, 2);
-            text.push("selective access by selector ");
-            number(text, u64::from(other));
-            end(text);
+            let label = "selective access by selector ";
+            number_line(text, 2, label, u64::from(other), "");
             write_levels(text, 3, &selector.value);
         }
     }
 }
 
 /// The line of a block: its number, whether it is the last one, how many octets it has.
-pub fn write_block<A: Allocator>(text: &mut Text<'_, A>, last: bool, block: u32, len: usize) {
+pub fn write_block<A: Allocator>(text: &mut Text<A>, last: bool, block: u32, len: usize) {
     begin(text, 2);
     text.push("block ");
     number(text, u64::from(block));
-    if last {
-        text.push(", the last one");
-    }
-    text.push(", ");
+    text.either(last, ", the last one, ", ", ");
     number(text, len as u64);
     text.push(" octets");
     end(text);
 }
 
 /// A line of a number's name.
-pub fn write_result<A: Allocator>(
-    text: &mut Text<'_, A>,
-    label: &str,
-    name: Option<&str>,
-    code: u8,
-) {
-    begin(text, 2);
-    text.push(label);
-    named(text, name, "number", u64::from(code));
-    end(text);
+pub fn write_result<A: Allocator>(text: &mut Text<A>, label: &str, name: Option<&str>, code: u8) {
+    named_line(text, 2, label, name, "number", u64::from(code));
 }
 
 /// The line of the number of a block that was taken, or is asked for.
-pub fn write_number<A: Allocator>(text: &mut Text<'_, A>, label: &str, block: u32) {
-    begin(text, 2);
-    text.push(label);
-    number(text, u64::from(block));
-    end(text);
+pub fn write_number<A: Allocator>(text: &mut Text<A>, label: &str, block: u32) {
+    number_line(text, 2, label, u64::from(block), "");
 }
 
 /// The line of a Data-Access-Result.
-pub fn write_access<A: Allocator>(text: &mut Text<'_, A>, code: u8) {
+pub fn write_access<A: Allocator>(text: &mut Text<A>, code: u8) {
     write_result(text, "data-access-result ", access_result(code), code);
 }
 
 /// The lines of a value in blocks that ends with a result.
-fn write_end<A: Allocator>(text: &mut Text<'_, A>, label: &str, block: u32, code: u8) {
+fn write_end<A: Allocator>(text: &mut Text<A>, label: &str, block: u32, code: u8) {
     write_number(text, label, block);
     write_access(text, code);
 }
 
 /// The lines of an exception.
-pub fn write_exception<A: Allocator>(text: &mut Text<'_, A>, state: u8, service: u8) {
+pub fn write_exception<A: Allocator>(text: &mut Text<A>, state: u8, service: u8) {
     write_result(text, "state-error ", state_error(state), state);
     write_result(text, "service-error ", service_error(service), service);
 }
 
 /// The lines of what a request or a response says beside its form and what it names.
-fn write_content<A: Allocator>(text: &mut Text<'_, A>, content: &Content<'_, A>) {
+fn write_content<A: Allocator>(text: &mut Text<A>, content: &Content<'_, A>) {
     match content {
         Content::Nothing => {}
         Content::Value(value) => write_levels(text, 2, value),
@@ -213,11 +193,7 @@ fn is_scaler_unit(named_one: Option<Named>) -> bool {
 }
 
 /// The line of what a scaler and a unit say, where the value is one.
-fn write_scaler_unit<A: Allocator>(
-    text: &mut Text<'_, A>,
-    named_one: Option<Named>,
-    value: &Data<A>,
-) {
+fn write_scaler_unit<A: Allocator>(text: &mut Text<A>, named_one: Option<Named>, value: &Data<A>) {
     if let Data::Structure(items) = value
         && let [Data::Integer(scaler), Data::Enum(unit)] = items.as_slice()
         && is_scaler_unit(named_one)
@@ -233,7 +209,7 @@ fn write_scaler_unit<A: Allocator>(
 }
 
 /// The lines of a request or a response, but for what its blocks join to; `label` stands before what it names.
-pub fn write_said<A: Allocator>(text: &mut Text<'_, A>, label: &str, said: &Said<'_, A>) {
+pub fn write_said<A: Allocator>(text: &mut Text<A>, label: &str, said: &Said<'_, A>) {
     write_form(text, said.form, said.invoke);
     write_named(text, label, said.named);
     write_selector(text, said.selector);
@@ -245,7 +221,7 @@ pub fn write_said<A: Allocator>(text: &mut Text<'_, A>, label: &str, said: &Said
 }
 
 /// Why something is not read, and at which octet that stands.
-fn write_place<A: Allocator>(text: &mut Text<'_, A>, fault: Fault) {
+fn write_place<A: Allocator>(text: &mut Text<A>, fault: Fault) {
     text.push(fault.words);
     text.push(", at octet ");
     number(text, fault.octet as u64);
@@ -253,30 +229,28 @@ fn write_place<A: Allocator>(text: &mut Text<'_, A>, fault: Fault) {
 }
 
 /// The line of an APDU that is not readable.
-pub fn write_fault<A: Allocator>(text: &mut Text<'_, A>, name: Option<&str>, fault: Fault) {
+pub fn write_fault<A: Allocator>(text: &mut Text<A>, name: Option<&str>, fault: Fault) {
     begin(text, 1);
-    if let Some(name) = name {
-        text.push(name);
-        text.push(", ");
+    match name {
+        Some(name) => {
+            text.push(name);
+            text.push(", not readable: ");
+        }
+        None => text.push("not readable: "),
     }
-    text.push("not readable: ");
     write_place(text, fault);
 }
 
 /// The line of octets that are no value.
-fn write_no_value<A: Allocator>(text: &mut Text<'_, A>, fault: Fault) {
+fn write_no_value<A: Allocator>(text: &mut Text<A>, fault: Fault) {
     begin(text, 3);
     text.push("no value: ");
     write_place(text, fault);
 }
 
 /// The lines of a value that is joined of all its blocks, of so many octets.
-pub fn write_whole<A: Allocator>(text: &mut Text<'_, A>, len: usize, whole: &Whole<A>) {
-    begin(text, 2);
-    text.push("all blocks joined, ");
-    number(text, len as u64);
-    text.push(" octets");
-    end(text);
+pub fn write_whole<A: Allocator>(text: &mut Text<A>, len: usize, whole: &Whole<A>) {
+    number_line(text, 2, "all blocks joined, ", len as u64, " octets");
     match whole {
         Whole::Secret => line(text, 3, "(secret)"),
         Whole::Value(value) => write_levels(text, 3, value),
@@ -286,7 +260,7 @@ pub fn write_whole<A: Allocator>(text: &mut Text<'_, A>, len: usize, whole: &Who
 }
 
 /// What is said of a block that is not joined; of another one nothing.
-pub fn write_joined<A: Allocator>(text: &mut Text<'_, A>, joined: Joined) {
+pub fn write_joined<A: Allocator>(text: &mut Text<A>, joined: Joined) {
     match joined {
         Joined::More | Joined::Whole => {}
         Joined::NotNext => line(text, 2, "not the next block: not joined"),

@@ -26,16 +26,16 @@ const TOO_LONG: &str = "(a line of more than 65536 octets)";
 
 /// Writes text, which is let go.
 fn write_text<A: Allocator, W: Write>(
-    text: &mut String<A>,
+    text: &mut Text<A>,
     output: &mut W,
 ) -> Result<(), ExplainFault> {
-    let written = output.write_all(text.as_bytes());
+    let written = output.write_all(text.as_str().as_bytes());
     text.clear();
     written.map_err(|_| ExplainFault::Output)
 }
 
 /// How an explanation is written.
-#[derive(Clone, Copy, Debug, PartialEq, Eq)]
+#[derive(Clone, Copy)]
 pub struct Form {
     /// Strings that may be a secret are told as they are; of what is known to be one nothing is told.
     pub raw: bool,
@@ -82,7 +82,7 @@ struct Session<A: Allocator> {
     is_json: bool,
     line: Vec<u8, A>,
     is_long: bool,
-    text: String<A>,
+    text: Text<A>,
 }
 
 impl<A: Allocator + Copy> Session<A> {
@@ -93,7 +93,7 @@ impl<A: Allocator + Copy> Session<A> {
             is_json: form.json,
             line: Vec::new(alloc),
             is_long: false,
-            text: String::new(alloc),
+            text: Text::new(String::new(alloc)),
         }
     }
 
@@ -112,15 +112,14 @@ impl<A: Allocator + Copy> Session<A> {
 
     /// A line is whole: what is told of it.
     fn tell_line(&mut self) -> Result<(), AllocError> {
-        let mut text = Text::new(&mut self.text);
         if self.is_long {
-            write_note(&mut text, self.is_json, TOO_LONG);
+            write_note(&mut self.text, self.is_json, TOO_LONG);
         } else {
-            self.explainer.tell(self.line.as_slice(), &mut text);
+            self.explainer.tell(self.line.as_slice(), &mut self.text);
         }
         self.line.clear();
         self.is_long = false;
-        text.end()
+        self.text.granted()
     }
 
     /// Takes octets of the input, and appends what is told of the lines that are whole then.
@@ -145,7 +144,8 @@ impl<A: Allocator + Copy> Session<A> {
         if self.is_long || !self.line.is_empty() {
             self.tell_line()?;
         }
-        self.explainer.end(&mut self.text)
+        self.explainer.close(&mut self.text);
+        self.text.granted()
     }
 }
 
@@ -190,7 +190,7 @@ fn explain_capture<A: Allocator + Copy, R: Read, W: Write>(
     output: &mut W,
 ) -> Result<(), ExplainFault> {
     let mut captured = Captured::new(alloc, form);
-    let mut text = String::new(alloc);
+    let mut text = Text::new(String::new(alloc));
     captured.feed(front, &mut text)?;
     let mut room = [0u8; ROOM];
     for _ in 0..u64::MAX {

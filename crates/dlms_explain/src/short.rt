@@ -22,7 +22,7 @@ pub struct View<A: Allocator> {
     /// The time of the octets that come, as their log or capture has it.
     pub stamp: String<A>,
     /// What is told of a frame in full.
-    pub full: String<A>,
+    pub full: Text<A>,
 }
 
 impl<A: Allocator + Copy> View<A> {
@@ -33,12 +33,12 @@ impl<A: Allocator + Copy> View<A> {
         View {
             form,
             stamp: String::new(alloc),
-            full: String::new(alloc),
+            full: Text::new(String::new(alloc)),
         }
     }
 
     /// The time of the octets that come is this.
-    pub fn stamp_with(&mut self, words: &str, text: &mut Text<'_, A>) {
+    pub fn stamp_with(&mut self, words: &str, text: &mut Text<A>) {
         self.stamp.clear();
         if self.stamp.push_str(words).is_err() {
             text.refuse();
@@ -47,7 +47,7 @@ impl<A: Allocator + Copy> View<A> {
 }
 
 /// Blanks up to the end of a column of this width that began at this place, one at least.
-fn fill<A: Allocator>(text: &mut Text<'_, A>, from: usize, width: usize) {
+fn fill<A: Allocator>(text: &mut Text<A>, from: usize, width: usize) {
     let len = text.len().saturating_sub(from);
     for _ in 0..width.saturating_sub(len) {
         text.push(" ");
@@ -56,7 +56,7 @@ fn fill<A: Allocator>(text: &mut Text<'_, A>, from: usize, width: usize) {
 }
 
 /// An address by its numbers, as `1,17`.
-fn write_address<A: Allocator>(text: &mut Text<'_, A>, address: Address) {
+fn write_address<A: Allocator>(text: &mut Text<A>, address: Address) {
     number(text, u64::from(upper(address)));
     if let Some(lower) = lower(address) {
         text.push(",");
@@ -65,7 +65,7 @@ fn write_address<A: Allocator>(text: &mut Text<'_, A>, address: Address) {
 }
 
 /// The column of the two ends, the client's first: `16 > 1` is to the meter, `16 < 1` from it.
-fn write_ends<A: Allocator>(text: &mut Text<'_, A>, side: Option<Side>, heading: Heading) {
+fn write_ends<A: Allocator>(text: &mut Text<A>, side: Option<Side>, heading: Heading) {
     let from = text.len();
     let (client, sign, meter) = match side {
         Some(Side::Client) => (heading.src, " > ", heading.dest),
@@ -79,7 +79,7 @@ fn write_ends<A: Allocator>(text: &mut Text<'_, A>, side: Option<Side>, heading:
 }
 
 /// The name of a control field, with the number that a ready end awaits.
-fn write_control<A: Allocator>(text: &mut Text<'_, A>, control: Control) {
+fn write_control<A: Allocator>(text: &mut Text<A>, control: Control) {
     text.push(name_of(control));
     match control {
         Control::Ready { receive } | Control::NotReady { receive } => {
@@ -104,7 +104,7 @@ pub fn service(line: &str) -> &str {
 }
 
 /// The time of what is told in one line.
-fn write_front<A: Allocator>(text: &mut Text<'_, A>, view: &View<A>) {
+fn write_front<A: Allocator>(text: &mut Text<A>, view: &View<A>) {
     if view.stamp.is_empty() {
         return;
     }
@@ -118,7 +118,7 @@ fn is_left_out(line: &str) -> bool {
 }
 
 /// The service and what stands below it in full, but for the parts of a value.
-fn write_rest<A: Allocator>(text: &mut Text<'_, A>, view: &View<A>) {
+fn write_rest<A: Allocator>(text: &mut Text<A>, view: &View<A>) {
     let from = text.len();
     let mut count: u64 = 0;
     for line in view.full.as_str().lines() {
@@ -149,13 +149,13 @@ pub struct Beside<'a> {
 }
 
 /// The octets beside, where there are some.
-pub fn write_beside<A: Allocator>(text: &mut Text<'_, A>, beside: Beside<'_>) {
+pub fn write_beside<A: Allocator>(text: &mut Text<A>, beside: Beside<'_>) {
     if beside.octets.is_empty() {
         return;
     }
     text.push(" | ");
     octets(text, beside.octets);
-    text.push(if beside.is_whole { "" } else { " .." });
+    text.push_if(!beside.is_whole, " ..");
 }
 
 /// Whether a frame with this control field holds what is told below it.
@@ -165,7 +165,7 @@ pub fn has_service(control: Control) -> bool {
 
 /// The line of a frame: the time, the ends, and the service with what stands below it in full, or the control field.
 fn write_short<A: Allocator>(
-    text: &mut Text<'_, A>,
+    text: &mut Text<A>,
     view: &View<A>,
     side: Option<Side>,
     heading: Heading,
@@ -185,7 +185,7 @@ fn write_short<A: Allocator>(
 
 /// What is told of a frame, put together as the form asks for it.
 pub fn write_view<A: Allocator>(
-    text: &mut Text<'_, A>,
+    text: &mut Text<A>,
     view: &View<A>,
     side: Option<Side>,
     heading: Heading,
@@ -207,7 +207,7 @@ pub fn write_view<A: Allocator>(
 
 /// The line of an APDU in the wrapper: the time, the client's port and the meter's, and the service.
 pub fn write_wrapped<A: Allocator>(
-    text: &mut Text<'_, A>,
+    text: &mut Text<A>,
     view: &View<A>,
     side: Side,
     ports: (u16, u16),
@@ -220,7 +220,7 @@ pub fn write_wrapped<A: Allocator>(
     write_front(text, view);
     let from = text.len();
     number(text, u64::from(ports.0));
-    text.push(if side == Side::Client { " > " } else { " < " });
+    text.either(side == Side::Client, " > ", " < ");
     number(text, u64::from(ports.1));
     fill(text, from, ENDS);
     write_rest(text, view);

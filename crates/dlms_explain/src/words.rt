@@ -4,6 +4,7 @@ ghost use Rattle.std.specs.Prelude.{◌≡◌, true, false, IsErr, OnOk};
 
 use itoa::Buffer;
 use std::alloc::{AllocError, Allocator};
+use std::mem;
 
 /// The digits of hexadecimal numbers.
 const DIGITS: [&str; 16] = [
@@ -12,14 +13,14 @@ const DIGITS: [&str; 16] = [
 
 /// A text that is put together. Once a growth was refused it takes no more words, and says so at its end.
 #[derive(Drop)]
-pub struct Text<'a, A: Allocator> {
-    words: &'a mut String<A>,
+pub struct Text<A: Allocator> {
+    words: String<A>,
     is_refused: bool,
 }
 
-impl<'a, A: Allocator> Text<'a, A> {
+impl<A: Allocator> Text<A> {
     /// What comes is appended to these words.
-    pub fn new(words: &'a mut String<A>) -> Text<'a, A>
+    pub fn new(words: String<A>) -> Text<A>
         ensures { result.is_refused ≡ false }
     {
         Text {
@@ -46,9 +47,38 @@ impl<'a, A: Allocator> Text<'a, A> {
         }
     }
 
+    /// Appends words where this is so.
+    pub fn push_if(&mut self, is_so: bool, words: &str) {
+        if is_so {
+            self.push(words);
+        }
+    }
+
+    /// Appends the first words where this is so, else the others.
+    pub fn either(&mut self, is_so: bool, words: &str, others: &str) {
+        if is_so {
+            self.push(words);
+        } else {
+            self.push(others);
+        }
+    }
+
     /// How many octets stand in it.
     pub fn len(&self) -> usize {
         self.words.len()
+    }
+
+    /// Its words.
+    pub fn as_str(&self) -> &str {
+        self.words.as_str()
+    }
+
+    /// Its words are let go, and another text begins.
+    pub fn clear(&mut self)
+        ensures { self.new.is_refused ≡ false }
+    {
+        self.words.clear();
+        self.is_refused = false;
     }
 
     /// A growth of something else was refused.
@@ -59,9 +89,9 @@ impl<'a, A: Allocator> Text<'a, A> {
     }
 
     /// Whether each growth was granted.
-    pub fn end(self) -> Result<(), AllocError>
-        ensures granted { OnOk result (self.entry.is_refused ≡ false) }
-        ensures refused { IsErr result → self.entry.is_refused ≡ true }
+    pub fn granted(&self) -> Result<(), AllocError>
+        ensures granted { OnOk result (self.now.is_refused ≡ false) }
+        ensures refused { IsErr result → self.now.is_refused ≡ true }
     {
         if self.is_refused {
             Err(AllocError)
@@ -71,39 +101,74 @@ impl<'a, A: Allocator> Text<'a, A> {
     }
 }
 
+impl<A: Allocator + Copy> Text<A> {
+    /// What comes is appended to these words, which are taken out up to its end.
+    pub fn behind(words: &mut String<A>) -> Text<A>
+        ensures { result.is_refused ≡ false }
+    {
+        let none = String::new(*words.allocator());
+        Text::new(mem::replace(words, none))
+    }
+
+    /// The words are put back; whether each growth was granted.
+    pub fn end(self, words: &mut String<A>) -> Result<(), AllocError>
+        ensures granted { OnOk result (self.is_refused ≡ false) }
+        ensures refused { IsErr result → self.is_refused ≡ true }
+    {
+        let granted = self.granted();
+        *words = self.words;
+        granted
+    }
+}
+
 /// Begins a line, two blanks deeper for each level.
-pub fn begin<A: Allocator>(text: &mut Text<'_, A>, depth: u8) {
+pub fn begin<A: Allocator>(text: &mut Text<A>, depth: u8) {
     for _ in 0..depth {
         text.push("  ");
     }
 }
 
 /// Ends a line.
-pub fn end<A: Allocator>(text: &mut Text<'_, A>) {
+pub fn end<A: Allocator>(text: &mut Text<A>) {
     text.push("\n");
 }
 
 /// A line of these words.
-pub fn line<A: Allocator>(text: &mut Text<'_, A>, depth: u8, words: &str) {
+pub fn line<A: Allocator>(text: &mut Text<A>, depth: u8, words: &str) {
     begin(text, depth);
     text.push(words);
     end(text);
 }
 
 /// A number in decimal digits.
-pub fn number<A: Allocator>(text: &mut Text<'_, A>, value: u64) {
+pub fn number<A: Allocator>(text: &mut Text<A>, value: u64) {
     let mut digits = Buffer::new();
     text.push(digits.format(value));
 }
 
+/// A line of a label, a number, and what stands behind it.
+pub fn number_line<A: Allocator>(
+    text: &mut Text<A>,
+    depth: u8,
+    label: &str,
+    value: u64,
+    behind: &str,
+) {
+    begin(text, depth);
+    text.push(label);
+    number(text, value);
+    text.push(behind);
+    end(text);
+}
+
 /// A number with its sign, where it is below 0.
-pub fn signed<A: Allocator>(text: &mut Text<'_, A>, value: i64) {
+pub fn signed<A: Allocator>(text: &mut Text<A>, value: i64) {
     let mut digits = Buffer::new();
     text.push(digits.format(value));
 }
 
 /// A number of two decimal digits, or more where it has them.
-pub fn two_digits<A: Allocator>(text: &mut Text<'_, A>, value: u8) {
+pub fn two_digits<A: Allocator>(text: &mut Text<A>, value: u8) {
     if value < 10 {
         text.push("0");
     }
@@ -111,25 +176,33 @@ pub fn two_digits<A: Allocator>(text: &mut Text<'_, A>, value: u8) {
 }
 
 /// A hexadecimal digit; of a greater number its last one.
-pub fn hexadecimal<A: Allocator>(text: &mut Text<'_, A>, value: u8) {
+pub fn hexadecimal<A: Allocator>(text: &mut Text<A>, value: u8) {
     text.push(DIGITS[usize::from(value % 16)]);
 }
 
 /// An octet in two hexadecimal digits.
-pub fn octet<A: Allocator>(text: &mut Text<'_, A>, value: u8) {
+pub fn octet<A: Allocator>(text: &mut Text<A>, value: u8) {
     hexadecimal(text, value / 16);
     hexadecimal(text, value);
 }
 
 /// Octets in hexadecimal digits.
-pub fn octets<A: Allocator>(text: &mut Text<'_, A>, values: &[u8]) {
+pub fn octets<A: Allocator>(text: &mut Text<A>, values: &[u8]) {
     for value in values {
         octet(text, *value);
     }
 }
 
+/// A line of a label and octets.
+pub fn octets_line<A: Allocator>(text: &mut Text<A>, depth: u8, label: &str, values: &[u8]) {
+    begin(text, depth);
+    text.push(label);
+    octets(text, values);
+    end(text);
+}
+
 /// A name and its number, as `object-undefined (4)`; a number that has no name stands with a word for what it is.
-pub fn named<A: Allocator>(text: &mut Text<'_, A>, name: Option<&str>, kind: &str, value: u64) {
+pub fn named<A: Allocator>(text: &mut Text<A>, name: Option<&str>, kind: &str, value: u64) {
     match name {
         Some(name) => {
             text.push(name);
@@ -143,4 +216,19 @@ pub fn named<A: Allocator>(text: &mut Text<'_, A>, name: Option<&str>, kind: &st
             number(text, value);
         }
     }
+}
+
+/// A line of a label, and of a name and its number.
+pub fn named_line<A: Allocator>(
+    text: &mut Text<A>,
+    depth: u8,
+    label: &str,
+    name: Option<&str>,
+    kind: &str,
+    value: u64,
+) {
+    begin(text, depth);
+    text.push(label);
+    named(text, name, kind, value);
+    end(text);
 }

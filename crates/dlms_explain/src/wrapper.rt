@@ -53,11 +53,9 @@ fn head_of(octets: &[u8]) -> Option<Head> {
 }
 
 /// The words of a head, without the end of their line.
-fn write_head<A: Allocator>(text: &mut Text<'_, A>, side: Side, head: Head) {
-    text.push(match side {
-        Side::Client => "> wrapper port ",
-        Side::Meter => "< wrapper port ",
-    });
+fn write_head<A: Allocator>(text: &mut Text<A>, side: Side, head: Head) {
+    let is_client = side == Side::Client;
+    text.either(is_client, "> wrapper port ", "< wrapper port ");
     number(text, u64::from(head.from));
     text.push(" to ");
     number(text, u64::from(head.to));
@@ -101,7 +99,7 @@ impl<A: Allocator + Copy> Wrapped<A> {
     }
 
     /// When octets came: a line, or in front of each APDU's.
-    pub fn stamp(&mut self, words: &str, text: &mut Text<'_, A>) {
+    pub fn stamp(&mut self, words: &str, text: &mut Text<A>) {
         if self.view.form.is_one_line() {
             self.view.stamp_with(words, text);
         } else {
@@ -110,14 +108,20 @@ impl<A: Allocator + Copy> Wrapped<A> {
     }
 
     /// What is told of an APDU, behind its head, put together as the form asks for it.
-    fn tell_view(&mut self, side: Side, head: Head, whole: &[u8], text: &mut Text<'_, A>) {
+    fn tell_view(&mut self, side: Side, head: Head, whole: &[u8], text: &mut Text<A>) {
         let apdu = whole.get(HEAD..).unwrap_or(&[]);
         let hex = self.view.form.hex;
         self.view.full.clear();
-        let mut full = Text::new(&mut self.view.full);
         let said = Some(side);
-        let shown = explain_apdu(&mut full, self.alloc, hex, said, &mut self.services, apdu);
-        if full.end().is_err() {
+        let shown = explain_apdu(
+            &mut self.view.full,
+            self.alloc,
+            hex,
+            said,
+            &mut self.services,
+            apdu,
+        );
+        if self.view.full.granted().is_err() {
             text.refuse();
         }
         let beside = Beside {
@@ -139,7 +143,7 @@ impl<A: Allocator + Copy> Wrapped<A> {
     }
 
     /// What is told of an APDU, which stands behind its head.
-    fn tell(&mut self, side: Side, head: Head, whole: &[u8], text: &mut Text<'_, A>) {
+    fn tell(&mut self, side: Side, head: Head, whole: &[u8], text: &mut Text<A>) {
         self.follow(side, head);
         if self.view.form.is_at_once() {
             let apdu = whole.get(HEAD..).unwrap_or(&[]);
@@ -156,7 +160,7 @@ impl<A: Allocator + Copy> Wrapped<A> {
     }
 
     /// The octets that one end has sent, with those of before, and how many of them are told.
-    fn tell_all(&mut self, side: Side, octets: &[u8], text: &mut Text<'_, A>) -> usize {
+    fn tell_all(&mut self, side: Side, octets: &[u8], text: &mut Text<A>) -> usize {
         let mut rest = octets;
         for _ in 0..octets.len() {
             let Some(head) = head_of(rest) else {
@@ -177,7 +181,7 @@ impl<A: Allocator + Copy> Wrapped<A> {
     }
 
     /// Takes octets of one end, and appends what is told of the APDUs that are whole then.
-    pub fn octets(&mut self, side: Side, octets: &[u8], text: &mut Text<'_, A>) {
+    pub fn octets(&mut self, side: Side, octets: &[u8], text: &mut Text<A>) {
         let mut kept = Vec::new(self.alloc);
         match side {
             Side::Client => std::mem::swap(&mut kept, &mut self.client),
@@ -198,7 +202,7 @@ impl<A: Allocator + Copy> Wrapped<A> {
     }
 
     /// No more octets come.
-    pub fn end(&mut self, text: &mut Text<'_, A>) {
+    pub fn end(&mut self, text: &mut Text<A>) {
         if !self.client.is_empty() || !self.meter.is_empty() {
             write_note(text, self.view.form.json, NOT_WHOLE);
         }
