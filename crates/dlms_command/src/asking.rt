@@ -211,7 +211,7 @@ pub fn ask<'a, H: Net + Files<File = File> + Clock + AllocGlobal, W: Write, E: W
         size: SIZE,
     };
     let line = line_to(host, asking.place)?;
-    let mut line = Spoken::new(host.alloc(), line, asking.verbose, errors);
+    let mut line = Spoken::new(host.alloc(), line, asking.verbose, errors)?;
     let talked = talked(host.alloc(), asking.place, plan, &mut line, errand, output);
     match (talked, line.stream.failure()) {
         (Err(Fault::Call(_, CallFault::Io)), Some(error)) => {

@@ -11,7 +11,7 @@ use std::io::{ErrorKind, Read, Write};
 pub struct Spoken<'e, S: Drop, E> {
     pub stream: S,
     alloc: Global,
-    explainer: Option<Explainer<Global>>,
+    explainer: Option<Box<Explainer<Global>>>,
     errors: &'e mut E,
 }
 
@@ -22,20 +22,31 @@ fn transcript(alloc: Global, side: &[u8], bytes: &[u8]) -> Result<Vec<u8>, Alloc
     Ok(line)
 }
 
+/// What explains the bytes.
+#[inline(never)]
+fn explainer(alloc: Global) -> Result<Box<Explainer<Global>>, AllocError> {
+    Ok(Box::new(alloc, Explainer::new(alloc, Form::full()))?)
+}
+
 impl<'e, S: Drop, E: Write> Spoken<'e, S, E> {
     /// A stream, explained among the errors where `is_told` is set.
-    pub fn new(alloc: Global, stream: S, is_told: bool, errors: &'e mut E) -> Self {
+    pub fn new(
+        alloc: Global,
+        stream: S,
+        is_told: bool,
+        errors: &'e mut E,
+    ) -> Result<Self, AllocError> {
         let explainer = if is_told {
-            Some(Explainer::new(alloc, Form::full()))
+            Some(explainer(alloc)?)
         } else {
             None
         };
-        Spoken {
+        Ok(Spoken {
             stream,
             alloc,
             explainer,
             errors,
-        }
+        })
     }
 
     /// Explains bytes of this side.
