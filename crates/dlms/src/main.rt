@@ -39,7 +39,7 @@ fn status_of(rt: &HostRuntime) -> io::Result<u8> {
     run(
         rt,
         words.as_slice(),
-        &mut rt.reader(),
+        &mut rt.stdin(),
         &mut io::writer(rt),
         &mut errors,
     )
