@@ -32,7 +32,7 @@ use whole::{suffices, suffices_with_pages};
 /// The heaps on which the whole meter is run: without its pages, and with them.
 const HEAP: usize = 131_072;
 
-const HEAP_WITH_PAGES: usize = 196_608;
+const HEAP_WITH_PAGES: usize = 229_376;
 
 /// What is sent in the place of each frame of a talk.
 fn run_talk<R: Print + AllocGlobal>(rt: &R, who: &str, talk: &[Step]) -> Result<u32> {
