@@ -6,7 +6,7 @@ use crate::fault::RowFault;
 use crate::hexadecimal::put_hex;
 use crate::state::StateBench;
 use crate::words::{NUMBERS_END, Words, client_of};
-use dlms_classes::{AccessResult, get, plan_action, plan_set};
+use dlms_classes::{AccessResult, get, get_encoded, plan_action, plan_set};
 use dlms_data::{Data, Descriptor, Selector, fits, read, write};
 use dlms_frame::Client;
 use dlms_state::{Event, State};
@@ -67,14 +67,41 @@ fn put_value<'h>(
     put_hex(answer, write(heap, value)?.as_slice())
 }
 
-/// What GET gives, with memory from the heap.
-fn put_got<'h>(
-    room: Room<'h>,
+/// How a value that GET gives is taken.
+#[derive(Clone, Copy)]
+enum Taken {
+    /// As a value, which is then written.
+    Value,
+    /// As it is sent.
+    Encoded,
+}
+
+/// What GET sends, with memory from the heap.
+fn put_sent<'h>(
+    heap: &'h LocalHeap,
     state: &State<&'h LocalHeap>,
     asked: Asked,
     selector: Option<&Selector<&'h LocalHeap>>,
     answer: &mut String,
 ) -> Result<(), RowFault> {
+    match get_encoded(heap, state, asked.client, asked.descriptor, selector) {
+        Ok(encoding) => put_hex(answer, encoding.as_slice()),
+        Err(result) => put_result(answer, result),
+    }
+}
+
+/// What GET gives, with memory from the heap.
+fn put_got<'h>(
+    room: Room<'h>,
+    state: &State<&'h LocalHeap>,
+    taken: Taken,
+    asked: Asked,
+    selector: Option<&Selector<&'h LocalHeap>>,
+    answer: &mut String,
+) -> Result<(), RowFault> {
+    if let Taken::Encoded = taken {
+        return put_sent(room.heap, state, asked, selector, answer);
+    }
     match get(room.heap, state, asked.client, asked.descriptor, selector) {
         Ok(value) => put_value(room.ample, &value, answer),
         Err(result) => put_result(answer, result),
@@ -85,18 +112,19 @@ fn put_got<'h>(
 fn put_get<'h>(
     room: Room<'h>,
     state: &State<&'h LocalHeap>,
+    taken: Taken,
     words: &mut Words<'_>,
     answer: &mut String,
 ) -> Result<(), RowFault> {
     let asked = asked_of(words)?;
     if words.is_empty() {
-        return put_got(room, state, asked, None, answer);
+        return put_got(room, state, taken, asked, None, answer);
     }
     let selector = Selector {
         number: words.byte()?,
         value: value_of(room.ample, &words.bytes()?)?,
     };
-    put_got(room, state, asked, Some(&selector), answer)
+    put_got(room, state, taken, asked, Some(&selector), answer)
 }
 
 /// Whether SET of a value plans an event: 0, or the result.
@@ -191,7 +219,8 @@ impl Bench for ClassesBench<'_> {
         let room = self.room;
         let call = words.word()?;
         match call {
-            "get" => put_get(room, self.state.state()?, words, answer),
+            "get" => put_get(room, self.state.state()?, Taken::Value, words, answer),
+            "sent" => put_get(room, self.state.state()?, Taken::Encoded, words, answer),
             "set" => put_set(room, self.state.state_mut()?, words, answer),
             "plan-set" => put_plan(room, words, answer),
             "action" => put_action(room, words, answer),
