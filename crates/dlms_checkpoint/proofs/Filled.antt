@@ -10,10 +10,10 @@ use Rattle.dlms_profile.specs.Rows.{RowsValue, IsRow, first_number, none_before}
 use Rattle.dlms_profile.specs.Rows as profile
 use Rattle.dlms_state.specs.Columns.{IsRowOf, fits_columns}
 use Rattle.dlms_state.specs.StateValue.{StateValue, IsWithinLimits, FitsTypes}
-use Rattle.dlms_checkpoint.specs.Bodies.{columns_said, first_said, next_said, whole_length, awaited}
+use Rattle.dlms_checkpoint.specs.Bodies.{columns_said, first_said, whole_length, awaited}
 use Rattle.dlms_checkpoint.specs.Checkpoint.{head_bytes, first_written, next_written, row_bytes, row_numbered, HoldsRows}
 use Rattle.dlms_checkpoint.specs.Layouts.{IsCheckpointOf}
-use Rattle.dlms_checkpoint.specs.Reading.{HasHead, parts_at, values_at, row_at, rows_at, Filled, IsFilling, IsFilledBy, RowsFit, first_page, open_page, awaited_page, page_length, page_taken}
+use Rattle.dlms_checkpoint.specs.Reading.{HasHead, values_at, row_at, rows_at, Filled, IsFilling, IsFilledBy, RowsFit, first_page, open_page, awaited_page, page_length, page_taken}
 use Rattle.dlms_checkpoint.specs.declared.version.Version.TheVariants.{Columns}
 use Rattle.dlms_checkpoint.proofs.Bodies.{lengths}
 use Rattle.dlms_checkpoint.proofs.Rows.{AreOctets, row_count, row_further, row_in_front, row_in_back, get-rows_at, length-rows_at, all_rows, octets_behind, is_row, placed, one_row}
@@ -117,17 +117,17 @@ some_columns [] e = absurd (cc e)
 some_columns (id ∷ ids) e = omega arith
 
 -- the numbers that bodies of a state say, and how long everything is
-record Said (s : StateValue) (filled : Filled) (behind : List ℕ) : Type 0 where
-  order : first_number s.rows ≤ s.rows.next
-  few : s.rows.next ≤ first_number s.rows + 960
-  first : first_page filled.bytes ≡ first_number s.rows / 30
-  last : open_page filled.bytes ≡ s.rows.next / 30
-  columns : columns_said filled.bytes ≡ s.columns
-  long : length behind ≡ 4 * length s.columns * (s.rows.next % 30)
-  some : 0 < length s.columns
-  most : length s.columns ≤ 4
+pub record Said (s : StateValue) (filled : Filled) (behind : List ℕ) : Type 0 where
+  pub order : first_number s.rows ≤ s.rows.next
+  pub few : s.rows.next ≤ first_number s.rows + 960
+  pub first : first_page filled.bytes ≡ first_number s.rows / 30
+  pub last : open_page filled.bytes ≡ s.rows.next / 30
+  pub columns : columns_said filled.bytes ≡ s.columns
+  pub long : length behind ≡ 4 * length s.columns * (s.rows.next % 30)
+  pub some : 0 < length s.columns
+  pub most : length s.columns ≤ 4
 
-said : (s : StateValue) (filled : Filled) (behind : List ℕ) → IsCheckpointOf Columns s filled.bytes → behind ≡ drop 324 filled.bytes → Said s filled behind
+pub said : (s : StateValue) (filled : Filled) (behind : List ℕ) → IsCheckpointOf Columns s filled.bytes → behind ≡ drop 324 filled.bytes → Said s filled behind
 said s filled behind is is_behind =
     let of = lengths s filled.bytes is in
     record {
@@ -329,7 +329,7 @@ one_state filled s t is also =
 
 -- ---- one page more
 
-more_pages : (page long : ℕ) → 0 < page → long % page ≡ 0 → ((long + page) % page ≡ 0) × (long ≡ page * (long / page))
+pub more_pages : (page long : ℕ) → 0 < page → long % page ≡ 0 → ((long + page) % page ≡ 0) × (long ≡ page * (long / page))
 more_pages page long some whole =
     let k = long / page in
     let is : long ≡ page * k = omega (arith, whole) in
@@ -349,18 +349,6 @@ columns_few filled is =
     let it = is.bodies.spelled.1 in
     let few = it.legal.fits.columns.count in
     omega (arith, few, ap length (lengths s filled.bytes it).head.columns_are)
-
--- no more pages are named than the buffer has room for
-pub page_room : (filled : Filled) (places : List ℕ) → IsFilling filled → awaited_page filled < open_page filled.bytes → length places ≡ page_length (columns_said filled.bytes) → length filled.ring + length places ≤ 15360
-page_room filled places is awaited long =
-    let page = 4 * length (columns_said filled.bytes) * 30 in
-    let some = columns_some filled is in
-    let few = columns_few filled is in
-    let turns = length filled.ring / page in
-    let more = more_pages page (length filled.ring) (omega (arith, some)) is.pages in
-    let head = is.bodies.head in
-    let room : turns + 1 ≤ 32 = omega (arith, awaited, head.few, head.order) in
-    omega (arith, long, more.1, mul-le-mul_left page room, few)
 
 pub all_there : (bytes : List ℕ) → HasHead bytes → awaited bytes ≡ 0 → length bytes ≡ whole_length bytes
 all_there bytes has none = omega (arith, has.within, none)
@@ -414,56 +402,6 @@ one_page_more filled places is awaited long fit =
     further w i k j ring more all is_ring is_all is_i within =
         let same : 4 * w * (i + 1) ≡ 4 * w * ((k + j) + 1) = ap (λ (x : ℕ). 4 * w * (x + 1)) is_i in
         omega (arith, is_ring, is_all, within, same)
-
--- ---- all of it read
-
--- what is known where all pages were taken: the state of the bodies, with the rows that are read
-pub record Finished (filled : Filled) (head ring behind : List ℕ) (a n : ℕ) : Type 0 where
-  pub state : StateValue
-  pub first_is : a ≡ first_number state.rows
-  pub next_is : n ≡ state.rows.next
-  pub parts : (k : ℕ) → parts_at head k ≡ record state { rows = none_before k }
-  pub order : a ≤ n
-  pub few : n ≤ a + 960
-  pub ring_whole : length ring % (4 * length state.columns) ≡ 0
-  pub reach : 4 * length state.columns * (a % 30 + (n - a)) ≤ length ring + length behind
-  pub spells : IsFilledBy (read_state state ring behind) filled
-  pub rows : All (IsRowOf state.columns) (read_rows (length state.columns) a n ring behind)
-
-reached : (w a n pages ring behind : ℕ) → a ≤ n → n / 30 ≡ a / 30 + pages → ring ≡ 4 * w * (30 * pages) → behind ≡ 4 * w * (n % 30) → 4 * w * (a % 30 + (n - a)) ≤ ring + behind
-reached w a n pages ring behind order seam is_ring is_behind =
-    let places : a % 30 + (n - a) ≡ 30 * pages + n % 30 = omega (arith, order, seam) in
-    omega (arith, is_ring, is_behind, ap (λ (x : ℕ). 4 * w * x) places)
-
-pub finished : (filled : Filled) (head ring behind : List ℕ) (a n : ℕ) → IsFilling filled → open_page filled.bytes ≤ awaited_page filled → head ≡ take 324 filled.bytes → ring ≡ filled.ring → behind ≡ drop 324 filled.bytes
-    → a ≡ first_said head → n ≡ next_said head → AreOctets ring → AreOctets behind → Finished filled head ring behind a n
-finished filled head ring behind a n filling all is_head is_ring is_behind is_a is_n ring_octets behind_octets =
-    let s = filling.bodies.spelled.0 in
-    let is = filling.bodies.spelled.1 in
-    let w = length s.columns in
-    let it = known s filled.bytes head behind is is_head is_behind in
-    let of = said s filled behind is is_behind in
-    let a_is : a ≡ first_number s.rows = is_a ∙ it.head_is.first_is in
-    let n_is : n ≡ s.rows.next = is_n ∙ it.head_is.next_is in
-    let octets = subst AreOctets is_ring ring_octets in
-    let long = ring_long s filled behind is is_behind filling all octets behind_octets in
-    let edge = seam s filled behind is is_behind filling all octets behind_octets in
-    let pages = s.rows.next / 30 - first_number s.rows / 30 in
-    record {
-      state = s;
-      first_is = a_is;
-      next_is = n_is;
-      parts = it.head_is.parts;
-      order = omega (arith, a_is, n_is, of.order);
-      few = omega (arith, a_is, n_is, of.few);
-      ring_whole = ap (λ (l : List ℕ). length l % (4 * w)) is_ring ∙ ap (λ (x : ℕ). x % (4 * w)) long ∙ mul-mod_right (4 * w) (30 * pages);
-      reach = reached w a n pages (length ring) (length behind) (omega (arith, a_is, n_is, of.order)) (omega (arith, a_is, n_is, edge)) (ap length is_ring ∙ long)
-          (of.long ∙ ap (λ (k : ℕ). 4 * w * (k % 30)) (sym n_is));
-      spells = subst (λ (r : List ℕ). IsFilledBy (read_state s r behind) filled) (sym is_ring) (is_filled s filled behind is is_behind filling all octets behind_octets);
-      rows = subst (λ (r : List ℕ). All (IsRowOf s.columns) (read_rows w a n r behind)) (sym is_ring)
-          (subst (λ (k : ℕ). All (IsRowOf s.columns) (read_rows w k n filled.ring behind)) (sym a_is)
-          (subst (λ (k : ℕ). All (IsRowOf s.columns) (read_rows w (first_number s.rows) k filled.ring behind)) (sym n_is) (all_fit s filled behind is is_behind filling all octets behind_octets)));
-    }
 
 -- ---- the state of bodies alone, with rows of zeros in the ring pages
 

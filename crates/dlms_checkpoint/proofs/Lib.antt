@@ -5,5 +5,6 @@ pub mod Joins
 pub mod Lists
 pub mod Places
 pub mod Presents
+pub mod Refilled
 pub mod Rows
 pub mod Whole

@@ -205,7 +205,7 @@ values_of_front (suc n) front back long =
     two_are _ _ _ _ first
     (ap (values_at n) (drop-append-le 4 front back (omega (arith, long))) ∙ values_of_front n (drop 4 front) back (omega (arith, long, length-drop 4 front)))
 
-row_of_front : (width : ℕ) (front back : List ℕ) → 4 * width ≤ length front → row_at width 0 (front ++ back) ≡ row_at width 0 front
+pub row_of_front : (width : ℕ) (front back : List ℕ) → 4 * width ≤ length front → row_at width 0 (front ++ back) ≡ row_at width 0 front
 unfolding row_at
 row_of_front width front back long = row_is _ _ (values_of_front width front back long)
 

@@ -1,6 +1,5 @@
--- Reading a checkpoint, by the places of its parts in the present layout. No public clause speaks of `parts_at`, `row_at` and
--- `rows_at`.
-use Rattle.std.specs.Prelude.{◌≡◌, ℕ, zero, suc, ◌+◌, ◌-◌, ◌*◌, ◌/◌, ◌%◌, ◌<◌, ◌≤◌, List, [], ◌∷◌, length, take, drop, slice_range}
+-- Reading a checkpoint, by the places of its parts in the present layout.
+use Rattle.std.specs.Prelude.{◌≡◌, ℕ, zero, suc, ◌+◌, ◌-◌, ◌*◌, ◌/◌, ◌%◌, ◌<◌, ◌≤◌, ◌^◌, All, IfSome, List, [], ◌∷◌, ◌++◌, Option, None, Some, length, take, drop, slice_range}
 use Rattle.std.specs.Int.{cast_signed, w64}
 use Rattle.byteorder.specs.Endian.{big_from}
 use Rattle.dlms_profile.specs.declared.rows.Row.{Row}
@@ -116,3 +115,58 @@ pub record IsFilling (filled : Filled) : Type 0 where
   pub pages : length filled.ring % page_length (columns_said filled.bytes) ≡ 0
   pub few : length filled.ring ≤ page_length (columns_said filled.bytes) * (open_page filled.bytes - first_page filled.bytes)
   pub rows : RowsFit (columns_said filled.bytes) (first_said filled.bytes) (RING_ROWS * first_page filled.bytes) filled.ring
+
+-- ---- the state, row by row
+
+-- What was restored of bodies in the present layout and of the ring pages that they name: the page that is taken next, and the state,
+-- where memory was given for its rows.
+pub record Refilled : Type 0 where
+  pub bytes : List ℕ
+  pub page : ℕ
+  pub state : Option StateValue
+
+-- how many rows stand in the ring pages before this one
+abbrev pub rows_before : List ℕ → (page : ℕ) → ℕ
+rows_before bytes page = RING_ROWS * page - first_said bytes
+
+-- the state that a head says, with the first so many rows of places that begin with those of the first ring page
+abbrev pub state_with : List ℕ → (count : ℕ) → (places : List ℕ) → StateValue
+state_with bytes count places = record (parts_at bytes 0) {
+  rows = record {
+    items = rows_at (length (columns_said bytes)) count (drop (row_width (columns_said bytes) * (first_said bytes % RING_ROWS)) places);
+    next = first_said bytes + count;
+  };
+}
+
+-- So much is restored where these are the places of the ring pages that were taken, one page behind another.
+pub record IsRefilled (r : Refilled) (ring : List ℕ) : Type 0 where
+  pub filling : IsFilling (record { bytes = r.bytes; ring = ring })
+  pub octets : All (λ byte. byte < 2 ^ 8) ring
+  pub page : r.page ≡ awaited_page (record { bytes = r.bytes; ring = ring })
+  pub rows : IfSome r.state (λ s. s ≡ state_with r.bytes (rows_before r.bytes r.page) ring)
+
+-- Behind the first so many of these places stand so many rows that a state may take.
+pub record MayTake (s : StateValue) (places : List ℕ) (skipped count : ℕ) : Type 0 where
+  pub within : row_width s.columns * (skipped + count) ≤ length places
+  pub near : skipped ≤ RING_ROWS
+  pub room : length s.rows.items + count ≤ CAPACITY
+  pub numbers : s.rows.next + count ≤ 2 ^ 64
+  pub rows : (i : ℕ) → i < count → IsRowOf s.columns (row_at (length s.columns) (row_width s.columns * i) (drop (row_width s.columns * skipped) places))
+
+-- the state with these rows, too
+abbrev pub with_rows : StateValue → (places : List ℕ) → (skipped count : ℕ) → StateValue
+with_rows s places skipped count = record s {
+  rows = record {
+    items = s.rows.items ++ rows_at (length s.columns) count (drop (row_width s.columns * skipped) places);
+    next = s.rows.next + count;
+  };
+}
+
+-- where there is a state, it with the rows of a page's places behind the first so many
+abbrev pub with_places : Option StateValue → (places : List ℕ) → (skipped : ℕ) → Option StateValue
+with_places None places skipped = None
+with_places (Some s) places skipped = Some (with_rows s places skipped (RING_ROWS - skipped))
+
+-- the next page taken: places before the first row are not looked at
+abbrev pub with_page : Refilled → (places : List ℕ) → Refilled
+with_page r places = record { bytes = r.bytes; page = r.page + 1; state = with_places r.state places (first_said r.bytes - RING_ROWS * r.page) }

@@ -7,15 +7,13 @@ ghost use Rattle.dlms_state.specs.StateValue.{StateValue, FitsTypes, state_of_pa
 ghost use Rattle.dlms_state.specs.Columns.{first_columns};
 ghost use Rattle.dlms_checkpoint.specs.Bodies.{secret_count, text_count, column_count, reader_secret_count, columns_said, first_field, next_field, first_said, next_said, counts_fit, whole_length, awaited, first_fault};
 ghost use Rattle.dlms_checkpoint.specs.Layouts.{IsCheckpointOf, as_present, head_length, missing};
-ghost use Rattle.dlms_checkpoint.specs.Reading.{Filled, HasHead, ArePlaces, IsFilledBy, awaited_page, first_page, open_page, page_length, parts_at, registers_at};
+ghost use Rattle.dlms_checkpoint.specs.Reading.{HasHead, ArePlaces, IsFilledBy, IsRefilled, first_page, open_page, page_length, parts_at, registers_at, with_page};
 ghost use Rattle.dlms_checkpoint.specs.declared.version.Version.TheVariants.{Columns};
 
 use crate::fields::{HEAD_BYTES, append, head_of};
-use crate::row_reading::{are_rows, with_rows, word_at};
+use crate::row_reading::{are_rows, restore_page, restore_rows, word_at};
 use crate::version::{Version, present_of};
-use crate::writing::{
-    MOST_BODY, MOST_BYTES, NUMBERS_END, RING_BYTES, RING_ROWS, first_written, next_written,
-};
+use crate::writing::{MOST_BODY, MOST_BYTES, NUMBERS_END, RING_ROWS, first_written, next_written};
 use arrayvec::ArrayVec;
 use byteorder::{BigEndian, ByteOrder};
 use dlms_profile::CAPACITY;
@@ -41,9 +39,6 @@ pub enum RingFault {
     Clock,
 }
 
-/// The most bytes of the ring pages that a checkpoint names: 32 pages.
-const MOST_RING: usize = CAPACITY / RING_ROWS * RING_BYTES;
-
 /// The bodies of a checkpoint taken so far, in their order, as they stand on the medium. They stand in a fixed buffer of 788
 /// bytes.
 #[derive(Drop)]
@@ -63,50 +58,70 @@ impl Model for Restoring {
     ghost invariant = { λ r. HasHead (as_present r.version r.bytes.items) };
 }
 
-/// All bodies of a checkpoint in the present layout, and the ring pages that they name taken so far, in the order of their
-/// rows. They stand in fixed buffers of 788 and 15,360 bytes.
-#[derive(Drop)]
-pub struct Refilling {
-    bytes: ArrayVec<u8, MOST_BYTES>,
-    ring: ArrayVec<u8, MOST_RING>,
-}
-
-impl Model for Refilling {
-    ghost use Rattle.dlms_checkpoint.specs.Reading.{Filled, IsFilling};
-
-    ghost Value = { Filled };
-
-    ghost view = { λ r. record { bytes = r.bytes.items; ring = r.ring.items } };
-
-    ghost invariant = { λ r. IsFilling (record { bytes = r.bytes.items; ring = r.ring.items }) };
-}
-
-/// All bodies of a checkpoint in the present layout, where they are the bytes of a state: what a `Refilling` begins with, without its
-/// buffer for the ring pages.
+/// All bodies of a checkpoint in the present layout, where they are the bytes of a state. They stand in a fixed buffer of 788 bytes.
 #[derive(Drop)]
 pub struct Joined {
     bytes: ArrayVec<u8, MOST_BYTES>,
 }
 
 impl Model for Joined {
-    ghost use Rattle.std.specs.Prelude.{[]};
-    ghost use Rattle.dlms_checkpoint.specs.Reading.{Filled, IsFilling};
+    ghost use Rattle.std.specs.Prelude.{List, ℕ};
+    ghost use Rattle.dlms_checkpoint.specs.Reading.{IsWhole};
 
-    ghost Value = { Filled };
+    ghost Value = { List ℕ };
 
-    ghost view = { λ j. record { bytes = j.bytes.items; ring = [] } };
+    ghost view = { λ j. j.bytes.items };
 
-    ghost invariant = { λ j. IsFilling (record { bytes = j.bytes.items; ring = [] }) };
+    ghost invariant = { λ j. IsWhole j.bytes.items };
+}
+
+/// All bodies of a checkpoint, and the state that they spell, with the rows of the ring pages taken so far, in the order of rows.
+#[derive(Drop)]
+pub struct Refilling<A: Allocator> {
+    bytes: ArrayVec<u8, MOST_BYTES>,
+    page: u64,
+    state: Option<State<A>>,
+}
+
+impl<A: Allocator> Model for Refilling<A> {
+    ghost use Rattle.std.specs.Prelude.{List, ℕ};
+    ghost use Rattle.dlms_checkpoint.specs.Reading.{Refilled, IsRefilled};
+
+    ghost Value = { Refilled };
+
+    ghost view = { λ r. record { bytes = r.bytes.items; page = r.page; state = r.state } };
+
+    ghost invariant = { λ r. (ring : List ℕ) × IsRefilled (record { bytes = r.bytes.items; page = r.page; state = r.state }) ring };
 }
 
 impl Joined {
-    /// The bodies, and none of the ring pages that they name. The buffer for these is large.
-    pub fn refilling(self) -> Refilling
-        ensures { result ≡ self }
+    /// Whether the bodies say the columns of a new meter: the clock and the three registers.
+    pub fn has_first_columns(&self) -> bool
+        ensures { IsTrue result ↔ (columns_said self.now ≡ first_columns) }
     {
+        are_first_columns(self.bytes.as_slice())
+    }
+
+    /// The first ring page that the bodies name, by its number among all ring pages ever filled; nothing where they name none.
+    pub fn first_page(&self) -> Option<u64>
+        ensures { MatchOption result (open_page self.now ≤ first_page self.now) (λ page. (page ≡ first_page self.now) × (page < open_page self.now)) }
+    {
+        page_among(self.bytes.as_slice(), first_page_of(self.bytes.as_slice()))
+    }
+
+    /// The state that the bodies spell, and no row of the ring pages that they name. Only here memory is asked for. Where it is
+    /// refused, ring pages are judged all the same, and `finish` tells of it.
+    pub fn refilling<A: Allocator + Copy>(self, alloc: A) -> Refilling<A>
+        ensures bodies { result.bytes ≡ self }
+        ensures begun { IsRefilled result [] }
+    {
+        let bytes = self.bytes.as_slice();
+        let page = first_page_of(bytes);
+        let state = State::restore(alloc, parts_of(bytes), first_of(bytes)).ok();
         Refilling {
             bytes: self.bytes,
-            ring: ArrayVec::new(),
+            page,
+            state,
         }
     }
 }
@@ -233,7 +248,7 @@ impl Restoring {
     /// All bodies, where they are the bytes of a state, whatever rows the ring pages hold that they name; else nothing.
     pub fn joined(self) -> Option<Joined>
         requires { awaited (as_present self.version self.bytes) ≡ 0 }
-        ensures filled { IfSome result (λ joined. joined ≡ record { bytes = as_present self.version self.bytes; ring = [] }) }
+        ensures bytes { IfSome result (λ joined. joined ≡ as_present self.version self.bytes) }
         ensures spelled { MatchOption result ((s : StateValue) → IsCheckpointOf self.version s self.bytes → ⊥) (λ _. (s : StateValue) × IsCheckpointOf self.version s self.bytes) }
     {
         let bytes = present_of(self.version, self.bytes.as_slice());
@@ -272,84 +287,103 @@ fn are_spelled(bytes: &[u8]) -> bool
     )
 }
 
-impl Refilling {
+/// Whether bodies say the columns of a new meter.
+fn are_first_columns(bytes: &[u8]) -> bool
+    requires long { HEAD_BYTES ≤ length bytes.now }
+    requires columns { column_count bytes.now ≤ 4 }
+    ensures { IsTrue result ↔ (columns_said bytes.now ≡ first_columns) }
+{
+    are_same(columns_of(bytes), &[0, 1, 2, 3])
+}
+
+/// The page of the first row.
+fn first_page_of(bytes: &[u8]) -> u64
+    requires { HEAD_BYTES ≤ length bytes.now }
+    ensures { result ≡ first_page bytes.now }
+{
+    (first_of(bytes) / RING_ROWS as u128) as u64
+}
+
+/// A page, where it stands before the one that is not filled.
+fn page_among(bytes: &[u8], page: u64) -> Option<u64>
+    requires { HEAD_BYTES ≤ length bytes.now }
+    ensures { MatchOption result (open_page bytes.now ≤ page) (λ named. (named ≡ page) × (named < open_page bytes.now)) }
+{
+    if u128::from(page) < next_of(bytes) / RING_ROWS as u128 {
+        Some(page)
+    } else {
+        None
+    }
+}
+
+impl<A: Allocator + Copy> Refilling<A> {
     /// Whether the bodies say the columns of a new meter: the clock and the three registers.
     pub fn has_first_columns(&self) -> bool
         ensures { IsTrue result ↔ (columns_said self.now.bytes ≡ first_columns) }
     {
-        are_same(columns_of(self.bytes.as_slice()), &[0, 1, 2, 3])
-    }
-
-    /// How many bytes the rows of a ring page have.
-    fn page_length(&self) -> usize
-        ensures value { result ≡ page_length (columns_said self.now.bytes) }
-        ensures some { 0 < result }
-        ensures within { result ≤ RING_BYTES }
-    {
-        4 * columns_of(self.bytes.as_slice()).len() * RING_ROWS
-    }
-
-    /// The number of the ring page that is taken next.
-    fn next_page(&self) -> u128
-        ensures value { result ≡ awaited_page self.now }
-        ensures within { result < 2 ^ 66 }
-    {
-        let pages = self.ring.len() / self.page_length();
-        first_of(self.bytes.as_slice()) / RING_ROWS as u128 + pages as u128
+        are_first_columns(self.bytes.as_slice())
     }
 
     /// The ring page that is taken next, by its number among all ring pages ever filled; nothing where every one was taken.
     pub fn awaited_page(&self) -> Option<u64>
-        ensures { MatchOption result (open_page self.now.bytes ≤ awaited_page self.now) (λ page. (page ≡ awaited_page self.now) × (page < open_page self.now.bytes)) }
+        ensures { MatchOption result (open_page self.now.bytes ≤ self.now.page) (λ page. (page ≡ self.now.page) × (page < open_page self.now.bytes)) }
     {
-        let page = self.next_page();
-        if page < next_of(self.bytes.as_slice()) / RING_ROWS as u128 {
-            Some(page as u64)
-        } else {
-            None
-        }
+        page_among(self.bytes.as_slice(), self.page)
     }
 
     /// Takes the rows of the awaited ring page. Rows that are no such page's change nothing: of another length, or with a
     /// clock past its range in a row that is kept, of which the length is told first. Where no column is the clock, nothing
     /// but the length is looked at.
     pub fn take(&mut self, places: &[u8]) -> Result<(), RingFault>
-        requires { awaited_page self.old < open_page self.old.bytes }
-        ensures when { IsOk result ↔ ArePlaces (columns_said self.old.bytes) (first_said self.old.bytes) (awaited_page self.old) places.now }
-        ensures ok { OnOk result (self.new ≡ record { bytes = self.old.bytes; ring = self.old.ring ++ places.now }) }
+        requires { self.old.page < open_page self.old.bytes }
+        ensures when { IsOk result ↔ ArePlaces (columns_said self.old.bytes) (first_said self.old.bytes) self.old.page places.now }
+        ensures ok { OnOk result (self.new ≡ with_page self.old places.now) }
+        ensures rows { OnOk result ((ring : List ℕ) → IsRefilled self.old ring → IsRefilled self.new (ring ++ places.now)) }
         ensures length { (result ≡ Err RingFault.Length) ↔ (length places.now ≢ page_length (columns_said self.old.bytes)) }
         ensures err { OnErr result (self.new ≡ self.old) }
     {
-        if places.len() != self.page_length() {
+        let bytes = self.bytes.as_slice();
+        let columns = columns_of(bytes);
+        if places.len() != 4 * columns.len() * RING_ROWS {
             return Err(RingFault::Length);
         }
-        let from = self.next_page() * RING_ROWS as u128;
-        let bytes = self.bytes.as_slice();
-        if !are_rows(places, columns_of(bytes), first_of(bytes), from) {
+        let first = first_of(bytes);
+        let from = u128::from(self.page) * RING_ROWS as u128;
+        if !are_rows(places, columns, first, from) {
             return Err(RingFault::Clock);
         }
-        append(&mut self.ring, places);
+        bytes_fit(places);
+        let skipped = first.saturating_sub(from) as usize;
+        restore_page(&mut self.state, places, skipped);
+        self.page += 1;
         Ok(())
     }
 
-    /// The state that the bodies and all the ring pages spell. Only here memory is wanted.
-    pub fn finish<A: Allocator + Copy>(&self, alloc: A) -> Result<State<A>, AllocError>
-        requires { open_page self.now.bytes ≤ awaited_page self.now }
-        ensures state { IfOk result (λ state. IsFilledBy state self.now) }
+    /// The state that the bodies and all the ring pages spell. Where memory was refused for it, there is none.
+    pub fn finish(self) -> Result<State<A>, AllocError>
+        requires { open_page self.bytes ≤ self.page }
+        ensures state { (ring : List ℕ) → IsRefilled self ring → IfOk result (λ state. IsFilledBy state (record { bytes = self.bytes; ring = ring })) }
         ensures events { IfOk result HasEvents }
-        ensures memory { IsErr result → (s : StateValue) × IsFilledBy s self.now }
+        ensures memory { IsErr result ↔ (self.state ≡ None) }
+        ensures some { (ring : List ℕ) → IsRefilled self ring → (s : StateValue) × IsFilledBy s (record { bytes = self.bytes; ring = ring }) }
     {
-        let (head, unfilled) = self.bytes.as_slice().split_at(HEAD_BYTES);
-        let first = first_of(head);
-        let next = next_of(head);
-        let skipped = (first % RING_ROWS as u128) as usize;
-        bytes_fit(self.ring.as_slice());
-        bytes_fit(unfilled);
-        let Ok(state) = State::restore(alloc, parts_of(head), first) else {
+        let bytes = self.bytes;
+        let (head, places) = bytes.as_slice().split_at(HEAD_BYTES);
+        bytes_fit(places);
+        let Some(mut state) = self.state else {
             return Err(AllocError);
         };
-        let count = (next - first) as usize;
-        Ok(with_rows(state, self.ring.as_slice(), unfilled, skipped, count))
+        let first = first_of(head);
+        let next = next_of(head);
+        let unfilled = next % RING_ROWS as u128;
+        let skipped = first.saturating_sub(next - unfilled);
+        restore_rows(
+            &mut state,
+            places,
+            skipped as usize,
+            (unfilled - skipped) as usize,
+        );
+        Ok(state)
     }
 }
 

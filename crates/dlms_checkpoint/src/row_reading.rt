@@ -1,13 +1,13 @@
 //! Rows read of places that stand one behind another.
-ghost use Rattle.std.specs.Prelude.{◌≡◌, ◌≤◌, ◌<◌, ◌^◌, ◌*◌, ◌%◌, ◌+◌, ◌++◌, ◌↔◌, [], length, drop, ℕ, IsTrue};
+ghost use Rattle.std.specs.Prelude.{◌≡◌, ◌≤◌, ◌<◌, ◌*◌, ◌+◌, ◌↔◌, ◌-◌, IfSome, length, IsTrue};
 ghost use Rattle.byteorder.specs.Endian.{big_from};
 ghost use Rattle.dlms_state.specs.Columns.{IsRowOf};
 ghost use Rattle.dlms_state.specs.StateValue.{HasEvents};
-ghost use Rattle.dlms_profile.specs.declared.rows.TheConstants.{CAPACITY};
 ghost use Rattle.dlms_checkpoint.specs.Checkpoint.{row_width};
 ghost use Rattle.dlms_checkpoint.specs.declared.writing.TheConstants.{RING_ROWS};
-ghost use Rattle.dlms_checkpoint.specs.Reading.{RowsFit, row_at, rows_at};
+ghost use Rattle.dlms_checkpoint.specs.Reading.{MayTake, RowsFit, row_at, with_places, with_rows};
 
+use crate::writing::RING_ROWS;
 use arrayvec::ArrayVec;
 use byteorder::{BigEndian, ByteOrder};
 use dlms_profile::Row;
@@ -75,45 +75,35 @@ pub(crate) fn are_rows(rows: &[u8], columns: &[u8], first: u128, from: u128) -> 
     true
 }
 
-/// The row at this place among those of two stretches, one behind the other.
-fn row_among(front: &[u8], back: &[u8], width: usize, index: usize) -> Row
-    requires some { 0 < width }
-    requires few { width ≤ 4 }
-    requires whole { length front.now % (4 * width) ≡ 0 }
-    requires within { 4 * width * (index + 1) ≤ length front.now + length back.now }
-    ensures { result ≡ row_at width (4 * width * index) (front.now ++ back.now) }
-{
-    let before = front.len() / (4 * width);
-    if index < before {
-        row_of(front, width, index)
-    } else {
-        row_of(back, width, index - before)
-    }
-}
-
-/// The state with so many rows of two stretches, one behind the other, from this place on.
-pub(crate) fn with_rows<A: Allocator + Copy>(
-    state: State<A>,
-    front: &[u8],
-    back: &[u8],
+/// Restores so many rows of places that stand one behind another, from this place on.
+pub(crate) fn restore_rows<A: Allocator + Copy>(
+    state: &mut State<A>,
+    places: &[u8],
     skipped: usize,
     count: usize,
-) -> State<A>
-    requires whole { length front.now % row_width state.columns ≡ 0 }
-    requires within { row_width state.columns * (skipped + count) ≤ length front.now + length back.now }
-    requires near { skipped < RING_ROWS }
-    requires room { count ≤ CAPACITY }
-    requires none { state.rows.items ≡ [] }
-    requires numbers { state.rows.next + count ≤ 2 ^ 64 }
-    requires rows { (i : ℕ) → i < count → IsRowOf state.columns (row_at (length state.columns) (row_width state.columns * i) (drop (row_width state.columns * skipped) (front.now ++ back.now))) }
-    ensures value { result ≡ record state { rows = record { items = rows_at (length state.columns) count (drop (row_width state.columns * skipped) (front.now ++ back.now)); next = state.rows.next + count } } }
-    ensures events { HasEvents result }
+)
+    requires { MayTake state.old places.now skipped count }
+    ensures value { state.new ≡ with_rows state.old places.now skipped count }
+    ensures events { HasEvents state.new }
 {
-    let mut state = state;
     let width = state.columns().len();
     for index in 0..count {
-        state.restore_row(row_among(front, back, width, skipped + index));
+        state.restore_row(row_of(places, width, skipped + index));
     }
     state.has_events();
-    state
+}
+
+/// Restores the rows of a ring page's places behind the first so many, where there is a state.
+pub(crate) fn restore_page<A: Allocator + Copy>(
+    state: &mut Option<State<A>>,
+    places: &[u8],
+    skipped: usize,
+)
+    requires near { skipped ≤ RING_ROWS }
+    requires rows { IfSome state.old (λ s. MayTake s places.now skipped (RING_ROWS - skipped)) }
+    ensures { state.new ≡ with_places state.old places.now skipped }
+{
+    if let Some(state) = state {
+        restore_rows(state, places, skipped, RING_ROWS - skipped);
+    }
 }

@@ -1,5 +1,5 @@
 -- What never goes back.
-use Rattle.std.proofs.Common.{arith, refl, ap, ◌∙◌, ◌≡◌, ◌≤◌, ◌<◌, ◌+◌, ◌^◌, ◌++◌, ◌⊎◌, inl, inr, ℕ, Bool, true, false, List, [], sym, subst, Result, Ok, Err}
+use Rattle.std.proofs.Common.{arith, refl, ap, ◌∙◌, ◌≡◌, ◌≤◌, ◌^◌, ◌++◌, ◌⊎◌, inl, inr, ℕ, Bool, true, false, List, [], sym, subst, Result, Ok, Err}
 use Rattle.std.proofs.lemmas.Bool.{cases_lt}
 use Rattle.dlms_pages.specs.Device.{View, Image, Rose, Rules}
 use Rattle.dlms_pages.specs.declared.device.Pages.{Ghosts}

@@ -8,7 +8,7 @@ use Rattle.dlms_pages.proofs.Moments.{no_call, one_call, then_also, weaker}
 use Rattle.dlms_state.specs.declared.event.Event.{Event}
 use Rattle.dlms_store.specs.Active.{IsFound}
 use Rattle.dlms_store.specs.Image.{StandsFor, all_of}
-use Rattle.dlms_store.specs.Steady.{BeginsCheckpoint, IsSpared, Spares, Steady}
+use Rattle.dlms_store.specs.Steady.{IsSpared, Spares, Steady}
 use Rattle.dlms_store.specs.declared.fault.OpenFault.{OpenFault}
 use Rattle.dlms_store.specs.declared.fault.OpenFault.TheVariants.{Device, NoCheckpoint, Corrupt, Size, Memory, Exhausted}
 use Rattle.dlms_store.specs.declared.open.Found.{Found}

@@ -17,7 +17,7 @@ use crate::image::Image;
 use crate::place::{Place, place_of};
 use crate::survey::Survey;
 use crate::verdict::Verdict;
-use dlms_checkpoint::{RING_ROWS, Refilling, Restoring, Version};
+use dlms_checkpoint::{Joined, RING_ROWS, Restoring, Version};
 use dlms_journal::{PageKind, payload_of, records_of};
 use dlms_pages::{PAGE_BYTES, PageRead};
 use dlms_state::State;
@@ -135,7 +135,7 @@ fn bodies_of<A: Allocator + Copy>(
     image: &Image<A>,
     slot: Slot,
     edition: Edition,
-) -> Option<Refilling> {
+) -> Option<Joined> {
     let first = slot.gate() + 1;
     let body = payload_in(image, first, edition).ok()?;
     let mut restoring = Restoring::begin(edition.version, body).ok()?;
@@ -149,8 +149,7 @@ fn bodies_of<A: Allocator + Copy>(
     if restoring.awaited() != 0 {
         return None;
     }
-    let joined = restoring.joined()?;
-    Some(joined.refilling())
+    restoring.joined()
 }
 
 /// Whether a slot's first body asks for a second one.
@@ -445,7 +444,7 @@ fn named_in<A: Allocator + Copy>(
     ensures { IfSome result (λ named. IsBehindNamed named.first found.now named.behind) }
 {
     let bodies = bodies_of(image, slot, edition)?;
-    let first = bodies.awaited_page()?;
+    let first = bodies.first_page()?;
     Some(Named {
         first,
         behind: behind_named(found, first),

@@ -20,7 +20,7 @@ pub struct CheckpointBench<'h> {
     heap: &'h LocalHeap,
     state: StateBench<'h>,
     restoring: Option<Restoring>,
-    refilling: Option<Refilling>,
+    refilling: Option<Refilling<&'h LocalHeap>>,
 }
 
 /// How many bodies there are, and how long each is.
@@ -72,7 +72,10 @@ fn taken(checkpoint: &Checkpoint) -> Result<Restoring, RowFault> {
 }
 
 /// Takes all ring pages of a state that the bodies name.
-fn refill(refilling: &mut Refilling, state: &State<&LocalHeap>) -> Result<(), RowFault> {
+fn refill(
+    refilling: &mut Refilling<&LocalHeap>,
+    state: &State<&LocalHeap>,
+) -> Result<(), RowFault> {
     for _ in 0..32 {
         let Some(page) = refilling.awaited_page() else {
             return Ok(());
@@ -137,7 +140,7 @@ impl<'h> CheckpointBench<'h> {
             return put_with_number(answer, "awaits ", awaited as u64);
         }
         match restoring.joined() {
-            Some(joined) => self.refilling = Some(joined.refilling()),
+            Some(joined) => self.refilling = Some(joined.refilling(self.heap)),
             None => {
                 self.refilling = None;
                 answer.push_str("spelling")?;
@@ -160,15 +163,16 @@ impl<'h> CheckpointBench<'h> {
         }
     }
 
-    /// Takes the state of the bodies and ring pages, with memory from the heap, in the place of the one that was there.
+    /// Takes the state of the bodies and ring pages in the place of the one that was there.
     fn finish(&mut self, answer: &mut String) -> Result<(), RowFault> {
-        let Some(refilling) = &self.refilling else {
+        let Some(refilling) = self.refilling.take() else {
             return Err(RowFault::Missing);
         };
         if let Some(page) = refilling.awaited_page() {
+            self.refilling = Some(refilling);
             return put_with_number(answer, "awaits page ", page);
         }
-        match refilling.finish(self.heap) {
+        match refilling.finish() {
             Ok(state) => {
                 self.state.set(state);
                 Ok(())
@@ -187,7 +191,7 @@ impl<'h> CheckpointBench<'h> {
         let Some(joined) = restoring.joined() else {
             return Err(RowFault::Missing);
         };
-        let mut refilling = joined.refilling();
+        let mut refilling = joined.refilling(self.heap);
         refill(&mut refilling, state)?;
         self.refilling = Some(refilling);
         Ok(())

@@ -4,7 +4,7 @@ use Rattle.dlms_journal.specs.declared.kind.PageKind.TheVariants.{Body}
 use Rattle.dlms_state.specs.StateValue.{StateValue}
 use Rattle.dlms_checkpoint.specs.Bodies.{awaited, first_fault}
 use Rattle.dlms_checkpoint.specs.Layouts.{IsCheckpointOf, as_present}
-use Rattle.dlms_checkpoint.specs.Reading.{Filled, Taken}
+use Rattle.dlms_checkpoint.specs.Reading.{Taken}
 use Rattle.dlms_checkpoint.specs.declared.version.Version.{Version}
 use Rattle.dlms_store.specs.Cause.{AllFit, IsBodyFault, IsUnfit}
 use Rattle.dlms_store.specs.Layout.{gate_of}
@@ -85,7 +85,7 @@ returns-in_err-look_at_further_bodies-clause-cause g c image fixed =
     let first = first_fits gate c.args.edition image page c.in-Some.body.now c.in-Ok.restoring.bytes same c.in-Some.ensures c.in-Ok.ensures.0 (ap (λ (t : Taken). t.bytes) c.in-Ok.ensures.1) in
     let fault = c.in_err-look_at_further_bodies.field-0.0 in
     let told = c.in_err-look_at_further_bodies.ensures.cause image gate place one.fixed first in
-    carried c.from_residual-in_err-look_at_further_bodies.result fault (λ refilling. (bytes : List ℕ) × (refilling.bytes ≡ as_present c.args.edition.version bytes) × AllFit gate c.args.edition bytes image) (IsOfPage (IsBodyFault gate c.args.edition image)) c.from_residual-in_err-look_at_further_bodies.ensures
+    carried c.from_residual-in_err-look_at_further_bodies.result fault (λ joined. (bytes : List ℕ) × (joined ≡ as_present c.args.edition.version bytes) × AllFit gate c.args.edition bytes image) (IsOfPage (IsBodyFault gate c.args.edition image)) c.from_residual-in_err-look_at_further_bodies.ensures
     (of_page fault (IsUnfit gate c.args.edition image) (IsBodyFault gate c.args.edition image) (λ _ unfit. inl unfit) told)
 
 pub returns-then-awaited-ne0-clause-cause : goal.returns-then-awaited-ne0-clause-cause
@@ -112,7 +112,7 @@ returns-in-Some-joined-clause-cause g c image fixed =
     let same = page_there (c.gate-first.result + 1) (gate + 1 + 0) (g.P.Pages.view c.args.device.now) image page fixed (g.met.P.Pages.rules c.args.device.now fixed.honest) (c.in_ok-page.ensures.page fixed.honest).page (omega (arith, place)) in
     let first = first_fits gate c.args.edition image page c.in-Some.body.now c.in-Ok.restoring.bytes same c.in-Some.ensures c.in-Ok.ensures.0 (ap (λ (t : Taken). t.bytes) c.in-Ok.ensures.1) in
     let all = c.in_ok-look_at_further_bodies.ensures.cause image gate place one.fixed first in
-    (c.look_at_further_bodies.new.restoring.bytes, ap (λ (filled : Filled). filled.bytes) c.in-Some-joined.ensures.filled ∙ ap (λ (v : Version). as_present v c.look_at_further_bodies.new.restoring.bytes) c.look_at_further_bodies.ensures.version, all)
+    (c.look_at_further_bodies.new.restoring.bytes, c.in-Some-joined.ensures.bytes ∙ ap (λ (v : Version). as_present v c.look_at_further_bodies.new.restoring.bytes) c.look_at_further_bodies.ensures.version, all)
 
 pub returns-in-None-clause-cause : goal.returns-in-None-clause-cause
 returns-in-None-clause-cause g c image fixed =

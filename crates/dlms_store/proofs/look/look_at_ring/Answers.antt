@@ -1,9 +1,8 @@
-use Rattle.std.proofs.Common.{◌+◌, ◌≡◌, ◌∙◌, inr, ℕ, length, ap, subst, sym}
-use Rattle.std.proofs.lemmas.List.{length-append}
+use Rattle.std.proofs.Common.{◌+◌, ◌≡◌, inr, ℕ, ap, subst, sym}
 use Rattle.dlms_pages.proofs.Moments.{looks_read}
 use Rattle.dlms_journal.specs.declared.kind.PageKind.TheVariants.{Ring}
 use Rattle.dlms_checkpoint.specs.Bodies.{columns_said, first_said}
-use Rattle.dlms_checkpoint.specs.Reading.{ArePlaces, Filled}
+use Rattle.dlms_checkpoint.specs.Reading.{ArePlaces, Refilled}
 use Rattle.dlms_store.specs.Layout.{ring_place}
 use Rattle.dlms_store.specs.Page.{of_version}
 use Rattle.dlms_store.proofs.Causes.{ring_has, ring_unfit}
@@ -35,11 +34,8 @@ returns-in_err-content-clause-looks g c image fixed =
     let rules = g.met.P.Pages.rules c.args.device.now fixed.honest in
     looks_read (22 + c.ring_index-index.result) (view c.args.device.now) (view c.read.new.self) image c.read.result fixed rules c.read.ensures.goes (c.read.ensures.page fixed.honest)
 
-pub returns-clause-longer : goal.returns-clause-longer
-returns-clause-longer g c =
-    let are = when_ok c.take.result c.if-is_err.ensures.value c.take.ensures.when.0 in
-    let new = was_ok c.take.result c.if-is_err.ensures.value c.take.ensures.ok in
-    ap (λ (filled : Filled). length filled.ring) new ∙ length-append c.args.refilling.now.ring c.in-Some.places.now ∙ ap (λ (n : ℕ). length c.args.refilling.now.ring + n) are.long
+pub returns-clause-next : goal.returns-clause-next
+returns-clause-next g c = ap (λ (r : Refilled). r.page) (was_ok c.take.result c.if-is_err.ensures.value c.take.ensures.ok)
 
 pub returns-in_default-clause-cause : goal.returns-in_default-clause-cause
 returns-in_default-clause-cause g c image fixed =
@@ -76,8 +72,8 @@ returns-clause-cause g c image fixed =
     let bytes = c.args.refilling.now.bytes in
     let found = c.in-Some.ensures (columns_said bytes) c.has_first_columns-has_first_columns.ensures in
     let are = when_ok c.take.result c.if-is_err.ensures.value c.take.ensures.when.0 in
-    let new = was_ok c.take.result c.if-is_err.ensures.value c.take.ensures.ok in (
+    let more = was_ok c.take.result c.if-is_err.ensures.value c.take.ensures.rows in (
       c.in-Some.places.now,
       ring_has c.args.version bytes c.args.page c.ring_index-index.result image content c.ring_index-index.ensures.value same c.in-Some.places.now found (subst (λ (k : ℕ). ArePlaces (columns_said bytes) (first_said bytes) k c.in-Some.places.now) (sym c.requires.awaited) are),
-      ap (λ (filled : Filled). filled.ring) new,
+      more,
     )

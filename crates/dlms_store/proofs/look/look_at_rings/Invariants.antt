@@ -1,9 +1,8 @@
-use Rattle.std.proofs.Common.{◌≡◌, ◌≤◌, ◌*◌, length}
+use Rattle.std.proofs.Common.{◌≡◌, ◌≤◌, ◌+◌, List, ℕ, length}
 use Rattle.dlms_pages.specs.Device.{Image}
 use Rattle.dlms_pages.specs.Stops.{IsFixed, Looks}
 use Rattle.dlms_store.specs.Cause.{AreTaken}
-use Rattle.dlms_checkpoint.specs.Reading.{awaited_page, page_length}
-use Rattle.dlms_checkpoint.specs.Bodies.{columns_said}
+use Rattle.dlms_checkpoint.specs.Reading.{IsRefilled, first_page}
 use Rattle.dlms_store.proofs.look.look_at_rings.Given as goal
 
 abbrev pub invariant-loop : goal.invariant-loop
@@ -15,6 +14,6 @@ invariant-loop g l =
       later : (view l.fn.device).faults ≤ (view l.device).faults;
       looks : (image : Image) → IsFixed (view l.fn.device) image → Looks (view l.fn.device) (view l.device) image;
       bodies : l.refilling.bytes ≡ l.fn.refilling.bytes;
-      long : length l.refilling.ring ≡ page_length (columns_said l.fn.refilling.bytes) * l.counter;
-      taken : (image : Image) → IsFixed (view l.fn.device) image → AreTaken l.fn.version l.refilling (awaited_page l.refilling) image;
+      turns : l.refilling.page ≡ first_page l.fn.refilling.bytes + l.counter;
+      taken : (image : Image) → IsFixed (view l.fn.device) image → (ring : List ℕ) × IsRefilled l.refilling ring × AreTaken l.fn.version (record { bytes = l.refilling.bytes; ring = ring }) l.refilling.page image;
     }

@@ -1,9 +1,8 @@
-use Rattle.std.proofs.Common.{◌≡◌, ◌⊎◌, ◌∙◌, inl, inr, ℕ, List, Ok, ap, subst, refl}
+use Rattle.std.proofs.Common.{◌≡◌, ◌⊎◌, ◌∙◌, inl, inr, ℕ, List, Ok, subst}
 use Rattle.dlms_pages.specs.Device.{Image}
 use Rattle.dlms_pages.proofs.Moments.{looks_on}
 use Rattle.dlms_store.specs.declared.page.Edition.{Edition}
 use Rattle.dlms_checkpoint.specs.Layouts.{IsCheckpointOf, as_present}
-use Rattle.dlms_checkpoint.specs.Reading.{Filled}
 use Rattle.dlms_checkpoint.specs.declared.version.Version.TheVariants.{Columns}
 use Rattle.dlms_checkpoint.proofs.Presents.{from_present}
 use Rattle.dlms_store.specs.Cause.{AreOf, IsBodyFault, IsRingFault, IsRingUnfit, IsSlotFault}
@@ -47,7 +46,7 @@ returns-in_err-look_at_rings-clause-cause g c image fixed =
     let (bytes, present, fit) = c.in_ok-joined.ensures.cause image fixed in
     let known = c.in_ok-joined.ensures.spelled in
     let told = c.in_err-look_at_rings.ensures.cause image one.fixed in
-    let begun : c.refilling-refilling.result.bytes ≡ as_present c.args.edition.version bytes = ap (λ (filled : Filled). filled.bytes) c.refilling-refilling.ensures ∙ present in
+    let begun : c.refilling-refilling.result.bytes ≡ as_present c.args.edition.version bytes = c.refilling-refilling.ensures.bodies ∙ present in
     carried c.from_residual-in_err-look_at_rings.result fault (λ state. AreOf c.args.slot c.args.edition state image) (IsSlotFault c.args.slot c.args.edition image) c.from_residual-in_err-look_at_rings.ensures
     (page_of_slot c.args.slot c.args.edition image fault (of_page fault (IsRingUnfit c.args.edition.version c.refilling-refilling.result.bytes image) (SlotFault gate c.args.edition image)
     (λ page unfit. inr (record {
@@ -62,22 +61,22 @@ pub returns-in-Ok-clause-cause : goal.returns-in-Ok-clause-cause
 returns-in-Ok-clause-cause g c image fixed =
     let gate = gate_of c.args.slot in
     let one = c.look_at_bodies.ensures.looks image fixed in
-    let filled = c.look_at_rings.new.refilling in
+    let now = c.look_at_rings.new.refilling in
     let (bytes, present, fit) = c.in_ok-joined.ensures.cause image fixed in
-    let same = c.look_at_rings.ensures.bodies ∙ ap (λ (filled : Filled). filled.bytes) c.refilling-refilling.ensures ∙ present in
-    let taken = c.in_ok-look_at_rings.ensures.cause image one.fixed in
-    are_of c.args.slot c.args.edition c.in-Ok.state bytes filled image same fit taken c.in-Ok.ensures.state
+    let same = c.look_at_rings.ensures.bodies ∙ c.refilling-refilling.ensures.bodies ∙ present in
+    let (ring, is, taken) = c.in_ok-look_at_rings.ensures.cause image one.fixed in
+    are_of c.args.slot c.args.edition c.in-Ok.state bytes (record { bytes = now.bytes; ring = ring }) image same fit taken (c.in-Ok.ensures.state ring is)
 
 pub returns-in-Err-clause-cause : goal.returns-in-Err-clause-cause
 returns-in-Err-clause-cause g c image fixed =
     let gate = gate_of c.args.slot in
     let one = c.look_at_bodies.ensures.looks image fixed in
-    let filled = c.look_at_rings.new.refilling in
+    let now = c.look_at_rings.new.refilling in
     let (bytes, present, fit) = c.in_ok-joined.ensures.cause image fixed in
-    let same = c.look_at_rings.ensures.bodies ∙ ap (λ (filled : Filled). filled.bytes) c.refilling-refilling.ensures ∙ present in
-    let taken = c.in_ok-look_at_rings.ensures.cause image one.fixed in
-    let state = c.in-Err.ensures.memory refl in
-    (state.0, are_of c.args.slot c.args.edition state.0 bytes filled image same fit taken state.1)
+    let same = c.look_at_rings.ensures.bodies ∙ c.refilling-refilling.ensures.bodies ∙ present in
+    let (ring, is, taken) = c.in_ok-look_at_rings.ensures.cause image one.fixed in
+    let state = c.in-Err.ensures.some ring is in
+    (state.0, are_of c.args.slot c.args.edition state.0 bytes (record { bytes = now.bytes; ring = ring }) image same fit taken state.1)
 
 pub returns-in_err-joined-clause-state : goal.returns-in_err-joined-clause-state
 returns-in_err-joined-clause-state g c image base fixed legal within rings =

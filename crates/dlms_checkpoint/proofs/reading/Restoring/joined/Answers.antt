@@ -5,7 +5,7 @@ use Rattle.dlms_checkpoint.specs.Layouts.{IsCheckpointOf, as_present}
 use Rattle.dlms_checkpoint.specs.Reading.{HasHead, Taken}
 use Rattle.dlms_checkpoint.specs.declared.version.Version.TheVariants.{Columns}
 use Rattle.dlms_checkpoint.proofs.Bodies.{held_bytes}
-use Rattle.dlms_checkpoint.proofs.Filled.{all_there, started}
+use Rattle.dlms_checkpoint.proofs.Filled.{all_there}
 use Rattle.dlms_checkpoint.proofs.reading.Restoring.joined.Goals as goal
 
 pub present_of-bytes-requires-clause-long : goal.present_of-bytes-requires-clause-long
@@ -23,4 +23,4 @@ invariant_of-result c =
     let has : HasHead bytes = subst HasHead (sym same) c.self.invariant in
     let none : awaited bytes ≡ 0 = ap awaited same ∙ ap (λ (t : Taken). awaited (as_present t.version t.bytes)) c.self.view_is ∙ c.requires in
     let told : (s : StateValue) × IsCheckpointOf Columns s bytes = subst (λ (l : List ℕ). (s : StateValue) × IsCheckpointOf Columns s l) c.as_slice-2.ensures.value (c.are_spelled.ensures.yes c.if-not-are_spelled.false) in
-    started bytes has (all_there bytes has none) told
+    record { head = has; all = all_there bytes has none; spelled = told }
