@@ -189,6 +189,7 @@ fn stumble<W: Watch + Drop, E: Write>(site: &mut Site<'_, W, E>, error: io::Erro
 }
 
 /// Listens; whoever asks for a connection is not waited for.
+#[inline(never)]
 fn listening<R: Net>(rt: &R, address: &str) -> io::Result<R::Listener> {
     let listener = TcpListener::bind(rt, address)?;
     listener.set_nonblocking(true)?;
@@ -246,6 +247,7 @@ fn serve_next<'f, W: Watch + Drop, P: Pages, E: Write>(
 }
 
 /// Serves one connection after another, which the watch of the site gives.
+#[inline(never)]
 pub fn serve_all<'f, W: Watch + Drop, P: Pages, E: Write>(
     site: &mut Site<'_, W, E>,
     rules: Rules,
