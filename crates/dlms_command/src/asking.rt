@@ -3,12 +3,12 @@
 ghost use Rattle.std.specs.Prelude.{◌≤◌, IfOk};
 ghost use Rattle.dlms_data.specs.declared.date_time.TheConstants.{LAST_SECOND};
 
-use crate::errand::{Talk, named, second_of, written};
+use crate::errand::{Shape, Talk, named, second_of, written};
 use crate::fault::Fault;
 use crate::spoken::Spoken;
 use arrayvec::ArrayVec;
 use dlms_ask::server_of;
-use dlms_call::{CallFault, begin, end};
+use dlms_call::{CallFault, begin};
 use dlms_client::Plan;
 use dlms_data::Data;
 use dlms_ends::{End, LoopFault};
@@ -17,6 +17,7 @@ use dlms_frame::{Address, Client};
 use dlms_program::Asking;
 use std::alloc::Global;
 use std::fs::File;
+use std::io;
 use std::io::Write;
 use std::net::Net;
 use std::rt::Files;
@@ -34,8 +35,7 @@ pub enum Errand<'a> {
     Get {
         names: &'a str,
         class: u16,
-        raw: bool,
-        json: bool,
+        shape: Shape,
     },
     List {
         json: bool,
@@ -63,7 +63,7 @@ fn now<'a, H: Clock>(host: &H) -> Result<u32, Fault<'a>>
 }
 
 /// The value to set, as a text writes it.
-pub fn value_to_set<'a, H: Clock + AllocGlobal>(
+fn value_to_set<'a, H: Clock + AllocGlobal>(
     host: &H,
     text: &'a str,
 ) -> Result<Data<Global>, Fault<'a>> {
@@ -111,9 +111,8 @@ fn done<'a, S: End, W: Write>(
         Errand::Get {
             names,
             class,
-            raw,
-            json,
-        } => talk.get_all(names, class, raw, json, output),
+            shape,
+        } => talk.get_all(names, class, shape, output),
         Errand::List { json } => talk.list_all(json, output),
         Errand::Set { name, value, class } => talk.set_one(name, value, class, output),
         Errand::Act { name, value, class } => talk.act_one(name, value, class, output),
@@ -144,9 +143,7 @@ fn talked<'a, S: End, W: Write>(
         head,
     };
     let outcome = done(&mut talk, errand, output);
-    let Talk { line, head, .. } = talk;
-    let mut head = head;
-    let _ended = end(line, &mut head);
+    talk.end();
     outcome
 }
 
@@ -192,6 +189,51 @@ fn line_to<'a, 'r, H: Net + Files<File = File> + Clock + AllocGlobal>(
     }
 }
 
+/// The line to a meter, explained among the errors where that is asked for.
+fn spoken_to<'a, 'r, 'e, H: Net + Files<File = File> + Clock + AllocGlobal, E: Write>(
+    host: &'r H,
+    asking: &Asking<'a>,
+    errors: &'e mut E,
+) -> Result<Spoken<'e, Phone<'r, H>, E>, Fault<'a>> {
+    let line = line_to(host, asking.place)?;
+    Ok(Spoken::new(host.alloc(), line, asking.verbose, errors)?)
+}
+
+/// The association that is asked for, where the errand's names are some.
+fn plan_of<'a, H: Files + Clock + AllocGlobal>(
+    host: &H,
+    asking: &Asking<'a>,
+    errand: &Errand<'a>,
+) -> Result<Plan, Fault<'a>> {
+    look(errand)?;
+    let server = server(asking)?;
+    let secret = secret(host, host.alloc(), asking)?;
+    Ok(Plan {
+        sap: u8::try_from(asking.client).unwrap_or(0),
+        server,
+        secret,
+        size: SIZE,
+    })
+}
+
+/// Whether the line failed in a talk.
+fn is_of_line(talked: &Result<(), Fault<'_>>) -> bool {
+    matches!(talked, Err(Fault::Call(_, CallFault::Io)))
+}
+
+/// What came of a talk: where the line failed, in the system's words, if it has some.
+fn told<'a>(
+    alloc: Global,
+    place: &'a str,
+    talked: Result<(), Fault<'a>>,
+    failure: Option<io::Error>,
+) -> Result<(), Fault<'a>> {
+    match failure {
+        Some(error) if is_of_line(&talked) => Err(Fault::of_system(alloc, place, &error)),
+        _ => talked,
+    }
+}
+
 /// Asks a meter.
 #[inline(never)]
 pub fn ask<'a, H: Net + Files<File = File> + Clock + AllocGlobal, W: Write, E: Write>(
@@ -201,22 +243,51 @@ pub fn ask<'a, H: Net + Files<File = File> + Clock + AllocGlobal, W: Write, E: W
     output: &mut W,
     errors: &mut E,
 ) -> Result<(), Fault<'a>> {
-    look(&errand)?;
-    let server = server(asking)?;
-    let secret = secret(host, host.alloc(), asking)?;
-    let plan = Plan {
-        sap: u8::try_from(asking.client).unwrap_or(0),
-        server,
-        secret,
-        size: SIZE,
-    };
-    let line = line_to(host, asking.place)?;
-    let mut line = Spoken::new(host.alloc(), line, asking.verbose, errors)?;
+    let plan = plan_of(host, asking, &errand)?;
+    let mut line = spoken_to(host, asking, errors)?;
     let talked = talked(host.alloc(), asking.place, plan, &mut line, errand, output);
-    match (talked, line.stream.failure()) {
-        (Err(Fault::Call(_, CallFault::Io)), Some(error)) => {
-            Err(Fault::of_system(host.alloc(), asking.place, &error))
-        }
-        (talked, _) => talked,
-    }
+    told(host.alloc(), asking.place, talked, line.stream.failure())
+}
+
+/// Asks a meter to set an attribute to the value that a text writes.
+pub fn ask_to_set<'a, H: Net + Files<File = File> + Clock + AllocGlobal, W: Write, E: Write>(
+    host: &H,
+    asking: &Asking<'a>,
+    name: &'a str,
+    value: &'a str,
+    class: u16,
+    output: &mut W,
+    errors: &mut E,
+) -> Result<(), Fault<'a>> {
+    let value = value_to_set(host, value)?;
+    ask(
+        host,
+        asking,
+        Errand::Set { name, value, class },
+        output,
+        errors,
+    )
+}
+
+/// Asks a meter to carry out a method with the value that a text writes, where there is one.
+pub fn ask_to_act<'a, H: Net + Files<File = File> + Clock + AllocGlobal, W: Write, E: Write>(
+    host: &H,
+    asking: &Asking<'a>,
+    name: &'a str,
+    value: Option<&'a str>,
+    class: u16,
+    output: &mut W,
+    errors: &mut E,
+) -> Result<(), Fault<'a>> {
+    let value = match value {
+        Some(value) => Some(value_to_set(host, value)?),
+        None => None,
+    };
+    ask(
+        host,
+        asking,
+        Errand::Act { name, value, class },
+        output,
+        errors,
+    )
 }

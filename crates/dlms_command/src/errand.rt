@@ -5,15 +5,14 @@ ghost use Rattle.dlms_data.specs.declared.date_time.TheConstants.{LAST_SECOND};
 
 use crate::fault::Fault;
 use crate::telling::{
-    append_entries_json, append_entry, append_quantity, append_value_json, put, put_line,
+    append_entries, append_scaled, append_value_json, append_words, put, put_line,
 };
 use dlms_ask::{Name, ValueFault, append_pairs, class_in, elements, name_of, value_of};
-use dlms_call::{CallFault, ClientEnd, act, get, set};
+use dlms_call::{CallFault, ClientEnd, act, end, get, set};
 use dlms_client::Answer;
 use dlms_data::{Data, DataFault, Descriptor, LAST_SECOND, read};
 use dlms_ends::End;
-use dlms_explain::write_value;
-use std::alloc::Global;
+use std::alloc::{AllocError, Global};
 use std::io::Write;
 
 /// The second of the system's clock, counted from 1970-01-01 00:00:00, at which the meter's begins.
@@ -42,6 +41,25 @@ pub fn second_of(seconds: u64) -> u32
         .saturating_sub(BEGINNING)
         .min(u64::from(LAST_SECOND));
     second as u32
+}
+
+/// How a value is printed: in words, by its encoding, or as JSON.
+#[derive(Clone, Copy, PartialEq, Eq)]
+pub enum Shape {
+    Words,
+    Raw,
+    Json,
+}
+
+impl Shape {
+    /// The shape that is asked for: the encoding, whatever else is.
+    pub fn of(raw: bool, json: bool) -> Shape {
+        match (raw, json) {
+            (true, _) => Shape::Raw,
+            (false, true) => Shape::Json,
+            (false, false) => Shape::Words,
+        }
+    }
 }
 
 /// A talk with a meter: its place, its line, and the client.
@@ -152,63 +170,111 @@ impl<'a, S: End> Talk<'a, '_, S> {
     }
 
     /// The scaler and the unit of a register's value, where it has them.
-    fn scaler_unit(&mut self, class: u16, name: Name, number: u8) -> Option<(i8, u8)> {
-        let attribute = match (class, number) {
+    fn scaler_unit(&mut self, of: Descriptor) -> Option<(i8, u8)> {
+        let id = match (of.class, of.id) {
             (REGISTER, 2) | (EXTENDED, 2) => 3,
             (DEMAND, 2) | (DEMAND, 3) => 4,
             _ => return None,
         };
-        let code = name.code;
-        let descriptor = Descriptor {
-            class,
-            name: code,
-            id: attribute,
-        };
-        match self.value("", descriptor) {
+        match self.value("", Descriptor { id, ..of }) {
             Ok(scaled) => scale_of(&scaled),
             Err(_) => None,
         }
     }
 
+    /// An attribute by its name: the value where no number is said.
+    fn attribute(
+        &self,
+        list: Option<&Data<Global>>,
+        said: &'a str,
+        name: Name,
+        class: u16,
+    ) -> Result<Descriptor, Fault<'a>> {
+        let class = self.class(list, said, name, class)?;
+        let code = name.code;
+        Ok(Descriptor {
+            class,
+            name: code,
+            id: name.number.unwrap_or(SECOND),
+        })
+    }
+
+    /// The same by the meter's object list, which is asked for where no class is said.
+    fn attribute_of(
+        &mut self,
+        said: &'a str,
+        name: Name,
+        class: u16,
+    ) -> Result<Descriptor, Fault<'a>> {
+        let list = self.list_unless(class)?;
+        self.attribute(list.as_ref(), said, name, class)
+    }
+
+    /// Appends the encoding of the value that came last.
+    fn append_raw(&self, text: &mut Vec<u8>) -> Result<(), AllocError> {
+        append_pairs(text, self.head.client.value())?;
+        text.extend_from_slice(b"\n")
+    }
+
     /// Appends the value of an attribute.
-    fn get_one(
+    fn append_one(
         &mut self,
         text: &mut Vec<u8>,
+        attribute: Descriptor,
+        value: &Data<Global>,
+        shape: Shape,
+    ) -> Result<(), AllocError> {
+        if shape == Shape::Raw {
+            return self.append_raw(text);
+        }
+        let scaled = self.scaler_unit(attribute);
+        if shape == Shape::Json {
+            append_value_json(text, attribute, value, scaled)
+        } else {
+            append_scaled(self.alloc, text, value, scaled)
+        }
+    }
+
+    /// Prints the value of an attribute.
+    fn get_one<W: Write>(
+        &mut self,
         list: Option<&Data<Global>>,
         said: &'a str,
         class: u16,
-        raw: bool,
-        json: bool,
+        shape: Shape,
+        output: &mut W,
     ) -> Result<(), Fault<'a>> {
-        let name = named(said)?;
-        let number = name.number.unwrap_or(SECOND);
-        let class = self.class(list, said, name, class)?;
-        let code = name.code;
-        let descriptor = Descriptor {
-            class,
-            name: code,
-            id: number,
-        };
-        let value = self.value(said, descriptor)?;
-        if raw {
-            append_pairs(text, self.head.client.value())?;
-            text.push(b'\n')?;
-            return Ok(());
+        let attribute = self.attribute(list, said, named(said)?, class)?;
+        let value = self.value(said, attribute)?;
+        let mut text = Vec::new(self.alloc);
+        match self.append_one(&mut text, attribute, &value, shape) {
+            Ok(()) => put(output, text.as_slice()),
+            Err(_) => Err(Fault::MEMORY),
         }
-        let scaled = self.scaler_unit(class, name, number);
-        if json {
-            append_value_json(text, name.code, number, class, &value, scaled)?;
-            return Ok(());
-        }
-        match scaled {
-            Some((scaler, unit)) if append_quantity(text, &value, scaler, unit)? => Ok(()),
-            _ => {
-                let mut words = String::new(self.alloc);
-                write_value(&mut words, 0, &value)?;
-                text.extend_from_slice(words.as_bytes())?;
-                Ok(())
+    }
+
+    /// Prints the values of attributes, whose classes stand in an object list where none is said.
+    fn get_each<W: Write>(
+        &mut self,
+        list: Option<&Data<Global>>,
+        names: &'a str,
+        class: u16,
+        shape: Shape,
+        output: &mut W,
+    ) -> Result<(), Fault<'a>> {
+        let mut rest = names;
+        'names: for _name in 0..names.len() {
+            let (said, behind) = match rest.split_once(',') {
+                Some((said, behind)) => (said, Some(behind)),
+                None => (rest, None),
+            };
+            self.get_one(list, said, class, shape, output)?;
+            match behind {
+                Some(behind) => rest = behind,
+                None => return Ok(()),
             }
         }
+        Ok(())
     }
 
     /// Prints the values of attributes.
@@ -217,26 +283,11 @@ impl<'a, S: End> Talk<'a, '_, S> {
         &mut self,
         names: &'a str,
         class: u16,
-        raw: bool,
-        json: bool,
+        shape: Shape,
         output: &mut W,
     ) -> Result<(), Fault<'a>> {
         let list = self.list_unless(class)?;
-        let mut rest = names;
-        'names: for _name in 0..names.len() {
-            let (said, behind) = match rest.split_once(',') {
-                Some((said, behind)) => (said, Some(behind)),
-                None => (rest, None),
-            };
-            let mut text = Vec::new(self.alloc);
-            self.get_one(&mut text, list.as_ref(), said, class, raw, json)?;
-            put(output, text.as_slice())?;
-            match behind {
-                Some(behind) => rest = behind,
-                None => return Ok(()),
-            }
-        }
-        Ok(())
+        self.get_each(list.as_ref(), names, class, shape, output)
     }
 
     /// Prints the object list.
@@ -247,14 +298,10 @@ impl<'a, S: End> Talk<'a, '_, S> {
             return Err(Fault::of_call(self.place, CallFault::Talk(dlms_client::Fault::Form)));
         };
         let mut text = Vec::new(self.alloc);
-        if json {
-            append_entries_json(&mut text, entries)?;
-        } else {
-            for entry in entries {
-                append_entry(self.alloc, &mut text, entry)?;
-            }
+        match append_entries(self.alloc, &mut text, entries, json) {
+            Ok(()) => put(output, text.as_slice()),
+            Err(_) => Err(Fault::MEMORY),
         }
-        put(output, text.as_slice())
     }
 
     /// Sets an attribute.
@@ -267,14 +314,7 @@ impl<'a, S: End> Talk<'a, '_, S> {
         output: &mut W,
     ) -> Result<(), Fault<'a>> {
         let name = named(said)?;
-        let list = self.list_unless(class)?;
-        let class = self.class(list.as_ref(), said, name, class)?;
-        let code = name.code;
-        let attribute = Descriptor {
-            class,
-            name: code,
-            id: name.number.unwrap_or(SECOND),
-        };
+        let attribute = self.attribute_of(said, name, class)?;
         let answer = set(self.line, &mut self.head, attribute, value);
         self.judge(said, false, answer)?;
         put_line(output, "set ", said)
@@ -290,27 +330,30 @@ impl<'a, S: End> Talk<'a, '_, S> {
         output: &mut W,
     ) -> Result<(), Fault<'a>> {
         let name = named(said)?;
-        let Some(number) = name.number else {
+        if name.number.is_none() {
             return Err(Fault::Name(said));
-        };
-        let list = self.list_unless(class)?;
-        let class = self.class(list.as_ref(), said, name, class)?;
-        let code = name.code;
-        let method = Descriptor {
-            class,
-            name: code,
-            id: number,
-        };
+        }
+        let method = self.attribute_of(said, name, class)?;
         let answer = act(self.line, &mut self.head, method, value);
         self.judge(said, true, answer)?;
         put_line(output, "called ", said)?;
-        match read(self.alloc, self.head.client.value()) {
-            Ok((value, _)) => {
-                let mut words = String::new(self.alloc);
-                write_value(&mut words, 0, &value)?;
-                put(output, words.as_bytes())
-            }
-            Err(_) => Ok(()),
+        self.put_returned(output)
+    }
+
+    /// Prints what a method returned, where it is a value.
+    fn put_returned<W: Write>(&self, output: &mut W) -> Result<(), Fault<'a>> {
+        let Ok((value, _)) = read(self.alloc, self.head.client.value()) else {
+            return Ok(());
+        };
+        let mut text = Vec::new(self.alloc);
+        match append_words(self.alloc, &mut text, &value) {
+            Ok(()) => put(output, text.as_slice()),
+            Err(_) => Err(Fault::MEMORY),
         }
+    }
+
+    /// Ends the association, and the link.
+    pub fn end(&mut self) {
+        let _ended = end(self.line, &mut self.head);
     }
 }

@@ -37,7 +37,8 @@ mod streams;
 mod telling;
 mod watched;
 
-use asking::{Errand, ask, value_to_set};
+use asking::{Errand, ask, ask_to_act, ask_to_set};
+use errand::Shape;
 pub use fault::Fault;
 use streams::{Input, Output, flush};
 use watched::Watched;
@@ -518,8 +519,7 @@ fn run_job<
             let errand = Errand::Get {
                 names,
                 class: class_number(class),
-                raw,
-                json,
+                shape: Shape::of(raw, json),
             };
             ask(host, &asking, errand, output, errors)
         }
@@ -530,12 +530,8 @@ fn run_job<
             value,
             class,
         } => {
-            let errand = Errand::Set {
-                name,
-                value: value_to_set(host, value)?,
-                class: class_number(class),
-            };
-            ask(host, &asking, errand, output, errors)
+            let class = class_number(class);
+            ask_to_set(host, &asking, name, value, class, output, errors)
         }
         Job::Act {
             asking,
@@ -543,16 +539,8 @@ fn run_job<
             value,
             class,
         } => {
-            let value = match value {
-                Some(value) => Some(value_to_set(host, value)?),
-                None => None,
-            };
-            let errand = Errand::Act {
-                name,
-                value,
-                class: class_number(class),
-            };
-            ask(host, &asking, errand, output, errors)
+            let class = class_number(class);
+            ask_to_act(host, &asking, name, value, class, output, errors)
         }
         Job::Show { file, plot } => run_show(host, file, plot, output),
         Job::Plot { readings, svg } => run_plot(host, readings, svg, input, output),

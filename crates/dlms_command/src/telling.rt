@@ -2,7 +2,7 @@
 
 use crate::fault::Fault;
 use dlms_ask::{append_decimal, append_json, append_number, append_quoted, entry_of, right_of};
-use dlms_data::Data;
+use dlms_data::{Data, Descriptor};
 use dlms_explain::{write_code, write_value};
 use dlms_names::{class_of, unit_name};
 use std::alloc::{AllocError, Global};
@@ -48,7 +48,7 @@ fn number_in(value: &Data<Global>) -> Option<(bool, u64)> {
 }
 
 /// Appends a number with its scaler and its unit, an energy in thousands of its unit; and says whether the value is a number.
-pub fn append_quantity(
+fn append_quantity(
     text: &mut Vec<u8>,
     value: &Data<Global>,
     scaler: i8,
@@ -90,28 +90,62 @@ fn append_code(text: &mut Vec<u8>, code: [u8; 6]) -> Result<(), AllocError> {
     Ok(())
 }
 
-/// Appends the value of an attribute as an object of JSON, and a line feed.
-pub fn append_value_json(
+/// Appends a value in words.
+pub fn append_words(
+    alloc: Global,
     text: &mut Vec<u8>,
-    code: [u8; 6],
-    number: u8,
-    class: u16,
+    value: &Data<Global>,
+) -> Result<(), AllocError> {
+    let mut words = String::new(alloc);
+    write_value(&mut words, 0, value)?;
+    text.extend_from_slice(words.as_bytes())
+}
+
+/// Appends a value: a number with its scaler and its unit where it has them, another one in words.
+pub fn append_scaled(
+    alloc: Global,
+    text: &mut Vec<u8>,
     value: &Data<Global>,
     scaled: Option<(i8, u8)>,
 ) -> Result<(), AllocError> {
+    if let Some((scaler, unit)) = scaled
+        && append_quantity(text, value, scaler, unit)?
+    {
+        return Ok(());
+    }
+    append_words(alloc, text, value)
+}
+
+/// Appends an attribute as the front of an object of JSON.
+fn append_attribute_json(text: &mut Vec<u8>, attribute: Descriptor) -> Result<(), AllocError> {
     text.extend_from_slice(b"{\"name\":\"")?;
-    append_code(text, code)?;
+    append_code(text, attribute.name)?;
     text.extend_from_slice(b"\",\"attribute\":")?;
-    append_number(text, u64::from(number))?;
+    append_number(text, u64::from(attribute.id))?;
     text.extend_from_slice(b",\"class\":")?;
-    append_number(text, u64::from(class))?;
+    append_number(text, u64::from(attribute.class))
+}
+
+/// Appends a scaler and a unit as a part of an object of JSON.
+fn append_scale_json(text: &mut Vec<u8>, scaler: i8, unit: u8) -> Result<(), AllocError> {
+    text.extend_from_slice(b",\"scaler\":")?;
+    append_decimal(text, scaler < 0, u64::from(scaler.unsigned_abs()), 0)?;
+    text.extend_from_slice(b",\"unit\":")?;
+    append_quoted(text, unit_name(unit).unwrap_or("").as_bytes())
+}
+
+/// Appends the value of an attribute as an object of JSON, and a line feed.
+pub fn append_value_json(
+    text: &mut Vec<u8>,
+    attribute: Descriptor,
+    value: &Data<Global>,
+    scaled: Option<(i8, u8)>,
+) -> Result<(), AllocError> {
+    append_attribute_json(text, attribute)?;
     text.extend_from_slice(b",\"value\":")?;
     append_json(text, value)?;
     if let Some((scaler, unit)) = scaled {
-        text.extend_from_slice(b",\"scaler\":")?;
-        append_json(text, &Data::<Global>::Integer(scaler))?;
-        text.extend_from_slice(b",\"unit\":")?;
-        append_quoted(text, unit_name(unit).unwrap_or("").as_bytes())?;
+        append_scale_json(text, scaler, unit)?;
     }
     text.extend_from_slice(b"}\n")
 }
@@ -170,19 +204,19 @@ fn append_rights(
     Ok(())
 }
 
-/// Appends the line of an element of the object list.
-pub fn append_entry(
-    alloc: Global,
-    text: &mut Vec<u8>,
-    value: &Data<Global>,
-) -> Result<(), AllocError> {
+/// Appends a code and what it names.
+fn append_name(alloc: Global, text: &mut Vec<u8>, code: [u8; 6]) -> Result<(), AllocError> {
     let mut words = String::new(alloc);
+    write_code(&mut words, code)?;
+    text.extend_from_slice(words.as_bytes())
+}
+
+/// Appends the line of an element of the object list.
+fn append_entry(alloc: Global, text: &mut Vec<u8>, value: &Data<Global>) -> Result<(), AllocError> {
     let Some(entry) = entry_of(value) else {
-        write_value(&mut words, 0, value)?;
-        return text.extend_from_slice(words.as_bytes());
+        return append_words(alloc, text, value);
     };
-    write_code(&mut words, entry.name)?;
-    text.extend_from_slice(words.as_bytes())?;
+    append_name(alloc, text, entry.name)?;
     text.extend_from_slice(b" | ")?;
     text.extend_from_slice(class_name(entry.class).as_bytes())?;
     text.extend_from_slice(b" ")?;
@@ -244,7 +278,7 @@ fn append_entry_json(text: &mut Vec<u8>, value: &Data<Global>) -> Result<(), All
 }
 
 /// Appends an object list as an array of JSON.
-pub fn append_entries_json(text: &mut Vec<u8>, entries: &[Data<Global>]) -> Result<(), AllocError> {
+fn append_entries_json(text: &mut Vec<u8>, entries: &[Data<Global>]) -> Result<(), AllocError> {
     text.extend_from_slice(b"[")?;
     for (at, entry) in entries.iter().enumerate() {
         if at > 0 {
@@ -253,4 +287,20 @@ pub fn append_entries_json(text: &mut Vec<u8>, entries: &[Data<Global>]) -> Resu
         append_entry_json(text, entry)?;
     }
     text.extend_from_slice(b"]\n")
+}
+
+/// Appends an object list, a line an element or as an array of JSON.
+pub fn append_entries(
+    alloc: Global,
+    text: &mut Vec<u8>,
+    entries: &[Data<Global>],
+    is_json: bool,
+) -> Result<(), AllocError> {
+    if is_json {
+        return append_entries_json(text, entries);
+    }
+    for entry in entries {
+        append_entry(alloc, text, entry)?;
+    }
+    Ok(())
 }
