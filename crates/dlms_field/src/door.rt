@@ -25,6 +25,7 @@ pub struct Door<'r, R: Clock, L: OpenListener> {
 
 impl<'r, R: Clock, L: OpenListener> Door<'r, R, L> {
     /// Nobody waits, and nobody is barred.
+    #[inline(never)]
     pub fn new(rt: &'r R, start: Instant, listener: L) -> Self {
         Door {
             rt,

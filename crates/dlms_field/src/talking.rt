@@ -178,6 +178,7 @@ fn behind_answer(turn: Turn, now: u64, waits: bool) -> Turn
 
 impl<'e, W: Watch + Drop, E: Write> Site<'e, W, E> {
     /// A meter that was told so much of the clock, and nothing was said.
+    #[inline(never)]
     pub fn new(watch: W, ticks: Ticks, log: Log<Global>, errors: &'e mut E) -> Self
         ensures { result.ticks ≡ ticks }
     {
