@@ -151,9 +151,11 @@ pub fn set<S: End, A: Allocator + Copy>(
     ensures { Leads head.old head.new (Requests (IsFree head.old.client × Fits (value_of value)) Set (set_normal INVOKE attribute None (value_of value)) (S.past line.old) (S.past line.new) result) }
 {
     if !head.client.is_free() {
+        drop(value);
         return Err(CallFault::Talk(Fault::Form));
     }
     if !fits(&value) {
+        drop(value);
         return Err(CallFault::Talk(Fault::Form));
     }
     match head.client.set::<A>(attribute, None, value) {
@@ -172,9 +174,11 @@ pub fn act<S: End, A: Allocator + Copy>(
     ensures { Leads head.old head.new (Requests (IsFree head.old.client × ParameterFits (option_map value_of parameter)) Action (action_normal INVOKE method (option_map value_of parameter)) (S.past line.old) (S.past line.new) result) }
 {
     if !head.client.is_free() {
+        drop(parameter);
         return Err(CallFault::Talk(Fault::Form));
     }
     if !parameter_fits(&parameter) {
+        drop(parameter);
         return Err(CallFault::Talk(Fault::Form));
     }
     match head.client.act(method, parameter) {

@@ -315,14 +315,14 @@ impl<A: Allocator + Copy> Client<A> {
         requires fits { SelectorFits (option_map selection_of selector) }
         ensures { Asks Get (get_normal INVOKE descriptor (option_map selection_of selector)) self.old result self.new }
     {
-        self.ask(
-            Asked::Get,
-            &Request::GetNormal {
-                invoke: INVOKE,
-                descriptor,
-                selector,
-            },
-        )
+        let request = Request::GetNormal {
+            invoke: INVOKE,
+            descriptor,
+            selector,
+        };
+        let asked = self.ask(Asked::Get, &request);
+        drop(request);
+        asked
     }
 
     /// Sets an attribute.
@@ -337,15 +337,15 @@ impl<A: Allocator + Copy> Client<A> {
         requires value { Fits (value_of value) }
         ensures { Asks Set (set_normal INVOKE descriptor (option_map selection_of selector) (value_of value)) self.old result self.new }
     {
-        self.ask(
-            Asked::Set,
-            &Request::SetNormal {
-                invoke: INVOKE,
-                descriptor,
-                selector,
-                value,
-            },
-        )
+        let request = Request::SetNormal {
+            invoke: INVOKE,
+            descriptor,
+            selector,
+            value,
+        };
+        let asked = self.ask(Asked::Set, &request);
+        drop(request);
+        asked
     }
 
     /// Calls a method.
@@ -358,14 +358,14 @@ impl<A: Allocator + Copy> Client<A> {
         requires fits { ParameterFits (option_map value_of parameter) }
         ensures { Asks Action (action_normal INVOKE descriptor (option_map value_of parameter)) self.old result self.new }
     {
-        self.ask(
-            Asked::Action,
-            &Request::ActionNormal {
-                invoke: INVOKE,
-                descriptor,
-                parameter,
-            },
-        )
+        let request = Request::ActionNormal {
+            invoke: INVOKE,
+            descriptor,
+            parameter,
+        };
+        let asked = self.ask(Asked::Action, &request);
+        drop(request);
+        asked
     }
 
     /// The most bytes of an APDU that goes out.

@@ -1,8 +1,10 @@
 //! What an APDU says in answer to a request.
 
-ghost use Rattle.std.specs.Prelude.{◌≡◌, drop, option_map};
+ghost use Rattle.std.specs.Prelude.{◌≡◌, drop, option_map, true, Ok};
 ghost use Rattle.dlms_apdu.specs.Reading.{response_at};
+ghost use Rattle.dlms_apdu.specs.View.{response_of};
 ghost use Rattle.dlms_client.specs.Hearing.{Joins, GetHears, Hears, set_heard, action_heard, returned_at, ActionHears};
+ghost use Rattle.dlms_client.specs.declared.answer.Answer.TheVariants.{Value};
 
 use crate::answer::Answer;
 use crate::association::denial;
@@ -14,7 +16,7 @@ use dlms_data::is_value;
 use std::alloc::Allocator;
 
 /// What an APDU says in answer to a request.
-#[derive(Clone, Copy, Debug, PartialEq, Eq)]
+#[derive(Clone, Copy)]
 pub enum Heard {
     /// The block of this number has come, or was taken, behind which others are to come or to go.
     More(u32),
@@ -56,28 +58,61 @@ fn block<A: Allocator>(
     }
 }
 
+/// A value in one piece that answers a GET.
+fn whole<A: Allocator>(blocks: &mut GetIn<A>, apdu: &[u8]) -> Result<Heard, Fault>
+    ensures { Joins blocks.old true 1 (drop 4 apdu.now) Value result blocks.new }
+{
+    block(blocks, true, 1, behind_head(apdu), Answer::Value)
+}
+
+/// What a response says in answer to a GET.
+fn get_by<A: Allocator, B: Allocator>(
+    blocks: &mut GetIn<A>,
+    apdu: &[u8],
+    response: &Response<'_, B>,
+) -> Result<Heard, Fault>
+    ensures { GetHears blocks.old apdu.now (Ok (response_of response.now)) result blocks.new }
+{
+    match response {
+        Response::GetData { .. } => whole(blocks, apdu),
+        Response::GetBlock {
+            last,
+            number,
+            raw,
+            ..
+        } => block(blocks, *last, *number, raw, Answer::Value),
+        Response::GetResult { result, .. } | Response::GetBlockResult { result, .. } => {
+            Ok(Heard::Told(Answer::Result(*result)))
+        }
+        _ => Err(Fault::Form),
+    }
+}
+
 /// The answer to a GET. Where there is no memory for its value as a tree, it is joined all the same.
 fn get<A: Allocator + Copy>(alloc: A, blocks: &mut GetIn<A>, apdu: &[u8]) -> Result<Heard, Fault>
     ensures { GetHears blocks.old apdu.now (response_at apdu.now) result blocks.new }
 {
-    let value = Answer::Value;
     match read_response(alloc, apdu) {
-        Ok(Response::GetData { .. }) | Err(ApduFault::Memory) => {
-            block(blocks, true, 1, behind_head(apdu), value)
+        Ok(response) => {
+            let heard = get_by(blocks, apdu, &response);
+            drop(response);
+            heard
         }
-        Ok(
-            Response::GetBlock {
-                last,
-                number,
-                raw,
-                ..
-            },
-        ) => block(blocks, last, number, raw, value),
-        Ok(Response::GetResult { result, .. }) | Ok(Response::GetBlockResult { result, .. }) => {
-            Ok(Heard::Told(Answer::Result(result)))
-        }
-        Ok(_) => Err(Fault::Form),
+        Err(ApduFault::Memory) => whole(blocks, apdu),
         Err(fault) => Err(Fault::Unread(fault)),
+    }
+}
+
+/// What a response says in answer to a SET, or to a block of one.
+fn set_by<A: Allocator>(response: &Response<'_, A>) -> Result<Heard, Fault>
+    ensures { result ≡ set_heard (Ok (response_of response.now)) }
+{
+    match response {
+        Response::SetResult { result, .. } | Response::SetLast { result, .. } => {
+            Ok(Heard::Told(Answer::Result(*result)))
+        }
+        Response::SetBlock { number, .. } => Ok(Heard::More(*number)),
+        _ => Err(Fault::Form),
     }
 }
 
@@ -86,11 +121,12 @@ fn set<A: Allocator + Copy>(alloc: A, apdu: &[u8]) -> Result<Heard, Fault>
     ensures { result ≡ set_heard (response_at apdu.now) }
 {
     match read_response(alloc, apdu) {
-        Ok(Response::SetResult { result, .. }) | Ok(Response::SetLast { result, .. }) => {
-            Ok(Heard::Told(Answer::Result(result)))
+        Ok(response) => {
+            let heard = set_by(&response);
+            drop(response);
+            heard
         }
-        Ok(Response::SetBlock { number, .. }) => Ok(Heard::More(number)),
-        Ok(_) | Err(ApduFault::Memory) => Err(Fault::Form),
+        Err(ApduFault::Memory) => Err(Fault::Form),
         Err(fault) => Err(Fault::Unread(fault)),
     }
 }
@@ -105,14 +141,28 @@ fn returned(apdu: &[u8]) -> Option<(u8, &[u8])>
     }
 }
 
+/// What a response says in answer to an ACTION, or to a block of one.
+fn action_by<A: Allocator>(response: &Response<'_, A>) -> Result<Heard, Fault>
+    ensures { result ≡ action_heard (Ok (response_of response.now)) }
+{
+    match response {
+        Response::ActionResult { result, .. } => Ok(Heard::Told(Answer::Result(*result))),
+        Response::ActionBlock { number, .. } => Ok(Heard::More(*number)),
+        _ => Err(Fault::Form),
+    }
+}
+
 /// The answer to an ACTION that returns nothing beside its result, or to a block of one.
 fn action_result<A: Allocator + Copy>(alloc: A, apdu: &[u8]) -> Result<Heard, Fault>
     ensures { result ≡ action_heard (response_at apdu.now) }
 {
     match read_response(alloc, apdu) {
-        Ok(Response::ActionResult { result, .. }) => Ok(Heard::Told(Answer::Result(result))),
-        Ok(Response::ActionBlock { number, .. }) => Ok(Heard::More(number)),
-        Ok(_) | Err(ApduFault::Memory) => Err(Fault::Form),
+        Ok(response) => {
+            let heard = action_by(&response);
+            drop(response);
+            heard
+        }
+        Err(ApduFault::Memory) => Err(Fault::Form),
         Err(fault) => Err(Fault::Unread(fault)),
     }
 }

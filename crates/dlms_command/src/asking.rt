@@ -8,7 +8,7 @@ use crate::fault::Fault;
 use crate::spoken::Spoken;
 use arrayvec::ArrayVec;
 use dlms_ask::server_of;
-use dlms_call::{CallFault, begin};
+use dlms_call::{CallFault, ClientEnd, begin};
 use dlms_client::Plan;
 use dlms_data::Data;
 use dlms_ends::{End, LoopFault};
@@ -119,6 +119,22 @@ fn done<'a, S: End, W: Write>(
     }
 }
 
+/// An association over a line, where its addresses are some.
+fn opened<'a, S: End>(
+    alloc: Global,
+    place: &'a str,
+    plan: Plan,
+    line: &mut S,
+) -> Result<ClientEnd<Global>, Fault<'a>> {
+    if !plan.is_lawful() {
+        return Err(Fault::Server(place));
+    }
+    match begin(alloc, line, plan) {
+        Ok(head) => Ok(head),
+        Err(fault) => Err(Fault::of_call(place, fault)),
+    }
+}
+
 /// An association over a line, the errand in it, and its end, whatever came of the errand.
 #[inline(never)]
 fn talked<'a, S: End, W: Write>(
@@ -129,12 +145,12 @@ fn talked<'a, S: End, W: Write>(
     errand: Errand<'a>,
     output: &mut W,
 ) -> Result<(), Fault<'a>> {
-    if !plan.is_lawful() {
-        return Err(Fault::Server(place));
-    }
-    let head = match begin(alloc, line, plan) {
+    let head = match opened(alloc, place, plan, line) {
         Ok(head) => head,
-        Err(fault) => return Err(Fault::of_call(place, fault)),
+        Err(fault) => {
+            drop(errand);
+            return Err(fault);
+        }
     };
     let mut talk = Talk {
         alloc,
@@ -175,6 +191,15 @@ fn look<'a>(errand: &Errand<'a>) -> Result<(), Fault<'a>> {
     Ok(())
 }
 
+/// Connects a line to the meter at a place.
+fn connect<'a, L: Dialling>(alloc: Global, line: &mut L, place: &'a str) -> Result<(), Fault<'a>> {
+    match line.connect(place, CONNECT_SECONDS) {
+        Ok(true) => Ok(()),
+        Ok(false) => Err(Fault::Late(place, CONNECT_SECONDS)),
+        Err(error) => Err(Fault::of_system(alloc, place, &error)),
+    }
+}
+
 /// The line to the meter at a place.
 #[inline(never)]
 fn line_to<'a, 'r, H: Net + Files<File = File> + Clock + AllocGlobal>(
@@ -182,10 +207,12 @@ fn line_to<'a, 'r, H: Net + Files<File = File> + Clock + AllocGlobal>(
     place: &'a str,
 ) -> Result<Phone<'r, H>, Fault<'a>> {
     let mut phone = Phone::new(host);
-    match phone.connect(place, CONNECT_SECONDS) {
-        Ok(true) => Ok(phone),
-        Ok(false) => Err(Fault::Late(place, CONNECT_SECONDS)),
-        Err(error) => Err(Fault::of_system(host.alloc(), place, &error)),
+    match connect(host.alloc(), &mut phone, place) {
+        Ok(()) => Ok(phone),
+        Err(fault) => {
+            drop(phone);
+            Err(fault)
+        }
     }
 }
 
@@ -195,8 +222,14 @@ fn spoken_to<'a, 'r, 'e, H: Net + Files<File = File> + Clock + AllocGlobal, E: W
     asking: &Asking<'a>,
     errors: &'e mut E,
 ) -> Result<Spoken<'e, Phone<'r, H>, E>, Fault<'a>> {
-    let line = line_to(host, asking.place)?;
-    Ok(Spoken::new(host.alloc(), line, asking.verbose, errors)?)
+    let line = match line_to(host, asking.place) {
+        Ok(line) => line,
+        Err(fault) => return Err(fault),
+    };
+    match Spoken::new(host.alloc(), line, asking.verbose, errors) {
+        Ok(spoken) => Ok(spoken),
+        Err(error) => Err(Fault::from(error)),
+    }
 }
 
 /// The association that is asked for, where the errand's names are some.
@@ -229,9 +262,47 @@ fn told<'a>(
     failure: Option<io::Error>,
 ) -> Result<(), Fault<'a>> {
     match failure {
-        Some(error) if is_of_line(&talked) => Err(Fault::of_system(alloc, place, &error)),
+        Some(error) if is_of_line(&talked) => {
+            drop(talked);
+            Err(Fault::of_system(alloc, place, &error))
+        }
         _ => talked,
     }
+}
+
+/// Asks a meter over the line to it.
+fn answered<'a, 'r, 'e, H: Net + Files<File = File> + Clock + AllocGlobal, W: Write, E: Write>(
+    host: &'r H,
+    asking: &Asking<'a>,
+    plan: Plan,
+    line: Spoken<'e, Phone<'r, H>, E>,
+    errand: Errand<'a>,
+    output: &mut W,
+) -> Result<(), Fault<'a>> {
+    let mut line = line;
+    let talked = talked(host.alloc(), asking.place, plan, &mut line, errand, output);
+    let told = told(host.alloc(), asking.place, talked, line.stream.failure());
+    drop(line);
+    told
+}
+
+/// Asks a meter by the association that is asked for.
+fn ask_by<'a, H: Net + Files<File = File> + Clock + AllocGlobal, W: Write, E: Write>(
+    host: &H,
+    asking: &Asking<'a>,
+    plan: Plan,
+    errand: Errand<'a>,
+    output: &mut W,
+    errors: &mut E,
+) -> Result<(), Fault<'a>> {
+    let line = match spoken_to(host, asking, errors) {
+        Ok(line) => line,
+        Err(fault) => {
+            drop(errand);
+            return Err(fault);
+        }
+    };
+    answered(host, asking, plan, line, errand, output)
 }
 
 /// Asks a meter.
@@ -243,10 +314,13 @@ pub fn ask<'a, H: Net + Files<File = File> + Clock + AllocGlobal, W: Write, E: W
     output: &mut W,
     errors: &mut E,
 ) -> Result<(), Fault<'a>> {
-    let plan = plan_of(host, asking, &errand)?;
-    let mut line = spoken_to(host, asking, errors)?;
-    let talked = talked(host.alloc(), asking.place, plan, &mut line, errand, output);
-    told(host.alloc(), asking.place, talked, line.stream.failure())
+    match plan_of(host, asking, &errand) {
+        Ok(plan) => ask_by(host, asking, plan, errand, output, errors),
+        Err(fault) => {
+            drop(errand);
+            Err(fault)
+        }
+    }
 }
 
 /// Asks a meter to set an attribute to the value that a text writes.

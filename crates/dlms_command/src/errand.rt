@@ -177,8 +177,15 @@ impl<'a, S: End> Talk<'a, '_, S> {
             _ => return None,
         };
         match self.value("", Descriptor { id, ..of }) {
-            Ok(scaled) => scale_of(&scaled),
-            Err(_) => None,
+            Ok(scaled) => {
+                let scale = scale_of(&scaled);
+                drop(scaled);
+                scale
+            }
+            Err(fault) => {
+                drop(fault);
+                None
+            }
         }
     }
 
@@ -207,7 +214,9 @@ impl<'a, S: End> Talk<'a, '_, S> {
         class: u16,
     ) -> Result<Descriptor, Fault<'a>> {
         let list = self.list_unless(class)?;
-        self.attribute(list.as_ref(), said, name, class)
+        let attribute = self.attribute(list.as_ref(), said, name, class);
+        drop(list);
+        attribute
     }
 
     /// Appends the encoding of the value that came last.
@@ -247,10 +256,12 @@ impl<'a, S: End> Talk<'a, '_, S> {
         let attribute = self.attribute(list, said, named(said)?, class)?;
         let value = self.value(said, attribute)?;
         let mut text = Vec::new(self.alloc);
-        match self.append_one(&mut text, attribute, &value, shape) {
+        let told = match self.append_one(&mut text, attribute, &value, shape) {
             Ok(()) => put(output, text.as_slice()),
             Err(_) => Err(Fault::MEMORY),
-        }
+        };
+        drop(value);
+        told
     }
 
     /// Prints the values of attributes, whose classes stand in an object list where none is said.
@@ -287,14 +298,19 @@ impl<'a, S: End> Talk<'a, '_, S> {
         output: &mut W,
     ) -> Result<(), Fault<'a>> {
         let list = self.list_unless(class)?;
-        self.get_each(list.as_ref(), names, class, shape, output)
+        let told = self.get_each(list.as_ref(), names, class, shape, output);
+        drop(list);
+        told
     }
 
-    /// Prints the object list.
-    #[inline(never)]
-    pub fn list_all<W: Write>(&mut self, json: bool, output: &mut W) -> Result<(), Fault<'a>> {
-        let list = self.list()?;
-        let Some(entries) = elements(&list) else {
+    /// Prints the object list that a value is.
+    fn put_list<W: Write>(
+        &self,
+        list: &Data<Global>,
+        json: bool,
+        output: &mut W,
+    ) -> Result<(), Fault<'a>> {
+        let Some(entries) = elements(list) else {
             return Err(Fault::of_call(self.place, CallFault::Talk(dlms_client::Fault::Form)));
         };
         let mut text = Vec::new(self.alloc);
@@ -302,6 +318,30 @@ impl<'a, S: End> Talk<'a, '_, S> {
             Ok(()) => put(output, text.as_slice()),
             Err(_) => Err(Fault::MEMORY),
         }
+    }
+
+    /// Prints the object list.
+    #[inline(never)]
+    pub fn list_all<W: Write>(&mut self, json: bool, output: &mut W) -> Result<(), Fault<'a>> {
+        let list = self.list()?;
+        let told = self.put_list(&list, json, output);
+        drop(list);
+        told
+    }
+
+    /// The attribute that a text names.
+    fn attribute_said(&mut self, said: &'a str, class: u16) -> Result<Descriptor, Fault<'a>> {
+        let name = named(said)?;
+        self.attribute_of(said, name, class)
+    }
+
+    /// The method that a text names.
+    fn method_said(&mut self, said: &'a str, class: u16) -> Result<Descriptor, Fault<'a>> {
+        let name = named(said)?;
+        if name.number.is_none() {
+            return Err(Fault::Name(said));
+        }
+        self.attribute_of(said, name, class)
     }
 
     /// Sets an attribute.
@@ -313,8 +353,13 @@ impl<'a, S: End> Talk<'a, '_, S> {
         class: u16,
         output: &mut W,
     ) -> Result<(), Fault<'a>> {
-        let name = named(said)?;
-        let attribute = self.attribute_of(said, name, class)?;
+        let attribute = match self.attribute_said(said, class) {
+            Ok(attribute) => attribute,
+            Err(fault) => {
+                drop(value);
+                return Err(fault);
+            }
+        };
         let answer = set(self.line, &mut self.head, attribute, value);
         self.judge(said, false, answer)?;
         put_line(output, "set ", said)
@@ -329,11 +374,13 @@ impl<'a, S: End> Talk<'a, '_, S> {
         class: u16,
         output: &mut W,
     ) -> Result<(), Fault<'a>> {
-        let name = named(said)?;
-        if name.number.is_none() {
-            return Err(Fault::Name(said));
-        }
-        let method = self.attribute_of(said, name, class)?;
+        let method = match self.method_said(said, class) {
+            Ok(method) => method,
+            Err(fault) => {
+                drop(value);
+                return Err(fault);
+            }
+        };
         let answer = act(self.line, &mut self.head, method, value);
         self.judge(said, true, answer)?;
         put_line(output, "called ", said)?;
@@ -346,10 +393,12 @@ impl<'a, S: End> Talk<'a, '_, S> {
             return Ok(());
         };
         let mut text = Vec::new(self.alloc);
-        match append_words(self.alloc, &mut text, &value) {
+        let told = match append_words(self.alloc, &mut text, &value) {
             Ok(()) => put(output, text.as_slice()),
             Err(_) => Err(Fault::MEMORY),
-        }
+        };
+        drop(value);
+        told
     }
 
     /// Ends the association, and the link.

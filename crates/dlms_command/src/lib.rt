@@ -1,7 +1,7 @@
 //! What the program does for its words, over any three streams.
 #![tactic(auto)]
 
-ghost use Rattle.std.specs.Prelude.{◌≡◌, ◌≢◌, ◌⊎◌, [], map, IfOk, MatchResult};
+ghost use Rattle.std.specs.Prelude.{◌≡◌, ◌≢◌, ◌⊎◌, [], map, IfOk, MatchResult, is_some, true};
 ghost use Rattle.clap.specs.Words.{fault_of, subcommand_of};
 ghost use Rattle.dlms_words.specs.Grammar.{dlms};
 ghost use Rattle.dlms_words.specs.Words.{AsksBoth, IsClear, NamesNoAddress};
@@ -90,12 +90,33 @@ fn pass_a_day<'a, P: Pages>(meter: &mut Meter<P>, file: &'a str) -> Result<(), F
     }
 }
 
+/// Lets a day pass on a new meter where that is asked for, and says why there is no meter where none was made.
+fn pass_where_asked<'a, P: Pages>(
+    made: &mut Result<Meter<P>, (P, OpenFault)>,
+    file: &'a str,
+    demo: bool,
+) -> Result<(), Fault<'a>> {
+    match made {
+        Ok(meter) => {
+            if demo {
+                pass_a_day(meter, file)
+            } else {
+                Ok(())
+            }
+        }
+        Err(failed) => Err(Fault::Open(Some(file), failed.1)),
+    }
+}
+
 /// Closes a meter that was made or recovered, and says whether its device has failed.
 #[inline(never)]
 fn has_failed<P: Pages + Drop>(made: Result<Meter<P>, (P, OpenFault)>) -> bool {
     match made {
         Ok(meter) => meter.close().faults() > 0,
-        Err(_) => false,
+        Err((pages, _)) => {
+            drop(pages);
+            false
+        }
     }
 }
 
@@ -112,13 +133,9 @@ fn run_format<'a, H: Files<File = File> + AllocGlobal, W: Write>(
         Err(error) => return Err(Fault::of_system(host.alloc(), file, &error)),
     };
     let mut formatted = Meter::format(host.alloc(), pages);
-    match &mut formatted {
-        Ok(meter) => {
-            if demo {
-                pass_a_day(meter, file)?;
-            }
-        }
-        Err(failed) => return Err(Fault::Open(Some(file), failed.1)),
+    match pass_where_asked(&mut formatted, file, demo) {
+        Ok(()) => {}
+        Err(fault) => return Err(fault),
     }
     if has_failed(formatted) {
         return Err(Fault::Open(Some(file), OpenFault::Device));
@@ -138,6 +155,27 @@ fn leaves_a_fault<P: Pages + Drop>(meter: &mut Option<Meter<P>>) -> bool {
     }
 }
 
+/// Replays the input on a meter, and closes it.
+fn replayed_on<'f, H: AllocGlobal, R: Source, W: Sink, P: Pages + Drop>(
+    host: &H,
+    file: Option<&'f str>,
+    input: &mut R,
+    output: &mut W,
+    meter: &mut Option<Meter<P>>,
+) -> Result<(), Fault<'f>>
+    requires { is_some meter.old ≡ true }
+{
+    let replayed = replay(host.alloc(), input, output, meter);
+    let has_failed = leaves_a_fault(meter);
+    if let Err(fault) = replayed {
+        return Err(Fault::Replay(fault));
+    }
+    if has_failed {
+        return Err(Fault::Open(file, OpenFault::Device));
+    }
+    Ok(())
+}
+
 /// Replays the input on the meter that was made or recovered, and closes it.
 #[inline(never)]
 fn run_on<'f, H: AllocGlobal, R: Source, W: Sink, P: Pages + Drop>(
@@ -149,17 +187,12 @@ fn run_on<'f, H: AllocGlobal, R: Source, W: Sink, P: Pages + Drop>(
 ) -> Result<(), Fault<'f>> {
     let mut meter = match made {
         Ok(meter) => Some(meter),
-        Err((_pages, fault)) => return Err(Fault::Open(file, fault)),
+        Err((pages, fault)) => {
+            drop(pages);
+            return Err(Fault::Open(file, fault));
+        }
     };
-    let replayed = replay(host.alloc(), input, output, &mut meter);
-    let has_failed = leaves_a_fault(&mut meter);
-    if let Err(fault) = replayed {
-        return Err(Fault::Replay(fault));
-    }
-    if has_failed {
-        return Err(Fault::Open(file, OpenFault::Device));
-    }
-    Ok(())
+    replayed_on(host, file, input, output, &mut meter)
 }
 
 /// The end of a run, and that of its output.
@@ -187,6 +220,22 @@ fn written<W: Write + Drop>(alloc: Global, output: W) -> Result<BufWriter<W>, Fa
     }
 }
 
+/// The input through a buffer, where a meter was recovered to replay it on.
+fn buffered_for<'a, P: Pages, R: Read + Drop>(
+    alloc: Global,
+    recovered: &Result<Meter<P>, (P, OpenFault)>,
+    file: &'a str,
+    input: R,
+) -> Result<BufReader<R>, Fault<'a>> {
+    match recovered {
+        Ok(_) => buffered(alloc, input),
+        Err(failed) => {
+            drop(input);
+            Err(Fault::Open(Some(file), failed.1))
+        }
+    }
+}
+
 /// Replays the input on the meter in a file. Each answer goes out as soon as it is made.
 #[inline(never)]
 fn run_replay_file<'a, H: Files<File = File> + AllocGlobal, R: Read + Drop, W: Write>(
@@ -200,13 +249,11 @@ fn run_replay_file<'a, H: Files<File = File> + AllocGlobal, R: Read + Drop, W: W
         Err(error) => return Err(Fault::of_system(host.alloc(), file, &error)),
     };
     let recovered = Meter::recover(host.alloc(), pages);
-    match &recovered {
-        Ok(_) => {}
-        Err(failed) => return Err(Fault::Open(Some(file), failed.1)),
-    }
-    let mut input = Buffered {
-        reader: buffered(host.alloc(), input)?,
+    let reader = match buffered_for(host.alloc(), &recovered, file, input) {
+        Ok(reader) => reader,
+        Err(fault) => return Err(fault),
     };
+    let mut input = Buffered { reader };
     let replayed = run_on(host, Some(file), &mut input, output, recovered);
     ended(replayed, output.flush())
 }
@@ -239,15 +286,19 @@ fn run_loopback<'a, H: Net + Files<File = File> + AllocGlobal, W: Write>(
     output: &mut W,
 ) -> Result<(), Fault<'a>> {
     let mut told = None;
+    let mut place = FilePlace::of(host);
+    let mut line = sockets(host);
     let looped = loopback(
         host.alloc(),
-        &mut FilePlace::of(host),
-        &mut sockets(host),
+        &mut place,
+        &mut line,
         file,
         stops,
         output,
         &mut told,
     );
+    drop(line);
+    drop(place);
     match (looped, file, told) {
         (Ok(()), _, _) => Ok(()),
         (Err(_), Some(file), Some(error)) => Err(Fault::of_system(host.alloc(), file, &error)),
@@ -298,7 +349,7 @@ fn run_serve<'a, H: Net + Files<File = File> + Clock + AllocGlobal, W: Write, E:
     let mut recovered = Meter::recover(host.alloc(), pages);
     let served = match &mut recovered {
         Ok(meter) => run_meter(host, file, meter, serving, on_line, output, errors),
-        Err(failed) => return Err(Fault::Open(Some(file), failed.1)),
+        Err(failed) => Err(Fault::Open(Some(file), failed.1)),
     };
     let _has_failed = has_failed(recovered);
     served
@@ -312,7 +363,8 @@ fn run_poll<'a, H: Net + Files<File = File> + Clock + AllocGlobal, W: Write, E: 
     output: &mut W,
     errors: &mut E,
 ) -> Result<(), Fault<'a>> {
-    match poll(host.alloc(), &mut Office::of(host), polling, output, errors) {
+    let mut office = Office::of(host);
+    let told = match poll(host.alloc(), &mut office, polling, output, errors) {
         Ok(()) => Ok(()),
         Err(fault) => Err(Fault::of_field(
             host.alloc(),
@@ -321,7 +373,9 @@ fn run_poll<'a, H: Net + Files<File = File> + Clock + AllocGlobal, W: Write, E: 
             polling.secret_file,
             fault,
         )),
-    }
+    };
+    drop(office);
+    told
 }
 
 /// The file's name, but for the one that stands for the standard input.
@@ -362,7 +416,9 @@ fn explained<'a, H: AllocGlobal, R: Read + Drop, W: Write>(
         Err(ExplainFault::Input) => Err(Fault::Input(place)),
         Err(ExplainFault::Output) => Err(Fault::Output),
     };
-    ended(explained, output.flush())
+    let told = ended(explained, output.flush());
+    drop(reader);
+    told
 }
 
 /// Shows what stands in a meter's file, and the curve of its load profile where it is asked for.
@@ -384,20 +440,48 @@ fn run_show<'a, H: Files<File = File> + AllocGlobal, W: Write + Drop>(
     ended(shown, writer.flush())
 }
 
+/// The text that was read at a place.
+fn text_at<'a>(
+    alloc: Global,
+    place: &'a str,
+    read: io::Result<String>,
+) -> Result<(&'a str, String), Fault<'a>> {
+    match read {
+        Ok(text) => Ok((place, text)),
+        Err(error) => Err(Fault::of_system(alloc, place, &error)),
+    }
+}
+
 /// The text of a readings file, or of the input where its name says so, and where it stands.
 fn readings_text<'a, H: Files + AllocGlobal, R: Read + Drop>(
     host: &H,
     readings: &'a str,
     input: R,
 ) -> Result<(&'a str, String), Fault<'a>> {
-    let (place, read) = match named(Some(readings)) {
-        Some(file) => (file, fs::read_to_string(host, file)),
-        None => (INPUT, io::read_to_string(host.alloc(), input)),
-    };
-    match read {
-        Ok(text) => Ok((place, text)),
-        Err(error) => Err(Fault::of_system(host.alloc(), place, &error)),
+    match named(Some(readings)) {
+        Some(file) => {
+            let text = text_at(host.alloc(), file, fs::read_to_string(host, file));
+            drop(input);
+            text
+        }
+        None => text_at(host.alloc(), INPUT, io::read_to_string(host.alloc(), input)),
     }
+}
+
+/// Plots the load profile of the readings in a text, which stands at this place.
+fn plotted<'a, W: Write + Drop>(
+    alloc: Global,
+    place: &'a str,
+    text: &str,
+    form: Form,
+    output: W,
+) -> Result<(), Fault<'a>> {
+    let mut writer = written(alloc, output)?;
+    let plotted = match plot_readings(alloc, text, form, &mut writer) {
+        Ok(()) => Ok(()),
+        Err(fault) => Err(Fault::of_plot(place, fault)),
+    };
+    ended(plotted, writer.flush())
 }
 
 /// Plots the load profile of a readings file.
@@ -410,13 +494,8 @@ fn run_plot<'a, H: Files + AllocGlobal, R: Read + Drop, W: Write + Drop>(
     output: W,
 ) -> Result<(), Fault<'a>> {
     let (place, text) = readings_text(host, readings, input)?;
-    let mut writer = written(host.alloc(), output)?;
     let form = if svg { Form::Svg } else { Form::Text };
-    let plotted = match plot_readings(host.alloc(), text.as_str(), form, &mut writer) {
-        Ok(()) => Ok(()),
-        Err(fault) => Err(Fault::of_plot(place, fault)),
-    };
-    ended(plotted, writer.flush())
+    plotted(host.alloc(), place, text.as_str(), form, output)
 }
 
 /// The status of a run that has ended; a fault is named among the errors.
@@ -426,7 +505,9 @@ pub fn finish<E: Write>(ended: Result<(), Fault<'_>>, errors: &mut E) -> io::Res
     match ended {
         Ok(()) => Ok(DONE),
         Err(fault) => {
-            writeln!(errors, "dlms: {fault}")?;
+            let told = writeln!(errors, "dlms: {fault}");
+            drop(fault);
+            told?;
             Ok(FAULT)
         }
     }
@@ -435,6 +516,12 @@ pub fn finish<E: Write>(ended: Result<(), Fault<'_>>, errors: &mut E) -> io::Res
 /// The number of a class that was said, or 0.
 fn class_number(class: u32) -> u16 {
     u16::try_from(class).unwrap_or(0)
+}
+
+/// How a job ended that reads no input.
+fn unread<'a, R: Drop>(ended: Result<(), Fault<'a>>, input: R) -> Result<(), Fault<'a>> {
+    drop(input);
+    ended
 }
 
 /// Does a job.
@@ -447,10 +534,13 @@ fn run_job<
     E: Write,
 >(host: &H, job: Job<'a>, input: R, output: &mut W, errors: &mut E) -> Result<(), Fault<'a>> {
     match job {
-        Job::Format { file, demo } => run_format(host, file, demo, output),
+        Job::Format { file, demo } => unread(run_format(host, file, demo, output), input),
         Job::Replay { file: Some(file) } => run_replay_file(host, file, input, output),
         Job::Replay { file: None } => run_replay_memory(host, input, output),
-        Job::Loopback { readings, stops } => run_loopback(host, readings, stops, output),
+        Job::Loopback { readings, stops } => unread(
+            run_loopback(host, readings, stops, output),
+            input,
+        ),
         Job::Serve {
             file,
             listen,
@@ -474,7 +564,8 @@ fn run_job<
                 quiet,
                 errors: Some(STANDARD_ERROR),
             };
-            run_serve(host, file, &serving, line.is_some(), output, errors)
+            let ended = run_serve(host, file, &serving, line.is_some(), output, errors);
+            unread(ended, input)
         }
         Job::Poll {
             address,
@@ -492,7 +583,7 @@ fn run_job<
                 deadline,
                 ahead,
             };
-            run_poll(host, &polling, output, errors)
+            unread(run_poll(host, &polling, output, errors), input)
         }
         Job::Explain {
             file,
@@ -521,9 +612,12 @@ fn run_job<
                 class: class_number(class),
                 shape: Shape::of(raw, json),
             };
-            ask(host, &asking, errand, output, errors)
+            unread(ask(host, &asking, errand, output, errors), input)
         }
-        Job::List { asking, json } => ask(host, &asking, Errand::List { json }, output, errors),
+        Job::List { asking, json } => {
+            let errand = Errand::List { json };
+            unread(ask(host, &asking, errand, output, errors), input)
+        }
         Job::Set {
             asking,
             name,
@@ -531,7 +625,8 @@ fn run_job<
             class,
         } => {
             let class = class_number(class);
-            ask_to_set(host, &asking, name, value, class, output, errors)
+            let ended = ask_to_set(host, &asking, name, value, class, output, errors);
+            unread(ended, input)
         }
         Job::Act {
             asking,
@@ -540,9 +635,10 @@ fn run_job<
             class,
         } => {
             let class = class_number(class);
-            ask_to_act(host, &asking, name, value, class, output, errors)
+            let ended = ask_to_act(host, &asking, name, value, class, output, errors);
+            unread(ended, input)
         }
-        Job::Show { file, plot } => run_show(host, file, plot, output),
+        Job::Show { file, plot } => unread(run_show(host, file, plot, output), input),
         Job::Plot { readings, svg } => run_plot(host, readings, svg, input, output),
     }
 }
@@ -555,6 +651,14 @@ fn may_be_cut(job: &Job<'_>) -> bool {
     )
 }
 
+/// Whether a job ended early for a stream, one of which the output may be.
+fn is_of_a_stream(ended: &Result<(), Fault<'_>>) -> bool {
+    match ended {
+        Ok(()) => false,
+        Err(fault) => fault.is_of_a_stream(),
+    }
+}
+
 /// How a job ended, where the output may have failed: why it did is told, but for a reader that has closed its end of a pipe.
 fn judged<'a>(
     alloc: Global,
@@ -562,15 +666,16 @@ fn judged<'a>(
     ended: Result<(), Fault<'a>>,
     failure: Option<io::Error>,
 ) -> Result<(), Fault<'a>> {
-    match (ended, failure) {
-        (Err(fault), Some(error)) if fault.is_of_a_stream() => {
+    match failure {
+        Some(error) if is_of_a_stream(&ended) => {
+            drop(ended);
             if error.kind() == io::ErrorKind::BrokenPipe && may_be_cut(job) {
                 Ok(())
             } else {
                 Err(Fault::of_system(alloc, OUTPUT, &error))
             }
         }
-        (ended, _) => ended,
+        _ => ended,
     }
 }
 

@@ -49,14 +49,22 @@ impl<'e, S: Drop, E: Write> Spoken<'e, S, E> {
         })
     }
 
+    /// Appends to the text what is told of bytes of this side.
+    fn explain(&mut self, side: &[u8], bytes: &[u8], text: &mut String) -> Result<(), AllocError> {
+        let Some(explainer) = &mut self.explainer else {
+            return Ok(());
+        };
+        let line = transcript(self.alloc, side, bytes)?;
+        explainer.line(line.as_slice(), text)
+    }
+
     /// Explains bytes of this side.
     fn tell(&mut self, side: &[u8], bytes: &[u8]) -> io::Result<()> {
         let mut text = String::new(self.alloc);
-        if let Some(explainer) = &mut self.explainer {
-            let line = transcript(self.alloc, side, bytes)?;
-            explainer.line(line.as_slice(), &mut text)?;
+        match self.explain(side, bytes, &mut text) {
+            Ok(()) => self.errors.write_all(text.as_bytes()),
+            Err(error) => Err(error.into()),
         }
-        self.errors.write_all(text.as_bytes())
     }
 }
 

@@ -68,14 +68,17 @@ fn append_quantity(
     Ok(true)
 }
 
+/// Appends a number behind a label.
+fn append_labelled(text: &mut Vec<u8>, label: &[u8], number: u64) -> Result<(), AllocError> {
+    text.extend_from_slice(label)?;
+    append_number(text, number)
+}
+
 /// Appends the name of a unit, or its number where it has none.
 fn append_unit(text: &mut Vec<u8>, unit: u8) -> Result<(), AllocError> {
     match unit_name(unit) {
         Some(name) => text.extend_from_slice(name.as_bytes()),
-        None => {
-            text.extend_from_slice(b"unit ")?;
-            append_number(text, u64::from(unit))
-        }
+        None => append_labelled(text, b"unit ", u64::from(unit)),
     }
 }
 
@@ -97,8 +100,10 @@ pub fn append_words(
     value: &Data<Global>,
 ) -> Result<(), AllocError> {
     let mut words = String::new(alloc);
-    write_value(&mut words, 0, value)?;
-    text.extend_from_slice(words.as_bytes())
+    match write_value(&mut words, 0, value) {
+        Ok(()) => text.extend_from_slice(words.as_bytes()),
+        Err(error) => Err(error),
+    }
 }
 
 /// Appends a value: a number with its scaler and its unit where it has them, another one in words.
@@ -120,10 +125,8 @@ pub fn append_scaled(
 fn append_attribute_json(text: &mut Vec<u8>, attribute: Descriptor) -> Result<(), AllocError> {
     text.extend_from_slice(b"{\"name\":\"")?;
     append_code(text, attribute.name)?;
-    text.extend_from_slice(b"\",\"attribute\":")?;
-    append_number(text, u64::from(attribute.id))?;
-    text.extend_from_slice(b",\"class\":")?;
-    append_number(text, u64::from(attribute.class))
+    append_labelled(text, b"\",\"attribute\":", u64::from(attribute.id))?;
+    append_labelled(text, b",\"class\":", u64::from(attribute.class))
 }
 
 /// Appends a scaler and a unit as a part of an object of JSON.
@@ -192,13 +195,12 @@ fn append_rights(
 ) -> Result<(), AllocError> {
     text.extend_from_slice(label.as_bytes())?;
     for right in rights {
-        text.extend_from_slice(b" ")?;
         match right_of(right) {
             Some((number, mode)) => {
-                append_number(text, u64::from(number))?;
+                append_labelled(text, b" ", u64::from(number))?;
                 text.extend_from_slice(right_name(is_method, mode).as_bytes())?;
             }
-            None => text.extend_from_slice(b"?")?,
+            None => text.extend_from_slice(b" ?")?,
         }
     }
     Ok(())
@@ -207,8 +209,10 @@ fn append_rights(
 /// Appends a code and what it names.
 fn append_name(alloc: Global, text: &mut Vec<u8>, code: [u8; 6]) -> Result<(), AllocError> {
     let mut words = String::new(alloc);
-    write_code(&mut words, code)?;
-    text.extend_from_slice(words.as_bytes())
+    match write_code(&mut words, code) {
+        Ok(()) => text.extend_from_slice(words.as_bytes()),
+        Err(error) => Err(error),
+    }
 }
 
 /// Appends the line of an element of the object list.
@@ -219,10 +223,8 @@ fn append_entry(alloc: Global, text: &mut Vec<u8>, value: &Data<Global>) -> Resu
     append_name(alloc, text, entry.name)?;
     text.extend_from_slice(b" | ")?;
     text.extend_from_slice(class_name(entry.class).as_bytes())?;
-    text.extend_from_slice(b" ")?;
-    append_number(text, u64::from(entry.class))?;
-    text.extend_from_slice(b", version ")?;
-    append_number(text, u64::from(entry.version))?;
+    append_labelled(text, b" ", u64::from(entry.class))?;
+    append_labelled(text, b", version ", u64::from(entry.version))?;
     append_rights(text, " |", entry.attributes, false)?;
     append_rights(text, " |", entry.methods, true)?;
     text.extend_from_slice(b"\n")
@@ -236,24 +238,21 @@ fn class_name(class: u16) -> &'static str {
     }
 }
 
-/// Appends rights as an array of JSON.
+/// Appends rights as an object of JSON behind a label, which opens it.
 fn append_rights_json(
     text: &mut Vec<u8>,
-    label: &str,
+    label: &[u8],
     rights: &[Data<Global>],
     is_method: bool,
 ) -> Result<(), AllocError> {
-    append_quoted(text, label.as_bytes())?;
-    text.extend_from_slice(b":{")?;
-    let mut parting = "";
+    text.extend_from_slice(label)?;
+    let mut parting = "\"";
     for right in rights {
         if let Some((number, mode)) = right_of(right) {
-            text.extend_from_slice(parting.as_bytes())?;
-            text.extend_from_slice(b"\"")?;
-            append_number(text, u64::from(number))?;
+            append_labelled(text, parting.as_bytes(), u64::from(number))?;
             text.extend_from_slice(b"\":")?;
             append_quoted(text, right_name(is_method, mode).as_bytes())?;
-            parting = ",";
+            parting = ",\"";
         }
     }
     text.extend_from_slice(b"}")
@@ -266,14 +265,10 @@ fn append_entry_json(text: &mut Vec<u8>, value: &Data<Global>) -> Result<(), All
     };
     text.extend_from_slice(b"{\"name\":\"")?;
     append_code(text, entry.name)?;
-    text.extend_from_slice(b"\",\"class\":")?;
-    append_number(text, u64::from(entry.class))?;
-    text.extend_from_slice(b",\"version\":")?;
-    append_number(text, u64::from(entry.version))?;
-    text.extend_from_slice(b",")?;
-    append_rights_json(text, "attributes", entry.attributes, false)?;
-    text.extend_from_slice(b",")?;
-    append_rights_json(text, "methods", entry.methods, true)?;
+    append_labelled(text, b"\",\"class\":", u64::from(entry.class))?;
+    append_labelled(text, b",\"version\":", u64::from(entry.version))?;
+    append_rights_json(text, b",\"attributes\":{", entry.attributes, false)?;
+    append_rights_json(text, b",\"methods\":{", entry.methods, true)?;
     text.extend_from_slice(b"}")
 }
 

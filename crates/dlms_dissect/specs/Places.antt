@@ -93,6 +93,10 @@ abbrev pub reason_of : ApduFault → Option ApduFault
 reason_of apdu.Memory = None
 reason_of fault = Some fault
 
+abbrev pub reason_in : {T : Type 0} → Result T ApduFault → Option ApduFault
+reason_in (Ok t) = None
+reason_in (Err e) = reason_of e
+
 -- A beginning shows a fault where it is refused so. That octets stand behind the APDU, it shows where it is the APDU too.
 abbrev pub is_shown : ApduFault → Option ApduFault → Bool
 is_shown fault None = apdu_number fault == apdu_number apdu.Trailing

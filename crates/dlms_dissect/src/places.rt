@@ -1,7 +1,7 @@
 //! Where a fault stands in bytes that a reader refused.
 
 ghost use Rattle.std.specs.Prelude.{◌≡◌, [], Some};
-ghost use Rattle.dlms_dissect.specs.Places.{IsApduFault, IsShown, IsValueFault, IsValuesFault, Shows, ShowsValue, acse_words, data_words, is_refused, is_shown, reason_of, refused, refused_value};
+ghost use Rattle.dlms_dissect.specs.Places.{IsApduFault, IsShown, IsValueFault, IsValuesFault, Shows, ShowsValue, acse_words, data_words, is_refused, is_shown, reason_in, reason_of, refused, refused_value};
 
 use crate::parties::Side;
 use dlms_acse::AcseFault;
@@ -26,19 +26,23 @@ fn reason_of(told: ApduFault) -> Option<ApduFault>
     }
 }
 
+/// Why a reader gave no APDU, if it gave none.
+fn reason_in<T: Drop>(read: Result<T, ApduFault>) -> Option<ApduFault>
+    ensures { result ≡ reason_in read }
+{
+    match read {
+        Ok(_) => None,
+        Err(told) => reason_of(told),
+    }
+}
+
 /// Why the reader of one end's APDUs refuses the bytes, if it does.
 fn refused<A: Allocator + Copy>(alloc: A, side: Side, bytes: &[u8]) -> Option<ApduFault>
     ensures { result ≡ refused side bytes.now }
 {
     match side {
-        Side::Client => match read_request(alloc, bytes) {
-            Ok(_) => None,
-            Err(told) => reason_of(told),
-        },
-        Side::Meter => match read_response(alloc, bytes) {
-            Ok(_) => None,
-            Err(told) => reason_of(told),
-        },
+        Side::Client => reason_in(read_request(alloc, bytes)),
+        Side::Meter => reason_in(read_response(alloc, bytes)),
     }
 }
 

@@ -58,7 +58,9 @@ fn unset(client: Client, descriptor: Descriptor, selected: bool) -> AccessResult
     ensures { set_asked client descriptor selected None ≡ Err result }
 {
     let nothing: Data = Data::Null;
-    match plan_set(client, descriptor, &nothing) {
+    let planned = plan_set(client, descriptor, &nothing);
+    drop(nothing);
+    match planned {
         Ok(_) => AccessResult::TypeUnmatched,
         Err(AccessResult::TypeUnmatched) if selected => AccessResult::ScopeOfAccessViolated,
         Err(refusal) => refusal,

@@ -51,10 +51,8 @@ fn take<A: Allocator + Copy>(state: &mut State<A>, event: Event)
     ensures events { HasEvents state.old → HasEvents state.new }
     ensures more { (E : List EventOf) → IsStateOf E state.old → MayFollow E event → HasNumberFor state.old event → IsStateOf (E ++ event ∷ []) state.new }
 {
-    if let Ok(()) = state.check(&event) {
-        if has_number_for(state, &event) {
-            state.apply(event);
-        }
+    if state.check(&event).is_ok() && has_number_for(state, &event) {
+        state.apply(event);
     }
 }
 

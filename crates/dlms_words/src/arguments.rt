@@ -72,7 +72,7 @@ fn number<'a>(
 }
 
 /// What a word of a command stands for.
-#[derive(Clone, Copy, Debug)]
+#[derive(Clone, Copy)]
 pub enum Kind {
     /// A value that stands by itself, and may be left out.
     Value,
@@ -89,7 +89,7 @@ pub enum Kind {
 }
 
 /// What a command may be given: its name, what it stands for, and what is said of it.
-#[derive(Clone, Copy, Debug)]
+#[derive(Clone, Copy)]
 pub struct Argument {
     pub name: &'static str,
     pub kind: Kind,

@@ -3,7 +3,7 @@
 use dlms_frame::Client;
 
 /// Which meter is asked, by whom.
-#[derive(Clone, Copy, Debug, PartialEq, Eq)]
+#[derive(Clone, Copy)]
 pub struct Asking<'a> {
     /// Where the meter is.
     pub place: &'a str,
@@ -20,7 +20,7 @@ pub struct Asking<'a> {
 }
 
 /// The work that the program is asked to do.
-#[derive(Clone, Copy, Debug, PartialEq, Eq)]
+#[derive(Clone, Copy)]
 pub enum Job<'a> {
     /// Makes a new meter in this file, over whatever it holds; where `demo` is set with a day of captures behind it.
     Format {

@@ -17,7 +17,7 @@ use std::alloc::{AllocError, Global};
 const VERSION: &str = "0.1.0";
 
 /// A command's words: its name, what it does in a line and in whole, an example, and what it may be given, in two parts.
-#[derive(Clone, Copy, Debug)]
+#[derive(Clone, Copy)]
 struct CommandWords {
     name: &'static str,
     about: &'static str,

@@ -8,7 +8,7 @@ use Rattle.dlms_service.proofs.session.Session.complete.Goals as goal
 pub returns-in-Ok-clause-completes : goal.returns-in-Ok-clause-completes
 returns-in-Ok-clause-completes g c E is =
     inl (completed E c.args.self.now c.args.invoke c.args.number c.args.target c.args.joined.now (option_map value_of c.in-Ok.value) _
-    c.in-Ok.ensures.found (rw (sym (behind_reference c.as_ref.result c.in-Ok.value c.as_ref.ensures.value)) (c.conclude.ensures.done E is)))
+    c.in-Ok.ensures.found (rw (sym (behind_reference c.as_ref.result c.in-Ok.value c.as_ref.ensures.value)) (c.conclude-event.ensures.done E is)))
 
 -- what is not looked at is refused, whatever it is
 pub returns-in-Err-2-clause-completes : goal.returns-in-Err-2-clause-completes

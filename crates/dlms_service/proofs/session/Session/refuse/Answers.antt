@@ -8,7 +8,7 @@ use Rattle.dlms_service.proofs.session.Session.refuse.Goals as goal
 -- what is refused before its value is refused so whatever the value is
 pub returns-clause-done : goal.returns-clause-done
 returns-clause-done g c E is v =
-    let d = c.conclude.ensures.done E is in
+    let d = c.conclude-event.ensures.done E is in
     let t = c.args.target in
     let none = behind_reference c.as_ref.result None c.as_ref.ensures.value in
     let planned = subst (λ (x : Option Value). IsPlanFor t.service c.args.self.now.client t x d.0) none d.1 in

@@ -10,7 +10,7 @@ use Rattle.dlms_service.proofs.session.Session.request.Goals as goal
 pub returns-in-GetNormal-clause-serves : goal.returns-in-GetNormal-clause-serves
 returns-in-GetNormal-clause-serves g c E is =
     let s = c.args.self.now in
-    let form = request_of c.args.request in
+    let form = request_of c.args.request.now in
     let p : permits c.args.association form ≡ true = sym c.requires.permits ∙ c.if-not-permitted.false in
     let o : Outcome = record { own = c.get_normal.new.self; answer = c.get_normal.new.answer.items; accepted = [] } in
     let told : Asks E s c.args.association form o ⊎ LacksToAnswer E s c.args.association form o = rw c.in-GetNormal.is (rw (sym (seen_through c.as_ref-selector.result c.in-GetNormal.selector c.as_ref-selector.ensures.value)) (c.get_normal.ensures E is)) in
@@ -19,7 +19,7 @@ returns-in-GetNormal-clause-serves g c E is =
 pub returns-in-GetNext-clause-serves : goal.returns-in-GetNext-clause-serves
 returns-in-GetNext-clause-serves g c E is =
     let s = c.args.self.now in
-    let form = request_of c.args.request in
+    let form = request_of c.args.request.now in
     let p : permits c.args.association form ≡ true = sym c.requires.permits ∙ c.if-not-permitted.false in
     let o : Outcome = record { own = c.get_next.new.self; answer = c.get_next.new.answer.items; accepted = [] } in
     let told : Asks E s c.args.association form o ⊎ LacksToAnswer E s c.args.association form o = rw c.in-GetNext.is c.get_next.ensures in
@@ -28,7 +28,7 @@ returns-in-GetNext-clause-serves g c E is =
 pub returns-in-SetNormal-clause-serves : goal.returns-in-SetNormal-clause-serves
 returns-in-SetNormal-clause-serves g c E is =
     let s = c.args.self.now in
-    let form = request_of c.args.request in
+    let form = request_of c.args.request.now in
     let p : permits c.args.association form ≡ true = sym c.requires.permits ∙ c.if-not-permitted.false in
     led E s c.args.association form _ p
     (rw c.in-SetNormal.is (set_done E s c.args.association c.in-SetNormal.invoke c.in-SetNormal.descriptor (option_map selection_of c.in-SetNormal.selector) c.is_some.result (value_of c.in-SetNormal.value) _
@@ -37,7 +37,7 @@ returns-in-SetNormal-clause-serves g c E is =
 pub returns-in-SetFirst-clause-serves : goal.returns-in-SetFirst-clause-serves
 returns-in-SetFirst-clause-serves g c E is =
     let s = c.args.self.now in
-    let form = request_of c.args.request in
+    let form = request_of c.args.request.now in
     let p : permits c.args.association form ≡ true = sym c.requires.permits ∙ c.if-not-permitted.false in
     led_unless_brought E s c.args.association form _ p
     (rw c.in-SetFirst.is (begun E s c.args.association c.in-SetFirst.invoke c.in-SetFirst.descriptor (option_map selection_of c.in-SetFirst.selector) c.is_some-in-SetFirst.result c.in-SetFirst.last c.in-SetFirst.number c.in-SetFirst.raw.now _
@@ -46,14 +46,14 @@ returns-in-SetFirst-clause-serves g c E is =
 pub returns-in-SetBlock-clause-serves : goal.returns-in-SetBlock-clause-serves
 returns-in-SetBlock-clause-serves g c E is =
     let s = c.args.self.now in
-    let form = request_of c.args.request in
+    let form = request_of c.args.request.now in
     let p : permits c.args.association form ≡ true = sym c.requires.permits ∙ c.if-not-permitted.false in
     led_unless_brought E s c.args.association form _ p (rw c.in-SetBlock.is (c.further_block.ensures.continues E is))
 
 pub returns-in-ActionNormal-clause-serves : goal.returns-in-ActionNormal-clause-serves
 returns-in-ActionNormal-clause-serves g c E is =
     let s = c.args.self.now in
-    let form = request_of c.args.request in
+    let form = request_of c.args.request.now in
     let p : permits c.args.association form ≡ true = sym c.requires.permits ∙ c.if-not-permitted.false in
     led E s c.args.association form _ p
     (rw c.in-ActionNormal.is (rw (sym (behind_reference c.as_ref.result c.in-ActionNormal.parameter c.as_ref.ensures.value)) (c.action_normal.ensures.done E is)))
@@ -61,13 +61,13 @@ returns-in-ActionNormal-clause-serves g c E is =
 pub returns-in-ActionFirst-clause-serves : goal.returns-in-ActionFirst-clause-serves
 returns-in-ActionFirst-clause-serves g c E is =
     let s = c.args.self.now in
-    let form = request_of c.args.request in
+    let form = request_of c.args.request.now in
     let p : permits c.args.association form ≡ true = sym c.requires.permits ∙ c.if-not-permitted.false in
     led_unless_brought E s c.args.association form _ p (rw c.in-ActionFirst.is (c.first_block-in-ActionFirst.ensures.begins E is))
 
 pub returns-in-ActionBlock-clause-serves : goal.returns-in-ActionBlock-clause-serves
 returns-in-ActionBlock-clause-serves g c E is =
     let s = c.args.self.now in
-    let form = request_of c.args.request in
+    let form = request_of c.args.request.now in
     let p : permits c.args.association form ≡ true = sym c.requires.permits ∙ c.if-not-permitted.false in
     led_unless_brought E s c.args.association form _ p (rw c.in-ActionBlock.is (c.further_block-in-ActionBlock.ensures.continues E is))
