@@ -1,10 +1,12 @@
 //! Captures, explained: the octets of each connection go to an explainer of its own.
 
+ghost use Rattle.std.specs.Prelude.{◌<◌, length};
+
 use crate::connection::Connection;
 use crate::json::{begin_note, end_note, write_note};
 use crate::session::Form;
 use crate::words::{Text, number};
-use dlms_capture::{File, Next, Packet, Segment, segment_of};
+use dlms_capture::{File, Next, Packet, Segment, Stamp, segment_of};
 use std::alloc::{AllocError, Allocator};
 
 /// How many connections are followed at once; of more the one that was longest silent is let go.
@@ -44,6 +46,44 @@ fn connection_of<A: Allocator + Copy>(
     }
 }
 
+/// The connection that was silent longest is let go: what is told of octets of it that are no frame.
+fn end_oldest<A: Allocator + Copy>(connections: &mut Vec<Connection<A>, A>, text: &mut Text<A>)
+    requires { 0 < length connections.old.items }
+{
+    let mut oldest = connections.remove(0);
+    oldest.end(text);
+    drop(oldest);
+}
+
+/// Keeps a connection behind the others.
+fn keep<A: Allocator + Copy>(
+    connections: &mut Vec<Connection<A>, A>,
+    connection: Connection<A>,
+    text: &mut Text<A>,
+) {
+    if connections.push(connection).is_err() {
+        text.refuse();
+    }
+    if connections.len() > MOST_CONNECTIONS {
+        end_oldest(connections, text);
+    }
+}
+
+/// What is told of a segment, and whether it is of other traffic.
+fn explain_segment<A: Allocator + Copy>(
+    alloc: A,
+    form: Form,
+    connections: &mut Vec<Connection<A>, A>,
+    stamp: Option<Stamp>,
+    segment: Segment<'_>,
+    text: &mut Text<A>,
+) -> bool {
+    let mut connection = connection_of(alloc, form, connections, segment);
+    let is_other = connection.explain(stamp, segment, text);
+    keep(connections, connection, text);
+    is_other
+}
+
 /// What is told of a packet, and whether it is of other traffic.
 fn explain_packet<A: Allocator + Copy>(
     alloc: A,
@@ -52,20 +92,10 @@ fn explain_packet<A: Allocator + Copy>(
     packet: Packet<'_>,
     text: &mut Text<A>,
 ) -> bool {
-    let Some(segment) = segment_of(packet) else {
-        return true;
-    };
-    let mut connection = connection_of(alloc, form, connections, segment);
-    let explained = connection.explain(packet.stamp, segment, text);
-    if connections.push(connection).is_err() {
-        text.refuse();
-        return false;
+    match segment_of(packet) {
+        Some(segment) => { explain_segment(alloc, form, connections, packet.stamp, segment, text) }
+        None => true,
     }
-    if connections.len() > MOST_CONNECTIONS {
-        let mut oldest = connections.remove(0);
-        oldest.end(text);
-    }
-    explained
 }
 
 /// The line of how many packets were of other traffic, where some were.

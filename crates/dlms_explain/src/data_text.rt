@@ -113,29 +113,55 @@ fn write_signed<A: Allocator>(text: &mut Text<A>, kind: &str, value: i64) {
     signed(text, value);
 }
 
+/// The type and the number of a value that is never below 0.
+fn unsigned_of<A: Allocator>(value: &Data<A>) -> Option<(&'static str, u64)> {
+    match value {
+        Data::DoubleLongUnsigned(n) => Some(("double-long-unsigned ", u64::from(*n))),
+        Data::Unsigned(n) => Some(("unsigned ", u64::from(*n))),
+        Data::LongUnsigned(n) => Some(("long-unsigned ", u64::from(*n))),
+        Data::Long64Unsigned(n) => Some(("long64-unsigned ", *n)),
+        Data::Enum(n) => Some(("enum ", u64::from(*n))),
+        _ => None,
+    }
+}
+
+/// The type and the number of a value that may be below 0.
+fn signed_of<A: Allocator>(value: &Data<A>) -> Option<(&'static str, i64)> {
+    match value {
+        Data::DoubleLong(z) => Some(("double-long ", i64::from(*z))),
+        Data::Integer(z) => Some(("integer ", i64::from(*z))),
+        Data::Long(z) => Some(("long ", i64::from(*z))),
+        Data::Long64(z) => Some(("long64 ", *z)),
+        _ => None,
+    }
+}
+
+/// The words of a value without a part that is told; nothing of the others.
+fn words_of<A: Allocator>(value: &Data<A>) -> &'static str {
+    match value {
+        Data::Null => "null-data",
+        Data::Boolean(true) => "boolean true",
+        Data::Boolean(false) => "boolean false",
+        _ => "",
+    }
+}
+
 /// The line of a number, or of a value without a part; nothing of the others.
 fn write_number<A: Allocator>(text: &mut Text<A>, value: &Data<A>) {
-    match value {
-        Data::Null => text.push("null-data"),
-        Data::Boolean(true) => text.push("boolean true"),
-        Data::Boolean(false) => text.push("boolean false"),
-        Data::DoubleLong(z) => write_signed(text, "double-long ", i64::from(*z)),
-        Data::DoubleLongUnsigned(n) => {
-            write_unsigned(text, "double-long-unsigned ", u64::from(*n));
-        }
-        Data::Bcd(n) => {
-            text.push("bcd ");
-            octets(text, &[*n]);
-        }
-        Data::Integer(z) => write_signed(text, "integer ", i64::from(*z)),
-        Data::Long(z) => write_signed(text, "long ", i64::from(*z)),
-        Data::Unsigned(n) => write_unsigned(text, "unsigned ", u64::from(*n)),
-        Data::LongUnsigned(n) => write_unsigned(text, "long-unsigned ", u64::from(*n)),
-        Data::Long64(z) => write_signed(text, "long64 ", *z),
-        Data::Long64Unsigned(n) => write_unsigned(text, "long64-unsigned ", *n),
-        Data::Enum(n) => write_unsigned(text, "enum ", u64::from(*n)),
-        _ => {}
+    if let Some((kind, number)) = unsigned_of(value) {
+        write_unsigned(text, kind, number);
+        return;
     }
+    if let Some((kind, number)) = signed_of(value) {
+        write_signed(text, kind, number);
+        return;
+    }
+    if let Data::Bcd(digits) = value {
+        text.push("bcd ");
+        octets(text, &[*digits]);
+        return;
+    }
+    text.push(words_of(value));
 }
 
 /// The line of a value that holds no other values.

@@ -47,6 +47,40 @@ const LLC: usize = 3;
 /// How many octets stand behind the information of a frame: its check and its flag.
 const BEHIND: usize = 3;
 
+/// The lines of a value to set or of a parameter that is joined of all its blocks.
+fn write_put<A: Allocator + Copy>(text: &mut Text<A>, alloc: A, services: &Services<A>) {
+    match services.put_whole(alloc) {
+        Ok(whole) => {
+            write_whole(text, services.put_len(), &whole);
+            drop(whole);
+        }
+        Err(_) => text.refuse(),
+    }
+}
+
+/// The lines of a value that was read and is joined of all its blocks.
+fn write_got<A: Allocator + Copy>(text: &mut Text<A>, alloc: A, services: &Services<A>) {
+    match services.got_whole(alloc) {
+        Ok(whole) => {
+            write_whole(text, services.got_len(), &whole);
+            drop(whole);
+        }
+        Err(_) => text.refuse(),
+    }
+}
+
+/// The lines of a request, and what its block is among those before it.
+fn hear_request<A: Allocator + Copy>(
+    text: &mut Text<A>,
+    alloc: A,
+    services: &mut Services<A>,
+    request: &Request<'_, A>,
+) -> Option<Joined> {
+    let heard = services.ask(alloc, request);
+    write_said(text, "", &heard.said);
+    heard.joined
+}
+
 /// The lines of a request, and of what its blocks join to.
 fn explain_request<A: Allocator + Copy>(
     text: &mut Text<A>,
@@ -54,15 +88,29 @@ fn explain_request<A: Allocator + Copy>(
     services: &mut Services<A>,
     request: &Request<'_, A>,
 ) {
-    let heard = services.ask(alloc, request);
-    write_said(text, "", &heard.said);
-    match heard.joined {
-        Some(Joined::Whole) => match services.put_whole(alloc) {
-            Ok(whole) => write_whole(text, services.put_len(), &whole),
-            Err(_) => text.refuse(),
-        },
+    match hear_request(text, alloc, services, request) {
+        Some(Joined::Whole) => write_put(text, alloc, services),
         Some(joined) => write_joined(text, joined),
         None => {}
+    }
+}
+
+/// The lines of a response, and what its block is among those before it.
+fn hear_response<A: Allocator + Copy>(
+    text: &mut Text<A>,
+    alloc: A,
+    services: &mut Services<A>,
+    response: &Response<'_, A>,
+) -> Option<Joined> {
+    match services.answer(alloc, response) {
+        Ok(heard) => {
+            write_said(text, "of ", &heard.said);
+            heard.joined
+        }
+        Err(_) => {
+            text.refuse();
+            None
+        }
     }
 }
 
@@ -73,16 +121,8 @@ fn explain_response<A: Allocator + Copy>(
     services: &mut Services<A>,
     response: &Response<'_, A>,
 ) {
-    let Ok(heard) = services.answer(alloc, response) else {
-        text.refuse();
-        return;
-    };
-    write_said(text, "of ", &heard.said);
-    match heard.joined {
-        Some(Joined::Whole) => match services.got_whole(alloc) {
-            Ok(whole) => write_whole(text, services.got_len(), &whole),
-            Err(_) => text.refuse(),
-        },
+    match hear_response(text, alloc, services, response) {
+        Some(Joined::Whole) => write_got(text, alloc, services),
         Some(joined) => write_joined(text, joined),
         None => {}
     }
@@ -141,16 +181,35 @@ pub fn explain_apdu<A: Allocator + Copy>(
     services: &mut Services<A>,
     bytes: &[u8],
 ) -> usize {
-    let Ok(apdu) = read_apdu(alloc, side, bytes) else {
-        text.refuse();
-        return 0;
-    };
+    match read_apdu(alloc, side, bytes) {
+        Ok(apdu) => {
+            let shown = explain_told(text, alloc, hex, side, services, bytes, &apdu);
+            drop(apdu);
+            shown
+        }
+        Err(_) => {
+            text.refuse();
+            0
+        }
+    }
+}
+
+/// The same of one that was read.
+fn explain_told<A: Allocator + Copy>(
+    text: &mut Text<A>,
+    alloc: A,
+    hex: bool,
+    side: Option<Side>,
+    services: &mut Services<A>,
+    bytes: &[u8],
+    apdu: &Apdu<'_, A>,
+) -> usize {
     let shown = if hex {
-        open_len(services, &apdu, bytes)
+        open_len(services, apdu, bytes)
     } else {
         0
     };
-    explain_read(text, alloc, side, services, bytes, &apdu);
+    explain_read(text, alloc, side, services, bytes, apdu);
     shown
 }
 

@@ -1,7 +1,7 @@
 //! Values by their octets, a line each.
 
 use crate::data_text::write_plain;
-use crate::words::{Text, begin, end, line, number, number_line, octets, signed};
+use crate::words::{Text, begin, end, line, number_line, octets, signed};
 use dlms_data::read;
 use dlms_dissect::{Field, Shown, front_at, length_at};
 use ryu::Buffer;
@@ -42,16 +42,24 @@ fn write_float64<A: Allocator>(text: &mut Text<A>, fields: [u8; 8]) {
 }
 
 /// A difference to a value before it, of one, two or four octets.
+fn delta_of(tag: u8, fields: &[u8]) -> Option<i64> {
+    match (tag, fields) {
+        (28, [a]) => Some(i64::from(i8::from_be_bytes([*a]))),
+        (29, [a, b]) => Some(i64::from(i16::from_be_bytes([*a, *b]))),
+        (30, [a, b, c, d]) => Some(i64::from(i32::from_be_bytes([*a, *b, *c, *d]))),
+        (31, [a]) => Some(i64::from(*a)),
+        (32, [a, b]) => Some(i64::from(u16::from_be_bytes([*a, *b]))),
+        (33, [a, b, c, d]) => Some(i64::from(u32::from_be_bytes([*a, *b, *c, *d]))),
+        _ => None,
+    }
+}
+
+/// A difference to a value before it; digits of what is none.
 fn write_delta<A: Allocator>(text: &mut Text<A>, tag: u8, fields: &[u8]) {
     text.push("delta ");
-    match (tag, fields) {
-        (28, [a]) => signed(text, i64::from(i8::from_be_bytes([*a]))),
-        (29, [a, b]) => signed(text, i64::from(i16::from_be_bytes([*a, *b]))),
-        (30, [a, b, c, d]) => signed(text, i64::from(i32::from_be_bytes([*a, *b, *c, *d]))),
-        (31, [a]) => number(text, u64::from(*a)),
-        (32, [a, b]) => number(text, u64::from(u16::from_be_bytes([*a, *b]))),
-        (33, [a, b, c, d]) => number(text, u64::from(u32::from_be_bytes([*a, *b, *c, *d]))),
-        _ => octets(text, fields),
+    match delta_of(tag, fields) {
+        Some(delta) => signed(text, delta),
+        None => octets(text, fields),
     }
 }
 
@@ -60,6 +68,17 @@ fn count_in(bytes: &[u8]) -> usize {
     match front_at(Field::Value, bytes) {
         Some(front) => front.values,
         None => 0,
+    }
+}
+
+/// A value that the meter's reader gives; digits where it gives none.
+fn write_read<A: Allocator + Copy>(text: &mut Text<A>, alloc: A, bytes: &[u8]) {
+    match read(alloc, bytes) {
+        Ok((value, _)) => {
+            write_plain(text, &value);
+            drop(value);
+        }
+        Err(_) => octets(text, bytes),
     }
 }
 
@@ -74,10 +93,7 @@ fn write_leaf<A: Allocator + Copy>(text: &mut Text<A>, alloc: A, bytes: &[u8]) {
             octets(text, rest);
         }
         [tag, rest @ ..] if 28 <= *tag && *tag <= 33 => write_delta(text, *tag, rest),
-        _ => match read(alloc, bytes) {
-            Ok((value, _)) => write_plain(text, &value),
-            Err(_) => octets(text, bytes),
-        },
+        _ => write_read(text, alloc, bytes),
     }
 }
 

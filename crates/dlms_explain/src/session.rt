@@ -181,6 +181,28 @@ fn read_front<R: Read>(input: &mut R, room: &mut [u8; ROOM]) -> Result<usize, Ex
     Ok(count)
 }
 
+/// Explains a capture, whose first octets are these, into a text that is written as it grows.
+fn tell_capture<A: Allocator + Copy, R: Read, W: Write>(
+    captured: &mut Captured<A>,
+    text: &mut Text<A>,
+    front: &[u8],
+    input: &mut R,
+    output: &mut W,
+) -> Result<(), ExplainFault> {
+    captured.feed(front, text)?;
+    let mut room = [0u8; ROOM];
+    for _ in 0..u64::MAX {
+        write_text(text, output)?;
+        let count = read_some(input, &mut room)?;
+        if count == 0 {
+            break;
+        }
+        captured.feed(&room[..count], text)?;
+    }
+    captured.end(text)?;
+    write_text(text, output)
+}
+
 /// Explains a capture, whose first octets are these.
 fn explain_capture<A: Allocator + Copy, R: Read, W: Write>(
     alloc: A,
@@ -191,18 +213,36 @@ fn explain_capture<A: Allocator + Copy, R: Read, W: Write>(
 ) -> Result<(), ExplainFault> {
     let mut captured = Captured::new(alloc, form);
     let mut text = Text::new(String::new(alloc));
-    captured.feed(front, &mut text)?;
-    let mut room = [0u8; ROOM];
+    let told = tell_capture(&mut captured, &mut text, front, input, output);
+    drop(captured);
+    drop(text);
+    told
+}
+
+/// Explains lines, of which so many first octets stand in the room.
+fn tell_lines<A: Allocator + Copy, R: Read, W: Write>(
+    session: &mut Session<A>,
+    room: &mut [u8; ROOM],
+    front: usize,
+    input: &mut R,
+    output: &mut W,
+) -> Result<(), ExplainFault>
+    requires { front ≤ length room.old }
+{
+    session.take(&room[..front])?;
     for _ in 0..u64::MAX {
-        write_text(&mut text, output)?;
-        let count = read_some(input, &mut room)?;
+        write_text(&mut session.text, output)?;
+        if front < FRONT {
+            break;
+        }
+        let count = read_some(input, room)?;
         if count == 0 {
             break;
         }
-        captured.feed(&room[..count], &mut text)?;
+        session.take(&room[..count])?;
     }
-    captured.end(&mut text)?;
-    write_text(&mut text, output)
+    session.end()?;
+    write_text(&mut session.text, output)
 }
 
 /// Explains the input: a capture of a network's traffic (pcap or pcapng, by its first octets), or lines, those of a transcript or
@@ -223,18 +263,7 @@ pub fn explain<A: Allocator + Copy, R: Read, W: Write>(
         return explain_capture(alloc, form, &room[..front], input, output);
     }
     let mut session = Session::new(alloc, form);
-    session.take(&room[..front])?;
-    for _ in 0..u64::MAX {
-        write_text(&mut session.text, output)?;
-        if front < FRONT {
-            break;
-        }
-        let count = read_some(input, &mut room)?;
-        if count == 0 {
-            break;
-        }
-        session.take(&room[..count])?;
-    }
-    session.end()?;
-    write_text(&mut session.text, output)
+    let told = tell_lines(&mut session, &mut room, front, input, output);
+    drop(session);
+    told
 }

@@ -105,6 +105,16 @@ fn print<O: Output>(readings: &Readings, output: &mut O) -> Result<(), LoopFault
     Ok(())
 }
 
+/// Counts 42 pulses on channel 0, and captures twice.
+fn start(meter: &mut MemoryMeter) -> Result<(), LoopFault>
+    ensures { IfErr result IsOfMeter }
+{
+    meter.pulses(0, 42)?;
+    meter.moment(PERIOD)?;
+    meter.moment(2 * PERIOD)?;
+    Ok(())
+}
+
 /// A new meter with 42 pulses on channel 0 and two captures.
 #[inline(never)]
 fn new_meter(alloc: Global) -> Result<MemoryMeter, LoopFault>
@@ -113,12 +123,27 @@ fn new_meter(alloc: Global) -> Result<MemoryMeter, LoopFault>
     let pages = MemoryPages::new(alloc, PAGES)?;
     let mut meter = match Meter::format(alloc, pages) {
         Ok(meter) => meter,
-        Err((_, fault)) => return Err(LoopFault::Open(fault)),
+        Err((pages, fault)) => {
+            drop(pages);
+            return Err(LoopFault::Open(fault));
+        }
     };
-    meter.pulses(0, 42)?;
-    meter.moment(PERIOD)?;
-    meter.moment(2 * PERIOD)?;
-    Ok(meter)
+    match start(&mut meter) {
+        Ok(()) => Ok(meter),
+        Err(why) => {
+            drop(meter);
+            Err(why)
+        }
+    }
+}
+
+/// Counts one more pulse, and captures once more.
+fn go_on(meter: &mut MemoryMeter, round: u8) -> Result<(), LoopFault>
+    ensures { IfErr result IsOfMeter }
+{
+    meter.pulses(0, 1)?;
+    meter.moment((2 + u32::from(round)) * PERIOD)?;
+    Ok(())
 }
 
 /// The meter as it comes back from a stop of the power, with one more pulse and one more capture.
@@ -128,11 +153,18 @@ fn stopped(alloc: Global, meter: MemoryMeter, round: u8) -> Result<MemoryMeter, 
 {
     let mut meter = match Meter::recover(alloc, meter.close().cut(Pick::AllOld)) {
         Ok(meter) => meter,
-        Err((_, fault)) => return Err(LoopFault::Open(fault)),
+        Err((pages, fault)) => {
+            drop(pages);
+            return Err(LoopFault::Open(fault));
+        }
     };
-    meter.pulses(0, 1)?;
-    meter.moment((2 + u32::from(round)) * PERIOD)?;
-    Ok(meter)
+    match go_on(&mut meter, round) {
+        Ok(()) => Ok(meter),
+        Err(why) => {
+            drop(meter);
+            Err(why)
+        }
+    }
 }
 
 /// A poll by management, from the last row's second on.

@@ -7,7 +7,7 @@ use crate::pages::{has_pages, write_pages};
 use crate::profile::{plotted, samples_of, write_rows};
 use crate::state::write_state;
 use dlms_checkpoint::Version;
-use dlms_plot::{Series, write_text};
+use dlms_plot::{Quantity, Sample, Series, write_text};
 use dlms_state::State;
 use dlms_store::{Edition, Found, OpenFault, Slot};
 use dlms_survey::{Image, Judge, Recovery, Survey};
@@ -138,6 +138,24 @@ fn write_recovery<A: Allocator + Copy, W: Write>(
     }
 }
 
+/// Writes the curve of a quantity, of these samples.
+fn write_series<A: Allocator + Copy, W: Write>(
+    alloc: A,
+    quantity: Quantity,
+    samples: &[Sample],
+    output: &mut W,
+) -> Result<(), ShowFault> {
+    match Series::of(alloc, samples)? {
+        Some(series) => {
+            let written = write_text(quantity, &series, output);
+            drop(series);
+            written?;
+        }
+        None => output.write_all(b"no curve: there are no two rows between which time goes on\n")?,
+    }
+    Ok(())
+}
+
 /// Writes the curve of the first register among the columns.
 fn write_curve<A: Allocator + Copy, W: Write>(
     alloc: A,
@@ -149,11 +167,9 @@ fn write_curve<A: Allocator + Copy, W: Write>(
         return Ok(());
     };
     let samples = samples_of(alloc, state, clock, place)?;
-    match Series::of(alloc, &samples)? {
-        Some(series) => write_text(quantity, &series, output)?,
-        None => output.write_all(b"no curve: there are no two rows between which time goes on\n")?,
-    }
-    Ok(())
+    let written = write_series(alloc, quantity, samples.as_slice(), output);
+    drop(samples);
+    written
 }
 
 /// Writes what a recovery finds: the state and its rows, and the curve where it is asked for.
@@ -176,6 +192,54 @@ fn write_found<A: Allocator + Copy, W: Write>(
     }
 }
 
+/// Writes which slot counts, the journal's events, and what a recovery would do.
+fn write_slots<A: Allocator + Copy, W: Write>(
+    image: &Image<A>,
+    survey: &Survey<A>,
+    judge: &Judge<'_, A>,
+    output: &mut W,
+) -> io::Result<()> {
+    output.write_all(b"\n")?;
+    write_active(survey, output)?;
+    output.write_all(b"\njournal\n")?;
+    write_journal(image, judge, output)?;
+    output.write_all(b"\n")?;
+    write_recovery(judge, survey, output)
+}
+
+/// Writes how long a file is, and its pages.
+fn write_file<A: Allocator + Copy, W: Write>(
+    image: &Image<A>,
+    judge: &Judge<'_, A>,
+    length: u64,
+    output: &mut W,
+) -> io::Result<()> {
+    write_length(length, output)?;
+    if !has_pages(image) {
+        output.write_all(b"no meter's file: no page of it is whole\n")?;
+    }
+    output.write_all(b"\npages\n")?;
+    write_pages(image, judge, output)
+}
+
+/// Writes all that is told of an image by its survey.
+fn write_survey<A: Allocator + Copy, W: Write>(
+    alloc: A,
+    image: &Image<A>,
+    survey: &Survey<A>,
+    length: u64,
+    curve: Curve,
+    output: &mut W,
+) -> Result<(), ShowFault> {
+    let judge = Judge::new(image, survey);
+    write_file(image, &judge, length, output)?;
+    write_slots(image, survey, &judge, output)?;
+    match survey.state() {
+        Some(state) => write_found(alloc, state, curve, output),
+        None => Ok(()),
+    }
+}
+
 /// Writes all that is told of an image, of a file that has so many bytes: its pages, which slot counts, the journal's events,
 /// what a recovery would do, and where it would open the store, the state and the rows.
 pub fn write_report<A: Allocator + Copy, W: Write>(
@@ -186,21 +250,7 @@ pub fn write_report<A: Allocator + Copy, W: Write>(
     output: &mut W,
 ) -> Result<(), ShowFault> {
     let survey = Survey::of(alloc, image)?;
-    let judge = Judge::new(image, &survey);
-    write_length(length, output)?;
-    if !has_pages(image) {
-        output.write_all(b"no meter's file: no page of it is whole\n")?;
-    }
-    output.write_all(b"\npages\n")?;
-    write_pages(image, &judge, output)?;
-    output.write_all(b"\n")?;
-    write_active(&survey, output)?;
-    output.write_all(b"\njournal\n")?;
-    write_journal(image, &judge, output)?;
-    output.write_all(b"\n")?;
-    write_recovery(&judge, &survey, output)?;
-    match survey.state() {
-        Some(state) => write_found(alloc, state, curve, output),
-        None => Ok(()),
-    }
+    let written = write_survey(alloc, image, &survey, length, curve, output);
+    drop(survey);
+    written
 }
