@@ -27,22 +27,39 @@ fn slices_of<'a, A: Allocator>(
     Ok(slices)
 }
 
-/// Does what the program's words ask for, on the standard streams.
-fn status_of(rt: &HostRuntime) -> io::Result<u8> {
+/// Does what the words ask for, on the standard streams.
+fn status_by(rt: &HostRuntime, words: &[&str]) -> io::Result<u8> {
     let mut errors = rt.stderr();
-    let Ok(owned) = words_of(rt) else {
-        return finish(Err(Fault::MEMORY), &mut errors);
-    };
-    let Ok(words) = slices_of(rt.alloc(), owned.as_slice()) else {
-        return finish(Err(Fault::MEMORY), &mut errors);
-    };
-    run(
-        rt,
-        words.as_slice(),
-        &mut rt.stdin(),
-        &mut io::writer(rt),
-        &mut errors,
-    )
+    run(rt, words, &mut rt.stdin(), &mut io::writer(rt), &mut errors)
+}
+
+/// Says that memory is wanting.
+fn status_without_memory(rt: &HostRuntime) -> io::Result<u8> {
+    finish(Err(Fault::MEMORY), &mut rt.stderr())
+}
+
+/// Does what these words ask for.
+fn status_for(rt: &HostRuntime, owned: &[String]) -> io::Result<u8> {
+    match slices_of(rt.alloc(), owned) {
+        Ok(words) => {
+            let status = status_by(rt, words.as_slice());
+            drop(words);
+            status
+        }
+        Err(_) => status_without_memory(rt),
+    }
+}
+
+/// Does what the program's words ask for.
+fn status_of(rt: &HostRuntime) -> io::Result<u8> {
+    match words_of(rt) {
+        Ok(owned) => {
+            let status = status_for(rt, owned.as_slice());
+            drop(owned);
+            status
+        }
+        Err(_) => status_without_memory(rt),
+    }
 }
 
 fn main(rt: HostRuntime) -> io::Result<ExitCode> {

@@ -67,6 +67,7 @@ fn value_of(bench: &mut Bench, attribute: Descriptor) -> Result<Data<Global>> {
 /// The result of setting an attribute.
 fn set(bench: &mut Bench, attribute: Descriptor, value: Data<Global>) -> Result<u8> {
     if !bench.client.is_free() || !fits(&value) {
+        drop(value);
         return Err(anyhow!("the client is not free"));
     }
     let frame = bench.client.set(attribute, None, value)?;
@@ -79,6 +80,7 @@ fn set(bench: &mut Bench, attribute: Descriptor, value: Data<Global>) -> Result<
 /// The result of a method with this parameter.
 fn act(bench: &mut Bench, method: Descriptor, parameter: Data<Global>) -> Result<u8> {
     if !bench.client.is_free() || !fits(&parameter) {
+        drop(parameter);
         return Err(anyhow!("the client is not free"));
     }
     let frame = bench.client.act(method, Some(parameter))?;
@@ -124,6 +126,7 @@ fn list<R: Print>(rt: &R, bench: &mut Bench) -> Result<()> {
         Data::Array(items) => items.as_slice().len(),
         _ => 0,
     };
+    drop(objects);
     println!(rt; "{count} objects, {}", way(bench))?;
     Ok(())
 }
@@ -135,6 +138,7 @@ fn text<R: Print>(rt: &R, bench: &mut Bench) -> Result<()> {
     println!(rt; "text set: {result}, {}", way(bench))?;
     let text = value_of(bench, TEXT)?;
     let count = octets_of(&text).len();
+    drop(text);
     println!(rt; "text: {count} octets, {}", way(bench))?;
     Ok(())
 }
@@ -153,7 +157,9 @@ fn set_clock<R: Print>(rt: &R, bench: &mut Bench) -> Result<()> {
 /// The clock is read.
 fn clock<R: Print>(rt: &R, bench: &mut Bench) -> Result<()> {
     let time = value_of(bench, TIME)?;
-    match secs(octets_of(&time)) {
+    let second = secs(octets_of(&time));
+    drop(time);
+    match second {
         Some(second) => println!(rt; "clock: {second}")?,
         None => println!(rt; "no clock")?,
     }
@@ -177,32 +183,55 @@ fn session<R: Print>(rt: &R, bench: &mut Bench) -> Result<()> {
     refused(rt, bench)
 }
 
+/// A new meter in memory.
+fn meter_of(alloc: Global) -> Result<Meter<MemoryPages>> {
+    let pages = MemoryPages::new(alloc, PAGES)?;
+    match Meter::format(alloc, pages) {
+        Ok(meter) => Ok(meter),
+        Err(refused) => {
+            drop(refused);
+            Err(anyhow!("no meter"))
+        }
+    }
+}
+
 /// A meter in memory, and a client by this plan.
 fn bench_of(alloc: Global, plan: Plan) -> Result<Bench> {
     if !plan.is_lawful() {
+        drop(plan);
         return Err(anyhow!("no such plan"));
     }
-    match Meter::format(alloc, MemoryPages::new(alloc, PAGES)?) {
+    match meter_of(alloc) {
         Ok(meter) => Ok(Bench {
             alloc,
             meter,
             client: Client::new(alloc, plan),
         }),
-        Err(_) => Err(anyhow!("no meter")),
+        Err(fault) => {
+            drop(plan);
+            Err(fault)
+        }
     }
+}
+
+/// The client's talk, from its first frame to the link's end.
+fn converse<R: Print>(rt: &R, bench: &mut Bench) -> Result<()> {
+    let Some(frame) = bench.client.next() else {
+        return Err(anyhow!("no first frame"));
+    };
+    match settled(bench, frame) {
+        Some(Step::Associated) => session(rt, bench)?,
+        _ => println!(rt; "no association")?,
+    }
+    leave(rt, bench)
 }
 
 /// A client by this plan, from its first frame to the link's end.
 fn talk<R: Print + AllocGlobal>(rt: &R, plan: Plan) -> Result<()> {
     let mut bench = bench_of(rt.alloc(), plan)?;
-    let Some(frame) = bench.client.next() else {
-        return Err(anyhow!("no first frame"));
-    };
-    match settled(&mut bench, frame) {
-        Some(Step::Associated) => session(rt, &mut bench)?,
-        _ => println!(rt; "no association")?,
-    }
-    leave(rt, &mut bench)
+    let talked = converse(rt, &mut bench);
+    drop(bench);
+    talked
 }
 
 /// The association is released.

@@ -6,7 +6,7 @@ use arrayvec::ArrayVec;
 use dlms_apdu::{Request, Response, read_response, write_request};
 use dlms_data::{Data, Descriptor};
 use dlms_frame::{Address, Deframer, SentFrame};
-use std::alloc::Global;
+use std::alloc::{AllocError, Global};
 
 /// The value (attribute 2) of the register (class 3) of energy imported.
 const ENERGY: Descriptor = Descriptor {
@@ -15,27 +15,52 @@ const ENERGY: Descriptor = Descriptor {
     id: 2,
 };
 
-/// A frame that asks for it: to the meter's address 1, from the public client's 16.
-fn question(alloc: Global) -> Result<SentFrame> {
+/// The request of it.
+fn request(alloc: Global) -> Result<Vec<u8>, AllocError> {
     let request: Request<'_, Global> = Request::GetNormal {
         invoke: 0xc1,
         descriptor: ENERGY,
         selector: None,
     };
-    let apdu = write_request(alloc, &request)?;
-    let mut info: ArrayVec<u8, 64> = ArrayVec::new();
-    let fits = info.try_extend_from_slice(&[0xe6, 0xe6, 0x00]).is_ok()
-        && info.try_extend_from_slice(&apdu).is_ok();
-    if !fits {
+    let apdu = write_request(alloc, &request);
+    drop(request);
+    apdu
+}
+
+/// The information of a frame that asks for it, behind the three bytes of the LLC.
+fn information(apdu: &[u8]) -> Option<ArrayVec<u8, 64>> {
+    let mut information = ArrayVec::new();
+    information.try_extend_from_slice(&[0xe6, 0xe6, 0x00]).ok()?;
+    information.try_extend_from_slice(apdu).ok()?;
+    Some(information)
+}
+
+/// A frame that asks for it: to the meter's address 1, from the public client's 16.
+fn question(alloc: Global) -> Result<SentFrame> {
+    let apdu = request(alloc)?;
+    let information = information(apdu.as_slice());
+    drop(apdu);
+    let Some(information) = information else {
         return Err(anyhow!("the request is too long"));
-    }
+    };
     Ok(SentFrame::new(
         false,
         Address::One(1),
         Address::One(16),
         0x32,
-        info.as_slice(),
+        information.as_slice(),
     ))
+}
+
+/// The number in an answer.
+fn number(response: &Response<'_, Global>) -> Option<u32> {
+    match response {
+        Response::GetData {
+            value: Data::DoubleLongUnsigned(number),
+            ..
+        } => Some(*number),
+        _ => None,
+    }
 }
 
 /// The number in a frame that answers it, behind the three bytes of the LLC.
@@ -45,13 +70,12 @@ fn answer(alloc: Global, bytes: &[u8]) -> Option<u32> {
     let frame = deframer.frame()?;
     let apdu = frame.info.get(3..)?;
     match read_response(alloc, apdu) {
-        Ok(
-            Response::GetData {
-                value: Data::DoubleLongUnsigned(number),
-                ..
-            },
-        ) => Some(number),
-        _ => None,
+        Ok(response) => {
+            let number = number(&response);
+            drop(response);
+            number
+        }
+        Err(_) => None,
     }
 }
 

@@ -71,6 +71,23 @@ pub fn associated<P: Pages, A: Allocator + Copy>(
     associated_by(meter, client, size_of(client))
 }
 
+/// Connects a link with this frame, and associates on it, for APDUs of at most so many bytes.
+fn associate<P: Pages, A: Allocator + Copy>(
+    meter: &mut Meter<P, A>,
+    link: &mut ClientLink,
+    frame: &SentFrame,
+    client: Client,
+    size: u16,
+) -> Option<()> {
+    let reply = reply_to(meter, frame)?;
+    let ClientOut::Up = link.on(&reply.lent()) else {
+        return None;
+    };
+    let request = write_aarq(client, SECRET, PROPOSED, size);
+    let answer = exchange(meter, link, request.as_slice())?;
+    (answer.len() == 43).then_some(())
+}
+
 /// A client's link, with an association that takes APDUs of at most so many bytes; none where it is refused.
 pub fn associated_by<P: Pages, A: Allocator + Copy>(
     meter: &mut Meter<P, A>,
@@ -79,11 +96,11 @@ pub fn associated_by<P: Pages, A: Allocator + Copy>(
 ) -> Option<ClientLink> {
     let mut link = ClientLink::new(client);
     let frame = link.connect();
-    let reply = reply_to(meter, &frame)?;
-    let ClientOut::Up = link.on(&reply.lent()) else {
-        return None;
-    };
-    let request = write_aarq(client, SECRET, PROPOSED, size);
-    let answer = exchange(meter, &mut link, request.as_slice())?;
-    (answer.len() == 43).then_some(link)
+    match associate(meter, &mut link, &frame, client, size) {
+        Some(()) => Some(link),
+        None => {
+            drop(link);
+            None
+        }
+    }
 }

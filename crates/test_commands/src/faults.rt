@@ -29,6 +29,17 @@ const COLUMNS: &str = "c401c10001050204120008090600000100\
 00ff0f021200000205120003090601000108\
 00ff0f02120000";
 
+/// Says what is said of a fault.
+fn say(told: &mut Vec<u8>, fault: Fault<'_>) -> Result<()> {
+    let _status = finish(Err(fault), told)?;
+    Ok(())
+}
+
+/// Says what is said of the columns of a meter, which are in this answer.
+fn say_columns(told: &mut Vec<u8>, answer: &[u8]) -> Result<()> {
+    say(told, Fault::Columns(ADDRESS, list_columns(answer)))
+}
+
 /// Says what is said of a poll.
 fn say_of_polls(alloc: Global, told: &mut Vec<u8>) -> Result<()> {
     for fault in [
@@ -42,84 +53,89 @@ fn say_of_polls(alloc: Global, told: &mut Vec<u8>) -> Result<()> {
         PollFault::Protocol,
         PollFault::Memory,
     ] {
-        let _status = finish(Err(Fault::Poll(ADDRESS, fault)), told)?;
+        say(told, Fault::Poll(ADDRESS, fault))?;
     }
     let answer = hex::decode(alloc, COLUMNS)?;
-    let list = list_columns(answer.as_slice());
-    let _status = finish(Err(Fault::Columns(ADDRESS, list)), told)?;
-    let none = list_columns(&[]);
-    let _status = finish(Err(Fault::Columns(ADDRESS, none)), told)?;
-    let _status = finish(Err(Fault::Late(ADDRESS, 300)), told)?;
-    let fallen = ClockFault::Fallen(3);
-    let _status = finish(Err(Fault::Clock(ADDRESS, fallen)), told)?;
-    Ok(())
+    let listed = say_columns(told, answer.as_slice());
+    drop(answer);
+    listed?;
+    say_columns(told, &[])?;
+    say(told, Fault::Late(ADDRESS, 300))?;
+    say(told, Fault::Clock(ADDRESS, ClockFault::Fallen(3)))
 }
 
 /// Says what is said of a meter's device, and of streams.
 fn say_of_devices(told: &mut Vec<u8>) -> Result<()> {
     for fault in [OpenFault::Device, OpenFault::Size, OpenFault::Memory] {
-        let _status = finish(Err(Fault::Open(Some(METER), fault)), told)?;
+        say(told, Fault::Open(Some(METER), fault))?;
     }
-    let _status = finish(Err(Fault::Open(None, OpenFault::Device)), told)?;
+    say(told, Fault::Open(None, OpenFault::Device))?;
     for fault in [ReplayFault::Line(7), ReplayFault::Io, ReplayFault::Memory] {
-        let _status = finish(Err(Fault::Replay(fault)), told)?;
+        say(told, Fault::Replay(fault))?;
     }
     for fault in [LoopFault::Io, LoopFault::Memory] {
-        let _status = finish(Err(Fault::Loop(fault)), told)?;
+        say(told, Fault::Loop(fault))?;
     }
-    let _status = finish(Err(Fault::Output), told)?;
-    let _status = finish(Err(Fault::Input("line.log")), told)?;
+    say(told, Fault::Output)?;
+    say(told, Fault::Input("line.log"))
+}
+
+/// Says what is said of what a meter refuses.
+fn say_of_results(told: &mut Vec<u8>) -> Result<()> {
+    say(told, Fault::Result(NAME, 9, true))?;
+    say(told, Fault::Result(NAME, 77, false))?;
+    for denial in [
+        Denial::Exception {
+            state: 2,
+            service: 77,
+        },
+        Denial::ServiceError {
+            service: 5,
+            class: 6,
+            value: 3,
+        },
+    ] {
+        say(told, Fault::Denied(NAME, denial))?;
+    }
+    say(told, Fault::Class(NAME))
+}
+
+/// Says what is said of talks that end early.
+fn say_of_talks(told: &mut Vec<u8>) -> Result<()> {
+    for fault in [
+        CallFault::Talk(Talked::Unread(ApduFault::Trailing)),
+        CallFault::Talk(Talked::Block),
+        CallFault::Talk(Talked::Refused {
+            diagnostic: 1,
+            initiate: Some(1),
+        }),
+        CallFault::TooLong,
+        CallFault::Io,
+    ] {
+        say(told, Fault::Call(ADDRESS, fault))?;
+    }
+    for fault in [CallFault::Talk(Talked::Line), CallFault::Memory] {
+        say(told, Fault::of_call(ADDRESS, fault))?;
+    }
     Ok(())
 }
 
-/// Says what is said of a meter that is asked.
-fn say_of_talks(told: &mut Vec<u8>) -> Result<()> {
-    for fault in [
-        Fault::Result(NAME, 9, true),
-        Fault::Result(NAME, 77, false),
-        Fault::Denied(
-            NAME,
-            Denial::Exception {
-                state: 2,
-                service: 77,
-            },
-        ),
-        Fault::Denied(
-            NAME,
-            Denial::ServiceError {
-                service: 5,
-                class: 6,
-                value: 3,
-            },
-        ),
-        Fault::Class(NAME),
-        Fault::Call(
-            ADDRESS,
-            CallFault::Talk(Talked::Unread(ApduFault::Trailing)),
-        ),
-        Fault::Call(ADDRESS, CallFault::Talk(Talked::Block)),
-        Fault::Call(
-            ADDRESS,
-            CallFault::Talk(Talked::Refused {
-                diagnostic: 1,
-                initiate: Some(1),
-            }),
-        ),
-        Fault::Call(ADDRESS, CallFault::TooLong),
-        Fault::Call(ADDRESS, CallFault::Io),
-        Fault::of_call(ADDRESS, CallFault::Talk(Talked::Line)),
-        Fault::of_call(ADDRESS, CallFault::Memory),
-    ] {
-        let _status = finish(Err(fault), told)?;
-    }
-    Ok(())
+/// Appends what is said of them, one after another.
+fn say_all(alloc: Global, told: &mut Vec<u8>) -> Result<()> {
+    say_of_polls(alloc, told)?;
+    say_of_devices(told)?;
+    say_of_results(told)?;
+    say_of_talks(told)
 }
 
 /// What is said of them, one after another.
 pub fn said(alloc: Global) -> Result<Vec<u8>> {
     let mut told = Vec::new(alloc);
-    say_of_polls(alloc, &mut told)?;
-    say_of_devices(&mut told)?;
-    say_of_talks(&mut told)?;
-    Ok(told)
+    match say_all(alloc, &mut told) {
+        Ok(()) => Ok(told),
+        Err(fault) => {
+            drop(told);
+            Err(fault)
+        }
+    }
 }

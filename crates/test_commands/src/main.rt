@@ -31,7 +31,7 @@ const PROGRAM: &str = "dlms";
 const TALK: &str = "talk";
 
 /// A case as the list has it: the words behind its status are the program's.
-#[derive(Clone, Copy, Debug)]
+#[derive(Clone, Copy)]
 struct Case<'a> {
     is_talk: bool,
     name: &'a str,
@@ -52,22 +52,43 @@ enum Verdict {
 /// A file's bytes; none where it isn't there.
 fn bytes_of<R: Files + AllocGlobal>(rt: &R, name: &str, kind: &str) -> Result<Option<Vec<u8>>> {
     let path = format!(in rt.alloc(); "{name}.{kind}")?;
-    match fs::read(rt, path.as_str()) {
+    let read = fs::read(rt, path.as_str());
+    drop(path);
+    match read {
         Ok(bytes) => Ok(Some(bytes)),
         Err(error) if error.kind() == ErrorKind::NotFound => Ok(None),
         Err(error) => Err(error.into()),
     }
 }
 
+/// Whether the octets have this SHA-256, in hexadecimal digits.
+fn has_digest(alloc: Global, bytes: &[u8], digest: &[u8]) -> Result<bool> {
+    let mut hasher = Sha256::new();
+    hasher.update(bytes);
+    let digits = hex::encode(alloc, hasher.finalize())?;
+    let is_digest = digest.trim_ascii() == digits.as_bytes();
+    drop(digits);
+    Ok(is_digest)
+}
+
+/// Whether the file of this name has this SHA-256.
+fn has_seal<R: Files + AllocGlobal>(rt: &R, path: &str, seal: &[u8]) -> Result<bool> {
+    let bytes = fs::read(rt, path)?;
+    let has_digest = has_digest(rt.alloc(), bytes.as_slice(), seal);
+    drop(bytes);
+    has_digest
+}
+
 /// The file that was left has the case's seal; where the case has none, any file is right.
 fn is_sealed<R: Files + AllocGlobal>(rt: &R, name: &str, path: &str) -> Result<bool> {
-    let Some(seal) = bytes_of(rt, name, "seal")? else {
-        return Ok(true);
-    };
-    let mut hasher = Sha256::new();
-    hasher.update(fs::read(rt, path)?.as_slice());
-    let digits = hex::encode(rt.alloc(), hasher.finalize())?;
-    Ok(seal.as_slice().trim_ascii() == digits.as_bytes())
+    match bytes_of(rt, name, "seal")? {
+        Some(seal) => {
+            let has_seal = has_seal(rt, path, seal.as_slice());
+            drop(seal);
+            has_seal
+        }
+        None => Ok(true),
+    }
 }
 
 /// The program's name, and the words behind it.
@@ -96,6 +117,32 @@ fn case_of(line: &str) -> Option<Case<'_>> {
     })
 }
 
+/// What a run of the program has left.
+#[derive(Drop)]
+struct Ran {
+    status: u8,
+    output: Vec<u8>,
+    errors: Vec<u8>,
+}
+
+/// Runs the program on an input that is given line by line, and gives its status and what it printed.
+fn talked<R: Net + Files<File = File> + Clock + AllocGlobal>(
+    rt: &R,
+    words: &[&str],
+    input: &[u8],
+    errors: &mut Vec<u8>,
+) -> Result<(u8, Vec<u8>)> {
+    let turns = Turns::new();
+    let mut output = Hearing::new(rt.alloc(), &turns);
+    match run(rt, words, Asking::new(input, &turns), &mut output, errors) {
+        Ok(status) => Ok((status, output.into_heard())),
+        Err(fault) => {
+            drop(output);
+            Err(fault.into())
+        }
+    }
+}
+
 /// Runs the program on an input that is there as a whole, or line by line, and gives its status and what it printed.
 fn printed<R: Net + Files<File = File> + Clock + AllocGlobal>(
     rt: &R,
@@ -105,22 +152,112 @@ fn printed<R: Net + Files<File = File> + Clock + AllocGlobal>(
     errors: &mut Vec<u8>,
 ) -> Result<(u8, Vec<u8>)> {
     if is_talk {
-        let turns = Turns::new();
-        let mut output = Hearing::new(rt.alloc(), &turns);
-        let status = run(rt, words, Asking::new(input, &turns), &mut output, errors)?;
-        return Ok((status, output.into_heard()));
+        return talked(rt, words, input, errors);
     }
     let mut output = Vec::new(rt.alloc());
-    let status = run(rt, words, input, &mut output, errors)?;
-    Ok((status, output))
+    match run(rt, words, input, &mut output, errors) {
+        Ok(status) => Ok((status, output)),
+        Err(fault) => {
+            drop(output);
+            Err(fault.into())
+        }
+    }
 }
 
-/// Whether a file has these bytes; where it is not there, whether they are none.
-fn is_bytes(expected: &Option<Vec<u8>>, bytes: &[u8]) -> bool {
-    match expected {
-        Some(expected) => expected.as_slice() == bytes,
-        None => bytes.is_empty(),
+/// Runs the program by these words on an input.
+fn ran_on<R: Net + Files<File = File> + Clock + AllocGlobal>(
+    rt: &R,
+    is_talk: bool,
+    words: &[&str],
+    input: &[u8],
+) -> Result<Ran> {
+    let mut errors = Vec::new(rt.alloc());
+    match printed(rt, is_talk, words, input, &mut errors) {
+        Ok((status, output)) => Ok(Ran {
+            status,
+            output,
+            errors,
+        }),
+        Err(fault) => {
+            drop(errors);
+            Err(fault)
+        }
     }
+}
+
+/// Runs the program by these words on the case's input.
+fn ran_by<R: Net + Files<File = File> + Clock + AllocGlobal>(
+    rt: &R,
+    case: &Case<'_>,
+    words: &[&str],
+) -> Result<Ran> {
+    match bytes_of(rt, case.name, "in")? {
+        Some(input) => {
+            let ran = ran_on(rt, case.is_talk, words, input.as_slice());
+            drop(input);
+            ran
+        }
+        None => ran_on(rt, case.is_talk, words, &[]),
+    }
+}
+
+/// Whether a text is what the case's file of this kind says; where it is not there, whether it is nothing.
+fn is_expected<R: Files + AllocGlobal>(
+    rt: &R,
+    name: &str,
+    kind: &str,
+    bytes: &[u8],
+) -> Result<bool> {
+    match bytes_of(rt, name, kind)? {
+        Some(expected) => {
+            let is_same = expected.as_slice() == bytes;
+            drop(expected);
+            Ok(is_same)
+        }
+        None => Ok(bytes.is_empty()),
+    }
+}
+
+/// Whether a status is the one that is written so.
+fn is_status(status: u8, written: &str) -> bool {
+    match written.parse::<u8>() {
+        Ok(expected) => expected == status,
+        Err(_) => false,
+    }
+}
+
+/// What a case differs in, whose run has left this, and whose last word is this.
+fn verdict_on<R: Files + AllocGlobal>(
+    rt: &R,
+    case: &Case<'_>,
+    ran: &Ran,
+    last: &str,
+) -> Result<Verdict> {
+    if !is_expected(rt, case.name, "out", ran.output.as_slice())? {
+        return Ok(Verdict::OtherOutput);
+    }
+    if !is_status(ran.status, case.status) {
+        return Ok(Verdict::OtherStatus);
+    }
+    if !is_expected(rt, case.name, "err", ran.errors.as_slice())? {
+        return Ok(Verdict::OtherError);
+    }
+    if !is_sealed(rt, case.name, last)? {
+        return Ok(Verdict::OtherFile);
+    }
+    Ok(Verdict::AsExpected)
+}
+
+/// Runs a case by these words.
+fn verdict_by<R: Net + Files<File = File> + Clock + AllocGlobal>(
+    rt: &R,
+    case: &Case<'_>,
+    words: &[&str],
+) -> Result<Verdict> {
+    let ran = ran_by(rt, case, words)?;
+    let verdict = verdict_on(rt, case, &ran, words.last().unwrap_or(&PROGRAM));
+    drop(ran);
+    verdict
 }
 
 /// Runs a case.
@@ -129,40 +266,19 @@ fn verdict_of<R: Net + Files<File = File> + Clock + AllocGlobal>(
     case: &Case<'_>,
 ) -> Result<Verdict> {
     let words = words_of(rt.alloc(), case.words)?;
-    let input = match bytes_of(rt, case.name, "in")? {
-        Some(input) => input,
-        None => Vec::new(rt.alloc()),
-    };
-    let mut errors = Vec::new(rt.alloc());
-    let (status, output) = printed(
-        rt,
-        case.is_talk,
-        words.as_slice(),
-        input.as_slice(),
-        &mut errors,
-    )?;
-    let status = format!(in rt.alloc(); "{status}")?;
-    if !is_bytes(&bytes_of(rt, case.name, "out")?, output.as_slice()) {
-        return Ok(Verdict::OtherOutput);
-    }
-    if status.as_str() != case.status {
-        return Ok(Verdict::OtherStatus);
-    }
-    if !is_bytes(&bytes_of(rt, case.name, "err")?, errors.as_slice()) {
-        return Ok(Verdict::OtherError);
-    }
-    if !is_sealed(rt, case.name, words.last().unwrap_or(&PROGRAM))? {
-        return Ok(Verdict::OtherFile);
-    }
-    Ok(Verdict::AsExpected)
+    let verdict = verdict_by(rt, case, words.as_slice());
+    drop(words);
+    verdict
 }
 
-/// Runs the cases of the list, in its order.
-fn run_all<R: Net + Files<File = File> + Clock + Print + AllocGlobal>(rt: &R) -> Result<u32> {
-    let list = fs::read_to_string(rt, "cases.txt")?;
+/// Runs the cases of a list, in its order.
+fn run_list<R: Net + Files<File = File> + Clock + Print + AllocGlobal>(
+    rt: &R,
+    list: &str,
+) -> Result<u32> {
     let mut cases = 0u32;
     let mut differing = 0u32;
-    for line in list.as_str().lines() {
+    for line in list.lines() {
         let Some(case) = case_of(line) else {
             continue;
         };
@@ -177,10 +293,20 @@ fn run_all<R: Net + Files<File = File> + Clock + Print + AllocGlobal>(rt: &R) ->
     Ok(differing)
 }
 
+/// Runs the cases of the list.
+fn run_all<R: Net + Files<File = File> + Clock + Print + AllocGlobal>(rt: &R) -> Result<u32> {
+    let list = fs::read_to_string(rt, "cases.txt")?;
+    let differing = run_list(rt, list.as_str());
+    drop(list);
+    differing
+}
+
 /// Whether each fault is told as `faults.txt` has it.
 fn faults_are_said<R: Files + Print + AllocGlobal>(rt: &R) -> Result<bool> {
-    let expected = bytes_of(rt, "faults", "txt")?;
-    let is_said = is_bytes(&expected, faults::said(rt.alloc())?.as_slice());
+    let said = faults::said(rt.alloc())?;
+    let is_said = is_expected(rt, "faults", "txt", said.as_slice());
+    drop(said);
+    let is_said = is_said?;
     println!(rt; "faults in words: {is_said}")?;
     Ok(is_said)
 }

@@ -35,12 +35,24 @@ const SLOT: usize = 544;
 /// The first secrets.
 const SECRETS: [&[u8]; 2] = [b"12345678", b"23456789"];
 
+/// Appends to a text what is told of a file's bytes.
+fn report(alloc: Global, bytes: &[u8], curve: Curve, text: &mut Vec<u8>) -> Result<()> {
+    let mut image = Image::of_bytes(alloc, bytes)?;
+    let reported = write_report(alloc, &mut image, bytes.len() as u64, curve, text);
+    drop(image);
+    Ok(reported?)
+}
+
 /// What is told of a file's bytes.
 fn told(alloc: Global, bytes: &[u8], curve: Curve) -> Result<Vec<u8>> {
-    let mut image = Image::of_bytes(alloc, bytes)?;
     let mut text = Vec::new(alloc);
-    write_report(alloc, &mut image, bytes.len() as u64, curve, &mut text)?;
-    Ok(text)
+    match report(alloc, bytes, curve, &mut text) {
+        Ok(()) => Ok(text),
+        Err(fault) => {
+            drop(text);
+            Err(fault)
+        }
+    }
 }
 
 /// The line of a text that says what a recovery would do.
@@ -81,6 +93,21 @@ fn torn(alloc: Global, bytes: &[u8], page: u16) -> Result<Vec<u8>> {
     Ok(torn)
 }
 
+/// Prints what a recovery would do by the text of a file that was changed, where that is something else than with the whole one.
+fn print_recovery(
+    rt: &HostRuntime,
+    what: &str,
+    number: u16,
+    text: &[u8],
+    whole: &str,
+) -> Result<()> {
+    let line = recovery(text);
+    if line != whole {
+        println!(rt; "  {what} {number}: {line}")?;
+    }
+    Ok(())
+}
+
 /// Prints what a recovery would do with a file that was changed, where that is something else than with the whole one.
 fn print_changed(
     rt: &HostRuntime,
@@ -90,28 +117,18 @@ fn print_changed(
     whole: &str,
 ) -> Result<()> {
     let text = told(rt.alloc(), bytes, Curve::None)?;
-    let line = recovery(&text);
-    if line != whole {
-        println!(rt; "  {what} {number}: {line}")?;
-    }
-    Ok(())
+    let printed = print_recovery(rt, what, number, &text, whole);
+    drop(text);
+    printed
 }
 
-/// Prints what is told of a file.
-fn print_file(rt: &HostRuntime, name: &str, bytes: &[u8]) -> Result<()> {
-    let text = told(rt.alloc(), bytes, Curve::Text)?;
-    println!(rt; "# {name}")?;
-    if WHOLE.iter().any(|whole| *whole == name) {
-        io::writer(rt).write_all(&text)?;
-    }
-    if has_secret(&text) {
-        println!(rt; "a secret stands in what is told")?;
-    }
-    let whole = recovery(&text);
-    println!(rt; "  {whole}")?;
+/// Prints what a recovery would do with a file, each page of which is torn in turn, and which is cut short.
+fn print_changes(rt: &HostRuntime, bytes: &[u8], whole: &str) -> Result<()> {
     for page in 0..PAGES {
         let torn = torn(rt.alloc(), bytes, page)?;
-        print_changed(rt, "torn page", page, &torn, whole)?;
+        let printed = print_changed(rt, "torn page", page, &torn, whole);
+        drop(torn);
+        printed?;
     }
     for pages in [0, 7, 30] {
         print_changed(rt, "cut behind page", pages, cut(bytes, pages), whole)?;
@@ -119,10 +136,40 @@ fn print_file(rt: &HostRuntime, name: &str, bytes: &[u8]) -> Result<()> {
     Ok(())
 }
 
+/// Prints the text of a file, of some whole, and what a recovery would do.
+fn print_told(rt: &HostRuntime, name: &str, text: &[u8]) -> Result<()> {
+    println!(rt; "# {name}")?;
+    if WHOLE.iter().any(|whole| *whole == name) {
+        io::writer(rt).write_all(text)?;
+    }
+    if has_secret(text) {
+        println!(rt; "a secret stands in what is told")?;
+    }
+    let whole = recovery(text);
+    println!(rt; "  {whole}")?;
+    Ok(())
+}
+
+/// Prints what is told of a file, and of what it is when it is changed.
+fn print_all(rt: &HostRuntime, name: &str, bytes: &[u8], text: &[u8]) -> Result<()> {
+    print_told(rt, name, text)?;
+    print_changes(rt, bytes, recovery(text))
+}
+
+/// Prints what is told of a file.
+fn print_file(rt: &HostRuntime, name: &str, bytes: &[u8]) -> Result<()> {
+    let text = told(rt.alloc(), bytes, Curve::Text)?;
+    let printed = print_all(rt, name, bytes, &text);
+    drop(text);
+    printed
+}
+
 fn main(rt: HostRuntime) -> Result<()> {
     for name in FILES {
         let bytes = fs::read(&rt, name)?;
-        print_file(&rt, name, &bytes)?;
+        let printed = print_file(&rt, name, &bytes);
+        drop(bytes);
+        printed?;
     }
     Ok(())
 }

@@ -29,7 +29,7 @@ const JOURNAL_OF_ONE: [u8; 26] = [
 ];
 
 /// The scripts.
-pub const COLUMNS: [Script; 8] = [
+pub static COLUMNS: [Script; 8] = [
     Script {
         name: "columns that no state has are refused",
         steps: &[

@@ -27,7 +27,9 @@ const SEAL_OF_PAGE_258: [u8; 32] = [
 fn path_of(rt: &HostRuntime, name: &str) -> Result<String> {
     let folder = temp_dir(rt)?;
     let id = process::id(rt.process());
-    Ok(format!(in rt.alloc(); "{}/test_store-{id}-{name}", folder.as_str())?)
+    let path = format!(in rt.alloc(); "{}/test_store-{id}-{name}", folder.as_str());
+    drop(folder);
+    Ok(path?)
 }
 
 /// Whether these bytes stand from this place on.
@@ -41,11 +43,13 @@ fn stands_at(bytes: &[u8], place: usize, part: &[u8]) -> bool {
 /// What three pages read as where the file is opened anew.
 fn reads(rt: &HostRuntime, path: &str) -> io::Result<[Came; 3]> {
     let mut device: FilePages = FilePages::open(rt, path, 3)?;
-    Ok([
+    let pages = [
         get(&mut device, 0),
         get(&mut device, 1),
         get(&mut device, 2),
-    ])
+    ];
+    drop(device);
+    Ok(pages)
 }
 
 /// The calls of a new file of three pages.
@@ -63,7 +67,9 @@ const CALLS: [(Ask, Came); 8] = [
 /// The calls, on a new file.
 fn play_new_file(report: &mut Report<'_>, path: &str) -> io::Result<()> {
     let mut device: FilePages = FilePages::create(report.rt(), path, 3)?;
-    play(report, "a new file", &mut device, &CALLS)
+    let played = play(report, "a new file", &mut device, &CALLS);
+    drop(device);
+    played
 }
 
 /// Written, closed, and opened again: the bytes are those of zeros and nines, with their seals.
@@ -145,7 +151,9 @@ const THREE: [(Ask, Came); 4] = [
 /// Makes a file of three pages of 1, 2 and 3.
 fn fill(report: &mut Report<'_>, path: &str) -> io::Result<()> {
     let mut device: FilePages = FilePages::create(report.rt(), path, 3)?;
-    play(report, "three pages", &mut device, &THREE)
+    let played = play(report, "three pages", &mut device, &THREE);
+    drop(device);
+    played
 }
 
 /// The bytes of such a file.
@@ -178,7 +186,9 @@ fn play_anew(report: &mut Report<'_>, path: &str) -> Result<()> {
 /// A file that is not there is not opened.
 fn play_missing(report: &mut Report<'_>, path: &str) -> io::Result<()> {
     let missing: io::Result<FilePages> = FilePages::open(report.rt(), path, 2);
-    report.compare("a file that is missing", missing.is_err(), true)
+    let is_missing = missing.is_err();
+    drop(missing);
+    report.compare("a file that is missing", is_missing, true)
 }
 
 /// Whether a file was not opened since it is in use.
@@ -338,7 +348,9 @@ fn is_not_opened(rt: &HostRuntime, path: &str, [reads, writes, syncs]: [u32; 3])
         syncs,
     };
     let opened: io::Result<FilePages<FileSlots<Faulty>>> = FilePages::open(&files, path, 3);
-    opened.is_err()
+    let is_refused = opened.is_err();
+    drop(opened);
+    is_refused
 }
 
 /// Opening reads each slot, writes it again as it stands, and syncs: where one of these calls fails the file is not opened, and

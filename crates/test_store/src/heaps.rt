@@ -6,7 +6,7 @@ use anyhow::Result;
 use dlms_pages::{MemoryPages, Pages};
 use dlms_store::{OpenFault, PAGES, Store};
 use linked_list_allocator::LocalHeap;
-use std::alloc::{AllocError, Allocator};
+use std::alloc::{AllocError, Allocator, Global};
 
 /// How many heaps there are.
 const HEAPS: usize = 128;
@@ -94,48 +94,73 @@ pub fn play_writes(report: &mut Report<'_>) -> Result<()> {
 }
 
 /// A store's rows take 24 bytes each, 23,040 in all: they have room from 23 KiB on.
-const ROWS: [(usize, Option<OpenFault>); 4] = [
+static ROWS: [(usize, Option<OpenFault>); 4] = [
     (0, Some(OpenFault::Memory)),
     (22, Some(OpenFault::Memory)),
     (23, None),
     (32, None),
 ];
 
-/// The device of a store, and why it was not opened.
-type Opened = (Option<OpenFault>, MemoryPages);
+/// Why a device was not opened, and what is pending in its store where it is opened with room.
+type Found = (Option<OpenFault>, Option<usize>);
 
-/// The device of a new store, opened on a heap of so many KiB.
-fn opened_on_heap(report: &Report<'_>, kilobytes: usize) -> Result<Option<Opened>, AllocError> {
-    let heap = LocalHeap::new(report.alloc(), kilobytes.saturating_mul(1024))?;
-    let device = MemoryPages::new(report.alloc(), PAGES)?;
-    let Ok(store) = Store::format(report.alloc(), device) else {
-        return Ok(None);
-    };
-    match Store::open(&heap, store.close()) {
-        Ok(store) => Ok(Some((None, store.close()))),
-        Err((device, fault)) => Ok(Some((Some(fault), device))),
+/// The device of a new store.
+fn formatted(alloc: Global) -> Result<Option<MemoryPages>, AllocError> {
+    let device = MemoryPages::new(alloc, PAGES)?;
+    match Store::format(alloc, device) {
+        Ok(store) => Ok(Some(store.close())),
+        Err(refused) => {
+            drop(refused);
+            Ok(None)
+        }
     }
 }
 
 /// What is pending in the store of a device.
-fn pending_on(report: &Report<'_>, device: MemoryPages) -> Option<usize> {
-    match Store::open(report.alloc(), device) {
-        Ok(store) => Some(store.pending()),
-        Err(_) => None,
+fn pending_on(alloc: Global, device: MemoryPages) -> Option<usize> {
+    match Store::open(alloc, device) {
+        Ok(store) => {
+            let pending = store.pending();
+            drop(store);
+            Some(pending)
+        }
+        Err(refused) => {
+            drop(refused);
+            None
+        }
     }
+}
+
+/// What is found on a device that is opened on a heap, and then with room.
+fn found_on(alloc: Global, heap: &LocalHeap, device: MemoryPages) -> Found {
+    match Store::open(heap, device) {
+        Ok(store) => (None, pending_on(alloc, store.close())),
+        Err((device, fault)) => (Some(fault), pending_on(alloc, device)),
+    }
+}
+
+/// What is found on the device of a new store, opened on a heap of so many KiB.
+fn found_on_heap(alloc: Global, kilobytes: usize) -> Result<Option<Found>, AllocError> {
+    let heap = LocalHeap::new(alloc, kilobytes.saturating_mul(1024))?;
+    let found = match formatted(alloc) {
+        Ok(Some(device)) => Ok(Some(found_on(alloc, &heap, device))),
+        Ok(None) => Ok(None),
+        Err(refused) => Err(refused),
+    };
+    drop(heap);
+    found
 }
 
 /// Room for the rows is asked for once, and refused where the heap is too small; the device comes back.
 pub fn play_recoveries(report: &mut Report<'_>) -> Result<()> {
     report.begin("refused rows");
-    for (kilobytes, fault) in ROWS {
-        let Some((found, device)) = opened_on_heap(report, kilobytes)? else {
-            report.compare((kilobytes, "formatted"), false, true)?;
+    for (kilobytes, fault) in &ROWS {
+        let Some((found, pending)) = found_on_heap(report.alloc(), *kilobytes)? else {
+            report.compare((*kilobytes, "formatted"), false, true)?;
             continue;
         };
-        report.compare((kilobytes, "opened"), found, fault)?;
-        let pending = pending_on(report, device);
-        report.compare((kilobytes, "opened with room"), pending, Some(0))?;
+        report.compare((*kilobytes, "opened"), found, *fault)?;
+        report.compare((*kilobytes, "opened with room"), pending, Some(0))?;
     }
     Ok(report.end()?)
 }

@@ -23,9 +23,13 @@ const CALLS: [(Ask, Came); 9] = [
 pub fn play_calls(report: &mut Report<'_>) -> Result<()> {
     report.begin("calls in memory");
     let mut device = MemoryPages::new(report.alloc(), 3)?;
-    play(report, "three pages", &mut device, &CALLS)?;
+    let played = play(report, "three pages", &mut device, &CALLS);
+    drop(device);
+    played?;
     let none = MemoryPages::new(report.alloc(), 0)?;
-    report.compare("no page", none.count(), 0)?;
+    let count = none.count();
+    drop(none);
+    report.compare("no page", count, 0)?;
     Ok(report.end()?)
 }
 
@@ -49,7 +53,7 @@ impl Fails {
 }
 
 /// How many of six calls fail.
-const FAULTS: [(Fails, u64); 16] = [
+static FAULTS: [(Fails, u64); 16] = [
     (Fails::From(0), 6),
     (Fails::From(1), 5),
     (Fails::From(2), 4),
@@ -103,16 +107,23 @@ fn play_failing(
     )
 }
 
+/// Has the calls of a device fail so.
+fn fail_so(device: &mut MemoryPages, fails: Fails) {
+    match fails {
+        Fails::From(first) => device.fuse(first),
+        Fails::Once(one) => device.fail_once(one),
+    }
+}
+
 /// A fuse of each length fails every call behind it, and one fault fails one call.
 pub fn play_faults(report: &mut Report<'_>) -> Result<()> {
     report.begin("faults");
-    for (fails, faults) in FAULTS {
+    for (fails, faults) in &FAULTS {
         let mut device = MemoryPages::new(report.alloc(), 2)?;
-        match fails {
-            Fails::From(first) => device.fuse(first),
-            Fails::Once(one) => device.fail_once(one),
-        }
-        play_failing(report, &mut device, fails, faults)?;
+        fail_so(&mut device, *fails);
+        let played = play_failing(report, &mut device, *fails, *faults);
+        drop(device);
+        played?;
     }
     Ok(report.end()?)
 }
@@ -133,17 +144,27 @@ const UNSYNCED: [(Ask, Came); 3] = [
 /// What a stop leaves then, where it leaves what was synced.
 const LEFT: [(Ask, Came); 2] = [(Ask::Get(0), Came::Full(1)), (Ask::Faults, Came::Number(2))];
 
+/// A write that fails, and a sync, behind one that passed.
+fn play_two_faults(report: &mut Report<'_>, device: &mut MemoryPages) -> io::Result<()> {
+    play(report, "synced", device, &SYNCED)?;
+    device.fail_once(0);
+    play(report, "a write fails", device, &UNWRITTEN)?;
+    device.fail_once(1);
+    play(report, "a sync fails", device, &UNSYNCED)
+}
+
 /// A call that fails changes nothing.
 pub fn play_failed_calls(report: &mut Report<'_>) -> Result<()> {
     report.begin("failed calls");
     let mut device = MemoryPages::new(report.alloc(), 1)?;
-    play(report, "synced", &mut device, &SYNCED)?;
-    device.fail_once(0);
-    play(report, "a write fails", &mut device, &UNWRITTEN)?;
-    device.fail_once(1);
-    play(report, "a sync fails", &mut device, &UNSYNCED)?;
-    let mut device = device.cut(Pick::AllOld);
-    play(report, "stopped", &mut device, &LEFT)?;
+    let failed = play_two_faults(report, &mut device);
+    let mut left = device.cut(Pick::AllOld);
+    let played = match failed {
+        Ok(()) => play(report, "stopped", &mut left, &LEFT),
+        Err(fault) => Err(fault),
+    };
+    drop(left);
+    played?;
     Ok(report.end()?)
 }
 
@@ -157,7 +178,7 @@ const WRITTEN: [(Ask, Came); 5] = [
 ];
 
 /// What a stop leaves of them.
-const PICKS: [(Pick<'static>, [Came; 4]); 5] = [
+static PICKS: [(Pick<'static>, [Came; 4]); 5] = [
     (
         Pick::AllOld,
         [Came::Full(1), Came::Full(2), Came::Full(0), Came::Full(0)],
@@ -190,17 +211,27 @@ fn four(device: &mut MemoryPages) -> [Came; 4] {
     ]
 }
 
+/// What a pick leaves of the pages of a device, and what is left behind a second stop.
+fn stopped_twice(device: MemoryPages, pick: Pick<'static>) -> [[Came; 4]; 2] {
+    let mut device = device.cut(pick);
+    let once = four(&mut device);
+    let mut device = device.cut(Pick::AllDamaged);
+    let twice = four(&mut device);
+    drop(device);
+    [once, twice]
+}
+
 /// What each pick leaves, and that a second stop changes none of it. The fuse is gone with the stop.
 pub fn play_picks(report: &mut Report<'_>) -> Result<()> {
     report.begin("picks");
-    for (pick, pages) in PICKS {
+    for (pick, pages) in &PICKS {
         let mut device = MemoryPages::new(report.alloc(), 4)?;
-        play(report, "written", &mut device, &WRITTEN)?;
+        let written = play(report, "written", &mut device, &WRITTEN);
         device.fuse(0);
-        let mut device = device.cut(pick);
-        report.compare((pick, 1), four(&mut device), pages)?;
-        let mut device = device.cut(Pick::AllDamaged);
-        report.compare((pick, 2), four(&mut device), pages)?;
+        let [once, twice] = stopped_twice(device, *pick);
+        written?;
+        report.compare((*pick, 1), once, *pages)?;
+        report.compare((*pick, 2), twice, *pages)?;
     }
     Ok(report.end()?)
 }

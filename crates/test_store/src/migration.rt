@@ -4,7 +4,7 @@
 //! that the other program was given: a pulse on each channel in turn, or a moment for each period of 900 seconds.
 
 use crate::report::Report;
-use crate::stops::LEFT;
+use crate::stops::{LEFT, Left};
 use crate::stores::MemoryStore;
 use anyhow::Result;
 use dlms_pages::{MemoryPages, PAGE_BYTES, Pages, Pick};
@@ -36,7 +36,7 @@ type Line = (&'static str, Option<u16>, [u32; 3], [u32; 2], [u64; 2]);
 
 /// The images. A recovery of version 1 is a sync, two gates, the body, the ring pages that it names, the journal up to the first page
 /// that does not fit, that journal's first page once more; and then a gate, a body and a gate with a sync each.
-const IMAGES: [Line; 10] = [
+static IMAGES: [Line; 10] = [
     ("empty.v1.bin", None, [0, 0, 0], [0, 0], [12, 5]),
     ("p42.v1.bin", None, [42, 0, 0], [0, 0], [13, 5]),
     ("p42.v1.bin", Some(6), [0, 0, 0], [0, 0], [12, 5]),
@@ -141,6 +141,41 @@ fn recovered(
     }
 }
 
+/// What a recovery comes to, and whether the store holds what the image holds.
+type Recovery = (Option<OpenFault>, bool);
+
+/// What a recovery comes to, and the one behind it, with the power stopped between them or not.
+fn recovered_twice(
+    alloc: Global,
+    device: MemoryPages,
+    image: &Image,
+    left: Option<Left>,
+) -> (Option<OpenFault>, Recovery) {
+    let (first, _, device) = recovered(alloc, device, image);
+    let device = match left {
+        Some(left) => device.cut(left.pick()),
+        None => device,
+    };
+    let (second, is_same, device) = recovered(alloc, device, image);
+    drop(device);
+    (first, (second, is_same))
+}
+
+/// What three recoveries come to, of which the second has the calls that it needs, and the third one less.
+fn recovered_thrice(alloc: Global, device: MemoryPages, image: &Image) -> [Recovery; 3] {
+    let (first, is_first_same, mut device) = recovered(alloc, device, image);
+    device.fuse(image.again);
+    let (second, is_second_same, mut device) = recovered(alloc, device, image);
+    device.fuse(image.again.saturating_sub(1));
+    let (third, is_third_same, device) = recovered(alloc, device, image);
+    drop(device);
+    [
+        (first, is_first_same),
+        (second, is_second_same),
+        (third, is_third_same),
+    ]
+}
+
 /// Why a recovery comes to nothing whose device fails from a call on.
 fn fault_behind(calls: u64, image: &Image) -> Option<OpenFault> {
     if calls < image.calls {
@@ -158,10 +193,9 @@ fn play_stops(report: &mut Report<'_>, image: &Image, bytes: &[u8]) -> Result<()
             let mut device = device_of(alloc, image, bytes)?;
             device.fuse(calls);
             let case = (image.file, image.torn, left, calls);
-            let (fault, _, device) = recovered(alloc, device, image);
+            let (fault, again) = recovered_twice(alloc, device, image, Some(left));
             report.compare(case, fault, fault_behind(calls, image))?;
-            let (fault, is_same, _) = recovered(alloc, device.cut(left.pick()), image);
-            report.compare(case, (fault, is_same), (None, true))?;
+            report.compare(case, again, (None, true))?;
         }
     }
     Ok(())
@@ -174,10 +208,9 @@ fn play_failures(report: &mut Report<'_>, image: &Image, bytes: &[u8]) -> Result
         let mut device = device_of(alloc, image, bytes)?;
         device.fail_once(calls);
         let case = (image.file, image.torn, calls);
-        let (fault, _, device) = recovered(alloc, device, image);
+        let (fault, again) = recovered_twice(alloc, device, image, None);
         report.compare(case, fault, Some(OpenFault::Device))?;
-        let (fault, is_same, _) = recovered(alloc, device, image);
-        report.compare(case, (fault, is_same), (None, true))?;
+        report.compare(case, again, (None, true))?;
     }
     Ok(())
 }
@@ -187,32 +220,35 @@ fn play_failures(report: &mut Report<'_>, image: &Image, bytes: &[u8]) -> Result
 fn play_again(report: &mut Report<'_>, image: &Image, bytes: &[u8]) -> Result<()> {
     let alloc = report.alloc();
     let device = device_of(alloc, image, bytes)?;
-    let (fault, is_same, mut device) = recovered(alloc, device, image);
+    let [first, (fault, is_same), (last, _)] = recovered_thrice(alloc, device, image);
     let case = (image.file, image.torn, image.again);
-    report.compare(case, (fault, is_same), (None, true))?;
+    report.compare(case, first, (None, true))?;
     let is_healed = image.torn != Some(6);
-    device.fuse(image.again);
-    let (fault, is_same, mut device) = recovered(alloc, device, image);
     report.compare(case, (fault.is_none(), is_same), (is_healed, is_healed))?;
-    device.fuse(image.again.saturating_sub(1));
-    let (fault, _, _) = recovered(alloc, device, image);
-    Ok(report.compare(case, fault, Some(OpenFault::Device))?)
+    Ok(report.compare(case, last, Some(OpenFault::Device))?)
+}
+
+/// Plays an image of these bytes.
+fn play_bytes(report: &mut Report<'_>, image: &Image, bytes: &[u8]) -> Result<()> {
+    report.compare(image.file, bytes.len(), usize::from(PAGES) * SLOT)?;
+    play_stops(report, image, bytes)?;
+    play_failures(report, image, bytes)?;
+    play_again(report, image, bytes)
 }
 
 /// Plays an image.
 fn play_image(report: &mut Report<'_>, image: &Image) -> Result<()> {
     let bytes = fs::read(report.rt(), image.file)?;
-    report.compare(image.file, bytes.len(), usize::from(PAGES) * SLOT)?;
-    play_stops(report, image, &bytes)?;
-    play_failures(report, image, &bytes)?;
-    play_again(report, image, &bytes)
+    let played = play_bytes(report, image, &bytes);
+    drop(bytes);
+    played
 }
 
 /// The images, one after another.
 pub fn play_images(report: &mut Report<'_>) -> Result<()> {
     report.begin("images of version 1");
-    for line in IMAGES {
-        play_image(report, &image_of(line))?;
+    for line in &IMAGES {
+        play_image(report, &image_of(*line))?;
     }
     Ok(report.end()?)
 }

@@ -1,7 +1,7 @@
 //! The last numbers of rows: those of 64 bits are given, and none behind them.
 
 use crate::report::Report;
-use crate::stores::MemoryStore;
+use crate::stores::{MemoryStore, reopen};
 use anyhow::Result;
 use arrayvec::ArrayVec;
 use dlms_checkpoint::checkpoint_of;
@@ -38,6 +38,7 @@ fn at_the_end(alloc: Global) -> Option<State> {
         reader_secret: held(new.secret(SecretOf::Reader)),
         columns: held(new.columns()),
     };
+    drop(new);
     State::restore(alloc, parts, LAST).ok()
 }
 
@@ -59,13 +60,19 @@ fn write_slot(device: &mut MemoryPages, state: &State) -> Option<()> {
         .ok()
 }
 
+/// Writes the checkpoint of that state so.
+fn write_end(alloc: Global, device: &mut MemoryPages) -> Option<()> {
+    let state = at_the_end(alloc)?;
+    let written = write_slot(device, &state);
+    drop(state);
+    written
+}
+
 /// A store that was opened with it.
 fn opened(alloc: Global) -> std::result::Result<Option<MemoryStore>, AllocError> {
     let mut device = MemoryPages::new(alloc, PAGES)?;
-    let Some(state) = at_the_end(alloc) else {
-        return Ok(None);
-    };
-    if write_slot(&mut device, &state).is_none() {
+    if write_end(alloc, &mut device).is_none() {
+        drop(device);
         return Ok(None);
     }
     Ok(Store::open(alloc, device).ok())
@@ -94,32 +101,44 @@ fn play_captures(report: &mut Report<'_>, store: &mut MemoryStore) -> io::Result
     report.compare("a checkpoint", store.checkpoint(), Ok(()))
 }
 
-/// Opened again the numbers are the same; an emptied profile has none left.
-fn play_again(report: &mut Report<'_>, store: MemoryStore) -> io::Result<()> {
-    let alloc = report.alloc();
-    let Ok(mut store) = Store::open(alloc, store.close()) else {
-        return report.compare("opened again", "a fault", "a store");
-    };
-    report.compare("opened again", numbers(&store), (LAST, END))?;
+/// Opened again the numbers are the same.
+fn play_again(report: &mut Report<'_>, store: &mut MemoryStore) -> io::Result<()> {
+    report.compare("opened again", numbers(store), (LAST, END))?;
     report.compare("its register", store.state().registers(), [7, 0, 0])?;
     report.compare("emptied", store.add(Event::ResetProfile), Ok(()))?;
-    report.compare("a second checkpoint", store.checkpoint(), Ok(()))?;
-    let Ok(mut store) = Store::open(alloc, store.close()) else {
-        return report.compare("opened empty", "a fault", "a store");
-    };
-    report.compare("opened empty", numbers(&store), (END, END))?;
+    report.compare("a second checkpoint", store.checkpoint(), Ok(()))
+}
+
+/// An emptied profile has none left.
+fn play_empty(report: &mut Report<'_>, store: &mut MemoryStore) -> io::Result<()> {
+    report.compare("opened empty", numbers(store), (END, END))?;
     report.compare("a row", store.add(Event::Capture), Err(AddFault::Exhausted))
+}
+
+/// The last row, and the store opened again twice.
+fn play_store(report: &mut Report<'_>, store: &mut Option<MemoryStore>) -> io::Result<()> {
+    let Some(made) = store else {
+        return report.compare("made", "a fault", "a store");
+    };
+    play_captures(report, made)?;
+    reopen(report.alloc(), store);
+    let Some(again) = store else {
+        return report.compare("opened again", "a fault", "a store");
+    };
+    play_again(report, again)?;
+    reopen(report.alloc(), store);
+    match store {
+        Some(empty) => play_empty(report, empty),
+        None => report.compare("opened empty", "a fault", "a store"),
+    }
 }
 
 /// The last numbers, one after another.
 pub fn play_last(report: &mut Report<'_>) -> Result<()> {
     report.begin("last numbers");
-    match opened(report.alloc())? {
-        Some(mut store) => {
-            play_captures(report, &mut store)?;
-            play_again(report, store)?;
-        }
-        None => report.compare("made", "a fault", "a store")?,
-    }
+    let mut store = opened(report.alloc())?;
+    let played = play_store(report, &mut store);
+    drop(store);
+    played?;
     Ok(report.end()?)
 }

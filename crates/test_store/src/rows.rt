@@ -1,12 +1,11 @@
 //! Rows go round the ring: a store that is closed and opened again after each hundred of them.
 
 use crate::report::Report;
-use crate::stores::MemoryStore;
+use crate::stores::{MemoryStore, reopen};
 use anyhow::Result;
 use dlms_pages::MemoryPages;
 use dlms_state::Event;
 use dlms_store::{PAGES, Store};
-use std::alloc::Global;
 use std::io;
 
 /// How often a hundred rows are captured.
@@ -23,11 +22,6 @@ fn round(store: &mut MemoryStore) -> bool {
         }
     }
     true
-}
-
-/// Closes a store, and opens it again.
-fn reopened(alloc: Global, store: MemoryStore) -> Option<MemoryStore> {
-    Store::open(alloc, store.close()).ok()
 }
 
 /// The last rows are kept, each as it was captured.
@@ -52,23 +46,43 @@ fn compare_rows(report: &mut Report<'_>, store: &MemoryStore, captured: u32) -> 
     report.compare((captured, "rows"), differing, 0)
 }
 
+/// Rows in the store that the last round left, up to so many, and the store opened again. Whether there was one.
+fn play_round(
+    report: &mut Report<'_>,
+    store: &mut Option<MemoryStore>,
+    captured: u32,
+) -> io::Result<bool> {
+    let Some(here) = store else {
+        report.compare(captured.saturating_sub(100), "no store", "a store")?;
+        return Ok(false);
+    };
+    report.compare(captured, round(here), true)?;
+    reopen(report.alloc(), store);
+    if let Some(again) = store {
+        compare_rows(report, again, captured)?;
+    }
+    Ok(true)
+}
+
+/// The rounds, up to one that finds no store.
+fn play_rounds(report: &mut Report<'_>, store: &mut Option<MemoryStore>) -> io::Result<()> {
+    let mut captured = 0u32;
+    for _ in 0..ROUNDS {
+        captured = captured.saturating_add(100);
+        if !play_round(report, store, captured)? {
+            return Ok(());
+        }
+    }
+    Ok(())
+}
+
 /// The rounds, each on the store that the last one left.
 pub fn play_rows(report: &mut Report<'_>) -> Result<()> {
     let alloc = report.alloc();
     report.begin("rounds of rows");
     let mut store = Store::format(alloc, MemoryPages::new(alloc, PAGES)?).ok();
-    let mut captured = 0u32;
-    for _ in 0..ROUNDS {
-        let Some(mut here) = store else {
-            report.compare(captured, "no store", "a store")?;
-            return Ok(report.end()?);
-        };
-        captured = captured.saturating_add(100);
-        report.compare(captured, round(&mut here), true)?;
-        store = reopened(alloc, here);
-        if let Some(again) = &store {
-            compare_rows(report, again, captured)?;
-        }
-    }
+    let played = play_rounds(report, &mut store);
+    drop(store);
+    played?;
     Ok(report.end()?)
 }

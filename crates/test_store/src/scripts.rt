@@ -136,7 +136,7 @@ const ROWS_41: [u8; 57] = [
 const OLD_GATE: [u8; 14] = [1, 0, 0, 0, 0, 0, 0, 0, 0, 0, 0, 1, 0, 0];
 
 /// The scripts.
-pub const SCRIPTS: [Script; 26] = [
+pub static SCRIPTS: [Script; 26] = [
     Script {
         name: "a journal page",
         steps: &[

@@ -30,10 +30,10 @@ enum Fault {
     Another,
 }
 
-const FAULTS: [Fault; 3] = [Fault::Stop, Fault::GoesOn, Fault::Another];
+static FAULTS: [Fault; 3] = [Fault::Stop, Fault::GoesOn, Fault::Another];
 
 /// What is left of a slot on its way: of the failed call's, and of all where the power stops.
-const TEARS: [Tear; 6] = [
+static TEARS: [Tear; 6] = [
     Tear::Old,
     Tear::New,
     Tear::Front(272),
@@ -148,6 +148,23 @@ const AGAIN: [u64; 12] = [
     OPENS + 20,
 ];
 
+/// How many are found behind a stop and a second one.
+fn found_again(
+    alloc: Global,
+    calls: u64,
+    tear: Tear,
+    again: u64,
+) -> std::result::Result<Option<Option<u32>>, AllocError> {
+    match played(alloc, Fault::Stop, calls, tear)? {
+        Some(failed) => {
+            let left = failed.pages.into_slots().cut(Tears::All(tear));
+            let also = found_in(alloc, stopped_again(alloc, left, again, tear));
+            Ok(Some(also))
+        }
+        None => Ok(None),
+    }
+}
+
 /// As much is found behind a second stop.
 fn play_second_stops(
     report: &mut Report<'_>,
@@ -157,13 +174,30 @@ fn play_second_stops(
 ) -> Result<()> {
     let alloc = report.alloc();
     for again in AGAIN {
-        if let Some(failed) = played(alloc, Fault::Stop, calls, tear)? {
-            let left = failed.pages.into_slots().cut(Tears::All(tear));
-            let also = found_in(alloc, stopped_again(alloc, left, again, tear));
+        if let Some(also) = found_again(alloc, calls, tear, again)? {
             report.compare((calls, tear, again), also, found)?;
         }
     }
     Ok(())
+}
+
+/// How many are found behind a fault, and whether they are no fewer than were settled and no more than were accepted.
+fn found_after(
+    alloc: Global,
+    fault: Fault,
+    calls: u64,
+    tear: Tear,
+) -> std::result::Result<Option<(Option<u32>, bool)>, AllocError> {
+    let Some(failed) = played(alloc, fault, calls, tear)? else {
+        return Ok(None);
+    };
+    let (settled, most) = (failed.settled, failed.most);
+    let found = found_behind(alloc, fault, failed.pages, tear);
+    let is_between = match found {
+        Some(found) => settled <= found && found <= most,
+        None => false,
+    };
+    Ok(Some((found, is_between)))
 }
 
 /// A call that fails, or behind which the power stops, at each place of the scenario: what is found has every pulse that was settled,
@@ -171,15 +205,9 @@ fn play_second_stops(
 fn play_faults(report: &mut Report<'_>, fault: Fault, tear: Tear) -> Result<()> {
     let alloc = report.alloc();
     for calls in 0..CALLS {
-        let Some(failed) = played(alloc, fault, calls, tear)? else {
+        let Some((found, is_between)) = found_after(alloc, fault, calls, tear)? else {
             report.compare((fault, tear, calls), false, true)?;
             continue;
-        };
-        let (settled, most) = (failed.settled, failed.most);
-        let found = found_behind(alloc, fault, failed.pages, tear);
-        let is_between = match found {
-            Some(found) => settled <= found && found <= most,
-            None => false,
         };
         report.compare((fault, tear, calls, found), is_between, true)?;
         if fault == Fault::Stop {
@@ -238,9 +266,9 @@ pub fn play_slots(report: &mut Report<'_>) -> Result<()> {
     play_torn(report)?;
     report.end()?;
     report.begin("faults and stops of a file");
-    for fault in FAULTS {
-        for tear in TEARS {
-            play_faults(report, fault, tear)?;
+    for fault in &FAULTS {
+        for tear in &TEARS {
+            play_faults(report, *fault, *tear)?;
         }
     }
     Ok(report.end()?)

@@ -157,8 +157,15 @@ fn stopped_behind(alloc: Global, calls: u64, left: Left) -> Result<Option<Stoppe
 /// How many pulses are found on a device.
 fn found_on(alloc: Global, device: MemoryPages) -> Option<u32> {
     match Store::open(alloc, device) {
-        Ok(store) => Some(accepted(&store)),
-        Err(_) => None,
+        Ok(store) => {
+            let pulses = accepted(&store);
+            drop(store);
+            Some(pulses)
+        }
+        Err(refused) => {
+            drop(refused);
+            None
+        }
     }
 }
 

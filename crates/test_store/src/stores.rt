@@ -6,13 +6,22 @@ use crate::scripts::{OnDevice, OnStore, SCRIPTS, Script, Step};
 use crate::versions::VERSIONS;
 use anyhow::Result;
 use arrayvec::ArrayVec;
-use dlms_pages::{MemoryPages, PageRead, Pages};
+use dlms_pages::{MemoryPages, PageRead, Pages, Pick};
 use dlms_state::{Event, Refused};
 use dlms_store::{AddFault, OpenFault, Store};
+use std::alloc::Global;
 use std::io;
+use std::mem::replace;
 
 /// A store over pages in memory.
 pub type MemoryStore = Store<MemoryPages>;
+
+/// Closes a store, and opens it again; None is left where it does not open.
+pub fn reopen(alloc: Global, store: &mut Option<MemoryStore>) {
+    if let Some(here) = store.take() {
+        drop(replace(store, Store::open(alloc, here.close()).ok()));
+    }
+}
 
 /// Adds so many events of one pulse each, up to the first that is not taken. How many were taken.
 fn taken(store: &mut MemoryStore, count: u32) -> u32 {
@@ -229,82 +238,174 @@ enum Subject {
     Store(MemoryStore),
 }
 
+/// Has a script go on with this.
+fn put(subject: &mut Subject, next: Subject) {
+    drop(replace(subject, next));
+}
+
+/// Takes the device that no store has; nothing is left to work on.
+fn device_in(subject: &mut Subject) -> Option<MemoryPages> {
+    match replace(subject, Subject::Nothing) {
+        Subject::Device(device) => Some(device),
+        Subject::Store(store) => {
+            drop(store);
+            None
+        }
+        Subject::Nothing => None,
+    }
+}
+
+/// Takes the store; nothing is left to work on.
+fn store_in(subject: &mut Subject) -> Option<MemoryStore> {
+    match replace(subject, Subject::Nothing) {
+        Subject::Store(store) => Some(store),
+        Subject::Device(device) => {
+            drop(device);
+            None
+        }
+        Subject::Nothing => None,
+    }
+}
+
 /// What came of a format or a recovery: the store, or the device and why there is none.
-fn play_made(
-    report: &mut Report<'_>,
-    place: Place,
+fn keep(
+    subject: &mut Subject,
     made: std::result::Result<MemoryStore, (MemoryPages, OpenFault)>,
-    fault: Option<OpenFault>,
-) -> io::Result<Subject> {
+) -> Option<OpenFault> {
     match made {
         Ok(store) => {
-            report.compare(place, None, fault)?;
-            Ok(Subject::Store(store))
+            put(subject, Subject::Store(store));
+            None
         }
-        Err((device, found)) => {
-            report.compare(place, Some(found), fault)?;
-            Ok(Subject::Device(device))
+        Err((device, fault)) => {
+            put(subject, Subject::Device(device));
+            Some(fault)
         }
     }
 }
 
 /// A step that finds nothing to work on comes out otherwise.
-fn play_nothing(report: &mut Report<'_>, place: Place) -> io::Result<Subject> {
-    report.compare(place, "nothing", "something")?;
-    Ok(Subject::Nothing)
+fn play_nothing(report: &mut Report<'_>, place: Place) -> io::Result<()> {
+    report.compare(place, "nothing", "something")
 }
 
-/// A step on a device that no store has.
-fn play_with_device(
+/// Formats a device that no store has.
+fn play_format(
     report: &mut Report<'_>,
     place: Place,
-    device: MemoryPages,
-    step: Step,
-) -> io::Result<Subject> {
-    let alloc = report.alloc();
-    match step {
-        Step::Formats(fault) => play_made(report, place, Store::format(alloc, device), fault),
-        Step::Opens(fault) => play_made(report, place, Store::open(alloc, device), fault),
-        Step::Stops(pick) => Ok(Subject::Device(device.cut(pick))),
-        Step::At(step) => {
-            let mut device = device;
-            play_on_device(report, place, &mut device, step)?;
-            Ok(Subject::Device(device))
-        }
-        _ => play_nothing(report, place),
-    }
+    subject: &mut Subject,
+    fault: Option<OpenFault>,
+) -> io::Result<()> {
+    let Some(device) = device_in(subject) else {
+        return play_nothing(report, place);
+    };
+    let found = keep(subject, Store::format(report.alloc(), device));
+    report.compare(place, found, fault)
 }
 
-/// Takes a step, and gives what the next one works on.
+/// Opens a device that no store has.
+fn play_open(
+    report: &mut Report<'_>,
+    place: Place,
+    subject: &mut Subject,
+    fault: Option<OpenFault>,
+) -> io::Result<()> {
+    let Some(device) = device_in(subject) else {
+        return play_nothing(report, place);
+    };
+    let found = keep(subject, Store::open(report.alloc(), device));
+    report.compare(place, found, fault)
+}
+
+/// Stops the power of a device that no store has.
+fn play_stop(
+    report: &mut Report<'_>,
+    place: Place,
+    subject: &mut Subject,
+    pick: Pick<'static>,
+) -> io::Result<()> {
+    let Some(device) = device_in(subject) else {
+        return play_nothing(report, place);
+    };
+    put(subject, Subject::Device(device.cut(pick)));
+    Ok(())
+}
+
+/// Closes a store.
+fn play_close(report: &mut Report<'_>, place: Place, subject: &mut Subject) -> io::Result<()> {
+    let Some(store) = store_in(subject) else {
+        return play_nothing(report, place);
+    };
+    put(subject, Subject::Device(store.close()));
+    Ok(())
+}
+
+/// Takes a step on a store.
+fn play_at_store(
+    report: &mut Report<'_>,
+    place: Place,
+    subject: &mut Subject,
+    step: OnStore,
+) -> io::Result<()> {
+    if let Subject::Store(store) = subject {
+        return play_on_store(report, place, store, step);
+    }
+    put(subject, Subject::Nothing);
+    play_nothing(report, place)
+}
+
+/// Takes a step on a device that no store has.
+fn play_at_device(
+    report: &mut Report<'_>,
+    place: Place,
+    subject: &mut Subject,
+    step: OnDevice,
+) -> io::Result<()> {
+    if let Subject::Device(device) = subject {
+        return play_on_device(report, place, device, step);
+    }
+    put(subject, Subject::Nothing);
+    play_nothing(report, place)
+}
+
+/// Takes a step, and leaves what the next one works on.
 fn play_step(
     report: &mut Report<'_>,
     place: Place,
-    subject: Subject,
+    subject: &mut Subject,
     step: Step,
-) -> io::Result<Subject> {
-    match (subject, step) {
-        (_, Step::Device(pages)) => {
-            Ok(Subject::Device(MemoryPages::new(report.alloc(), pages)?))
+) -> io::Result<()> {
+    match step {
+        Step::Device(pages) => {
+            let device = MemoryPages::new(report.alloc(), pages)?;
+            put(subject, Subject::Device(device));
+            Ok(())
         }
-        (Subject::Store(store), Step::Closes) => Ok(Subject::Device(store.close())),
-        (Subject::Store(mut store), Step::Store(step)) => {
-            play_on_store(report, place, &mut store, step)?;
-            Ok(Subject::Store(store))
-        }
-        (Subject::Device(device), step) => play_with_device(report, place, device, step),
-        _ => play_nothing(report, place),
+        Step::Formats(fault) => play_format(report, place, subject, fault),
+        Step::Opens(fault) => play_open(report, place, subject, fault),
+        Step::Closes => play_close(report, place, subject),
+        Step::Stops(pick) => play_stop(report, place, subject, pick),
+        Step::Store(step) => play_at_store(report, place, subject, step),
+        Step::At(step) => play_at_device(report, place, subject, step),
     }
 }
 
 /// Takes the steps of a script, one after another.
-fn play_script(report: &mut Report<'_>, script: &Script) -> io::Result<()> {
-    let mut subject = Subject::Nothing;
+fn play_steps(report: &mut Report<'_>, subject: &mut Subject, script: &Script) -> io::Result<()> {
     let mut place = 0u32;
     for step in script.steps {
-        subject = play_step(report, (script.name, place), subject, *step)?;
+        play_step(report, (script.name, place), subject, *step)?;
         place = place.saturating_add(1);
     }
     Ok(())
+}
+
+/// Plays a script, which begins with nothing.
+fn play_script(report: &mut Report<'_>, script: &Script) -> io::Result<()> {
+    let mut subject = Subject::Nothing;
+    let played = play_steps(report, &mut subject, script);
+    drop(subject);
+    played
 }
 
 /// The scripts of a group.
@@ -339,7 +440,9 @@ pub fn play_texts(report: &mut Report<'_>) -> Result<()> {
     report.begin("texts of faults");
     for (fault, text) in TEXTS {
         let told = format!(in report.alloc(); "{fault}")?;
-        report.compare(text, told.as_str() == text, true)?;
+        let is_told = told.as_str() == text;
+        drop(told);
+        report.compare(text, is_told, true)?;
     }
     Ok(report.end()?)
 }

@@ -19,7 +19,7 @@ const SECOND_GATE: [u8; 14] = [1, 2, 0, 1, 0, 0, 0, 0, 0, 0, 0, 2, 0, 0];
 const THIRD_GATE: [u8; 14] = [1, 2, 0, 0, 0, 0, 0, 0, 0, 0, 0, 3, 0, 0];
 
 /// The scripts.
-pub const VERSIONS: [Script; 18] = [
+pub static VERSIONS: [Script; 18] = [
     Script {
         name: "a later gate of version 1 beside one of version 2",
         steps: &[
