@@ -24,7 +24,7 @@ pub struct Captured<A: Allocator> {
     alloc: A,
     form: Form,
     file: File<A>,
-    connections: Vec<Connection<A>, A>,
+    connections: Vec<Box<Connection<A>, A>, A>,
     /// How many packets were of other traffic.
     others: u64,
     is_broken: bool,
@@ -34,20 +34,23 @@ pub struct Captured<A: Allocator> {
 fn connection_of<A: Allocator + Copy>(
     alloc: A,
     form: Form,
-    connections: &mut Vec<Connection<A>, A>,
+    connections: &mut Vec<Box<Connection<A>, A>, A>,
     segment: Segment<'_>,
-) -> Connection<A> {
+) -> Result<Box<Connection<A>, A>, AllocError> {
     let at = connections
         .iter()
         .position(|connection| connection.is_of(segment.ends));
     match at {
-        Some(at) if at < connections.len() => connections.remove(at),
-        _ => Connection::new(alloc, form, segment),
+        Some(at) if at < connections.len() => Ok(connections.remove(at)),
+        _ => Ok(Box::new(alloc, Connection::new(alloc, form, segment))?),
     }
 }
 
 /// The connection that was silent longest is let go: what is told of octets of it that are no frame.
-fn end_oldest<A: Allocator + Copy>(connections: &mut Vec<Connection<A>, A>, text: &mut Text<A>)
+fn end_oldest<A: Allocator + Copy>(
+    connections: &mut Vec<Box<Connection<A>, A>, A>,
+    text: &mut Text<A>,
+)
     requires { 0 < length connections.old.items }
 {
     let mut oldest = connections.remove(0);
@@ -57,8 +60,8 @@ fn end_oldest<A: Allocator + Copy>(connections: &mut Vec<Connection<A>, A>, text
 
 /// Keeps a connection behind the others.
 fn keep<A: Allocator + Copy>(
-    connections: &mut Vec<Connection<A>, A>,
-    connection: Connection<A>,
+    connections: &mut Vec<Box<Connection<A>, A>, A>,
+    connection: Box<Connection<A>, A>,
     text: &mut Text<A>,
 ) {
     if connections.push(connection).is_err() {
@@ -73,12 +76,15 @@ fn keep<A: Allocator + Copy>(
 fn explain_segment<A: Allocator + Copy>(
     alloc: A,
     form: Form,
-    connections: &mut Vec<Connection<A>, A>,
+    connections: &mut Vec<Box<Connection<A>, A>, A>,
     stamp: Option<Stamp>,
     segment: Segment<'_>,
     text: &mut Text<A>,
 ) -> bool {
-    let mut connection = connection_of(alloc, form, connections, segment);
+    let Ok(mut connection) = connection_of(alloc, form, connections, segment) else {
+        text.refuse();
+        return false;
+    };
     let is_other = connection.explain(stamp, segment, text);
     keep(connections, connection, text);
     is_other
@@ -88,7 +94,7 @@ fn explain_segment<A: Allocator + Copy>(
 fn explain_packet<A: Allocator + Copy>(
     alloc: A,
     form: Form,
-    connections: &mut Vec<Connection<A>, A>,
+    connections: &mut Vec<Box<Connection<A>, A>, A>,
     packet: Packet<'_>,
     text: &mut Text<A>,
 ) -> bool {
@@ -124,38 +130,43 @@ impl<A: Allocator + Copy> Captured<A> {
     }
 
     /// What is told of the packets that are whole.
-    fn tell(&mut self, text: &mut Text<A>) -> Result<(), AllocError> {
+    fn tell(&mut self, text: &mut Text<A>) {
         for _ in 0..u64::MAX {
-            match self.file.next()? {
-                Next::Packet(packet) => {
+            match self.file.next() {
+                Ok(Next::Packet(packet)) => {
                     let connections = &mut self.connections;
                     if explain_packet(self.alloc, self.form, connections, packet, text) {
                         self.others = self.others.saturating_add(1);
                     }
                 }
-                Next::More => return Ok(()),
-                Next::Broken => {
+                Ok(Next::More) => return,
+                Ok(Next::Broken) => {
                     self.is_broken = true;
                     write_note(text, self.form.json, BROKEN);
-                    return Ok(());
+                    return;
+                }
+                Err(_) => {
+                    text.refuse();
+                    return;
                 }
             }
         }
-        Ok(())
     }
 
     /// Takes octets of the capture, and appends what is told of the packets that are whole then.
-    pub fn feed(&mut self, octets: &[u8], text: &mut Text<A>) -> Result<(), AllocError> {
+    pub fn feed(&mut self, octets: &[u8], text: &mut Text<A>) {
         if self.is_broken {
-            return Ok(());
+            return;
         }
-        self.file.feed(octets)?;
-        self.tell(text)?;
-        text.granted()
+        if self.file.feed(octets).is_err() {
+            text.refuse();
+            return;
+        }
+        self.tell(text);
     }
 
     /// The capture is at its end: what is told of octets that are no frame, and of other traffic.
-    pub fn end(&mut self, text: &mut Text<A>) -> Result<(), AllocError> {
+    pub fn end(&mut self, text: &mut Text<A>) {
         for connection in self.connections.iter_mut() {
             connection.end(text);
         }
@@ -163,6 +174,5 @@ impl<A: Allocator + Copy> Captured<A> {
             write_note(text, self.form.json, CUT);
         }
         write_others(text, self.form.json, self.others);
-        text.granted()
     }
 }

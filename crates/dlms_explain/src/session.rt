@@ -1,6 +1,6 @@
 //! The lines of an input, explained as they come.
 
-ghost use Rattle.std.specs.Prelude.{◌≡◌, ◌≤◌, ◌&&◌, ◌||◌, not, false, length, IfOk};
+ghost use Rattle.std.specs.Prelude.{◌≡◌, ◌≤◌, ◌&&◌, ◌||◌, not, false, length, IfOk, OnOk};
 
 use crate::captured::Captured;
 use crate::explainer::Explainer;
@@ -9,7 +9,7 @@ use crate::json::write_note;
 use crate::words::Text;
 use dlms_capture::is_capture;
 use memchr::memchr;
-use std::alloc::{AllocError, Allocator};
+use std::alloc::Allocator;
 use std::io::{ErrorKind, Read, Write};
 
 /// The most octets of a line that is looked at; of a longer one it is told that it is one.
@@ -24,11 +24,14 @@ const FRONT: usize = 4;
 /// What is told of a line that is too long.
 const TOO_LONG: &str = "(a line of more than 65536 octets)";
 
-/// Writes text, which is let go.
+/// Writes text, which is let go; where a growth was refused nothing of it.
 fn write_text<A: Allocator, W: Write>(
     text: &mut Text<A>,
     output: &mut W,
-) -> Result<(), ExplainFault> {
+) -> Result<(), ExplainFault>
+    ensures { OnOk result (text.old.is_refused ≡ false) }
+{
+    text.granted()?;
     let written = output.write_all(text.as_str().as_bytes());
     text.clear();
     written.map_err(|_| ExplainFault::Output)
@@ -98,20 +101,22 @@ impl<A: Allocator + Copy> Session<A> {
     }
 
     /// Octets of a line. Of a line that is too long nothing is kept.
-    fn keep(&mut self, octets: &[u8]) -> Result<(), AllocError> {
+    fn keep(&mut self, octets: &[u8]) {
         if self.is_long {
-            return Ok(());
+            return;
         }
         if octets.len() > MOST_LINE.saturating_sub(self.line.len()) {
             self.is_long = true;
             self.line.clear();
-            return Ok(());
+            return;
         }
-        self.line.extend_from_slice(octets)
+        if self.line.extend_from_slice(octets).is_err() {
+            self.text.refuse();
+        }
     }
 
     /// A line is whole: what is told of it.
-    fn tell_line(&mut self) -> Result<(), AllocError> {
+    fn tell_line(&mut self) {
         if self.is_long {
             write_note(&mut self.text, self.is_json, TOO_LONG);
         } else {
@@ -119,11 +124,10 @@ impl<A: Allocator + Copy> Session<A> {
         }
         self.line.clear();
         self.is_long = false;
-        self.text.granted()
     }
 
     /// Takes octets of the input, and appends what is told of the lines that are whole then.
-    fn take(&mut self, octets: &[u8]) -> Result<(), AllocError> {
+    fn take(&mut self, octets: &[u8]) {
         let mut rest = octets;
         for _ in 0..octets.len() {
             let Some(at) = memchr(b'\n', rest) else {
@@ -132,20 +136,19 @@ impl<A: Allocator + Copy> Session<A> {
             let (Some(line), Some(behind)) = (rest.get(..at), rest.get(at..)) else {
                 break;
             };
-            self.keep(line)?;
-            self.tell_line()?;
+            self.keep(line);
+            self.tell_line();
             rest = behind.get(1..).unwrap_or(&[]);
         }
-        self.keep(rest)
+        self.keep(rest);
     }
 
     /// The input is at its end, perhaps within a line.
-    fn end(&mut self) -> Result<(), AllocError> {
+    fn end(&mut self) {
         if self.is_long || !self.line.is_empty() {
-            self.tell_line()?;
+            self.tell_line();
         }
         self.explainer.close(&mut self.text);
-        self.text.granted()
     }
 }
 
@@ -189,7 +192,7 @@ fn tell_capture<A: Allocator + Copy, R: Read, W: Write>(
     input: &mut R,
     output: &mut W,
 ) -> Result<(), ExplainFault> {
-    captured.feed(front, text)?;
+    captured.feed(front, text);
     let mut room = [0u8; ROOM];
     for _ in 0..u64::MAX {
         write_text(text, output)?;
@@ -197,13 +200,14 @@ fn tell_capture<A: Allocator + Copy, R: Read, W: Write>(
         if count == 0 {
             break;
         }
-        captured.feed(&room[..count], text)?;
+        captured.feed(&room[..count], text);
     }
-    captured.end(text)?;
+    captured.end(text);
     write_text(text, output)
 }
 
 /// Explains a capture, whose first octets are these.
+#[inline(never)]
 fn explain_capture<A: Allocator + Copy, R: Read, W: Write>(
     alloc: A,
     form: Form,
@@ -213,10 +217,7 @@ fn explain_capture<A: Allocator + Copy, R: Read, W: Write>(
 ) -> Result<(), ExplainFault> {
     let mut captured = Captured::new(alloc, form);
     let mut text = Text::new(String::new(alloc));
-    let told = tell_capture(&mut captured, &mut text, front, input, output);
-    drop(captured);
-    drop(text);
-    told
+    tell_capture(&mut captured, &mut text, front, input, output)
 }
 
 /// Explains lines, of which so many first octets stand in the room.
@@ -229,7 +230,7 @@ fn tell_lines<A: Allocator + Copy, R: Read, W: Write>(
 ) -> Result<(), ExplainFault>
     requires { front ≤ length room.old }
 {
-    session.take(&room[..front])?;
+    session.take(&room[..front]);
     for _ in 0..u64::MAX {
         write_text(&mut session.text, output)?;
         if front < FRONT {
@@ -239,10 +240,26 @@ fn tell_lines<A: Allocator + Copy, R: Read, W: Write>(
         if count == 0 {
             break;
         }
-        session.take(&room[..count])?;
+        session.take(&room[..count]);
     }
-    session.end()?;
+    session.end();
     write_text(&mut session.text, output)
+}
+
+/// Explains lines, of which so many first octets stand in the room.
+#[inline(never)]
+fn explain_lines<A: Allocator + Copy, R: Read, W: Write>(
+    alloc: A,
+    form: Form,
+    room: &mut [u8; ROOM],
+    front: usize,
+    input: &mut R,
+    output: &mut W,
+) -> Result<(), ExplainFault>
+    requires { front ≤ length room.old }
+{
+    let mut session = Session::new(alloc, form);
+    tell_lines(&mut session, room, front, input, output)
 }
 
 /// Explains the input: a capture of a network's traffic (pcap or pcapng, by its first octets), or lines, those of a transcript or
@@ -262,8 +279,5 @@ pub fn explain<A: Allocator + Copy, R: Read, W: Write>(
     if is_capture(&room[..front]) {
         return explain_capture(alloc, form, &room[..front], input, output);
     }
-    let mut session = Session::new(alloc, form);
-    let told = tell_lines(&mut session, &mut room, front, input, output);
-    drop(session);
-    told
+    explain_lines(alloc, form, &mut room, front, input, output)
 }

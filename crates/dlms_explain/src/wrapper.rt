@@ -26,17 +26,23 @@ struct Head {
     len: usize,
 }
 
-/// Both directions of a connection, and what was asked for.
+/// What was asked for between two ports, and how it is told.
 #[derive(Drop)]
-pub struct Wrapped<A: Allocator> {
+struct Asked<A: Allocator> {
     alloc: A,
     raw: bool,
-    client: Vec<u8, A>,
-    meter: Vec<u8, A>,
     /// The client's and the meter's port of the last APDU.
     ports: (u16, u16),
     services: Services<A>,
     view: View<A>,
+}
+
+/// Both directions of a connection, and what was asked for.
+#[derive(Drop)]
+pub struct Wrapped<A: Allocator> {
+    client: Vec<u8, A>,
+    meter: Vec<u8, A>,
+    asked: Asked<A>,
 }
 
 /// The head in front, once it is there.
@@ -69,23 +75,7 @@ const NO_WRAPPER: &str = "(octets that are of no wrapper)";
 /// What is told of an APDU that is not whole.
 const NOT_WHOLE: &str = "(the last APDU is not whole)";
 
-impl<A: Allocator + Copy> Wrapped<A> {
-    /// Before the first octet. No memory is taken here.
-    pub fn new(alloc: A, form: Form) -> Self
-        ensures raw { result.services.raw ≡ form.raw }
-        ensures form { result.view.form ≡ form }
-    {
-        Wrapped {
-            alloc,
-            raw: form.raw,
-            client: Vec::new(alloc),
-            meter: Vec::new(alloc),
-            ports: (0, 0),
-            services: Services::new(alloc, form.raw),
-            view: View::new(alloc, form),
-        }
-    }
-
+impl<A: Allocator + Copy> Asked<A> {
     /// What was asked for between other ports is forgotten.
     fn follow(&mut self, side: Side, head: Head) {
         let ports = match side {
@@ -95,15 +85,6 @@ impl<A: Allocator + Copy> Wrapped<A> {
         if self.ports != ports {
             self.services = Services::new(self.alloc, self.raw);
             self.ports = ports;
-        }
-    }
-
-    /// When octets came: a line, or in front of each APDU's.
-    pub fn stamp(&mut self, words: &str, text: &mut Text<A>) {
-        if self.view.form.is_one_line() {
-            self.view.stamp_with(words, text);
-        } else {
-            line(text, 0, words);
         }
     }
 
@@ -180,13 +161,8 @@ impl<A: Allocator + Copy> Wrapped<A> {
         octets.len().saturating_sub(rest.len())
     }
 
-    /// Takes octets of one end, and appends what is told of the APDUs that are whole then.
-    pub fn octets(&mut self, side: Side, octets: &[u8], text: &mut Text<A>) {
-        let mut kept = Vec::new(self.alloc);
-        match side {
-            Side::Client => std::mem::swap(&mut kept, &mut self.client),
-            Side::Meter => std::mem::swap(&mut kept, &mut self.meter),
-        }
+    /// Octets of one end behind those of before that are kept, and what is told of the APDUs that are whole then.
+    fn take(&mut self, kept: &mut Vec<u8, A>, side: Side, octets: &[u8], text: &mut Text<A>) {
         if kept.extend_from_slice(octets).is_err() {
             text.refuse();
             return;
@@ -195,16 +171,49 @@ impl<A: Allocator + Copy> Wrapped<A> {
         let left = kept.len() - told;
         kept.copy_within(told.., 0);
         kept.truncate(left);
+    }
+}
+
+impl<A: Allocator + Copy> Wrapped<A> {
+    /// Before the first octet. No memory is taken here.
+    pub fn new(alloc: A, form: Form) -> Self
+        ensures raw { result.asked.services.raw ≡ form.raw }
+        ensures form { result.asked.view.form ≡ form }
+    {
+        Wrapped {
+            client: Vec::new(alloc),
+            meter: Vec::new(alloc),
+            asked: Asked {
+                alloc,
+                raw: form.raw,
+                ports: (0, 0),
+                services: Services::new(alloc, form.raw),
+                view: View::new(alloc, form),
+            },
+        }
+    }
+
+    /// When octets came: a line, or in front of each APDU's.
+    pub fn stamp(&mut self, words: &str, text: &mut Text<A>) {
+        if self.asked.view.form.is_one_line() {
+            self.asked.view.stamp_with(words, text);
+        } else {
+            line(text, 0, words);
+        }
+    }
+
+    /// Takes octets of one end, and appends what is told of the APDUs that are whole then.
+    pub fn octets(&mut self, side: Side, octets: &[u8], text: &mut Text<A>) {
         match side {
-            Side::Client => self.client = kept,
-            Side::Meter => self.meter = kept,
+            Side::Client => self.asked.take(&mut self.client, side, octets, text),
+            Side::Meter => self.asked.take(&mut self.meter, side, octets, text),
         }
     }
 
     /// No more octets come.
     pub fn end(&mut self, text: &mut Text<A>) {
         if !self.client.is_empty() || !self.meter.is_empty() {
-            write_note(text, self.view.form.json, NOT_WHOLE);
+            write_note(text, self.asked.view.form.json, NOT_WHOLE);
         }
     }
 }
