@@ -6,6 +6,9 @@ use std::alloc::{AllocError, Allocator};
 use std::process::ExitCode;
 use std::rt::Env;
 use std::{env, io};
+use streams::StandIns;
+
+mod streams;
 
 /// The words that the program was started with.
 fn words_of<R: Env + AllocGlobal>(rt: &R) -> Result<Vec<String>, AllocError> {
@@ -63,5 +66,8 @@ fn status_of(rt: &HostRuntime) -> io::Result<u8> {
 }
 
 fn main(rt: HostRuntime) -> io::Result<ExitCode> {
-    Ok(ExitCode::from(status_of(&rt)?))
+    let stand_ins = StandIns::open(&rt);
+    let status = status_of(&rt);
+    drop(stand_ins);
+    Ok(ExitCode::from(status?))
 }

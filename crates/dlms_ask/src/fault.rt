@@ -3,7 +3,7 @@
 ghost use Rattle.std.specs.Prelude.{◌≡◌};
 ghost use Rattle.dlms_ask.specs.declared.fault.ValueFault.TheVariants.{Memory};
 
-use std::alloc::AllocError;
+use std::alloc::{AllocError, AllocFailed};
 use thiserror::Error;
 
 /// Why a text writes no value.
@@ -21,6 +21,14 @@ impl From<AllocError> for ValueFault {
     ghost from_gives = { λ _ fault. fault ≡ Memory };
 
     fn from(_e: AllocError) -> ValueFault {
+        ValueFault::Memory
+    }
+}
+
+impl From<AllocFailed<u8>> for ValueFault {
+    ghost from_gives = { λ _ fault. fault ≡ Memory };
+
+    fn from(_e: AllocFailed<u8>) -> ValueFault {
         ValueFault::Memory
     }
 }

@@ -10,6 +10,7 @@ mod name;
 mod server;
 mod texts;
 mod value;
+mod walk;
 
 pub use decimal::append_decimal;
 pub use entry::{Entry, class_in, elements, entry_of, right_of, six};
@@ -19,3 +20,4 @@ pub use kind::{Kind, kind_of};
 pub use name::{Name, name_of};
 pub use server::server_of;
 pub use value::value_of;
+pub use walk::{Front, first_of, front_of, value_at};

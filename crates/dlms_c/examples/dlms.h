@@ -6,7 +6,7 @@
  *
  * Of every call:
  *   - A pointer and the length behind it are octets that the caller owns; the library keeps none of them behind the call.
- *   - NO POINTER IS NULL, EVEN WHERE ITS LENGTH IS 0.
+ *   - A pointer whose length is 0 may be NULL: there are no octets, or there is no room. NO OTHER POINTER IS NULL.
  *   - WHAT IS WRITTEN TO (no const) OVERLAPS NOTHING ELSE THAT THE CALL IS GIVEN.
  *   - A bool IS 0 OR 1.
  *   - NO CALL COMES FROM A SIGNAL HANDLER, AND THE THREE FUNCTIONS OF THE HEAP ARE OF ONE HEAP. A block is aligned to 16.
@@ -154,6 +154,11 @@ uint32_t dlms_meter_moment(dlms_meter *meter, uint32_t second);
 
 /* Nothing came for as long as the line's inter-octet time-out: half a frame is forgotten. */
 uint32_t dlms_meter_idle(dlms_meter *meter);
+
+/* Ends every client's link, and with it association and transfers; half a frame is forgotten, and no reply is left. To be called
+ * BEFORE THE FIRST OCTET OF A CONNECTION AND BEHIND ITS LAST ONE: ELSE THE NEXT ONE GOES ON WITH WHAT THIS ONE OPENED. It writes and
+ * syncs nothing. DLMS_PAGES while pages wait, DLMS_LOST, DLMS_CLOSED: nothing was done. */
+uint32_t dlms_meter_hang_up(dlms_meter *meter);
 
 /* The next write (DLMS_WRITE: index and slot) or sync (DLMS_SYNC) that is to be done, or DLMS_NOTHING. `room` is at least
  * DLMS_SLOT, else DLMS_SHORT. */

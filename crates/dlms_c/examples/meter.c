@@ -13,6 +13,7 @@
 #include <string.h>
 #include <sys/file.h>
 #include <sys/socket.h>
+#include <sys/stat.h>
 #include <unistd.h>
 
 static int file, client = -1;
@@ -45,14 +46,47 @@ static void settle(void) {
     }
 }
 
-/* What stands in the file is written there again and synced: so it outlasts a stop, and the meter may begin with it. */
+/* Every octet that is asked for, or nothing. */
+static bool get(uint8_t *octets, size_t count, off_t place) {
+    while (count > 0) {
+        ssize_t done = pread(file, octets, count, place);
+        if (done <= 0) return false;
+        octets += done, place += done, count -= (size_t)done;
+    }
+    return true;
+}
+
+static off_t size_of_file(void) {
+    struct stat it;
+    if (fstat(file, &it) != 0 || !S_ISREG(it.st_mode)) fail("file", 0);
+    return it.st_size;
+}
+
+/* Looks first: a file of another size, or one that holds no meter, is left as it is. What stands in a meter's file is written there
+ * again and synced: so it outlasts a stop, and the meter may begin with it. */
 static uint32_t recover(void) {
     static uint8_t slots[DLMS_SLOTS];
-    memset(slots, 0, sizeof slots);
-    if (pread(file, slots, sizeof slots, 0) < 0 || !put(slots, sizeof slots, 0) || fdatasync(file) != 0) fail("file", 0);
+    if (size_of_file() != DLMS_SLOTS) return DLMS_SIZE;
+    if (!get(slots, sizeof slots, 0)) fail("file", 0);
     uint32_t code = dlms_meter_recover(&meter, slots, sizeof slots);
+    if (code != DLMS_DONE) return code;
+    dlms_meter_free(&meter);
+    if (!put(slots, sizeof slots, 0) || fdatasync(file) != 0) fail("file", 0);
+    code = dlms_meter_recover(&meter, slots, sizeof slots);
     settle();
     return code;
+}
+
+/* Makes a meter in a file that holds nothing. */
+static uint32_t format(void) {
+    if (size_of_file() != 0) fail("the file is not empty", 0);
+    return dlms_meter_new(&meter);
+}
+
+/* No link outlasts its connection. */
+static void hang_up(void) {
+    uint32_t code = dlms_meter_hang_up(&meter);
+    if (code != DLMS_DONE) fail("hang up", code);
 }
 
 static void send_frame(const uint8_t *frame, size_t size) {
@@ -88,8 +122,9 @@ static void serve(const char *port) {
     while ((client = accept(door, NULL, NULL)) >= 0) {
         uint8_t octets[512];
         ssize_t count;
+        hang_up();
         while ((count = read(client, octets, sizeof octets)) > 0) feed(octets, (size_t)count);
-        dlms_meter_idle(&meter);
+        hang_up();
         close(client);
     }
 }
@@ -127,9 +162,9 @@ static void obey(const char *line) {
 
 int main(int count, char **words) {
     static char line[8194];
-    if (count < 2 || (file = open(words[1], O_RDWR | O_CREAT, 0600)) < 0 || flock(file, LOCK_EX | LOCK_NB) != 0) fail("file", 0);
     bool is_new = count == 3;
-    uint32_t code = is_new ? dlms_meter_new(&meter) : recover();
+    if (count < 2 || (file = open(words[1], is_new ? O_RDWR | O_CREAT : O_RDWR, 0600)) < 0 || flock(file, LOCK_EX | LOCK_NB) != 0) fail("file", 0);
+    uint32_t code = is_new ? format() : recover();
     if (code != DLMS_DONE) fail("open", code);
     settle();
     if (count == 4) serve(words[3]);

@@ -1,3 +1,4 @@
+mod HangingUp
 mod MeterValues
 mod Openings
 mod Places

@@ -1,4 +1,5 @@
 pub mod Codes
+pub mod HangingUp
 pub mod Kept
 pub mod Meter
 pub mod Opening

@@ -15,6 +15,7 @@ use Rattle.dlms_store.specs.World.StoreStep.{Closes as Closing}
 use Rattle.dlms_store.specs.World.StoreWorld.{Runs}
 use Rattle.dlms_store.specs.declared.fault.AddFault.{AddFault}
 use Rattle.dlms_c.specs.Codes.{add_code}
+use Rattle.dlms_c.specs.HangingUp.{HangsUp}
 use Rattle.dlms_state.specs.Events.{buffer_after, clock_after, moment_after, registers_after}
 use Rattle.dlms_c.specs.declared.meter.MeterState.{MeterState}
 use Rattle.dlms_c.specs.declared.kept_meter.KeptMeter.{KeptMeter}
@@ -93,6 +94,17 @@ pub record FallsSilentKept (old : KeptMeter) (code : ℕ) (new : KeptMeter) : Ty
   pub silent : code ≡ 0 → FallsSilent old.meter new.meter
   pub refused : code ≢ 0 → new.meter ≡ old.meter
   pub reply : new.reply ≡ old.reply
+  pub rests : Rests old new
+
+-- every client's link of a meter that is there has ended
+abbrev pub HangsUpBoth : {P A : Type 0} → {ghosts : Ghosts P} → Option (Meter P A ghosts) → Option (Meter P A ghosts) → Type 0
+HangsUpBoth old new = Both old new HangsUp
+
+-- Every client's link has ended, and no reply is left; or the meter was not asked: a page was lost, a write or a sync waits, or it is
+-- closed.
+pub record HangsUpKept (old : KeptMeter) (code : ℕ) (new : KeptMeter) : Type 0 where
+  pub ended : code ≡ 0 → (old.is_lost ≡ false) × HangsUpBoth old.meter new.meter × (new.reply ≡ None)
+  pub refused : code ≢ 0 → ((code ≡ 19) ⊎ ((code ≡ 20) ⊎ (code ≡ 21))) × (new.meter ≡ old.meter) × (new.reply ≡ old.reply)
   pub rests : Rests old new
 
 -- The store gave its device back. Where that never failed, it is told to be done, and all that was accepted is settled on it, but

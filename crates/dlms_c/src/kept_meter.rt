@@ -1,13 +1,14 @@
 //! A meter, and what is to be done for it before its reply goes out.
 ghost use Rattle.std.specs.Prelude.{◌≡◌, ◌≢◌, ◌⊎◌, ◌≤◌, [], None, length, take, true, Ok, IfSome, IfNone, MatchOption, MatchResult, option_map};
 ghost use Rattle.rtrb.specs.Ring.{received};
-ghost use Rattle.dlms_c.specs.declared.codes.TheConstants.{DEVICE, DONE, MEMORY};
+ghost use Rattle.dlms_c.specs.declared.codes.TheConstants.{CLOSED, DEVICE, DONE, MEMORY};
 ghost use Rattle.dlms_c.specs.Codes.{open_code};
-ghost use Rattle.dlms_c.specs.Meter.{Closes, FallsSilent, FallsSilentKept, Fed, FeedsKept, HandsOut, IsClearCode, Judged, JudgesKept, Looked, Replies, event_code};
+ghost use Rattle.dlms_c.specs.Meter.{Closes, FallsSilent, FallsSilentKept, Fed, FeedsKept, HandsOut, HangsUpBoth, HangsUpKept, IsClearCode, Judged, JudgesKept, Looked, Replies, event_code};
 ghost use Rattle.dlms_c.specs.Opening.{Begins, IsNewKept, IsRecovered, IsUnrecovered};
 ghost use Rattle.dlms_state.specs.declared.event.Event.TheVariants.{Moment, Pulses};
 
 use crate::codes::{CLOSED, DEVICE, DONE, LOST, MEMORY, NOTHING, PAGES, SHORT};
+use crate::hanging_up::hang_up;
 use crate::meter_codes::{of_event, of_opening};
 use dlms_meter::{Meter, Reply};
 use dlms_pages::{Call, Pages};
@@ -104,6 +105,21 @@ fn idle_on(meter: &mut Option<Meter<RelayedPages<Global>, Global>>) -> u32
     match meter {
         Some(running) => {
             running.idle();
+            DONE
+        }
+        None => CLOSED,
+    }
+}
+
+/// Ends every client's link at a meter that is there.
+fn hang_up_on(meter: &mut Option<Meter<RelayedPages<Global>, Global>>) -> u32
+    ensures ended { result ≡ DONE → HangsUpBoth meter.old meter.new }
+    ensures code { (result ≡ DONE) ⊎ (result ≡ CLOSED) }
+    ensures left { result ≢ DONE → meter.new ≡ meter.old }
+{
+    match meter {
+        Some(running) => {
+            hang_up(running);
             DONE
         }
         None => CLOSED,
@@ -246,6 +262,21 @@ impl KeptMeter {
         let device = running.close();
         self.reply = None;
         if device.faults() == 0 { DONE } else { DEVICE }
+    }
+
+    /// The connection has ended: so have every client's link, association and transfers, and no reply is left.
+    pub fn hang_up(&mut self) -> u32
+        ensures { HangsUpKept self.old result self.new }
+    {
+        let code = self.is_clear();
+        if code != DONE {
+            return code;
+        }
+        let code = hang_up_on(&mut self.meter);
+        if code == DONE {
+            self.reply = None;
+        }
+        code
     }
 
     /// Silence on the line: half a frame is forgotten.

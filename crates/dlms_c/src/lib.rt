@@ -3,6 +3,7 @@
 
 mod codes;
 mod explaining;
+mod hanging_up;
 mod kept_meter;
 mod kept_poller;
 mod loose;

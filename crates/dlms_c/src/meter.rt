@@ -2,7 +2,7 @@
 ghost use Rattle.std.specs.Prelude.{◌≡◌, ◌≢◌, ◌⊎◌, ◌<◌, ◌≤◌, None, Some, Ok, Err, MatchOption, false, length, take, true};
 ghost use Rattle.dlms_state.specs.declared.event.Event.TheVariants.{Moment, Pulses};
 ghost use Rattle.dlms_pages.specs.declared.seal.TheConstants.{SLOT_BYTES};
-ghost use Rattle.dlms_c.specs.Meter.{Closes, FallsSilentKept, FeedsKept, HandsPage, JudgesKept, Replies, Shows, TellsPage};
+ghost use Rattle.dlms_c.specs.Meter.{Closes, FallsSilentKept, FeedsKept, HandsPage, HangsUpKept, JudgesKept, Replies, Shows, TellsPage};
 ghost use Rattle.dlms_c.specs.Opening.{IsNewKept, IsRecovered, IsUnrecovered};
 ghost use Rattle.dlms_c.specs.declared.codes.TheConstants.{DEVICE, DONE, EMPTY, FULL, LOST, MEMORY, SHORT, SIZE};
 ghost use Rattle.dlms_c.specs.declared.kept_meter.KeptMeter.{KeptMeter as KeptMeterOf};
@@ -157,6 +157,22 @@ pub extern "C" fn dlms_meter_idle(alloc: Global, meter: &mut MeterHandle) -> u32
     };
     let mut held = loose.into_box();
     let code = held.idle();
+    *meter = kept(Loose::of(held));
+    code
+}
+
+/// A connection has ended, or one begins: every client's link, association and transfers end.
+#[unsafe(no_mangle)]
+pub extern "C" fn dlms_meter_hang_up(alloc: Global, meter: &mut MeterHandle) -> u32
+    ensures empty { meter.old.value ≡ None → (result ≡ EMPTY) × (meter.new.value ≡ None) }
+    ensures hangs_up { (old : KeptMeterOf) → meter.old.value ≡ Some old → (new : KeptMeterOf) × (meter.new.value ≡ Some new) × HangsUpKept old result new }
+{
+    let handle = replace(meter, none());
+    let Some(loose) = loosened(handle, alloc) else {
+        return EMPTY;
+    };
+    let mut held = loose.into_box();
+    let code = held.hang_up();
     *meter = kept(Loose::of(held));
     code
 }

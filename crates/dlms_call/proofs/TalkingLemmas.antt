@@ -1,8 +1,8 @@
 -- A client's end, act by act.
-use Rattle.std.proofs.Common.{arith, refl, sym, ap, subst, append-nil, append_assoc, ◌∙◌, ◌≡◌, ◌↔◌, ◌+◌, ◌-◌, ◌≤◌, ◌<◌, ℕ, Bool, true, false, List, [], ◌∷◌, ◌++◌, length}
+use Rattle.std.proofs.Common.{arith, inl, inr, refl, sym, ap, subst, append-nil, append_assoc, ◌∙◌, ◌≡◌, ◌↔◌, ◌+◌, ◌-◌, ◌≤◌, ◌<◌, ℕ, Bool, true, false, List, [], ◌∷◌, ◌++◌, length}
 use Rattle.std.specs.Prelude.{IsTrue, Option, Some, None, Result, Ok, Err}
 use Rattle.std.specs.declared.io.Error.{Error}
-use Rattle.std.proofs.lemmas.Bool.{false≢true}
+use Rattle.std.proofs.lemmas.Bool.{cases_lt, false≢true}
 use Rattle.dlms_apdu.specs.Forms.{RequestForm}
 use Rattle.dlms_client.specs.Calls.{Asks, CanTimeOut, Comes, Leaves, TimesOut}
 use Rattle.dlms_client.specs.ClientValue.{ClientValue}
@@ -20,6 +20,9 @@ use Rattle.dlms_ends.specs.Moments.Moment.{Came, Quiet, Unheard, Went, Broke}
 use Rattle.dlms_ends.proofs.EndLemmas.{nothing_left}
 use Rattle.dlms_ends.proofs.InflowLemmas.{brought, frame_taken, holds_as, idled, none_taken}
 use Rattle.dlms_ends.proofs.MomentLemmas.{adds_as, adds_more, adds_none, adds_still}
+use Rattle.dlms_call.specs.Asking.{DialFails, FailsToDial, TakesTurnWithin, joined_in}
+use Rattle.dlms_call.specs.Asking.FailsToDial.{HasNoRoom, IsBroken}
+use Rattle.dlms_call.specs.Asking.TakesTurnWithin.{IsBeyond, IsWithin}
 use Rattle.dlms_call.specs.Talking.{Act, Acts, AreListening, Did, Does, Ends, Gives, GivesAgain, IsAt, IsHearing, IsIn, IsOfSystem, Listened, Repeats, SendsFrame, TakesFrame, TakesPiece, TakesTurn, TalkWorld, Turned, behind, moments_by, moments_of, piece_by, pieces_in, told_by, told_by_step}
 use Rattle.dlms_call.specs.Talking.Act.{Gets, Skips, Hears, Waits}
 use Rattle.dlms_call.specs.Talking.Ends.{Tells, BreaksReading, BreaksSending, Floods, NoneIsOut, Tires}
@@ -29,7 +32,7 @@ use Rattle.dlms_call.specs.declared.client_end.TheConstants.{READS}
 use Rattle.dlms_call.specs.declared.client_end.Turn.{Turn}
 use Rattle.dlms_call.specs.declared.client_end.Turn.TheVariants.{Sent}
 use Rattle.dlms_call.specs.declared.fault.CallFault.{CallFault}
-use Rattle.dlms_call.specs.declared.fault.CallFault.TheVariants.{Talk}
+use Rattle.dlms_call.specs.declared.fault.CallFault.TheVariants.{Memory, Talk, TooLarge}
 
 -- ---- lists of acts
 
@@ -340,6 +343,26 @@ comes_as c c' frame x y is comes = subst (λ (s : Step). Comes c frame (Ok s) c'
 
 pub turn_as : (old new : Option (List Moment)) (t t' : TalkWorld) (x y : Turn) → x ≡ y → TakesTurn old new (Ok x) t t' → TakesTurn old new (Ok y) t t'
 turn_as old new t t' x y is turns = subst (λ (u : Turn). TakesTurn old new (Ok u) t t') is turns
+
+pub within_as : (most : ℕ) (old new : Option (List Moment)) (t t' : TalkWorld) (x y : Turn) → x ≡ y → TakesTurnWithin most old new (Ok x) t t' → TakesTurnWithin most old new (Ok y) t t'
+within_as most old new t t' x y is turns = subst (λ (u : Turn). TakesTurnWithin most old new (Ok u) t t') is turns
+
+-- a turn whose value was judged by its length
+pub judged_turn : (most joined : ℕ) (old new : Option (List Moment)) (t t' : TalkWorld) (turn : Turn) (result : Result Turn CallFault) → TakesTurn old new (Ok turn) t t'
+    → joined ≡ joined_in t' → (most < joined → result ≡ Err TooLarge) → (joined ≤ most → result ≡ Ok turn) → TakesTurnWithin most old new result t t'
+judged_turn most joined old new t t' turn result turns is beyond within =
+    elim (cases_lt most joined) [
+      | inl less ↦ IsBeyond turn turns (subst (λ (n : ℕ). most < n) is less) (beyond less)
+      | inr more ↦ IsWithin turn turns (subst (λ (n : ℕ). n ≤ most) is more) (within more)
+    ]
+
+-- ---- the first frame
+
+pub no_room : (past : Option (List Moment)) (c : ClientValue) → FailsToDial past past c Memory
+no_room past c = HasNoRoom refl (adds_none past)
+
+pub is_broken : (old new : Option (List Moment)) (c : ClientValue) (why : CallFault) → DialFails old new c why → FailsToDial old new c why
+is_broken old new c why fails = IsBroken fails
 
 -- the end of a client that is asked
 pub asked_in : {A : Type 0} (end end' : ClientEnd A) (t : TalkWorld) (c : ClientValue) → end'.deframer.bytes ≡ end.deframer.bytes → end'.left ≡ end.left → end'.client ≡ c → IsIn end t → IsIn end' (record t { client = c })

@@ -1,5 +1,5 @@
 -- What is asked over a line: frames of the client, and turns of its end, one after another.
-use Rattle.std.specs.Prelude.{◌≡◌, ◌+◌, ℕ, List, [], ◌∷◌, Option, Some, None, Result, Ok, Err}
+use Rattle.std.specs.Prelude.{◌≡◌, ◌<◌, ◌≤◌, ◌+◌, ℕ, List, [], ◌∷◌, length, Option, Some, None, Result, Ok, Err}
 use Rattle.dlms_apdu.specs.Forms.{RequestForm}
 use Rattle.dlms_client.specs.Calls.{Asks, Begins, Leaves}
 use Rattle.dlms_client.specs.ClientValue.{ClientValue}
@@ -12,18 +12,29 @@ use Rattle.dlms_frame.specs.Frame.{Parts, spelling}
 use Rattle.dlms_ends.specs.Moments.{Moment, Adds, Breaks}
 use Rattle.dlms_ends.specs.Moments.Moment.{Went}
 use Rattle.dlms_call.specs.Talking.{IsOfSystem, TakesTurn, TalkWorld, first_world}
-use Rattle.dlms_call.specs.declared.asking.TheConstants.{TURNS}
+use Rattle.dlms_call.specs.declared.asking.TheConstants.{NO_BOUND, TURNS}
 use Rattle.dlms_call.specs.declared.client_end.Turn.{Turn}
 use Rattle.dlms_call.specs.declared.client_end.Turn.TheVariants.{Sent, Associated, Answered, Down}
 use Rattle.dlms_call.specs.declared.fault.CallFault.{CallFault}
-use Rattle.dlms_call.specs.declared.fault.CallFault.TheVariants.{Talk, TooLong, Memory}
+use Rattle.dlms_call.specs.declared.fault.CallFault.TheVariants.{Talk, TooLarge, TooLong, Memory}
 
 -- ---- turns, until something is told
 
+-- how many octets of a value have come
+abbrev pub joined_in : TalkWorld → ℕ
+joined_in t = length t.client.blocks.joined
+
+-- A turn behind which no more octets of a value have come than so many, and what it told; or more have, and it is told that the value
+-- is too large; or the turn failed.
+pub data TakesTurnWithin (most : ℕ) (old new : Option (List Moment)) (result : Result Turn CallFault) (t t' : TalkWorld) : Type 0 where
+  IsWithin : (turn : Turn) → TakesTurn old new (Ok turn) t t' → joined_in t' ≤ most → result ≡ Ok turn → TakesTurnWithin most old new result t t'
+  IsBeyond : (turn : Turn) → TakesTurn old new (Ok turn) t t' → most < joined_in t' → result ≡ Err TooLarge → TakesTurnWithin most old new result t t'
+  HasFailed : (why : CallFault) → TakesTurn old new (Err why) t t' → result ≡ Err why → TakesTurnWithin most old new result t t'
+
 -- at each of so many turns a frame went out, and no more
-pub data SendsOn (old : Option (List Moment)) (t : TalkWorld) : ℕ → Option (List Moment) → TalkWorld → Type 0 where
-  NoTurn : SendsOn old t 0 old t
-  OneMore : (count : ℕ) (now new : Option (List Moment)) (mid t' : TalkWorld) → SendsOn old t count now mid → TakesTurn now new (Ok Sent) mid t' → SendsOn old t (count + 1) new t'
+pub data SendsOn (most : ℕ) (old : Option (List Moment)) (t : TalkWorld) : ℕ → Option (List Moment) → TalkWorld → Type 0 where
+  NoTurn : SendsOn most old t 0 old t
+  OneMore : (count : ℕ) (now new : Option (List Moment)) (mid t' : TalkWorld) → SendsOn most old t count now mid → TakesTurnWithin most now new (Ok Sent) mid t' → SendsOn most old t (count + 1) new t'
 
 -- it is told of more than a frame that went out
 abbrev pub IsMore : Result Turn CallFault → Type 0
@@ -34,9 +45,9 @@ IsMore (Ok Down) = Unit {0}
 IsMore (Err fault) = Unit {0}
 
 -- The first turn at which more is told than that a frame went out, and what; or so many frames went out.
-pub data Settles (old new : Option (List Moment)) (result : Result Turn CallFault) (t t' : TalkWorld) : Type 0 where
-  IsTold : (count : ℕ) (now : Option (List Moment)) (mid : TalkWorld) → SendsOn old t count now mid → TakesTurn now new result mid t' → IsMore result → Settles old new result t t'
-  TalksOn : result ≡ Err (Talk fault.Line) → SendsOn old t TURNS new t' → Settles old new result t t'
+pub data Settles (most : ℕ) (old new : Option (List Moment)) (result : Result Turn CallFault) (t t' : TalkWorld) : Type 0 where
+  IsTold : (count : ℕ) (now : Option (List Moment)) (mid : TalkWorld) → SendsOn most old t count now mid → TakesTurnWithin most now new result mid t' → IsMore result → Settles most old new result t t'
+  TalksOn : result ≡ Err (Talk fault.Line) → SendsOn most old t TURNS new t' → Settles most old new result t t'
 
 -- what is told of an association, of a request and of the link's end that are asked for; anything else is of another form
 abbrev pub opened_in : Result Turn CallFault → Result (Unit {0}) CallFault
@@ -61,15 +72,15 @@ ended_in (Ok Down) = Ok tt
 ended_in (Err fault) = Err fault
 
 -- what settles is told so
-pub record SettlesAs {X : Type 0} (told_in : Result Turn CallFault → Result X CallFault) (old new : Option (List Moment)) (result : Result X CallFault) (t t' : TalkWorld) : Type 0 where
+pub record SettlesAs {X : Type 0} (most : ℕ) (told_in : Result Turn CallFault → Result X CallFault) (old new : Option (List Moment)) (result : Result X CallFault) (t t' : TalkWorld) : Type 0 where
   pub turn : Result Turn CallFault
-  pub settles : Settles old new turn t t'
+  pub settles : Settles most old new turn t t'
   pub told : result ≡ told_in turn
 
 -- a frame goes out, and what settles then is told so; or the line breaks at it
-pub data GoesOut {X : Type 0} (told_in : Result Turn CallFault → Result X CallFault) (old new : Option (List Moment)) (frame : Parts) (result : Result X CallFault) (t t' : TalkWorld) : Type 0 where
-  LineBreaks : (why : CallFault) → IsOfSystem why → result ≡ Err why → t' ≡ t → Breaks old new (spelling frame) → GoesOut told_in old new frame result t t'
-  Settled : (now : Option (List Moment)) → Adds old now (Went (spelling frame) ∷ []) → SettlesAs told_in now new result t t' → GoesOut told_in old new frame result t t'
+pub data GoesOut {X : Type 0} (most : ℕ) (told_in : Result Turn CallFault → Result X CallFault) (old new : Option (List Moment)) (frame : Parts) (result : Result X CallFault) (t t' : TalkWorld) : Type 0 where
+  LineBreaks : (why : CallFault) → IsOfSystem why → result ≡ Err why → t' ≡ t → Breaks old new (spelling frame) → GoesOut most told_in old new frame result t t'
+  Settled : (now : Option (List Moment)) → Adds old now (Went (spelling frame) ∷ []) → SettlesAs most told_in now new result t t' → GoesOut most told_in old new frame result t t'
 
 -- ---- an association
 
@@ -86,6 +97,11 @@ pub record DialFails (old new : Option (List Moment)) (c : ClientValue) (why : C
   pub of_system : IsOfSystem why
   pub breaks : Breaks old new (spelling frame)
 
+-- or nothing is sent, for want of memory
+pub data FailsToDial (old new : Option (List Moment)) (c : ClientValue) (why : CallFault) : Type 0 where
+  IsBroken : DialFails old new c why → FailsToDial old new c why
+  HasNoRoom : why ≡ Memory → Adds old new [] → FailsToDial old new c why
+
 abbrev pub DialsFirst : {T : Type 0} → Option (List Moment) → Option (List Moment) → ClientValue → ClientValue → Result T CallFault → Type 0
 DialsFirst old new c c' (Ok done) = Dials old new c c'
 DialsFirst old new c c' (Err why) = DialFails old new c why
@@ -95,12 +111,12 @@ pub record Opens (old new : Option (List Moment)) (c : ClientValue) (t' : TalkWo
   pub now : Option (List Moment)
   pub mid : ClientValue
   pub dials : Dials old now c mid
-  pub opens : SettlesAs opened_in now new (Ok tt) (first_world mid) t'
+  pub opens : SettlesAs NO_BOUND opened_in now new (Ok tt) (first_world mid) t'
 
 -- or why it is not
 pub data FailsToOpen (old new : Option (List Moment)) (c : ClientValue) (why : CallFault) : Type 0 where
-  NotDialled : DialFails old new c why → FailsToOpen old new c why
-  NotOpened : (now : Option (List Moment)) (mid : ClientValue) (after : TalkWorld) → Dials old now c mid → SettlesAs opened_in now new (Err why) (first_world mid) after → FailsToOpen old new c why
+  NotDialled : FailsToDial old new c why → FailsToOpen old new c why
+  NotOpened : (now : Option (List Moment)) (mid : ClientValue) (after : TalkWorld) → Dials old now c mid → SettlesAs NO_BOUND opened_in now new (Err why) (first_world mid) after → FailsToOpen old new c why
 
 -- ---- a request
 
@@ -111,13 +127,13 @@ told_of ask.Memory = Memory
 
 -- Where it may be asked for, the client makes it and its first frame goes out, and what is answered is told; or the client does not
 -- make it. Where it may not, nothing happens.
-pub data Requests (may : Type 0) (asked : Asked) (form : RequestForm) (old new : Option (List Moment)) (result : Result Answer CallFault) (t t' : TalkWorld) : Type 0 where
-  NotAsked : (may → ⊥) → result ≡ Err (Talk fault.Form) → t' ≡ t → Adds old new [] → Requests may asked form old new result t t'
-  NotMade : may → (why : AskFault) → Asks asked form t.client (Err why) t'.client → t'.inflow ≡ t.inflow → result ≡ Err (told_of why) → Adds old new [] → Requests may asked form old new result t t'
-  IsMade : may → (frame : Parts) (mid : ClientValue) → Asks asked form t.client (Ok frame) mid → GoesOut answer_in old new frame result (record t { client = mid }) t' → Requests may asked form old new result t t'
+pub data Requests (most : ℕ) (may : Type 0) (asked : Asked) (form : RequestForm) (old new : Option (List Moment)) (result : Result Answer CallFault) (t t' : TalkWorld) : Type 0 where
+  NotAsked : (may → ⊥) → result ≡ Err (Talk fault.Form) → t' ≡ t → Adds old new [] → Requests most may asked form old new result t t'
+  NotMade : may → (why : AskFault) → Asks asked form t.client (Err why) t'.client → t'.inflow ≡ t.inflow → result ≡ Err (told_of why) → Adds old new [] → Requests most may asked form old new result t t'
+  IsMade : may → (frame : Parts) (mid : ClientValue) → Asks asked form t.client (Ok frame) mid → GoesOut most answer_in old new frame result (record t { client = mid }) t' → Requests most may asked form old new result t t'
 
 -- ---- the link's end
 
 pub data EndsTalk (may : Type 0) (old new : Option (List Moment)) (result : Result (Unit {0}) CallFault) (t t' : TalkWorld) : Type 0 where
   NotEnded : (may → ⊥) → result ≡ Err (Talk fault.Form) → t' ≡ t → Adds old new [] → EndsTalk may old new result t t'
-  IsEnded : may → (frame : Parts) (mid : ClientValue) → Leaves t.client frame mid → GoesOut ended_in old new frame result (record t { client = mid }) t' → EndsTalk may old new result t t'
+  IsEnded : may → (frame : Parts) (mid : ClientValue) → Leaves t.client frame mid → GoesOut NO_BOUND ended_in old new frame result (record t { client = mid }) t' → EndsTalk may old new result t t'

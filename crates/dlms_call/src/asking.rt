@@ -1,13 +1,14 @@
 //! One association over a line: requests, and what they bring.
 
-ghost use Rattle.std.specs.Prelude.{◌≡◌, ◌↔◌, IfErr, IfOk, IsTrue, None, option_map};
+ghost use Rattle.std.specs.Prelude.{◌≡◌, ◌<◌, ◌≤◌, ◌↔◌, Err, IfErr, IfOk, IsTrue, None, Ok, option_map};
 ghost use Rattle.dlms_apdu.specs.Forms.{action_normal, get_normal, set_normal};
 ghost use Rattle.dlms_apdu.specs.Writing.{ParameterFits};
 ghost use Rattle.dlms_client.specs.Calls.{IsFree, fresh};
 ghost use Rattle.dlms_client.specs.Plan.{IsPlan, plan_of};
 ghost use Rattle.dlms_client.specs.declared.requests.TheConstants.{INVOKE};
 ghost use Rattle.dlms_client.specs.declared.stage.Asked.TheVariants.{Action, Get, Set};
-ghost use Rattle.dlms_call.specs.Asking.{EndsTalk, FailsToOpen, GoesOut, Opens, Requests, Settles, answer_in, ended_in, opened_in};
+ghost use Rattle.dlms_call.specs.Asking.{EndsTalk, FailsToOpen, GoesOut, Opens, Requests, Settles, TakesTurnWithin, answer_in, ended_in, opened_in};
+ghost use Rattle.dlms_call.specs.declared.fault.CallFault.TheVariants.{TooLarge};
 ghost use Rattle.dlms_call.specs.Talking.{IsIn, Leads, TalkWorld};
 ghost use Rattle.dlms_data.specs.View.{value_of};
 ghost use Rattle.dlms_data.specs.Writing.{Fits};
@@ -20,18 +21,48 @@ use dlms_ends::End;
 use dlms_frame::SentFrame;
 use std::alloc::{Allocator, Global};
 
+/// Where the octets that come are not counted.
+const NO_BOUND: usize = usize::MAX;
+
 /// The most turns of one request.
 const TURNS: u32 = 65_536;
 
-/// Turns, until more has come than a frame's turn to go out.
+/// A turn, where no more octets are joined than so many; else `TooLarge`.
+fn size_judged(turn: Turn, joined: usize, most: usize) -> Result<Turn, CallFault>
+    ensures beyond { most < joined → result ≡ Err TooLarge }
+    ensures within { joined ≤ most → result ≡ Ok turn }
+{
+    if joined > most {
+        Err(CallFault::TooLarge)
+    } else {
+        Ok(turn)
+    }
+}
+
+/// A turn; where more octets are joined than so many, it is `TooLarge`.
+fn turn_within<S: End, A: Allocator + Copy>(
+    line: &mut S,
+    head: &mut ClientEnd<A>,
+    most: usize,
+) -> Result<Turn, CallFault>
+    ensures { Leads head.old head.new (TakesTurnWithin most (S.past line.old) (S.past line.new) result) }
+{
+    match head.turn(line) {
+        Ok(turn) => size_judged(turn, head.client.value().len(), most),
+        Err(fault) => Err(fault),
+    }
+}
+
+/// Turns, until more has come than a frame's turn to go out, or more octets are joined than so many.
 fn settle<S: End, A: Allocator + Copy>(
     line: &mut S,
     head: &mut ClientEnd<A>,
+    most: usize,
 ) -> Result<Turn, CallFault>
-    ensures { Leads head.old head.new (Settles (S.past line.old) (S.past line.new) result) }
+    ensures { Leads head.old head.new (Settles most (S.past line.old) (S.past line.new) result) }
 {
     'turns: for _turn in 0..TURNS {
-        match head.turn(line) {
+        match turn_within(line, head, most) {
             Ok(Turn::Sent) => {}
             Ok(Turn::Associated) => return Ok(Turn::Associated),
             Ok(Turn::Answered(answer)) => return Ok(Turn::Answered(answer)),
@@ -80,12 +111,13 @@ fn answered<S: End, A: Allocator + Copy>(
     line: &mut S,
     head: &mut ClientEnd<A>,
     frame: &SentFrame,
+    most: usize,
 ) -> Result<Answer, CallFault>
-    ensures { Leads head.old head.new (GoesOut answer_in (S.past line.old) (S.past line.new) frame.now result) }
+    ensures { Leads head.old head.new (GoesOut most answer_in (S.past line.old) (S.past line.new) frame.now result) }
 {
     match send(line, frame) {
         Ok(_) => {
-            let turn = settle(line, head);
+            let turn = settle(line, head, most);
             answer_in(turn)
         }
         Err(fault) => Err(fault),
@@ -103,11 +135,11 @@ pub fn begin<S: End, A: Allocator + Copy>(
     ensures opens { IfOk result (λ head. (t : TalkWorld) × IsIn head t × Opens (S.past line.old) (S.past line.new) (fresh (plan_of plan)) t) }
     ensures fails { IfErr result (FailsToOpen (S.past line.old) (S.past line.new) (fresh (plan_of plan))) }
 {
-    let mut head = match ClientEnd::begin(line, Client::new(alloc, plan)) {
+    let mut head = match ClientEnd::begin(alloc, line, Client::new(alloc, plan)) {
         Ok(head) => head,
         Err(fault) => return Err(fault),
     };
-    let turn = settle(line, &mut head);
+    let turn = settle(line, &mut head, NO_BOUND);
     match opened_in(turn) {
         Ok(()) => Ok(head),
         Err(fault) => Err(fault),
@@ -124,19 +156,22 @@ fn parameter_fits<A: Allocator>(parameter: &Option<Data<A>>) -> bool
     }
 }
 
-/// Asks for an attribute. While no association is open, or a request is out, nothing is asked, and it is `Form`.
+/// Asks for an attribute whose encoding has so many octets at most. While no association is open, or a request is out, nothing is
+/// asked, and it is `Form`. Once more octets have come it is `TooLarge`, and no further block is asked for: the request stays out, so
+/// that the association is of no more use.
 pub fn get<S: End, A: Allocator + Copy>(
     line: &mut S,
     head: &mut ClientEnd<A>,
     attribute: Descriptor,
+    most: usize,
 ) -> Result<Answer, CallFault>
-    ensures { Leads head.old head.new (Requests (IsFree head.old.client) Get (get_normal INVOKE attribute None) (S.past line.old) (S.past line.new) result) }
+    ensures { Leads head.old head.new (Requests most (IsFree head.old.client) Get (get_normal INVOKE attribute None) (S.past line.old) (S.past line.new) result) }
 {
     if !head.client.is_free() {
         return Err(CallFault::Talk(Fault::Form));
     }
     match head.client.get::<A>(attribute, None) {
-        Ok(frame) => answered(line, head, &frame),
+        Ok(frame) => answered(line, head, &frame, most),
         Err(fault) => Err(CallFault::from(fault)),
     }
 }
@@ -148,7 +183,7 @@ pub fn set<S: End, A: Allocator + Copy>(
     attribute: Descriptor,
     value: Data<A>,
 ) -> Result<Answer, CallFault>
-    ensures { Leads head.old head.new (Requests (IsFree head.old.client × Fits (value_of value)) Set (set_normal INVOKE attribute None (value_of value)) (S.past line.old) (S.past line.new) result) }
+    ensures { Leads head.old head.new (Requests NO_BOUND (IsFree head.old.client × Fits (value_of value)) Set (set_normal INVOKE attribute None (value_of value)) (S.past line.old) (S.past line.new) result) }
 {
     if !head.client.is_free() {
         drop(value);
@@ -159,7 +194,7 @@ pub fn set<S: End, A: Allocator + Copy>(
         return Err(CallFault::Talk(Fault::Form));
     }
     match head.client.set::<A>(attribute, None, value) {
-        Ok(frame) => answered(line, head, &frame),
+        Ok(frame) => answered(line, head, &frame, NO_BOUND),
         Err(fault) => Err(CallFault::from(fault)),
     }
 }
@@ -171,7 +206,7 @@ pub fn act<S: End, A: Allocator + Copy>(
     method: Descriptor,
     parameter: Option<Data<A>>,
 ) -> Result<Answer, CallFault>
-    ensures { Leads head.old head.new (Requests (IsFree head.old.client × ParameterFits (option_map value_of parameter)) Action (action_normal INVOKE method (option_map value_of parameter)) (S.past line.old) (S.past line.new) result) }
+    ensures { Leads head.old head.new (Requests NO_BOUND (IsFree head.old.client × ParameterFits (option_map value_of parameter)) Action (action_normal INVOKE method (option_map value_of parameter)) (S.past line.old) (S.past line.new) result) }
 {
     if !head.client.is_free() {
         drop(parameter);
@@ -182,7 +217,7 @@ pub fn act<S: End, A: Allocator + Copy>(
         return Err(CallFault::Talk(Fault::Form));
     }
     match head.client.act(method, parameter) {
-        Ok(frame) => answered(line, head, &frame),
+        Ok(frame) => answered(line, head, &frame, NO_BOUND),
         Err(fault) => Err(CallFault::from(fault)),
     }
 }
@@ -201,7 +236,7 @@ pub fn end<S: End, A: Allocator + Copy>(
     let frame = head.client.disconnect();
     match send(line, &frame) {
         Ok(_) => {
-            let turn = settle(line, head);
+            let turn = settle(line, head, NO_BOUND);
             ended_in(turn)
         }
         Err(fault) => Err(fault),

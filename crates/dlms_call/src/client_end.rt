@@ -2,13 +2,14 @@
 
 ghost use Rattle.std.specs.Prelude.{◌≡◌, ◌≤◌, ◌<◌, ◌-◌, [], false, IfErr, IfOk, IsTrue};
 ghost use Rattle.dlms_frame.specs.Stream.{Fits};
-ghost use Rattle.dlms_call.specs.Asking.{DialFails, Dials, DialsFirst};
+ghost use Rattle.dlms_call.specs.Asking.{Dials, DialsFirst, FailsToDial};
 ghost use Rattle.dlms_call.specs.Talking.{IsAt, IsIn, IsOfSystem, Leads, Repeats, SendsFrame, TakesFrame, TakesPiece, TakesTurn, TalkWorld, first_world};
 
 use crate::fault::CallFault;
+use crate::kept::KeptDeframer;
 use dlms_client::{Answer, Client, Fault, Step};
 use dlms_ends::{End, Heard, PIECE, bytes_of};
-use dlms_frame::{Deframer, Frame, SentFrame};
+use dlms_frame::{Frame, SentFrame};
 use std::alloc::{Allocator, Global};
 use std::io;
 use std::io::ErrorKind;
@@ -35,7 +36,7 @@ pub enum Turn {
 /// A client, what came of a frame that is not whole yet, and how many bytes may still come.
 #[derive(Drop)]
 pub struct ClientEnd<A: Allocator = Global> {
-    deframer: Deframer,
+    deframer: KeptDeframer<A>,
     left: usize,
     pub client: Client<A>,
 }
@@ -93,16 +94,21 @@ fn dial<W: End, A: Allocator + Copy>(client: &mut Client<A>, end: &mut W) -> Res
 }
 
 impl<A: Allocator + Copy> ClientEnd<A> {
-    /// Sends the client's first frame.
-    pub fn begin<W: End>(end: &mut W, client: Client<A>) -> Result<Self, CallFault>
+    /// Sends the client's first frame. Where there is no memory for what comes, nothing is sent.
+    #[tactic(auto, using(crate::proofs::TalkingLemmas::no_room, crate::proofs::TalkingLemmas::is_broken))]
+    pub fn begin<W: End>(alloc: A, end: &mut W, client: Client<A>) -> Result<Self, CallFault>
         ensures dials { IfOk result (λ head. Dials (W.past end.old) (W.past end.new) client head.client) }
         ensures stands { IfOk result (λ head. IsIn head (first_world head.client)) }
-        ensures fails { IfErr result (DialFails (W.past end.old) (W.past end.new) client) }
+        ensures fails { IfErr result (FailsToDial (W.past end.old) (W.past end.new) client) }
     {
+        let deframer = match KeptDeframer::new(alloc) {
+            Ok(deframer) => deframer,
+            Err(_) => return Err(CallFault::Memory),
+        };
         let mut client = client;
         match dial(&mut client, end) {
             Ok(()) => Ok(ClientEnd {
-                deframer: Deframer::new(),
+                deframer,
                 left: MOST_BYTES,
                 client,
             }),

@@ -13,6 +13,8 @@ pub enum CallFault {
     Talk(Fault),
     /// The request is longer than the meter takes.
     TooLong,
+    /// More octets of a value came than may.
+    TooLarge,
     /// The line failed.
     Io,
     /// A growth was refused.

@@ -4,6 +4,7 @@
 mod asking;
 mod client_end;
 mod fault;
+mod kept;
 
 pub use asking::{act, begin, end, get, set};
 pub use client_end::{ClientEnd, MOST_BYTES, Turn};

@@ -1,48 +1,98 @@
--- The octets of one direction of a connection, by their places: the first one's is 0. Each has a number, which goes on from
--- 2^32 - 1 with 0 (RFC 9293, 3.4).
-use Rattle.std.specs.Prelude.{◌≡◌, ℕ, ◌+◌, ◌-◌, ◌%◌, ◌<◌, ◌++◌, min, List, [], ◌∷◌, All, Option, Some, None, length, take, drop, nat_lt, if◌then◌else◌}
+-- The octets of one direction of a connection, by their places. Each has a number, which goes on from 2^32 - 1 with 0
+-- (RFC 9293, 3.4). Places are counted from 2^32 on, so that there are places in front of the first octet that is seen.
+use Rattle.std.specs.Prelude.{◌≡◌, ℕ, ◌+◌, ◌-◌, ◌%◌, ◌≤◌, ◌<◌, ◌++◌, ◌&&◌, min, max, List, [], ◌∷◌, All, Bool, Option, Some, None, option_map, is_some, length, drop, remove, nat_lt, nat_le, slice_get, if◌then◌else◌}
+use Rattle.dlms_capture.specs.declared.interface.Stamp.{Stamp}
 use Rattle.dlms_capture.specs.declared.order.Early.{Early}
 use Rattle.dlms_capture.specs.declared.order.Order.{Order}
 
--- how far the octet with this number stands behind the one with that, counted in numbers
+-- ---- places and numbers
+
+-- how far the octet with this number is ahead of the one with that, counted in numbers
 abbrev pub ahead_of : ℕ → ℕ → ℕ
 ahead_of next number = (number + 4294967296 - next) % 4294967296
 
 -- the place nearest to this one, whose octet has the number `next`, at which the octet has the other number
 abbrev pub place_by : ℕ → ℕ → ℕ → ℕ
 place_by next place number =
-    if nat_lt (ahead_of next number) 2147483648 then place + ahead_of next number else place + ahead_of next number - 4294967296
+    if nat_lt (ahead_of next number) 2147483648 then min (place + ahead_of next number) 18446744073709551615 else place - ahead_of number next
 
--- these octets are the stream's from this place on
-abbrev pub StandsAt : List ℕ → ℕ → List ℕ → Type 0
-StandsAt stream place octets = octets ≡ take (length octets) (drop place stream)
+-- the number of the octet that is so many places behind the one with this number, or in front of it
+abbrev pub number_behind : ℕ → ℕ → ℕ
+number_behind count number = (number + count % 4294967296) % 4294967296
 
--- each of these segments is the stream's
-abbrev pub AreOf : {A : Type 0} → List ℕ → List (Early A) → Type 0
-AreOf stream segments = All (λ e. StandsAt stream e.place e.octets.items) segments
+abbrev pub number_before : ℕ → ℕ → ℕ
+number_before count number = (number + 4294967296 - count % 4294967296) % 4294967296
 
--- all of these segments come too early, where so many octets have been given
-abbrev pub AreEarly : {A : Type 0} → ℕ → List (Early A) → Type 0
-AreEarly given segments = All (λ e. given < e.place) segments
-
--- how many octets are missing before the first of these segments; before none as many as there are places
-abbrev pub least_gap : {A : Type 0} → ℕ → List (Early A) → ℕ
-least_gap given [] = 18446744073709551615
-least_gap given (e ∷ es) = min (e.place - given) (least_gap given es)
-
--- how many are missing behind the octets that have been given, where a segment came too early
-abbrev pub gap : {A : Type 0} → ℕ → List (Early A) → ℕ
-gap given [] = 0
-gap given (e ∷ es) = least_gap given (e ∷ es)
-
--- the stream's octets between two places stand behind those of before
-abbrev pub GoesOn : List ℕ → ℕ → ℕ → List ℕ → List ℕ → Type 0
-GoesOn stream from to old new = new ≡ old ++ take (to - from) (drop from stream)
-
--- the place of the octet with this number in a direction, where so many octets have been given; before the first segment it is the next
+-- the place of the octet with this number, where the next octet's place is this; while no number is known it is the next one
 abbrev pub place_behind : Option ℕ → ℕ → ℕ → ℕ
 place_behind None given number = given
 place_behind (Some next) given number = place_by next given number
 
 abbrev pub place_in : {A : Type 0} → Order A → ℕ → ℕ
 place_in order number = place_behind order.next order.given number
+
+-- ---- segments
+
+-- the octets of a segment at this place that come behind the place up to which octets were given
+abbrev pub behind : ℕ → ℕ → List ℕ → List ℕ
+behind given place octets = drop (given - place) octets
+
+-- so many more octets were given
+abbrev pub given_more : ℕ → ℕ → ℕ
+given_more given count = min (given + count) 18446744073709551615
+
+abbrev pub next_more : Option ℕ → ℕ → Option ℕ
+next_more next count = option_map (number_behind count) next
+
+-- the number of the octet at another place, where that of the one at this place is known
+abbrev pub next_at : Option ℕ → ℕ → ℕ → Option ℕ
+next_at next given place = option_map (if nat_lt place given then number_before (given - place) else number_behind (place - given)) next
+
+-- all of these segments come behind octets that were not given
+abbrev pub AreEarly : {A : Type 0} → ℕ → List (Early A) → Type 0
+AreEarly given segments = All (λ e. given < e.place) segments
+
+-- the first place of these segments; of none the last place that there is
+abbrev pub first_place : {A : Type 0} → List (Early A) → ℕ
+first_place [] = 18446744073709551615
+first_place (e ∷ es) = min e.place (first_place es)
+
+-- a segment with this number is given at once: octets of this direction may be given, and all in front of it were
+abbrev pub is_due : {A : Type 0} → Order A → ℕ → Bool
+is_due order number = is_some order.start && nat_le (place_in order number) order.given
+
+-- the place at which a direction goes on if the octets in front of the first segment that waits do not come
+abbrev pub resumed_at : {A : Type 0} → Option ℕ → ℕ → List (Early A) → ℕ
+resumed_at start given [] = given
+resumed_at None given (e ∷ es) = first_place (e ∷ es)
+resumed_at (Some start) given (e ∷ es) = max given (first_place (e ∷ es))
+
+-- how many octets are missing then; in front of the first octets of a direction none are counted
+abbrev pub missing_at : {A : Type 0} → Option ℕ → ℕ → List (Early A) → ℕ
+missing_at None given segments = 0
+missing_at (Some start) given [] = 0
+missing_at (Some start) given (e ∷ es) = first_place (e ∷ es) - given
+
+-- how many of so many octets from this place on are in front of the first octets of a direction
+abbrev pub late_of : Option ℕ → ℕ → ℕ → ℕ
+late_of None place count = 0
+late_of (Some start) place count = min (start - place) count
+
+-- A segment that waited, and was due, was given: its octets behind those of before, and nothing else; the others wait on.
+pub record GivesDue {A : Type 0} (old new : Order A) (before after : List ℕ) (stamp : Option Stamp) : Type 0 where
+  pub at : ℕ
+  pub segment : Early A
+  pub waited : slice_get old.early.items at ≡ Some segment
+  pub due : segment.place ≤ old.given
+  pub came : stamp ≡ segment.stamp
+  pub octets : after ≡ before ++ behind old.given segment.place segment.octets.items
+  pub given : new.given ≡ given_more old.given (length (behind old.given segment.place segment.octets.items))
+  pub others : new.early.items ≡ remove old.early.items at
+
+-- A segment at this place, which came at this time, waits behind those of before.
+pub record Waits {A : Type 0} (old new : List (Early A)) (place : ℕ) (stamp : Option Stamp) (octets : List ℕ) : Type 0 where
+  pub segment : Early A
+  pub last : new ≡ old ++ segment ∷ []
+  pub place_is : segment.place ≡ place
+  pub stamp_is : segment.stamp ≡ stamp
+  pub octets_are : segment.octets.items ≡ octets

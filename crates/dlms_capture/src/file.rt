@@ -1,5 +1,7 @@
 //! A capture file as it comes, and the packets in it.
 
+ghost use Rattle.std.specs.Prelude.{◌≡◌, ◌++◌, drop, OnErr, OnOk};
+
 use crate::interface::{Endian, Packet};
 use crate::pcap::{self, FILE_HEAD, Head, PACKET_HEAD};
 use crate::pcapng::{self, Block, Interface, SHORTEST};
@@ -65,13 +67,28 @@ impl<A: Allocator + Copy> File<A> {
         }
     }
 
-    /// Takes octets of the file. Those that are done with are let go.
-    pub fn feed(&mut self, octets: &[u8]) -> Result<(), AllocError> {
+    /// Octets that are done with are let go. Those of a packet that is not whole are moved once: behind its first octets nothing is
+    /// done with.
+    fn let_go(&mut self)
+        ensures rest { self.new.kept.items ≡ drop self.old.done self.old.kept.items }
+        ensures done { self.new.done ≡ 0 }
+    {
+        if self.done == 0 {
+            return;
+        }
         let done = self.done.min(self.kept.len());
         let left = self.kept.len() - done;
         self.kept.copy_within(done.., 0);
         self.kept.truncate(left);
         self.done = 0;
+    }
+
+    /// Takes octets of the file, which come behind those that are not done with. Where memory is refused, they are not taken.
+    pub fn feed(&mut self, octets: &[u8]) -> Result<(), AllocError>
+        ensures ok { OnOk result (drop self.new.done self.new.kept.items ≡ drop self.old.done self.old.kept.items ++ octets.now) }
+        ensures err { OnErr result (drop self.new.done self.new.kept.items ≡ drop self.old.done self.old.kept.items) }
+    {
+        self.let_go();
         self.kept.extend_from_slice(octets)
     }
 

@@ -1,294 +1,341 @@
 //! The octets of one direction of a TCP connection, in the order of their numbers.
 
-ghost use Rattle.std.specs.Prelude.{◌≡◌, ◌+◌, ◌<◌, ◌≤◌, ◌^◌, ℕ, List, [], All, Some, None, false, if◌then◌else◌, true, length, IfNone, IfOk, IfSome, OnErr, OnOk};
-ghost use Rattle.dlms_capture.specs.Streams.{AreEarly, AreOf, GoesOn, StandsAt, gap, least_gap, place_by, place_in};
+ghost use Rattle.std.specs.Prelude.{◌≡◌, ◌<◌, ◌≤◌, ◌%◌, ◌++◌, [], Some, None, true, false, nat_le, nat_lt, is_some, length, if◌then◌else◌, IfOk, IfSome, IfNone, OnOk};
+ghost use Rattle.std.specs.List.{HoldsAt};
+ghost use Rattle.dlms_capture.specs.Streams.{AreEarly, GivesDue, Waits, behind, first_place, given_more, is_due, late_of, missing_at, next_at, next_more, number_behind, number_before, place_by, place_in, resumed_at};
 
+use crate::interface::Stamp;
 use std::alloc::{AllocError, Allocator};
 
-/// How many segments are kept that came too early.
+/// How many segments may wait before the octets in front of them are passed over.
 const MOST_EARLY: usize = 64;
 
 /// How many numbers there are for octets.
 const NUMBERS: u64 = 0x1_0000_0000;
 
-/// A segment that came too early, by the place of its first octet.
+/// A segment that waits: the place of its first octet, and when it came.
 #[derive(Drop)]
 struct Early<A: Allocator> {
     place: u64,
+    stamp: Option<Stamp>,
     octets: Vec<u8, A>,
 }
 
-/// A direction of a connection: how many of its octets have been given or passed over, the number of the next one, where it is
-/// known, and what came too early.
+/// A direction of a connection.
 #[derive(Drop)]
 pub struct Order<A: Allocator> {
+    /// The place of the octet that is next.
     given: u64,
+    /// The number of that octet, where one is known.
     next: Option<u32>,
+    /// The place of the first octet of this direction, once octets may be given.
+    start: Option<u64>,
+    /// The segments that wait for octets in front of them, or for the first one of this direction.
     early: Vec<Early<A>, A>,
 }
 
-/// The place of the octet with this number, near the place of the one with the number `next`, if there are places so far behind.
-fn place_of(next: u32, place: u64, number: u32) -> Option<u64>
-    ensures some { IfSome result (λ found. found ≡ place_by next place number) }
-    ensures none { IfNone result (2 ^ 64 ≤ place + NUMBERS) }
+/// The place of the octet with this number, near the place of the one with the number `next`.
+fn place_of(next: u32, place: u64, number: u32) -> u64
+    ensures { result ≡ place_by next place number }
 {
     let ahead = u64::from(number.wrapping_sub(next));
-    let behind = place.checked_add(ahead)?;
     if ahead < NUMBERS / 2 {
-        Some(behind)
+        place.saturating_add(ahead)
     } else {
-        Some(behind.saturating_sub(NUMBERS))
+        place.saturating_sub(u64::from(next.wrapping_sub(number)))
     }
 }
 
 /// A count as numbers of octets count it, which go on from 2^32 - 1 with 0.
-fn low_part(count: u64) -> u32 {
+fn low_part(count: u64) -> u32
+    ensures { result ≡ count % 4294967296 }
+{
     (count % NUMBERS) as u32
+}
+
+/// The number of the octet so many places behind the one with this number.
+fn number_behind(number: u32, count: u64) -> u32
+    ensures { result ≡ number_behind count number }
+{
+    number.wrapping_add(low_part(count))
+}
+
+/// The number of the octet so many places in front of the one with this number.
+fn number_before(number: u32, count: u64) -> u32
+    ensures { result ≡ number_before count number }
+{
+    number.wrapping_sub(low_part(count))
 }
 
 /// Those octets of a segment at this place that have not been given.
 fn fresh(given: u64, place: u64, octets: &[u8]) -> &[u8]
-    requires { place ≤ given }
-    ensures part { (stream : List ℕ) → StandsAt stream place octets.now → StandsAt stream given result.now }
-    ensures all { place + length octets.now ≤ given + length result.now }
-    ensures within { length result.now ≤ length octets.now }
+    ensures { result.now ≡ behind given place octets.now }
 {
-    let old = (given - place) as usize;
-    if old < octets.len() {
-        &octets[old..]
+    let old = given.saturating_sub(place);
+    if old < octets.len() as u64 {
+        &octets[old as usize..]
     } else {
         &[]
     }
 }
 
-/// How many octets are missing before the first of these segments, where so many have been given; before none as many as there are
-/// places.
-fn least_gap<A: Allocator>(given: u64, segments: &[Early<A>]) -> u64
-    ensures { result ≡ least_gap given segments.now }
+/// The first place of these segments; of none the last place that there is.
+fn first_place<A: Allocator>(segments: &[Early<A>]) -> u64
+    ensures { result ≡ first_place segments.now }
 {
     match segments {
         [] => u64::MAX,
-        [first, rest @ ..] => first
-            .place
-            .saturating_sub(given)
-            .min(least_gap(given, rest)),
+        [first, rest @ ..] => first.place.min(first_place(rest)),
     }
 }
 
 impl<A: Allocator + Copy> Order<A> {
     /// Before the first segment. No memory is taken here.
     pub fn new(alloc: A) -> Self
-        ensures given { result.given ≡ 0 }
+        ensures given { result.given ≡ NUMBERS }
         ensures next { result.next ≡ None }
+        ensures start { result.start ≡ None }
         ensures early { result.early.items ≡ [] }
     {
         Order {
-            given: 0,
+            given: NUMBERS,
             next: None,
+            start: None,
             early: Vec::new(alloc),
         }
     }
 
-    /// The connection is opened: its first octet, the one at place 0, has the number behind this one.
+    /// The connection is opened by a segment with this number (SYN): the number behind it is that of the first octet. Segments that
+    /// came before that keep their places; where octets have been given already, it is another connection, and nothing is kept.
     pub fn open(&mut self, sequence: u32)
-        ensures given { self.new.given ≡ 0 }
-        ensures early { self.new.early.items ≡ [] }
+        ensures next { self.new.next ≡ Some (number_behind 1 sequence) }
+        ensures start { self.new.start ≡ Some self.new.given }
+        ensures first { self.old.start ≡ None → self.new.given ≡ place_in self.old (number_behind 1 sequence) }
+        ensures waiting { self.old.start ≡ None → self.new.early ≡ self.old.early }
+        ensures anew { is_some self.old.start ≡ true → (self.new.given ≡ NUMBERS) }
+        ensures empty { is_some self.old.start ≡ true → self.new.early.items ≡ [] }
     {
-        self.given = 0;
-        self.next = Some(sequence.wrapping_add(1));
-        self.early.clear();
+        let first = number_behind(sequence, 1);
+        self.given = match self.start {
+            None => self.place(first),
+            Some(_) => {
+                self.early.clear();
+                NUMBERS
+            }
+        };
+        self.next = Some(first);
+        self.start = Some(self.given);
     }
 
-    /// So many octets more have been given or passed over, if there are places so far behind.
-    fn advance(&mut self, count: u64) -> bool
-        ensures given { self.new.given ≡ (if result then self.old.given + count else self.old.given) }
-        ensures fits { self.old.given + count < 2 ^ 64 → result ≡ true }
+    /// Whether octets of this direction may be given.
+    pub fn is_open(&self) -> bool
+        ensures { result ≡ is_some self.now.start }
+    {
+        self.start.is_some()
+    }
+
+    /// Whether a segment with this number opens the connection once more, as it was opened.
+    pub fn is_repeated(&self, sequence: u32) -> bool {
+        self.start == Some(self.place(number_behind(sequence, 1)))
+    }
+
+    /// So many octets more have been given.
+    fn advance(&mut self, count: u64)
+        ensures given { self.new.given ≡ given_more self.old.given count }
+        ensures next { self.new.next ≡ next_more self.old.next count }
+        ensures start { self.new.start ≡ self.old.start }
         ensures early { self.new.early ≡ self.old.early }
     {
-        let Some(given) = self.given.checked_add(count) else {
-            return false;
+        self.given = self.given.saturating_add(count);
+        self.next = match self.next {
+            Some(next) => Some(number_behind(next, count)),
+            None => None,
         };
-        self.given = given;
-        if let Some(next) = self.next {
-            self.next = Some(next.wrapping_add(low_part(count)));
-        }
-        true
     }
 
-    /// Appends those octets of a segment at this place that have not been given, where all before them have; else, and where there
-    /// are no places so far behind, nothing changes.
+    /// Appends those octets of a segment at this place that have not been given.
     fn append(
         &mut self,
         place: u64,
         octets: &[u8],
         output: &mut Vec<u8, A>,
-    ) -> Result<bool, AllocError>
+    ) -> Result<(), AllocError>
+        ensures octets { OnOk result (output.new.items ≡ output.old.items ++ behind self.old.given place octets.now) }
+        ensures given { OnOk result (self.new.given ≡ given_more self.old.given (length (behind self.old.given place octets.now))) }
+        ensures next { OnOk result (self.new.next ≡ next_more self.old.next (length (behind self.old.given place octets.now))) }
+        ensures start { self.new.start ≡ self.old.start }
         ensures early { self.new.early ≡ self.old.early }
-        ensures goes { (stream : List ℕ) → StandsAt stream place octets.now → OnOk result (GoesOn stream self.old.given self.new.given output.old.items output.new.items) }
-        ensures later { OnOk result (self.old.given ≤ self.new.given) }
-        ensures taken { IfOk result (λ taken. taken ≡ true → place + length octets.now ≤ self.new.given) }
-        ensures same { IfOk result (λ taken. taken ≡ false → (self.new.given ≡ self.old.given) × (output.new.items ≡ output.old.items)) }
-        ensures waits { place ≤ self.old.given → self.old.given + length octets.now < 2 ^ 64 → IfOk result (λ taken. taken ≡ true) }
     {
-        if place > self.given {
-            return Ok(false);
-        }
         let fresh = fresh(self.given, place, octets);
-        let count = fresh.len() as u64;
-        if count > u64::MAX - self.given {
-            return Ok(false);
-        }
         output.extend_from_slice(fresh)?;
-        Ok(self.advance(count))
-    }
-
-    /// Keeps a segment that came too early.
-    fn keep(&mut self, alloc: A, place: u64, octets: &[u8]) -> Result<(), AllocError>
-        ensures given { self.new.given ≡ self.old.given }
-        ensures early { (stream : List ℕ) → AreOf stream self.old.early.items → StandsAt stream place octets.now
-            → AreOf stream self.new.early.items }
-        ensures none { AreEarly self.old.given self.old.early.items → self.old.given < place
-            → OnOk result (AreEarly self.old.given self.new.early.items) }
-        ensures more { OnOk result (length self.new.early.items ≡ length self.old.early.items + 1) }
-    {
-        let octets = Vec::from_slice(alloc, octets)?;
-        self.early.push(Early { place, octets })?;
+        self.advance(fresh.len() as u64);
         Ok(())
     }
 
-    /// Which of the segments that came too early does so no more.
+    /// Which of the segments that wait does so no more.
     fn due(&self) -> Option<usize>
         ensures some { IfSome result (λ at. at < length self.now.early.items) }
-        ensures none { IfNone result (All (λ e. self.now.given < e.place) self.now.early.items) }
+        ensures due { IfSome result (HoldsAt (λ e. e.place ≤ self.now.given) self.now.early.items) }
+        ensures none { IfNone result (AreEarly self.now.given self.now.early.items) }
     {
         self.early
             .iter()
             .position(|early| early.place <= self.given)
     }
 
-    /// How many octets are missing before the first of the segments that came too early.
-    fn missing(&self) -> u64
-        ensures { result ≡ least_gap self.now.given self.now.early.items }
+    /// Appends the octets of a segment that waited and does so no more, and says when it came; of none where there is none, or where it is
+    /// not known which octet is the first of this direction. Memory is wanted only for the octets: where it is refused, they are lost.
+    pub fn give_due(&mut self, output: &mut Vec<u8, A>) -> Result<Option<Option<Stamp>>, AllocError>
+        ensures due { IfOk result (λ found. IfSome found (λ stamp. GivesDue self.old self.new output.old.items output.new.items stamp)) }
+        ensures none { IfOk result (λ found. IfNone found (is_some self.old.start ≡ true → AreEarly self.old.given self.old.early.items)) }
+        ensures begun { IfOk result (λ found. IfSome found (λ _. is_some self.old.start ≡ true)) }
+        ensures same { IfOk result (λ found. IfNone found (self.new ≡ self.old)) }
+        ensures nothing { IfOk result (λ found. IfNone found (output.new.items ≡ output.old.items)) }
     {
-        least_gap(self.given, self.early.as_slice())
-    }
-
-    /// Appends a segment that came too early and does so no more, if there is one.
-    fn append_one(&mut self, output: &mut Vec<u8, A>) -> Result<bool, AllocError>
-        ensures early { (stream : List ℕ) → AreOf stream self.old.early.items
-            → AreOf stream self.new.early.items }
-        ensures goes { (stream : List ℕ) → AreOf stream self.old.early.items
-            → OnOk result (GoesOn stream self.old.given self.new.given output.old.items output.new.items) }
-        ensures later { OnOk result (self.old.given ≤ self.new.given) }
-        ensures none { IfOk result (λ found. found ≡ false → AreEarly self.new.given self.new.early.items) }
-        ensures fewer { IfOk result (λ found. found ≡ true → length self.new.early.items < length self.old.early.items) }
-    {
+        if self.start.is_none() {
+            return Ok(None);
+        }
         let Some(at) = self.due() else {
-            return Ok(false);
+            return Ok(None);
         };
         let early = self.early.remove(at);
         self.append(early.place, early.octets.as_slice(), output)?;
-        Ok(true)
+        Ok(Some(early.stamp))
     }
 
-    /// Appends the segments that came too early and do so no more.
-    fn append_due(&mut self, output: &mut Vec<u8, A>) -> Result<(), AllocError>
-        ensures early { (stream : List ℕ) → AreOf stream self.old.early.items
-            → AreOf stream self.new.early.items }
-        ensures goes { (stream : List ℕ) → AreOf stream self.old.early.items
-            → OnOk result (GoesOn stream self.old.given self.new.given output.old.items output.new.items) }
-        ensures later { OnOk result (self.old.given ≤ self.new.given) }
-        ensures none { OnOk result (AreEarly self.new.given self.new.early.items) }
-    {
-        'due: while !self.early.is_empty() {
-            if !self.append_one(output)? {
-                return Ok(());
-            }
-        }
-        Ok(())
-    }
-
-    /// Goes on behind octets that are missing, if some segment came too early: how many they are, else 0.
-    pub fn rest(&mut self, output: &mut Vec<u8, A>) -> Result<u64, AllocError>
-        ensures early { (stream : List ℕ) → AreOf stream self.old.early.items
-            → AreOf stream self.new.early.items }
-        ensures goes { (stream : List ℕ) → AreOf stream self.old.early.items
-            → IfOk result (λ missing. GoesOn stream (self.old.given + missing) self.new.given output.old.items output.new.items) }
-        ensures later { IfOk result (λ missing. self.old.given + missing ≤ self.new.given) }
-        // Those that are missing are counted, and nothing that waits is due.
-        ensures missing { self.old.given + gap self.old.given self.old.early.items < 2 ^ 64
-            → IfOk result (λ missing. missing ≡ gap self.old.given self.old.early.items) }
-        ensures none { OnOk result (AreEarly self.new.given self.new.early.items) }
-    {
-        if self.early.is_empty() {
-            return Ok(0);
-        }
-        let missing = self.missing();
-        if !self.advance(missing) {
-            self.early.clear();
-            return Ok(0);
-        }
-        self.append_due(output)?;
-        Ok(missing)
-    }
-
-    /// The place of the octet with this number, if there are places so far behind. Before the first segment it is the next one.
-    fn locate(&mut self, sequence: u32) -> Option<u64>
-        ensures some { IfSome result (λ place. place ≡ place_in self.old sequence) }
-        ensures none { IfNone result (2 ^ 64 ≤ self.old.given + NUMBERS) }
-        ensures given { self.new.given ≡ self.old.given }
-        ensures early { self.new.early ≡ self.old.early }
+    /// The place of the octet with this number, the nearest one to the next octet's.
+    fn place(&self, number: u32) -> u64
+        ensures { result ≡ place_in self.now number }
     {
         match self.next {
-            Some(next) => place_of(next, self.given, sequence),
-            None => {
-                self.next = Some(sequence);
-                Some(self.given)
-            }
+            Some(next) => place_of(next, self.given, number),
+            None => self.given,
         }
     }
 
-    /// Takes a segment whose first octet has this number. What comes next of the connection's octets is appended to the output;
-    /// the result is how many are missing before that: octets that the capture does not have, behind which 64 segments came.
-    ///
-    /// Where the segments are those of one stream, so is what is given: from the place of the octets that were given before, and
-    /// those that are missing, up to the new one, each once and in their order.
+    /// The same; the first number that comes is that of the next octet.
+    fn locate(&mut self, number: u32) -> u64
+        ensures place { result ≡ place_in self.old number }
+        ensures next { self.new.next ≡ (if is_some self.old.next then self.old.next else Some number) }
+        ensures given { self.new.given ≡ self.old.given }
+        ensures start { self.new.start ≡ self.old.start }
+        ensures early { self.new.early ≡ self.old.early }
+    {
+        let place = self.place(number);
+        if self.next.is_none() {
+            self.next = Some(number);
+        }
+        place
+    }
+
+    /// Takes a segment whose first octet has this number, and which came at this time. Octets that are next are appended to the
+    /// output, but for those that were given before; others wait. While it is not known which octet is the first of its direction,
+    /// all wait.
     pub fn take(
         &mut self,
         alloc: A,
+        stamp: Option<Stamp>,
         sequence: u32,
         octets: &[u8],
         output: &mut Vec<u8, A>,
-    ) -> Result<u64, AllocError>
-        ensures early { (stream : List ℕ) → AreOf stream self.old.early.items
-            → StandsAt stream (place_in self.old sequence) octets.now
-            → AreOf stream self.new.early.items }
-        ensures goes { (stream : List ℕ) → AreOf stream self.old.early.items
-            → StandsAt stream (place_in self.old sequence) octets.now
-            → IfOk result (λ missing. GoesOn stream (self.old.given + missing) self.new.given output.old.items output.new.items) }
-        ensures later { IfOk result (λ missing. self.old.given + missing ≤ self.new.given) }
-        // A segment that does not come too early is given.
-        ensures comes { place_in self.old sequence ≤ self.old.given → self.old.given + length octets.now + NUMBERS < 2 ^ 64
-            → OnOk result (place_in self.old sequence + length octets.now ≤ self.new.given) }
-        // Nothing that waits is due, and nothing is missing where fewer wait.
-        ensures none { AreEarly self.old.given self.old.early.items → self.old.given + length octets.now + NUMBERS < 2 ^ 64
-            → OnOk result (AreEarly self.new.given self.new.early.items) }
-        ensures few { length self.old.early.items + 1 < MOST_EARLY → IfOk result (λ missing. missing ≡ 0) }
+    ) -> Result<(), AllocError>
+        ensures octets { is_due self.old sequence ≡ true → OnOk result (output.new.items ≡ output.old.items ++ behind self.old.given (place_in self.old sequence) octets.now) }
+        ensures given { is_due self.old sequence ≡ true
+            → OnOk result (self.new.given ≡ given_more self.old.given (length (behind self.old.given (place_in self.old sequence) octets.now))) }
+        ensures nothing { is_due self.old sequence ≡ false → output.new.items ≡ output.old.items }
+        ensures same { is_due self.old sequence ≡ false → self.new.given ≡ self.old.given }
+        ensures others { is_due self.old sequence ≡ true → self.new.early ≡ self.old.early }
+        ensures waits { is_due self.old sequence ≡ false → 0 < length octets.now
+            → OnOk result (Waits self.old.early.items self.new.early.items (place_in self.old sequence) stamp octets.now) }
+        ensures start { self.new.start ≡ self.old.start }
     {
+        let place = self.locate(sequence);
+        if self.start.is_some() && place <= self.given {
+            return self.append(place, octets, output);
+        }
         if octets.is_empty() {
-            return Ok(0);
+            return Ok(());
         }
-        let Some(place) = self.locate(sequence) else {
-            return Ok(0);
+        let octets = Vec::from_slice(alloc, octets)?;
+        self.early.push(Early {
+            place,
+            stamp,
+            octets,
+        })?;
+        Ok(())
+    }
+
+    /// Whether as many segments wait as may.
+    pub fn is_full(&self) -> bool
+        ensures { result ≡ nat_le MOST_EARLY (length self.now.early.items) }
+    {
+        self.early.len() >= MOST_EARLY
+    }
+
+    /// Whether a segment waits.
+    pub fn is_waiting(&self) -> bool
+        ensures { result ≡ nat_lt 0 (length self.now.early.items) }
+    {
+        !self.early.is_empty()
+    }
+
+    /// Whether a segment waits that the other end has taken, which has said that it awaits this number: what is in front of that
+    /// segment comes no more, or is not in the capture.
+    pub fn is_acknowledged(&self, number: u32) -> bool
+        ensures { result ≡ nat_lt (first_place self.now.early.items) (place_in self.now number) }
+    {
+        first_place(self.early.as_slice()) < self.place(number)
+    }
+
+    /// How many of so many octets from this number on are in front of the first ones of this direction.
+    pub fn late(&self, sequence: u32, count: usize) -> u64
+        ensures { result ≡ late_of self.now.start (place_in self.now sequence) count }
+    {
+        match self.start {
+            Some(start) => start.saturating_sub(self.place(sequence)).min(count as u64),
+            None => 0,
+        }
+    }
+
+    /// The next octet is the one at this place.
+    fn move_to(&mut self, place: u64)
+        ensures given { self.new.given ≡ place }
+        ensures next { self.new.next ≡ next_at self.old.next self.old.given place }
+        ensures start { self.new.start ≡ self.old.start }
+        ensures early { self.new.early ≡ self.old.early }
+    {
+        self.next = match self.next {
+            Some(next) if place < self.given => Some(number_before(next, self.given - place)),
+            Some(next) => Some(number_behind(next, place - self.given)),
+            None => None,
         };
-        if self.append(place, octets, output)? {
-            self.append_due(output)?;
-            return Ok(0);
+        self.given = place;
+    }
+
+    /// Goes on at the first segment that waits, without the octets in front of it, and says how many are missing: none where it is the
+    /// first one of its direction.
+    pub fn resume(&mut self) -> u64
+        ensures given { self.new.given ≡ resumed_at self.old.start self.old.given self.old.early.items }
+        ensures next { 0 < length self.old.early.items → self.new.next ≡ next_at self.old.next self.old.given self.new.given }
+        ensures missing { result ≡ missing_at self.old.start self.old.given self.old.early.items }
+        ensures start { 0 < length self.old.early.items → is_some self.new.start ≡ true }
+        ensures early { self.new.early ≡ self.old.early }
+    {
+        if self.early.is_empty() {
+            return 0;
         }
-        self.keep(alloc, place, octets)?;
-        if self.early.len() < MOST_EARLY {
-            return Ok(0);
+        let first = first_place(self.early.as_slice());
+        match self.start {
+            None => {
+                self.move_to(first);
+                self.start = Some(first);
+                0
+            }
+            Some(_) => {
+                let missing = first.saturating_sub(self.given);
+                self.move_to(first.max(self.given));
+                missing
+            }
         }
-        self.rest(output)
     }
 }

@@ -26,9 +26,11 @@ pub struct Ends {
 /// By what the octets are carried.
 #[derive(Clone, Copy, Debug, PartialEq, Eq)]
 pub enum Transport {
-    /// TCP: the number of the first octet, and whether the segment opens a connection (SYN) and answers one (ACK).
+    /// TCP: the number of the first octet, that of the octet which is awaited, and whether the segment opens a connection (SYN) and
+    /// awaits an octet (ACK).
     Tcp {
         sequence: u32,
+        awaited: u32,
         opens: bool,
         answers: bool,
     },
@@ -235,6 +237,7 @@ fn ends_of(carried: Carried<'_>) -> Option<Ends> {
 /// A TCP segment (RFC 9293).
 fn tcp(carried: Carried<'_>) -> Option<Segment<'_>> {
     let sequence = long_at(Endian::Big, carried.octets, 4)?;
+    let awaited = long_at(Endian::Big, carried.octets, 8)?;
     let head = usize::from(carried.octets.get(12)? / 16) * 4;
     let flags = *carried.octets.get(13)?;
     if head < 20 {
@@ -244,6 +247,7 @@ fn tcp(carried: Carried<'_>) -> Option<Segment<'_>> {
         ends: ends_of(carried)?,
         transport: Transport::Tcp {
             sequence,
+            awaited,
             opens: flags & 0x02 != 0,
             answers: flags & 0x10 != 0,
         },

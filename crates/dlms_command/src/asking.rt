@@ -1,17 +1,17 @@
 //! A meter that is asked: the line to it, the association, and the errand.
 
-ghost use Rattle.std.specs.Prelude.{◌≤◌, IfOk};
-ghost use Rattle.dlms_data.specs.declared.date_time.TheConstants.{LAST_SECOND};
+ghost use Rattle.dlms_client.specs.Plan.{IsPlan, plan_of};
 
-use crate::errand::{Shape, Talk, named, second_of, written};
+use crate::errand::{Shape, Talk, named};
 use crate::fault::Fault;
+use crate::given::value_given;
 use crate::spoken::Spoken;
 use arrayvec::ArrayVec;
 use dlms_ask::server_of;
 use dlms_call::{CallFault, ClientEnd, begin};
 use dlms_client::Plan;
 use dlms_data::Data;
-use dlms_ends::{End, LoopFault};
+use dlms_ends::End;
 use dlms_field::{Dialling, FieldFault, HostDesk, Phone, secret_of};
 use dlms_frame::{Address, Client};
 use dlms_program::Asking;
@@ -50,25 +50,6 @@ pub enum Errand<'a> {
         value: Option<Data<Global>>,
         class: u16,
     },
-}
-
-/// The second of the system's clock.
-fn now<'a, H: Clock>(host: &H) -> Result<u32, Fault<'a>>
-    ensures { IfOk result (λ second. second ≤ LAST_SECOND) }
-{
-    match host.since_1970() {
-        Ok(since) => Ok(second_of(since.as_secs())),
-        Err(_) => Err(Fault::Loop(LoopFault::Io)),
-    }
-}
-
-/// The value to set, as a text writes it.
-fn value_to_set<'a, H: Clock + AllocGlobal>(
-    host: &H,
-    text: &'a str,
-) -> Result<Data<Global>, Fault<'a>> {
-    let second = now(host)?;
-    written(host.alloc(), text, second)
 }
 
 /// The meter's address.
@@ -119,17 +100,36 @@ fn done<'a, S: End, W: Write>(
     }
 }
 
+/// An association over a line, on the heap.
+#[inline(never)]
+fn held<S: End>(
+    alloc: Global,
+    plan: Plan,
+    line: &mut S,
+) -> Result<Box<ClientEnd<Global>>, CallFault>
+    requires { IsPlan (plan_of plan) }
+{
+    match begin(alloc, line, plan) {
+        Ok(head) => match Box::new(alloc, head) {
+            Ok(head) => Ok(head),
+            Err(_) => Err(CallFault::Memory),
+        },
+        Err(fault) => Err(fault),
+    }
+}
+
 /// An association over a line, where its addresses are some.
+#[inline(never)]
 fn opened<'a, S: End>(
     alloc: Global,
     place: &'a str,
     plan: Plan,
     line: &mut S,
-) -> Result<ClientEnd<Global>, Fault<'a>> {
+) -> Result<Box<ClientEnd<Global>>, Fault<'a>> {
     if !plan.is_lawful() {
         return Err(Fault::Server(place));
     }
-    match begin(alloc, line, plan) {
+    match held(alloc, plan, line) {
         Ok(head) => Ok(head),
         Err(fault) => Err(Fault::of_call(place, fault)),
     }
@@ -139,12 +139,13 @@ fn opened<'a, S: End>(
 #[inline(never)]
 fn talked<'a, S: End, W: Write>(
     alloc: Global,
-    place: &'a str,
+    asking: &Asking<'a>,
     plan: Plan,
     line: &mut S,
     errand: Errand<'a>,
     output: &mut W,
 ) -> Result<(), Fault<'a>> {
+    let place = asking.place;
     let head = match opened(alloc, place, plan, line) {
         Ok(head) => head,
         Err(fault) => {
@@ -157,6 +158,7 @@ fn talked<'a, S: End, W: Write>(
         place,
         line,
         head,
+        most: asking.most,
     };
     let outcome = done(&mut talk, errand, output);
     talk.end();
@@ -280,7 +282,7 @@ fn answered<'a, 'r, 'e, H: Net + Files<File = File> + Clock + AllocGlobal, W: Wr
     output: &mut W,
 ) -> Result<(), Fault<'a>> {
     let mut line = line;
-    let talked = talked(host.alloc(), asking.place, plan, &mut line, errand, output);
+    let talked = talked(host.alloc(), asking, plan, &mut line, errand, output);
     let told = told(host.alloc(), asking.place, talked, line.stream.failure());
     drop(line);
     told
@@ -324,6 +326,7 @@ pub fn ask<'a, H: Net + Files<File = File> + Clock + AllocGlobal, W: Write, E: W
 }
 
 /// Asks a meter to set an attribute to the value that a text writes.
+#[inline(never)]
 pub fn ask_to_set<'a, H: Net + Files<File = File> + Clock + AllocGlobal, W: Write, E: Write>(
     host: &H,
     asking: &Asking<'a>,
@@ -333,7 +336,7 @@ pub fn ask_to_set<'a, H: Net + Files<File = File> + Clock + AllocGlobal, W: Writ
     output: &mut W,
     errors: &mut E,
 ) -> Result<(), Fault<'a>> {
-    let value = value_to_set(host, value)?;
+    let value = value_given(host, value)?;
     ask(
         host,
         asking,
@@ -344,6 +347,7 @@ pub fn ask_to_set<'a, H: Net + Files<File = File> + Clock + AllocGlobal, W: Writ
 }
 
 /// Asks a meter to carry out a method with the value that a text writes, where there is one.
+#[inline(never)]
 pub fn ask_to_act<'a, H: Net + Files<File = File> + Clock + AllocGlobal, W: Write, E: Write>(
     host: &H,
     asking: &Asking<'a>,
@@ -354,7 +358,7 @@ pub fn ask_to_act<'a, H: Net + Files<File = File> + Clock + AllocGlobal, W: Writ
     errors: &mut E,
 ) -> Result<(), Fault<'a>> {
     let value = match value {
-        Some(value) => Some(value_to_set(host, value)?),
+        Some(value) => Some(value_given(host, value)?),
         None => None,
     };
     ask(

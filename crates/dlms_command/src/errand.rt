@@ -1,18 +1,18 @@
 //! What is asked of a meter, one thing after another, and what is printed of it.
 
-ghost use Rattle.std.specs.Prelude.{◌≤◌};
+ghost use Rattle.std.specs.Prelude.{◌≤◌, ◌<◌, ◌+◌, ◌≡◌, ◌⊎◌, MatchOption};
 ghost use Rattle.dlms_data.specs.declared.date_time.TheConstants.{LAST_SECOND};
+ghost use Rattle.dlms_command.specs.declared.errand.TheConstants.{BEGINNING};
 
 use crate::fault::Fault;
-use crate::telling::{
-    append_entries, append_scaled, append_value_json, append_words, put, put_line,
-};
-use dlms_ask::{Name, ValueFault, append_pairs, class_in, elements, name_of, value_of};
+use crate::objects::class_named;
+use crate::telling::{Teller, put_clock, put_line};
+use dlms_ask::{Front, Name, ValueFault, front_of, name_of, value_of};
 use dlms_call::{CallFault, ClientEnd, act, end, get, set};
 use dlms_client::Answer;
-use dlms_data::{Data, DataFault, Descriptor, LAST_SECOND, read};
+use dlms_data::{Data, Descriptor, LAST_SECOND};
 use dlms_ends::End;
-use std::alloc::{AllocError, Global};
+use std::alloc::Global;
 use std::io::Write;
 
 /// The second of the system's clock, counted from 1970-01-01 00:00:00, at which the meter's begins.
@@ -33,14 +33,29 @@ const EXTENDED: u16 = 4;
 
 const DEMAND: u16 = 5;
 
-/// The second of a meter's clock, counted from 2000-01-01 00:00:00, at this one of the system's.
-pub fn second_of(seconds: u64) -> u32
-    ensures { result ≤ LAST_SECOND }
+/// The tags of an octet-string, of an integer, of an enum and of a date-time (A-XDR, IEC 62056-6-2, common data types).
+const OCTET_STRING: u8 = 9;
+
+const INTEGER: u8 = 15;
+
+const ENUM: u8 = 22;
+
+const DATE_TIME: u8 = 25;
+
+/// The class Clock, whose time its attribute 2 is.
+const CLOCK: u16 = 8;
+
+/// The second of a meter's clock, counted from 2000-01-01 00:00:00, at this one of the system's; none where no meter's clock can
+/// show it, before 2000 or after 2099.
+pub fn second_of(seconds: u64) -> Option<u32>
+    ensures { MatchOption result ((seconds < BEGINNING) ⊎ (BEGINNING + LAST_SECOND < seconds)) (λ second. (second ≤ LAST_SECOND) × (BEGINNING + second ≡ seconds)) }
 {
-    let second = seconds
-        .saturating_sub(BEGINNING)
-        .min(u64::from(LAST_SECOND));
-    second as u32
+    let second = u32::try_from(seconds.checked_sub(BEGINNING)?).ok()?;
+    if second <= LAST_SECOND {
+        Some(second)
+    } else {
+        None
+    }
 }
 
 /// How a value is printed: in words, by its encoding, or as JSON.
@@ -62,13 +77,14 @@ impl Shape {
     }
 }
 
-/// A talk with a meter: its place, its line, and the client.
+/// A talk with a meter: its place, its line, the client, and how many octets a value may have.
 #[derive(Drop)]
 pub struct Talk<'a, 's, S: End> {
     pub alloc: Global,
     pub place: &'a str,
     pub line: &'s mut S,
-    pub head: ClientEnd<Global>,
+    pub head: Box<ClientEnd<Global>>,
+    pub most: u32,
 }
 
 /// The name that a text writes.
@@ -90,14 +106,29 @@ pub fn written(alloc: Global, text: &str, now: u32) -> Result<Data<Global>, Faul
     }
 }
 
-/// The scaler and the unit that a value says, where it is a structure of both.
-fn scale_of(value: &Data<Global>) -> Option<(i8, u8)> {
-    if let Data::Structure(items) = value
-        && let [Data::Integer(scaler), Data::Enum(unit)] = items.as_slice()
-    {
-        return Some((*scaler, *unit));
+/// The scaler and the unit that an encoding says, where it is that of a structure of both.
+fn scale_of(bytes: &[u8]) -> Option<(i8, u8)> {
+    match front_of(bytes) {
+        (Front::Structure(2), [INTEGER, scaler, ENUM, unit]) => {
+            Some((i8::from_be_bytes([*scaler]), *unit))
+        }
+        _ => None,
     }
-    None
+}
+
+/// The attribute that the scaler and the unit of a register's value are; none where it has none.
+fn scaler_of(attribute: Descriptor) -> Option<Descriptor> {
+    let id = match (attribute.class, attribute.id) {
+        (REGISTER, 2) | (EXTENDED, 2) => 3,
+        (DEMAND, 2) | (DEMAND, 3) => 4,
+        _ => return None,
+    };
+    Some(Descriptor { id, ..attribute })
+}
+
+/// Whether a fault is the meter's answer to a request, behind which the association goes on.
+fn is_answer(fault: &Fault<'_>) -> bool {
+    matches!(fault, Fault::Result(..) | Fault::Denied(..))
 }
 
 impl<'a, S: End> Talk<'a, '_, S> {
@@ -112,76 +143,63 @@ impl<'a, S: End> Talk<'a, '_, S> {
             Ok(Answer::Value) | Ok(Answer::Result(0)) => Ok(()),
             Ok(Answer::Result(code)) => Err(Fault::Result(name, code, is_action)),
             Ok(Answer::Denied(denial)) => Err(Fault::Denied(name, denial)),
+            Err(CallFault::TooLarge) => Err(Fault::Large(name, self.most)),
             Err(fault) => Err(Fault::of_call(self.place, fault)),
         }
     }
 
-    /// The value of an attribute.
-    fn value(&mut self, name: &'a str, attribute: Descriptor) -> Result<Data<Global>, Fault<'a>> {
-        let answer = get(self.line, &mut self.head, attribute);
-        self.judge(name, false, answer)?;
-        match read(self.alloc, self.head.client.value()) {
-            Ok((value, _)) => Ok(value),
-            Err(DataFault::Memory) => Err(Fault::MEMORY),
-            Err(_) => Err(Fault::of_call(self.place, CallFault::Talk(dlms_client::Fault::Form))),
-        }
+    /// Asks for an attribute. Its encoding is the client's value then.
+    fn fetch(&mut self, name: &'a str, attribute: Descriptor) -> Result<(), Fault<'a>> {
+        let answer = get(self.line, &mut self.head, attribute, self.most as usize);
+        self.judge(name, false, answer)
     }
 
-    /// The object list.
-    fn list(&mut self) -> Result<Data<Global>, Fault<'a>> {
+    /// A copy of the encoding that came last.
+    fn copied(&self) -> Result<Vec<u8>, Fault<'a>> {
+        Ok(Vec::from_slice(self.alloc, self.head.client.value())?)
+    }
+
+    /// Asks for the object list.
+    fn fetch_list(&mut self) -> Result<(), Fault<'a>> {
         let attribute = Descriptor {
             class: ASSOCIATION,
             name: CURRENT,
             id: SECOND,
         };
-        self.value("0.0.40.0.0.255/2", attribute)
+        self.fetch("0.0.40.0.0.255/2", attribute)
+    }
+
+    /// The encoding of the object list, where no class is said.
+    fn list_unless(&mut self, said: u16) -> Result<Option<Vec<u8>>, Fault<'a>> {
+        if said > 0 {
+            return Ok(None);
+        }
+        self.fetch_list()?;
+        Ok(Some(self.copied()?))
     }
 
     /// The class of an object: what is said, or what the object list says.
     fn class(
         &self,
-        list: Option<&Data<Global>>,
+        list: &Option<Vec<u8>>,
         text: &'a str,
         name: Name,
         said: u16,
     ) -> Result<u16, Fault<'a>> {
-        if said > 0 {
+        let Some(list) = list else {
             return Ok(said);
-        }
-        let listed = match list {
-            Some(list) => elements(list),
-            None => None,
         };
-        match listed {
-            Some(entries) => match class_in(entries, name.code) {
-                Some(class) => Ok(class),
-                None => Err(Fault::Class(text)),
-            },
-            None => Err(Fault::Class(text)),
+        match class_named(self.alloc, list.as_slice(), name.code) {
+            Ok(Some(class)) => Ok(class),
+            Ok(None) | Err(ValueFault::Form) => Err(Fault::Class(text)),
+            Err(ValueFault::Memory) => Err(Fault::MEMORY),
         }
-    }
-
-    /// The object list, where no class is said.
-    fn list_unless(&mut self, said: u16) -> Result<Option<Data<Global>>, Fault<'a>> {
-        if said > 0 {
-            return Ok(None);
-        }
-        Ok(Some(self.list()?))
     }
 
     /// The scaler and the unit of a register's value, where it has them.
-    fn scaler_unit(&mut self, of: Descriptor) -> Option<(i8, u8)> {
-        let id = match (of.class, of.id) {
-            (REGISTER, 2) | (EXTENDED, 2) => 3,
-            (DEMAND, 2) | (DEMAND, 3) => 4,
-            _ => return None,
-        };
-        match self.value("", Descriptor { id, ..of }) {
-            Ok(scaled) => {
-                let scale = scale_of(&scaled);
-                drop(scaled);
-                scale
-            }
+    fn scaler_unit(&mut self, said: &'a str, scaler: Descriptor) -> Option<(i8, u8)> {
+        match self.fetch(said, scaler) {
+            Ok(()) => scale_of(self.head.client.value()),
             Err(fault) => {
                 drop(fault);
                 None
@@ -192,7 +210,7 @@ impl<'a, S: End> Talk<'a, '_, S> {
     /// An attribute by its name: the value where no number is said.
     fn attribute(
         &self,
-        list: Option<&Data<Global>>,
+        list: &Option<Vec<u8>>,
         said: &'a str,
         name: Name,
         class: u16,
@@ -214,60 +232,63 @@ impl<'a, S: End> Talk<'a, '_, S> {
         class: u16,
     ) -> Result<Descriptor, Fault<'a>> {
         let list = self.list_unless(class)?;
-        let attribute = self.attribute(list.as_ref(), said, name, class);
+        let attribute = self.attribute(&list, said, name, class);
         drop(list);
         attribute
     }
 
-    /// Appends the encoding of the value that came last.
-    fn append_raw(&self, text: &mut Vec<u8>) -> Result<(), AllocError> {
-        append_pairs(text, self.head.client.value())?;
-        text.extend_from_slice(b"\n")
+    /// Prints the value of an attribute that came last, as it is.
+    fn put_plain<W: Write>(
+        &self,
+        attribute: Descriptor,
+        shape: Shape,
+        output: &mut W,
+    ) -> Result<(), Fault<'a>> {
+        let mut teller = Teller::new(self.alloc, self.place, output);
+        teller.put_value(attribute, self.head.client.value(), shape, None)
     }
 
-    /// Appends the value of an attribute.
-    fn append_one(
+    /// Prints the value of a register that came last, with its scaler and its unit.
+    fn put_scaled<W: Write>(
         &mut self,
-        text: &mut Vec<u8>,
+        said: &'a str,
         attribute: Descriptor,
-        value: &Data<Global>,
+        scaler: Descriptor,
         shape: Shape,
-    ) -> Result<(), AllocError> {
-        if shape == Shape::Raw {
-            return self.append_raw(text);
-        }
-        let scaled = self.scaler_unit(attribute);
-        if shape == Shape::Json {
-            append_value_json(text, attribute, value, scaled)
-        } else {
-            append_scaled(self.alloc, text, value, scaled)
-        }
+        output: &mut W,
+    ) -> Result<(), Fault<'a>> {
+        let value = self.copied()?;
+        let scaled = self.scaler_unit(said, scaler);
+        let mut teller = Teller::new(self.alloc, self.place, output);
+        let told = teller.put_value(attribute, value.as_slice(), shape, scaled);
+        drop(teller);
+        drop(value);
+        told
     }
 
     /// Prints the value of an attribute.
     fn get_one<W: Write>(
         &mut self,
-        list: Option<&Data<Global>>,
+        list: &Option<Vec<u8>>,
         said: &'a str,
         class: u16,
         shape: Shape,
         output: &mut W,
     ) -> Result<(), Fault<'a>> {
         let attribute = self.attribute(list, said, named(said)?, class)?;
-        let value = self.value(said, attribute)?;
-        let mut text = Vec::new(self.alloc);
-        let told = match self.append_one(&mut text, attribute, &value, shape) {
-            Ok(()) => put(output, text.as_slice()),
-            Err(_) => Err(Fault::MEMORY),
-        };
-        drop(value);
-        told
+        self.fetch(said, attribute)?;
+        match scaler_of(attribute) {
+            Some(scaler) if shape != Shape::Raw => {
+                self.put_scaled(said, attribute, scaler, shape, output)
+            }
+            _ => self.put_plain(attribute, shape, output),
+        }
     }
 
     /// Prints the values of attributes, whose classes stand in an object list where none is said.
     fn get_each<W: Write>(
         &mut self,
-        list: Option<&Data<Global>>,
+        list: &Option<Vec<u8>>,
         names: &'a str,
         class: u16,
         shape: Shape,
@@ -298,35 +319,17 @@ impl<'a, S: End> Talk<'a, '_, S> {
         output: &mut W,
     ) -> Result<(), Fault<'a>> {
         let list = self.list_unless(class)?;
-        let told = self.get_each(list.as_ref(), names, class, shape, output);
+        let told = self.get_each(&list, names, class, shape, output);
         drop(list);
         told
-    }
-
-    /// Prints the object list that a value is.
-    fn put_list<W: Write>(
-        &self,
-        list: &Data<Global>,
-        json: bool,
-        output: &mut W,
-    ) -> Result<(), Fault<'a>> {
-        let Some(entries) = elements(list) else {
-            return Err(Fault::of_call(self.place, CallFault::Talk(dlms_client::Fault::Form)));
-        };
-        let mut text = Vec::new(self.alloc);
-        match append_entries(self.alloc, &mut text, entries, json) {
-            Ok(()) => put(output, text.as_slice()),
-            Err(_) => Err(Fault::MEMORY),
-        }
     }
 
     /// Prints the object list.
     #[inline(never)]
     pub fn list_all<W: Write>(&mut self, json: bool, output: &mut W) -> Result<(), Fault<'a>> {
-        let list = self.list()?;
-        let told = self.put_list(&list, json, output);
-        drop(list);
-        told
+        self.fetch_list()?;
+        let mut teller = Teller::new(self.alloc, self.place, output);
+        teller.put_objects(self.head.client.value(), json)
     }
 
     /// The attribute that a text names.
@@ -344,7 +347,77 @@ impl<'a, S: End> Talk<'a, '_, S> {
         self.attribute_of(said, name, class)
     }
 
+    /// What a clock shows: its octets, or none where the meter does not tell them. Of what is no clock nothing is asked.
+    fn clock(
+        &mut self,
+        said: &'a str,
+        clock: Option<Descriptor>,
+    ) -> Result<Option<[u8; 12]>, Fault<'a>> {
+        let Some(clock) = clock else {
+            return Ok(None);
+        };
+        match self.fetch(said, clock) {
+            Ok(()) => Ok(clock_in(self.head.client.value())),
+            Err(fault) => {
+                if is_answer(&fault) {
+                    drop(fault);
+                    Ok(None)
+                } else {
+                    Err(fault)
+                }
+            }
+        }
+    }
+
+    /// Prints what a clock showed before it was changed, and what it shows now. Of what is no clock nothing is printed.
+    fn put_clock<W: Write>(
+        &mut self,
+        said: &'a str,
+        clock: Option<Descriptor>,
+        before: Option<[u8; 12]>,
+        output: &mut W,
+    ) -> Result<(), Fault<'a>> {
+        let Some(of) = clock else {
+            return Ok(());
+        };
+        let after = self.clock(said, clock)?;
+        put_clock(self.alloc, output, of.name, before, after)
+    }
+
     /// Sets an attribute.
+    fn set_to(
+        &mut self,
+        said: &'a str,
+        attribute: Descriptor,
+        value: Data<Global>,
+    ) -> Result<(), Fault<'a>> {
+        let answer = set(self.line, &mut self.head, attribute, value);
+        self.judge(said, false, answer)
+    }
+
+    /// What is to be set, and what it shows before that where it is a clock.
+    fn before_set(
+        &mut self,
+        said: &'a str,
+        class: u16,
+    ) -> Result<(Descriptor, Option<[u8; 12]>), Fault<'a>> {
+        let attribute = self.attribute_said(said, class)?;
+        let before = self.clock(said, clock_set_by(attribute))?;
+        Ok((attribute, before))
+    }
+
+    /// What is to be called, and what its clock shows before that where it is one's.
+    fn before_call(
+        &mut self,
+        said: &'a str,
+        class: u16,
+    ) -> Result<(Descriptor, Option<[u8; 12]>), Fault<'a>> {
+        let method = self.method_said(said, class)?;
+        let before = self.clock(said, clock_called_by(method))?;
+        Ok((method, before))
+    }
+
+    /// Sets an attribute; of a clock prints what it showed before and shows now.
     #[inline(never)]
     pub fn set_one<W: Write>(
         &mut self,
@@ -353,19 +426,30 @@ impl<'a, S: End> Talk<'a, '_, S> {
         class: u16,
         output: &mut W,
     ) -> Result<(), Fault<'a>> {
-        let attribute = match self.attribute_said(said, class) {
-            Ok(attribute) => attribute,
+        let (attribute, before) = match self.before_set(said, class) {
+            Ok(found) => found,
             Err(fault) => {
                 drop(value);
                 return Err(fault);
             }
         };
-        let answer = set(self.line, &mut self.head, attribute, value);
-        self.judge(said, false, answer)?;
-        put_line(output, "set ", said)
+        self.set_to(said, attribute, value)?;
+        put_line(output, "set ", said)?;
+        self.put_clock(said, clock_set_by(attribute), before, output)
     }
 
-    /// Calls a method, and prints what it returns.
+    /// Calls a method.
+    fn call(
+        &mut self,
+        said: &'a str,
+        method: Descriptor,
+        value: Option<Data<Global>>,
+    ) -> Result<(), Fault<'a>> {
+        let answer = act(self.line, &mut self.head, method, value);
+        self.judge(said, true, answer)
+    }
+
+    /// Calls a method, and prints what it returns; of a clock prints what it showed before and shows now.
     #[inline(never)]
     pub fn act_one<W: Write>(
         &mut self,
@@ -374,35 +458,71 @@ impl<'a, S: End> Talk<'a, '_, S> {
         class: u16,
         output: &mut W,
     ) -> Result<(), Fault<'a>> {
-        let method = match self.method_said(said, class) {
-            Ok(method) => method,
+        let (method, before) = match self.before_call(said, class) {
+            Ok(found) => found,
             Err(fault) => {
                 drop(value);
                 return Err(fault);
             }
         };
-        let answer = act(self.line, &mut self.head, method, value);
-        self.judge(said, true, answer)?;
+        self.call(said, method, value)?;
         put_line(output, "called ", said)?;
-        self.put_returned(output)
+        self.put_returned(output)?;
+        self.put_clock(said, clock_called_by(method), before, output)
     }
 
     /// Prints what a method returned, where it is a value.
     fn put_returned<W: Write>(&self, output: &mut W) -> Result<(), Fault<'a>> {
-        let Ok((value, _)) = read(self.alloc, self.head.client.value()) else {
+        let value = self.head.client.value();
+        if value.is_empty() {
             return Ok(());
-        };
-        let mut text = Vec::new(self.alloc);
-        let told = match append_words(self.alloc, &mut text, &value) {
-            Ok(()) => put(output, text.as_slice()),
-            Err(_) => Err(Fault::MEMORY),
-        };
-        drop(value);
-        told
+        }
+        let mut teller = Teller::new(self.alloc, self.place, output);
+        teller.put_words(value)
     }
 
     /// Ends the association, and the link.
     pub fn end(&mut self) {
         let _ended = end(self.line, &mut self.head);
     }
+}
+
+/// The clock that a SET of this attribute changes; none where it changes none.
+fn clock_set_by(attribute: Descriptor) -> Option<Descriptor> {
+    if attribute.class == CLOCK && attribute.id == SECOND {
+        Some(attribute)
+    } else {
+        None
+    }
+}
+
+/// The clock that a call of this method changes; none where it changes none.
+fn clock_called_by(method: Descriptor) -> Option<Descriptor> {
+    if method.class == CLOCK {
+        Some(Descriptor {
+            id: SECOND,
+            ..method
+        })
+    } else {
+        None
+    }
+}
+
+/// The octets of a date-time that an encoding says, as an octet-string or as a date-time.
+fn clock_in(bytes: &[u8]) -> Option<[u8; 12]> {
+    match bytes {
+        [DATE_TIME, octets @ ..] => twelve(octets),
+        [OCTET_STRING, 12, octets @ ..] => twelve(octets),
+        _ => None,
+    }
+}
+
+/// Twelve octets.
+fn twelve(bytes: &[u8]) -> Option<[u8; 12]> {
+    let mut octets = [0; 12];
+    if bytes.len() != 12 {
+        return None;
+    }
+    octets.copy_from_slice(bytes);
+    Some(octets)
 }

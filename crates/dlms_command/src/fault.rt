@@ -60,6 +60,12 @@ pub enum Fault<'a> {
     Denied(&'a str, Denial),
     /// The talk with the meter at this place ended early.
     Call(&'a str, CallFault),
+    /// What was asked for by this name has more than so many octets.
+    Large(&'a str, u32),
+    /// The value in this file has too many bytes.
+    File(&'a str),
+    /// The system's clock shows what no meter's clock can.
+    Now,
 }
 
 impl<'a> Fault<'a> {
@@ -189,7 +195,7 @@ fn write_open<W: fmt::Write>(
     match fault {
         OpenFault::NoCheckpoint => write!(
             f,
-            "\n  {file}: no meter stands in it\n  dlms format makes one, over whatever it holds"
+            "\n  {file}: it holds no meter\n  dlms show tells what its pages hold"
         ),
         OpenFault::Corrupt(page) => {
             let page = *page;
@@ -309,6 +315,10 @@ fn write_call<W: fmt::Write>(
             f,
             "long\n  {place}: the value is longer than the meter takes"
         ),
+        CallFault::TooLarge => write!(
+            f,
+            "large\n  {place}: the value is longer than --most allows"
+        ),
         CallFault::Io => write!(f, "io\n  {place}: the line failed"),
         CallFault::Memory => f.write_str("memory"),
     }
@@ -386,6 +396,17 @@ impl fmt::Display for Fault<'_> {
             }
             Fault::Denied(name, denial) => write_denied(f, name, denial),
             Fault::Call(place, fault) => write_call(f, place, fault),
+            Fault::Large(name, most) => {
+                let most = *most;
+                write!(
+                    f,
+                    "large\n  {name}: its value has more than {most} octets\n  --most allows more, up to 16777216"
+                )
+            }
+            Fault::File(file) => write!(f, "long\n  {file}: more than 65536 bytes"),
+            Fault::Now => f.write_str(
+                "now\n  the system's clock is before 2000-01-01 or after 2099-12-31, which no meter's clock shows",
+            ),
         }
     }
 }

@@ -32,6 +32,9 @@ mod columns;
 mod demo;
 mod errand;
 mod fault;
+mod given;
+mod objects;
+mod occupant;
 mod spoken;
 mod streams;
 mod telling;
@@ -40,6 +43,7 @@ mod watched;
 use asking::{Errand, ask, ask_to_act, ask_to_set};
 use errand::Shape;
 pub use fault::Fault;
+use occupant::refuse_occupied;
 use streams::{Input, Output, flush};
 use watched::Watched;
 
@@ -120,14 +124,19 @@ fn has_failed<P: Pages + Drop>(made: Result<Meter<P>, (P, OpenFault)>) -> bool {
     }
 }
 
-/// Makes a new meter in a file, over whatever the file holds, where it is asked for with a day behind it.
+/// Makes a new meter in a file, with a day of captures if `demo` is set. A file that holds something is refused, unless it is a meter
+/// and `force` is set.
 #[inline(never)]
 fn run_format<'a, H: Files<File = File> + AllocGlobal, W: Write>(
     host: &H,
     file: &'a str,
     demo: bool,
+    force: bool,
     output: &mut W,
 ) -> Result<(), Fault<'a>> {
+    if let Err(error) = refuse_occupied(host, file, force) {
+        return Err(Fault::of_system(host.alloc(), file, &error));
+    }
     let pages = match FilePages::create(host, file, PAGES) {
         Ok(pages) => pages,
         Err(error) => return Err(Fault::of_system(host.alloc(), file, &error)),
@@ -534,7 +543,10 @@ fn run_job<
     E: Write,
 >(host: &H, job: Job<'a>, input: R, output: &mut W, errors: &mut E) -> Result<(), Fault<'a>> {
     match job {
-        Job::Format { file, demo } => unread(run_format(host, file, demo, output), input),
+        Job::Format { file, demo, force } => unread(
+            run_format(host, file, demo, force, output),
+            input,
+        ),
         Job::Replay { file: Some(file) } => run_replay_file(host, file, input, output),
         Job::Replay { file: None } => run_replay_memory(host, input, output),
         Job::Loopback { readings, stops } => unread(
@@ -574,6 +586,7 @@ fn run_job<
             client,
             deadline,
             ahead,
+            strict,
         } => {
             let polling = Polling {
                 address,
@@ -582,6 +595,7 @@ fn run_job<
                 client,
                 deadline,
                 ahead,
+                strict,
             };
             unread(run_poll(host, &polling, output, errors), input)
         }

@@ -1,12 +1,27 @@
 //! What is printed of a meter's values and objects.
 
+use crate::errand::Shape;
 use crate::fault::Fault;
-use dlms_ask::{append_decimal, append_json, append_number, append_quoted, entry_of, right_of};
+use crate::objects::{append_object, append_object_json};
+use dlms_ask::{
+    Front, ValueFault, append_decimal, append_json, append_number, append_pairs, append_quoted,
+    first_of, front_of, value_at,
+};
+use dlms_call::CallFault;
 use dlms_data::{Data, Descriptor};
-use dlms_explain::{write_code, write_value};
-use dlms_names::{class_of, unit_name};
+use dlms_explain::write_value;
+use dlms_names::unit_name;
 use std::alloc::{AllocError, Global};
 use std::io::Write;
+
+/// How many octets of text go out at a time, and of an encoding in digits.
+const PIECE: usize = 32_768;
+
+/// How many levels of arrays and structures a value has at most.
+const MOST_LEVELS: u8 = 8;
+
+/// A field of a date-time that is left open.
+const OPEN: u8 = 0xff;
 
 /// The units of energy, which are told in thousands: Wh, VAh, varh (IEC 62056-6-2, Blue Book 4.3.2, units).
 const FIRST_ENERGY: u8 = 30;
@@ -47,16 +62,14 @@ fn number_in(value: &Data<Global>) -> Option<(bool, u64)> {
     Some((signed < 0, signed.unsigned_abs()))
 }
 
-/// Appends a number with its scaler and its unit, an energy in thousands of its unit; and says whether the value is a number.
+/// Appends a number with its scaler and its unit, an energy in thousands of its unit.
 fn append_quantity(
     text: &mut Vec<u8>,
-    value: &Data<Global>,
+    is_negative: bool,
+    number: u64,
     scaler: i8,
     unit: u8,
-) -> Result<bool, AllocError> {
-    let Some((is_negative, number)) = number_in(value) else {
-        return Ok(false);
-    };
+) -> Result<(), AllocError> {
     let is_energy = FIRST_ENERGY <= unit && unit <= LAST_ENERGY;
     let power = i16::from(scaler) - if is_energy { 3 } else { 0 };
     append_decimal(text, is_negative, number, power)?;
@@ -64,12 +77,11 @@ fn append_quantity(
         text.extend_from_slice(if is_energy { b" k" } else { b" " })?;
         append_unit(text, unit)?;
     }
-    text.extend_from_slice(b"\n")?;
-    Ok(true)
+    text.extend_from_slice(b"\n")
 }
 
 /// Appends a number behind a label.
-fn append_labelled(text: &mut Vec<u8>, label: &[u8], number: u64) -> Result<(), AllocError> {
+pub fn append_labelled(text: &mut Vec<u8>, label: &[u8], number: u64) -> Result<(), AllocError> {
     text.extend_from_slice(label)?;
     append_number(text, number)
 }
@@ -83,7 +95,7 @@ fn append_unit(text: &mut Vec<u8>, unit: u8) -> Result<(), AllocError> {
 }
 
 /// Appends a code as `1.0.1.8.0.255`.
-fn append_code(text: &mut Vec<u8>, code: [u8; 6]) -> Result<(), AllocError> {
+pub fn append_code(text: &mut Vec<u8>, code: [u8; 6]) -> Result<(), AllocError> {
     for (at, group) in code.iter().enumerate() {
         if at > 0 {
             text.extend_from_slice(b".")?;
@@ -91,34 +103,6 @@ fn append_code(text: &mut Vec<u8>, code: [u8; 6]) -> Result<(), AllocError> {
         append_number(text, u64::from(*group))?;
     }
     Ok(())
-}
-
-/// Appends a value in words.
-pub fn append_words(
-    alloc: Global,
-    text: &mut Vec<u8>,
-    value: &Data<Global>,
-) -> Result<(), AllocError> {
-    let mut words = String::new(alloc);
-    match write_value(&mut words, 0, value) {
-        Ok(()) => text.extend_from_slice(words.as_bytes()),
-        Err(error) => Err(error),
-    }
-}
-
-/// Appends a value: a number with its scaler and its unit where it has them, another one in words.
-pub fn append_scaled(
-    alloc: Global,
-    text: &mut Vec<u8>,
-    value: &Data<Global>,
-    scaled: Option<(i8, u8)>,
-) -> Result<(), AllocError> {
-    if let Some((scaler, unit)) = scaled
-        && append_quantity(text, value, scaler, unit)?
-    {
-        return Ok(());
-    }
-    append_words(alloc, text, value)
 }
 
 /// Appends an attribute as the front of an object of JSON.
@@ -137,165 +121,314 @@ fn append_scale_json(text: &mut Vec<u8>, scaler: i8, unit: u8) -> Result<(), All
     append_quoted(text, unit_name(unit).unwrap_or("").as_bytes())
 }
 
-/// Appends the value of an attribute as an object of JSON, and a line feed.
-pub fn append_value_json(
-    text: &mut Vec<u8>,
-    attribute: Descriptor,
-    value: &Data<Global>,
-    scaled: Option<(i8, u8)>,
-) -> Result<(), AllocError> {
-    append_attribute_json(text, attribute)?;
-    text.extend_from_slice(b",\"value\":")?;
-    append_json(text, value)?;
-    if let Some((scaler, unit)) = scaled {
-        append_scale_json(text, scaler, unit)?;
+/// Appends a field of a date-time in two digits; `*` where it is left open.
+fn append_field(text: &mut Vec<u8>, field: u8) -> Result<(), AllocError> {
+    if field == OPEN {
+        return text.extend_from_slice(b"*");
     }
-    text.extend_from_slice(b"}\n")
+    if field < 10 {
+        text.extend_from_slice(b"0")?;
+    }
+    append_number(text, u64::from(field))
 }
 
-/// The right to an attribute, by its access mode (IEC 62056-6-2, Blue Book 4.4.4, attribute_access_mode).
-fn attribute_right(mode: u8) -> &'static str {
-    match mode {
-        0 => "-",
-        1 => "r",
-        2 => "w",
-        3 => "rw",
-        4 => "ar",
-        5 => "aw",
-        6 => "arw",
-        _ => "?",
-    }
+/// Appends a field of a date-time behind what parts it from the one before.
+fn append_parted(text: &mut Vec<u8>, parting: &[u8], field: u8) -> Result<(), AllocError> {
+    text.extend_from_slice(parting)?;
+    append_field(text, field)
 }
 
-/// The right to a method.
-fn method_right(mode: u8) -> &'static str {
-    match mode {
-        0 => "-",
-        1 => "x",
-        2 => "ax",
-        _ => "?",
-    }
-}
-
-/// The right to an attribute or to a method.
-fn right_name(is_method: bool, mode: u8) -> &'static str {
-    if is_method {
-        method_right(mode)
-    } else {
-        attribute_right(mode)
-    }
-}
-
-/// Appends the rights to attributes, or to methods, each behind its number.
-fn append_rights(
-    text: &mut Vec<u8>,
-    label: &str,
-    rights: &[Data<Global>],
-    is_method: bool,
-) -> Result<(), AllocError> {
-    text.extend_from_slice(label.as_bytes())?;
-    for right in rights {
-        match right_of(right) {
-            Some((number, mode)) => {
-                append_labelled(text, b" ", u64::from(number))?;
-                text.extend_from_slice(right_name(is_method, mode).as_bytes())?;
-            }
-            None => text.extend_from_slice(b" ?")?,
-        }
-    }
-    Ok(())
-}
-
-/// Appends a code and what it names.
-fn append_name(alloc: Global, text: &mut Vec<u8>, code: [u8; 6]) -> Result<(), AllocError> {
-    let mut words = String::new(alloc);
-    match write_code(&mut words, code) {
-        Ok(()) => text.extend_from_slice(words.as_bytes()),
-        Err(error) => Err(error),
-    }
-}
-
-/// Appends the line of an element of the object list.
-fn append_entry(alloc: Global, text: &mut Vec<u8>, value: &Data<Global>) -> Result<(), AllocError> {
-    let Some(entry) = entry_of(value) else {
-        return append_words(alloc, text, value);
+/// Appends what a clock shows, as `2026-11-27 15:00:00`.
+fn append_clock(text: &mut Vec<u8>, octets: Option<[u8; 12]>) -> Result<(), AllocError> {
+    let Some(octets) = octets else {
+        return text.extend_from_slice(b"not told");
     };
-    append_name(alloc, text, entry.name)?;
-    text.extend_from_slice(b" | ")?;
-    text.extend_from_slice(class_name(entry.class).as_bytes())?;
-    append_labelled(text, b" ", u64::from(entry.class))?;
-    append_labelled(text, b", version ", u64::from(entry.version))?;
-    append_rights(text, " |", entry.attributes, false)?;
-    append_rights(text, " |", entry.methods, true)?;
+    append_number(text, u64::from(octets[0]) * 256 + u64::from(octets[1]))?;
+    append_parted(text, b"-", octets[2])?;
+    append_parted(text, b"-", octets[3])?;
+    append_parted(text, b" ", octets[5])?;
+    append_parted(text, b":", octets[6])?;
+    append_parted(text, b":", octets[7])
+}
+
+/// Appends a clock's code, what it showed, and what it shows now.
+fn append_clocks(
+    text: &mut Vec<u8>,
+    code: [u8; 6],
+    before: Option<[u8; 12]>,
+    after: Option<[u8; 12]>,
+) -> Result<(), AllocError> {
+    append_code(text, code)?;
+    text.extend_from_slice(b" clock: ")?;
+    append_clock(text, before)?;
+    text.extend_from_slice(b" -> ")?;
+    append_clock(text, after)?;
     text.extend_from_slice(b"\n")
 }
 
-/// The name of a class.
-fn class_name(class: u16) -> &'static str {
-    match class_of(class) {
-        Some(class) => class.name,
-        None => "class",
-    }
+/// Prints a clock's code, what it showed, and what it shows now.
+pub fn put_clock<'a, W: Write>(
+    alloc: Global,
+    output: &mut W,
+    code: [u8; 6],
+    before: Option<[u8; 12]>,
+    after: Option<[u8; 12]>,
+) -> Result<(), Fault<'a>> {
+    let mut text = Vec::new(alloc);
+    append_clocks(&mut text, code, before, after)?;
+    put(output, text.as_slice())
 }
 
-/// Appends rights as an object of JSON behind a label, which opens it.
-fn append_rights_json(
-    text: &mut Vec<u8>,
-    label: &[u8],
-    rights: &[Data<Global>],
-    is_method: bool,
-) -> Result<(), AllocError> {
-    text.extend_from_slice(label)?;
-    let mut parting = "\"";
-    for right in rights {
-        if let Some((number, mode)) = right_of(right) {
-            append_labelled(text, parting.as_bytes(), u64::from(number))?;
-            text.extend_from_slice(b"\":")?;
-            append_quoted(text, right_name(is_method, mode).as_bytes())?;
-            parting = ",\"";
-        }
-    }
-    text.extend_from_slice(b"}")
-}
-
-/// Appends an element of the object list as an object of JSON; null where it has another form.
-fn append_entry_json(text: &mut Vec<u8>, value: &Data<Global>) -> Result<(), AllocError> {
-    let Some(entry) = entry_of(value) else {
-        return text.extend_from_slice(b"null");
-    };
-    text.extend_from_slice(b"{\"name\":\"")?;
-    append_code(text, entry.name)?;
-    append_labelled(text, b"\",\"class\":", u64::from(entry.class))?;
-    append_labelled(text, b",\"version\":", u64::from(entry.version))?;
-    append_rights_json(text, b",\"attributes\":{", entry.attributes, false)?;
-    append_rights_json(text, b",\"methods\":{", entry.methods, true)?;
-    text.extend_from_slice(b"}")
-}
-
-/// Appends an object list as an array of JSON.
-fn append_entries_json(text: &mut Vec<u8>, entries: &[Data<Global>]) -> Result<(), AllocError> {
-    text.extend_from_slice(b"[")?;
-    for (at, entry) in entries.iter().enumerate() {
-        if at > 0 {
-            text.extend_from_slice(b",\n ")?;
-        }
-        append_entry_json(text, entry)?;
-    }
-    text.extend_from_slice(b"]\n")
-}
-
-/// Appends an object list, a line an element or as an array of JSON.
-pub fn append_entries(
+/// Appends the lines of the value at the front of an encoding, which holds no others, and says what follows it.
+fn append_leaf<'b>(
     alloc: Global,
     text: &mut Vec<u8>,
-    entries: &[Data<Global>],
-    is_json: bool,
-) -> Result<(), AllocError> {
-    if is_json {
-        return append_entries_json(text, entries);
+    depth: u8,
+    bytes: &'b [u8],
+) -> Result<&'b [u8], ValueFault> {
+    let (value, rest) = value_at(alloc, bytes)?;
+    let mut words = String::new(alloc);
+    let written = write_value(&mut words, depth, &value);
+    drop(value);
+    written?;
+    text.extend_from_slice(words.as_bytes())?;
+    Ok(rest)
+}
+
+/// Appends the line of an array or a structure of so many values.
+fn append_head(text: &mut Vec<u8>, depth: u8, kind: &[u8], count: u32) -> Result<(), AllocError> {
+    for _ in 0..depth {
+        text.extend_from_slice(b"  ")?;
     }
-    for entry in entries {
-        append_entry(alloc, text, entry)?;
+    append_labelled(text, kind, u64::from(count))?;
+    text.extend_from_slice(b"\n")
+}
+
+/// Prints values by their encodings. What is printed of one goes out piece by piece, so that it takes no memory as long as it is.
+#[derive(Drop)]
+pub struct Teller<'a, 'o, W> {
+    alloc: Global,
+    place: &'a str,
+    text: Vec<u8>,
+    output: &'o mut W,
+}
+
+impl<'a, 'o, W: Write> Teller<'a, 'o, W> {
+    /// Prints on an output what the meter at this place told.
+    pub fn new(alloc: Global, place: &'a str, output: &'o mut W) -> Self {
+        Teller {
+            alloc,
+            place,
+            text: Vec::new(alloc),
+            output,
+        }
     }
-    Ok(())
+
+    /// The fault of a value that could not be told.
+    fn fault(&self, fault: ValueFault) -> Fault<'a> {
+        match fault {
+            ValueFault::Form => Fault::of_call(
+                self.place,
+                CallFault::Talk(dlms_client::Fault::Form),
+            ),
+            ValueFault::Memory => Fault::MEMORY,
+        }
+    }
+
+    /// What stands in the text goes out.
+    fn flush(&mut self) -> Result<(), Fault<'a>> {
+        let put = put(self.output, self.text.as_slice());
+        self.text.clear();
+        put
+    }
+
+    /// What stands in the text goes out, where it is long.
+    fn flush_long(&mut self) -> Result<(), Fault<'a>> {
+        if self.text.len() < PIECE {
+            return Ok(());
+        }
+        self.flush()
+    }
+
+    /// The lines of the value at the front, which holds no others; and what follows it.
+    fn tell_leaf<'b>(&mut self, depth: u8, bytes: &'b [u8]) -> Result<&'b [u8], Fault<'a>> {
+        match append_leaf(self.alloc, &mut self.text, depth, bytes) {
+            Ok(rest) => {
+                self.flush_long()?;
+                Ok(rest)
+            }
+            Err(fault) => Err(self.fault(fault)),
+        }
+    }
+
+    /// Prints a value in words.
+    pub fn put_words(&mut self, bytes: &[u8]) -> Result<(), Fault<'a>> {
+        let _rest = tell_tree(self, MOST_LEVELS, bytes)?;
+        self.flush()
+    }
+
+    /// Prints an encoding in pairs of hexadecimal digits.
+    fn put_raw(&mut self, bytes: &[u8]) -> Result<(), Fault<'a>> {
+        for piece in bytes.chunks(PIECE) {
+            append_pairs(&mut self.text, piece)?;
+            self.flush()?;
+        }
+        put(self.output, b"\n")
+    }
+
+    /// Prints a number with its scaler and its unit, another value in words.
+    fn put_scaled(&mut self, bytes: &[u8], scaler: i8, unit: u8) -> Result<(), Fault<'a>> {
+        let number = match front_of(bytes) {
+            (Front::Plain, _) => self.number_at(bytes)?,
+            _ => None,
+        };
+        match number {
+            Some((is_negative, number)) => {
+                append_quantity(&mut self.text, is_negative, number, scaler, unit)?;
+                self.flush()
+            }
+            None => self.put_words(bytes),
+        }
+    }
+
+    /// The sign and the size of the number that an encoding says; none of what is no number.
+    fn number_at(&self, bytes: &[u8]) -> Result<Option<(bool, u64)>, Fault<'a>> {
+        match value_at(self.alloc, bytes) {
+            Ok((value, _)) => {
+                let number = number_in(&value);
+                drop(value);
+                Ok(number)
+            }
+            Err(fault) => Err(self.fault(fault)),
+        }
+    }
+
+    /// Prints the value of an attribute as an object of JSON, and a line feed.
+    fn put_json(
+        &mut self,
+        attribute: Descriptor,
+        bytes: &[u8],
+        scaled: Option<(i8, u8)>,
+    ) -> Result<(), Fault<'a>> {
+        append_attribute_json(&mut self.text, attribute)?;
+        self.text.extend_from_slice(b",\"value\":")?;
+        if let Err(fault) = append_json(self.alloc, &mut self.text, bytes) {
+            return Err(self.fault(fault));
+        }
+        if let Some((scaler, unit)) = scaled {
+            append_scale_json(&mut self.text, scaler, unit)?;
+        }
+        self.text.extend_from_slice(b"}\n")?;
+        self.flush()
+    }
+
+    /// Prints the value of an attribute, of a number with its scaler and its unit where it has them.
+    pub fn put_value(
+        &mut self,
+        attribute: Descriptor,
+        bytes: &[u8],
+        shape: Shape,
+        scaled: Option<(i8, u8)>,
+    ) -> Result<(), Fault<'a>> {
+        match (shape, scaled) {
+            (Shape::Raw, _) => self.put_raw(bytes),
+            (Shape::Json, _) => self.put_json(attribute, bytes, scaled),
+            (Shape::Words, Some((scaler, unit))) => self.put_scaled(bytes, scaler, unit),
+            (Shape::Words, None) => self.put_words(bytes),
+        }
+    }
+
+    /// Prints the line of an element of an object list: of one that has another form its value in words.
+    fn put_object(&mut self, element: &[u8]) -> Result<(), Fault<'a>> {
+        match append_object(self.alloc, &mut self.text, element) {
+            Ok(true) => self.flush_long(),
+            Ok(false) => {
+                let _rest = tell_tree(self, MOST_LEVELS, element)?;
+                Ok(())
+            }
+            Err(fault) => Err(self.fault(fault)),
+        }
+    }
+
+    /// Prints an element of an object list as an object of JSON, or null where it has another form.
+    fn put_object_json(&mut self, is_first: bool, element: &[u8]) -> Result<(), Fault<'a>> {
+        if !is_first {
+            self.text.extend_from_slice(b",\n ")?;
+        }
+        match append_object_json(self.alloc, &mut self.text, element) {
+            Ok(()) => self.flush_long(),
+            Err(fault) => Err(self.fault(fault)),
+        }
+    }
+
+    /// Prints so many elements of an object list.
+    fn put_elements(&mut self, count: u32, bytes: &[u8], json: bool) -> Result<(), Fault<'a>> {
+        let mut rest = bytes;
+        for at in 0..count {
+            let Some((element, behind)) = first_of(rest) else {
+                return Err(self.fault(ValueFault::Form));
+            };
+            if json {
+                self.put_object_json(at == 0, element)?;
+            } else {
+                self.put_object(element)?;
+            }
+            rest = behind;
+        }
+        Ok(())
+    }
+
+    /// Prints an object list, a line an element or as an array of JSON.
+    pub fn put_objects(&mut self, list: &[u8], json: bool) -> Result<(), Fault<'a>> {
+        let (Front::Array(count), rest) = front_of(list) else {
+            return Err(self.fault(ValueFault::Form));
+        };
+        if json {
+            self.text.extend_from_slice(b"[")?;
+        }
+        self.put_elements(count, rest, json)?;
+        if json {
+            self.text.extend_from_slice(b"]\n")?;
+        }
+        self.flush()
+    }
+}
+
+/// The lines of an array or a structure of so many values, with room for so many levels; and what follows it.
+#[cycle(lines)]
+fn tell_items<'a, 'b, W: Write>(
+    teller: &mut Teller<'a, '_, W>,
+    room: u8,
+    kind: &[u8],
+    count: u32,
+    bytes: &'b [u8],
+) -> Result<&'b [u8], Fault<'a>> {
+    if room == 0 {
+        return Err(teller.fault(ValueFault::Form));
+    }
+    append_head(
+        &mut teller.text,
+        MOST_LEVELS.saturating_sub(room),
+        kind,
+        count,
+    )?;
+    let mut rest = bytes;
+    for _ in 0..count {
+        rest = tell_tree(teller, room - 1, rest)?;
+    }
+    Ok(rest)
+}
+
+/// The lines of the value at the front, with room for so many levels; and what follows it.
+#[cycle(lines)]
+fn tell_tree<'a, 'b, W: Write>(
+    teller: &mut Teller<'a, '_, W>,
+    room: u8,
+    bytes: &'b [u8],
+) -> Result<&'b [u8], Fault<'a>> {
+    match front_of(bytes) {
+        (Front::Array(count), rest) => tell_items(teller, room, b"array of ", count, rest),
+        (Front::Structure(count), rest) => tell_items(teller, room, b"structure of ", count, rest),
+        (Front::Plain, rest) => teller.tell_leaf(MOST_LEVELS.saturating_sub(room), rest),
+    }
 }

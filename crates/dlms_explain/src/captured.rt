@@ -46,33 +46,36 @@ fn connection_of<A: Allocator + Copy>(
     }
 }
 
-/// The connection that was silent longest is let go: what is told of octets of it that are no frame.
+/// The connection that was silent longest is let go: what is told of what waits in it; how many segments are of other traffic.
 fn end_oldest<A: Allocator + Copy>(
     connections: &mut Vec<Box<Connection<A>, A>, A>,
     text: &mut Text<A>,
-)
+) -> u64
     requires { 0 < length connections.old.items }
 {
     let mut oldest = connections.remove(0);
-    oldest.end(text);
+    let others = oldest.end(text);
     drop(oldest);
+    others
 }
 
-/// Keeps a connection behind the others.
+/// Keeps a connection behind the others; of how many segments it is known then that they are of other traffic.
 fn keep<A: Allocator + Copy>(
     connections: &mut Vec<Box<Connection<A>, A>, A>,
     connection: Box<Connection<A>, A>,
     text: &mut Text<A>,
-) {
+) -> u64 {
     if connections.push(connection).is_err() {
         text.refuse();
     }
     if connections.len() > MOST_CONNECTIONS {
-        end_oldest(connections, text);
+        end_oldest(connections, text)
+    } else {
+        0
     }
 }
 
-/// What is told of a segment, and whether it is of other traffic.
+/// What is told of a segment, and how many are of other traffic.
 fn explain_segment<A: Allocator + Copy>(
     alloc: A,
     form: Form,
@@ -80,27 +83,27 @@ fn explain_segment<A: Allocator + Copy>(
     stamp: Option<Stamp>,
     segment: Segment<'_>,
     text: &mut Text<A>,
-) -> bool {
+) -> u64 {
     let Ok(mut connection) = connection_of(alloc, form, connections, segment) else {
         text.refuse();
-        return false;
+        return 0;
     };
-    let is_other = connection.explain(stamp, segment, text);
-    keep(connections, connection, text);
-    is_other
+    let others = connection.explain(stamp, segment, text);
+    let let_go = keep(connections, connection, text);
+    others.saturating_add(let_go)
 }
 
-/// What is told of a packet, and whether it is of other traffic.
+/// What is told of a packet, and how many are of other traffic.
 fn explain_packet<A: Allocator + Copy>(
     alloc: A,
     form: Form,
     connections: &mut Vec<Box<Connection<A>, A>, A>,
     packet: Packet<'_>,
     text: &mut Text<A>,
-) -> bool {
+) -> u64 {
     match segment_of(packet) {
         Some(segment) => { explain_segment(alloc, form, connections, packet.stamp, segment, text) }
-        None => true,
+        None => 1,
     }
 }
 
@@ -135,9 +138,8 @@ impl<A: Allocator + Copy> Captured<A> {
             match self.file.next() {
                 Ok(Next::Packet(packet)) => {
                     let connections = &mut self.connections;
-                    if explain_packet(self.alloc, self.form, connections, packet, text) {
-                        self.others = self.others.saturating_add(1);
-                    }
+                    let others = explain_packet(self.alloc, self.form, connections, packet, text);
+                    self.others = self.others.saturating_add(others);
                 }
                 Ok(Next::More) => return,
                 Ok(Next::Broken) => {
@@ -167,12 +169,13 @@ impl<A: Allocator + Copy> Captured<A> {
 
     /// The capture is at its end: what is told of octets that are no frame, and of other traffic.
     pub fn end(&mut self, text: &mut Text<A>) {
+        let mut others = self.others;
         for connection in self.connections.iter_mut() {
-            connection.end(text);
+            others = others.saturating_add(connection.end(text));
         }
         if !self.is_broken && !self.file.is_whole() {
             write_note(text, self.form.json, CUT);
         }
-        write_others(text, self.form.json, self.others);
+        write_others(text, self.form.json, others);
     }
 }

@@ -1,7 +1,7 @@
 //! A connection of a capture: which end is the meter's, the octets of both directions in their order, and what they carry.
 
 use crate::explainer::Explainer;
-use crate::place_text::{write_missing, write_segment};
+use crate::place_text::{write_late, write_missing, write_segment};
 use crate::session::Form;
 use crate::words::Text;
 use crate::wrapper::Wrapped;
@@ -15,7 +15,8 @@ const PORT: u16 = 4059;
 /// The flag of a frame.
 const FLAG: u8 = 0x7e;
 
-/// What a connection carries, told by its first octets: frames of HDLC, or APDUs in the wrapper.
+/// What a connection carries, told by the first octets of a segment: frames of HDLC, or APDUs in the wrapper. While nothing tells it,
+/// octets to or from the port of DLMS/COSEM are looked at as frames.
 #[derive(Clone, Copy)]
 enum Carries {
     Nothing,
@@ -23,6 +24,9 @@ enum Carries {
     Wrapped,
     Other,
 }
+
+/// How many segments of a direction may wait at most, and one more.
+const MOST_WAITING: u32 = 65;
 
 /// A connection, of which some segments have come.
 #[derive(Drop)]
@@ -38,6 +42,8 @@ pub struct Connection<A: Allocator> {
     wrapped: Wrapped<A>,
     /// The octets that are next, and not told yet.
     fresh: Vec<u8, A>,
+    /// How many segments were of other traffic, and are not counted yet.
+    others: u64,
 }
 
 /// Whether the end that a segment comes from is the meter's: its port is that of DLMS/COSEM, or the segment answers the one that
@@ -63,7 +69,7 @@ fn carried(ends: Ends, octets: &[u8]) -> Carries {
     match octets {
         [FLAG, ..] => Carries::Frames,
         [0, 1, ..] => Carries::Wrapped,
-        _ if ends.to.port == PORT => Carries::Frames,
+        _ if ends.to.port == PORT => Carries::Nothing,
         _ => Carries::Other,
     }
 }
@@ -87,6 +93,7 @@ impl<A: Allocator + Copy> Connection<A> {
             frames: Explainer::new(alloc, form),
             wrapped: Wrapped::new(alloc, form),
             fresh: Vec::new(alloc),
+            others: 0,
         }
     }
 
@@ -95,42 +102,60 @@ impl<A: Allocator + Copy> Connection<A> {
         self.ends == ends || (self.ends.from == ends.to && self.ends.to == ends.from)
     }
 
-    /// Takes a segment into the order of its direction, and says how many octets are missing before those that are next.
-    fn take(&mut self, side: Side, segment: Segment<'_>) -> Result<u64, AllocError> {
-        let Transport::Tcp {
-            sequence,
-            opens,
-            ..
-        } = segment.transport
-        else {
-            self.fresh.extend_from_slice(segment.octets)?;
-            return Ok(0);
-        };
-        let fresh = &mut self.fresh;
-        match (side, opens) {
-            (Side::Client, true) => {
-                self.up.open(sequence);
-                Ok(0)
-            }
-            (Side::Meter, true) => {
-                self.down.open(sequence);
-                Ok(0)
-            }
-            (Side::Client, false) => self.up.take(self.alloc, sequence, segment.octets, fresh),
-            (Side::Meter, false) => self.down.take(self.alloc, sequence, segment.octets, fresh),
+    /// The order of one direction.
+    fn order(&self, side: Side) -> &Order<A> {
+        match side {
+            Side::Client => &self.up,
+            Side::Meter => &self.down,
         }
     }
 
-    /// What is told of the octets that are next.
-    fn tell(&mut self, side: Side, text: &mut Text<A>) {
-        match self.carries {
-            Carries::Frames => {
-                self.frames.take(Some(side), self.fresh.as_slice(), text);
-            }
-            Carries::Wrapped => self.wrapped.octets(side, self.fresh.as_slice(), text),
-            Carries::Nothing | Carries::Other => {}
+    /// Takes a segment into the order of its direction.
+    fn take(
+        &mut self,
+        side: Side,
+        stamp: Option<Stamp>,
+        sequence: u32,
+        octets: &[u8],
+    ) -> Result<(), AllocError> {
+        let fresh = &mut self.fresh;
+        match side {
+            Side::Client => self.up.take(self.alloc, stamp, sequence, octets, fresh),
+            Side::Meter => self.down.take(self.alloc, stamp, sequence, octets, fresh),
         }
-        self.fresh.clear();
+    }
+
+    /// The octets of a segment of one direction that waited and does so no more, and when it came.
+    fn give_due(&mut self, side: Side) -> Result<Option<Option<Stamp>>, AllocError> {
+        match side {
+            Side::Client => self.up.give_due(&mut self.fresh),
+            Side::Meter => self.down.give_due(&mut self.fresh),
+        }
+    }
+
+    /// One direction goes on at the first segment that waits; how many octets are missing before it.
+    fn resume(&mut self, side: Side) -> u64 {
+        match side {
+            Side::Client => self.up.resume(),
+            Side::Meter => self.down.resume(),
+        }
+    }
+
+    /// From where to where the segments of one direction go.
+    fn ends_of(&self, side: Side) -> Ends {
+        let Ends { from, to } = self.ends;
+        match side {
+            Side::Client => self.ends,
+            Side::Meter => Ends { from: to, to: from },
+        }
+    }
+
+    /// Whether the connection carries what is told, by the octets that are next too.
+    fn is_told(&mut self) -> bool {
+        if matches!(self.carries, Carries::Nothing) {
+            self.carries = carried(self.ends, self.fresh.as_slice());
+        }
+        !matches!(self.carries, Carries::Other)
     }
 
     /// When octets came, and between which ends.
@@ -146,65 +171,200 @@ impl<A: Allocator + Copy> Connection<A> {
         }
     }
 
-    /// What is told of a segment that came at this time; whether it is of other traffic.
+    /// What the octets that are next say.
+    fn tell(&mut self, side: Side, text: &mut Text<A>) {
+        match self.carries {
+            Carries::Frames | Carries::Nothing => {
+                self.frames.take(Some(side), self.fresh.as_slice(), text);
+            }
+            Carries::Wrapped => self.wrapped.octets(side, self.fresh.as_slice(), text),
+            Carries::Other => {}
+        }
+    }
+
+    /// What is told of the octets that are next, which came at this time, and of so many that are missing before them.
+    fn tell_fresh(&mut self, side: Side, missing: u64, stamp: Option<Stamp>, text: &mut Text<A>) {
+        if self.fresh.is_empty() {
+            return;
+        }
+        if self.is_told() {
+            let ends = self.ends_of(side);
+            write_missing(text, self.form.json, missing);
+            self.tell_stamp(stamp, ends, text);
+            self.tell(side, text);
+        } else {
+            self.others = self.others.saturating_add(1);
+        }
+        self.fresh.clear();
+    }
+
+    /// What is told of the segments that waited and are due now that a segment has come.
+    fn tell_due(&mut self, side: Side, text: &mut Text<A>) {
+        for _ in 0..MOST_WAITING {
+            match self.give_due(side) {
+                Ok(Some(_)) => {
+                    self.tell(side, text);
+                    self.fresh.clear();
+                }
+                Ok(None) => return,
+                Err(_) => {
+                    text.refuse();
+                    return;
+                }
+            }
+        }
+    }
+
+    /// What is told of the segments that waited and are due, each with its own time, and of so many octets that are missing before them.
+    fn tell_waited(&mut self, side: Side, missing: u64, text: &mut Text<A>) {
+        let mut missing = missing;
+        for _ in 0..MOST_WAITING {
+            match self.give_due(side) {
+                Ok(Some(stamp)) => {
+                    self.tell_fresh(side, missing, stamp, text);
+                    missing = 0;
+                }
+                Ok(None) => return,
+                Err(_) => {
+                    text.refuse();
+                    return;
+                }
+            }
+        }
+    }
+
+    /// One direction goes on without the octets in front of the first segment that waits: what is told of those that are due then.
+    fn tell_resumed(&mut self, side: Side, text: &mut Text<A>) {
+        let missing = self.resume(side);
+        self.tell_waited(side, missing, text);
+    }
+
+    /// What is told of the segments of one direction that wait and that the other end has taken, which awaits the octet of this number.
+    fn tell_awaited(&mut self, side: Side, number: u32, text: &mut Text<A>) {
+        for _ in 0..MOST_WAITING {
+            if !self.order(side).is_acknowledged(number) {
+                return;
+            }
+            self.tell_resumed(side, text);
+        }
+    }
+
+    /// What is told of all segments of one direction that wait.
+    fn tell_rest(&mut self, side: Side, text: &mut Text<A>) {
+        for _ in 0..MOST_WAITING {
+            if !self.order(side).is_waiting() {
+                return;
+            }
+            self.tell_resumed(side, text);
+        }
+    }
+
+    /// A segment opens a direction. Where it was open already, what waits is told before.
+    fn open(&mut self, side: Side, sequence: u32, text: &mut Text<A>) {
+        if self.order(side).is_repeated(sequence) {
+            return;
+        }
+        if self.order(side).is_open() {
+            self.tell_rest(side, text);
+        }
+        match side {
+            Side::Client => self.up.open(sequence),
+            Side::Meter => self.down.open(sequence),
+        }
+        self.tell_waited(side, 0, text);
+    }
+
+    /// What is told of a segment of one direction.
+    fn tell_segment(
+        &mut self,
+        side: Side,
+        stamp: Option<Stamp>,
+        sequence: u32,
+        octets: &[u8],
+        text: &mut Text<A>,
+    ) {
+        let late = self.order(side).late(sequence, octets.len());
+        if !matches!(self.carries, Carries::Other) {
+            write_late(text, self.form.json, late);
+        }
+        if self.take(side, stamp, sequence, octets).is_err() {
+            text.refuse();
+            return;
+        }
+        self.tell_fresh(side, 0, stamp, text);
+        self.tell_due(side, text);
+        if self.order(side).is_full() {
+            self.tell_resumed(side, text);
+        }
+    }
+
+    /// What is told of the octets of a datagram.
+    fn tell_datagram(
+        &mut self,
+        side: Side,
+        stamp: Option<Stamp>,
+        octets: &[u8],
+        text: &mut Text<A>,
+    ) {
+        if self.fresh.extend_from_slice(octets).is_err() {
+            text.refuse();
+            return;
+        }
+        self.tell_fresh(side, 0, stamp, text);
+    }
+
+    /// How many segments were of other traffic since this was asked last.
+    fn count_others(&mut self) -> u64 {
+        let others = self.others;
+        self.others = 0;
+        others
+    }
+
+    /// What is told of a segment that came at this time, and of those that waited for it; how many of these are of other traffic.
     pub fn explain(
         &mut self,
         stamp: Option<Stamp>,
         segment: Segment<'_>,
         text: &mut Text<A>,
-    ) -> bool {
-        let side = if self.ends == segment.ends {
-            Side::Client
+    ) -> u64 {
+        let (side, other) = if self.ends == segment.ends {
+            (Side::Client, Side::Meter)
         } else {
-            Side::Meter
+            (Side::Meter, Side::Client)
         };
-        let Ok(missing) = self.take(side, segment) else {
-            text.refuse();
-            return false;
-        };
-        if self.fresh.is_empty() {
-            return matches!(self.carries, Carries::Other);
+        let octets = segment.octets;
+        if octets.is_empty() && matches!(self.carries, Carries::Other) {
+            self.others = self.others.saturating_add(1);
         }
-        if matches!(self.carries, Carries::Nothing) {
-            self.carries = carried(self.ends, self.fresh.as_slice());
-        }
-        if matches!(self.carries, Carries::Other) {
-            self.fresh.clear();
-            return true;
-        }
-        self.tell_stamp(stamp, segment.ends, text);
-        write_missing(text, self.form.json, missing);
-        self.tell(side, text);
-        false
-    }
-
-    /// What is told of one direction's octets behind some that are missing at the end of a capture.
-    fn tell_rest(&mut self, side: Side, text: &mut Text<A>) {
-        for _ in 0..u64::MAX {
-            let rest = match side {
-                Side::Client => self.up.rest(&mut self.fresh),
-                Side::Meter => self.down.rest(&mut self.fresh),
-            };
-            let Ok(missing) = rest else {
-                text.refuse();
-                return;
-            };
-            if missing == 0 {
-                return;
+        match segment.transport {
+            Transport::Udp => self.tell_datagram(side, stamp, octets, text),
+            Transport::Tcp {
+                sequence,
+                awaited,
+                opens,
+                answers,
+            } => {
+                if answers {
+                    self.tell_awaited(other, awaited, text);
+                }
+                if opens {
+                    self.open(side, sequence, text);
+                } else {
+                    self.tell_segment(side, stamp, sequence, octets, text);
+                }
             }
-            write_missing(text, self.form.json, missing);
-            self.tell(side, text);
         }
+        self.count_others()
     }
 
-    /// No more segments come: what is told of octets that are no frame.
-    pub fn end(&mut self, text: &mut Text<A>) {
-        if matches!(self.carries, Carries::Nothing | Carries::Other) {
-            return;
-        }
+    /// No more segments come: what is told of those that wait and of octets that are no frame; how many segments are of other traffic.
+    pub fn end(&mut self, text: &mut Text<A>) -> u64 {
         self.tell_rest(Side::Client, text);
         self.tell_rest(Side::Meter, text);
-        self.frames.close(text);
-        self.wrapped.end(text);
+        if !matches!(self.carries, Carries::Other) {
+            self.frames.close(text);
+            self.wrapped.end(text);
+        }
+        self.count_others()
     }
 }

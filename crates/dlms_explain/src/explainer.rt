@@ -5,9 +5,13 @@ ghost use Rattle.std.specs.Prelude.{◌≡◌, ◌≤◌, length, nat_le};
 ghost use Rattle.dlms_explain.specs.Beside.{beside};
 
 use crate::association_text;
+use crate::digits::next_pair;
+use crate::dump::{DumpLine, Offset, dump_line};
+use crate::echo_text::{Written, write_echo};
 use crate::foreign_text::write_foreign;
 use crate::frame_text::{write_came, write_frame, write_information, write_no_llc, write_stray};
-use crate::json::write_note;
+use crate::json::{begin_note, end_note, write_note};
+use crate::logged::logged_of;
 use crate::service_text::{write_fault, write_joined, write_said, write_whole};
 use crate::session::Form;
 use crate::short::{Beside, View, write_view};
@@ -16,9 +20,8 @@ use arrayvec::ArrayVec;
 use dlms_apdu::{Request, Response};
 use dlms_dissect::{
     Apdu, Came, Control, Fault, Found, Joined, Line, Numbers, Services, Side, Stretch, Talk, Talks,
-    acse_of, behind_llc, first_pair, first_piece, has_poll, heading_of, is_counted, left_of_acse,
-    line_of, misfit, parameters_of, parties_of, read, read_apdu, read_foreign, side_of,
-    without_secret,
+    acse_of, behind_llc, first_piece, has_poll, heading_of, is_counted, left_of_acse, line_of,
+    misfit, parameters_of, parties_of, read, read_apdu, read_foreign, side_of, without_secret,
 };
 use dlms_frame::Frame;
 use dlms_names::apdu_name;
@@ -36,6 +39,8 @@ pub struct Explainer<A: Allocator = Global> {
     bare: Stretch<A>,
     talks: Talks<A>,
     view: View<A>,
+    /// How far a dump has come whose lines stand here.
+    dump: Option<Offset>,
 }
 
 /// The most bytes of a line that are looked at at once.
@@ -499,9 +504,25 @@ fn explain_bytes<A: Allocator + Copy>(
 /// What is told in place of octets that are no text.
 const NO_TEXT: &str = "(a line that is no text)";
 
-/// A line that holds no bytes of a frame, as it is.
-fn pass<A: Allocator>(text: &mut Text<A>, is_json: bool, bytes: &[u8]) {
-    write_note(text, is_json, str::from_utf8(bytes).unwrap_or(NO_TEXT));
+/// What is told in place of lines that a dump leaves out.
+const LEFT_OUT: &str = "(lines that the dump leaves out)";
+
+/// What is told of a line whose mark no octets follow.
+const NO_PAIRS: &str = "(no pairs of hexadecimal digits)";
+
+/// A line that holds no bytes of a frame, without the octets that may stand in it.
+fn pass<A: Allocator>(text: &mut Text<A>, form: Form, bytes: &[u8]) {
+    let written = Written {
+        raw: form.raw,
+        json: form.json,
+    };
+    let line = match bytes.strip_suffix(b"\r".as_slice()) {
+        Some(line) if !form.raw => line,
+        _ => bytes,
+    };
+    begin_note(text, form.json);
+    write_echo(text, written, str::from_utf8(line).unwrap_or(NO_TEXT));
+    end_note(text, form.json);
 }
 
 impl<A: Allocator + Copy> Explainer<A> {
@@ -517,6 +538,7 @@ impl<A: Allocator + Copy> Explainer<A> {
             bare: Stretch::new(alloc),
             talks: Talks::new(alloc, form.raw),
             view: View::new(alloc, form),
+            dump: None,
         }
     }
 
@@ -545,11 +567,29 @@ impl<A: Allocator + Copy> Explainer<A> {
         }
     }
 
+    /// A log's own words stand before octets, as their time.
+    fn stamp_of_log(&mut self, bytes: &[u8], text: &mut Text<A>) {
+        let written = Written {
+            raw: self.view.form.raw,
+            json: false,
+        };
+        let words = str::from_utf8(bytes.trim_ascii()).unwrap_or(NO_TEXT);
+        let mut told = Text::new(String::new(self.alloc));
+        write_echo(&mut told, written, words);
+        if told.granted().is_err() {
+            text.refuse();
+        }
+        self.stamp(told.as_str(), text);
+    }
+
     /// The bytes of a line's pairs.
     fn pairs(&mut self, said: Option<Side>, digits: &[u8], text: &mut Text<A>) {
         let mut bytes: ArrayVec<u8, MOST_PIECE> = ArrayVec::new();
         let mut rest = digits;
-        'pairs: while let Some((byte, behind)) = first_pair(rest) {
+        for _ in 0..digits.len() {
+            let Some((byte, behind)) = next_pair(rest) else {
+                break;
+            };
             if bytes.is_full() {
                 self.take(said, bytes.as_slice(), text);
                 bytes.clear();
@@ -568,30 +608,67 @@ impl<A: Allocator + Copy> Explainer<A> {
         self.client.reset();
     }
 
+    /// What is told of a line of a dump.
+    fn tell_dumped(&mut self, dumped: DumpLine<'_>, text: &mut Text<A>) {
+        match dumped {
+            DumpLine::Octets(words, offset, digits) => {
+                if self.dump.is_none() {
+                    self.stamp_of_log(words, text);
+                }
+                self.dump = Some(offset);
+                self.pairs(None, digits, text);
+            }
+            DumpLine::LeftOut => write_note(text, self.view.form.json, LEFT_OUT),
+            DumpLine::End => self.dump = None,
+        }
+    }
+
+    /// What is told of a line of another program's log, or of one that has no octets.
+    fn tell_logged(&mut self, line: &[u8], text: &mut Text<A>) -> bool {
+        let Some(logged) = logged_of(line) else {
+            return false;
+        };
+        self.stamp_of_log(logged.words, text);
+        self.pairs(logged.side, logged.run, text);
+        true
+    }
+
     /// What is told of a line.
     pub(crate) fn tell(&mut self, line: &[u8], text: &mut Text<A>) {
-        let is_json = self.view.form.json;
+        if let Some(dumped) = dump_line(self.dump, line) {
+            self.tell_dumped(dumped, text);
+            return;
+        }
+        self.dump = None;
+        let form = self.view.form;
         match line_of(line) {
             Line::Pairs(said, digits) => {
                 self.view.stamp.clear();
                 self.pairs(said, digits, text);
             }
-            Line::NoPairs => pass(text, is_json, b"(no pairs of hexadecimal digits)"),
             Line::Logged(words, side, digits) => {
-                let words = str::from_utf8(words.trim_ascii()).unwrap_or(NO_TEXT);
-                self.stamp(words, text);
+                self.stamp_of_log(words, text);
                 self.pairs(Some(side), digits, text);
             }
             Line::Silence => {
                 self.end_client(text);
-                pass(text, is_json, line);
+                pass(text, form, line);
             }
             Line::Stop => {
                 self.end_client(text);
                 self.talks.reset();
-                pass(text, is_json, line);
+                pass(text, form, line);
             }
-            Line::Other => pass(text, is_json, line),
+            Line::NoPairs => {
+                if !self.tell_logged(line, text) {
+                    write_note(text, form.json, NO_PAIRS);
+                }
+            }
+            Line::Other => {
+                if !self.tell_logged(line, text) {
+                    pass(text, form, line);
+                }
+            }
         }
     }
 

@@ -1,5 +1,6 @@
 //! A frame as an object of JSON, in a line: made of what is told of it in full.
 
+use crate::echo_text::is_steering;
 use crate::short::{View, has_service, service};
 use crate::words::{Text, number, octet, octets};
 use dlms_dissect::{Heading, Side, lower, name_of, read, upper};
@@ -11,20 +12,26 @@ fn write_letter<A: Allocator>(text: &mut Text<A>, letter: char) {
     match letter {
         '"' => text.push("\\\""),
         '\\' => text.push("\\\\"),
-        control if control < ' ' => {
-            text.push("\\u00");
-            octet(text, (u32::from(control) % 256) as u8);
+        steering if steering < ' ' || is_steering(steering) => {
+            text.push("\\u");
+            octet(text, (u32::from(steering) / 256 % 256) as u8);
+            octet(text, (u32::from(steering) % 256) as u8);
         }
         other => text.letter(other),
+    }
+}
+
+/// Words within a string of JSON.
+pub fn write_quoted<A: Allocator>(text: &mut Text<A>, words: &str) {
+    for letter in words.chars() {
+        write_letter(text, letter);
     }
 }
 
 /// Words as a string of JSON.
 fn quoted<A: Allocator>(text: &mut Text<A>, words: &str) {
     text.push("\"");
-    for letter in words.chars() {
-        write_letter(text, letter);
-    }
+    write_quoted(text, words);
     text.push("\"");
 }
 

@@ -129,14 +129,34 @@ pub fn write_segment<A: Allocator>(
     write_place(text, ends.to);
 }
 
-/// The line of octets that a capture does not have, where there are some.
-pub fn write_missing<A: Allocator>(text: &mut Text<A>, is_json: bool, count: u64) {
+/// A line of words and a number, where that is not 0.
+fn write_counted<A: Allocator>(text: &mut Text<A>, is_json: bool, words: &str, count: u64) {
     if count == 0 {
         return;
     }
     begin_note(text, is_json);
-    text.push("(octets that the capture does not have: ");
+    text.push(words);
     number(text, count);
     text.push(")");
     end_note(text, is_json);
+}
+
+/// The line of octets that a capture does not have, where there are some.
+pub fn write_missing<A: Allocator>(text: &mut Text<A>, is_json: bool, count: u64) {
+    write_counted(
+        text,
+        is_json,
+        "(octets that the capture does not have: ",
+        count,
+    );
+}
+
+/// The line of octets that come before the first ones of their direction and after these, where there are some.
+pub fn write_late<A: Allocator>(text: &mut Text<A>, is_json: bool, count: u64) {
+    write_counted(
+        text,
+        is_json,
+        "(octets before the first ones, which come after them: ",
+        count,
+    );
 }

@@ -168,6 +168,9 @@ impl<A: Allocator + Copy> Asked<A> {
             return;
         }
         let told = self.tell_all(side, kept.as_slice(), text).min(kept.len());
+        if told == 0 {
+            return;
+        }
         let left = kept.len() - told;
         kept.copy_within(told.., 0);
         kept.truncate(left);

@@ -13,16 +13,17 @@ use Rattle.dlms_meter.specs.Steps.{IsCall}
 use Rattle.dlms_meter.specs.Steps.Call.{Fed}
 use Rattle.dlms_meter.specs.declared.meter.Meter.{Meter}
 use Rattle.dlms_pages.specs.declared.device.Pages.{Ghosts}
-use Rattle.dlms_field.specs.Connection.{At, AnswersEach, Behind, ToRead, Checks, ChecksOnce, Connection, Unbegun, Begun, Counts, Doing, Reads, Answers, Doings, Nothing, Then, Ends, IsOver, LookEnds, ReadEnds, ReplyEnds, Tires, Gives, GivesFrame, Goes, GoesToEnd, IsOfRead, LooksOnce, ReadsPiece, Replied, begins, goes_out}
+use Rattle.dlms_field.specs.Connection.{At, AnswersEach, Behind, ToRead, Checks, ChecksOnce, Connection, Unbegun, Begun, Counts, Doing, Reads, Answers, Doings, Nothing, Then, Ends, IsOver, LookEnds, ReadEnds, ReplyEnds, Tires, Gives, GivesFrame, Goes, GoesToEnd, IsOfRead, LooksOnce, ReadsPiece, Replied, begins, broken, goes_out}
 use Rattle.dlms_field.specs.Turns.{Tells}
 use Rattle.dlms_field.specs.Watching.{Sight, Sees, has_any}
 use Rattle.dlms_field.specs.Watching.Sight.{Second}
 use Rattle.dlms_field.specs.declared.talking.Ending.{Ending}
-use Rattle.dlms_field.specs.declared.talking.Ending.TheVariants.{Over, Failed}
+use Rattle.dlms_field.specs.declared.talking.Ending.TheVariants.{Over}
 use Rattle.dlms_field.specs.declared.talking.Rules.{Rules}
 use Rattle.dlms_field.specs.declared.talking.Stay.{Stay}
 use Rattle.dlms_field.specs.declared.ticks.Ticks.{Ticks}
 use Rattle.dlms_field.specs.declared.turns.Over.{Over as Why}
+use Rattle.dlms_field.specs.declared.turns.Tries.{Tries}
 use Rattle.dlms_field.proofs.TalkLemmas.{sees_nothing, sees_more}
 
 pub some_left : (rest : List ℕ) (r : Bool) → r ≡ (length rest == 0) → r ≡ false → 0 < length rest
@@ -75,12 +76,12 @@ module _ {P A : Type 0} {ghosts : Ghosts P} where
     adds : Adds q r (goes_out reply)
     same : is_answered ≡ has_any reply
 
-  gives_of : (meter meter' : Meter P A ghosts) (ticks : Ticks) (bytes : List ℕ) (stay : Stay) (reads count refusals : ℕ) (reply : Option (List ℕ)) → 0 < length bytes → (0 < length bytes → 0 < count) → count ≤ length bytes
-      → IsCall meter (Fed (take count bytes) reply) meter' → Counts reply stay.turn.refusals refusals → Gives (at meter ticks bytes stay reads) reply (at meter' ticks (drop count bytes) (record stay { turn = record stay.turn { refusals = refusals } }) reads)
-  gives_of meter meter' ticks bytes stay reads count refusals reply some gave within call counts = record {
+  gives_of : (meter meter' : Meter P A ghosts) (ticks : Ticks) (bytes : List ℕ) (stay : Stay) (reads count : ℕ) (tries : Tries) (reply : Option (List ℕ)) → 0 < length bytes → (0 < length bytes → 0 < count) → count ≤ length bytes
+      → IsCall meter (Fed (take count bytes) reply) meter' → Counts reply stay.turn.tries tries → Gives (at meter ticks bytes stay reads) reply (at meter' ticks (drop count bytes) (record stay { turn = record stay.turn { tries = tries } }) reads)
+  gives_of meter meter' ticks bytes stay reads count tries reply some gave within call counts = record {
     taken = take count bytes;
     behind = drop count bytes;
-    refusals = refusals;
+    tries = tries;
     cut = sym (take-append-drop count bytes);
     some = omega (arith, gave some, length-take-le count bytes within);
     call = call;
@@ -88,19 +89,19 @@ module _ {P A : Type 0} {ghosts : Ghosts P} where
     same = refl;
   }
 
-  given_by : {E : Type 0} (q r : Option (List Moment)) (meter meter' : Meter P A ghosts) (ticks : Ticks) (bytes rest : List ℕ) (stay : Stay) (reads refusals : ℕ) (taken : Taken) → 0 < length bytes → rest ≡ drop taken.count bytes
-      → GivesFrame {E = E} q r meter bytes stay.turn.refusals refusals (Ok taken) meter'
-      → Given q r (at meter ticks bytes stay reads) (at meter' ticks rest (record stay { turn = record stay.turn { refusals = refusals } }) reads) taken.is_answered
-  given_by {E} q r meter meter' ticks bytes rest stay reads refusals taken some left is =
+  given_by : {E : Type 0} (q r : Option (List Moment)) (meter meter' : Meter P A ghosts) (ticks : Ticks) (bytes rest : List ℕ) (stay : Stay) (reads : ℕ) (tries : Tries) (taken : Taken) → 0 < length bytes → rest ≡ drop taken.count bytes
+      → GivesFrame {E = E} q r meter bytes stay.turn.tries tries (Ok taken) meter'
+      → Given q r (at meter ticks bytes stay reads) (at meter' ticks rest (record stay { turn = record stay.turn { tries = tries } }) reads) taken.is_answered
+  given_by {E} q r meter meter' ticks bytes rest stay reads tries taken some left is =
       by_reply is.reply is.call is.counts is.replies where
-        by_reply : (reply : Option (List ℕ)) → IsCall meter (Fed (take is.count bytes) reply) meter' → Counts reply stay.turn.refusals refusals → Replied {E = E} q r is.count reply (Ok taken)
-            → Given q r (at meter ticks bytes stay reads) (at meter' ticks rest (record stay { turn = record stay.turn { refusals = refusals } }) reads) taken.is_answered
+        by_reply : (reply : Option (List ℕ)) → IsCall meter (Fed (take is.count bytes) reply) meter' → Counts reply stay.turn.tries tries → Replied {E = E} q r is.count reply (Ok taken)
+            → Given q r (at meter ticks bytes stay reads) (at meter' ticks rest (record stay { turn = record stay.turn { tries = tries } }) reads) taken.is_answered
         by_reply None call counts (same, adds) =
             let same_rest : rest ≡ drop is.count bytes = left ∙ ap (λ (t : Taken). drop t.count bytes) same in
             record {
               reply = None;
-              gives = subst (λ (l : List ℕ). Gives (at meter ticks bytes stay reads) None (at meter' ticks l (record stay { turn = record stay.turn { refusals = refusals } }) reads)) (sym same_rest)
-                  (gives_of meter meter' ticks bytes stay reads is.count refusals None some is.some is.within call counts);
+              gives = subst (λ (l : List ℕ). Gives (at meter ticks bytes stay reads) None (at meter' ticks l (record stay { turn = record stay.turn { tries = tries } }) reads)) (sym same_rest)
+                  (gives_of meter meter' ticks bytes stay reads is.count tries None some is.some is.within call counts);
               adds = adds;
               same = ap (λ (t : Taken). t.is_answered) same;
             }
@@ -108,30 +109,30 @@ module _ {P A : Type 0} {ghosts : Ghosts P} where
             let same_rest : rest ≡ drop is.count bytes = left ∙ ap (λ (t : Taken). drop t.count bytes) same in
             record {
               reply = Some reply;
-              gives = subst (λ (l : List ℕ). Gives (at meter ticks bytes stay reads) (Some reply) (at meter' ticks l (record stay { turn = record stay.turn { refusals = refusals } }) reads)) (sym same_rest)
-                  (gives_of meter meter' ticks bytes stay reads is.count refusals (Some reply) some is.some is.within call counts);
+              gives = subst (λ (l : List ℕ). Gives (at meter ticks bytes stay reads) (Some reply) (at meter' ticks l (record stay { turn = record stay.turn { tries = tries } }) reads)) (sym same_rest)
+                  (gives_of meter meter' ticks bytes stay reads is.count tries (Some reply) some is.some is.within call counts);
               adds = adds;
               same = ap (λ (t : Taken). t.is_answered) same;
             }
 
   -- the bytes are answered, and the turn is not over
   pub goes_answering : {E : Type 0} (rules : Rules) (p q r : Option (List Moment)) (v w x : Option (List Sight)) (s : At P A ghosts) (meter given meter' : Meter P A ghosts) (ticks ticks' : Ticks) (bytes rest : List ℕ) (stay stay' : Stay)
-      (reads refusals : ℕ) (taken : Taken) (found : Option Why) → 0 < length bytes → rest ≡ drop taken.count bytes → Goes rules p q v w s (at meter ticks bytes stay reads)
-      → GivesFrame {E = E} q r meter bytes stay.turn.refusals refusals (Ok taken) given → found ≡ None
-      → ChecksOnce rules w x (at given ticks rest (record stay { turn = record stay.turn { refusals = refusals } }) reads) taken.is_answered (Ok found) (at meter' ticks' rest stay' reads)
+      (reads : ℕ) (tries : Tries) (taken : Taken) (found : Option Why) → 0 < length bytes → rest ≡ drop taken.count bytes → Goes rules p q v w s (at meter ticks bytes stay reads)
+      → GivesFrame {E = E} q r meter bytes stay.turn.tries tries (Ok taken) given → found ≡ None
+      → ChecksOnce rules w x (at given ticks rest (record stay { turn = record stay.turn { tries = tries } }) reads) taken.is_answered (Ok found) (at meter' ticks' rest stay' reads)
       → Goes rules p r v x s (at meter' ticks' rest stay' reads)
-  goes_answering {E} rules p q r v w x s meter given meter' ticks ticks' bytes rest stay stay' reads refusals taken found some left goes is none (now, sights, sees, checks, tells) =
-      let g = given_by {E = E} q r meter given ticks bytes rest stay reads refusals taken some left is in
-      let mid = at given ticks rest (record stay { turn = record stay.turn { refusals = refusals } }) reads in
+  goes_answering {E} rules p q r v w x s meter given meter' ticks ticks' bytes rest stay stay' reads tries taken found some left goes is none (now, sights, sees, checks, tells) =
+      let g = given_by {E = E} q r meter given ticks bytes rest stay reads tries taken some left is in
+      let mid = at given ticks rest (record stay { turn = record stay.turn { tries = tries } }) reads in
       let after = at meter' ticks' rest stay' reads in
       goes_and rules p q r v w x s (at meter ticks bytes stay reads) after (goes_out g.reply) (Second (Some now) ∷ sights) goes
-      (Answers g.reply mid now sights after g.gives (subst (λ (b : Bool). Checks rules mid b now sights after) g.same checks) (subst (λ (o : Option Why). Tells rules.times stay'.turn now o) none tells))
+      (Answers g.reply mid now sights after g.gives (subst (λ (b : Bool). Checks rules mid b now sights after) g.same checks) (subst (λ (o : Option Why). Tells rules stay'.turn now o) none tells))
       g.adds sees
 
   -- ---- a read
 
   reads_as : (rules : Rules) (p q r : Option (List Moment)) (v w x : Option (List Sight)) (s mid after : At P A ghosts) (now : ℕ) (sights : List Sight) (piece bytes : List ℕ) (count : ℕ) → mid.left ≡ []
-      → Goes rules p q v w s mid → Sees w x (Second (Some now) ∷ sights) → Checks rules mid false now sights after → Tells rules.times after.stay.turn now None → bytes ≡ take count piece → ReadsPiece q r (Ok count) piece
+      → Goes rules p q v w s mid → Sees w x (Second (Some now) ∷ sights) → Checks rules mid false now sights after → Tells rules after.stay.turn now None → bytes ≡ take count piece → ReadsPiece q r (Ok count) piece
       → Goes rules p r v x s (record after { left = bytes; reads = after.reads + 1 })
   reads_as rules p q r v w x s mid after now sights piece bytes count given goes sees checks tells is (inl adds) =
       goes_and rules p q r v w x s mid (record after { left = bytes; reads = after.reads + 1 }) (Came (take count piece) ∷ []) (Second (Some now) ∷ sights) goes
@@ -144,7 +145,7 @@ module _ {P A : Type 0} {ghosts : Ghosts P} where
       (piece bytes : List ℕ) (count : ℕ) → Goes rules p q v w s (at meter ticks [] stay reads) → found ≡ None → ChecksOnce rules w x (at meter ticks [] stay reads) false (Ok found) (at meter' ticks' [] stay' reads)
       → bytes ≡ take count piece → ReadsPiece q r (Ok count) piece → Goes rules p r v x s (at meter' ticks' bytes stay' (reads + 1))
   goes_reading rules p q r v w x s meter meter' ticks ticks' stay stay' reads found piece bytes count goes none (now, sights, sees, checks, tells) is read =
-      reads_as rules p q r v w x s (at meter ticks [] stay reads) (at meter' ticks' [] stay' reads) now sights piece bytes count refl goes sees checks (subst (λ (o : Option Why). Tells rules.times stay'.turn now o) none tells) is read
+      reads_as rules p q r v w x s (at meter ticks [] stay reads) (at meter' ticks' [] stay' reads) now sights piece bytes count refl goes sees checks (subst (λ (o : Option Why). Tells rules stay'.turn now o) none tells) is read
 
   -- ---- it ends
 
@@ -173,7 +174,7 @@ module _ {P A : Type 0} {ghosts : Ghosts P} where
       → GoesToEnd rules p q v x s (Ok (Over why)) meter' ticks'
   over_at_read rules p q v w x s meter meter' ticks ticks' stay stay' reads found why goes is (now, sights, sees, checks, tells) =
       ends_so rules p q q v w x s (at meter ticks [] stay reads) (Ok (Over why)) [] (Second (Some now) ∷ sights) meter' ticks' goes
-      (IsOver [] false (at meter ticks [] stay reads) now sights (at meter' ticks' [] stay' reads) why (ToRead refl) checks (subst (λ (o : Option Why). Tells rules.times stay'.turn now o) is tells)) (adds_none q) sees
+      (IsOver [] false (at meter ticks [] stay reads) now sights (at meter' ticks' [] stay' reads) why (ToRead refl) checks (subst (λ (o : Option Why). Tells rules stay'.turn now o) is tells)) (adds_none q) sees
 
   pub look_fails_at_read : (rules : Rules) (p q : Option (List Moment)) (v w x : Option (List Sight)) (s : At P A ghosts) (meter meter' : Meter P A ghosts) (ticks ticks' : Ticks) (stay stay' : Stay) (reads : ℕ) (fault : LoopFault)
       → Goes rules p q v w s (at meter ticks [] stay reads) → ChecksOnce rules w x (at meter ticks [] stay reads) false (Err fault) (at meter' ticks' [] stay' reads) → GoesToEnd rules p q v x s (Err fault) meter' ticks'
@@ -185,45 +186,45 @@ module _ {P A : Type 0} {ghosts : Ghosts P} where
       → GoesToEnd rules p r v x s (Ok ending) meter' ticks'
   read_breaks rules p q r v w x s meter meter' ticks ticks' stay stay' reads found error ending goes none (now, sights, sees, checks, tells) adds of_read =
       ends_so rules p q r v w x s (at meter ticks [] stay reads) (Ok ending) (Unheard error ∷ []) (Second (Some now) ∷ sights) meter' ticks' goes
-      (ReadEnds now sights (at meter' ticks' [] stay' reads) error ending refl checks (subst (λ (o : Option Why). Tells rules.times stay'.turn now o) none tells) of_read) adds sees
+      (ReadEnds now sights (at meter' ticks' [] stay' reads) error ending refl checks (subst (λ (o : Option Why). Tells rules stay'.turn now o) none tells) of_read) adds sees
 
   pub tires : (rules : Rules) (p q : Option (List Moment)) (v w : Option (List Sight)) (s : At P A ghosts) (meter : Meter P A ghosts) (ticks : Ticks) (stay : Stay) (reads : ℕ) → reads ≡ 2 ^ 64 - 1
       → Goes rules p q v w s (at meter ticks [] stay reads) → GoesToEnd rules p q v w s (Err Io) meter ticks
   tires rules p q v w s meter ticks stay reads all goes = ends_so rules p q q v w w s (at meter ticks [] stay reads) (Err Io) [] [] meter ticks goes (Tires refl all) (adds_none q) (sees_nothing w)
 
   -- behind bytes
-  pub reply_breaks : {E : Type 0} (rules : Rules) (p q r : Option (List Moment)) (v w : Option (List Sight)) (s : At P A ghosts) (meter given : Meter P A ghosts) (ticks : Ticks) (bytes : List ℕ) (stay : Stay) (reads refusals : ℕ) (e : E) (error : Error)
-      → 0 < length bytes → Goes rules p q v w s (at meter ticks bytes stay reads) → GivesFrame {E = E} q r meter bytes stay.turn.refusals refusals (Err e) given → GoesToEnd rules p r v w s (Ok (Failed error)) given ticks
-  reply_breaks {E} rules p q r v w s meter given ticks bytes stay reads refusals e error some goes is = by_reply is.reply is.call is.counts is.replies where
-    by_reply : (reply : Option (List ℕ)) → IsCall meter (Fed (take is.count bytes) reply) given → Counts reply stay.turn.refusals refusals → Replied {E = E} q r is.count reply (Err e)
-        → GoesToEnd rules p r v w s (Ok (Failed error)) given ticks
+  pub reply_breaks : {E : Type 0} (rules : Rules) (p q r : Option (List Moment)) (v w : Option (List Sight)) (s : At P A ghosts) (meter given : Meter P A ghosts) (ticks : Ticks) (bytes : List ℕ) (stay : Stay) (reads : ℕ) (tries : Tries) (e : E) (error : Error)
+      → 0 < length bytes → Goes rules p q v w s (at meter ticks bytes stay reads) → GivesFrame {E = E} q r meter bytes stay.turn.tries tries (Err e) given → GoesToEnd rules p r v w s (Ok (broken tries error)) given ticks
+  reply_breaks {E} rules p q r v w s meter given ticks bytes stay reads tries e error some goes is = by_reply is.reply is.call is.counts is.replies where
+    by_reply : (reply : Option (List ℕ)) → IsCall meter (Fed (take is.count bytes) reply) given → Counts reply stay.turn.tries tries → Replied {E = E} q r is.count reply (Err e)
+        → GoesToEnd rules p r v w s (Ok (broken tries error)) given ticks
     by_reply None call counts none = absurd none
     by_reply (Some reply) call counts (part, missing, joined, adds) =
-        ends_so rules p q r v w w s (at meter ticks bytes stay reads) (Ok (Failed error)) (Broke part ∷ []) [] given ticks goes
-        (ReplyEnds reply part missing (at given ticks (drop is.count bytes) (record stay { turn = record stay.turn { refusals = refusals } }) reads) error
-        (gives_of meter given ticks bytes stay reads is.count refusals (Some reply) some is.some is.within call counts) joined) adds (sees_nothing w)
+        ends_so rules p q r v w w s (at meter ticks bytes stay reads) (Ok (broken tries error)) (Broke part ∷ []) [] given ticks goes
+        (ReplyEnds reply part missing (at given ticks (drop is.count bytes) (record stay { turn = record stay.turn { tries = tries } }) reads) error
+        (gives_of meter given ticks bytes stay reads is.count tries (Some reply) some is.some is.within call counts) joined) adds (sees_nothing w)
 
   pub over_behind : {E : Type 0} (rules : Rules) (p q r : Option (List Moment)) (v w x : Option (List Sight)) (s : At P A ghosts) (meter given meter' : Meter P A ghosts) (ticks ticks' : Ticks) (bytes rest : List ℕ) (stay stay' : Stay)
-      (reads refusals : ℕ) (taken : Taken) (found : Option Why) (why : Why) → 0 < length bytes → rest ≡ drop taken.count bytes → Goes rules p q v w s (at meter ticks bytes stay reads)
-      → GivesFrame {E = E} q r meter bytes stay.turn.refusals refusals (Ok taken) given → found ≡ Some why
-      → ChecksOnce rules w x (at given ticks rest (record stay { turn = record stay.turn { refusals = refusals } }) reads) taken.is_answered (Ok found) (at meter' ticks' rest stay' reads)
+      (reads : ℕ) (tries : Tries) (taken : Taken) (found : Option Why) (why : Why) → 0 < length bytes → rest ≡ drop taken.count bytes → Goes rules p q v w s (at meter ticks bytes stay reads)
+      → GivesFrame {E = E} q r meter bytes stay.turn.tries tries (Ok taken) given → found ≡ Some why
+      → ChecksOnce rules w x (at given ticks rest (record stay { turn = record stay.turn { tries = tries } }) reads) taken.is_answered (Ok found) (at meter' ticks' rest stay' reads)
       → GoesToEnd rules p r v x s (Ok (Over why)) meter' ticks'
-  over_behind {E} rules p q r v w x s meter given meter' ticks ticks' bytes rest stay stay' reads refusals taken found why some left goes is told (now, sights, sees, checks, tells) =
-      let g = given_by {E = E} q r meter given ticks bytes rest stay reads refusals taken some left is in
-      let mid = at given ticks rest (record stay { turn = record stay.turn { refusals = refusals } }) reads in
+  over_behind {E} rules p q r v w x s meter given meter' ticks ticks' bytes rest stay stay' reads tries taken found why some left goes is told (now, sights, sees, checks, tells) =
+      let g = given_by {E = E} q r meter given ticks bytes rest stay reads tries taken some left is in
+      let mid = at given ticks rest (record stay { turn = record stay.turn { tries = tries } }) reads in
       let after = at meter' ticks' rest stay' reads in
       ends_so rules p q r v w x s (at meter ticks bytes stay reads) (Ok (Over why)) (goes_out g.reply) (Second (Some now) ∷ sights) meter' ticks' goes
       (IsOver (goes_out g.reply) (has_any g.reply) mid now sights after why (Behind g.reply mid g.gives) (subst (λ (b : Bool). Checks rules mid b now sights after) g.same checks)
-      (subst (λ (o : Option Why). Tells rules.times stay'.turn now o) told tells)) g.adds sees
+      (subst (λ (o : Option Why). Tells rules stay'.turn now o) told tells)) g.adds sees
 
   pub look_fails_behind : {E : Type 0} (rules : Rules) (p q r : Option (List Moment)) (v w x : Option (List Sight)) (s : At P A ghosts) (meter given meter' : Meter P A ghosts) (ticks ticks' : Ticks) (bytes rest : List ℕ) (stay stay' : Stay)
-      (reads refusals : ℕ) (taken : Taken) (fault : LoopFault) → 0 < length bytes → rest ≡ drop taken.count bytes → Goes rules p q v w s (at meter ticks bytes stay reads)
-      → GivesFrame {E = E} q r meter bytes stay.turn.refusals refusals (Ok taken) given
-      → ChecksOnce rules w x (at given ticks rest (record stay { turn = record stay.turn { refusals = refusals } }) reads) taken.is_answered (Err fault) (at meter' ticks' rest stay' reads)
+      (reads : ℕ) (tries : Tries) (taken : Taken) (fault : LoopFault) → 0 < length bytes → rest ≡ drop taken.count bytes → Goes rules p q v w s (at meter ticks bytes stay reads)
+      → GivesFrame {E = E} q r meter bytes stay.turn.tries tries (Ok taken) given
+      → ChecksOnce rules w x (at given ticks rest (record stay { turn = record stay.turn { tries = tries } }) reads) taken.is_answered (Err fault) (at meter' ticks' rest stay' reads)
       → GoesToEnd rules p r v x s (Err fault) meter' ticks'
-  look_fails_behind {E} rules p q r v w x s meter given meter' ticks ticks' bytes rest stay stay' reads refusals taken fault some left goes is (sights, sees, fails, same, staying, counted) =
-      let g = given_by {E = E} q r meter given ticks bytes rest stay reads refusals taken some left is in
-      let mid = at given ticks rest (record stay { turn = record stay.turn { refusals = refusals } }) reads in
+  look_fails_behind {E} rules p q r v w x s meter given meter' ticks ticks' bytes rest stay stay' reads tries taken fault some left goes is (sights, sees, fails, same, staying, counted) =
+      let g = given_by {E = E} q r meter given ticks bytes rest stay reads tries taken some left is in
+      let mid = at given ticks rest (record stay { turn = record stay.turn { tries = tries } }) reads in
       ends_so rules p q r v w x s (at meter ticks bytes stay reads) (Err fault) (goes_out g.reply) sights meter' ticks' goes
       (LookEnds (goes_out g.reply) (has_any g.reply) mid fault sights meter' ticks' (Behind g.reply mid g.gives) fails) g.adds sees
 
@@ -259,7 +260,7 @@ module _ {P A : Type 0} {ghosts : Ghosts P} where
   under_ends rules p q r v w x meter mid meter' ticks told ticks' stay reads result u ends = from_start rules p r v u.seen x meter u.mid meter' ticks u.told ticks' u.first result u.look ends
 
   pub under_begins : (rules : Rules) (p : Option (List Moment)) (v w : Option (List Sight)) (meter mid : Meter P A ghosts) (ticks told : Ticks) (first : ℕ) (stay : Stay) → LooksOnce rules.tick v w meter ticks (Ok first) mid told
-      → stay ≡ record { turn = record { answered = first; held = first; waited = None; refusals = 0 }; asked = None } → Under rules p p v w meter ticks mid told stay 0
+      → stay ≡ record { turn = record { answered = first; held = first; waited = None; tries = record { refusals = 0; is_proved = false } }; asked = None } → Under rules p p v w meter ticks mid told stay 0
   under_begins rules p v w meter mid ticks told first stay look is = record {
     first = first;
     seen = w;

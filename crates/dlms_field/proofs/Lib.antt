@@ -1,5 +1,6 @@
 pub mod HangingUp
 pub mod ClockLemmas
+pub mod RiserLemmas
 pub mod TellingLemmas
 pub mod TickLemmas
 pub mod RefusalLemmas
@@ -10,3 +11,5 @@ pub mod ServeLemmas
 pub mod PollingLemmas
 pub mod PolledLemmas
 pub mod LineLemmas
+pub mod QueueLemmas
+pub mod GuessLemmas

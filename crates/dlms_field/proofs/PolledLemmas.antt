@@ -17,14 +17,14 @@ use Rattle.dlms_field.specs.declared.polling.Polling.{Polling}
 
 pub not_called : (polling : Polling) (before after : Known) (secret : List ℕ) (rows : List Row) (limit : Option Limit) (seen : Option (List Sight)) (poller : PollerValue) (fault : FieldFault)
     → IsReady polling before.seen seen before.asked after.asked secret rows limit → poller ≡ fresh_poll (plan_behind polling.client secret rows)
-    → FailsCalled polling.address.now polling.deadline limit before.past after.past seen after.seen poller fault → PrintsNone before after → PollFails polling before after fault
+    → FailsCalled polling.address.now polling.deadline polling.strict limit before.past after.past seen after.seen poller fault → PrintsNone before after → PollFails polling before after fault
 not_called polling before after secret rows limit seen poller fault ready fresh fails none =
-    NotCalled secret rows limit seen ready (subst (λ (p : PollerValue). FailsCalled polling.address.now polling.deadline limit before.past after.past seen after.seen p fault) fresh fails) none
+    NotCalled secret rows limit seen ready (subst (λ (p : PollerValue). FailsCalled polling.address.now polling.deadline polling.strict limit before.past after.past seen after.seen p fault) fresh fails) none
 
 pub polls_so : (polling : Polling) (before after : Known) (secret : List ℕ) (rows : List Row) (limit : Option Limit) (seen : Option (List Sight)) (asked : Option (List Asked)) (poller done : PollerValue)
     → IsReady polling before.seen seen before.asked asked secret rows limit → poller ≡ fresh_poll (plan_behind polling.client secret rows)
-    → HasDone polling.address.now polling.deadline before.past after.past seen after.seen poller done → Takes limit done.talk.rows → IsDonePoll (plan_behind polling.client secret rows) done
-    → (r : Result (Unit {0}) FieldFault) → IfOk r (λ _. FilesPolled (readings_of polling) asked after.asked before.printed after.printed before.errors after.errors rows done.talk.rows)
+    → HasDone polling.address.now polling.deadline before.past after.past seen after.seen poller done → Takes polling.strict limit done.talk.rows → IsDonePoll (plan_behind polling.client secret rows) done
+    → (r : Result (Unit {0}) FieldFault) → IfOk r (λ _. FilesPolled asked after.asked before.printed after.printed before.errors after.errors rows done.talk.rows)
     → IfErr r (FilesNone (readings_of polling) asked after.asked before.printed after.printed before.errors after.errors rows done.talk.rows) → Polls polling before after r
 polls_so polling before after secret rows limit seen asked poller done ready fresh called takes polled (Ok tt) files fails =
     record {

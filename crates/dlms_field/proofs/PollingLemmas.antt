@@ -1,5 +1,5 @@
 -- A poll over a line, until a deadline.
-use Rattle.std.proofs.Common.{refl, sym, ap, ◌∙◌, ◌≡◌, ◌+◌, ℕ, arith, List, [], ◌∷◌, ◌++◌, map, Option, Some, None, Result, Ok, Err, subst, inr}
+use Rattle.std.proofs.Common.{refl, sym, ap, ◌∙◌, ◌≡◌, ◌+◌, ℕ, Bool, arith, List, [], ◌∷◌, ◌++◌, map, Option, Some, None, Result, Ok, Err, subst, inr}
 use Rattle.std.specs.Prelude.{IsErrAnd}
 use Rattle.std.specs.declared.io.Error.{Error}
 use Rattle.std.proofs.lemmas.List.{append-nil, length-append}
@@ -18,12 +18,11 @@ use Rattle.dlms_ends.specs.declared.head_end.HeadEnd.{HeadEnd}
 use Rattle.dlms_ends.specs.declared.polling.TheConstants.{TURNS}
 use Rattle.dlms_ends.proofs.MomentLemmas.{map_append}
 use Rattle.dlms_ends.proofs.PollLemmas.{HeadSide, system_told}
-use Rattle.dlms_field.specs.Calling.{AreWithin, ClockFails, Does, Calls, Drives, FailsCalled, HeadFails, IsOfCall, LineFails, Looks, Polling, Tires, Unbegun}
+use Rattle.dlms_field.specs.Calling.{AreWithin, Attempts, ClockFails, Does, Calls, Drives, GivesUp, HeadFails, Looks, Over, Polling, Refused, Slow, Tires, Tried, Tries, Unbegun, Waits, next_line}
 use Rattle.dlms_field.specs.Deadline.{IsOver}
 use Rattle.dlms_field.specs.Keeping.{PrintsLine}
 use Rattle.dlms_field.specs.Watching.{Sight, Sees}
 use Rattle.dlms_field.specs.Watching.Sight.{Second}
-use Rattle.dlms_field.specs.declared.clocks.Limit.{Limit}
 use Rattle.dlms_field.specs.declared.fault.FieldFault.{FieldFault}
 use Rattle.dlms_field.specs.declared.fault.FieldFault.TheVariants.{System, Secret, Late, Clock, Other}
 use Rattle.dlms_field.proofs.TalkLemmas.{sees_more, sees_nothing}
@@ -98,28 +97,39 @@ pub has_tired : {A : Type 0} (seconds : ℕ) (old now : Option (List Moment)) (v
 has_tired seconds old now v w poller head count all under =
     Tires refl under.side.acts under.side.world under.side.called (under.side.sent ∙ all) (subst (λ (n : ℕ). Looks seconds v w n []) all under.looks)
 
+-- ---- an attempt
+
+pub attempt_found : (connected : Bool) (address : List ℕ) (seconds : ℕ) (old new : Option (List Moment)) (v w : Option (List Sight)) (poller : PollerValue) (found : Option PollerValue)
+    → Drives connected address seconds old new v w poller (Ok found) → Attempts connected address seconds old new v w poller (Ok found)
+attempt_found connected address seconds old new v w poller (Some done) drives = drives
+attempt_found connected address seconds old new v w poller None drives = Polling drives
+
 -- ---- a call
 
-pub has_done : (address : List ℕ) (seconds : ℕ) (old new : Option (List Moment)) (v w : Option (List Sight)) (poller : PollerValue) (found : Option PollerValue) → Drives address seconds old new v w poller (Ok found)
-    → Calls address seconds old new v w poller (Ok found)
-has_done address seconds old new v w poller (Some done) drives = drives
-has_done address seconds old new v w poller None drives = Polling drives
+-- the attempts so far, and one more
+pub tries_so : (address : List ℕ) (seconds : ℕ) (old mid new : Option (List Moment)) (v before w : Option (List Sight)) (poller fresh : PollerValue) (count : ℕ) (connected : Bool) (r : Result (Option PollerValue) FieldFault)
+    → Tried address seconds fresh old v count connected mid before → poller ≡ fresh → Attempts connected address seconds mid new before w poller r → Tries address seconds old new v w fresh r
+tries_so address seconds old mid new v before w poller fresh count connected r tried is attempt =
+    record { count = count; connected = connected; mid = mid; before = before; tried = tried; attempt = subst (λ (p : PollerValue). Attempts connected address seconds mid new before w p r) is attempt }
 
-pub fails_so : (address : List ℕ) (seconds : ℕ) (old new : Option (List Moment)) (v w : Option (List Sight)) (poller : PollerValue) (fault : LoopFault) (given : FieldFault) → Drives address seconds old new v w poller (Err fault)
-    → IsOfCall address fault given → Calls address seconds old new v w poller (Err given)
-fails_so address seconds old new v w poller fault (System place error) drives is = (is.0, LineFails (subst (λ (f : LoopFault). Drives address seconds old new v w poller (Err f)) is.1 drives))
-fails_so address seconds old new v w poller fault Secret drives is = absurd is
-fails_so address seconds old new v w poller fault (Late place deadline) drives is = absurd is
-fails_so address seconds old new v w poller fault (Clock place why) drives is = absurd is
-fails_so address seconds old new v w poller fault (Other given) drives is = subst (λ (f : LoopFault). Drives address seconds old new v w poller (Err f)) (sym is) drives
+pub has_called : (address : List ℕ) (seconds : ℕ) (old new : Option (List Moment)) (v w : Option (List Sight)) (poller : PollerValue) (found : Option PollerValue)
+    → Tries address seconds old new v w poller (Ok found) → Calls address seconds old new v w poller (Ok found)
+has_called address seconds old new v w poller (Some done) tries = tries
+has_called address seconds old new v w poller None tries = Slow tries
 
-pub fails_called : (address : List ℕ) (seconds : ℕ) (limit : Option Limit) (old new : Option (List Moment)) (v w : Option (List Sight)) (poller : PollerValue) (fault : FieldFault) → Calls address seconds old new v w poller (Err fault)
-    → FailsCalled address seconds limit old new v w poller fault
-fails_called address seconds limit old new v w poller (System place error) fails = fails
-fails_called address seconds limit old new v w poller Secret fails = absurd fails
-fails_called address seconds limit old new v w poller (Late place deadline) fails = absurd fails
-fails_called address seconds limit old new v w poller (Clock place clock) fails = absurd fails
-fails_called address seconds limit old new v w poller (Other fault) fails = fails
+-- at the deadline
+pub gave_up : (address : List ℕ) (seconds : ℕ) (old new : Option (List Moment)) (v mid w : Option (List Sight)) (poller : PollerValue) (fault : FieldFault) (next : Bool) (r : Result (Option PollerValue) FieldFault)
+    → Tries address seconds old new v mid poller (Err fault) → next_line fault ≡ Some next → Waits address seconds mid w (Ok None) → GivesUp fault r → Calls address seconds old new v w poller r
+gave_up address seconds old new v mid w poller (System place error) next r tries is waits gives =
+    subst (λ (given : Result (Option PollerValue) FieldFault). Calls address seconds old new v w poller given) (sym gives) (Refused next mid tries is refl waits)
+gave_up address seconds old new v mid w poller Secret next r tries is waits gives =
+    subst (λ (given : Result (Option PollerValue) FieldFault). Calls address seconds old new v w poller given) (sym gives) (Over Secret next mid tries is refl waits)
+gave_up address seconds old new v mid w poller (Late place deadline) next r tries is waits gives =
+    subst (λ (given : Result (Option PollerValue) FieldFault). Calls address seconds old new v w poller given) (sym gives) (Over (Late place deadline) next mid tries is refl waits)
+gave_up address seconds old new v mid w poller (Clock place why) next r tries is waits gives =
+    subst (λ (given : Result (Option PollerValue) FieldFault). Calls address seconds old new v w poller given) (sym gives) (Over (Clock place why) next mid tries is refl waits)
+gave_up address seconds old new v mid w poller (Other why) next r tries is waits gives =
+    subst (λ (given : Result (Option PollerValue) FieldFault). Calls address seconds old new v w poller given) (sym gives) (Over (Other why) next mid tries is refl waits)
 
 -- ---- a line of errors
 

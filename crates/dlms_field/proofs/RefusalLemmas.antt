@@ -1,16 +1,12 @@
--- Which reply refuses an association.
-use Rattle.std.proofs.Common.{sym, ap, ◌∙◌, ◌≡◌, ◌↔◌, ◌≤◌, ◌<◌, ◌⊎◌, ◌+◌, ℕ, Bool, false, arith, List, [], ◌++◌, length, take, drop, Option, Some, None, subst, inl, inr}
-use Rattle.std.specs.Prelude.{IfNone, IsTrue, Result, Ok, Err}
-use Rattle.std.proofs.lemmas.Bool.{cases_lt, false≢true}
+-- The first frame of a reply.
+use Rattle.std.proofs.Common.{◌≡◌, ◌≤◌, ◌<◌, ◌⊎◌, ◌+◌, ℕ, arith, List, [], ◌++◌, length, take, drop, Option, Some, None, subst, inl, inr}
+use Rattle.std.specs.Prelude.{IfNone}
+use Rattle.std.proofs.lemmas.Bool.{cases_lt}
 use Rattle.std.proofs.lemmas.List.{take_all, take-append-drop}
 use Rattle.dlms_frame.specs.Frame.{Parts}
 use Rattle.dlms_frame.specs.Stream.{FrameAt, IsNext, Fits, Takes}
 use Rattle.dlms_frame.proofs.StreamLemmas.{frame_room, frame_in_front, frame_in_whole}
-use Rattle.dlms_frame.proofs.LawLemmas.{one_next}
-use Rattle.dlms_acse.specs.Spelling.{IsAare}
-use Rattle.dlms_acse.specs.declared.fault.AcseFault.{AcseFault}
-use Rattle.dlms_acse.specs.declared.outcome.Verdict.{Verdict}
-use Rattle.dlms_field.specs.Refusals.{CarriesRefusal, IsFirstFrame, RefusesAssociation, SaysRefused, llc}
+use Rattle.dlms_field.specs.Refusals.{IsFirstFrame}
 
 ends_first : (s more : List ℕ) (i j : ℕ) (f : Parts) → j + 1 ≡ length s → IsNext s 0 i j f → (i' j' : ℕ) (g : Parts) → 0 ≤ i' → FrameAt (s ++ more) i' j' g → (j' < length s) ⊎ (length s ≤ j') → j ≤ j'
 ends_first s more i j f ends next i' j' g behind at (inl within) = next.earliest i' j' g behind (frame_in_front s more i' j' g at within)
@@ -41,37 +37,3 @@ no_frame_found kept new bytes count all fits takes = λ i j frame next.
 pub first_found : (kept new bytes : List ℕ) (count : ℕ) (found : Option Parts) → Fits kept [] 0 → IfNone found (count ≡ length bytes) → Takes kept (take count bytes) found new → IsFirstFrame bytes found
 first_found kept new bytes count None fits all takes = no_frame_found kept new bytes count all fits takes
 first_found kept new bytes count (Some frame) fits all takes = frame_found kept new bytes count frame fits takes
-
-pub refuses_as : (reply : List ℕ) (frame : Parts) (says : Bool) → IsFirstFrame reply (Some frame) → (IsTrue says ↔ CarriesRefusal frame.info) → IsTrue says ↔ RefusesAssociation reply
-refuses_as reply frame says (i, j, next) iff = (
-  λ yes. record { from = i; to = j; frame = frame; next = next; carries = iff.0 yes },
-  λ refuses.
-      let same = one_next reply 0 refuses.from refuses.to i j refuses.frame frame refuses.next next in
-      iff.1 (subst (λ (f : Parts). CarriesRefusal f.info) same.1 refuses.carries),
-)
-
-pub refuses_none : (reply : List ℕ) → IsFirstFrame reply None → IsTrue false ↔ RefusesAssociation reply
-refuses_none reply none = (λ yes. absurd (false≢true yes), λ refuses. absurd (none refuses.from refuses.to refuses.frame refuses.next))
-
-same_apdu : (xs ys : List ℕ) → llc ++ xs ≡ llc ++ ys → xs ≡ ys
-same_apdu xs ys same = ap (λ (t : List ℕ). drop 3 t) same
-
-pub carries_as : (info apdu : List ℕ) (verdict : Verdict) (says : Bool) (r : Result Verdict AcseFault) → info ≡ llc ++ apdu → r ≡ Ok verdict → IsAare apdu verdict → ((v : Verdict) → IsAare apdu v → r ≡ Ok v)
-    → (IsTrue says ↔ SaysRefused verdict) → IsTrue says ↔ CarriesRefusal info
-carries_as info apdu verdict says r split is found only iff = (
-  λ yes. (apdu, split, verdict, found, iff.0 yes),
-  λ (other, cut, v, spelled, refused).
-      let same : other ≡ apdu = same_apdu other apdu (sym cut ∙ split) in
-      let told : r ≡ Ok v = only v (subst (λ (t : List ℕ). IsAare t v) same spelled) in
-      let one : v ≡ verdict = cc in
-      iff.1 (subst SaysRefused one refused),
-)
-
-pub carries_none : (info apdu : List ℕ) (fault : AcseFault) (r : Result Verdict AcseFault) → info ≡ llc ++ apdu → r ≡ Err fault → ((v : Verdict) → IsAare apdu v → r ≡ Ok v) → IsTrue false ↔ CarriesRefusal info
-carries_none info apdu fault r split is only = (
-  λ yes. absurd (false≢true yes),
-  λ (other, cut, v, spelled, refused).
-      let same : other ≡ apdu = same_apdu other apdu (sym cut ∙ split) in
-      let told : r ≡ Ok v = only v (subst (λ (t : List ℕ). IsAare t v) same spelled) in
-      absurd cc,
-)

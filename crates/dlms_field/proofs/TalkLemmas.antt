@@ -1,6 +1,6 @@
 -- A meter that serves talks with a client, one thing after another.
 use Rattle.std.proofs.Common.{refl, sym, ap, ◌∙◌, ◌≡◌, ◌↔◌, ◌≤◌, ◌<◌, ◌+◌, ℕ, Bool, true, false, List, [], ◌∷◌, ◌++◌, append_assoc, append-nil, length, max, min, take, Option, Some, None, Result, Ok, Err, subst}
-use Rattle.std.specs.Prelude.{IsErr, IsErrAnd, IsTrue}
+use Rattle.std.specs.Prelude.{IsErr, IsErrAnd, IsTrue, if◌then◌else◌}
 use Rattle.std.specs.declared.io.Error.{Error}
 use Rattle.std.proofs.lemmas.Bool.{false≢true}
 use Rattle.dlms_ends.specs.Faults.{TellsError}
@@ -15,17 +15,17 @@ use Rattle.dlms_meter.specs.Steps.Call.{Fed}
 use Rattle.dlms_meter.specs.declared.meter.Meter.{Meter}
 use Rattle.dlms_pages.specs.declared.device.Pages.{Ghosts}
 use Rattle.dlms_store.specs.declared.fault.AddFault.{AddFault}
-use Rattle.dlms_field.specs.Connection.{Counts, GivesFrame, ChecksOnce, HasAssociation, noted, TellsStop, NoClock, NoStore, LooksOnce, Looked, IsDue, AsksFor, NotDue, Asks, AsksOnce, behind_answer}
+use Rattle.dlms_field.specs.Connection.{Counts, GivesFrame, ChecksOnce, HasAssociation, noted, TellsStop, NoClock, NoStore, LooksOnce, Looked, IsDue, AsksFor, NotDue, Asks, AsksOnce, TellsOnce, behind_answer, behind_telling, told_of}
 use Rattle.dlms_field.specs.Pace.{AreDue}
-use Rattle.dlms_field.specs.Refusals.{RefusesAssociation}
 use Rattle.dlms_field.specs.Turns.{Tells}
 use Rattle.dlms_field.specs.declared.talking.Rules.{Rules}
 use Rattle.dlms_field.specs.declared.turns.Over.{Over as Why}
 use Rattle.dlms_field.specs.Telling.{Looks}
 use Rattle.dlms_field.specs.Watching.{Sight, Sees}
-use Rattle.dlms_field.specs.Watching.Sight.{Second, Another}
+use Rattle.dlms_field.specs.Watching.Sight.{Second, Another, Trusts}
 use Rattle.dlms_field.specs.declared.talking.Stay.{Stay}
 use Rattle.dlms_field.specs.declared.ticks.Ticks.{Ticks}
+use Rattle.dlms_field.specs.declared.turns.Tries.{Tries}
 use Rattle.dlms_field.specs.declared.turns.Turn.{Turn}
 
 -- ---- what was asked
@@ -53,6 +53,13 @@ pub is_asked : (seen seen' : Option (List Sight)) (stay : Stay) (now : ℕ) (wai
     → AsksOnce seen seen' stay now (record { turn = turn; asked = Some now })
 is_asked seen seen' stay now waits turn due sees is = (Another now waits ∷ [], sees, subst (λ (t : Turn). AsksFor stay now (Another now waits ∷ []) t) (sym is) (Asks due waits), refl)
 
+pub tells_none : (seen : Option (List Sight)) (stay : Stay) (now : ℕ) → stay.turn.tries.is_proved ≡ false → TellsOnce seen seen stay now stay
+tells_none seen stay now is =
+    (subst (λ (b : Bool). Sees seen seen (if b then (Trusts now ∷ []) else [])) (sym is) (sees_nothing seen), ap (λ (b : Bool). record stay { turn = record stay.turn { tries = record stay.turn.tries { is_proved = b } } }) is)
+
+pub tells_one : (seen seen' : Option (List Sight)) (stay : Stay) (now : ℕ) → stay.turn.tries.is_proved ≡ true → Sees seen seen' (Trusts now ∷ []) → TellsOnce seen seen' stay now (behind_telling stay)
+tells_one seen seen' stay now is sees = (subst (λ (b : Bool). Sees seen seen' (if b then (Trusts now ∷ []) else [])) (sym is) sees, refl)
+
 -- ---- a look at the clock
 
 module _ {P A : Type 0} {ghosts : Ghosts P} where
@@ -67,64 +74,63 @@ module _ {P A : Type 0} {ghosts : Ghosts P} where
       (Second (Some now) ∷ [], sees, NoStore now due named meter' ticks' is_due (subst (λ (w : AddFault). Looks due ticks meter (Err w) ticks' meter') is looks) tells)
 
   -- a look, and what is told of the turn then
-  pub checks : (rules : Rules) (seen mid seen' : Option (List Sight)) (meter meter' : Meter P A ghosts) (ticks ticks' : Ticks) (stay stay' : Stay) (is_answered : Bool) (now : ℕ) (associated : Bool) (turn : Turn) (why : Option Why)
+  pub checks : (rules : Rules) (seen mid late seen' : Option (List Sight)) (meter meter' : Meter P A ghosts) (ticks ticks' : Ticks) (stay told stay' : Stay) (is_answered : Bool) (now : ℕ) (associated : Bool) (turn : Turn) (why : Option Why)
       → Sees seen mid (Second (Some now) ∷ []) → Looked rules.tick meter ticks now meter' ticks' → IsTrue associated ↔ HasAssociation meter' → turn ≡ noted stay.turn is_answered now associated
-      → AsksOnce mid seen' (record stay { turn = turn }) now stay' → Tells rules.times stay'.turn now why
+      → TellsOnce mid late (record stay { turn = turn }) now told → AsksOnce late seen' told now stay' → Tells rules stay'.turn now why
       → (left : List ℕ) (reads : ℕ) → ChecksOnce rules seen seen' (record { meter = meter; ticks = ticks; left = left; stay = stay; reads = reads }) is_answered (Ok why)
       (record { meter = meter'; ticks = ticks'; left = left; stay = stay'; reads = reads })
-  checks rules seen mid seen' meter meter' ticks ticks' stay stay' is_answered now associated turn why sees look has is (sights, more, asks, asked) tells left reads = (
-    now,
-    sights,
-    sees_more seen mid seen' (Second (Some now) ∷ []) sights sees more,
-    record {
-      look = look;
-      associated = associated;
-      has = has;
-      asks = subst (λ (t : Turn). AsksFor (record stay { turn = t }) now sights stay'.turn) is asks;
-      asked = asked;
-      left = refl;
-      reads = refl;
-    },
-    tells,
-  )
+  checks rules seen mid late seen' meter meter' ticks ticks' stay told stay' is_answered now associated turn why sees look has is (tells_so, behind) (sights, more, asks, asked) tells left reads =
+      let here = record stay { turn = turn } in (
+        now,
+        told_of here now ++ sights,
+        sees_more seen mid seen' (Second (Some now) ∷ []) (told_of here now ++ sights) sees (sees_more mid late seen' (told_of here now) sights tells_so more),
+        record {
+          look = look;
+          associated = associated;
+          has = has;
+          stay = here;
+          noted = ap (λ (t : Turn). record stay { turn = t }) is;
+          asked_for = sights;
+          asks = subst (λ (s : Stay). AsksFor s now sights stay'.turn) behind asks;
+          all = refl;
+          asked = asked;
+          left = refl;
+          reads = refl;
+        },
+        tells,
+      )
 
 -- ---- bytes are given
 
-pub counts_one : (reply : List ℕ) (refuses : Bool) (before after : ℕ) → refuses ≡ true → (IsTrue refuses ↔ RefusesAssociation reply) → after ≡ min (before + 1) 255 → Counts (Some reply) before after
-counts_one reply refuses before after is iff same = (true, subst (λ (b : Bool). IsTrue b ↔ RefusesAssociation reply) is iff, same)
-
-pub counts_none : (reply : List ℕ) (refuses : Bool) (before : ℕ) → refuses ≡ false → (IsTrue refuses ↔ RefusesAssociation reply) → Counts (Some reply) before before
-counts_none reply refuses before is iff = (false, subst (λ (b : Bool). IsTrue b ↔ RefusesAssociation reply) is iff, refl)
-
 module _ {P A : Type 0} {ghosts : Ghosts P} where
-  pub given_breaks : {E : Type 0} (old new : Option (List Moment)) (before after : Meter P A ghosts) (bytes : List ℕ) (count : ℕ) (reply one two : List ℕ) (refusals refusals' : ℕ) (r : Result Taken E)
-      → (0 < length bytes → 0 < count) → count ≤ length bytes → IsCall before (Fed (take count bytes) (Some reply)) after → IsErr r → one ≡ reply → Counts (Some one) refusals refusals' → two ≡ reply → Breaks old new two
-      → GivesFrame old new before bytes refusals refusals' r after
-  given_breaks old new before after bytes count reply one two refusals refusals' (Ok taken) some within call is same counts alike broke = absurd (cc is)
-  given_breaks old new before after bytes count reply one two refusals refusals' (Err e) some within call is same counts alike broke = record {
+  pub given_breaks : {E : Type 0} (old new : Option (List Moment)) (before after : Meter P A ghosts) (bytes : List ℕ) (count : ℕ) (reply one two : List ℕ) (tries tries' : Tries) (r : Result Taken E)
+      → (0 < length bytes → 0 < count) → count ≤ length bytes → IsCall before (Fed (take count bytes) (Some reply)) after → IsErr r → one ≡ reply → Counts (Some one) tries tries' → two ≡ reply → Breaks old new two
+      → GivesFrame old new before bytes tries tries' r after
+  given_breaks old new before after bytes count reply one two tries tries' (Ok taken) some within call is same counts alike broke = absurd (cc is)
+  given_breaks old new before after bytes count reply one two tries tries' (Err e) some within call is same counts alike broke = record {
     count = count;
     reply = Some reply;
     some = some;
     within = within;
     call = call;
-    counts = subst (λ (t : List ℕ). Counts (Some t) refusals refusals') same counts;
+    counts = subst (λ (t : List ℕ). Counts (Some t) tries tries') same counts;
     replies = subst (λ (t : List ℕ). Breaks old new t) alike broke;
   }
 
-  pub given_goes : (E : Type 0) (old new : Option (List Moment)) (before after : Meter P A ghosts) (bytes : List ℕ) (count : ℕ) (reply one two : List ℕ) (refusals refusals' : ℕ)
-      → (0 < length bytes → 0 < count) → count ≤ length bytes → IsCall before (Fed (take count bytes) (Some reply)) after → one ≡ reply → Counts (Some one) refusals refusals' → two ≡ reply → Adds old new (Went two ∷ [])
-      → GivesFrame {E = E} old new before bytes refusals refusals' (Ok (record { count = count; is_answered = true })) after
-  given_goes E old new before after bytes count reply one two refusals refusals' some within call same counts alike went = record {
+  pub given_goes : (E : Type 0) (old new : Option (List Moment)) (before after : Meter P A ghosts) (bytes : List ℕ) (count : ℕ) (reply one two : List ℕ) (tries tries' : Tries)
+      → (0 < length bytes → 0 < count) → count ≤ length bytes → IsCall before (Fed (take count bytes) (Some reply)) after → one ≡ reply → Counts (Some one) tries tries' → two ≡ reply → Adds old new (Went two ∷ [])
+      → GivesFrame {E = E} old new before bytes tries tries' (Ok (record { count = count; is_answered = true })) after
+  given_goes E old new before after bytes count reply one two tries tries' some within call same counts alike went = record {
     count = count;
     reply = Some reply;
     some = some;
     within = within;
     call = call;
-    counts = subst (λ (t : List ℕ). Counts (Some t) refusals refusals') same counts;
+    counts = subst (λ (t : List ℕ). Counts (Some t) tries tries') same counts;
     replies = (refl, subst (λ (t : List ℕ). Adds old new (Went t ∷ [])) alike went);
   }
 
-  pub given_none : (E : Type 0) (past : Option (List Moment)) (before after : Meter P A ghosts) (bytes : List ℕ) (count refusals : ℕ)
+  pub given_none : (E : Type 0) (past : Option (List Moment)) (before after : Meter P A ghosts) (bytes : List ℕ) (count : ℕ) (tries : Tries)
       → (0 < length bytes → 0 < count) → count ≤ length bytes → IsCall before (Fed (take count bytes) None) after
-      → GivesFrame {E = E} past past before bytes refusals refusals (Ok (record { count = count; is_answered = false })) after
-  given_none E past before after bytes count refusals some within call = record { count = count; reply = None; some = some; within = within; call = call; counts = refl; replies = (refl, adds_none past) }
+      → GivesFrame {E = E} past past before bytes tries tries (Ok (record { count = count; is_answered = false })) after
+  given_none E past before after bytes count tries some within call = record { count = count; reply = None; some = some; within = within; call = call; counts = refl; replies = (refl, adds_none past) }

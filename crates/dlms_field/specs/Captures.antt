@@ -13,6 +13,7 @@ use Rattle.dlms_pages.specs.declared.device.Pages.{Ghosts}
 use Rattle.dlms_store.specs.Fitting.{StoreFits}
 use Rattle.dlms_world.specs.Agree.{AreCaptures}
 use Rattle.dlms_world.specs.Programs.{Held, Acts, IsFirst}
+use Rattle.dlms_world.specs.Sublists.{IsSublist}
 
 -- each row of the text that was put there is a capture of the events that the meter holds
 pub record HoldsCaptures {P A : Type 0} {ghosts : Ghosts P} (asked asked' : Option (List Asked)) (rows : List Row) (meter : Meter P A ghosts) : Type 0 where
@@ -25,9 +26,9 @@ pub record HoldsCaptures {P A : Type 0} {ghosts : Ghosts P} (asked asked' : Opti
   pub captures : AreCaptures (events_of world) rows
 
 -- Whatever such a program has done, however often it polled, as whichever client, and wherever the power stopped or the head end did:
--- where its poll is done, and its rows were filed, the place holds captures alone.
+-- if its poll is done, and all or some of its rows were filed in their order, the place holds captures alone.
 abbrev pub PlaceHoldsCaptures : {P A : Type 0} → {ghosts : Ghosts P} → Meter P A ghosts → Type 0
 PlaceHoldsCaptures {P} {A} {ghosts} meter =
     (plan : PlanValue) (first now : Held P A ghosts) → IsFirst plan first → Acts first now → now.meter ≡ meter → now.poller.course ≡ Done
-    → (asked asked' : Option (List Asked)) (printed printed' : Printed) (after : List Row) → FilesRows {T = Unit {0}} asked asked' printed printed' now.file now.poller.talk.rows (Ok tt) after
+    → (kept : List Row) → IsSublist kept now.poller.talk.rows → (asked asked' : Option (List Asked)) (printed printed' : Printed) (after : List Row) → FilesRows {T = Unit {0}} asked asked' printed printed' now.file kept (Ok tt) after
     → HoldsCaptures asked asked' after meter

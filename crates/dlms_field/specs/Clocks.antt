@@ -1,6 +1,5 @@
 -- The clocks of polled rows, judged.
-use Rattle.std.specs.Prelude.{◌≡◌, ◌+◌, ◌-◌, ◌<◌, ◌≤◌, ◌&&◌, ℕ, nat_eq, nat_lt, not, Bool, false, List, length, filter, slice_index_or, Option, Some, None, IfSome, IsSome}
-use Rattle.std.specs.Str.{bytes_eq}
+use Rattle.std.specs.Prelude.{◌≡◌, ◌+◌, ◌-◌, ◌<◌, ◌≤◌, ℕ, Bool, true, List, length, slice_index_or, Option, IfSome, IsSome}
 use Rattle.std.specs.List.{AllAdjacentBelow}
 use Rattle.dlms_headend.specs.declared.row.Row.{Row}
 use Rattle.dlms_field.specs.declared.clocks.Limit.{Limit}
@@ -41,25 +40,29 @@ pub record IsFirstAhead (now margin : ℕ) (rows : List Row) (number : ℕ) : Ty
   pub in_time : AreInTime now margin rows place
   pub ahead : (other : Row) → IsAhead now margin (slice_index_or rows place other).clock
 
--- two rows are the same
-abbrev pub same : Row → Row → Bool
-same one other = nat_eq one.clock other.clock && bytes_eq one.registers other.registers
+-- if the order is strict, each row is later than the one before it
+abbrev pub RisesIf : Bool → List Row → Type 0
+RisesIf strict rows = strict ≡ true → Rise rows (length rows)
 
--- a file with this last row does not get the row, and the row is not that one: it is not later
-abbrev pub is_left_out : Option Row → Row → Bool
-is_left_out None row = false
-is_left_out (Some last) row = not (nat_lt last.clock row.clock) && not (same last row)
+-- none is past the limit, if there is one
+abbrev pub AreInLimit : Option Limit → List Row → Type 0
+AreInLimit limit rows = IfSome limit (λ l. AreInTime l.now l.margin rows (length rows))
 
--- those of the given rows
-abbrev pub left_out : Option Row → List Row → List Row
-left_out last given = filter (is_left_out last) given
+-- why the order is refused: it is to be strict, and this row is not later than the one before it
+abbrev pub IsOutOfOrder : Bool → List Row → ClockFault → Type 0
+IsOutOfOrder strict rows (Fallen number) = (strict ≡ true) × IsFirstFallen rows number
+IsOutOfOrder strict rows (Ahead number) = ⊥
 
--- why rows are refused: first of all that they do not rise, and where a margin past a second of the system's clock is given
--- that one is ahead
-abbrev pub Refuses : Option Limit → List Row → ClockFault → Type 0
-Refuses limit rows (Fallen number) = IsFirstFallen rows number
-Refuses limit rows (Ahead number) = Rise rows (length rows) × IfSome limit (λ l. IsFirstAhead l.now l.margin rows number) × IsSome limit
+-- why the clocks are refused: there is a limit, and this row is the first past it
+abbrev pub IsBeyond : Option Limit → List Row → ClockFault → Type 0
+IsBeyond limit rows (Fallen number) = ⊥
+IsBeyond limit rows (Ahead number) = IfSome limit (λ l. IsFirstAhead l.now l.margin rows number) × IsSome limit
+
+-- Why rows are refused: first of all for their order; and for a clock only if the order is taken.
+abbrev pub Refuses : Bool → Option Limit → List Row → ClockFault → Type 0
+Refuses strict limit rows (Fallen number) = IsOutOfOrder strict rows (Fallen number)
+Refuses strict limit rows (Ahead number) = RisesIf strict rows × IsBeyond limit rows (Ahead number)
 
 -- rows that are taken
-abbrev pub Takes : Option Limit → List Row → Type 0
-Takes limit rows = Rise rows (length rows) × IfSome limit (λ l. AreInTime l.now l.margin rows (length rows))
+abbrev pub Takes : Bool → Option Limit → List Row → Type 0
+Takes strict limit rows = RisesIf strict rows × AreInLimit limit rows

@@ -1,5 +1,5 @@
 -- What a meter that serves does on a connection, one thing after another.
-use Rattle.std.specs.Prelude.{◌≡◌, ◌≢◌, ◌⊎◌, ◌↔◌, ◌+◌, ◌-◌, ◌^◌, ◌<◌, ◌≤◌, ℕ, Bool, true, false, IsTrue, IsSome, List, [], ◌∷◌, ◌++◌, length, max, min, take, Option, Some, None, Result, Ok, Err, if◌then◌else◌}
+use Rattle.std.specs.Prelude.{◌≡◌, ◌≢◌, ◌⊎◌, ◌↔◌, ◌+◌, ◌-◌, ◌^◌, ◌<◌, ◌≤◌, ℕ, Bool, true, false, IsTrue, IsSome, List, [], ◌∷◌, ◌++◌, length, max, min, nat_lt, take, Option, Some, None, Result, Ok, Err, if◌then◌else◌}
 use Rattle.std.specs.IoError.{error_kind}
 use Rattle.std.specs.declared.io.Error.{Error}
 use Rattle.std.specs.declared.io.ErrorKind.TheVariants.{UnexpectedEof}
@@ -18,17 +18,21 @@ use Rattle.dlms_pages.specs.declared.device.Pages.{Ghosts}
 use Rattle.dlms_store.specs.declared.fault.AddFault.{AddFault}
 use Rattle.dlms_store.specs.declared.fault.AddFault.TheVariants as add
 use Rattle.dlms_field.specs.Pace.{AreDue}
-use Rattle.dlms_field.specs.Refusals.{RefusesAssociation}
+use Rattle.dlms_field.specs.Refusals.{SaysFirst}
 use Rattle.dlms_field.specs.Telling.{GoesOn, Looks}
 use Rattle.dlms_field.specs.Turns.{Tells}
 use Rattle.dlms_field.specs.Watching.{Sight, Sees, has_any}
-use Rattle.dlms_field.specs.Watching.Sight.{Second, Another}
+use Rattle.dlms_field.specs.Watching.Sight.{Second, Another, Trusts}
 use Rattle.dlms_field.specs.declared.talking.Ending.{Ending}
 use Rattle.dlms_field.specs.declared.talking.Ending.TheVariants.{Closed, Failed, Over}
 use Rattle.dlms_field.specs.declared.talking.Rules.{Rules}
 use Rattle.dlms_field.specs.declared.talking.Stay.{Stay}
+use Rattle.dlms_field.specs.declared.refusals.Outcome.{Outcome}
+use Rattle.dlms_field.specs.declared.refusals.Outcome.TheVariants.{Refused, Proved, Opened}
 use Rattle.dlms_field.specs.declared.ticks.Ticks.{Ticks}
 use Rattle.dlms_field.specs.declared.turns.Over.{Over as Why}
+use Rattle.dlms_field.specs.declared.turns.Over.TheVariants as why
+use Rattle.dlms_field.specs.declared.turns.Tries.{Tries}
 use Rattle.dlms_field.specs.declared.turns.Turn.{Turn}
 
 -- ---- a look at the clock
@@ -72,25 +76,31 @@ pub record At (P A : Type 0) (ghosts : Ghosts P) : Type 0 where
 -- a connection that begins at this second
 abbrev pub begins : {P A : Type 0} → {ghosts : Ghosts P} → Meter P A ghosts → Ticks → ℕ → At P A ghosts
 begins meter ticks first =
-    record { meter = meter; ticks = ticks; left = []; stay = record { turn = record { answered = first; held = first; waited = None; refusals = 0 }; asked = None }; reads = 0 }
+    record { meter = meter; ticks = ticks; left = []; stay = record { turn = record { answered = first; held = first; waited = None; tries = record { refusals = 0; is_proved = false } }; asked = None }; reads = 0 }
 
 -- ---- bytes are given to the meter
 
--- a reply that refuses an association is one refusal more, as far as they are counted
-abbrev pub Counts : Option (List ℕ) → ℕ → ℕ → Type 0
+-- a refused association is one refusal more, as far as they are counted, and one that is open by a secret a proof
+abbrev pub behind_outcome : Option Outcome → Tries → Tries
+behind_outcome (Some Refused) tries = record tries { refusals = min (tries.refusals + 1) 255 }
+behind_outcome (Some Proved) tries = record tries { is_proved = true }
+behind_outcome (Some Opened) tries = tries
+behind_outcome None tries = tries
+
+abbrev pub Counts : Option (List ℕ) → Tries → Tries → Type 0
 Counts None before after = after ≡ before
-Counts (Some reply) before after = (refuses : Bool) × (IsTrue refuses ↔ RefusesAssociation reply) × (after ≡ (if refuses then (min (before + 1) 255) else before))
+Counts (Some reply) before after = (outcome : Option Outcome) × SaysFirst reply outcome × (after ≡ behind_outcome outcome before)
 
 -- The meter is given of the bytes in one call, and what it replies is counted.
 pub record Gives {P A : Type 0} {ghosts : Ghosts P} (s : At P A ghosts) (reply : Option (List ℕ)) (given : At P A ghosts) : Type 0 where
   pub taken : List ℕ
   pub behind : List ℕ
-  pub refusals : ℕ
+  pub tries : Tries
   pub cut : s.left ≡ taken ++ behind
   pub some : 0 < length taken
   pub call : IsCall s.meter (Fed taken reply) given.meter
-  pub counts : Counts reply s.stay.turn.refusals refusals
-  pub same : given ≡ record s { meter = given.meter; left = behind; stay = record s.stay { turn = record s.stay.turn { refusals = refusals } } }
+  pub counts : Counts reply s.stay.turn.tries tries
+  pub same : given ≡ record s { meter = given.meter; left = behind; stay = record s.stay { turn = record s.stay.turn { tries = tries } } }
 
 -- the reply goes out, whole, and it is told how many bytes were taken and whether there was one; or the line breaks at it
 abbrev pub Replied : {E : Type 0} → Option (List Moment) → Option (List Moment) → ℕ → Option (List ℕ) → Result Taken E → Type 0
@@ -100,13 +110,13 @@ Replied old new count (Some reply) (Ok taken) = (taken ≡ record { count = coun
 Replied old new count (Some reply) (Err e) = Breaks old new reply
 
 -- the same of one call, as its caller sees it
-pub record GivesFrame {P A E : Type 0} {ghosts : Ghosts P} (old new : Option (List Moment)) (before : Meter P A ghosts) (bytes : List ℕ) (refusals refusals' : ℕ) (result : Result Taken E) (after : Meter P A ghosts) : Type 0 where
+pub record GivesFrame {P A E : Type 0} {ghosts : Ghosts P} (old new : Option (List Moment)) (before : Meter P A ghosts) (bytes : List ℕ) (tries tries' : Tries) (result : Result Taken E) (after : Meter P A ghosts) : Type 0 where
   pub count : ℕ
   pub reply : Option (List ℕ)
   pub some : 0 < length bytes → 0 < count
   pub within : count ≤ length bytes
   pub call : IsCall before (Fed (take count bytes) reply) after
-  pub counts : Counts reply refusals refusals'
+  pub counts : Counts reply tries tries'
   pub replies : Replied old new count reply result
 
 -- ---- the turn
@@ -137,12 +147,26 @@ pub data AsksFor (stay : Stay) (now : ℕ) : List Sight → Turn → Type 0 wher
 abbrev pub AsksOnce : Option (List Sight) → Option (List Sight) → Stay → ℕ → Stay → Type 0
 AsksOnce seen seen' stay now stay' = (sights : List Sight) × Sees seen seen' sights × AsksFor stay now sights stay'.turn × (stay'.asked ≡ Some now)
 
+-- Where a secret was proved, the watch is told of that once.
+abbrev pub told_of : Stay → ℕ → List Sight
+told_of stay now = if stay.turn.tries.is_proved then (Trusts now ∷ []) else []
+
+abbrev pub behind_telling : Stay → Stay
+behind_telling stay = record stay { turn = record stay.turn { tries = record stay.turn.tries { is_proved = false } } }
+
+abbrev pub TellsOnce : Option (List Sight) → Option (List Sight) → Stay → ℕ → Stay → Type 0
+TellsOnce seen seen' stay now stay' = Sees seen seen' (told_of stay now) × (stay' ≡ behind_telling stay)
+
 -- A look at the clock, behind bytes that were answered or were not, and at the turn at that second.
 pub record Checks {P A : Type 0} {ghosts : Ghosts P} (rules : Rules) (s : At P A ghosts) (is_answered : Bool) (now : ℕ) (sights : List Sight) (after : At P A ghosts) : Type 0 where
   pub look : Looked rules.tick s.meter s.ticks now after.meter after.ticks
   pub associated : Bool
   pub has : IsTrue associated ↔ HasAssociation after.meter
-  pub asks : AsksFor (record s.stay { turn = noted s.stay.turn is_answered now associated }) now sights after.stay.turn
+  pub stay : Stay
+  pub noted : stay ≡ record s.stay { turn = noted s.stay.turn is_answered now associated }
+  pub asked_for : List Sight
+  pub asks : AsksFor (behind_telling stay) now asked_for after.stay.turn
+  pub all : sights ≡ told_of stay now ++ asked_for
   pub asked : after.stay.asked ≡ Some now
   pub left : after.left ≡ s.left
   pub reads : after.reads ≡ s.reads
@@ -150,7 +174,7 @@ pub record Checks {P A : Type 0} {ghosts : Ghosts P} (rules : Rules) (s : At P A
 -- so it was, and this is told of the turn; or the look failed
 abbrev pub ChecksOnce : {P A : Type 0} → {ghosts : Ghosts P} → Rules → Option (List Sight) → Option (List Sight) → At P A ghosts → Bool → Result (Option Why) LoopFault → At P A ghosts → Type 0
 ChecksOnce rules seen seen' s is_answered (Ok why) after =
-    (now : ℕ) × (sights : List Sight) × Sees seen seen' (Second (Some now) ∷ sights) × Checks rules s is_answered now sights after × Tells rules.times after.stay.turn now why
+    (now : ℕ) × (sights : List Sight) × Sees seen seen' (Second (Some now) ∷ sights) × Checks rules s is_answered now sights after × Tells rules after.stay.turn now why
 ChecksOnce rules seen seen' s is_answered (Err fault) after =
     (sights : List Sight) × Sees seen seen' sights × LookFails rules.tick s.meter s.ticks fault sights after.meter after.ticks × (after.left ≡ s.left) × (after.stay ≡ s.stay) × (after.reads ≡ s.reads)
 
@@ -175,10 +199,10 @@ goes_out (Some reply) = Went reply ∷ []
 -- and reads, since its turn is not over. Where some were not it gives the meter of them, whose reply goes out, whole; and then it looks at
 -- the clock, and its turn is not over.
 pub data Doing {P A : Type 0} {ghosts : Ghosts P} (rules : Rules) (s : At P A ghosts) : List Moment → List Sight → At P A ghosts → Type 0 where
-  Reads : (now : ℕ) (sights : List Sight) (mid : At P A ghosts) (moment : Moment) (bytes : List ℕ) → s.left ≡ [] → Checks rules s false now sights mid → Tells rules.times mid.stay.turn now None → IsRead moment bytes
+  Reads : (now : ℕ) (sights : List Sight) (mid : At P A ghosts) (moment : Moment) (bytes : List ℕ) → s.left ≡ [] → Checks rules s false now sights mid → Tells rules mid.stay.turn now None → IsRead moment bytes
       → Doing rules s (moment ∷ []) (Second (Some now) ∷ sights) (record mid { left = bytes; reads = mid.reads + 1 })
   Answers : (reply : Option (List ℕ)) (given : At P A ghosts) (now : ℕ) (sights : List Sight) (after : At P A ghosts) → Gives s reply given → Checks rules given (has_any reply) now sights after
-      → Tells rules.times after.stay.turn now None → Doing rules s (goes_out reply) (Second (Some now) ∷ sights) after
+      → Tells rules after.stay.turn now None → Doing rules s (goes_out reply) (Second (Some now) ∷ sights) after
 
 -- one after another
 pub data Doings {P A : Type 0} {ghosts : Ghosts P} (rules : Rules) (s : At P A ghosts) : List Moment → List Sight → At P A ghosts → Type 0 where
@@ -207,16 +231,20 @@ IsOfRead error Closed = error_kind error ≡ UnexpectedEof
 IsOfRead error (Failed told) = (error_kind error ≢ UnexpectedEof) × (told ≡ error)
 IsOfRead error (Over why) = ⊥
 
+-- the end that an error at a reply is: whose association request is refused need not take the reply for that to count
+abbrev pub broken : Tries → Error → Ending
+broken tries error = if nat_lt 0 tries.refusals then Over why.Refused else Failed error
+
 -- How it ends, and why: at a look at the clock its turn is over, or the look failed; a read failed; a reply did not go out whole; or it
 -- has read as often as it may.
 pub data Ends {P A : Type 0} {ghosts : Ghosts P} (rules : Rules) (s : At P A ghosts) : Result Ending LoopFault → List Moment → List Sight → Meter P A ghosts → Ticks → Type 0 where
   IsOver : (moments : List Moment) (is_answered : Bool) (given : At P A ghosts) (now : ℕ) (sights : List Sight) (after : At P A ghosts) (why : Why) → Arrives s moments is_answered given
-      → Checks rules given is_answered now sights after → Tells rules.times after.stay.turn now (Some why) → Ends rules s (Ok (Over why)) moments (Second (Some now) ∷ sights) after.meter after.ticks
+      → Checks rules given is_answered now sights after → Tells rules after.stay.turn now (Some why) → Ends rules s (Ok (Over why)) moments (Second (Some now) ∷ sights) after.meter after.ticks
   LookEnds : (moments : List Moment) (is_answered : Bool) (given : At P A ghosts) (fault : LoopFault) (sights : List Sight) (meter : Meter P A ghosts) (ticks : Ticks) → Arrives s moments is_answered given
       → LookFails rules.tick given.meter given.ticks fault sights meter ticks → Ends rules s (Err fault) moments sights meter ticks
-  ReadEnds : (now : ℕ) (sights : List Sight) (after : At P A ghosts) (error : Error) (ending : Ending) → s.left ≡ [] → Checks rules s false now sights after → Tells rules.times after.stay.turn now None → IsOfRead error ending
+  ReadEnds : (now : ℕ) (sights : List Sight) (after : At P A ghosts) (error : Error) (ending : Ending) → s.left ≡ [] → Checks rules s false now sights after → Tells rules after.stay.turn now None → IsOfRead error ending
       → Ends rules s (Ok ending) (Unheard error ∷ []) (Second (Some now) ∷ sights) after.meter after.ticks
-  ReplyEnds : (reply part missing : List ℕ) (given : At P A ghosts) (error : Error) → Gives s (Some reply) given → part ++ missing ≡ reply → Ends rules s (Ok (Failed error)) (Broke part ∷ []) [] given.meter given.ticks
+  ReplyEnds : (reply part missing : List ℕ) (given : At P A ghosts) (error : Error) → Gives s (Some reply) given → part ++ missing ≡ reply → Ends rules s (Ok (broken given.stay.turn.tries error)) (Broke part ∷ []) [] given.meter given.ticks
   Tires : s.left ≡ [] → s.reads ≡ 2 ^ 64 - 1 → Ends rules s (Err Io) [] [] s.meter s.ticks
 
 -- From there it went on, and ended so.

@@ -2,6 +2,7 @@
 use Rattle.std.specs.Prelude.{◌≡◌, ℕ, List}
 use Rattle.std.specs.declared.io.Error.{Error}
 use Rattle.dlms_ends.specs.declared.fault.LoopFault.{LoopFault}
+use Rattle.dlms_field.specs.declared.clocks.ClockFault.{ClockFault}
 use Rattle.dlms_field.specs.declared.fault.FieldFault.{FieldFault}
 use Rattle.dlms_field.specs.declared.fault.FieldFault.TheVariants.{System, Secret, Late, Clock, Other}
 
@@ -14,3 +15,13 @@ IsSystemAt place error _ = ⊥
 abbrev pub IsOther : FieldFault → LoopFault → Type 0
 IsOther (Other fault) given = fault ≡ given
 IsOther _ given = ⊥
+
+-- the deadline of so many seconds was over at this address
+abbrev pub IsLateAt : List ℕ → ℕ → FieldFault → Type 0
+IsLateAt place seconds (Late at deadline) = (at.now ≡ place) × (deadline ≡ seconds)
+IsLateAt place seconds _ = ⊥
+
+-- the rows from this address were refused for their clocks
+abbrev pub IsClockAt : List ℕ → ClockFault → FieldFault → Type 0
+IsClockAt place why (Clock at told) = (at.now ≡ place) × (told ≡ why)
+IsClockAt place why _ = ⊥

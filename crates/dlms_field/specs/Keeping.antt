@@ -1,5 +1,5 @@
 -- The readings file of a poll: held, opened, and the rows that are filed there.
-use Rattle.std.specs.Prelude.{◌≡◌, ◌<◌, ◌-◌, ◌⊎◌, ℕ, List, [], ◌∷◌, length, slice_get, Option, Some, None, Result, Ok, Err, IsOk, MatchResult}
+use Rattle.std.specs.Prelude.{◌≡◌, ◌<◌, ◌⊎◌, ℕ, List, [], ◌∷◌, length, Option, Some, None, Result, Ok, Err, IsOk}
 use Rattle.std.specs.declared.io.Error.{Error}
 use Rattle.dlms_headend.specs.declared.row.Row.{Row}
 use Rattle.dlms_ends.specs.Faults.{IsOfSystem}
@@ -12,7 +12,7 @@ use Rattle.dlms_filing.specs.declared.filing.FilingFault.{FilingFault}
 use Rattle.dlms_filing.specs.declared.filing.FilingFault.TheVariants as filing
 use Rattle.dlms_filing.specs.declared.filing.OpeningFault.{OpeningFault}
 use Rattle.dlms_filing.specs.declared.filing.OpeningFault.TheVariants as opening
-use Rattle.dlms_field.specs.Clocks.{left_out}
+use Rattle.dlms_field.specs.Risers.{count_left_out, risers}
 use Rattle.dlms_field.specs.Faults.{IsOther, IsSystemAt}
 use Rattle.dlms_field.specs.declared.fault.FieldFault.{FieldFault}
 
@@ -49,24 +49,20 @@ abbrev pub PrintsLine : {T : Type 0} → Printed → Printed → Result T LoopFa
 PrintsLine errors errors' (Ok done) = (line : List ℕ) × Prints errors errors' line
 PrintsLine errors errors' (Err fault) = ((fault ≡ Memory) × PrintsNothing errors errors') ⊎ (IsOfSystem fault × (line : List ℕ) × PrintsPart errors errors' line)
 
--- Where a file is named, and any are left out of it, their number is told.
-abbrev pub TellsCount : {T : Type 0} → Option (List ℕ) → ℕ → Printed → Printed → Result T LoopFault → Type 0
-TellsCount None count errors errors' result = PrintsNothing errors errors' × IsOk result
-TellsCount (Some file) count errors errors' result = (count ≡ 0 → PrintsNothing errors errors' × IsOk result) × (0 < count → PrintsLine errors errors' result)
+-- If any rows are left out, that is reported.
+abbrev pub ReportsCount : {T : Type 0} → ℕ → Printed → Printed → Result T LoopFault → Type 0
+ReportsCount count errors errors' result = (count ≡ 0 → PrintsNothing errors errors' × IsOk result) × (0 < count → PrintsLine errors errors' result)
 
--- how many a merge leaves out of these readings
-abbrev pub count_left_out : List Row → List Row → ℕ
-count_left_out before rows = length (left_out (slice_get before (length before - 1)) rows)
-
--- It is told how many are left out, and the rows are filed.
-pub record FilesPolled (file : Option (List ℕ)) (asked asked' : Option (List Asked)) (printed printed' errors errors' : Printed) (before rows : List Row) : Type 0 where
-  pub tells : TellsCount {T = Unit {0}} file (count_left_out before rows) errors errors' (Ok tt)
+-- It is reported how many rows are left out, and those that are later than every row before them are filed.
+pub record FilesPolled (asked asked' : Option (List Asked)) (printed printed' errors errors' : Printed) (before rows : List Row) : Type 0 where
+  pub reports : ReportsCount {T = Unit {0}} (count_left_out before rows) errors errors' (Ok tt)
   pub after : List Row
-  pub files : FilesRows {T = Unit {0}} asked asked' printed printed' before rows (Ok tt) after
+  pub files : FilesRows {T = Unit {0}} asked asked' printed printed' before (risers rows) (Ok tt) after
 
--- Or the number could not be told, and nothing else was done; or they could not be filed.
+-- Or there was no memory for them; or the report failed, and nothing else was done; or they could not be filed.
 pub data FilesNone (file : Option (List ℕ)) (asked asked' : Option (List Asked)) (printed printed' errors errors' : Printed) (before rows : List Row) (fault : FieldFault) : Type 0 where
-  Untold : (why : LoopFault) → TellsCount {T = Unit {0}} file (count_left_out before rows) errors errors' (Err why) → IsOther fault why → asked' ≡ asked → printed' ≡ printed
+  Unkept : IsOther fault Memory → 0 < length rows → asked' ≡ asked → printed' ≡ printed → errors' ≡ errors → FilesNone file asked asked' printed printed' errors errors' before rows fault
+  Unreported : (why : LoopFault) → ReportsCount {T = Unit {0}} (count_left_out before rows) errors errors' (Err why) → IsOther fault why → asked' ≡ asked → printed' ≡ printed
       → FilesNone file asked asked' printed printed' errors errors' before rows fault
-  Unfiled : TellsCount {T = Unit {0}} file (count_left_out before rows) errors errors' (Ok tt) → (why : FilingFault) (after : List Row) → FilesRows {T = Unit {0}} asked asked' printed printed' before rows (Err why) after
+  Unfiled : ReportsCount {T = Unit {0}} (count_left_out before rows) errors errors' (Ok tt) → (why : FilingFault) (after : List Row) → FilesRows {T = Unit {0}} asked asked' printed printed' before (risers rows) (Err why) after
       → TellsFiling file why fault → FilesNone file asked asked' printed printed' errors errors' before rows fault

@@ -1,5 +1,6 @@
 pub mod HangingUp
 pub mod Clocks
+pub mod Risers
 pub mod Deadline
 pub mod Load
 pub mod Pace
@@ -17,3 +18,6 @@ pub mod Calling
 pub mod Keeping
 pub mod Faults
 pub mod ServingLine
+pub mod Guesses
+pub mod Queue
+pub mod GuessRuns

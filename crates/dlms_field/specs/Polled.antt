@@ -106,9 +106,9 @@ pub record IsDone (polling : Polling) (before after : Known) : Type 0 where
   pub ready : IsReady polling before.seen seen before.asked asked secret rows limit
   pub done : PollerValue
   pub called : HasDone polling.address.now polling.deadline before.past after.past seen after.seen (fresh_poll (plan_behind polling.client secret rows)) done
-  pub takes : Takes limit done.talk.rows
+  pub takes : Takes polling.strict limit done.talk.rows
   pub polled : IsDonePoll (plan_behind polling.client secret rows) done
-  pub files : FilesPolled (readings_of polling) asked after.asked before.printed after.printed before.errors after.errors rows done.talk.rows
+  pub files : FilesPolled asked after.asked before.printed after.printed before.errors after.errors rows done.talk.rows
 
 -- nothing was printed, and nothing told
 abbrev pub PrintsNone : Known → Known → Type 0
@@ -118,10 +118,10 @@ PrintsNone before after = (after.printed ≡ before.printed) × (after.errors �
 pub data PollFails (polling : Polling) (before after : Known) (fault : FieldFault) : Type 0 where
   NotReady : IsUnready polling before.seen after.seen before.asked after.asked fault → after.past ≡ before.past → PrintsNone before after → PollFails polling before after fault
   NotCalled : (secret : List ℕ) (rows : List Row) (limit : Option Limit) (seen : Option (List Sight)) → IsReady polling before.seen seen before.asked after.asked secret rows limit
-      → FailsCalled polling.address.now polling.deadline limit before.past after.past seen after.seen (fresh_poll (plan_behind polling.client secret rows)) fault → PrintsNone before after
+      → FailsCalled polling.address.now polling.deadline polling.strict limit before.past after.past seen after.seen (fresh_poll (plan_behind polling.client secret rows)) fault → PrintsNone before after
       → PollFails polling before after fault
   NotFiled : (secret : List ℕ) (rows : List Row) (limit : Option Limit) (seen : Option (List Sight)) (asked : Option (List Asked)) → IsReady polling before.seen seen before.asked asked secret rows limit
-      → (done : PollerValue) → HasDone polling.address.now polling.deadline before.past after.past seen after.seen (fresh_poll (plan_behind polling.client secret rows)) done → Takes limit done.talk.rows
+      → (done : PollerValue) → HasDone polling.address.now polling.deadline before.past after.past seen after.seen (fresh_poll (plan_behind polling.client secret rows)) done → Takes polling.strict limit done.talk.rows
       → FilesNone (readings_of polling) asked after.asked before.printed after.printed before.errors after.errors rows done.talk.rows fault → PollFails polling before after fault
 
 abbrev pub Polls : {T : Type 0} → Polling → Known → Known → Result T FieldFault → Type 0

@@ -7,8 +7,10 @@ use Rattle.std.specs.declared.net.socket_addr.SocketAddr.{SocketAddr}
 use Rattle.dlms_ends.specs.Faults.{IsOfSystem}
 use Rattle.dlms_ends.specs.Moments.{Moment}
 use Rattle.dlms_ends.specs.declared.fault.LoopFault.{LoopFault}
+use Rattle.dlms_meter.specs.Run.{MeterWorld, Stands, events_of}
 use Rattle.dlms_meter.specs.declared.meter.Meter.{Meter}
 use Rattle.dlms_pages.specs.declared.device.Pages.{Ghosts}
+use Rattle.dlms_state.specs.Events.{moment_after}
 use Rattle.dlms_field.specs.Connection.{Connection, Looked, LookFails}
 use Rattle.dlms_field.specs.Faults.{IsOther}
 use Rattle.dlms_field.specs.HangingUp.{HangsUp}
@@ -30,7 +32,7 @@ pub data Visits {P A : Type 0} {ghosts : Ghosts P} (rules : Rules) (seen seen' :
   Prepared : (now : Option (List Sight)) (old new : Option (List Moment)) (result : Result Ending LoopFault) (meter' : Meter P A ghosts) (ticks' : Ticks) → Sees seen now (Prepares None ∷ [])
       → Connection rules old new now seen' meter ticks result meter' ticks' → Visits rules seen seen' meter ticks result meter' ticks'
 
--- This address, whose association requests were refused too often, is not taken for a while; the clock is looked at for that.
+-- The watch is told of this address, whose association request was refused; the clock is looked at for that.
 abbrev pub Bans : {T : Type 0} → SocketAddr → Option (List Sight) → Option (List Sight) → Result T LoopFault → Type 0
 Bans address seen seen' (Ok done) = (now : ℕ) × Sees seen seen' (Second (Some now) ∷ Bars address now ∷ [])
 Bans address seen seen' (Err fault) = Sees seen seen' (Second None ∷ []) × IsOfSystem fault
@@ -111,9 +113,13 @@ abbrev pub ServesAll : {P A T : Type 0} → {ghosts : Ghosts P} → Rules → Op
 ServesAll rules seen seen' meter ticks (Ok done) meter' ticks' = ServesMany rules seen meter ticks (2 ^ 64 - 1) seen' meter' ticks'
 ServesAll rules seen seen' meter ticks (Err fault) meter' ticks' = ServesUntil rules seen seen' meter ticks fault meter' ticks'
 
--- A meter is served from its last running second on, no second of the clock being told yet; or the clock, the port or the output failed
+-- this is the moment after the meter's events
+abbrev pub FollowsEvents : {P A : Type 0} → {ghosts : Ghosts P} → Meter P A ghosts → ℕ → Type 0
+FollowsEvents meter first = (w : MeterWorld) → Stands meter w → first ≡ moment_after (events_of w)
+
+-- A meter is served from the moment after its events on, no second of the clock being told yet; or the clock, the port or the output failed
 -- before anything of it was.
 pub data Serves {P A : Type 0} {ghosts : Ghosts P} (rules : Rules) (load : ℕ) (meter : Meter P A ghosts) : Result (Unit {0}) FieldFault → Meter P A ghosts → Type 0 where
   NotBegun : (given : FieldFault) → ((fault : LoopFault) × IsOther given fault × IsOfSystem fault) ⊎ ((error : Error) × IsSystem given error) → Serves rules load meter (Err given) meter
-  HasServed : (seen seen' : Option (List Sight)) (ticks ticks' : Ticks) (result : Result (Unit {0}) FieldFault) (meter' : Meter P A ghosts) → ticks.told ≡ 0 → ticks.watts ≡ load
+  HasServed : (seen seen' : Option (List Sight)) (ticks ticks' : Ticks) (result : Result (Unit {0}) FieldFault) (meter' : Meter P A ghosts) → FollowsEvents meter ticks.first → ticks.told ≡ 0 → ticks.watts ≡ load
       → ServesAll rules seen seen' meter ticks result meter' ticks' → Serves rules load meter result meter'

@@ -12,7 +12,7 @@ use Rattle.dlms_pages.specs.declared.device.Pages.{Ghosts}
 use Rattle.dlms_field.specs.Connection.{Connection}
 use Rattle.dlms_field.specs.Faults.{IsOther, IsSystemAt}
 use Rattle.dlms_field.specs.HangingUp.{HangsUp}
-use Rattle.dlms_field.specs.Serving.{is_refused}
+use Rattle.dlms_field.specs.Serving.{FollowsEvents, is_refused}
 use Rattle.dlms_field.specs.Watching.{Sight, Sees}
 use Rattle.dlms_field.specs.Watching.Sight.{Pauses}
 use Rattle.dlms_field.specs.declared.fault.FieldFault.{FieldFault}
@@ -77,9 +77,9 @@ abbrev pub AllTurns : {P A T : Type 0} → {ghosts : Ghosts P} → List ℕ → 
 AllTurns device rules old new seen seen' meter ticks (Ok done) meter' ticks' = ServesTurns device rules old seen meter ticks (2 ^ 64 - 1) new seen' meter' ticks'
 AllTurns device rules old new seen seen' meter ticks (Err fault) meter' ticks' = TurnsUntil device rules old new seen seen' meter ticks fault meter' ticks'
 
--- A meter is served from its last running second on, no second of the clock being told yet; or the clock, the device or the output failed
+-- A meter is served from the moment after its events on, no second of the clock being told yet; or the clock, the device or the output failed
 -- before anything of it was.
 pub data ServesLine {P A : Type 0} {ghosts : Ghosts P} (device : List ℕ) (rules : Rules) (load : ℕ) (meter : Meter P A ghosts) : Result (Unit {0}) FieldFault → Meter P A ghosts → Type 0 where
   NotBegun : (given : FieldFault) → ((fault : LoopFault) × IsOther given fault × IsOfSystem fault) ⊎ ((error : Error) × IsSystemAt device error given) → ServesLine device rules load meter (Err given) meter
-  HasServed : (old new : Option (List Moment)) (seen seen' : Option (List Sight)) (ticks ticks' : Ticks) (result : Result (Unit {0}) FieldFault) (meter' : Meter P A ghosts) → ticks.told ≡ 0 → ticks.watts ≡ load
+  HasServed : (old new : Option (List Moment)) (seen seen' : Option (List Sight)) (ticks ticks' : Ticks) (result : Result (Unit {0}) FieldFault) (meter' : Meter P A ghosts) → FollowsEvents meter ticks.first → ticks.told ≡ 0 → ticks.watts ≡ load
       → AllTurns device rules old new seen seen' meter ticks result meter' ticks' → ServesLine device rules load meter result meter'

@@ -2,22 +2,21 @@
 -- setup (Blue Book 4.7.2); the others are this project's own, so that whoever waits behind n others has the line within n times
 -- the longest turn.
 use Rattle.std.specs.Prelude.{◌≡◌, ◌+◌, ◌≤◌, ◌<◌, ℕ, Option, Some, None}
-use Rattle.dlms_field.specs.declared.turns.Times.{Times}
+use Rattle.dlms_field.specs.declared.talking.Rules.{Rules}
 use Rattle.dlms_field.specs.declared.turns.Turn.{Turn}
 use Rattle.dlms_field.specs.declared.turns.Over.{Over}
 use Rattle.dlms_field.specs.declared.turns.Over.TheVariants.{Refused, Inactive, Idle, Long}
-use Rattle.dlms_field.specs.declared.turns.TheConstants.{MOST_REFUSALS}
 
 -- another connection waits since this second
 abbrev pub WaitsSince : Turn → ℕ → Type 0
 WaitsSince turn since = turn.waited ≡ Some since
 
 -- the turn is over at this second for this reason
-abbrev pub IsOver : Times → Turn → ℕ → Over → Type 0
-IsOver times turn now Refused = MOST_REFUSALS ≤ turn.refusals
-IsOver times turn now Inactive = turn.answered + times.inactivity ≤ now
-IsOver times turn now Idle = (since : ℕ) × WaitsSince turn since × (turn.held + times.idle ≤ now)
-IsOver times turn now Long = (since : ℕ) × WaitsSince turn since × (since + times.longest ≤ now)
+abbrev pub IsOver : Rules → Turn → ℕ → Over → Type 0
+IsOver rules turn now Refused = rules.refusals ≤ turn.tries.refusals
+IsOver rules turn now Inactive = turn.answered + rules.times.inactivity ≤ now
+IsOver rules turn now Idle = (since : ℕ) × WaitsSince turn since × (turn.held + rules.times.idle ≤ now)
+IsOver rules turn now Long = (since : ℕ) × WaitsSince turn since × (since + rules.times.longest ≤ now)
 
 -- the reasons in the order in which they are told
 abbrev pub place_of : Over → ℕ
@@ -27,6 +26,6 @@ place_of Idle = 2
 place_of Long = 3
 
 -- what is told of a turn at this second: the first reason for which it is over, and none only where it is over for none
-abbrev pub Tells : Times → Turn → ℕ → Option Over → Type 0
-Tells times turn now (Some why) = IsOver times turn now why × ((other : Over) → place_of other < place_of why → IsOver times turn now other → ⊥)
-Tells times turn now None = (why : Over) → IsOver times turn now why → ⊥
+abbrev pub Tells : Rules → Turn → ℕ → Option Over → Type 0
+Tells rules turn now (Some why) = IsOver rules turn now why × ((other : Over) → place_of other < place_of why → IsOver rules turn now other → ⊥)
+Tells rules turn now None = (why : Over) → IsOver rules turn now why → ⊥

@@ -8,7 +8,8 @@ pub use Rattle.dlms_filing.specs.Filing.{error_in}
 -- since 1970, or it failed; the steady clock began anew, or that failed.
 -- The steady clock was looked at: so many whole seconds have gone by, or it failed. It was asked at this second whether another connection
 -- waits; the next connection was taken at this second, from this address, if there was one, or that failed; it was made ready, or that
--- failed; this address is not taken for a while from this second on; and a while went by.
+-- failed; an association request from this address was refused at this second; who is served has proved a secret at this second; and a while
+-- went by.
 pub data Sight : Type 0 where
   Reads : (file : List ℕ) (bytes : Result (List ℕ) Error) → Sight
   Dates : (second : Result ℕ Error) → Sight
@@ -18,6 +19,7 @@ pub data Sight : Type 0 where
   Next : (now : ℕ) (came : Result (Option SocketAddr) Error) → Sight
   Prepares : (failed : Option Error) → Sight
   Bars : (address : SocketAddr) (now : ℕ) → Sight
+  Trusts : (now : ℕ) → Sight
   Pauses : Sight
 
 -- where it is known what was asked, this came behind it

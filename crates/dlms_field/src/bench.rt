@@ -1,8 +1,9 @@
 //! The system's clock, as a meter that serves a serial line watches it.
 
-use crate::refusals::BARRED_SECONDS;
+use crate::guesses::{Guesses, Origin, most_wait};
 use crate::serial::Serial;
 use crate::watch::{Peer, Watch};
+use std::alloc::Global;
 use std::net::SocketAddr;
 use std::time::{Clock, Duration, Instant};
 use std::{io, thread};
@@ -12,12 +13,25 @@ use std::{io, thread};
 pub struct Bench<'r, R: Clock> {
     rt: &'r R,
     start: Instant,
+    guesses: Guesses,
 }
 
 impl<'r, R: Clock> Bench<'r, R> {
-    /// A clock that began then.
-    pub fn new(rt: &'r R, start: Instant) -> Self {
-        Bench { rt, start }
+    /// A clock that began then, beside a line over which nobody was refused.
+    pub fn new(rt: &'r R, alloc: Global, start: Instant) -> Self {
+        Bench {
+            rt,
+            start,
+            guesses: Guesses::none(alloc),
+        }
+    }
+
+    /// How many whole seconds have gone by, or the last one that there is where the clock fails.
+    fn now(&self) -> u64 {
+        match self.start.elapsed(self.rt) {
+            Ok(elapsed) => elapsed.as_secs(),
+            Err(_) => u64::MAX,
+        }
     }
 }
 
@@ -42,8 +56,16 @@ impl<R: Clock> Watch for Bench<'_, R> {
 
     fn bar(&mut self, _address: SocketAddr, _now: u64) {}
 
-    /// As long as an address would be barred.
+    fn trust(&mut self, now: u64) {
+        let _kept = self.guesses.prove(Origin::Line, now);
+    }
+
+    /// As long as an address would wait behind one refusal more.
     fn pause(&mut self) {
-        thread::sleep(self.rt, Duration::from_secs(BARRED_SECONDS));
+        let now = self.now();
+        let most = most_wait(self.guesses.is_known(Origin::Line, now), false);
+        let wait = self.guesses.wait_behind(Origin::Line, now).min(most);
+        let _kept = self.guesses.refuse(Origin::Line, now);
+        thread::sleep(self.rt, Duration::from_secs(u64::from(wait)));
     }
 }

@@ -1,7 +1,7 @@
 //! The clocks of polled rows, judged.
 
 ghost use Rattle.std.specs.Prelude.{◌≡◌, ◌↔◌, IsTrue, IfSome, IfNone, MatchResult, length};
-ghost use Rattle.dlms_field.specs.Clocks.{Rise, IsFirstFallen, IsAhead, AreInTime, IsFirstAhead, same, is_left_out, left_out, Refuses, Takes};
+ghost use Rattle.dlms_field.specs.Clocks.{Rise, IsFirstFallen, IsAhead, AreInTime, IsFirstAhead, AreInLimit, IsBeyond, IsOutOfOrder, RisesIf, Refuses, Takes};
 
 use dlms_headend::Row;
 
@@ -63,13 +63,23 @@ pub fn first_ahead(now: u64, margin: u32, rows: &[Row]) -> Option<usize>
     None
 }
 
-/// Judges the clocks of an answer's rows: each is later than the row before it, and none is past the limit, where there is one.
-pub fn judge(rows: &[Row], limit: Option<Limit>) -> Result<(), ClockFault>
-    ensures { MatchResult result (λ _. Takes limit rows.now) (Refuses limit rows.now) }
+/// Judges the order of an answer's rows: if it is to be strict, each row has to be later than the one before it.
+fn judge_order(rows: &[Row], strict: bool) -> Result<(), ClockFault>
+    ensures { MatchResult result (λ _. RisesIf strict rows.now) (IsOutOfOrder strict rows.now) }
 {
-    if let Some(number) = first_fallen(rows) {
-        return Err(ClockFault::Fallen(number));
+    if !strict {
+        return Ok(());
     }
+    match first_fallen(rows) {
+        Some(number) => Err(ClockFault::Fallen(number)),
+        None => Ok(()),
+    }
+}
+
+/// Judges the clocks of an answer's rows by the limit, if there is one: none may be past it.
+fn judge_limit(rows: &[Row], limit: Option<Limit>) -> Result<(), ClockFault>
+    ensures { MatchResult result (λ _. AreInLimit limit rows.now) (IsBeyond limit rows.now) }
+{
     let Some(limit) = limit else {
         return Ok(());
     };
@@ -79,32 +89,13 @@ pub fn judge(rows: &[Row], limit: Option<Limit>) -> Result<(), ClockFault>
     }
 }
 
-/// Whether two rows are the same.
-fn is_same(one: &Row, other: &Row) -> bool
-    ensures { result ≡ same one.now other.now }
+/// Judges the clocks of an answer's rows: with `strict` each is later than the row before it, and none is past the limit, if there is
+/// one. The order is judged first.
+pub fn judge(rows: &[Row], limit: Option<Limit>, strict: bool) -> Result<(), ClockFault>
+    ensures { MatchResult result (λ _. Takes strict limit rows.now) (Refuses strict limit rows.now) }
 {
-    one.clock == other.clock && one.registers.as_slice() == other.registers.as_slice()
-}
-
-/// Whether a row is neither later than a file's last one nor that one.
-fn is_left_out(last: Option<Row>, row: &Row) -> bool
-    ensures { result ≡ is_left_out last row.now }
-{
-    match last {
-        None => false,
-        Some(last) => row.clock <= last.clock && !is_same(&last, row),
+    match judge_order(rows, strict) {
+        Ok(()) => judge_limit(rows, limit),
+        Err(fault) => Err(fault),
     }
-}
-
-/// How many of the rows a merge leaves out of a file with this last row, but for that row itself: those that are not later.
-pub fn left_out(last: Option<Row>, rows: &[Row]) -> usize
-    ensures { result ≡ length (left_out last rows.now) }
-{
-    let mut count = 0usize;
-    for row in rows {
-        if is_left_out(last, row) {
-            count += 1;
-        }
-    }
-    count
 }

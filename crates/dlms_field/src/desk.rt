@@ -2,20 +2,27 @@
 
 ghost use Rattle.std.specs.Prelude.{[], ◌∷◌};
 ghost use Rattle.dlms_field.specs.Watching.{Sees, bytes_in, error_in};
-ghost use Rattle.dlms_field.specs.Watching.Sight.{Dates, Reads, Starts};
+ghost use Rattle.dlms_field.specs.Watching.Sight.{Dates, Pauses, Reads, Starts};
 
 use crate::deadline::Timer;
 use crate::secret::{MOST_READ, first_bytes};
 use arrayvec::ArrayVec;
 use std::fs::Files;
-use std::io;
-use std::time::{Clock, Instant};
+use std::time::{Clock, Duration, Instant};
+use std::{io, thread};
+
+/// For how many seconds a poll pauses before it tries again.
+const PAUSE_SECONDS: u64 = 1;
 
 /// A steady clock, the clock of the day, and the files of secrets.
 pub trait Desk: Timer {
     /// The steady clock begins anew.
     fn start(&mut self) -> io::Result<()>
         ensures { Sees (Self.seen self.old) (Self.seen self.new) (Starts (error_in result) ∷ []) };
+
+    /// Lets a second go by.
+    fn pause(&mut self)
+        ensures { Sees (Self.seen self.old) (Self.seen self.new) (Pauses ∷ []) };
 
     /// The second of the clock of the day, counted from 1970-01-01 00:00:00 UTC.
     fn date(&mut self) -> io::Result<u64>
@@ -53,6 +60,10 @@ impl<R: Clock + Files> Desk for HostDesk<'_, R> {
     fn start(&mut self) -> io::Result<()> {
         self.start = Some(Instant::now(self.rt)?);
         Ok(())
+    }
+
+    fn pause(&mut self) {
+        thread::sleep(self.rt, Duration::from_secs(PAUSE_SECONDS));
     }
 
     fn date(&mut self) -> io::Result<u64> {

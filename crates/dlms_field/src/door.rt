@@ -1,8 +1,10 @@
 //! The system's clock and a TCP port of it, as a meter that serves watches them.
 
-use crate::refusals::Barred;
+use crate::guesses::{Guesses, Origin};
+use crate::queue::{MOST_WAITING, Place, giving_way, next_of, round_of};
 use crate::watch::{Peer, Watch};
-use std::io::{Read, Write};
+use std::alloc::Global;
+use std::io::{ErrorKind, Read, Write};
 use std::net::{OpenListener, OpenStream, SocketAddr};
 use std::time::{Clock, Duration, Instant};
 use std::{io, thread};
@@ -13,37 +15,107 @@ const WAKE_SECONDS: u64 = 1;
 /// For how many milliseconds the next connection is waited for before it is asked for again.
 const PAUSE_MILLISECONDS: u64 = 10;
 
-/// A port, the clock since the beginning, the connection that waits, and whose connections are not taken.
+/// So many connections are taken from the system at once.
+const MOST_TAKEN: usize = 1_024;
+
+/// A port, the clock since the beginning, and the connections that wait. `peers` and `places` have one entry for each of these.
 #[derive(Drop)]
 pub struct Door<'r, R: Clock, L: OpenListener> {
     rt: &'r R,
     start: Instant,
     listener: L,
-    waiting: Option<Peer<L::Stream>>,
-    barred: Barred,
+    peers: Vec<Peer<L::Stream>>,
+    places: Vec<Place>,
+    guesses: Guesses,
+    /// The latest round that was served.
+    round: u64,
+    /// Whether addresses that have proved a secret go before the others at the next turn.
+    prefers_known: bool,
+    /// Whose turn it is.
+    served: Option<Origin>,
 }
 
 impl<'r, R: Clock, L: OpenListener> Door<'r, R, L> {
-    /// Nobody waits, and nobody is barred.
+    /// Nobody waits, and nobody was refused.
     #[inline(never)]
-    pub fn new(rt: &'r R, start: Instant, listener: L) -> Self {
+    pub fn new(rt: &'r R, alloc: Global, start: Instant, listener: L) -> Self {
         Door {
             rt,
             start,
             listener,
-            waiting: None,
-            barred: Barred::none(),
+            peers: Vec::new(alloc),
+            places: Vec::new(alloc),
+            guesses: Guesses::none(alloc),
+            round: 0,
+            prefers_known: true,
+            served: None,
         }
     }
 
-    /// A connection that has come, unless its address is barred.
-    fn accepted(&mut self, now: u64) -> io::Result<Option<Peer<L::Stream>>> {
-        let (stream, address) = self.listener.accept()?;
-        if self.barred.takes(address.ip(), now) {
-            Ok(Some(Peer { stream, address }))
-        } else {
-            Ok(None)
+    /// Takes one of those that wait out of the queue.
+    fn leave(&mut self, index: usize) -> Option<(Peer<L::Stream>, Place)> {
+        if index >= self.peers.len() || index >= self.places.len() {
+            return None;
         }
+        let place = self.places.remove(index);
+        Some((self.peers.remove(index), place))
+    }
+
+    /// Whether there is room for a connection from there, where need be because another one gives way.
+    fn makes_room(&mut self, origin: Origin, round: u64, now: u64) -> bool {
+        if self.places.len() < MOST_WAITING {
+            return true;
+        }
+        match giving_way(self.places.as_slice(), origin, round, &self.guesses, now) {
+            Some(index) => self.leave(index).is_some(),
+            None => false,
+        }
+    }
+
+    /// A connection waits from now on, or is closed where there is no room or no memory for it.
+    fn admit(&mut self, peer: Peer<L::Stream>, now: u64) {
+        let origin = Origin::of(peer.address.ip());
+        let round = round_of(self.places.as_slice(), origin, self.round);
+        if !self.makes_room(origin, round, now) {
+            return;
+        }
+        let place = Place {
+            origin,
+            since: now,
+            round,
+        };
+        if self.places.push(place).is_err() {
+            return;
+        }
+        if self.peers.push(peer).is_err() {
+            let _place = self.places.pop();
+        }
+    }
+
+    /// Takes all connections that have come. The error is why there is no further one.
+    fn admit_all(&mut self, now: u64) -> io::Error {
+        for _taken in 0..MOST_TAKEN {
+            match self.listener.accept() {
+                Ok((stream, address)) => self.admit(Peer { stream, address }, now),
+                Err(error) => return error,
+            }
+        }
+        ErrorKind::WouldBlock.into()
+    }
+
+    /// Which connection is served next. Those of addresses that have proved a secret go before the others, unless such a one was served
+    /// last.
+    fn choose(&self, now: u64) -> Option<usize> {
+        let known = next_of(
+            self.places.as_slice(),
+            &self.guesses,
+            self.prefers_known,
+            now,
+        );
+        if known.is_some() {
+            return known;
+        }
+        next_of(self.places.as_slice(), &self.guesses, false, now)
     }
 }
 
@@ -58,17 +130,24 @@ where
     }
 
     fn another_waits(&mut self, now: u64) -> bool {
-        if self.waiting.is_none() {
-            self.waiting = self.accepted(now).unwrap_or(None);
-        }
-        self.waiting.is_some()
+        let _error = self.admit_all(now);
+        self.choose(now).is_some()
     }
 
     fn next(&mut self, now: u64) -> io::Result<Option<Peer<L::Stream>>> {
-        if let Some(peer) = self.waiting.take() {
-            return Ok(Some(peer));
+        let error = self.admit_all(now);
+        let Some(index) = self.choose(now) else {
+            return Err(error);
+        };
+        match self.leave(index) {
+            Some((peer, place)) => {
+                self.round = self.round.max(place.round);
+                self.prefers_known = !self.guesses.is_known(place.origin, now);
+                self.served = Some(place.origin);
+                Ok(Some(peer))
+            }
+            None => Err(error),
         }
-        self.accepted(now)
     }
 
     /// Bytes go out at once, and no call waits for more than a second.
@@ -79,7 +158,13 @@ where
     }
 
     fn bar(&mut self, address: SocketAddr, now: u64) {
-        self.barred.bar(address.ip(), now);
+        let _kept = self.guesses.refuse(Origin::of(address.ip()), now);
+    }
+
+    fn trust(&mut self, now: u64) {
+        if let Some(origin) = self.served {
+            let _kept = self.guesses.prove(origin, now);
+        }
     }
 
     fn pause(&mut self) {

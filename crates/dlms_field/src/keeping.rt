@@ -1,11 +1,12 @@
 //! The readings file of a poll.
 
-ghost use Rattle.std.specs.Prelude.{◌≡◌, ◌-◌, length, slice_get, option_map, MatchResult, IfErr, IfOk};
+ghost use Rattle.std.specs.Prelude.{◌≡◌, option_map, IfErr, IfOk};
 ghost use Rattle.dlms_headend.specs.Rows.{AreReadings};
-ghost use Rattle.dlms_field.specs.Keeping.{FilesNone, FilesPolled, HoldsFile, OpensFile, PrintsLine, TellsCount, TellsFiling, TellsOpening, TellsPlace};
+ghost use Rattle.dlms_field.specs.Keeping.{FilesNone, FilesPolled, HoldsFile, OpensFile, PrintsLine, ReportsCount, TellsFiling, TellsOpening, TellsPlace};
+ghost use Rattle.dlms_field.specs.Risers.{risers};
 
-use crate::clocks::left_out;
 use crate::fault::FieldFault;
+use crate::rising::{first_left_out, left_out, risers};
 use dlms_ends::LoopFault;
 use dlms_filing::{Filing, FilingFault, Holding, OpeningFault, Output, file_rows, open_rows};
 use dlms_headend::{Readings, Row};
@@ -70,46 +71,70 @@ fn filing_fault<'a>(file: Option<&'a str>, fault: FilingFault) -> FieldFault<'a>
     }
 }
 
-/// Tells how many rows are left out of the file.
-fn tell_count<E: Output>(
+/// Reports how many rows are left out, and the clock of the first of them.
+fn report<E: Output>(
     alloc: Global,
     errors: &mut E,
-    file: &str,
     count: usize,
+    first: u32,
 ) -> Result<(), LoopFault>
     ensures { PrintsLine (E.printed errors.old) (E.printed errors.new) result }
 {
-    let line = format!(in alloc; "left out {count}: not later than the last row of {file}\n")?;
+    let line = format!(in alloc;
+        "left out {count}, the first with clock {first}: not later than the row filed before it\n"
+    )?;
     errors.print(line.as_bytes())?;
     Ok(())
 }
 
-/// Tells how many rows are left out, where a file is named and there are any.
-fn tell<E: Output>(
+/// Reports the rows that are left out, if there are any.
+fn report_any<E: Output>(
     alloc: Global,
     errors: &mut E,
-    file: Option<&str>,
     count: usize,
+    first: Option<u32>,
 ) -> Result<(), LoopFault>
-    ensures { TellsCount (option_map (λ x. x.now) file.entry) count (E.printed errors.old) (E.printed errors.new) result }
+    ensures { ReportsCount count (E.printed errors.old) (E.printed errors.new) result }
 {
-    let Some(file) = file else {
-        return Ok(());
-    };
     if count == 0 {
         return Ok(());
     }
-    tell_count(alloc, errors, file, count)
+    report(alloc, errors, count, first.unwrap_or(0))
 }
 
-/// The last row.
-fn last_row(rows: &[Row]) -> Option<Row>
-    ensures { result ≡ slice_get rows.now (length rows.now - 1) }
+/// Files the rows of a poll that is done, of which `kept` are later than every row before them: these are merged into the readings. How
+/// many rows are left out is reported first.
+fn file_kept<'a, F: Filing, O: Output, E: Output>(
+    alloc: Global,
+    place: &mut F,
+    readings: &mut Readings,
+    rows: &[Row],
+    kept: &[Row],
+    file: Option<&'a str>,
+    output: &mut O,
+    errors: &mut E,
+) -> Result<(), FieldFault<'a>>
+    requires are { AreReadings rows.now }
+    requires kept { kept.now ≡ risers rows.now }
+    ensures files { IfOk result (λ _. FilesPolled (F.asked place.old) (F.asked place.new) (O.printed output.old) (O.printed output.new)
+        (E.printed errors.old) (E.printed errors.new) readings.old rows.now) }
+    ensures fails { IfErr result (FilesNone (option_map (λ x. x.now) file.entry) (F.asked place.old) (F.asked place.new) (O.printed output.old) (O.printed output.new)
+        (E.printed errors.old) (E.printed errors.new) readings.old rows.now) }
 {
-    rows.last().copied()
+    let count = left_out(readings.rows(), rows, kept);
+    let first = first_left_out(readings.rows(), rows);
+    match report_any(alloc, errors, count, first) {
+        Ok(()) => {}
+        Err(fault) => return Err(FieldFault::Other(fault)),
+    }
+    match file_rows(place, readings, kept, output) {
+        Ok(()) => Ok(()),
+        Err(fault) => Err(filing_fault(file, fault)),
+    }
 }
 
-/// Files the rows of a poll that is done, in the file where one is named; how many are left out of it is told first.
+/// Files the rows of a poll that is done, in the file if one is named: each row that is later than the one filed before it, in their
+/// order. How many rows are left out is reported on the errors first.
 #[inline(never)]
 pub fn filed<'a, F: Filing, O: Output, E: Output>(
     alloc: Global,
@@ -121,18 +146,22 @@ pub fn filed<'a, F: Filing, O: Output, E: Output>(
     errors: &mut E,
 ) -> Result<(), FieldFault<'a>>
     requires { AreReadings rows.now }
-    ensures files { IfOk result (λ _. FilesPolled (option_map (λ x. x.now) file.entry) (F.asked place.old) (F.asked place.new) (O.printed output.old) (O.printed output.new)
+    ensures files { IfOk result (λ _. FilesPolled (F.asked place.old) (F.asked place.new) (O.printed output.old) (O.printed output.new)
         (E.printed errors.old) (E.printed errors.new) readings.old rows.now) }
     ensures fails { IfErr result (FilesNone (option_map (λ x. x.now) file.entry) (F.asked place.old) (F.asked place.new) (O.printed output.old) (O.printed output.new)
         (E.printed errors.old) (E.printed errors.new) readings.old rows.now) }
 {
-    let last = last_row(readings.rows());
-    match tell(alloc, errors, file, left_out(last, rows)) {
-        Ok(()) => {}
-        Err(fault) => return Err(FieldFault::Other(fault)),
-    }
-    match file_rows(place, readings, rows, output) {
-        Ok(()) => Ok(()),
-        Err(fault) => Err(filing_fault(file, fault)),
-    }
+    let Ok(kept) = risers(alloc, rows) else {
+        return Err(FieldFault::Other(LoopFault::Memory));
+    };
+    file_kept(
+        alloc,
+        place,
+        readings,
+        rows,
+        kept.as_slice(),
+        file,
+        output,
+        errors,
+    )
 }

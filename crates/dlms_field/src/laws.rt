@@ -4,9 +4,10 @@ ghost use Rattle.std.specs.Prelude.{◌≡◌, ◌+◌, List, length, sum_by};
 ghost use Rattle.dlms_field.specs.declared.clocks.TheConstants.{YEAR_2000};
 ghost use Rattle.dlms_field.specs.declared.hanging_up.TheConstants.{DISC, METER};
 ghost use Rattle.dlms_field.specs.declared.telling.TheConstants.{CATCH_UP};
-ghost use Rattle.dlms_field.specs.declared.turns.TheConstants.{MOST_REFUSALS};
+ghost use Rattle.dlms_field.specs.declared.turns.TheConstants.{LINE_REFUSALS, PORT_REFUSALS};
 ghost use Rattle.dlms_field.specs.Captures.{PlaceHoldsCaptures};
 ghost use Rattle.dlms_field.specs.Load.{pulses_after};
+ghost use Rattle.dlms_field.specs.Risers.{FilesSome};
 ghost use Rattle.dlms_field.specs.Ticks.{AreNext};
 ghost use Rattle.dlms_field.specs.declared.ticks.Ticks.{Ticks as TicksOf};
 ghost use Rattle.dlms_state.specs.declared.event.TheConstants.{MOST_SECRET};
@@ -25,6 +26,11 @@ pub fn pulses_add_up()
     ensures seconds { (old new : TicksOf) (seconds : List SecondOf) → AreNext old seconds new → new.told ≡ old.told + length seconds }
 {}
 
+/// What a poll files of an answer are rows of that answer, in their order.
+pub fn what_is_filed_was_answered()
+    ensures { FilesSome }
+{}
+
 /// Whatever a program has done that polls a meter and files what it read, however often and as whichever client, and wherever the power
 /// or the head end stopped: what it puts in the place of the readings are captures that the meter holds.
 pub fn the_place_holds_captures<P: Pages, A: Allocator + Copy>(meter: &Meter<P, A>)
@@ -40,5 +46,5 @@ pub fn the_numbers()
     ensures year { YEAR_2000 ≡ 946684800 }
     ensures disc { (DISC ≡ 0x53) × (METER ≡ 1) }
     ensures secret { MOST_SECRET ≡ 16 }
-    ensures turn { MOST_REFUSALS ≡ 5 }
+    ensures turn { (PORT_REFUSALS ≡ 1) × (LINE_REFUSALS ≡ 5) }
 {}

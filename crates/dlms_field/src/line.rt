@@ -49,7 +49,10 @@ impl<C: Clock, S: Read + Drop> Read for Line<'_, C, S> {
             return Err(ErrorKind::TimedOut.into());
         }
         match self.stream.read(buf) {
-            Ok(0) => Err(self.keep(io::Error::other("closed by the other end"))),
+            Ok(0) => Err(self.keep(io::Error::new(
+                ErrorKind::UnexpectedEof,
+                "closed by the other end",
+            ))),
             Ok(count) => Ok(count),
             Err(error) => Err(self.keep(error)),
         }

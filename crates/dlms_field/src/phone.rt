@@ -9,10 +9,12 @@ use crate::line::{Line, WAIT_SECONDS};
 use crate::serial::{Serial, is_device};
 use crate::wire::Wire;
 use dlms_ends::{End, Heard, PIECE};
+use dlms_pages::refuse_standard;
 use std::fs::{File, Files};
 use std::io;
 use std::io::{ErrorKind, Read, Write};
 use std::net::{Net, OpenStream, TcpStream, ToSocketAddrs};
+use std::os::fd::AsRawFd;
 use std::time::{Clock, Duration};
 
 /// For how many seconds a connection is waited for.
@@ -141,6 +143,7 @@ impl<R: Net + Files<File = File> + Clock + AllocGlobal> Dialling for Phone<'_, R
             let Some(stream) = connected(self.rt, address, &deadline)? else {
                 return Ok(false);
             };
+            refuse_standard(stream.as_raw_fd())?;
             let mut stream = stream;
             prepare(&mut stream)?;
             Wire::Socket(stream)

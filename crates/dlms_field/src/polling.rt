@@ -1,7 +1,7 @@
 //! A head end that polls the meter at an address once.
 
-ghost use Rattle.std.specs.Prelude.{◌≡◌, IfErr, IfOk, option_map};
-ghost use Rattle.dlms_headend.specs.Asking.{PlanValue};
+ghost use Rattle.std.specs.Prelude.{◌≤◌, IfErr, IfOk, IfSome, option_map};
+ghost use Rattle.dlms_headend.specs.PollerValue.{plan_of};
 ghost use Rattle.dlms_headend.specs.Polling.{fresh_poll};
 ghost use Rattle.dlms_ends.specs.BothEnds.{IsDonePoll};
 ghost use Rattle.dlms_field.specs.Calling.{FailsCalled, HasDone};
@@ -16,10 +16,11 @@ use crate::keeping::{filed, held, opened};
 use crate::phone::{Dialling, Phone};
 use crate::secret::secret_of;
 use arrayvec::ArrayVec;
-use dlms_ends::{LoopFault, poller};
+use dlms_data::LAST_SECOND;
+use dlms_ends::LoopFault;
 use dlms_filing::{FilePlace, Holding, HostDisk, Output};
 use dlms_frame::Client;
-use dlms_headend::{Poller, Readings, Row};
+use dlms_headend::{Columns, Plan, Poller, Readings, Row};
 use std::alloc::Global;
 use std::fs::{File, Files};
 use std::net::Net;
@@ -38,8 +39,10 @@ pub struct Polling<'a> {
     pub client: Client,
     /// For how many seconds the meter is talked to at most.
     pub deadline: u32,
-    /// By how many seconds a row's clock may be past the system's; where none is said, by any.
+    /// By how many seconds a row's clock may be past the system's; without it, by any.
     pub ahead: Option<u32>,
+    /// Whether an answer is refused if one of its rows is not later than the row before it. Otherwise such rows are left out.
+    pub strict: bool,
 }
 
 /// What a head end polls with: what it asks of the world, the place of its readings, and its line.
@@ -146,31 +149,34 @@ fn prepared<'a, D: Desk, F: Holding>(
 
 /// Polls the meter, and judges the clocks of the rows that came.
 fn called<'a, D: Desk, L: Dialling>(
+    alloc: Global,
     desk: &mut D,
     line: &mut L,
     polling: &Polling<'a>,
-    poller: Poller,
+    plan: &Plan,
     limit: Option<Limit>,
 ) -> Result<Poller, FieldFault<'a>>
-    ensures fails { IfErr result (FailsCalled polling.now.address.now polling.now.deadline limit (L.past line.old) (L.past line.new) (D.seen desk.old) (D.seen desk.new) poller) }
-    ensures takes { IfOk result (λ done. HasDone polling.now.address.now polling.now.deadline (L.past line.old) (L.past line.new) (D.seen desk.old) (D.seen desk.new) poller done × Takes limit done.talk.rows) }
-    ensures done { (plan : PlanValue) → poller ≡ fresh_poll plan → IfOk result (IsDonePoll plan) }
+    requires { IfSome plan.now.after (λ second. second ≤ LAST_SECOND) }
+    ensures fails { IfErr result (FailsCalled polling.now.address.now polling.now.deadline polling.now.strict limit (L.past line.old) (L.past line.new) (D.seen desk.old) (D.seen desk.new) (fresh_poll (plan_of plan.now))) }
+    ensures takes { IfOk result (λ done. HasDone polling.now.address.now polling.now.deadline (L.past line.old) (L.past line.new) (D.seen desk.old) (D.seen desk.new) (fresh_poll (plan_of plan.now)) done × Takes polling.now.strict limit done.talk.rows) }
+    ensures done { IfOk result (IsDonePoll (plan_of plan.now)) }
 {
-    let poller = match call(desk, line, polling.address, polling.deadline, poller) {
+    let called = call(alloc, desk, line, polling.address, polling.deadline, plan);
+    let poller = match called {
         Ok(Some(poller)) => poller,
         Ok(None) => return Err(FieldFault::Late(polling.address, polling.deadline)),
         Err(fault) => return Err(fault),
     };
-    match judge(poller.rows(), limit) {
+    match judge(poller.rows(), limit, polling.strict) {
         Ok(()) => Ok(poller),
         Err(fault) => Err(FieldFault::Clock(polling.address, fault)),
     }
 }
 
 /// Polls the meter at an address once over a line, merges the rows into the file where one is named, and prints those that the
-/// file did not have. The secret and the file are read before the meter is called, and nobody else has the file until the end.
-/// Rows that do not rise, or are too far past the clock of the day, are refused: nothing is filed then. How many rows are left
-/// out is told among the errors.
+/// file did not have. The secret and the file are read before the meter is called, and no other poll has the file until the end.
+/// Each row is filed that is later than the row filed before it; how many rows are left out is reported on the errors. Rows that are too
+/// far past the clock of the day are refused, and with `strict` rows that do not rise are too: nothing is filed then.
 pub fn poll<'a, D: Desk, F: Holding, L: Dialling, O: Output, E: Output>(
     alloc: Global,
     office: &mut Office<D, F, L>,
@@ -187,12 +193,18 @@ pub fn poll<'a, D: Desk, F: Holding, L: Dialling, O: Output, E: Output>(
         Err(fault) => return Err(fault),
     };
     let mut readings = ready.readings;
-    let poller = poller(alloc, polling.client, ready.secret, readings.last());
+    let plan = Plan {
+        client: polling.client,
+        secret: ready.secret,
+        after: readings.last(),
+        columns: Columns::Asked,
+    };
     let poller = match called(
+        alloc,
         &mut office.desk,
         &mut office.line,
         polling,
-        poller,
+        &plan,
         ready.limit,
     ) {
         Ok(poller) => poller,

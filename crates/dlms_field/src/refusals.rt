@@ -1,100 +1,90 @@
-//! Who tries secrets: how many association requests were refused, and whose connections are not taken for a while.
+//! What a reply of the meter says of an association that was asked for.
 
-ghost use Rattle.std.specs.Prelude.{◌↔◌, IsTrue};
-ghost use Rattle.dlms_field.specs.Refusals.{CarriesRefusal, RefusesAssociation, SaysRefused};
+ghost use Rattle.std.specs.Prelude.{◌≡◌, ℕ, option_map};
+ghost use Rattle.dlms_field.specs.Refusals.{SaysFirst, is_guarded, outcome_of, result_of};
 
-use arrayvec::ArrayVec;
-use dlms_acse::{Verdict, read_aare};
-use dlms_frame::Deframer;
-use std::net::{IpAddr, Ipv4Addr};
+use dlms_filing::bytes_behind;
+use dlms_frame::{Address, Client, Deframer};
 
-/// An address whose association requests were refused too often is not taken again for so many seconds.
-pub const BARRED_SECONDS: u64 = 10;
+/// The LLC in front of each APDU of the meter (IEC 62056-46, 5.3.2), and the tag of a response to an association request (IEC
+/// 62056-5-3, AARE).
+const HEAD: [u8; 4] = [0xe6, 0xe7, 0x00, 0x61];
 
-/// The LLC in front of each APDU of the meter (IEC 62056-46, 5.3.2).
-const LLC: [u8; 3] = [0xe6, 0xe7, 0x00];
+/// Behind the head, its length and its context name of 11 octets stands the result.
+const FIELD: usize = 16;
 
-/// How many addresses are kept; where more are barred at once, the one that was barred first is let go.
-const BARRED: usize = 64;
+/// The field of the result: an integer of one octet, which follows.
+const RESULT: [u8; 4] = [0xa2, 0x03, 0x02, 0x01];
 
-/// Whether an association is refused.
-fn is_refused(verdict: Verdict) -> bool
-    ensures { IsTrue result ↔ SaysRefused verdict }
+/// What came of an association that was asked for.
+#[derive(Clone, Copy, Debug, PartialEq, Eq)]
+pub enum Outcome {
+    /// It is refused.
+    Refused,
+    /// It is open, and whose it is has to know a secret for that.
+    Proved,
+    /// It is open to whoever asks.
+    Opened,
+}
+
+/// The result in an information field of the meter, if it has the response to an association request, or the first segment of one:
+/// a client may ask for segments of 32 octets, and the result stands within these.
+fn result_of(info: &[u8]) -> Option<u8>
+    ensures { result ≡ result_of info.now }
 {
-    match verdict {
-        Verdict::Accepted { .. } => false,
-        Verdict::Refused { .. } => true,
+    if info.starts_with(&HEAD) && bytes_behind(info, FIELD).starts_with(&RESULT) {
+        info.get(FIELD + RESULT.len()).copied()
+    } else {
+        None
     }
 }
 
-/// Whether an information field of the meter refuses an association (IEC 62056-5-3, AARE).
-fn carries_refusal(info: &[u8]) -> bool
-    ensures { IsTrue result ↔ CarriesRefusal info.now }
+/// Whether the client of this address has to know a secret.
+fn is_guarded(address: Address) -> bool
+    ensures { result ≡ is_guarded address }
 {
-    let Some(apdu) = info.strip_prefix(&LLC) else {
-        return false;
-    };
-    match read_aare(apdu) {
-        Ok(verdict) => is_refused(verdict),
-        Err(_) => false,
+    match address {
+        Address::One(sap) => match Client::of_sap(sap) {
+            Some(client) => client.has_secret(),
+            None => false,
+        },
+        Address::Two(_, _) | Address::Four(_, _) => false,
     }
 }
 
-/// Whether a reply of the meter refuses an association: its first frame does.
+/// What a result says to the client of this address.
+fn outcome_of(number: u8, address: Address) -> Outcome
+    ensures { result ≡ outcome_of number address }
+{
+    if number != 0 {
+        return Outcome::Refused;
+    }
+    if is_guarded(address) {
+        Outcome::Proved
+    } else {
+        Outcome::Opened
+    }
+}
+
+/// What a frame to this address says of an association, if it says so.
+fn said_by(info: &[u8], address: Address) -> Option<Outcome>
+    ensures { result ≡ option_map (λ (number : ℕ). outcome_of number address) (result_of info.now) }
+{
+    match result_of(info) {
+        Some(number) => Some(outcome_of(number, address)),
+        None => None,
+    }
+}
+
+/// What a reply of the meter says of an association that was asked for, if it says so: its first frame does.
 #[inline(never)]
-pub fn is_refusal(reply: &[u8]) -> bool
-    ensures { IsTrue result ↔ RefusesAssociation reply.now }
+pub fn said_of(reply: &[u8]) -> Option<Outcome>
+    ensures { SaysFirst reply.now result }
 {
     let mut deframer = Deframer::new();
     let _taken = deframer.feed(reply);
     match deframer.frame() {
-        Some(frame) => carries_refusal(frame.info),
-        None => false,
-    }
-}
-
-/// An address that is not taken before this second.
-#[derive(Clone, Copy, Debug)]
-struct Bar {
-    address: IpAddr,
-    until: u64,
-}
-
-/// None: it is over at once.
-impl Default for Bar {
-    fn default() -> Self {
-        Bar {
-            address: IpAddr::V4(Ipv4Addr::UNSPECIFIED),
-            until: 0,
-        }
-    }
-}
-
-/// The addresses that are not taken for a while.
-#[derive(Drop)]
-pub struct Barred(ArrayVec<Bar, BARRED>);
-
-impl Barred {
-    /// None.
-    pub fn none() -> Self {
-        Barred(ArrayVec::new())
-    }
-
-    /// An address is not taken for `BARRED_SECONDS` from this second on.
-    pub fn bar(&mut self, address: IpAddr, now: u64) {
-        self.0.retain(|bar| bar.address != address);
-        if self.0.is_full() {
-            let _first = self.0.pop_at(0);
-        }
-        let until = now.saturating_add(BARRED_SECONDS);
-        let _kept = self.0.try_push(Bar { address, until });
-    }
-
-    /// Whether an address is taken at this second.
-    pub fn takes(&self, address: IpAddr, now: u64) -> bool {
-        !self
-            .0
-            .iter()
-            .any(|bar| bar.address == address && now < bar.until)
+        Some(frame) => said_by(frame.info, frame.dest),
+        None => None,
     }
 }

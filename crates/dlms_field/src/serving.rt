@@ -10,17 +10,17 @@ use crate::hanging_up::hang_up;
 use crate::log::Log;
 use crate::talking::{Ending, Rules, Site};
 use crate::ticks::Ticks;
-use crate::turns::{MOST_REFUSALS, Over, Times};
+use crate::turns::{Over, PORT_REFUSALS, Times};
 use crate::watch::{Peer, Watch};
 use dlms_ends::LoopFault;
 use dlms_meter::Meter;
-use dlms_pages::Pages;
+use dlms_pages::{Pages, refuse_standard};
 use std::alloc::Global;
 use std::fmt::Display;
 use std::io;
 use std::io::{ErrorKind, Write};
 use std::net::{Net, OpenListener, SocketAddr, TcpListener};
-use std::os::fd::RawFd;
+use std::os::fd::{AsRawFd, RawFd};
 use std::time::{Clock, Instant};
 
 /// The numbers of Linux for errors of accept that pass: those of the connection that was to come (EPROTO, ENOPROTOOPT, EOPNOTSUPP,
@@ -66,19 +66,23 @@ fn passes(error: io::Error) -> bool
 pub fn tell_end<E: Write, D: Display + Drop>(
     errors: &mut E,
     address: D,
-    times: Times,
+    rules: Rules,
     ending: Ending,
 ) {
     let Times {
         inactivity,
         idle,
         longest,
-    } = times;
+    } = rules.times;
+    let refusals = rules.refusals;
     let _said = match ending {
         Ending::Closed => writeln!(errors, "closed {address}"),
+        Ending::Over(Over::Refused) if refusals == 1 => {
+            writeln!(errors, "closed {address}: an association was refused")
+        }
         Ending::Over(Over::Refused) => writeln!(
             errors,
-            "closed {address}: {MOST_REFUSALS} associations were refused"
+            "closed {address}: {refusals} associations were refused"
         ),
         Ending::Over(Over::Inactive) => writeln!(
             errors,
@@ -111,7 +115,7 @@ fn visit<W: Watch + Drop, P: Pages, E: Write>(
     }
 }
 
-/// Whether so many association requests were refused that the turn was over.
+/// Whether an association request was refused so often that the turn was over.
 pub fn is_refused(ending: Ending) -> bool
     ensures { result ≡ is_refused ending }
 {
@@ -124,7 +128,7 @@ pub fn is_refused(ending: Ending) -> bool
     }
 }
 
-/// Bars whose association requests were refused too often.
+/// Tells the watch whose association request was refused.
 fn ban<W: Watch>(watch: &mut W, address: SocketAddr, ending: Ending) -> Result<(), LoopFault>
     ensures { Closes address ending (W.seen watch.old) (W.seen watch.new) result }
 {
@@ -136,10 +140,10 @@ fn ban<W: Watch>(watch: &mut W, address: SocketAddr, ending: Ending) -> Result<(
     Ok(())
 }
 
-/// Bars whose association requests were refused too often, and tells how the connection ended.
+/// Tells the watch whose association request was refused, and says how the connection ended.
 fn close<W: Watch + Drop, E: Write>(
     site: &mut Site<'_, W, E>,
-    times: Times,
+    rules: Rules,
     address: SocketAddr,
     ending: Ending,
 ) -> Result<(), LoopFault>
@@ -148,7 +152,7 @@ fn close<W: Watch + Drop, E: Write>(
 {
     ban(&mut site.watch, address, ending)?;
     if site.log.takes_line(site.errors) {
-        tell_end(site.errors, address, times, ending);
+        tell_end(site.errors, address, rules, ending);
     }
     Ok(())
 }
@@ -171,7 +175,7 @@ fn serve_one<W: Watch + Drop, P: Pages, E: Write>(
         Err(fault) => return Err(fault),
     };
     hang_up(meter);
-    close(site, rules.times, address, ending)
+    close(site, rules, address, ending)
 }
 
 /// Tells of an error of the port that passes, once until a connection is taken again. That none waits is no error.
@@ -192,6 +196,7 @@ fn stumble<W: Watch + Drop, E: Write>(site: &mut Site<'_, W, E>, error: io::Erro
 #[inline(never)]
 fn listening<R: Net>(rt: &R, address: &str) -> io::Result<R::Listener> {
     let listener = TcpListener::bind(rt, address)?;
+    refuse_standard(listener.as_raw_fd())?;
     listener.set_nonblocking(true)?;
     Ok(listener)
 }
@@ -278,7 +283,7 @@ pub fn serve<'a, R: Net + Clock + AllocGlobal, P: Pages, W: Write, E: Write>(
     output: &mut W,
     errors: &mut E,
 ) -> Result<(), FieldFault<'a>>
-    ensures serves { Serves (record { tick = serving.now.tick; times = serving.now.times }) serving.now.load meter.old result meter.new }
+    ensures serves { Serves (record { tick = serving.now.tick; times = serving.now.times; refusals = PORT_REFUSALS }) serving.now.load meter.old result meter.new }
     ensures calls { (calls : List Call) × Calls meter.old calls meter.new }
 {
     let start = match Instant::now(rt) {
@@ -297,7 +302,13 @@ pub fn serve<'a, R: Net + Clock + AllocGlobal, P: Pages, W: Write, E: Write>(
     let rules = Rules {
         tick: serving.tick,
         times: serving.times,
+        refusals: PORT_REFUSALS,
     };
-    let mut site = Site::new(Door::new(rt, start, listener), ticks, log, errors);
+    let mut site = Site::new(
+        Door::new(rt, rt.alloc(), start, listener),
+        ticks,
+        log,
+        errors,
+    );
     serve_all(&mut site, rules, meter, serving.address)
 }

@@ -12,7 +12,7 @@ use crate::serial::Serial;
 use crate::serving::{Serving, is_refused, log_of, tell_end};
 use crate::talking::{Ending, Rules, Site};
 use crate::ticks::Ticks;
-use crate::turns::{Over, Times};
+use crate::turns::{LINE_REFUSALS, Over};
 use crate::watch::Watch;
 use dlms_ends::{End, LoopFault};
 use dlms_meter::Meter;
@@ -73,7 +73,7 @@ fn is_told(ending: Ending, was_associated: bool) -> bool {
 /// Tells how a turn ended.
 fn tell<W: Watch + Drop, E: Write>(
     site: &mut Site<'_, W, E>,
-    times: Times,
+    rules: Rules,
     device: &str,
     ending: Ending,
     was_associated: bool,
@@ -82,7 +82,7 @@ fn tell<W: Watch + Drop, E: Write>(
     ensures watch { site.new.watch ≡ site.old.watch }
 {
     if is_told(ending, was_associated) && site.log.takes_line(site.errors) {
-        tell_end(site.errors, device, times, ending);
+        tell_end(site.errors, device, rules, ending);
     }
 }
 
@@ -107,7 +107,7 @@ fn serve_turn<'f, W: Watch + Drop, T: End, P: Pages, E: Write>(
     match gone(device, ending) {
         Some(fault) => Err(fault),
         None => {
-            tell(site, rules.times, device, ending, was_associated);
+            tell(site, rules, device, ending, was_associated);
             rest(&mut site.watch, ending);
             Ok(())
         }
@@ -164,7 +164,7 @@ pub fn serve_line<
     output: &mut W,
     errors: &mut E,
 ) -> Result<(), FieldFault<'a>>
-    ensures serves { ServesLine serving.now.address.now (record { tick = serving.now.tick; times = serving.now.times }) serving.now.load meter.old result meter.new }
+    ensures serves { ServesLine serving.now.address.now (record { tick = serving.now.tick; times = serving.now.times; refusals = LINE_REFUSALS }) serving.now.load meter.old result meter.new }
     ensures calls { (calls : List Call) × Calls meter.old calls meter.new }
 {
     let start = match Instant::now(rt) {
@@ -183,7 +183,8 @@ pub fn serve_line<
     let rules = Rules {
         tick: serving.tick,
         times: serving.times,
+        refusals: LINE_REFUSALS,
     };
-    let mut site = Site::new(Bench::new(rt, start), ticks, log, errors);
+    let mut site = Site::new(Bench::new(rt, rt.alloc(), start), ticks, log, errors);
     serve_turns(&mut site, rules, meter, &mut line, serving.address)
 }

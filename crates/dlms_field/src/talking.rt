@@ -1,14 +1,14 @@
 //! A meter that serves talks with a client, from a connection's beginning to its end.
 
-ghost use Rattle.std.specs.Prelude.{◌≡◌, ◌≤◌, ◌↔◌, ℕ, List, Some, None, IfOk, IsTrue};
-ghost use Rattle.dlms_field.specs.Connection.{AnswersEach, AsksOnce, At, ChecksOnce, Connection, Counts, GivesFrame, IsDue, IsOfRead, LooksOnce, ReadsPiece, behind_answer, noted};
+ghost use Rattle.std.specs.Prelude.{◌≡◌, ◌≤◌, ◌↔◌, ℕ, List, Some, None, false, IfOk, IsTrue};
+ghost use Rattle.dlms_field.specs.Connection.{AnswersEach, AsksOnce, At, ChecksOnce, Connection, Counts, GivesFrame, IsDue, IsOfRead, LooksOnce, ReadsPiece, TellsOnce, behind_answer, behind_outcome, broken, noted};
 
 use crate::log::Log;
 use crate::pace::due;
-use crate::refusals::is_refusal;
+use crate::refusals::{Outcome, said_of};
 use crate::telling;
 use crate::ticks::Ticks;
-use crate::turns::{Over, Times, Turn};
+use crate::turns::{Over, Times, Tries, Turn};
 use crate::watch::Watch;
 use dlms_ends::{End, Heard, LoopFault, PIECE, Taken, bytes_of};
 use dlms_filing::bytes_behind;
@@ -26,6 +26,8 @@ pub struct Rules {
     pub tick: u32,
     /// After how many seconds a connection's turn is over.
     pub times: Times,
+    /// Behind so many refused association requests it is over.
+    pub refusals: u8,
 }
 
 /// How a connection ended.
@@ -70,31 +72,44 @@ fn read_piece<T: End>(stream: &mut T, piece: &mut [u8; PIECE]) -> io::Result<usi
     }
 }
 
-/// Counts a reply where it refuses an association.
-fn counted(reply: &[u8], refusals: u8) -> u8
-    ensures { Counts (Some reply.now) refusals result }
+/// The tries behind this outcome of an association that was asked for, if there was one.
+fn behind_outcome(outcome: Option<Outcome>, tries: Tries) -> Tries
+    ensures { result ≡ behind_outcome outcome tries }
 {
-    if is_refusal(reply) {
-        refusals.saturating_add(1)
-    } else {
-        refusals
+    match outcome {
+        Some(Outcome::Refused) => Tries {
+            refusals: tries.refusals.saturating_add(1),
+            ..tries
+        },
+        Some(Outcome::Proved) => Tries {
+            is_proved: true,
+            ..tries
+        },
+        Some(Outcome::Opened) | None => tries,
     }
 }
 
-/// Gives the meter bytes through one frame at most, counts the reply where it refuses an association, and puts it. Where that
+/// Counts what a reply says of an association that was asked for.
+fn counted(reply: &[u8], tries: Tries) -> Tries
+    ensures { Counts (Some reply.now) tries result }
+{
+    behind_outcome(said_of(reply), tries)
+}
+
+/// Gives the meter bytes through one frame at most, counts what the reply says of an association, and puts it. Where that
 /// cannot be put the meter has taken the frame all the same.
 fn answer<T: End, P: Pages>(
     end: &mut T,
     meter: &mut Meter<P>,
     bytes: &[u8],
-    refusals: &mut u8,
+    tries: &mut Tries,
 ) -> io::Result<Taken>
-    ensures { GivesFrame (T.past end.old) (T.past end.new) meter.old bytes.now refusals.old refusals.new result meter.new }
+    ensures { GivesFrame (T.past end.old) (T.past end.new) meter.old bytes.now tries.old tries.new result meter.new }
 {
     let (count, reply) = meter.feed(bytes);
     match reply {
         Some(reply) => {
-            *refusals = counted(reply.as_slice(), *refusals);
+            *tries = counted(reply.as_slice(), *tries);
             end.put(reply.as_slice())?;
             Ok(Taken {
                 count,
@@ -119,10 +134,21 @@ fn ending_of(error: io::Error) -> Ending
     }
 }
 
+/// The end that an error at a reply is: whose association request is refused need not take the reply for that to count.
+fn broken(tries: Tries, error: io::Error) -> Ending
+    ensures { result ≡ broken tries error }
+{
+    if tries.refusals > 0 {
+        Ending::Over(Over::Refused)
+    } else {
+        Ending::Failed(error)
+    }
+}
+
 impl Stay {
     /// The turn of a connection that begins at this second.
     fn begins(now: u64) -> Stay
-        ensures { result ≡ record { turn = record { answered = now; held = now; waited = None; refusals = 0 }; asked = None } }
+        ensures { result ≡ record { turn = record { answered = now; held = now; waited = None; tries = record { refusals = 0; is_proved = false } }; asked = None } }
     {
         Stay {
             turn: Turn::begins(now),
@@ -135,6 +161,18 @@ impl Stay {
         ensures { IsTrue result ↔ IsDue self.now now }
     {
         self.turn.waited.is_none() && self.asked != Some(now)
+    }
+
+    /// Tells once of a secret that was proved.
+    fn tells<W: Watch>(&mut self, watch: &mut W, now: u64)
+        ensures { TellsOnce (W.seen watch.old) (W.seen watch.new) self.old now self.new }
+    {
+        let is_proved = self.turn.tries.is_proved;
+        if !is_proved {
+            return;
+        }
+        watch.trust(now);
+        self.turn.tries.is_proved = false;
     }
 
     /// Asks once in each second whether another connection waits, unless one is known to.
@@ -238,8 +276,9 @@ impl<'e, W: Watch + Drop, E: Write> Site<'e, W, E> {
             Err(fault) => return Err(fault),
         };
         stay.turn = noted(stay.turn, is_answered, now, meter.is_associated());
+        stay.tells(&mut self.watch, now);
         stay.asks(&mut self.watch, now);
-        Ok(stay.turn.over(rules.times, now))
+        Ok(stay.turn.over(rules, now))
     }
 
     /// Answers the frames among the bytes, one after another, as long as the turn is not over. Behind each it looks at the clock.
@@ -256,9 +295,9 @@ impl<'e, W: Watch + Drop, E: Write> Site<'e, W, E> {
     {
         let mut rest = bytes;
         while !rest.is_empty() {
-            let taken = match answer(stream, meter, rest, &mut stay.turn.refusals) {
+            let taken = match answer(stream, meter, rest, &mut stay.turn.tries) {
                 Ok(taken) => taken,
-                Err(error) => return Ok(Some(Ending::Failed(error))),
+                Err(error) => return Ok(Some(broken(stay.turn.tries, error))),
             };
             rest = bytes_behind(rest, taken.count);
             match self.check(rules, meter, stay, taken.is_answered) {

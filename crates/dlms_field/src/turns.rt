@@ -1,10 +1,15 @@
 //! When a connection's turn on the meter's line is over.
 
-ghost use Rattle.std.specs.Prelude.{◌≡◌, ◌≤◌, ◌+◌, ◌↔◌, IsTrue, None, if◌then◌else◌};
+ghost use Rattle.std.specs.Prelude.{◌≡◌, ◌≤◌, ◌+◌, ◌↔◌, IsTrue, None, false, if◌then◌else◌};
 ghost use Rattle.dlms_field.specs.Turns.{Tells};
 
-/// A connection to which so many association requests were refused is closed.
-pub const MOST_REFUSALS: u8 = 5;
+use crate::talking::Rules;
+
+/// Behind so many refused association requests the turn of a connection is over, so that each of them is counted before the next,
+pub const PORT_REFUSALS: u8 = 1;
+
+/// and that of a serial line.
+pub const LINE_REFUSALS: u8 = 5;
 
 /// After how many seconds a turn is over.
 #[derive(Clone, Copy, Debug, PartialEq, Eq)]
@@ -17,6 +22,15 @@ pub struct Times {
     pub longest: u32,
 }
 
+/// What came of the associations that were asked for in a turn.
+#[derive(Clone, Copy, Debug, PartialEq, Eq)]
+pub struct Tries {
+    /// How many were refused.
+    pub refusals: u8,
+    /// Whether a secret was proved since the watch was told of that.
+    pub is_proved: bool,
+}
+
 /// What has happened in a connection's turn, in seconds of the clock.
 #[derive(Clone, Copy, Debug, PartialEq, Eq)]
 pub struct Turn {
@@ -26,14 +40,14 @@ pub struct Turn {
     pub held: u64,
     /// Since when in this turn another connection waits, if one does.
     pub waited: Option<u64>,
-    /// How many association requests were refused.
-    pub refusals: u8,
+    /// What came of the associations that were asked for.
+    pub tries: Tries,
 }
 
 /// Why a turn is over.
 #[derive(Clone, Copy, Debug, PartialEq, Eq)]
 pub enum Over {
-    /// `MOST_REFUSALS` association requests were refused.
+    /// So many association requests were refused.
     Refused,
     /// No frame was answered for so long.
     Inactive,
@@ -44,7 +58,7 @@ pub enum Over {
 }
 
 /// Whether so many seconds have gone by since then.
-fn have_passed(seconds: u32, since: u64, now: u64) -> bool
+pub fn have_passed(seconds: u32, since: u64, now: u64) -> bool
     ensures { IsTrue result ↔ (since + seconds ≤ now) }
 {
     match now.checked_sub(since) {
@@ -56,13 +70,16 @@ fn have_passed(seconds: u32, since: u64, now: u64) -> bool
 impl Turn {
     /// A turn that begins at this second, while no other connection is known to wait.
     pub fn begins(now: u64) -> Turn
-        ensures { result ≡ record { answered = now; held = now; waited = None; refusals = 0 } }
+        ensures { result ≡ record { answered = now; held = now; waited = None; tries = record { refusals = 0; is_proved = false } } }
     {
         Turn {
             answered: now,
             held: now,
             waited: None,
-            refusals: 0,
+            tries: Tries {
+                refusals: 0,
+                is_proved: false,
+            },
         }
     }
 
@@ -78,10 +95,11 @@ impl Turn {
     }
 
     /// Whether the turn is over at this second, and the first of the reasons for which it is.
-    pub fn over(self, times: Times, now: u64) -> Option<Over>
-        ensures { Tells times self now result }
+    pub fn over(self, rules: Rules, now: u64) -> Option<Over>
+        ensures { Tells rules self now result }
     {
-        if self.refusals >= MOST_REFUSALS {
+        let times = rules.times;
+        if self.tries.refusals >= rules.refusals {
             return Some(Over::Refused);
         }
         if have_passed(times.inactivity, self.answered, now) {

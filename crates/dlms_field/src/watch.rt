@@ -2,7 +2,7 @@
 
 ghost use Rattle.std.specs.Prelude.{List, Option, None, Ok, [], ◌∷◌};
 ghost use Rattle.dlms_field.specs.Watching.{Sight, Sees, came_in, error_in, ok_in};
-ghost use Rattle.dlms_field.specs.Watching.Sight.{Second, Another, Next, Prepares, Bars, Pauses};
+ghost use Rattle.dlms_field.specs.Watching.Sight.{Second, Another, Next, Prepares, Bars, Trusts, Pauses};
 
 use dlms_ends::End;
 use std::io;
@@ -40,9 +40,13 @@ pub trait Watch {
     fn prepare(&mut self, stream: &mut Self::Stream) -> io::Result<()>
         ensures { Sees (seen self.old) (seen self.new) (Prepares (error_in result) ∷ []) };
 
-    /// Connections from this address are not taken for a while from this second on.
+    /// An association request from this address was refused at this second: its connections are not served for a while.
     fn bar(&mut self, address: SocketAddr, now: u64)
         ensures { Sees (seen self.old) (seen self.new) (Bars address now ∷ []) };
+
+    /// Who is served has proved a secret at this second: it waits for a shorter while behind a refusal.
+    fn trust(&mut self, now: u64)
+        ensures { Sees (seen self.old) (seen self.new) (Trusts now ∷ []) };
 
     /// Lets a while go by.
     fn pause(&mut self)

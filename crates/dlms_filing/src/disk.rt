@@ -5,11 +5,11 @@ ghost use Rattle.dlms_filing.specs.Disk.{FileCall, Called, found_in, read_in};
 ghost use Rattle.dlms_filing.specs.Disk.FileCall.{Finds, Locks, Reads, Creates, Writes, Syncs, Renames, SyncsFolder, Removes};
 ghost use Rattle.dlms_filing.specs.Filing.{error_in};
 
-use dlms_pages::{LockFile, sync_folder};
+use dlms_pages::{LockFile, refuse_standard, sync_folder};
 use std::alloc::Global;
 use std::fs::{File, Files, Metadata, OpenOptions};
 use std::io::{ErrorKind, Read, Write};
-use std::os::fd::AsFd;
+use std::os::fd::{AsFd, AsRawFd};
 use std::os::unix::fs::{MetadataExt, OpenOptionsExt, fchown};
 use std::{fs, io};
 
@@ -119,13 +119,16 @@ fn end_of<R: Files + AllocGlobal>(rt: &R, file: &str) -> io::Result<String> {
     }
 }
 
-/// Makes a file that was not there, of these permissions. No link is followed.
+/// Makes a file that was not there, of these permissions. No link is followed. A file that gets the descriptor of a closed standard
+/// stream is refused, since what the program prints would be written into it.
 fn made<R: Files<File = File>>(rt: &R, path: &str, mode: u32) -> io::Result<File> {
-    OpenOptions::new()
+    let file = OpenOptions::new()
         .write(true)
         .create_new(true)
         .mode(mode)
-        .open(rt, path)
+        .open(rt, path)?;
+    refuse_standard(file.as_raw_fd())?;
+    Ok(file)
 }
 
 /// The file of a lock, made where it is not there. No link is followed.

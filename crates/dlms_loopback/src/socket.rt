@@ -6,9 +6,11 @@ ghost use Rattle.dlms_ends.specs.Moments.{Adds};
 ghost use Rattle.dlms_ends.specs.Moments.Moment.{Joins};
 
 use dlms_ends::End;
+use dlms_pages::refuse_standard;
 use std::io;
 use std::io::{ErrorKind, Read, Write};
 use std::net::{Ipv4Addr, Net, OpenListener, OpenStream, SocketAddr, TcpListener, TcpStream};
+use std::os::fd::AsRawFd;
 use std::time::Duration;
 
 /// For how long an end waits for bytes before it takes the line for silent.
@@ -93,11 +95,14 @@ impl<R: Net> Joining for Socket<'_, R> {
 /// port is closed again when this returns. Whoever else connects there is sent away.
 pub fn ends<R: Net>(rt: &R) -> io::Result<Line<R::Stream>> {
     let listener = TcpListener::bind(rt, SocketAddr::from((Ipv4Addr::LOCALHOST, 0u16)))?;
+    refuse_standard(listener.as_raw_fd())?;
     let head = TcpStream::connect(rt, listener.local_addr()?)?;
     let own = head.local_addr()?;
     for _ in 0..STRANGERS {
         let (tail, peer) = listener.accept()?;
         if peer == own {
+            refuse_standard(head.as_raw_fd())?;
+            refuse_standard(tail.as_raw_fd())?;
             prepare(&head)?;
             prepare(&tail)?;
             return Ok(Line { head, tail });

@@ -1,5 +1,6 @@
 //! What holds of every run of device calls, as functions whose contracts are the laws. They make no call.
-ghost use Rattle.std.specs.Prelude.{◌≡◌, ◌<◌, ◌+◌, ℕ, List, [], ◌∷◌, length};
+ghost use Rattle.std.specs.Prelude.{◌≡◌, ◌<◌, ◌+◌, ℕ, List, [], ◌∷◌, length, pos};
+ghost use Rattle.dlms_pages.specs.declared.descriptor.TheConstants.{FIRST_OWN};
 ghost use Rattle.dlms_pages.specs.declared.memory.Call.TheVariants.{Write, Sync};
 ghost use Rattle.dlms_pages.specs.Laws.{StopsKeepTheRules, StopsSinceKeepTheRules, StopsAreOfPages, SyncsLeaveOneImage, LeavesEachOutcome};
 ghost use Rattle.dlms_pages.specs.Memory.{Memory};
@@ -41,7 +42,9 @@ pub fn a_file_opened_again_has_what_a_stop_left<F: SlotFile>()
     ensures { OpensWhatWasLeft F.slots }
 {}
 
-/// The sizes by which pages and slots are laid out, in bytes: a slot is a page and its seal, a SHA-256.
+/// The sizes by which pages and slots are laid out, in bytes: a slot is a page and its seal, a SHA-256. And the first descriptor that
+/// is not a standard stream.
 pub fn the_numbers()
-    ensures { (PAGE_BYTES ≡ 512) × (SLOT_BYTES ≡ PAGE_BYTES + 32) }
+    ensures sizes { (PAGE_BYTES ≡ 512) × (SLOT_BYTES ≡ PAGE_BYTES + 32) }
+    ensures descriptor { FIRST_OWN ≡ pos 3 }
 {}

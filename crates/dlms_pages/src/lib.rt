@@ -2,6 +2,7 @@
 #![tactic(auto)]
 
 mod asking;
+mod descriptor;
 mod device;
 mod file;
 mod folder;
@@ -18,6 +19,7 @@ mod slot_file;
 mod tear;
 
 pub use asking::{Asked, Came};
+pub use descriptor::refuse_standard;
 pub use device::{DeviceFault, PAGE_BYTES, PageRead, Pages};
 pub use file::FilePages;
 pub use folder::sync_folder;

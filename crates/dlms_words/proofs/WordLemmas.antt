@@ -1,5 +1,5 @@
 -- What the program's words come to.
-use Rattle.std.proofs.Common.{◌≡◌, ◌∙◌, ◌&&◌, ◌||◌, refl, ap, subst, inl, inr, Bool, true, false, not, List, [], ◌∷◌, Option, Some, None, codes}
+use Rattle.std.proofs.Common.{◌≡◌, ◌∙◌, ◌&&◌, refl, ap, subst, inl, inr, Bool, true, false, not, List, [], ◌∷◌, Option, Some, None, codes}
 use Rattle.std.specs.Prelude.{◌⊎◌, cond, find, is_some, option_map}
 use Rattle.std.specs.List.{list_any}
 use Rattle.clap.specs.Words.{App, HasMatchesOf, Row, Shape, Text, built, fault_of, subcommand_of, subcommand_rows_of}

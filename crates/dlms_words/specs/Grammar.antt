@@ -72,7 +72,7 @@ with_commands app (command ∷ commands) = with_commands (with_subcommand app co
 -- ---- the commands
 
 abbrev pub format_command : App
-format_command = with_rules (new_app (codes "format")) (wanted_rule (codes "FILE") ∷ flag_rule (codes "demo") ∷ [])
+format_command = with_rules (new_app (codes "format")) (wanted_rule (codes "FILE") ∷ flag_rule (codes "demo") ∷ flag_rule (codes "force") ∷ [])
 
 abbrev pub replay_command : App
 replay_command = with_rules (new_app (codes "replay")) (value_rule (codes "FILE") ∷ [])
@@ -89,12 +89,13 @@ serve_command = with_rules (new_app (codes "serve"))
 abbrev pub poll_command : App
 poll_command = with_rules (new_app (codes "poll"))
     (wanted_rule (codes "PLACE") ∷ option_rule (codes "readings") ∷ option_rule (codes "secret-file") ∷ flag_rule (codes "public") ∷ flag_rule (codes "reader")
-    ∷ number_rule (codes "deadline") 1 86400 ∷ flag_rule (codes "check-clock") ∷ number_rule (codes "ahead") 0 31536000 ∷ [])
+    ∷ number_rule (codes "deadline") 1 86400 ∷ flag_rule (codes "check-clock") ∷ number_rule (codes "ahead") 0 31536000 ∷ flag_rule (codes "strict") ∷ [])
 
--- which meter is asked, by whom, and whether the frames are explained
+-- which meter is asked, by whom, whether the frames are explained, and how long a value may be
 abbrev pub asking_rules : List Rule
 asking_rules =
-    option_rule (codes "server") ∷ flag_rule (codes "wide") ∷ number_rule (codes "client") 1 127 ∷ option_rule (codes "secret-file") ∷ short_flag_rule (codes "verbose") 118 ∷ []
+    option_rule (codes "server") ∷ flag_rule (codes "wide") ∷ number_rule (codes "client") 1 127 ∷ option_rule (codes "secret-file") ∷ short_flag_rule (codes "verbose") 118
+    ∷ number_rule (codes "most") 1 16777216 ∷ []
 
 abbrev pub get_command : App
 get_command = with_rules

@@ -8,7 +8,7 @@ use Rattle.clap.specs.declared.error.kind.ErrorKind.TheVariants.{ArgumentConflic
 use Rattle.dlms_words.specs.declared.commands.Job.{Job}
 use Rattle.dlms_words.specs.declared.commands.Job.TheVariants.{Format, Replay, Loopback, Serve, Poll, Get, List as ListOf, Set, Act, Explain, Show, Plot}
 use Rattle.dlms_words.specs.declared.commands.Asking.{Asking}
-use Rattle.dlms_words.specs.declared.words.TheConstants.{AHEAD, CLIENT, DEADLINE, IDLE, INACTIVITY, TICK, TURN}
+use Rattle.dlms_words.specs.declared.words.TheConstants.{AHEAD, CLIENT, DEADLINE, IDLE, INACTIVITY, MOST, TICK, TURN}
 use Rattle.dlms_words.specs.Addresses.{IsAddress, is_device}
 use Rattle.dlms_words.specs.Numbers.{IsNumberOf}
 use Rattle.dlms_frame.specs.declared.client.Client.{Client}
@@ -56,7 +56,7 @@ asker false false = Management
 abbrev pub IsAsker : List Row → Client → Type 0
 IsAsker rows client = (public : Bool) × (reader : Bool) × IsSaid (first_of (codes "public") rows) public × IsSaid (first_of (codes "reader") rows) reader × (client ≡ asker public reader)
 
--- which meter is asked, by whom, and whether the frames are explained
+-- which meter is asked, by whom, whether the frames are explained, and how long a value may be
 pub record IsAsking (rows : List Row) (asking : Asking) : Type 0 where
   pub place : asking.place.now ≡ unwrap_or (first_of (codes "PLACE") rows) []
   pub server : option_map (λ s. s.now) asking.server ≡ first_of (codes "server") rows
@@ -64,19 +64,21 @@ pub record IsAsking (rows : List Row) (asking : Asking) : Type 0 where
   pub client : IsSaidFor (codes "client") rows CLIENT asking.client
   pub secret : option_map (λ f. f.now) asking.secret_file ≡ first_of (codes "secret-file") rows
   pub verbose : IsSaid (first_of (codes "verbose") rows) asking.verbose
+  pub most : IsSaidFor (codes "most") rows MOST asking.most
 
 -- the words ask for the job, with these values
 abbrev pub Asks : Met → Job → Type 0
-Asks met (Format file demo) = (rows : List Row) × (met ≡ Some (codes "format", rows)) × (file.now ≡ unwrap_or (file_in rows) []) × IsSaid (first_of (codes "demo") rows) demo
+Asks met (Format file demo force) = (rows : List Row) × (met ≡ Some (codes "format", rows)) × (file.now ≡ unwrap_or (file_in rows) []) × IsSaid (first_of (codes "demo") rows) demo × IsSaid (first_of (codes "force") rows) force
 Asks met (Replay file) = (rows : List Row) × (met ≡ Some (codes "replay", rows)) × (option_map (λ f. f.now) file ≡ file_in rows)
 Asks met (Loopback readings stops) = (rows : List Row) × (met ≡ Some (codes "loopback", rows)) × (option_map (λ f. f.now) readings ≡ first_of (codes "readings") rows) × SaysStops (first_of (codes "stops") rows) stops
 Asks met (Serve file listen line load tick quiet idle turn inactivity) = (rows : List Row) × (met ≡ Some (codes "serve", rows)) × (file.now ≡ unwrap_or (file_in rows) [])
     × (option_map (λ a. a.now) listen ≡ first_of (codes "listen") rows) × (option_map (λ d. d.now) line ≡ first_of (codes "line") rows) × IsSaidFor (codes "load") rows 0 load
     × IsSaidFor (codes "tick") rows TICK tick × IsSaid (first_of (codes "quiet") rows) quiet
     × IsSaidFor (codes "idle") rows IDLE idle × IsSaidFor (codes "turn") rows TURN turn × IsSaidFor (codes "inactivity") rows INACTIVITY inactivity
-Asks met (Poll address readings secret client deadline ahead) = (rows : List Row) × (met ≡ Some (codes "poll", rows)) × (address.now ≡ unwrap_or (first_of (codes "PLACE") rows) [])
+Asks met (Poll address readings secret client deadline ahead strict) = (rows : List Row) × (met ≡ Some (codes "poll", rows)) × (address.now ≡ unwrap_or (first_of (codes "PLACE") rows) [])
     × (option_map (λ f. f.now) readings ≡ first_of (codes "readings") rows) × (option_map (λ f. f.now) secret ≡ first_of (codes "secret-file") rows)
     × IsAsker rows client × IsSaidFor (codes "deadline") rows DEADLINE deadline × ChecksClock rows ahead
+    × IsSaid (first_of (codes "strict") rows) strict
 Asks met (Get asking names of_class raw json) = (rows : List Row) × (met ≡ Some (codes "get", rows)) × IsAsking rows asking × (names.now ≡ unwrap_or (first_of (codes "NAMES") rows) [])
     × IsSaidFor (codes "class") rows 0 of_class × IsSaid (first_of (codes "raw") rows) raw × IsSaid (first_of (codes "json") rows) json
 Asks met (ListOf asking json) = (rows : List Row) × (met ≡ Some (codes "list", rows)) × IsAsking rows asking × IsSaid (first_of (codes "json") rows) json

@@ -17,15 +17,19 @@ pub struct Asking<'a> {
     pub secret_file: Option<&'a str>,
     /// Whether the frames are explained.
     pub verbose: bool,
+    /// How many octets the encoding of a value from the meter has at most.
+    pub most: u32,
 }
 
 /// The work that the program is asked to do.
 #[derive(Clone, Copy)]
 pub enum Job<'a> {
-    /// Makes a new meter in this file, over whatever it holds; where `demo` is set with a day of captures behind it.
+    /// Makes a new meter in this file; with a day of captures if `demo` is set. A file that holds a meter is formatted only if
+    /// `force` is set.
     Format {
         file: &'a str,
         demo: bool,
+        force: bool,
     },
     /// Replays standard input on the meter in this file, or on a new one in memory.
     Replay {
@@ -53,9 +57,10 @@ pub enum Job<'a> {
         turn: u32,
         inactivity: u32,
     },
-    /// Polls the meter at this address or on this serial line once, into this file where one is named, by this client, with the secret in a file, or
-    /// with its first secret where none is named and it has to know one; within so many seconds, and where `ahead` is there with
-    /// no row whose clock is more seconds past the system's.
+    /// Polls the meter at this address or on this serial line once, into this file if one is named. It asks as this client, with the
+    /// secret in a file, or with the client's first secret if no file is named and the client has one. It may take `deadline` seconds.
+    /// With `ahead` no row's clock may be more seconds past the system's; with `strict` each row has to be later than the one before
+    /// it.
     Poll {
         address: &'a str,
         readings: Option<&'a str>,
@@ -63,6 +68,7 @@ pub enum Job<'a> {
         client: Client,
         deadline: u32,
         ahead: Option<u32>,
+        strict: bool,
     },
     /// Asks a meter for the attributes with these names, of objects of this class where it is not 0; prints their encodings where
     /// `raw` is set, and JSON where `json` is.

@@ -27,7 +27,7 @@ struct CommandWords {
     more: &'static [Argument],
 }
 
-/// Which meter is asked, by whom, and whether the frames are explained.
+/// Which meter is asked, by whom, whether the frames are explained, and how long a value may be.
 const ASKING: &[Argument] = &[
     Argument {
         name: "server",
@@ -54,13 +54,18 @@ const ASKING: &[Argument] = &[
         kind: Kind::ShortFlag('v'),
         help: "Explains each frame on standard error",
     },
+    Argument {
+        name: "most",
+        kind: Kind::Number("BYTES", 1, 16_777_216),
+        help: "The most octets of a value's encoding, 1 to 16777216, 4194304 at first",
+    },
 ];
 
 /// The program's commands.
 const COMMANDS: [CommandWords; 12] = [
     CommandWords {
         name: "format",
-        about: "Makes a new meter in FILE, over whatever FILE holds",
+        about: "Makes a new meter in FILE",
         long_about: FORMAT_ABOUT,
         example: "Example:\n  dlms format meter.bin --demo",
         arguments: &[
@@ -73,6 +78,11 @@ const COMMANDS: [CommandWords; 12] = [
                 name: "demo",
                 kind: Kind::Flag,
                 help: "Gives the meter a day of a household to show",
+            },
+            Argument {
+                name: "force",
+                kind: Kind::Flag,
+                help: "Formats a FILE that already holds a meter; what it holds is lost",
             },
         ],
         more: &[],
@@ -208,6 +218,11 @@ const COMMANDS: [CommandWords; 12] = [
                 kind: Kind::Number("SECONDS", 0, 31_536_000),
                 help: "Checks the clock, and bears so many seconds, 0 to 31536000; with --check-clock alone 86400",
             },
+            Argument {
+                name: "strict",
+                kind: Kind::Flag,
+                help: "Refuses the whole answer if a row is not later than the one before it",
+            },
         ],
         more: &[],
     },
@@ -283,7 +298,7 @@ const COMMANDS: [CommandWords; 12] = [
             Argument {
                 name: "VALUE",
                 kind: Kind::Wanted,
-                help: "The value, as u32:900, text:.., hex:.., raw:.., null or now",
+                help: "The value, as u32:900, text:.., hex:.., raw:.., text-file:PATH, octets-file:PATH, null or now",
             },
             Argument {
                 name: "class",

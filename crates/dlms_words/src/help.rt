@@ -8,7 +8,8 @@ the program does, and for this help.";
 
 /// What `format` does, for its help.
 pub const FORMAT_ABOUT: &str =
-    "Makes a new meter in FILE. Whatever FILE holds is written over and lost.
+    "Makes a new meter in FILE. A FILE that exists and is not empty is refused, and stays as it is; with --force a FILE that holds \
+a meter is formatted, and what that meter held is lost. A file of anything else is refused with --force too.
 
 Reads nothing. Prints \"formatted N pages\". The last step is a sync: from then on the meter outlasts a stop of the power. With \
 --demo the meter has a day of a household behind it, 96 rows a quarter of an hour apart, and \"captured 96 rows\" is printed too.
@@ -58,9 +59,9 @@ success or data outlasts a kill; of the seconds and pulses since then a kill tak
 meter is told of its seconds in steps, each of them all the same: its clock is behind by less than a step, and its file is written \
 less often. The end of a connection is the end of its links. One on which no frame is answered for 120 seconds is closed, or for \
 those of --inactivity; where another waits, one on which no frame of an association is answered for 5 seconds, or for those of \
---idle, and any after 60, or after those of --turn. So is one to which 5 associations were refused, and for 10 seconds none is taken \
-from its address. A serial line is not closed: its links end where a connection would, and after 5 refusals nothing is answered for \
-10 seconds.
+--idle, and any after 60, or after those of --turn. A connection to which an association was refused is closed too, and its address \
+waits for 10 seconds, twice as long after each further refusal and 15 minutes at most, or for 2 seconds if it has proved a secret. \
+A serial line is not closed: its links end where a connection would, and after 5 refusals nothing is answered for as long.
 
 Exit status: 1 after a fault (dlms: io, with FILE, the address or DEVICE, also one that is no serial line or is gone, and the system's words on a second line; dlms: nocheckpoint or \
 dlms: corrupt N for a FILE that holds no meter, or a damaged one; dlms: device or dlms: exhausted once FILE takes no more; \
@@ -78,15 +79,16 @@ of it), or with 12345678 where none is named; with --reader as the reader, with 
 the public client, which has no secret, whatever else is given. With --readings the rows \
 from the second of FILE's last row on are asked for, an absent FILE has none, and FILE gets the new text: a stop at any moment \
 leaves the old text or the new one. Prints a line \"clock,r0,r1,r2\" for each row that FILE did not have, before FILE has it: \
-what was printed and not filed comes again with the next poll. A line on standard error says how many rows were left out, not \
-later than FILE's last row. One poll at a time has FILE, by the lock of FILE.lock, which stays. A frame that is not \
+what was printed and not filed comes again with the next poll. A row is filed if it is later than FILE's last row and than every \
+row before it in the answer; a line on standard error says how many rows were left out, and which was the first. With --strict \
+such an answer is refused instead. Until the deadline a connection that is refused or lost is made again, and a meter that does not \
+answer is asked again, a second later. One poll at a time has FILE, by the lock of FILE.lock, which stays. A frame that is not \
 answered within two seconds goes out again, three times at most.
 
 Exit status: 0; 1 after a fault (dlms: io, with the file or PLACE and the system's words on a second line; dlms: line N \
 for a line of FILE that is none of readings; dlms: secret for one of more than 16 bytes; dlms: line where nobody answers, or \
 the deadline is over, as a second line says; dlms: protocol (also for \
-rows of other columns than the clock and the three registers), dlms: refused N or dlms: result N for the poll; dlms: clock N \
-where row N is not later than the one before it; dlms: ahead N where row N is too far past the system's clock, of the poll or \
+rows of other columns than the clock and the three registers), dlms: refused N or dlms: result N for the poll; dlms: clock N where, with --strict, row N is not later than the one before it; dlms: ahead N where row N is too far past the system's clock, of the poll or \
 of FILE, as a second line says; dlms: memory); \
 2 for words that are not understood, and for this help.";
 
@@ -96,9 +98,9 @@ pub const GET_ABOUT: &str =
 
 PLACE is HOST:PORT for TCP, or a path that begins with / for a serial line, set beforehand as by \"stty -F /dev/ttyUSB0 9600 raw -echo\", which no other program may have in use.
 
-NAMES has a logical name, and the number of an attribute behind a slash, 2 where there is none: 1.0.1.8.0.255, 1.0.99.1.0.255/3; several with commas between them. An object's class stands in the meter's object list, which is asked for first, unless --class says it. Prints a line for a value, as explain has them, and those of an array or a structure below it; of a register its number with its scaler and unit, as 0.042 kWh, energies in thousands of their unit. With --raw it is the value's encoding in pairs of hexadecimal digits, whatever else is given; with --json an object of JSON with name, attribute, class and value, of a register with scaler and unit where it has them. Asks as the public client, 16, or as that of --client, with the secret that stands in the file of --secret-file, or without one. The meter's address is that of --server, 1 at first: UPPER, in one octet, or UPPER/LOWER, in two where both are below 128, else in four, and with --wide in four in any case. With -v each frame is explained on standard error. A frame that is not answered within two seconds goes out again, three times at most.
+NAMES has a logical name, and the number of an attribute behind a slash, 2 where there is none: 1.0.1.8.0.255, 1.0.99.1.0.255/3; several with commas between them. An object's class stands in the meter's object list, which is asked for first, unless --class says it. Prints a line for a value, as explain has them, and those of an array or a structure below it; of a register its number with its scaler and unit, as 0.042 kWh, energies in thousands of their unit. With --raw it is the value's encoding in pairs of hexadecimal digits, whatever else is given; with --json an object of JSON with name, attribute, class and value, of a register with scaler and unit where it has them. Asks as the public client, 16, or as that of --client, with the secret that stands in the file of --secret-file, or without one. The meter's address is that of --server, 1 at first: UPPER, in one octet, or UPPER/LOWER, in two where both are below 128, else in four, and with --wide in four in any case. With -v each frame is explained on standard error. A value whose encoding has more than 4194304 octets, or more than those of --most, is not printed: the next block of it is not asked for. A frame that is not answered within two seconds goes out again, three times at most.
 
-Exit status: 0; 1 after a fault (dlms: io, with PLACE or the file and the system's words on a second line; dlms: name or dlms: server for one that is none; dlms: class for an object that is not in the list; dlms: secret for one of more than 16 bytes; dlms: line, dlms: protocol, dlms: refused N, dlms: denied N or dlms: result N for the talk; dlms: memory); 2 for words that are not understood, and for this help.";
+Exit status: 0; 1 after a fault (dlms: io, with PLACE or the file and the system's words on a second line; dlms: name or dlms: server for one that is none; dlms: class for an object that is not in the list; dlms: secret for one of more than 16 bytes; dlms: large for a value of more octets than may be; dlms: line, dlms: protocol, dlms: refused N, dlms: denied N or dlms: result N for the talk; dlms: memory); 2 for words that are not understood, and for this help.";
 
 /// What `list` does, for its help.
 pub const LIST_ABOUT: &str =
@@ -111,14 +113,14 @@ Exit status: as of get.";
 /// What `set` does, for its help.
 pub const SET_ABOUT: &str = "Sets an attribute of the meter at PLACE over HDLC.
 
-NAME is as of get. VALUE is a number as u8:, u16:, u32:, u64:, i8:, i16:, i32:, i64: or enum:, as u32:900; bool:true or bool:false; an octet-string as text:.. or as pairs of hexadecimal digits, hex:2e2e; visible:.. or utf8:.. for texts of these types; the encoding of any value, raw:0202..; null; or now, the date-time of the system's clock in UTC. Prints what was set. PLACE, and who asks whom, are as of get.
+NAME is as of get. VALUE is a number as u8:, u16:, u32:, u64:, i8:, i16:, i32:, i64: or enum:, as u32:900; bool:true or bool:false; an octet-string as text:.. or as pairs of hexadecimal digits, hex:2e2e; visible:.. or utf8:.. for texts of these types; the encoding of any value, raw:0202..; null; or now, the date-time of the system's clock in UTC. The octet-string may also come from a file: text-file:PATH, without the end of its last line, or octets-file:PATH, with all its bytes, 65536 at most. Give a secret this way, since other users can read a command line. Setting the capture period or the columns of a load profile empties its buffer. Prints what was set; of a clock also what it showed before, and what it shows now. PLACE, and who asks whom, are as of get.
 
-Exit status: as of get; dlms: value for a VALUE that is none; dlms: long for one that is longer than the meter takes; dlms: result N where the meter does not set it.";
+Exit status: as of get; dlms: value for a VALUE that is none; dlms: now where no meter's clock can show the system's; dlms: io, with PATH and the system's words, for a file that cannot be read; dlms: long for a file of more bytes, or a value that is longer than the meter takes; dlms: result N where the meter does not set it.";
 
 /// What `act` does, for its help.
 pub const ACT_ABOUT: &str = "Calls a method of the meter at PLACE over HDLC.
 
-NAME has the number of the method behind a slash, as 0.0.1.0.0.255/3, VALUE is as of set, and none where there is no VALUE. Prints what was called, and the value that it returns, if it does. PLACE, and who asks whom, are as of get.
+NAME has the number of the method behind a slash, as 0.0.1.0.0.255/3, VALUE is as of set, and none where there is no VALUE. Prints what was called, and the value that it returns, if it does; of a method of a clock also what the clock showed before, and what it shows now. PLACE, and who asks whom, are as of get.
 
 Exit status: as of set; dlms: name for a NAME without a number.";
 

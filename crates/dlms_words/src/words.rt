@@ -37,6 +37,9 @@ const AHEAD: u32 = 86_400;
 /// The client that asks where none is said: the public client (IEC 62056-46, reserved addresses).
 const CLIENT: u32 = 16;
 
+/// How many octets the encoding of a value from the meter has at most when nothing is said: 4 MiB.
+const MOST: u32 = 4_194_304;
+
 /// What is said where two clients are asked for.
 const TWO_CLIENTS: &str = "the argument '--public' cannot be used with '--reader'";
 
@@ -112,9 +115,11 @@ fn format_job<'a>(matches: &ArgMatches<'a>) -> Job<'a>
     ensures { (rows : List Row) → subcommand_rows_of matches.now ≡ Some (codes "format", rows) → Asks (Some (codes "format", rows)) result }
 {
     let demo = is_given(value_for(matches, "format", "demo"));
+    let force = is_given(value_for(matches, "format", "force"));
     Job::Format {
         file: value_for(matches, "format", "FILE").unwrap_or(""),
         demo,
+        force,
     }
 }
 
@@ -166,6 +171,7 @@ fn poll_job<'a>(matches: &ArgMatches<'a>) -> Job<'a>
     let public = is_given(value_for(matches, "poll", "public"));
     let reader = is_given(value_for(matches, "poll", "reader"));
     let checks = is_given(value_for(matches, "poll", "check-clock"));
+    let strict = is_given(value_for(matches, "poll", "strict"));
     Job::Poll {
         address: value_for(matches, "poll", "PLACE").unwrap_or(""),
         readings: value_for(matches, "poll", "readings"),
@@ -173,6 +179,7 @@ fn poll_job<'a>(matches: &ArgMatches<'a>) -> Job<'a>
         client: asker(public, reader),
         deadline: number_for(matches, "poll", "deadline", DEADLINE),
         ahead: ahead(checks, value_for(matches, "poll", "ahead")),
+        strict,
     }
 }
 
@@ -228,6 +235,7 @@ fn asking<'a>(matches: &ArgMatches<'a>, command: &str) -> Asking<'a>
         client: number_for(matches, command, "client", CLIENT),
         secret_file: value_for(matches, command, "secret-file"),
         verbose,
+        most: number_for(matches, command, "most", MOST),
     }
 }
 

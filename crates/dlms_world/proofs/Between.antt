@@ -35,7 +35,7 @@ use Rattle.dlms_world.specs.Named.{IsNamed, names_after, named_reading, named_re
 use Rattle.dlms_world.specs.Turn.{Turn, IsOver, Begins, GoesOn, AsksNext, Leaves, Ends, FailsAt, TimedOut, GivesUp, TurnsTo, Merges, LosesUp, LosesDown, Arrives, Intruded, OtherSends, Happens, Works, StopsInside, Restarted, Run, Stays, Goes, served_by}
 use Rattle.dlms_world.specs.World.{World, settled_in, first_world}
 use Rattle.dlms_world.proofs.Growing.{through, settled_begins}
-use Rattle.dlms_world.proofs.Readings.{among_more, merged_among}
+use Rattle.dlms_world.proofs.Readings.{among_more, merged_among, sublist_among}
 use Rattle.dlms_world.proofs.Keeping.{settles_on, over_silent, DataSettled}
 use Rattle.dlms_world.proofs.Ending.{is_settled}
 use Rattle.dlms_world.proofs.Telling.{tells}
@@ -206,7 +206,7 @@ kept_after who (FailsAt w frame rest fault runs line fails) g still k = tt
 kept_after who (TimedOut w runs up) g still k = k
 kept_after who (GivesUp w fault runs closed) g still k = tt
 kept_after who (TurnsTo w plan up down) g still k = tt
-kept_after who (Merges w done) g still k = k
+kept_after who (Merges w kept done some) g still k = k
 kept_after who (LosesUp w) g still k = k
 kept_after who (LosesDown w) g still k = k
 kept_after who (Arrives w frame rest choice o memory line takes) g still k =
@@ -265,7 +265,7 @@ named_after who {w} {now} turn g asks k file =
     let told = (is_brought who w g is.0).told in
     let rows = rows_are_named w (told.names (asks is.0)) (asks is.0) (subst (λ c. Kept c w.plan.columns w.memory w.served) is.0 k) g.settled in
     let new = still_named (settled_in w.memory) (settled_in now.memory) w.rows grown rows in
-    subst (AreAmong (named_readings (settled_in now.memory))) (sym is.1) (merged_among (named_readings (settled_in now.memory)) w.file w.rows old new))
+    subst (AreAmong (named_readings (settled_in now.memory))) (sym is.3) (merged_among (named_readings (settled_in now.memory)) w.file is.1 old (sublist_among (named_readings (settled_in now.memory)) is.1 w.rows new is.2)))
     (file_after turn)
 
 -- ---- over every run

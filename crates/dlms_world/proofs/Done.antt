@@ -67,6 +67,7 @@ use Rattle.dlms_world.proofs.Tabled.{shows_due}
 use Rattle.dlms_world.proofs.Telling.{tells}
 use Rattle.dlms_world.proofs.Whole.{good}
 use Rattle.dlms_world.specs.Possible.{CanBeDone, CanBeDoneAgain, KnowsSecret, quarter, first_rows}
+use Rattle.dlms_world.proofs.Readings.{whole_sublist}
 use Rattle.dlms_world.specs.Turn.{Turn, Run, Stays, Goes, Begins, GoesOn, AsksNext, Leaves, Ends, Merges, Arrives, Happens, TurnsTo, Restarted, Takes, Answers, IsFree, IsOnItsOwn, served_by, silent, still_ours, restarted, records_in, turned}
 use Rattle.dlms_world.specs.World.{World, Remembers, first_world, rows_due}
 
@@ -275,7 +276,7 @@ module _ (before : World) (plan : PlanValue) (E : List Event) (legal : IsLegal E
       let filed : World = record done { file = merged file rows } in
       record {
         now = filed;
-        run = Goes done filed (Goes gone_world done (Goes sent gone_world (Goes awaiting sent a.run first) second) third) (Merges done refl);
+        run = Goes done filed (Goes gone_world done (Goes sent gone_world (Goes awaiting sent a.run first) second) third) (Merges done rows refl (whole_sublist rows));
         course = refl;
         memory = refl;
         by = refl;

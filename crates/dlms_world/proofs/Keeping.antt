@@ -60,7 +60,7 @@ settles_on (FailsAt w frame rest fault runs line fails) = same_events (settled_i
 settles_on (TimedOut w runs up) = same_events (settled_in w.memory)
 settles_on (GivesUp w fault runs closed) = same_events (settled_in w.memory)
 settles_on (TurnsTo w plan up down) = same_events (settled_in w.memory)
-settles_on (Merges w done) = same_events (settled_in w.memory)
+settles_on (Merges w kept done some) = same_events (settled_in w.memory)
 settles_on (LosesUp w) = same_events (settled_in w.memory)
 settles_on (LosesDown w) = same_events (settled_in w.memory)
 settles_on (Arrives w frame rest choice o memory line takes) = remembered w.memory o.accepted memory takes.remembers
@@ -112,7 +112,7 @@ linked who (GivesUp w fault runs closed) l = record { sound = link_keeps who Tim
 linked who (TurnsTo w plan up down) l =
     let own : AreOwn (records_in w) = all_own who w l in
     record { sound = new_sound plan.client (records_in w plan.client).link w.link.up_line w.link.down_line (own plan.client).0 up down; plan = refl; session = (own plan.client).1; others = own }
-linked who (Merges w done) l = record { sound = l.sound; plan = l.plan; session = l.session; others = l.others }
+linked who (Merges w kept done some) l = record { sound = l.sound; plan = l.plan; session = l.session; others = l.others }
 linked who (LosesUp w) l = record { sound = link_keeps who LostUp l.sound; plan = l.plan; session = l.session; others = l.others }
 linked who (LosesDown w) l = record { sound = link_keeps who LostDown l.sound; plan = l.plan; session = l.session; others = l.others }
 linked who (Arrives w frame rest choice o memory line takes) l = record {
@@ -204,7 +204,7 @@ stands who (FailsAt w frame rest fault runs line fails) l s =
 stands who (TimedOut w runs up) l s = fits_run w.course w.plan (happens w.link TimesOut) runs (asking.late_fits w.plan w.link (runs_fit w.course w.plan w.link runs s) up)
 stands who (GivesUp w fault runs closed) l s = subst (λ p. IsResting p (happens w.link TimesOut).client.waits) closed (resting who (link_keeps who TimesOut l.sound))
 stands who (TurnsTo w plan up down) l s = refl
-stands who (Merges w done) l s = s
+stands who (Merges w kept done some) l s = s
 stands who (LosesUp w) l s = same_stands w.course w.plan w.link (happens w.link LostUp) (record { client = refl; asked = refl; taken = refl }) s
 stands who (LosesDown w) l s = same_stands w.course w.plan w.link (happens w.link LostDown) (record { client = refl; asked = refl; taken = refl }) s
 stands who (Arrives w frame rest choice o memory line takes) l s = same_stands w.course w.plan w.link (happens w.link (ReachesMeter o.answer takes.short)) (asking.meter_there w.link o.answer w.link.up_line) s
@@ -259,7 +259,7 @@ chained who (FailsAt w frame rest fault runs line fails) l s c = reached_aside w
 chained who (TimedOut w runs up) l s c = reached_aside who w.link TimesOut tt l.sound w.ours w.session w.served c
 chained who (GivesUp w fault runs closed) l s c = reached_aside who w.link TimesOut tt l.sound w.ours w.session w.served c
 chained who (TurnsTo w plan up down) l s c = chain.anew plan.client (records_in w plan.client).link w.link.up_line w.link.down_line (records_in w plan.client).session
-chained who (Merges w done) l s c = c
+chained who (Merges w kept done some) l s c = c
 chained who (LosesUp w) l s c = reached_aside who w.link LostUp tt l.sound w.ours w.session w.served c
 chained who (LosesDown w) l s c = reached_aside who w.link LostDown tt l.sound w.ours w.session w.served c
 chained who (Arrives w frame rest choice o memory line takes) l s c =
@@ -316,7 +316,7 @@ data_settled (FailsAt w frame rest fault runs line fails) d = d
 data_settled (TimedOut w runs up) d = d
 data_settled (GivesUp w fault runs closed) d = d
 data_settled (TurnsTo w plan up down) d = tt
-data_settled (Merges w done) d = d
+data_settled (Merges w kept done some) d = d
 data_settled (LosesUp w) d = d
 data_settled (LosesDown w) d = d
 data_settled (Arrives w frame rest choice o memory line takes) d =

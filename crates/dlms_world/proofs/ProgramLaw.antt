@@ -31,6 +31,7 @@ use Rattle.dlms_store.specs.declared.fault.AddFault.{AddFault}
 use Rattle.dlms_store.specs.declared.fault.AddFault.TheVariants as add
 use Rattle.dlms_world.specs.Agree.{AreCaptures}
 use Rattle.dlms_world.specs.World.{World, first_world}
+use Rattle.dlms_world.specs.Sublists.{IsSublist}
 use Rattle.dlms_world.specs.Turn.{Turn, LosesUp, LosesDown, Merges as MergesTurn, Restarted, Run, Stays, Goes, restarted, records_in}
 use Rattle.dlms_world.specs.Calls.{IsPollerOf, IsUnderWay, taken_by, IsAsideSame, TurnsInto, sent_first, sent_on, sent_again}
 use Rattle.dlms_world.specs.Ties.{IsMeterOf, IsPollSame, AnswersTo, StepsTo, StepsFrom, StepsAt, Puts, IsToldIn, IsLeftInStep}
@@ -294,11 +295,12 @@ act plan h now w (Waits same result new running can none nothing times_out) x =
 act plan h now w (Renews same next none nothing) x =
     turned plan h (record h { poller = fresh_poll next }) w [] [] x
     (new_is_turn next w (x.going ∙ none) (x.coming ∙ nothing)) refl refl (append-nil w.link.up_line ∙ x.going) (sym nothing)
-act plan h now w (Merges same done) x =
-    let over : w.course ≡ Done = runs plan h w Done x done in (
-      record w { file = merged w.file w.rows },
+act plan h now w (Merges same kept done some) x =
+    let over : w.course ≡ Done = runs plan h w Done x done in
+    let of_world : IsSublist kept w.rows = subst (λ (rows : List Row). IsSublist kept rows) (x.poller.rows over) some in (
+      record w { file = merged w.file kept },
       record {
-        run = Goes w (record w { file = merged w.file w.rows }) x.run (MergesTurn w over);
+        run = Goes w (record w { file = merged w.file kept }) x.run (MergesTurn w kept over of_world);
         m = x.m;
         stands = x.stands;
         fits = x.fits;
@@ -306,7 +308,7 @@ act plan h now w (Merges same done) x =
         poller = record { plan = x.poller.plan; course = x.poller.course; link = x.poller.link; rows = x.poller.rows; fits = x.poller.fits };
         going = x.going;
         coming = x.coming;
-        file = ap (λ (f : List Row). merged f w.rows) x.file ∙ ap (λ (rows : List Row). merged h.file rows) (sym (x.poller.rows over));
+        file = ap (λ (f : List Row). merged f kept) x.file;
       },
     )
 act plan h now w (LosesGoing same frame rest line) x = (

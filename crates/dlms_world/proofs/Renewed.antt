@@ -1,10 +1,11 @@
 -- A new poller while nothing is on the line, and the merge of a poll that is done.
-use Rattle.std.proofs.Common.{◌≡◌, ◌∙◌, refl, sym, ap, append-nil, List}
+use Rattle.std.proofs.Common.{◌≡◌, ◌∙◌, refl, sym, subst, append-nil, List}
 use Rattle.dlms_headend.specs.Merged.{merged}
 use Rattle.dlms_headend.specs.declared.row.Row.{Row}
 use Rattle.dlms_headend.specs.declared.stage.Course.TheVariants.{Done}
 use Rattle.dlms_world.specs.Turn.{TurnsTo, Merges, records_in, turned}
 use Rattle.dlms_world.specs.Calls.{NewIsTurn, MergeIsTurn}
+use Rattle.dlms_world.specs.Sublists.{IsSublist}
 use Rattle.dlms_world.proofs.Records.{again}
 
 pub new_is_turn : NewIsTurn
@@ -18,6 +19,7 @@ new_is_turn plan w up down = (
 )
 
 pub merge_is_turn : MergeIsTurn
-merge_is_turn w p is done =
+merge_is_turn w p kept is done some =
     let over : w.course ≡ Done = sym is.course ∙ done in
-    (record w { file = merged w.file w.rows }, Merges w over, record { plan = is.plan; course = is.course; link = is.link; rows = is.rows; fits = is.fits }, ap (λ (rows : List Row). record w { file = merged w.file rows }) (sym (is.rows over)))
+    let of_world : IsSublist kept w.rows = subst (λ (rows : List Row). IsSublist kept rows) (is.rows over) some in
+    (record w { file = merged w.file kept }, Merges w kept over of_world, record { plan = is.plan; course = is.course; link = is.link; rows = is.rows; fits = is.fits }, refl)

@@ -15,6 +15,7 @@ use Rattle.dlms_service.specs.Session.{fresh}
 use Rattle.dlms_store.specs.World.{StoreWorld as Store, IsBeginning}
 use Rattle.dlms_world.specs.World.{World, settled_in, all_readings, rows_asked, first_world}
 use Rattle.dlms_meter.specs.Run.{events_in}
+use Rattle.dlms_world.specs.Sublists.{IsSublist}
 use Rattle.dlms_world.specs.Turn.{Turn, Begins, GoesOn, AsksNext, Leaves, Ends, FailsAt, TimedOut, GivesUp, TurnsTo, Merges, LosesUp, LosesDown, Arrives, Intruded, OtherSends, Happens, Works, StopsInside, Restarted, Run, Stays, Goes, served_by}
 use Rattle.dlms_world.proofs.Keeping.{over_silent}
 use Rattle.dlms_world.specs.Agree.{LineIsSilent}
@@ -22,7 +23,7 @@ use Rattle.dlms_world.specs.Agree.{AreCaptures, Rise, PollsAreTold, ReadingsAreC
 use Rattle.dlms_world.specs.Named.{IsNamed, PollsAreNamed}
 use Rattle.dlms_world.specs.Told.{IsTold, AnswersTell}
 use Rattle.dlms_world.proofs.Growing.{through, settled_begins}
-use Rattle.dlms_world.proofs.Readings.{still_captures, rose_before, merged_among, merged_rise, asked_are_captures, asked_rise}
+use Rattle.dlms_world.proofs.Readings.{still_captures, rose_before, merged_among, merged_rise, sublist_among, sublist_rise, asked_are_captures, asked_rise}
 use Rattle.dlms_world.proofs.Keeping.{settles_on, whose_after, Linked, linked, StandsBy, stands, Chained, chained, DataSettled, data_settled}
 use Rattle.dlms_world.proofs.Ending.{is_told, is_settled}
 use Rattle.dlms_world.proofs.Telling.{tells}
@@ -102,7 +103,7 @@ done_after tell who (FailsAt w frame rest fault runs line fails) g = tt
 done_after tell who (TimedOut w runs up) g = g.done
 done_after tell who (GivesUp w fault runs closed) g = tt
 done_after tell who (TurnsTo w plan up down) g = tt
-done_after tell who (Merges w done) g = g.done
+done_after tell who (Merges w kept done some) g = g.done
 done_after tell who (LosesUp w) g = g.done
 done_after tell who (LosesDown w) g = g.done
 done_after tell who (Arrives w frame rest choice o memory line takes) g =
@@ -117,7 +118,7 @@ done_after tell who (Restarted w step memory unusual next) g = done_on w.course 
 
 -- the file changes by merging alone
 abbrev pub FileAfter : World → World → Type 0
-FileAfter w now = (now.file ≡ w.file) ⊎ ((w.course ≡ Done) × (now.file ≡ merged w.file w.rows))
+FileAfter w now = (now.file ≡ w.file) ⊎ ((w.course ≡ Done) × (kept : List Row) × IsSublist kept w.rows × (now.file ≡ merged w.file kept))
 
 pub file_after : {w now : World} → Turn w now → FileAfter w now
 file_after (Begins w ready) = inl refl
@@ -129,7 +130,7 @@ file_after (FailsAt w frame rest fault runs line fails) = inl refl
 file_after (TimedOut w runs up) = inl refl
 file_after (GivesUp w fault runs closed) = inl refl
 file_after (TurnsTo w plan up down) = inl refl
-file_after (Merges w done) = inr (done, refl)
+file_after (Merges w kept done some) = inr (done, kept, some, refl)
 file_after (LosesUp w) = inl refl
 file_after (LosesDown w) = inl refl
 file_after (Arrives w frame rest choice o memory line takes) = inl refl
@@ -159,14 +160,16 @@ captures_after who {w} {now} turn g =
     ⊎_elim (λ is. subst (AreCaptures (settled_in now.memory)) (sym is) old)
     (λ is.
     let new = still_captures (settled_in w.memory) (settled_in now.memory) w.rows grown (brought_captures w.plan w.served w.memory w.rows (is_brought who w g is.0)) in
-    subst (AreCaptures (settled_in now.memory)) (sym is.1) (merged_among (all_readings (settled_in now.memory)) w.file w.rows old new))
+    subst (AreCaptures (settled_in now.memory)) (sym is.3) (merged_among (all_readings (settled_in now.memory)) w.file is.1 old (sublist_among (all_readings (settled_in now.memory)) is.1 w.rows new is.2)))
     (file_after turn)
 
 rise_after : (who : Client) {w now : World} → Turn w now → Good who w → Rise (all_readings (settled_in now.memory)) → Rise now.file
 rise_after who {w} {now} turn g rise =
     let was : Rise (all_readings (settled_in w.memory)) = rose_before (settled_in w.memory) (settled_in now.memory) (settles_on turn) rise in
     ⊎_elim (λ is. subst Rise (sym is) (g.order was))
-    (λ is. subst Rise (sym is.1) (merged_rise w.file w.rows (g.order was) (brought_rise w.plan w.served w.memory w.rows (is_brought who w g is.0) was)))
+    (λ is.
+    let rise_kept : Rise is.1 = sublist_rise is.1 w.rows (brought_rise w.plan w.served w.memory w.rows (is_brought who w g is.0) was) is.2 in
+    subst Rise (sym is.3) (merged_rise w.file is.1 (g.order was) rise_kept))
     (file_after turn)
 
 pub keep : AnswersTell → (who : Client) {w now : World} (turn : Turn w now) → Good who w → Good (whose_after who turn) now

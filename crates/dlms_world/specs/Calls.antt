@@ -7,10 +7,12 @@ use Rattle.dlms_headend.specs.Merged.{merged}
 use Rattle.dlms_headend.specs.PollerValue.{PollerValue}
 use Rattle.dlms_headend.specs.Polling.{fresh_poll, Fits, Begins, Polls, TimesOut, CanTimeOut}
 use Rattle.dlms_headend.specs.declared.poll_fault.PollFault.{PollFault}
+use Rattle.dlms_headend.specs.declared.row.Row.{Row}
 use Rattle.dlms_headend.specs.declared.stage.Course.{Course}
 use Rattle.dlms_headend.specs.declared.stage.Course.TheVariants.{Ready, Running, Done, Failed}
 use Rattle.dlms_headend.specs.declared.step.PollStep.{PollStep}
 use Rattle.dlms_headend.specs.declared.step.PollStep.TheVariants.{Send}
+use Rattle.dlms_world.specs.Sublists.{IsSublist}
 use Rattle.dlms_world.specs.World.{World, first_world}
 use Rattle.dlms_world.specs.Turn.{Turn, records_in}
 
@@ -69,10 +71,12 @@ NewIsFirst = (plan : PlanValue) → IsPollerOf (fresh_poll plan) (first_world pl
 abbrev pub NewIsTurn : Type 0
 NewIsTurn = (plan : PlanValue) (w : World) → w.link.up_line ≡ [] → w.link.down_line ≡ [] → TurnsInto w [] [] (fresh_poll plan)
 
--- a merge of the rows of a poll that is done is a step: the file has its rows, and the later ones of the poll's
+-- A merge of rows of a poll that is done, all or some of them in their order, is a step: the file has its rows, followed by the later
+-- ones of those.
 abbrev pub MergeIsTurn : Type 0
 MergeIsTurn =
-    (w : World) (p : PollerValue) → IsPollerOf p w → p.course ≡ Done → (now : World) × Turn w now × IsPollerOf p now × (now ≡ record w { file = merged w.file p.talk.rows })
+    (w : World) (p : PollerValue) (kept : List Row) → IsPollerOf p w → p.course ≡ Done → IsSublist kept p.talk.rows
+    → (now : World) × Turn w now × IsPollerOf p now × (now ≡ record w { file = merged w.file kept })
 
 -- the call that gives the first frame is a step
 abbrev pub NextIsTurn : Type 0

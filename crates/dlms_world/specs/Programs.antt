@@ -22,6 +22,7 @@ use Rattle.dlms_store.specs.World.{StoreWorld}
 use Rattle.dlms_store.specs.declared.fault.AddFault.{AddFault}
 use Rattle.dlms_store.specs.declared.fault.OpenFault.{OpenFault}
 use Rattle.dlms_world.specs.Agree.{AreCaptures}
+use Rattle.dlms_world.specs.Sublists.{IsSublist}
 use Rattle.dlms_world.specs.Calls.{sent_first, sent_on, sent_again}
 
 -- what such a program holds, with the frames that are on the line, the oldest first: going to the meter, and coming to the poller
@@ -84,8 +85,8 @@ pub data Act {P A : Type 0} {ghosts : Ghosts P} : Held P A ghosts → Held P A g
   -- While nothing is on the line a new poller is made, by a plan of whatever client, wherever the last one stands: its poll is over, or
   -- the head end was stopped.
   Renews : (h : Held P A ghosts) (plan : PlanValue) → h.going ≡ [] → h.coming ≡ [] → Act h (record h { poller = fresh_poll plan })
-  -- the rows of a poll that is done are merged into the file
-  Merges : (h : Held P A ghosts) → h.poller.course ≡ Done → Act h (record h { file = merged h.file h.poller.talk.rows })
+  -- rows of a poll that is done are merged into the file: all of them, or some of them in their order
+  Merges : (h : Held P A ghosts) (kept : List Row) → h.poller.course ≡ Done → IsSublist kept h.poller.talk.rows → Act h (record h { file = merged h.file kept })
   -- the oldest frame is lost
   LosesGoing : (h : Held P A ghosts) (frame : Parts) (rest : List Parts) → h.going ≡ frame ∷ rest → Act h (record h { going = rest })
   LosesComing : (h : Held P A ghosts) (frame : Parts) (rest : List Parts) → h.coming ≡ frame ∷ rest → Act h (record h { coming = rest })

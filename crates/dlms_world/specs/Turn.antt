@@ -30,6 +30,7 @@ use Rattle.dlms_state.specs.Refusal.{MayFollow}
 use Rattle.dlms_state.specs.declared.event.Event.{Event}
 use Rattle.dlms_store.specs.World.{StoreWorld as Store, StoreStep, Next}
 use Rattle.dlms_store.specs.World.StoreStep.{Stops}
+use Rattle.dlms_world.specs.Sublists.{IsSublist}
 use Rattle.dlms_world.specs.World.{World, IsOn, IsUsual, Remembers}
 use Rattle.dlms_meter.specs.Run.{events_in, pending_in}
 
@@ -176,8 +177,8 @@ pub data Turn : World → World → Type 0 where
       Turn w (record w { link = happens w.link TimesOut; course = Failed fault })
   -- A new poll, once nothing is on the line, wherever the last one stands: it is over, or its head end was stopped.
   TurnsTo : (w : World) (plan : PlanValue) → w.link.up_line ≡ [] → w.link.down_line ≡ [] → Turn w (turned w plan)
-  -- the rows of a poll that is done are merged
-  Merges : (w : World) → w.course ≡ Done → Turn w (record w { file = merged w.file w.rows })
+  -- rows of a poll that is done are merged: all of them, or some of them in their order
+  Merges : (w : World) (kept : List Row) → w.course ≡ Done → IsSublist kept w.rows → Turn w (record w { file = merged w.file kept })
   -- a frame is lost
   LosesUp : (w : World) → Turn w (record w { link = happens w.link LostUp })
   LosesDown : (w : World) → Turn w (record w { link = happens w.link LostDown })

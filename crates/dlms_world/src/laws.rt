@@ -120,7 +120,8 @@ fn bytes_fit(bytes: &[u8])
 
 /// The calls of a poller are steps of the world: a new one, of whatever client, is that of the first world, or of one behind any poll while
 /// nothing is on the line; the call that gives its first frame, one that is given the oldest frame on the way, and one that tells of a
-/// time-out while nothing is on the line; and a merge of the rows of one that is done.
+/// time-out while nothing is on the line; and a merge of rows of one that is done, all or some of
+/// them in their order.
 pub fn calls_are_turns()
     ensures new { NewIsFirst }
     ensures again { NewIsTurn }

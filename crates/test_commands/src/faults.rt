@@ -97,7 +97,10 @@ fn say_of_results(told: &mut Vec<u8>) -> Result<()> {
     ] {
         say(told, Fault::Denied(NAME, denial))?;
     }
-    say(told, Fault::Class(NAME))
+    say(told, Fault::Class(NAME))?;
+    say(told, Fault::Large(NAME, 4_194_304))?;
+    say(told, Fault::File("secret"))?;
+    say(told, Fault::Now)
 }
 
 /// Says what is said of talks that end early.
@@ -110,6 +113,7 @@ fn say_of_talks(told: &mut Vec<u8>) -> Result<()> {
             initiate: Some(1),
         }),
         CallFault::TooLong,
+        CallFault::TooLarge,
         CallFault::Io,
     ] {
         say(told, Fault::Call(ADDRESS, fault))?;

@@ -9,7 +9,7 @@ use Rattle.dlms_filing.specs.Filing.Asked.{Holds, Opens, Lays, Puts, Drops}
 use Rattle.dlms_ends.specs.Moments.{Moment}
 use Rattle.dlms_ends.specs.Moments.Moment.{Came, Quiet, Unheard, Went, Broke, Connects, Joins}
 use Rattle.dlms_field.specs.Watching.{Sight}
-use Rattle.dlms_field.specs.Watching.Sight.{Second, Another, Next, Prepares, Bars, Pauses, Starts, Dates, Reads as ReadsSecret}
+use Rattle.dlms_field.specs.Watching.Sight.{Second, Another, Next, Prepares, Bars, Trusts, Pauses, Starts, Dates, Reads as ReadsSecret}
 
 -- the value, or the error with which its call failed
 abbrev pub unless : {X : Type 0} → X → Option Error → Result X Error
@@ -92,4 +92,6 @@ sight_of number second is_so failed address file bytes =
     then Starts failed
     else if nat_eq number 7
     then Dates (unless second failed)
+    else if nat_eq number 9
+    then Trusts second
     else ReadsSecret file (unless bytes failed)

@@ -99,6 +99,11 @@ impl<R: Abort> Desk for Table<'_, R> {
     }
 
     #[tactic(auto, using(crate::proofs::Lists::map_append))]
+    fn pause(&mut self) {
+        self.note(Noted::of(self.alloc, 5, 0, true, None));
+    }
+
+    #[tactic(auto, using(crate::proofs::Lists::map_append))]
     fn date(&mut self) -> io::Result<u64> {
         let failed = self.failure(7);
         self.note(Noted::of(self.alloc, 7, DAY, true, failed));
@@ -270,6 +275,7 @@ fn a_meter_is_polled(rt: HostRuntime) {
         client: Client::Management,
         deadline: 600,
         ahead: Some(60),
+        strict: false,
     };
     for (fails, is_there, came) in [
         (9, true, Came::Rows),

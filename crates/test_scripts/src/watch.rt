@@ -100,6 +100,11 @@ impl<'a, R: Abort> Watch for Porch<'a, R> {
     }
 
     #[tactic(auto, using(crate::proofs::Lists::map_append))]
+    fn trust(&mut self, now: u64) {
+        self.note(Noted::of(self.alloc, 9, now, true, None));
+    }
+
+    #[tactic(auto, using(crate::proofs::Lists::map_append))]
     fn pause(&mut self) {
         self.note(Noted::of(self.alloc, 5, 0, true, None));
     }
@@ -116,6 +121,7 @@ fn a_connection_is_served(rt: HostRuntime) {
             idle: 5,
             longest: 60,
         },
+        refusals: 1,
     };
     let plays = [Play::Bytes(&SNRM), Play::Nothing];
     let served: [(u64, bool, &[u8]); 3] = [
@@ -153,6 +159,7 @@ fn a_line_is_served(rt: HostRuntime) {
             idle: 5,
             longest: 60,
         },
+        refusals: 1,
     };
     let asking = [Play::Bytes(&SNRM), Play::Nothing];
     let silent = [Play::Nothing, Play::Nothing];

@@ -7,9 +7,9 @@ use Rattle.dlms_world.specs.Programs.{Merges, Then}
 use Rattle.dlms_field.proofs.laws.the_place_holds_captures.Goals as goal
 
 pub returns : goal.returns
-returns g c = λ plan first now is acts same done asked asked' printed printed' after files.
-    let then = record now { file = merged now.file now.poller.talk.rows } in
-    let (m, stands, fits, captures) = c.programs_are_runs.ensures plan first then is (Then now then acts (Merges now done)) same in
+returns g c = λ plan first now is acts same done kept some asked asked' printed printed' after files.
+    let then = record now { file = merged now.file kept } in
+    let (m, stands, fits, captures) = c.programs_are_runs.ensures plan first then is (Then now then acts (Merges now kept done some)) same in
     let (merges, text, spelled, gives) = files in
     record {
       text = text;

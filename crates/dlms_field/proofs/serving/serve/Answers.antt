@@ -1,5 +1,6 @@
 use Rattle.std.proofs.Common.{refl, ap, ◌∙◌, inl, inr}
 use Rattle.dlms_ends.proofs.PollLemmas.{system_told}
+use Rattle.dlms_meter.specs.Run.{events_of}
 use Rattle.dlms_field.specs.Serving.{HasServed, NotBegun}
 use Rattle.dlms_field.specs.declared.fault.FieldFault.TheVariants.{Other, System}
 use Rattle.dlms_field.specs.declared.ticks.Ticks.{Ticks}
@@ -17,5 +18,6 @@ returns-in-Err-announce-clause-serves g c =
 
 pub returns-clause-serves : goal.returns-clause-serves
 returns-clause-serves g c =
-    HasServed _ _ c.new-site.result.ticks c.serve_all.new.site.ticks c.serve_all.result c.serve_all.new.meter (ap (λ (t : Ticks). t.told) c.new-site.ensures ∙ c.new-ticks.ensures.none)
+    HasServed _ _ c.new-site.result.ticks c.serve_all.new.site.ticks c.serve_all.result c.serve_all.new.meter
+    (λ w stands. ap (λ (t : Ticks). t.first) c.new-site.ensures ∙ c.new-ticks.ensures.first ∙ c.last.ensures.after (events_of w) (c.state.ensures w stands)) (ap (λ (t : Ticks). t.told) c.new-site.ensures ∙ c.new-ticks.ensures.none)
     (ap (λ (t : Ticks). t.watts) c.new-site.ensures ∙ c.new-ticks.ensures.watts) c.serve_all.ensures.serves

@@ -13,5 +13,6 @@ returns c = λ rows met.
       wide = subst (λ (said : Option Text). IsSaid said c.is_given-wide.result) (c.value_for.ensures rows met) c.is_given-wide.ensures;
       client = c.number_for.ensures rows met;
       secret = c.value_for-5.ensures rows met;
+      most = c.number_for-2.ensures rows met;
       verbose = subst (λ (said : Option Text). IsSaid said c.is_given-verbose.result) (c.value_for-2.ensures rows met) c.is_given-verbose.ensures;
     }
