@@ -15,7 +15,8 @@ ghost use Rattle.dlms_data.specs.Writing.{Fits};
 
 use crate::client_end::{ClientEnd, Turn, send};
 use crate::fault::CallFault;
-use dlms_client::{Answer, Client, Fault, Plan};
+use crate::kept::KeptClient;
+use dlms_client::{Answer, Fault, Plan};
 use dlms_data::{Data, Descriptor, fits};
 use dlms_ends::End;
 use dlms_frame::SentFrame;
@@ -135,7 +136,11 @@ pub fn begin<S: End, A: Allocator + Copy>(
     ensures opens { IfOk result (λ head. (t : TalkWorld) × IsIn head t × Opens (S.past line.old) (S.past line.new) (fresh (plan_of plan)) t) }
     ensures fails { IfErr result (FailsToOpen (S.past line.old) (S.past line.new) (fresh (plan_of plan))) }
 {
-    let mut head = match ClientEnd::begin(alloc, line, Client::new(alloc, plan)) {
+    let client = match KeptClient::new(alloc, plan) {
+        Ok(client) => client,
+        Err(_) => return Err(CallFault::Memory),
+    };
+    let mut head = match ClientEnd::begin(alloc, line, client) {
         Ok(head) => head,
         Err(fault) => return Err(fault),
     };

@@ -6,8 +6,8 @@ ghost use Rattle.dlms_call.specs.Asking.{Dials, DialsFirst, FailsToDial};
 ghost use Rattle.dlms_call.specs.Talking.{IsAt, IsIn, IsOfSystem, Leads, Repeats, SendsFrame, TakesFrame, TakesPiece, TakesTurn, TalkWorld, first_world};
 
 use crate::fault::CallFault;
-use crate::kept::KeptDeframer;
-use dlms_client::{Answer, Client, Fault, Step};
+use crate::kept::{KeptClient, KeptDeframer};
+use dlms_client::{Answer, Fault, Step};
 use dlms_ends::{End, Heard, PIECE, bytes_of};
 use dlms_frame::{Frame, SentFrame};
 use std::alloc::{Allocator, Global};
@@ -38,7 +38,7 @@ pub enum Turn {
 pub struct ClientEnd<A: Allocator = Global> {
     deframer: KeptDeframer<A>,
     left: usize,
-    pub client: Client<A>,
+    pub client: KeptClient<A>,
 }
 
 /// An error of the system as a fault.
@@ -64,7 +64,7 @@ pub fn send<W: End>(end: &mut W, frame: &SentFrame) -> Result<Turn, CallFault>
 
 /// Gives a frame to the client; none where nothing is told of it.
 fn take_frame<W: End, A: Allocator + Copy>(
-    client: &mut Client<A>,
+    client: &mut KeptClient<A>,
     end: &mut W,
     frame: Frame<'_>,
 ) -> Option<Result<Turn, CallFault>>
@@ -81,7 +81,7 @@ fn take_frame<W: End, A: Allocator + Copy>(
 }
 
 /// The client's first frame goes out, if it gives one.
-fn dial<W: End, A: Allocator + Copy>(client: &mut Client<A>, end: &mut W) -> Result<(), CallFault>
+fn dial<W: End, A: Allocator + Copy>(client: &mut KeptClient<A>, end: &mut W) -> Result<(), CallFault>
     ensures { DialsFirst (W.past end.old) (W.past end.new) client.old client.new result }
 {
     match client.next() {
@@ -96,7 +96,7 @@ fn dial<W: End, A: Allocator + Copy>(client: &mut Client<A>, end: &mut W) -> Res
 impl<A: Allocator + Copy> ClientEnd<A> {
     /// Sends the client's first frame. Where there is no memory for what comes, nothing is sent.
     #[tactic(auto, using(crate::proofs::TalkingLemmas::no_room, crate::proofs::TalkingLemmas::is_broken))]
-    pub fn begin<W: End>(alloc: A, end: &mut W, client: Client<A>) -> Result<Self, CallFault>
+    pub fn begin<W: End>(alloc: A, end: &mut W, client: KeptClient<A>) -> Result<Self, CallFault>
         ensures dials { IfOk result (λ head. Dials (W.past end.old) (W.past end.new) client head.client) }
         ensures stands { IfOk result (λ head. IsIn head (first_world head.client)) }
         ensures fails { IfErr result (FailsToDial (W.past end.old) (W.past end.new) client) }

@@ -7,20 +7,20 @@ use Rattle.dlms_call.proofs.asking.begin.Goals as goal
 
 pub returns-in-Ok-opened_in-clause-opens : goal.returns-in-Ok-opened_in-clause-opens
 returns-in-Ok-opened_in-clause-opens g c =
-    let u = c.settle-turn.ensures (first_world c.in-Ok.head.client) c.in-Ok.ensures.stands in (
+    let u = c.settle-turn.ensures (first_world c.in-Ok-begin.head.client) c.in-Ok-begin.ensures.stands in (
       u.0,
       u.1,
       record {
         now = g.S.End.past c.begin.new.end;
-        mid = c.in-Ok.head.client;
-        dials = subst (λ (x : ClientValue). Dials (g.S.End.past c.args.line.now) (g.S.End.past c.begin.new.end) x c.in-Ok.head.client) c.new.ensures c.in-Ok.ensures.dials;
+        mid = c.in-Ok-begin.head.client;
+        dials = subst (λ (x : ClientValue). Dials (g.S.End.past c.args.line.now) (g.S.End.past c.begin.new.end) x c.in-Ok-begin.head.client) c.in-Ok.ensures c.in-Ok-begin.ensures.dials;
         opens = record { turn = c.settle-turn.result; settles = u.2; told = c.in-Ok-opened_in.ensures };
       },
     )
 
 pub returns-in-Err-opened_in-clause-fails : goal.returns-in-Err-opened_in-clause-fails
 returns-in-Err-opened_in-clause-fails g c =
-    let u = c.settle-turn.ensures (first_world c.in-Ok.head.client) c.in-Ok.ensures.stands in
-    NotOpened (g.S.End.past c.begin.new.end) c.in-Ok.head.client u.0
-    (subst (λ (x : ClientValue). Dials (g.S.End.past c.args.line.now) (g.S.End.past c.begin.new.end) x c.in-Ok.head.client) c.new.ensures c.in-Ok.ensures.dials)
+    let u = c.settle-turn.ensures (first_world c.in-Ok-begin.head.client) c.in-Ok-begin.ensures.stands in
+    NotOpened (g.S.End.past c.begin.new.end) c.in-Ok-begin.head.client u.0
+    (subst (λ (x : ClientValue). Dials (g.S.End.past c.args.line.now) (g.S.End.past c.begin.new.end) x c.in-Ok-begin.head.client) c.in-Ok.ensures c.in-Ok-begin.ensures.dials)
     (record { turn = c.settle-turn.result; settles = u.2; told = c.in-Err-opened_in.ensures })
