@@ -1,3 +1,4 @@
+pub mod StoreLemmas
 pub mod RunLemmas
 pub mod Settling
 pub mod Judging
@@ -14,6 +15,7 @@ pub mod OneOutcome
 pub mod Given
 pub mod OwnRecords
 pub mod BillingLaw
+pub mod CauseLaw
 pub mod HealthLaw
 pub mod FileLaw
 pub mod Sparing

@@ -11,7 +11,7 @@ ghost use Rattle.dlms_store.specs.Store.{view_of};
 ghost use Rattle.dlms_store.specs.World.{StoreRun, StoreStep, StoreWorld};
 ghost use Rattle.dlms_meter.specs.Run.{MeterWorld, Stands, Comes, FoundMemory, first_world, recovered};
 ghost use Rattle.dlms_meter.specs.Alike.{IsAlike};
-ghost use Rattle.dlms_meter.specs.Steps.{Step, Call, Calls, Run, step_of};
+ghost use Rattle.dlms_meter.specs.Steps.{Step, Call, Calls, HasCauses, Run, step_of};
 ghost use Rattle.dlms_meter.specs.Independence.{IsAlone, IsIndependent};
 ghost use Rattle.dlms_meter.specs.Billing.{NothingIsTakenBack};
 ghost use Rattle.dlms_meter.specs.Filed.{FindsInFile, IsBetween, IsOpenedBehind, IsOpenOf};
@@ -26,10 +26,10 @@ use dlms_pages::{FilePages, Pages, SlotFile};
 use std::alloc::Allocator;
 
 /// The calls of a meter, one after another, are a run from each world that it stood for, and it then stands for the
-/// world that the run leads to.
+/// world that the run leads to. Each fault in the run has its cause in its own call.
 pub fn calls_are_a_run<P: Pages, A: Allocator + Copy>(_old: &Meter<P, A>, _new: &Meter<P, A>)
-    ensures { (calls : List Call) (w : MeterWorld) → Calls _old.now calls _new.now → Stands _old.now w
-        → (w' : MeterWorld) × Run w (map step_of calls) w' × Stands _new.now w' }
+    ensures { (calls : List Call) (w : MeterWorld) (is : Calls _old.now calls _new.now) → Stands _old.now w
+        → (w' : MeterWorld) × (run : Run w (map step_of calls) w') × HasCauses _old.now calls _new.now is w w' run × Stands _new.now w' }
 {}
 
 /// Where each call met no fault of the device, the store was not stopped before it, and no checkpoint was wanting, the calls are a

@@ -5,13 +5,14 @@ ghost use Rattle.dlms_frame.specs.Stream.{Fits};
 ghost use Rattle.dlms_frame.specs.declared.client.Client.{Client};
 ghost use Rattle.dlms_frame.specs.declared.client.Client.TheVariants as ClientOf;
 ghost use Rattle.dlms_meter.specs.ClientRecord.{fresh_record};
-ghost use Rattle.dlms_pages.specs.Device.{Rose};
+ghost use Rattle.dlms_pages.specs.Device.{Image, Rose};
 ghost use Rattle.dlms_state.specs.declared.event.Event.{Event};
 ghost use Rattle.dlms_state.specs.StateValue.{IsStateOf};
 ghost use Rattle.dlms_store.specs.Cause.{IsCause};
-ghost use Rattle.dlms_store.specs.Fitting.{StoreFits, DeviceFits, IsOpened, OpensAs, GivesBack, GivesUp};
+ghost use Rattle.dlms_store.specs.Fitting.{StoreFits, DeviceFits, IsOpened, IsRefusal, OpensAs, GivesBack, GivesUp};
 ghost use Rattle.dlms_store.specs.Later.{GoesOn, IsLater, LeavesNoEarlier};
-ghost use Rattle.dlms_store.specs.Steady.{IsSpared};
+ghost use Rattle.dlms_store.specs.Steady.{Fixes, FixesNothing, IsSpared, StandsBetween, Steady};
+ghost use Rattle.dlms_store.specs.Image.{StandsFor};
 ghost use Rattle.dlms_store.specs.Store.{records_in, state_in, view_of, IsRunning, IsStopped, IsTooSmall, CommitIsExhausted, Remembers};
 ghost use Rattle.dlms_store.specs.Writing.{IsClear, IsFormatted, Leaves};
 ghost use Rattle.dlms_store.specs.World.{StoreWorld};
@@ -83,6 +84,14 @@ impl<P: Pages, A: Allocator + Copy> Meter<P, A> {
         ensures small { IfErr result (λ e. e.1 ≡ OpenFault.Size → e.0 ≡ device) }
         ensures device { IfErr result (λ e. e.1 ≡ OpenFault.Device → Rose (P.view device).faults (P.view e.0).faults) }
         ensures later { MatchResult result (λ meter. GoesOn (P.view device) (view_of meter.store)) (λ e. GoesOn (P.view device) (P.view e.0)) }
+        // Whatever a stop leaves while the meter is recovered stands for the events for which every image of the device stood before.
+        ensures steady { (events : List Event) → (P.view device).honest ≡ true → ((image : Image) → (P.view device).may_leave image → StandsFor events image)
+            → MatchResult result (λ meter. Steady events (P.view device) (view_of meter.store)) (λ e. Steady events (P.view device) (P.view e.0)) }
+        ensures fixes { (settled pending : List Event) → (P.view device).honest ≡ true → ((image : Image) → (P.view device).may_leave image → StandsBetween settled pending image)
+            → MatchResult result (λ meter. Fixes settled pending (P.view device) (view_of meter.store))
+            (λ e. Fixes settled pending (P.view device) (P.view e.0) ⊎ ((e.1 ≡ OpenFault.Device) × FixesNothing settled pending (P.view device) (P.view e.0))) }
+        ensures finds { (events : List Event) → (P.view device).honest ≡ true → StandsFor events (P.view device).seen
+            → MatchResult result (λ meter. Remembers events [] meter.store) (λ e. IsRefusal e.1) }
     {
         let Ok(lines) = Lines::new(alloc) else {
             return Err(Store::unopened(alloc, device));
