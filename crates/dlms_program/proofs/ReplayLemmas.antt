@@ -23,7 +23,8 @@ use Rattle.dlms_program.specs.declared.fault.ReplayFault.{ReplayFault}
 use Rattle.dlms_program.specs.declared.fault.ReplayFault.TheVariants.{Line, Io, Memory, Recovery}
 use Rattle.dlms_program.specs.declared.orders.Order.{Order}
 use Rattle.dlms_program.specs.declared.orders.Order.TheVariants.{Feed, Open, Pulses, Moment, Show, Silence, Skip}
-use Rattle.dlms_program.specs.Health.{IsClosed, IsGone, IsRecovered, IsRefused, MeetsFault, Reaches, ServesIll}
+use Rattle.dlms_program.specs.Health.{ClosesIll, IsClosed, IsFedBy, IsGone, IsRecovered, IsRefused, MeetsFault, Reaches, ServesIll, StaysClosed}
+use Rattle.dlms_program.specs.Health.IsFedBy.{NoCall, NoFrame, OneFrame}
 use Rattle.dlms_program.specs.Health.MeetsFault.{InClose, InOpen}
 use Rattle.dlms_program.specs.Health.Reaches.{Here}
 use Rattle.dlms_program.specs.Lines.{lines_of, HasLongLine, LosesLine, LosesPart}
@@ -33,7 +34,7 @@ use Rattle.dlms_meter.specs.Healthy.{AreServed, IsDecided, IsServed}
 use Rattle.dlms_meter.specs.Steps.{IsCall, Fed as FedCall, Idled, Told as ToldCall}
 use Rattle.dlms_program.specs.Orders.{Spells}
 use Rattle.dlms_program.specs.Printed.{reply_lines, reply_line, open_line, open_fault_line, state_line}
-use Rattle.dlms_program.specs.Replay.{Did, DidPart, Does, DoesPart, End, Ended, Finds, FindsAll, Followed, Gone, GoesWell, IfKnown, IsAt, IsBad, IsLeft, LacksMemory, LineGoesWell, LinesUsedUp, MayStayClosed, PartGoesWell, ReadNoMore, Replays, ReplaysOr, WroteNoMore, WroteReplay, outcome_line}
+use Rattle.dlms_program.specs.Replay.{AreBoth, Did, DidPart, Does, DoesPart, End, Ended, Finds, FindsAll, Followed, Gone, GoesWell, IfKnown, IsAt, IsBad, IsLeft, LacksMemory, LineCalls, LineGoesWell, LinesUsedUp, MayStayClosed, PartCalls, PartGoesWell, ReadNoMore, ReplayCalls, Replays, ReplaysOn, WroteNoMore, WroteReplay, outcome_line}
 use Rattle.dlms_program.specs.Replay.End.{Whole, Bad, Closed}
 use Rattle.dlms_program.specs.Written.{AppendsPart}
 use Rattle.dlms_state.specs.StateValue.{StateValue, IsStateOf, state_of}
@@ -102,9 +103,9 @@ goes_turn w bytes m taken rest replies turns turn ends is on = record {
 }
 
 -- The turns of calls. From a running store each is as the service has it, and the store runs on; or this is so.
-abbrev pub GoesOr : Type 0 → MeterWorld → List ℕ → MeterWorld → List (List ℕ) → Type 0
-GoesOr Fault w front m replies =
-    (turns : List Turn) × ((more : List ℕ) → GoesBy w (front ++ more) m more replies turns) × (IsRunningIn w.store → (AreServed turns × IsRunningIn m.store) ⊎ Fault)
+abbrev pub GoesOr : {P A : Type 0} → {ghosts : Ghosts P} → Type 0 → (start meter : Meter P A ghosts) → MeterWorld → List ℕ → MeterWorld → List (List ℕ) → Type 0
+GoesOr Fault start meter w front m replies =
+    (turns : List Turn) × ((more : List ℕ) → GoesBy w (front ++ more) m more replies turns) × (IsRunningIn w.store → (AreServed turns × IsRunningIn m.store) ⊎ Fault) × IsFedBy start front turns meter
 
 -- one turn more
 turn_or : {P A : Type 0} {ghosts : Ghosts P} (Before After : Type 0) (meter meter' : Meter P A ghosts) (m : MeterWorld) (taken : List ℕ) (turns : List Turn) (turn : Turn) → Stands meter m → (Before → After) → (ServesIll meter.store meter'.store → After)
@@ -114,34 +115,40 @@ turn_or Before After meter meter' m taken turns turn stands further ill is may (
 turn_or Before After meter meter' m taken turns turn stands further ill is may (inr fault) = inr (further fault)
 
 -- one call more takes these bytes behind those before
-goes_further : {P A : Type 0} {ghosts : Ghosts P} (Before After : Type 0) (meter meter' : Meter P A ghosts) (w m m' : MeterWorld) (front taken : List ℕ) (replies : List (List ℕ)) (reply : Option (List ℕ)) (steps : List StoreStep) → Stands meter m
-    → (Before → After) → (ServesIll meter.store meter'.store → After) → GoesOr Before w front m replies → Fed (MayChoose meter.store meter'.store) m taken reply steps m' → GoesOr After w (front ++ taken) m' (replies ++ listed reply)
-goes_further Before After meter meter' w m m' front taken replies reply steps stands further ill (turns, on, well) (inl (free, none, no_steps, is)) =
-    let on' : GoesOr After w (front ++ taken) (grown m taken) (replies ++ listed None) = (
+goes_further : {P A : Type 0} {ghosts : Ghosts P} (Before After : Type 0) (start meter meter' : Meter P A ghosts) (w m m' : MeterWorld) (front taken : List ℕ) (replies : List (List ℕ)) (reply : Option (List ℕ)) (steps : List StoreStep) → Stands meter m
+    → IsCall meter (FedCall taken reply) meter' → (Before → After) → (ServesIll meter.store meter'.store → After) → GoesOr Before start meter w front m replies → Fed (MayChoose meter.store meter'.store) m taken reply steps m'
+    → GoesOr After start meter' w (front ++ taken) m' (replies ++ listed reply)
+goes_further Before After start meter meter' w m m' front taken replies reply steps stands call further ill (turns, on, well, fed) (inl (free, none, no_steps, is)) =
+    let silent_call : IsCall meter (FedCall taken None) meter' = subst (λ (o : Option (List ℕ)). IsCall meter (FedCall taken o) meter') none call in
+    let on' : GoesOr After start meter' w (front ++ taken) (grown m taken) (replies ++ listed None) = (
       turns,
       λ more. goes_on w ((front ++ taken) ++ more) m taken more replies turns (subst (λ (xs : List ℕ). GoesBy w xs m (taken ++ more) replies turns) (sym (append_assoc front taken more)) (on (taken ++ more))),
       λ running. well_or (λ (h : AreServed turns × IsRunningIn m.store). h) further (well running),
+      NoFrame front taken turns meter meter' fed silent_call,
     ) in
-    subst (λ (o : Option (List ℕ)). GoesOr After w (front ++ taken) m' (replies ++ listed o)) (sym none)
-    (subst (λ (u : MeterWorld). GoesOr After w (front ++ taken) u (replies ++ listed None)) (sym is) on')
-goes_further Before After meter meter' w m m' front taken replies reply steps stands further ill (turns, on, well) (inr (turn, is_turn, may, promise, ends, told, took, is)) =
-    let on' : GoesOr After w (front ++ taken) (after_turn (grown m taken) turn) (replies ++ listed turn.reply) = (
+    subst (λ (o : Option (List ℕ)). GoesOr After start meter' w (front ++ taken) m' (replies ++ listed o)) (sym none)
+    (subst (λ (u : MeterWorld). GoesOr After start meter' w (front ++ taken) u (replies ++ listed None)) (sym is) on')
+goes_further Before After start meter meter' w m m' front taken replies reply steps stands call further ill (turns, on, well, fed) (inr (turn, is_turn, may, promise, ends, told, took, is)) =
+    let turn_call : IsCall meter (FedCall taken turn.reply) meter' = subst (λ (o : Option (List ℕ)). IsCall meter (FedCall taken o) meter') told call in
+    let on' : GoesOr After start meter' w (front ++ taken) (after_turn (grown m taken) turn) (replies ++ listed turn.reply) = (
       turns ++ turn ∷ [],
       λ more.
           goes_turn w ((front ++ taken) ++ more) m taken more replies turns turn ends is_turn
           (subst (λ (xs : List ℕ). GoesBy w xs m (taken ++ more) replies turns) (sym (append_assoc front taken more)) (on (taken ++ more))),
       λ running. turn_or Before After meter meter' m taken turns turn stands further ill is_turn may (well running),
+      OneFrame front taken turns turn meter meter' fed turn_call may,
     ) in
-    subst (λ (o : Option (List ℕ)). GoesOr After w (front ++ taken) m' (replies ++ listed o)) (sym told)
-    (subst (λ (u : MeterWorld). GoesOr After w (front ++ taken) u (replies ++ listed turn.reply)) (sym is) on')
+    subst (λ (o : Option (List ℕ)). GoesOr After start meter' w (front ++ taken) m' (replies ++ listed o)) (sym told)
+    (subst (λ (u : MeterWorld). GoesOr After start meter' w (front ++ taken) u (replies ++ listed turn.reply)) (sym is) on')
 
 -- a piece of bytes that came in so
-abbrev pub ComesOr : Type 0 → MeterWorld → List ℕ → List (List ℕ) → MeterWorld → Type 0
-ComesOr Fault w bytes replies w' = (comes : Comes w bytes replies w') × (IsRunningIn w.store → AreServed comes.turns ⊎ Fault)
+abbrev pub ComesOr : {P A : Type 0} → {ghosts : Ghosts P} → Type 0 → (start meter : Meter P A ghosts) → MeterWorld → List ℕ → List (List ℕ) → MeterWorld → Type 0
+ComesOr Fault start meter w bytes replies w' = (comes : Comes w bytes replies w') × (IsRunningIn w.store → AreServed comes.turns ⊎ Fault) × IsFedBy start bytes comes.turns meter
 
 -- no byte is left
-comes_all : (Fault : Type 0) (w : MeterWorld) (front : List ℕ) (m : MeterWorld) (replies : List (List ℕ)) (kept : List ℕ) → GoesOr Fault w front m replies → Fits kept m.stretch m.place → ComesOr Fault w front replies m
-comes_all Fault w front m replies kept (turns, on, well) fits =
+comes_all : {P A : Type 0} {ghosts : Ghosts P} (Fault : Type 0) (start meter : Meter P A ghosts) (w : MeterWorld) (front : List ℕ) (m : MeterWorld) (replies : List (List ℕ)) (kept : List ℕ)
+    → GoesOr Fault start meter w front m replies → Fits kept m.stretch m.place → ComesOr Fault start meter w front replies m
+comes_all Fault start meter w front m replies kept (turns, on, well, fed) fits =
     let whole : m ≡ grown m [] = ap (λ (s : List ℕ). record m { stretch = s }) (sym (append-nil m.stretch)) in
     let free : Answers m [] [] m = (none_ended kept m.stretch m.place fits, refl, refl) in
     let by : GoesBy w front m [] replies turns = subst (λ (xs : List ℕ). GoesBy w xs m [] replies turns) (append-nil front) (on []) in
@@ -151,15 +158,16 @@ comes_all Fault w front m replies kept (turns, on, well) fits =
         answers = subst (λ (ts : List Turn). Answers (grown w front) ts replies m) (append-nil turns) (subst (λ (rs : List (List ℕ)). Answers (grown w front) (turns ++ []) rs m) (append-nil replies) all);
       },
       λ running. well_or (λ (h : AreServed turns × IsRunningIn m.store). h.0) (λ (f : Fault). f) (well running),
+      fed,
     )
 
 -- what has been fed so far, for every world that the meter stood for when it began
 abbrev pub FedSoFar : {P A : Type 0} → {ghosts : Ghosts P} → Option (List ℕ) → Option (List ℕ) → Meter P A ghosts → Meter P A ghosts → List ℕ → List ℕ → Type 0
 FedSoFar old now start meter bytes rest = Reaches (Some start) (Some meter) × ((honest : Bool) (w : MeterWorld) → IsAt honest start w → (m : MeterWorld) × (replies : List (List ℕ)) × IsAt honest meter m
-    × Appends old now (reply_lines replies) × (front : List ℕ) × (front ++ rest ≡ bytes) × GoesOr (MeetsFault (Some start) (Some meter)) w front m replies)
+    × Appends old now (reply_lines replies) × (front : List ℕ) × (front ++ rest ≡ bytes) × GoesOr (MeetsFault (Some start) (Some meter)) start meter w front m replies)
 
 pub fed_start : {P A : Type 0} {ghosts : Ghosts P} (contents : Option (List ℕ)) (meter : Meter P A ghosts) (bytes : List ℕ) → FedSoFar contents contents meter meter bytes bytes
-fed_start contents meter bytes = (Here, λ honest w at. (w, [], at, appends_none contents, [], refl, ([], (λ more. record { goes = λ later more w' h. h }), λ running. inl (tt, running))))
+fed_start contents meter bytes = (Here, λ honest w at. (w, [], at, appends_none contents, [], refl, ([], (λ more. record { goes = λ later more w' h. h }), (λ running. inl (tt, running)), NoCall)))
 
 taken_further : (front taken left rest bytes : List ℕ) → taken ++ left ≡ rest → front ++ rest ≡ bytes → (front ++ taken) ++ left ≡ bytes
 taken_further front taken left rest bytes cut whole = append_assoc front taken left ∙ ap (λ (t : List ℕ). front ++ t) cut ∙ whole
@@ -179,7 +187,7 @@ fed_call old now new start meter meter' bytes rest taken left reply cut (before,
             subst (λ (t : List ℕ). Appends old new t) (sym (lines-append here.1 (listed reply))) (appends_more old now new (reply_lines here.1) (reply_lines (listed reply)) here.3 appends),
             here.4 ++ taken,
             taken_further here.4 taken left rest bytes cut here.5,
-            goes_further (MeetsFault (Some start) (Some meter)) (MeetsFault (Some start) (Some meter')) meter meter' w here.0 call.0 here.4 taken here.1 reply call.1 (stands_at honest meter here.0 here.2)
+            goes_further (MeetsFault (Some start) (Some meter)) (MeetsFault (Some start) (Some meter')) start meter meter' w here.0 call.0 here.4 taken here.1 reply call.1 (stands_at honest meter here.0 here.2) feeds
                 (fault_first (Some start) (Some meter) (Some meter') last)
                 (λ ill. fault_last (Some start) (Some meter) (Some meter') before (fault_in_call meter meter' (FedCall taken reply) feeds ill)) here.6 call.2,
           ),
@@ -196,11 +204,12 @@ fed_all old now start meter bytes rest none (reaches, so_far) honest w at =
     let Fault : Type 0 = MeetsFault (Some start) (Some meter) in
     let front : here.4 ≡ bytes = sym (append-nil here.4) ∙ ap (λ (t : List ℕ). here.4 ++ t) (sym (nothing_left rest none)) ∙ here.5 in
     let stands = stands_at honest meter here.0 here.2 in
-    let comes = subst (λ (xs : List ℕ). ComesOr Fault w xs here.1 here.0) front (comes_all Fault w here.4 here.0 here.1 meter.deframer.bytes here.6 stands.line) in
+    let comes = subst (λ (xs : List ℕ). ComesOr Fault start meter w xs here.1 here.0) front (comes_all Fault start meter w here.4 here.0 here.1 meter.deframer.bytes here.6 stands.line) in
     record {
       world = here.0;
       written = reply_lines here.1;
       does = (here.1, comes.0, refl);
+      calls = comes.2;
       reaches = reaches;
       well = comes.1;
       left = here.2;
@@ -223,15 +232,16 @@ fed_part old now new start meter meter' bytes rest taken left reply cut (before,
     let front = here.4 ++ taken in
     let told = part_of_reply now new reply part in
     let replies : here.1 ++ listed reply ≡ here.1 ++ told.0 ∷ [] = ap (λ (r : Option (List ℕ)). here.1 ++ listed r) told.1 in
-    let on = goes_further (MeetsFault (Some start) (Some meter)) Fault meter meter' w here.0 call.0 here.4 taken here.1 reply call.1 (stands_at honest meter here.0 here.2)
+    let on = goes_further (MeetsFault (Some start) (Some meter)) Fault start meter meter' w here.0 call.0 here.4 taken here.1 reply call.1 (stands_at honest meter here.0 here.2) feeds
     (fault_first (Some start) (Some meter) (Some meter') last)
     (λ ill. fault_last (Some start) (Some meter) (Some meter') before (fault_in_call meter meter' (FedCall taken reply) feeds ill)) here.6 call.2 in
-    let comes = subst (λ (rs : List (List ℕ)). ComesOr Fault w front rs call.0) replies (comes_all Fault w front call.0 (here.1 ++ listed reply) meter'.deframer.bytes on call.3.line) in
+    let comes = subst (λ (rs : List (List ℕ)). ComesOr Fault start meter' w front rs call.0) replies (comes_all Fault start meter' w front call.0 (here.1 ++ listed reply) meter'.deframer.bytes on call.3.line) in
     record {
       world = call.0;
       before = reply_lines here.1;
       told = reply_line told.0;
       does = (front, left, taken_further here.4 taken left rest bytes cut here.5, here.1, told.0, comes.0, refl, refl);
+      calls = comes.2;
       reaches = joined (Some start) (Some meter) (Some meter') before last;
       well = comes.1;
       left = at_of honest meter meter' here.0 call.0 here.2 call.3 call.4.fits;
@@ -254,16 +264,17 @@ DidOn honest w bytes order start meter = Did honest None None w bytes order (Som
 pub told_all : {P A : Type 0} {ghosts : Ghosts P} (old new : Option (List ℕ)) (honest : Bool) (w : MeterWorld) (bytes : List ℕ) (order : Order) (start meter : Meter P A ghosts)
     → (did : DidOn honest w bytes order start meter) → Appends old new did.written → Did honest old new w bytes order (Some start) (Some meter)
 told_all old new honest w bytes order start meter did appends =
-    record { world = did.world; written = did.written; does = did.does; reaches = did.reaches; well = did.well; left = did.left; appends = appends }
+    record { world = did.world; written = did.written; does = did.does; calls = did.calls; reaches = did.reaches; well = did.well; left = did.left; appends = appends }
 
 -- such an order is done in part as it is done
-abbrev pub IsOnePart : Bool → MeterWorld → List ℕ → Order → Type 0
-IsOnePart honest w bytes order = (w' : MeterWorld) (told : List ℕ) (does : Does honest w bytes order w' told)
+abbrev pub IsOnePart : {P A : Type 0} → {ghosts : Ghosts P} → Bool → MeterWorld → List ℕ → Order → (start meter : Meter P A ghosts) → Type 0
+IsOnePart honest w bytes order start meter = (w' : MeterWorld) (told : List ℕ) (does : Does honest w bytes order w' told)
     → (part : DoesPart honest w bytes order w' [] told) × (LineGoesWell honest w bytes order w' told does → PartGoesWell honest w bytes order w' [] told part)
+    × (LineCalls honest w bytes order w' told does start meter → PartCalls honest w bytes order w' [] told part start meter)
 
 -- a part of it was written
 pub told_part : {P A : Type 0} {ghosts : Ghosts P} (old new : Option (List ℕ)) (honest : Bool) (w : MeterWorld) (bytes : List ℕ) (order : Order) (start meter : Meter P A ghosts)
-    → IsOnePart honest w bytes order → (did : DidOn honest w bytes order start meter) → AppendsPart old new did.written → DidPart honest old new w bytes order (Some start) (Some meter)
+    → IsOnePart honest w bytes order start meter → (did : DidOn honest w bytes order start meter) → AppendsPart old new did.written → DidPart honest old new w bytes order (Some start) (Some meter)
 told_part old new honest w bytes order start meter one did part =
     let does = one did.world did.written did.does in
     record {
@@ -271,6 +282,7 @@ told_part old new honest w bytes order start meter one did part =
       before = [];
       told = did.written;
       does = does.0;
+      calls = does.2 did.calls;
       reaches = did.reaches;
       well = λ running. well_or does.1 (λ (f : MeetsFault (Some start) (Some meter)). f) (did.well running);
       left = did.left;
@@ -288,6 +300,7 @@ pulses_did meter meter' bytes channel count outcome judges honest w at =
       world = call.0;
       written = outcome_line outcome;
       does = (outcome, call.1, call.2, refl);
+      calls = record { call = judges; cause = call.3 };
       reaches = told_once meter meter' (PulseEvent channel count) outcome judges;
       well = λ running. well_or (λ (h : IsDecided outcome). h) (fault_in_call meter meter' (ToldCall (PulseEvent channel count) outcome) judges) (decided meter meter' (PulseEvent channel count) outcome call.1 w call.0 running call.2 call.3);
       left = at_of honest meter meter' w call.0 at call.4 call.5.fits;
@@ -303,6 +316,7 @@ moment_did meter meter' bytes second outcome judges honest w at =
       world = call.0;
       written = outcome_line outcome;
       does = (outcome, call.1, call.2, refl);
+      calls = record { call = judges; cause = call.3 };
       reaches = told_once meter meter' (MomentEvent second) outcome judges;
       well = λ running. well_or (λ (h : IsDecided outcome). h) (fault_in_call meter meter' (ToldCall (MomentEvent second) outcome) judges) (decided meter meter' (MomentEvent second) outcome call.1 w call.0 running call.2 call.3);
       left = at_of honest meter meter' w call.0 at call.4 call.5.fits;
@@ -317,10 +331,10 @@ told_state honest meter w s is at = ap (λ (t : StateValue). state_line t) (is w
 
 abbrev pub show_did : {P A : Type 0} → {ghosts : Ghosts P} → (meter : Meter P A ghosts) (bytes : List ℕ) (s : StateValue) → ((w : MeterWorld) → Stands meter w → IsStateOf (events_of w) s)
     → (honest : Bool) (w : MeterWorld) → IsAt honest meter w → DidOn honest w bytes Show meter meter
-show_did meter bytes s is honest w at = record { world = w; written = state_line s; does = (refl, told_state honest meter w s is at); reaches = Here; well = λ running. inl tt; left = at; appends = tt }
+show_did meter bytes s is honest w at = record { world = w; written = state_line s; does = (refl, told_state honest meter w s is at); calls = refl; reaches = Here; well = λ running. inl tt; left = at; appends = tt }
 
 pub skip_told : {P A : Type 0} {ghosts : Ghosts P} (contents : Option (List ℕ)) (meter : Meter P A ghosts) (bytes : List ℕ) (honest : Bool) (w : MeterWorld) → IsAt honest meter w → Did honest contents contents w bytes Skip (Some meter) (Some meter)
-skip_told contents meter bytes honest w at = record { world = w; written = []; does = (refl, refl); reaches = Here; well = λ running. inl tt; left = at; appends = appends_none contents }
+skip_told contents meter bytes honest w at = record { world = w; written = []; does = (refl, refl); calls = refl; reaches = Here; well = λ running. inl tt; left = at; appends = appends_none contents }
 
 pub silence_told : {P A : Type 0} {ghosts : Ghosts P} (contents : Option (List ℕ)) (meter meter' : Meter P A ghosts) (bytes : List ℕ) → ((w : MeterWorld) → Stands meter w → Stands meter' (silent w)) → meter'.store ≡ meter.store
     → (honest : Bool) (w : MeterWorld) → IsAt honest meter w → Did honest contents contents w bytes Silence (Some meter) (Some meter')
@@ -329,6 +343,7 @@ silence_told contents meter meter' bytes quiet same honest w at =
       world = silent w;
       written = [];
       does = (refl, refl);
+      calls = (quiet, same);
       reaches = at_once (Some meter) (Some meter') (inl (Idled, (quiet, same)));
       well = λ running. inl tt;
       left = at_of honest meter meter' w (silent w) at (quiet w (stands_at honest meter w at)) (λ fits. subst (λ (store : _). StoreFits store w.store) (sym same) fits);
@@ -370,10 +385,10 @@ module _ {P A : Type 0} {ghosts : Ghosts P} (start : Meter P A ghosts) (device :
       )
 
   pub reopened : (honest : Bool) (meter : Meter P A ghosts) (w : MeterWorld) → IsClosed start device → IsSettled → IsRecovered device (Some meter) → (events : List Event) × Remembers events [] meter.store
-      → ((events : List Event) → Remembers events [] meter.store → Stands meter (recovered events)) → IsAt honest start w → IsFound (MeetsFault (Some start) (Some meter)) honest w meter
+      → ((events : List Event) → Remembers events [] meter.store → Stands meter (recovered events)) → IsAt honest start w → IsFound (ClosesIll start.store (ghosts.view device)) honest w meter
   reopened false meter w closed settled opens opened stands at = (opened.0, tt, (λ running. inl tt), stands opened.0 opened.1)
   reopened true meter w closed settled opens opened stands at =
-      let Fault : Type 0 = MeetsFault (Some start) (Some meter) in
+      let Fault : Type 0 = ClosesIll start.store (ghosts.view device) in
       let in_doubt : ((found : List Event) → IsRunningIn w.store → (found ≡ events_of w) ⊎ Fault) → IsFound Fault true w meter = λ all.
       elim (closed.run w.store at.1) [
         | inl gives ↦ found_in Fault meter w gives.now (inl gives.next) gives.fits opens stands (λ now found next. all found)
@@ -386,7 +401,7 @@ module _ {P A : Type 0} {ghosts : Ghosts P} (start : Meter P A ghosts) (device :
               | inl well ↦
                   let gives = settled (not_stopped start.store w.store at.0.store runs) well.0 well.1 w.store at.1 in
                   found_in Fault meter w gives.now (inl gives.next) gives.fits opens stands (λ now found next running. inl (found_all w.store gives.now now found gives.next next))
-              | inr ill ↦ in_doubt (λ found running. inr (InClose start device (Some meter) Here closed opens Here ill))
+              | inr ill ↦ in_doubt (λ found running. inr ill)
             ]
       ]
 
@@ -400,8 +415,9 @@ module _ {P A : Type 0} {ghosts : Ghosts P} (start : Meter P A ghosts) (device :
         world = recovered found.0;
         written = open_line;
         does = (found.0, found.1, refl, refl);
+        calls = (device, closed, opens, found.2);
         reaches = at_once (Some start) (Some meter) (inr (device, closed, opens));
-        well = found.2;
+        well = λ running. well_or (λ (h : FindsAll honest w found.0). h) (λ ill. InClose start device (Some meter) Here closed opens Here ill) (found.2 running);
         left = found.3;
         appends = tt;
       }
@@ -418,7 +434,7 @@ module _ {P A : Type 0} {ghosts : Ghosts P} (start : Meter P A ghosts) (device :
       → AppendsPart old new open_line → (honest : Bool) (w : MeterWorld) (bytes : List ℕ) → IsLeft honest before (Some w) → DidPart honest old new w bytes Open before (Some meter)
   open_part old new before meter is closed settled opens opened stands part honest w bytes left =
       subst (λ (m : Option (Meter P A ghosts)). DidPart honest old new w bytes Open m (Some meter)) (sym is)
-      (told_part old new honest w bytes Open start meter (λ w' told does. ((refl, does), λ h. h)) (open_did before meter is closed settled opens opened stands honest w bytes left) part)
+      (told_part old new honest w bytes Open start meter (λ w' told does. ((refl, does), (λ h. h), λ h. h)) (open_did before meter is closed settled opens opened stands honest w bytes left) part)
 
   may_stay : (honest : Bool) (w : MeterWorld) (fault : OpenFault) → IsClosed start device → ((before : StoreWorld) → DeviceFits (ghosts.view device) before → IsRefusal fault) → IsAt honest start w → MayStayClosed honest fault
   may_stay false w fault closed refuses at = tt
@@ -445,6 +461,9 @@ module _ {P A : Type 0} {ghosts : Ghosts P} (start : Meter P A ghosts) (device :
   may_lack false w fault back closed refused may at =
       well_or (λ (h : fault ≢ opening.Device). h) (λ ill. InOpen fault (not_recovered fault back closed refused) Here ill) (no_fault_told (ghosts.view device) (ghosts.view back) fault refused)
 
+  abbrev stays_closed : (fault : OpenFault) (back : P) → IsClosed start device → IsRefused (ghosts.view device) (ghosts.view back) fault → StaysClosed start fault
+  stays_closed fault back closed refused = record { device = device; closed = closed; back = back; refused = refused }
+
   pub gone_told : (Told : List ℕ → Type 0) (before after : Option (Meter P A ghosts)) (fault : OpenFault) (back : P) → before ≡ Some start → after ≡ None → IsClosed start device
       → ((world : StoreWorld) → DeviceFits (ghosts.view device) world → GivesBack world (ghosts.view device) (ghosts.view back) fault) → IsRefused (ghosts.view device) (ghosts.view back) fault → Told (open_fault_line fault)
       → (honest : Bool) (w : MeterWorld) → IsLeft honest before (Some w) → Gone honest Told Open before after
@@ -453,7 +472,7 @@ module _ {P A : Type 0} {ghosts : Ghosts P} (start : Meter P A ghosts) (device :
       let may : MayStayClosed honest fault = may_stay honest w fault closed (λ world fits. (gives world fits).cause) at in
       subst (λ (m : Option (Meter P A ghosts)). Gone honest Told Open m after) (sym is)
       (subst (λ (m : Option (Meter P A ghosts)). Gone honest Told Open (Some start) m) (sym none)
-      (record { opens = refl; fault = fault; may = may; gone = not_recovered fault back closed refused; lacks = may_lack honest w fault back closed refused may at; none = tt; told = told }))
+      (record { opens = refl; fault = fault; may = may; old = start; is = refl; stays = stays_closed fault back closed refused; gone = not_recovered fault back closed refused; lacks = may_lack honest w fault back closed refused may at; none = tt; told = told }))
 
 -- ---- the lines of a text
 
@@ -473,46 +492,69 @@ cut_line (Some text) None c done line cut loses = absurd cut
 cut_line (Some text) (Some rest) None done line cut loses = absurd loses
 cut_line (Some text) (Some rest) (Some left) done line cut loses = cut ∙ ap (λ (ls : List (List ℕ)). done ++ ls) loses ∙ sym (append_assoc done (line ∷ []) (lines_of left))
 
+-- where a meter is there, it is this one
+there : {P A : Type 0} {ghosts : Ghosts P} (honest : Bool) (meter : Option (Meter P A ghosts)) (w : MeterWorld) → IsLeft honest meter (Some w) → (is : Meter P A ghosts) × (meter ≡ Some is)
+there honest None w left = absurd left
+there honest (Some meter) w left = (meter, refl)
+
+both_there : {P A : Type 0} {ghosts : Ghosts P} (Is : Meter P A ghosts → Meter P A ghosts → Type 0) (a b : Option (Meter P A ghosts)) → AreBoth Is a b
+    → (x : Meter P A ghosts) × (y : Meter P A ghosts) × (a ≡ Some x) × (b ≡ Some y) × Is x y
+both_there Is None b h = absurd h
+both_there Is (Some x) None h = absurd h
+both_there Is (Some x) (Some y) h = (x, y, refl, refl, h)
+
+same_meter : {M : Type 0} {x y : M} → Some x ≡ Some y → x ≡ y
+same_meter e = cc
+
 -- such a replay, which goes well where this holds
-abbrev ReplaysFor : Type 0 → Bool → MeterWorld → ℕ → List (List ℕ) → List ℕ → End → Option MeterWorld → Type 0
-ReplaysFor H honest w number lines written end last = (replays : Replays honest w number lines written end last) × (H → GoesWell honest w number lines written end last replays)
+abbrev ReplaysFor : {P A : Type 0} → {ghosts : Ghosts P} → Type 0 → Bool → MeterWorld → ℕ → List (List ℕ) → List ℕ → End → Option MeterWorld → (start : Meter P A ghosts) (finish : Option (Meter P A ghosts)) → Type 0
+ReplaysFor H honest w number lines written end last start finish =
+    (replays : Replays honest w number lines written end last) × (H → GoesWell honest w number lines written end last replays) × ReplayCalls honest w number lines written end last replays start finish
 
 -- a line that was done, before other lines
-line_first : (H : Type 0) (honest : Bool) (w w' : MeterWorld) (number : ℕ) (line bytes first : List ℕ) (order : Order) (lines : List (List ℕ)) (rest : List ℕ) (end : End) (last : Option MeterWorld)
-    → length line ≤ 8192 → Spells line bytes order → (does : Does honest w bytes order w' first) → (H → LineGoesWell honest w bytes order w' first does)
-    → ReplaysFor H honest w' (number + 1) lines rest end last → ReplaysFor H honest w number (line ∷ lines) (first ++ rest) end last
-line_first H honest w w' number line bytes first order lines rest end last short spells does well more =
-    (inr (inr (short, bytes, order, w', first, rest, spells, does, more.0, refl)), λ h. (well h, more.1 h))
+line_first : {P A : Type 0} {ghosts : Ghosts P} (H : Type 0) (honest : Bool) (w w' : MeterWorld) (number : ℕ) (line bytes first : List ℕ) (order : Order) (lines : List (List ℕ)) (rest : List ℕ) (end : End) (last : Option MeterWorld)
+    (start mid : Meter P A ghosts) (finish : Option (Meter P A ghosts)) → length line ≤ 8192 → Spells line bytes order → (does : Does honest w bytes order w' first) → (H → LineGoesWell honest w bytes order w' first does)
+    → LineCalls honest w bytes order w' first does start mid → IsAt honest mid w'
+    → ReplaysFor H honest w' (number + 1) lines rest end last mid finish → ReplaysFor H honest w number (line ∷ lines) (first ++ rest) end last start finish
+line_first H honest w w' number line bytes first order lines rest end last start mid finish short spells does well calls at more =
+    (inr (inr (short, bytes, order, w', first, rest, spells, does, more.0, refl)), (λ h. (well h, more.1 h)), (mid, calls, at, more.2))
 
 numbered : (number : ℕ) (line : List ℕ) (lines : List (List ℕ)) → number + length (line ∷ lines) ≡ number + 1 + length lines
 numbered number line lines = omega arith
 
 -- lines that were done, and those behind them
-run_on : (H : Type 0) (honest : Bool) (done lines : List (List ℕ)) (w m : MeterWorld) (number : ℕ) (written more : List ℕ) (end : End) (last : Option MeterWorld)
-    → ReplaysFor H honest w number done written Whole (Some m) → ReplaysFor H honest m (number + length done) lines more end last
-    → ReplaysFor H honest w number (done ++ lines) (written ++ more) end last
-run_on H honest [] lines w m number written more end last ((nothing, whole, same), well) rest =
+run_on : {P A : Type 0} {ghosts : Ghosts P} (H : Type 0) (honest : Bool) (done lines : List (List ℕ)) (w m : MeterWorld) (number : ℕ) (written more : List ℕ) (end : End) (last : Option MeterWorld) (a b : Meter P A ghosts) (finish : Option (Meter P A ghosts))
+    → ReplaysFor H honest w number done written Whole (Some m) a (Some b) → ReplaysFor H honest m (number + length done) lines more end last b finish
+    → ReplaysFor H honest w number (done ++ lines) (written ++ more) end last a finish
+run_on H honest [] lines w m number written more end last a b finish ((nothing, whole, same), well, is) rest =
     let here : m ≡ w = cc in
     let first : number + 0 ≡ number = omega arith in
-    subst (λ (t : List ℕ). ReplaysFor H honest w number lines (t ++ more) end last) (sym nothing)
-    (subst (λ (v : MeterWorld). ReplaysFor H honest v number lines more end last) here
-    (subst (λ (n : ℕ). ReplaysFor H honest m n lines more end last) first rest))
-run_on H honest (line ∷ done) lines w m number written more end last (inl bad, well) rest = absurd (cc bad.2)
-run_on H honest (line ∷ done) lines w m number written more end last (inr (inl gone), well) rest = absurd (cc gone.5)
-run_on H honest (line ∷ done) lines w m number written more end last (inr (inr (short, bytes, order, w', first, others, spells, does, replays, joins)), well) rest =
-    let behind = run_on H honest done lines w' m (number + 1) others more end last (replays, λ h. (well h).1)
-    (subst (λ (n : ℕ). ReplaysFor H honest m n lines more end last) (numbered number line done) rest) in
+    subst (λ (t : List ℕ). ReplaysFor H honest w number lines (t ++ more) end last a finish) (sym nothing)
+    (subst (λ (x : _). ReplaysFor H honest w number lines more end last x finish) (same_meter is)
+    (subst (λ (v : MeterWorld). ReplaysFor H honest v number lines more end last b finish) here
+    (subst (λ (n : ℕ). ReplaysFor H honest m n lines more end last b finish) first rest)))
+run_on H honest (line ∷ done) lines w m number written more end last a b finish (inl bad, well, calls) rest = absurd (cc bad.2)
+run_on H honest (line ∷ done) lines w m number written more end last a b finish (inr (inl gone), well, calls) rest = absurd (cc gone.5)
+run_on H honest (line ∷ done) lines w m number written more end last a b finish (inr (inr (short, bytes, order, w', first, others, spells, does, replays, joins)), well, (mid, calls, at, others_calls)) rest =
+    let behind = run_on H honest done lines w' m (number + 1) others more end last mid b finish (replays, (λ h. (well h).1), others_calls)
+    (subst (λ (n : ℕ). ReplaysFor H honest m n lines more end last b finish) (numbered number line done) rest) in
     let text : first ++ (others ++ more) ≡ written ++ more = sym (append_assoc first others more) ∙ ap (λ (t : List ℕ). t ++ more) (sym joins) in
-    subst (λ (t : List ℕ). ReplaysFor H honest w number (line ∷ (done ++ lines)) t end last) text
-    (line_first H honest w w' number line bytes first order (done ++ lines) (others ++ more) end last short spells does (λ h. (well h).0) behind)
+    subst (λ (t : List ℕ). ReplaysFor H honest w number (line ∷ (done ++ lines)) t end last a finish) text
+    (line_first H honest w w' number line bytes first order (done ++ lines) (others ++ more) end last a mid finish short spells does (λ h. (well h).0) calls at behind)
 
 -- what has been replayed so far
 abbrev pub ReplayedSoFar : {P A : Type 0} → {ghosts : Ghosts P} → Option (List ℕ) → Option (List ℕ) → Option (Meter P A ghosts) → Option (Meter P A ghosts) → Option (List ℕ) → Option (List ℕ) → ℕ → Type 0
 ReplayedSoFar old now start meter text rest number = (honest : Bool) (w : MeterWorld) → IsLeft honest start (Some w) → (m : MeterWorld) × (written : List ℕ) × (done : List (List ℕ)) × IsLeft honest meter (Some m)
-    × Appends old now written × ReplaysOr (MeetsFault start meter) honest w 1 done written Whole (Some m) × Reaches start meter × CutAt text rest done × (length done + 1 ≡ number)
+    × Appends old now written × ReplaysOn honest w 1 done written Whole (Some m) start meter × Reaches start meter × CutAt text rest done × (length done + 1 ≡ number)
+
+-- no line, on a meter that is there
+no_line : {P A : Type 0} {ghosts : Ghosts P} (honest : Bool) (w : MeterWorld) (number : ℕ) (meter : Option (Meter P A ghosts)) → IsLeft honest meter (Some w) → ReplaysOn honest w number [] [] Whole (Some w) meter meter
+no_line honest w number meter at =
+    let is = there honest meter w at in
+    record { run = ((refl, refl, refl), λ running. inl tt); first = is.0; is = is.1; calls = is.1 }
 
 pub replay_start : {P A : Type 0} {ghosts : Ghosts P} (contents : Option (List ℕ)) (meter : Option (Meter P A ghosts)) (text : Option (List ℕ)) → ReplayedSoFar contents contents meter meter text text 1
-replay_start contents meter text = λ honest w at. (w, [], [], at, appends_none contents, ((refl, refl, refl), λ running. inl tt), Here, cut_start text, refl)
+replay_start contents meter text = λ honest w at. (w, [], [], at, appends_none contents, no_line honest w 1 meter at, Here, cut_start text, refl)
 
 -- both go well, or one of them met a fault
 both_or : (H X Y A B C : Type 0) → (X → Y → H) → (A → C) → (B → C) → X ⊎ A → (X → Y ⊎ B) → H ⊎ C
@@ -522,20 +564,27 @@ both_or H X Y A B C both first last (inr a) second = inr (first a)
 -- lines that were done, and those behind them, on one meter
 done_then : {P A : Type 0} {ghosts : Ghosts P} (start meter meter' : Option (Meter P A ghosts)) (honest : Bool) (done lines : List (List ℕ)) (w m : MeterWorld) (number : ℕ) (written more : List ℕ) (end : End) (last : Option MeterWorld)
     → Reaches start meter → Reaches meter meter' → length done + 1 ≡ number
-    → ReplaysOr (MeetsFault start meter) honest w 1 done written Whole (Some m) → ReplaysOr (MeetsFault meter meter') honest m number lines more end last
-    → ReplaysOr (MeetsFault start meter') honest w 1 (done ++ lines) (written ++ more) end last
+    → ReplaysOn honest w 1 done written Whole (Some m) start meter → ReplaysOn honest m number lines more end last meter meter'
+    → ReplaysOn honest w 1 (done ++ lines) (written ++ more) end last start meter'
 done_then start meter meter' honest done lines w m number written more end last before behind count first rest =
     let same : number ≡ 1 + length done = omega (arith, count) in
-    let second = subst (λ (n : ℕ). ReplaysOr (MeetsFault meter meter') honest m n lines more end last) same rest in
-    let X : Type 0 = GoesWell honest w 1 done written Whole (Some m) first.0 in
-    let Y : Type 0 = GoesWell honest m (1 + length done) lines more end last second.0 in
+    let second = subst (λ (n : ℕ). ReplaysOn honest m n lines more end last meter meter') same rest in
+    let X : Type 0 = GoesWell honest w 1 done written Whole (Some m) first.run.0 in
+    let Y : Type 0 = GoesWell honest m (1 + length done) lines more end last second.run.0 in
     let H : Type 0 = X × Y in
-    let all = run_on H honest done lines w m 1 written more end last (first.0, λ (h : H). h.0) (second.0, λ (h : H). h.1) in (
-      all.0,
-      λ running.
-          both_or (GoesWell honest w 1 (done ++ lines) (written ++ more) end last all.0) X Y (MeetsFault start meter) (MeetsFault meter meter') (MeetsFault start meter') (λ x y. all.1 (x, y))
-          (fault_first start meter meter' behind) (fault_last start meter meter' before) (first.1 running) (λ x. second.1 (lines_run honest done w m 1 written first.0 x running)),
-    )
+    let calls = subst (λ (f : Option _). ReplayCalls honest w 1 done written Whole (Some m) first.run.0 first.first f) second.is first.calls in
+    let all = run_on H honest done lines w m 1 written more end last first.first second.first meter' (first.run.0, (λ (h : H). h.0), calls) (second.run.0, (λ (h : H). h.1), second.calls) in
+    record {
+      run = (
+        all.0,
+        λ running.
+            both_or (GoesWell honest w 1 (done ++ lines) (written ++ more) end last all.0) X Y (MeetsFault start meter) (MeetsFault meter meter') (MeetsFault start meter') (λ x y. all.1 (x, y))
+            (fault_first start meter meter' behind) (fault_last start meter meter' before) (first.run.1 running) (λ x. second.run.1 (lines_run honest done w m 1 written first.run.0 x running)),
+      );
+      first = first.first;
+      is = first.is;
+      calls = all.2;
+    }
 
 pub replay_line : {P A : Type 0} {ghosts : Ghosts P} (old now new : Option (List ℕ)) (start meter meter' : Option (Meter P A ghosts)) (text rest left : Option (List ℕ)) (line bytes : List ℕ) (order : Order) (number : ℕ)
     → ReplayedSoFar old now start meter text rest number → LosesLine rest left line → length line ≤ 8192 → Spells line bytes order
@@ -544,9 +593,12 @@ replay_line old now new start meter meter' text rest left line bytes order numbe
     let here = so_far honest w at in
     let did = does honest here.0 here.3 in
     let H : Type 0 = LineGoesWell honest here.0 bytes order did.world did.written did.does in
-    let one = subst (λ (t : List ℕ). ReplaysFor H honest here.0 number (line ∷ []) t Whole (Some did.world)) (append-nil did.written)
-    (line_first H honest here.0 did.world number line bytes did.written order [] [] Whole (Some did.world) short spells did.does (λ (h : H). h) ((refl, refl, refl), λ (h : H). tt)) in
-    let alone : ReplaysOr (MeetsFault meter meter') honest here.0 number (line ∷ []) did.written Whole (Some did.world) = (one.0, λ running. well_or one.1 (λ (f : MeetsFault meter meter'). f) (did.well running)) in (
+    let by = both_there (LineCalls honest here.0 bytes order did.world did.written did.does) meter meter' did.calls in
+    let at_new : IsAt honest by.1 did.world = subst (λ (x : Option _). IsLeft honest x (Some did.world)) by.3 did.left in
+    let one = subst (λ (t : List ℕ). ReplaysFor H honest here.0 number (line ∷ []) t Whole (Some did.world) by.0 meter') (append-nil did.written)
+    (line_first H honest here.0 did.world number line bytes did.written order [] [] Whole (Some did.world) by.0 by.1 meter' short spells did.does (λ (h : H). h) by.4 at_new ((refl, refl, refl), (λ (h : H). tt), by.3)) in
+    let alone : ReplaysOn honest here.0 number (line ∷ []) did.written Whole (Some did.world) meter meter' =
+    record { run = (one.0, λ running. well_or {Y = GoesWell honest here.0 number (line ∷ []) did.written Whole (Some did.world) one.0} one.1 (λ (f : MeetsFault meter meter'). f) (did.well running)); first = by.0; is = by.2; calls = one.2 } in (
       did.world,
       here.1 ++ did.written,
       here.2 ++ line ∷ [],
@@ -560,10 +612,10 @@ replay_line old now new start meter meter' text rest left line bytes order numbe
 
 -- The end of the whole: from here the rest of the text writes this and comes to this end.
 wrote : {P A : Type 0} {ghosts : Ghosts P} (honest : Bool) (text rest : Option (List ℕ)) (w m : MeterWorld) (written more : List ℕ) (done : List (List ℕ)) (number : ℕ) (end : End) (last : Option MeterWorld) (old now new : Option (List ℕ)) (start meter meter' : Option (Meter P A ghosts))
-    → Reaches start meter → Reaches meter meter' → length done + 1 ≡ number → CutAt text rest done → ReplaysOr (MeetsFault start meter) honest w 1 done written Whole (Some m)
+    → Reaches start meter → Reaches meter meter' → length done + 1 ≡ number → CutAt text rest done → ReplaysOn honest w 1 done written Whole (Some m) start meter
     → Appends old now written → Appends now new more → IsLeft honest meter' last
-    → (lines : List (List ℕ)) × ReplaysOr (MeetsFault meter meter') honest m number lines more end last
-    → ((known : List ℕ) → rest ≡ Some known → ReplaysOr (MeetsFault meter meter') honest m number (lines_of known) more end last) → Ended honest old new w text end start meter'
+    → (lines : List (List ℕ)) × ReplaysOn honest m number lines more end last meter meter'
+    → ((known : List ℕ) → rest ≡ Some known → ReplaysOn honest m number (lines_of known) more end last meter meter') → Ended honest old new w text end start meter'
 wrote honest None rest w m written more done number end last old now new start meter meter' before behind count cut are appends appends' left some ends = (
   done ++ some.0,
   (written ++ more, last, appends_more old now new written more appends appends', done_then start meter meter' honest done some.0 w m number written more end last before behind count are some.1, left),
@@ -573,7 +625,7 @@ wrote honest (Some text) (Some rest) w m written more done number end last old n
   written ++ more,
   last,
   appends_more old now new written more appends appends',
-  subst (λ (ls : List (List ℕ)). ReplaysOr (MeetsFault start meter') honest w 1 ls (written ++ more) end last) (sym cut)
+  subst (λ (ls : List (List ℕ)). ReplaysOn honest w 1 ls (written ++ more) end last start meter') (sym cut)
       (done_then start meter meter' honest done (lines_of rest) w m number written more end last before behind count are (ends rest refl)),
   left,
 )
@@ -587,8 +639,8 @@ pub replay_end : {P A : Type 0} {ghosts : Ghosts P} (old now : Option (List ℕ)
 replay_end old now start meter text rest number so_far at_end honest w at =
     let here = so_far honest w at in
     wrote honest text rest w here.0 here.1 [] here.2 number Whole (Some here.0) old now now start meter meter here.6 Here here.8 here.7 here.5 here.4 (appends_none now) here.3
-    ([], ((refl, refl, refl), λ running. inl tt))
-    (λ known is. subst (λ (r : List ℕ). ReplaysOr (MeetsFault meter meter) honest here.0 number (lines_of r) [] Whole (Some here.0)) (sym (known_end rest known at_end is)) ((refl, refl, refl), λ running. inl tt))
+    ([], no_line honest here.0 number meter here.3)
+    (λ known is. subst (λ (r : List ℕ). ReplaysOn honest here.0 number (lines_of r) [] Whole (Some here.0) meter meter) (sym (known_end rest known at_end is)) (no_line honest here.0 number meter here.3))
 
 -- the first line of a reader's known bytes is bad, or there is a bad line where they are not known
 abbrev pub BeginsBad : Option (List ℕ) → Type 0
@@ -607,36 +659,42 @@ pub long_first : (rest : Option (List ℕ)) → HasLongLine rest 8192 → Begins
 long_first None long = (let some = longer 8192 in (some.0, inl some.1))
 long_first (Some rest) long = (long.0, long.1, long.2, inl long.3)
 
-bad_known : (H : Type 0) (honest : Bool) (m : MeterWorld) (number : ℕ) (rest : Option (List ℕ)) → BeginsBad rest → (known : List ℕ) → rest ≡ Some known
-    → ReplaysFor H honest m number (lines_of known) [] (Bad number) (Some m)
-bad_known H honest m number None bad known is = absurd (cc is)
-bad_known H honest m number (Some rest) bad known is =
-    let same : rest ≡ known = cc in
-    let here : ReplaysFor H honest m number (bad.0 ∷ bad.1) [] (Bad number) (Some m) = (inl (bad.3, refl, refl, refl), λ h. tt) in
-    subst (λ (t : List ℕ). ReplaysFor H honest m number (lines_of t) [] (Bad number) (Some m)) same
-    (subst (λ (ls : List (List ℕ)). ReplaysFor H honest m number ls [] (Bad number) (Some m)) (sym bad.2) here)
+-- a bad line on a meter that is there
+bad_line : {P A : Type 0} {ghosts : Ghosts P} (honest : Bool) (m : MeterWorld) (number : ℕ) (line : List ℕ) (lines : List (List ℕ)) (meter : Option (Meter P A ghosts)) → IsBad line → IsLeft honest meter (Some m)
+    → ReplaysOn honest m number (line ∷ lines) [] (Bad number) (Some m) meter meter
+bad_line honest m number line lines meter bad at =
+    let is = there honest meter m at in
+    record { run = (inl (bad, refl, refl, refl), λ running. inl tt); first = is.0; is = is.1; calls = is.1 }
 
-bad_some : (Fault : Type 0) (honest : Bool) (m : MeterWorld) (number : ℕ) (rest : Option (List ℕ)) → BeginsBad rest → (lines : List (List ℕ)) × ReplaysOr Fault honest m number lines [] (Bad number) (Some m)
-bad_some Fault honest m number None bad = (bad.0 ∷ [], (inl (bad.1, refl, refl, refl), λ running. inl tt))
-bad_some Fault honest m number (Some rest) bad = (bad.0 ∷ bad.1, (inl (bad.3, refl, refl, refl), λ running. inl tt))
+bad_known : {P A : Type 0} {ghosts : Ghosts P} (honest : Bool) (m : MeterWorld) (number : ℕ) (meter : Option (Meter P A ghosts)) (rest : Option (List ℕ)) → IsLeft honest meter (Some m) → BeginsBad rest → (known : List ℕ) → rest ≡ Some known
+    → ReplaysOn honest m number (lines_of known) [] (Bad number) (Some m) meter meter
+bad_known honest m number meter None at bad known is = absurd (cc is)
+bad_known honest m number meter (Some rest) at bad known is =
+    let same : rest ≡ known = cc in
+    subst (λ (t : List ℕ). ReplaysOn honest m number (lines_of t) [] (Bad number) (Some m) meter meter) same
+    (subst (λ (ls : List (List ℕ)). ReplaysOn honest m number ls [] (Bad number) (Some m) meter meter) (sym bad.2) (bad_line honest m number bad.0 bad.1 meter bad.3 at))
+
+bad_some : {P A : Type 0} {ghosts : Ghosts P} (honest : Bool) (m : MeterWorld) (number : ℕ) (meter : Option (Meter P A ghosts)) (rest : Option (List ℕ)) → IsLeft honest meter (Some m) → BeginsBad rest
+    → (lines : List (List ℕ)) × ReplaysOn honest m number lines [] (Bad number) (Some m) meter meter
+bad_some honest m number meter None at bad = (bad.0 ∷ [], bad_line honest m number bad.0 [] meter bad.1 at)
+bad_some honest m number meter (Some rest) at bad = (bad.0 ∷ bad.1, bad_line honest m number bad.0 bad.1 meter bad.3 at)
 
 pub replay_bad : {P A : Type 0} {ghosts : Ghosts P} (old now : Option (List ℕ)) (start meter : Option (Meter P A ghosts)) (text rest : Option (List ℕ)) (number : ℕ)
     → ReplayedSoFar old now start meter text rest number → BeginsBad rest → (honest : Bool) (w : MeterWorld) → IsLeft honest start (Some w) → Ended honest old now w text (Bad number) start meter
 replay_bad old now start meter text rest number so_far bad honest w at =
     let here = so_far honest w at in
     wrote honest text rest w here.0 here.1 [] here.2 number (Bad number) (Some here.0) old now now start meter meter here.6 Here here.8 here.7 here.5 here.4 (appends_none now) here.3
-    (bad_some (MeetsFault meter meter) honest here.0 number rest bad)
-    (λ known is. (let bad_end = bad_known ⊤ honest here.0 number rest bad known is in (bad_end.0, λ running. inl (bad_end.1 tt))))
+    (bad_some honest here.0 number meter rest here.3 bad) (bad_known honest here.0 number meter rest here.3 bad)
 
-gone_known : (H : Type 0) (honest : Bool) (m : MeterWorld) (number : ℕ) (rest left : Option (List ℕ)) (line bytes : List ℕ) (fault : OpenFault) → LosesLine rest left line → Spells line bytes Open
-    → MayStayClosed honest fault → (H → LacksMemory honest fault) → (known : List ℕ) → rest ≡ Some known → ReplaysFor H honest m number (lines_of known) (open_fault_line fault) (Closed fault) None
-gone_known H honest m number None left line bytes fault loses spells may lacks known is = absurd (cc is)
-gone_known H honest m number (Some rest) None line bytes fault loses spells may lacks known is = absurd loses
-gone_known H honest m number (Some rest) (Some left) line bytes fault loses spells may lacks known is =
+-- a line that closed the meter
+gone_known : {P A : Type 0} {ghosts : Ghosts P} (honest : Bool) (m : MeterWorld) (number : ℕ) (meter meter' : Option (Meter P A ghosts)) (rest left : Option (List ℕ)) (line written : List ℕ) (end : End) → LosesLine rest left line
+    → ((lines : List (List ℕ)) → ReplaysOn honest m number (line ∷ lines) written end None meter meter') → (known : List ℕ) → rest ≡ Some known → ReplaysOn honest m number (lines_of known) written end None meter meter'
+gone_known honest m number meter meter' None left line written end loses here known is = absurd (cc is)
+gone_known honest m number meter meter' (Some rest) None line written end loses here known is = absurd loses
+gone_known honest m number meter meter' (Some rest) (Some left) line written end loses here known is =
     let same : rest ≡ known = cc in
-    let here : ReplaysFor H honest m number (line ∷ lines_of left) (open_fault_line fault) (Closed fault) None = (inr (inl (bytes, spells, fault, may, refl, refl, refl)), lacks) in
-    subst (λ (t : List ℕ). ReplaysFor H honest m number (lines_of t) (open_fault_line fault) (Closed fault) None) same
-    (subst (λ (ls : List (List ℕ)). ReplaysFor H honest m number ls (open_fault_line fault) (Closed fault) None) (sym loses) here)
+    subst (λ (t : List ℕ). ReplaysOn honest m number (lines_of t) written end None meter meter') same
+    (subst (λ (ls : List (List ℕ)). ReplaysOn honest m number ls written end None meter meter') (sym loses) (here (lines_of left)))
 
 no_meter : {P A : Type 0} {ghosts : Ghosts P} (honest : Bool) (meter : Option (Meter P A ghosts)) → IsLeft honest meter None → meter ≡ None
 no_meter honest None left = refl
@@ -650,20 +708,25 @@ replay_gone old now new start meter meter' text rest left line bytes order numbe
     let here = so_far honest w at in
     let went = gone honest here.0 here.3 in
     let opens : Spells line bytes Open = subst (λ (o : Order). Spells line bytes o) went.opens spells in
-    let way : Reaches meter meter' = subst (λ (m : Option _). Reaches meter m) (sym (no_meter honest meter' went.none)) (gone_reaches meter went.fault went.gone) in (
+    let none = no_meter honest meter' went.none in
+    let way : Reaches meter meter' = subst (λ (m : Option _). Reaches meter m) (sym none) (gone_reaches meter went.fault went.gone) in
+    let ends : (lines : List (List ℕ)) → ReplaysOn honest here.0 number (line ∷ lines) (open_fault_line went.fault) (Closed went.fault) None meter meter' = λ lines.
+    record {
+      run = (inr (inl (bytes, opens, went.fault, went.may, refl, refl, refl)), λ running. well_or (λ (h : LacksMemory honest went.fault). h) (λ (f : MeetsFault meter meter'). f) went.lacks);
+      first = went.old;
+      is = went.is;
+      calls = (went.stays, none);
+    } in (
       went.fault,
       gone_behind start meter went.fault here.6 went.gone,
       wrote honest text rest w here.0 here.1 (open_fault_line went.fault) here.2 number (Closed went.fault) None old now new start meter meter' here.6 way here.8 here.7 here.5 here.4 went.told went.none
-          (line ∷ [], (inr (inl (bytes, opens, went.fault, went.may, refl, refl, refl)), λ running. well_or (λ (h : LacksMemory honest went.fault). h) (λ (f : MeetsFault meter meter'). f) went.lacks))
-          (λ known is.
-          let ends = gone_known (LacksMemory honest went.fault) honest here.0 number rest left line bytes went.fault loses opens went.may (λ (h : LacksMemory honest went.fault). h) known is in
-          (ends.0, λ running. well_or ends.1 (λ (f : MeetsFault meter meter'). f) went.lacks)),
+          (line ∷ [], ends []) (gone_known honest here.0 number meter meter' rest left line (open_fault_line went.fault) (Closed went.fault) loses ends),
     )
 
 -- ---- a replay that is broken off
 
 read_part : {P A : Type 0} {ghosts : Ghosts P} (honest : Bool) (old now : Option (List ℕ)) (start meter : Option (Meter P A ghosts)) (w m : MeterWorld) (text rest left : Option (List ℕ)) (written part : List ℕ) (done : List (List ℕ))
-    → IsLeft honest meter (Some m) → Appends old now written → ReplaysOr (MeetsFault start meter) honest w 1 done written Whole (Some m) → CutAt text rest done → LosesPart rest left part
+    → IsLeft honest meter (Some m) → Appends old now written → ReplaysOn honest w 1 done written Whole (Some m) start meter → CutAt text rest done → LosesPart rest left part
     → IfKnown text left (λ text left. ReadNoMore honest old now w text left start meter)
 read_part honest old now start meter w m None rest left written part done at appends are cut loses = tt
 read_part honest old now start meter w m (Some text) None left written part done at appends are cut loses = absurd cut
@@ -689,7 +752,7 @@ replay_cut old now start meter text rest left part number so_far loses honest w 
     read_part honest old now start meter w here.0 text rest left here.1 part here.2 here.3 here.4 here.5 here.7 loses
 
 used_part : {P A : Type 0} {ghosts : Ghosts P} (honest : Bool) (old now : Option (List ℕ)) (start meter : Option (Meter P A ghosts)) (w m : MeterWorld) (text rest : Option (List ℕ)) (written : List ℕ) (done : List (List ℕ))
-    → IsLeft honest meter (Some m) → Appends old now written → ReplaysOr (MeetsFault start meter) honest w 1 done written Whole (Some m) → CutAt text rest done → length done ≡ 2 ^ 32 - 1
+    → IsLeft honest meter (Some m) → Appends old now written → ReplaysOn honest w 1 done written Whole (Some m) start meter → CutAt text rest done → length done ≡ 2 ^ 32 - 1
     → IfKnown text rest (λ text left. LinesUsedUp honest old now w text left start meter)
 used_part honest old now start meter w m None rest written done at appends are cut many = tt
 used_part honest old now start meter w m (Some text) None written done at appends are cut many = absurd cut
@@ -708,7 +771,7 @@ replay_used old now start meter text rest number so_far last honest w at =
     used_part honest old now start meter w here.0 text rest here.1 here.2 here.3 here.4 here.5 here.7 (omega (arith, here.8, last))
 
 written_part : {P A : Type 0} {ghosts : Ghosts P} (honest : Bool) (old now new : Option (List ℕ)) (start behind meter : Option (Meter P A ghosts)) (w m : MeterWorld) (text rest left : Option (List ℕ)) (written line bytes : List ℕ) (order : Order) (done : List (List ℕ))
-    → Reaches start behind → Appends old now written → ReplaysOr (MeetsFault start behind) honest w 1 done written Whole (Some m) → CutAt text rest done → LosesLine rest left line → length line ≤ 8192 → Spells line bytes order
+    → Reaches start behind → Appends old now written → ReplaysOn honest w 1 done written Whole (Some m) start behind → CutAt text rest done → LosesLine rest left line → length line ≤ 8192 → Spells line bytes order
     → Followed honest now new m bytes order (Err Io) behind meter → IfKnown text left (λ text left. WroteNoMore honest old new w text left start meter)
 written_part honest old now new start behind meter w m None rest left written line bytes order done reaches appends are cut loses short spells breaks = tt
 written_part honest old now new start behind meter w m (Some text) None left written line bytes order done reaches appends are cut loses short spells breaks = absurd cut

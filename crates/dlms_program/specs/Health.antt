@@ -1,5 +1,5 @@
 -- What lies between two moments of a replay, and the faults that a call may meet there.
-use Rattle.std.specs.Prelude.{◌≡◌, ◌⊎◌, true, List, [], Option, Some, None}
+use Rattle.std.specs.Prelude.{◌≡◌, ◌⊎◌, true, ℕ, List, [], ◌∷◌, ◌++◌, Option, Some, None, Result}
 use Rattle.dlms_pages.specs.Device.{View, Rose}
 use Rattle.dlms_pages.specs.declared.device.Pages.{Ghosts}
 use Rattle.dlms_state.specs.declared.event.Event.{Event}
@@ -9,12 +9,13 @@ use Rattle.dlms_store.specs.Later.{GoesOn, IsSpent, LeavesNoEarlier}
 use Rattle.dlms_store.specs.Store.{AddIsExhausted, CommitIsExhausted, IsRunning, IsStopped, IsTooSmall, Remembers, view_of}
 use Rattle.dlms_store.specs.World.{StoreWorld}
 use Rattle.dlms_store.specs.World.StoreStep.{Closes, ClosesInDoubt}
+use Rattle.dlms_store.specs.declared.fault.AddFault.{AddFault}
 use Rattle.dlms_store.specs.declared.fault.OpenFault.{OpenFault}
 use Rattle.dlms_store.specs.declared.fault.OpenFault.TheVariants as opening
 use Rattle.dlms_store.specs.declared.store.Store.{Store}
 use Rattle.dlms_meter.specs.declared.meter.Meter.{Meter}
-use Rattle.dlms_meter.specs.Run.{Stands, recovered}
-use Rattle.dlms_meter.specs.Steps.{Call, IsCall}
+use Rattle.dlms_meter.specs.Run.{JudgedFor, MayChoose, Stands, Turn, recovered}
+use Rattle.dlms_meter.specs.Steps.{Call, Fed, IsCall, Told}
 
 -- ---- from one moment to another
 
@@ -62,6 +63,30 @@ pub data Reaches {P A : Type 0} {ghosts : Ghosts P} (start : Option (Meter P A g
 pub record IsGone {P A : Type 0} {ghosts : Ghosts P} (start : Option (Meter P A ghosts)) (fault : OpenFault) : Type 0 where
   pub old : Meter P A ghosts
   pub reaches : Reaches start (Some old)
+  pub device : P
+  pub closed : IsClosed old device
+  pub back : P
+  pub refused : IsRefused (ghosts.view device) (ghosts.view back) fault
+
+-- ---- the calls of one line
+
+-- One call judged the event. It reports a fault of the device only if the device's count of faults rose in this call, and an
+-- exhausted generation only if the store could not take this event before it.
+pub record IsToldBy {P A : Type 0} {ghosts : Ghosts P} (event : Event) (outcome : Result (Unit {0}) AddFault) (old new : Meter P A ghosts) : Type 0 where
+  pub call : IsCall old (Told event outcome) new
+  pub cause : JudgedFor event outcome old.store new.store
+
+-- Calls of feed, one after another, took these bytes. Each call ended no frame, or one: that frame's turn follows the turns of
+-- the calls before, and if the frame was answered as by a device that failed, the cause lies in this call.
+pub data IsFedBy {P A : Type 0} {ghosts : Ghosts P} (start : Meter P A ghosts) : List ℕ → List Turn → Meter P A ghosts → Type 0 where
+  NoCall : IsFedBy start [] [] start
+  NoFrame : (bytes taken : List ℕ) (turns : List Turn) (old new : Meter P A ghosts) → IsFedBy start bytes turns old
+      → IsCall old (Fed taken None) new → IsFedBy start (bytes ++ taken) turns new
+  OneFrame : (bytes taken : List ℕ) (turns : List Turn) (turn : Turn) (old new : Meter P A ghosts) → IsFedBy start bytes turns old
+      → IsCall old (Fed taken turn.reply) new → MayChoose old.store new.store turn.choice → IsFedBy start (bytes ++ taken) (turns ++ turn ∷ []) new
+
+-- The meter was closed, and its device refused for this cause.
+pub record StaysClosed {P A : Type 0} {ghosts : Ghosts P} (old : Meter P A ghosts) (fault : OpenFault) : Type 0 where
   pub device : P
   pub closed : IsClosed old device
   pub back : P

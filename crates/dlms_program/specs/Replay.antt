@@ -15,7 +15,7 @@ use Rattle.dlms_store.specs.declared.fault.OpenFault.TheVariants as opening
 use Rattle.dlms_store.specs.declared.fault.AddFault.{AddFault}
 use Rattle.dlms_store.specs.declared.fault.AddFault.TheVariants as add
 use Rattle.dlms_program.specs.Calls.{Calls, Fails, Passes}
-use Rattle.dlms_program.specs.Health.{IsGone, MeetsFault, Reaches}
+use Rattle.dlms_program.specs.Health.{ClosesIll, IsClosed, IsFedBy, IsGone, IsMade, IsToldBy, MeetsFault, Reaches, StaysClosed}
 use Rattle.dlms_program.specs.declared.fault.ReplayFault.{ReplayFault}
 use Rattle.dlms_program.specs.declared.fault.ReplayFault.TheVariants.{Line, Io, Memory, Recovery}
 use Rattle.dlms_program.specs.declared.orders.Order.{Order}
@@ -27,6 +27,7 @@ use Rattle.dlms_program.specs.Printed.{reply_line, reply_lines, refusal_line, fa
 use Rattle.dlms_program.specs.Written.{AppendsPart}
 use Rattle.dlms_meter.specs.Run.{MeterWorld, Comes, IsRunningIn, Judged, events_of, recovered, silent, Stands}
 use Rattle.dlms_meter.specs.Healthy.{AreServed, IsDecided}
+use Rattle.dlms_meter.specs.Steps.{Idled, IsCall}
 
 -- what is written of an event: nothing, why it was refused, or the number of the fault for which it was not taken
 abbrev pub outcome_line : Result (Unit {0}) AddFault → List ℕ
@@ -76,6 +77,24 @@ LineGoesWell honest w bytes Silence w' written does = Unit {0}
 LineGoesWell honest w bytes Open w' written (found, finds, leads, is) = FindsAll honest w found
 LineGoesWell honest w bytes Show w' written does = Unit {0}
 
+-- The calls of the meter that a line makes, from the meter before it to the one after it. A fault that the line reports has its
+-- cause in these calls. If a store that ran is opened with less than it held, its close met a fault, or a checkpoint was wanting.
+abbrev pub LineCalls : {P A : Type 0} → {ghosts : Ghosts P} → (honest : Bool) (w : MeterWorld) (bytes : List ℕ) (order : Order) (w' : MeterWorld) (written : List ℕ)
+    → Does honest w bytes order w' written → (old new : Meter P A ghosts) → Type 0
+LineCalls honest w bytes Skip w' written does old new = new ≡ old
+LineCalls honest w bytes Feed w' written (replies, comes, is) old new = IsFedBy old bytes comes.turns new
+LineCalls honest w bytes (Pulses channel count) w' written (outcome, step, judged, is) old new = IsToldBy (PulseEvent channel count) outcome old new
+LineCalls honest w bytes (Moment second) w' written (outcome, step, judged, is) old new = IsToldBy (MomentEvent second) outcome old new
+LineCalls honest w bytes Silence w' written does old new = IsCall old Idled new
+LineCalls {P} {A} {ghosts} honest w bytes Open w' written (found, finds, leads, is) old new =
+    (device : P) × IsClosed old device × IsMade device new × (IsRunningIn w.store → FindsAll honest w found ⊎ ClosesIll old.store (ghosts.view device))
+LineCalls honest w bytes Show w' written does old new = new ≡ old
+
+-- a relation of two meters that are both there
+abbrev pub AreBoth : {P A : Type 0} → {ghosts : Ghosts P} → (Meter P A ghosts → Meter P A ghosts → Type 0) → (old new : Option (Meter P A ghosts)) → Type 0
+AreBoth Is (Some old) (Some new) = Is old new
+AreBoth Is _ _ = ⊥
+
 -- why a meter that was closed may not be recovered
 abbrev pub MayStayClosed : Bool → OpenFault → Type 0
 MayStayClosed true fault = IsRefusal fault
@@ -99,12 +118,13 @@ IsLeft honest (Some meter) (Some w) = IsAt honest meter w
 IsLeft honest None None = Unit {0}
 IsLeft honest _ _ = ⊥
 
--- An order was done on a meter: the world that it then stands for, and what was written. Where the store ran, it went well, or
--- a call of it met a fault of the device.
+-- An order was done on a meter: the world that it then stands for, what was written, and the calls that it made, with the causes of
+-- the faults that it reports. Where the store ran, it went well, or a call of it met a fault of the device.
 pub record Did {P A : Type 0} {ghosts : Ghosts P} (honest : Bool) (old new : Option (List ℕ)) (w : MeterWorld) (bytes : List ℕ) (order : Order) (start meter : Option (Meter P A ghosts)) : Type 0 where
   pub world : MeterWorld
   pub written : List ℕ
   pub does : Does honest w bytes order world written
+  pub calls : AreBoth (LineCalls honest w bytes order world written does) start meter
   pub reaches : Reaches start meter
   pub well : IsRunningIn w.store → LineGoesWell honest w bytes order world written does ⊎ MeetsFault start meter
   pub left : IsLeft honest meter (Some world)
@@ -128,12 +148,24 @@ PartGoesWell honest w bytes Silence w' before told (none, does) = LineGoesWell h
 PartGoesWell honest w bytes Open w' before told (none, does) = LineGoesWell honest w bytes Open w' told does
 PartGoesWell honest w bytes Show w' before told (none, does) = LineGoesWell honest w bytes Show w' told does
 
+-- the calls that it made up to there
+abbrev pub PartCalls : {P A : Type 0} → {ghosts : Ghosts P} → (honest : Bool) (w : MeterWorld) (bytes : List ℕ) (order : Order) (w' : MeterWorld) (before told : List ℕ)
+    → DoesPart honest w bytes order w' before told → (old new : Meter P A ghosts) → Type 0
+PartCalls honest w bytes Feed w' before told (front, rest, cut, replies, reply, comes, is, last) old new = IsFedBy old front comes.turns new
+PartCalls honest w bytes Skip w' before told (none, does) old new = LineCalls honest w bytes Skip w' told does old new
+PartCalls honest w bytes (Pulses channel count) w' before told (none, does) old new = LineCalls honest w bytes (Pulses channel count) w' told does old new
+PartCalls honest w bytes (Moment second) w' before told (none, does) old new = LineCalls honest w bytes (Moment second) w' told does old new
+PartCalls honest w bytes Silence w' before told (none, does) old new = LineCalls honest w bytes Silence w' told does old new
+PartCalls honest w bytes Open w' before told (none, does) old new = LineCalls honest w bytes Open w' told does old new
+PartCalls honest w bytes Show w' before told (none, does) old new = LineCalls honest w bytes Show w' told does old new
+
 -- so it was done on a meter
 pub record DidPart {P A : Type 0} {ghosts : Ghosts P} (honest : Bool) (old new : Option (List ℕ)) (w : MeterWorld) (bytes : List ℕ) (order : Order) (start meter : Option (Meter P A ghosts)) : Type 0 where
   pub world : MeterWorld
   pub before : List ℕ
   pub told : List ℕ
   pub does : DoesPart honest w bytes order world before told
+  pub calls : AreBoth (PartCalls honest w bytes order world before told does) start meter
   pub reaches : Reaches start meter
   pub well : IsRunningIn w.store → PartGoesWell honest w bytes order world before told does ⊎ MeetsFault start meter
   pub left : IsLeft honest meter (Some world)
@@ -150,6 +182,9 @@ pub record Gone {P A : Type 0} {ghosts : Ghosts P} (honest : Bool) (Told : List 
   pub opens : order ≡ Open
   pub fault : OpenFault
   pub may : MayStayClosed honest fault
+  pub old : Meter P A ghosts
+  pub is : start ≡ Some old
+  pub stays : StaysClosed old fault
   pub gone : IsGone start fault
   pub lacks : LacksMemory honest fault ⊎ MeetsFault start meter
   pub none : IsLeft honest meter None
@@ -191,16 +226,35 @@ GoesWell honest w number (line ∷ lines) written end last (inr (inl (bytes, spe
 GoesWell honest w number (line ∷ lines) written end last (inr (inr (short, bytes, order, w', first, rest, spells, does, replays, joins))) =
     LineGoesWell honest w bytes order w' first does × GoesWell honest w' (number + 1) lines rest end last replays
 
+-- Its calls, line by line, from a meter to where it is left: each line's own calls lead from the meter before it to the one after
+-- it, which stands for the world that the line led to. So each fault that is written has its cause in its own line.
+abbrev pub ReplayCalls : {P A : Type 0} → {ghosts : Ghosts P} → (honest : Bool) (w : MeterWorld) (number : ℕ) (lines : List (List ℕ)) (written : List ℕ) (end : End)
+    (last : Option MeterWorld) → Replays honest w number lines written end last → (start : Meter P A ghosts) (finish : Option (Meter P A ghosts)) → Type 0
+ReplayCalls honest w number [] written end last replays start finish = finish ≡ Some start
+ReplayCalls honest w number (line ∷ lines) written end last (inl bad) start finish = finish ≡ Some start
+ReplayCalls honest w number (line ∷ lines) written end last (inr (inl (bytes, spells, fault, may, is, closed, none))) start finish = StaysClosed start fault × (finish ≡ None)
+ReplayCalls {P} {A} {ghosts} honest w number (line ∷ lines) written end last (inr (inr (short, bytes, order, w', first, rest, spells, does, replays, joins))) start finish =
+    (mid : Meter P A ghosts) × LineCalls honest w bytes order w' first does start mid × IsAt honest mid w'
+    × ReplayCalls honest w' (number + 1) lines rest end last replays mid finish
+
 -- Such a replay. Where the store runs at first, it goes well, or this is so.
 abbrev pub ReplaysOr : Type 0 → Bool → MeterWorld → ℕ → List (List ℕ) → List ℕ → End → Option MeterWorld → Type 0
 ReplaysOr Fault honest w number lines written end last =
     (replays : Replays honest w number lines written end last) × (IsRunningIn w.store → GoesWell honest w number lines written end last replays ⊎ Fault)
 
+-- Such a replay on a meter, by the calls of its lines. Where the store runs at first, it goes well, or a call of it met a fault of
+-- the device.
+pub record ReplaysOn {P A : Type 0} {ghosts : Ghosts P} (honest : Bool) (w : MeterWorld) (number : ℕ) (lines : List (List ℕ)) (written : List ℕ) (end : End)
+    (last : Option MeterWorld) (start finish : Option (Meter P A ghosts)) : Type 0 where
+  pub run : ReplaysOr (MeetsFault start finish) honest w number lines written end last
+  pub first : Meter P A ghosts
+  pub is : start ≡ Some first
+  pub calls : ReplayCalls honest w number lines written end last run.0 first finish
+
 -- A replay of these lines came to such an end: it wrote what they say, and nothing else, and the meter stands for where they led.
--- Where the store ran at first, it went well, or a call of it met a fault of the device.
 abbrev pub EndedBy : {P A : Type 0} → {ghosts : Ghosts P} → Bool → Option (List ℕ) → Option (List ℕ) → MeterWorld → List (List ℕ) → End → (start meter : Option (Meter P A ghosts)) → Type 0
 EndedBy honest old new w lines end start meter =
-    (written : List ℕ) × (last : Option MeterWorld) × Appends old new written × ReplaysOr (MeetsFault start meter) honest w 1 lines written end last × IsLeft honest meter last
+    (written : List ℕ) × (last : Option MeterWorld) × Appends old new written × ReplaysOn honest w 1 lines written end last start meter × IsLeft honest meter last
 
 -- so it was of the lines of a known text, and of some lines where the text is not known
 abbrev pub Ended : {P A : Type 0} → {ghosts : Ghosts P} → Bool → Option (List ℕ) → Option (List ℕ) → MeterWorld → Option (List ℕ) → End → (start meter : Option (Meter P A ghosts)) → Type 0
@@ -217,7 +271,7 @@ pub record ReadNoMore {P A : Type 0} {ghosts : Ghosts P} (honest : Bool) (old ne
   pub no_feed : HasNoFeed part
   pub world : MeterWorld
   pub written : List ℕ
-  pub are : ReplaysOr (MeetsFault start meter) honest w 1 done written Whole (Some world)
+  pub are : ReplaysOn honest w 1 done written Whole (Some world) start meter
   pub left_is : IsLeft honest meter (Some world)
   pub appends : Appends old new written
 
@@ -230,7 +284,7 @@ pub record WroteNoMore {P A : Type 0} {ghosts : Ghosts P} (honest : Bool) (old n
   pub written : List ℕ
   pub behind : Option (Meter P A ghosts)
   pub reaches : Reaches start behind
-  pub are : ReplaysOr (MeetsFault start behind) honest w 1 done written Whole (Some world)
+  pub are : ReplaysOn honest w 1 done written Whole (Some world) start behind
   pub mid : Option (List ℕ)
   pub appends : Appends old mid written
   pub bytes : List ℕ

@@ -157,7 +157,7 @@ fn follow<W: Sink, P: Pages + Drop, A: Allocator + Copy>(
 ///
 /// Where the store runs and no call of the meter meets a fault of its device, and no checkpoint is wanting, no line is a fault
 /// 2 to 4 and no frame is answered with the device's result; a line `O` finds every accepted event, and ends the replay for
-/// want of memory alone.
+/// want of memory alone. In any replay a line reports a fault only for a cause in that line's own calls.
 pub fn replay<R: Source, W: Sink, P: Pages + Drop, A: Allocator + Copy>(
     alloc: A,
     reader: &mut R,

@@ -20,7 +20,7 @@ returns-in-Pulses-clause-lines g c honest w at =
     subst (λ (order : Order). Obeyed honest (contents c.args.writer.now) (contents c.answer.new.writer) w c.args.bytes.now order c.answer.result (Some c.args.meter.now) (Some c.pulses.new.self)) (sym c.in-Pulses.is)
     (either_way (contents c.args.writer.now) (contents c.answer.new.writer) _ c.answer.result c.answer.ensures.bytes
     (told_all _ _ honest w c.args.bytes.now (Pulses c.in-Pulses.channel c.in-Pulses.count) c.args.meter.now c.pulses.new.self did)
-    (told_part _ _ honest w c.args.bytes.now (Pulses c.in-Pulses.channel c.in-Pulses.count) c.args.meter.now c.pulses.new.self (λ w' told does. ((refl, does), λ h. h)) did))
+    (told_part _ _ honest w c.args.bytes.now (Pulses c.in-Pulses.channel c.in-Pulses.count) c.args.meter.now c.pulses.new.self (λ w' told does. ((refl, does), (λ h. h), λ h. h)) did))
 
 pub returns-in-Moment-clause-lines : goal.returns-in-Moment-clause-lines
 returns-in-Moment-clause-lines g c honest w at =
@@ -29,7 +29,7 @@ returns-in-Moment-clause-lines g c honest w at =
     subst (λ (order : Order). Obeyed honest (contents c.args.writer.now) (contents c.answer-in-Moment.new.writer) w c.args.bytes.now order c.answer-in-Moment.result (Some c.args.meter.now) (Some c.moment.new.self)) (sym c.in-Moment.is)
     (either_way (contents c.args.writer.now) (contents c.answer-in-Moment.new.writer) _ c.answer-in-Moment.result c.answer-in-Moment.ensures.bytes
     (told_all _ _ honest w c.args.bytes.now (Moment c.in-Moment.second) c.args.meter.now c.moment.new.self did)
-    (told_part _ _ honest w c.args.bytes.now (Moment c.in-Moment.second) c.args.meter.now c.moment.new.self (λ w' told does. ((refl, does), λ h. h)) did))
+    (told_part _ _ honest w c.args.bytes.now (Moment c.in-Moment.second) c.args.meter.now c.moment.new.self (λ w' told does. ((refl, does), (λ h. h), λ h. h)) did))
 
 pub returns-in-Silence-clause-lines : goal.returns-in-Silence-clause-lines
 returns-in-Silence-clause-lines g c honest w at =
@@ -44,4 +44,4 @@ returns-in-Show-clause-lines g c honest w at =
     subst (λ (order : Order). Obeyed honest (contents c.args.writer.now) (contents c.tell.new.writer) w c.args.bytes.now order c.tell.result (Some c.args.meter.now) (Some c.args.meter.now)) (sym c.in-Show.is)
     (either_way (contents c.args.writer.now) (contents c.tell.new.writer) _ c.tell.result (written_line _ _ _ _ c.tell.result c.state_text.ensures c.tell.ensures.bytes)
     (told_all _ _ honest w c.args.bytes.now Show c.args.meter.now c.args.meter.now did)
-    (told_part _ _ honest w c.args.bytes.now Show c.args.meter.now c.args.meter.now (λ w' told does. ((refl, does), λ h. h)) did))
+    (told_part _ _ honest w c.args.bytes.now Show c.args.meter.now c.args.meter.now (λ w' told does. ((refl, does), (λ h. h), λ h. h)) did))
