@@ -1,1 +1,2 @@
 pub mod RoundLemmas
+pub mod StopLemmas

@@ -1,19 +1,22 @@
 -- The rounds of the loopback.
-use Rattle.std.proofs.Common.{arith, refl, sym, ◌∙◌, ◌≡◌, ◌<◌, ◌+◌, ℕ, List, [], ◌∷◌, length, subst, inl, inr}
+use Rattle.std.proofs.Common.{arith, refl, sym, ap, append-nil, append_assoc, ◌++◌, ◌∙◌, ◌≡◌, ◌<◌, ◌≤◌, ◌+◌, ℕ, List, [], ◌∷◌, length, subst, inl, inr}
 use Rattle.std.specs.Prelude.{Option, Some, None, Result, Ok, Err, IfErr, IfOk, IsErrAnd, MatchResult}
 use Rattle.std.specs.Io.KnownBytes.{Keeps}
 use Rattle.std.specs.declared.io.Error.{Error}
-use Rattle.dlms_headend.specs.Lines.{text_of}
+use Rattle.dlms_headend.specs.Lines.{IsFile, text_of}
 use Rattle.dlms_headend.specs.Merged.{last_clock, merged}
 use Rattle.dlms_headend.specs.PollerValue.{PollerValue}
 use Rattle.dlms_headend.specs.declared.row.Row.{Row}
 use Rattle.dlms_meter.specs.declared.meter.Meter.{Meter}
+use Rattle.dlms_pages.specs.Memory.{Memory}
 use Rattle.dlms_pages.specs.declared.device.Pages.{Ghosts}
 use Rattle.dlms_ends.specs.BothEnds.{IsDonePoll}
 use Rattle.dlms_ends.specs.Faults.{TellsError}
-use Rattle.dlms_filing.specs.Filing.{Asked, KeepsRows}
+use Rattle.dlms_filing.specs.Filing.{Asked, Asks, KeepsRows}
+use Rattle.dlms_filing.specs.Filing.Asked.{Lays, Puts}
 use Rattle.dlms_filing.specs.Printing.{Printed, PrintsNothing, PrintsPart}
-use Rattle.dlms_loopback.specs.Rounds.{ArePolled, HasOpened, HoldsFile, IsUntouched, JoinsEnds, LoopFails, Loops, OpensReadings, Unlooped, Seen, Reads, IsOfMeter, Rounds, ReadsRows, KeepsPolled, KeepsNothing, TellsKept, Polled, PrintsText, plan_from}
+use Rattle.dlms_loopback.specs.Rounds.{ArePolled, HasOpened, HasPolled, HoldsFile, IsNext, IsUntouched, JoinsEnds, LoopFails, Loops, OpensReadings, PutsLast, Unlooped, Seen, Reads, Rounds, ReadsRows, KeepsPolled, KeepsNothing, TellsKept, Polled, PrintsText, plan_from}
+use Rattle.dlms_loopback.specs.Stops.{GoesAgain, IsBegun, StaysAway}
 use Rattle.dlms_loopback.specs.Rounds.LoopFails.{NotOpened, RoundsFail}
 use Rattle.dlms_loopback.specs.Rounds.Reads.{Begun, Then}
 use Rattle.dlms_ends.specs.declared.fault.LoopFault.{LoopFault}
@@ -39,18 +42,61 @@ one_round : (secret : List ℕ) (seen seen' : Seen) (told told' : Option Error) 
 one_round secret seen seen' told told' before after (Ok done) is (kept, keeps, tells) = (done, is, kept_rows seen seen' told told' done before after kept keeps tells)
 one_round secret seen seen' told told' before after (Err fault) is kept = absurd (cc kept.0)
 
-polled_in : {P A : Type 0} {ghosts : Ghosts P} (first : Meter P A ghosts) (secret : List ℕ) (seen : Seen) (before : List Row) (now : Seen) (rows : List Row) (count : ℕ)
-    → Reads first secret seen before count now rows → (polls : List PollerValue) × (length polls ≡ count) × Polled secret polls before rows
-polled_in first secret seen before now rows count Begun = ([], refl, refl)
-polled_in first secret seen before now rows count (Then n mid new was after meter meter' told reads is_first round) =
-    let (polls, counted, polled) = polled_in first secret seen before mid was n reads in
+polled_in : {A : Type 0} {ghosts : Ghosts Memory} (first : Meter Memory A ghosts) (secret : List ℕ) (seen : Seen) (before : List Row) (now : Seen) (rows : List Row) (count : ℕ) (last : Meter Memory A ghosts)
+    → Reads first secret seen before count now rows last → (polls : List PollerValue) × (length polls ≡ count) × Polled secret polls before rows
+polled_in first secret seen before now rows count last Begun = ([], refl, refl)
+polled_in first secret seen before now rows count last (Then n mid new was after before_it meter meter' told reads is_next round) =
+    let (polls, counted, polled) = polled_in first secret seen before mid was n before_it reads in
     let (done, is, same) = one_round secret mid new told told was after round.polled round.done round.kept in
     (done ∷ polls, omega (arith, counted), (was, polled, is, same))
 
-pub rounds_poll : {P A : Type 0} {ghosts : Ghosts P} (first : Meter P A ghosts) (secret : List ℕ) (stops : ℕ) (seen now : Seen) (told told' : Option Error) (before after : List Row)
-    → Rounds {T = Unit {0}} first secret stops seen now told told' before (Ok tt) after → ArePolled secret (stops + 1) after
-rounds_poll first secret stops seen now told told' before after went =
-    let (polls, counted, polled) = polled_in first secret seen before now after (stops + 1) went.0 in record { before = before; polls = polls; counted = counted; polled = polled }
+pub rounds_poll : {A : Type 0} {ghosts : Ghosts Memory} (first : Meter Memory A ghosts) (secret : List ℕ) (stops : ℕ) (seen now : Seen) (told told' : Option Error) (before after : List Row)
+    → Rounds {T = Unit {0}} first secret stops seen now told told' before (Ok tt) after → ArePolled secret (stops + 1) before after
+rounds_poll first secret stops seen now told told' before after (last, reads, untold) =
+    let (polls, counted, polled) = polled_in first secret seen before now after (stops + 1) last reads in record { polls = polls; counted = counted; polled = polled }
+
+-- ---- what the file holds
+
+asks_none : (a : Option (List Asked)) → Asks a a []
+asks_none None = tt
+asks_none (Some before) = sym (append-nil before)
+
+asks_more : (a b c : Option (List Asked)) (xs ys : List Asked) → Asks a b xs → Asks b c ys → Asks a c (xs ++ ys)
+asks_more None b c xs ys first next = tt
+asks_more (Some before) None c xs ys first next = absurd first
+asks_more (Some before) (Some mid) None xs ys first next = absurd next
+asks_more (Some before) (Some mid) (Some after) xs ys first next = next ∙ ap (λ (calls : List Asked). calls ++ ys) first ∙ append_assoc before xs ys
+
+-- a round that went well put the text of its rows
+round_puts : (seen seen' : Seen) (told told' : Option Error) (before after : List Row) (polled : Result PollerValue LoopFault)
+    → MatchResult polled (λ done. KeepsPolled {T = Unit {0}} seen seen' told told' done before (Ok tt) after) (λ fault. KeepsNothing {T = Unit {0}} seen seen' told told' fault before (Ok tt) after)
+    → (text : List ℕ) × IsFile text after × Asks seen.asked seen'.asked (Lays text None ∷ Puts None ∷ [])
+round_puts seen seen' told told' before after (Ok done) (kept, keeps, tells) = put kept keeps tells where
+  put : (kept : Result (Unit {0}) FilingFault) → KeepsRows seen.asked seen'.asked before done.talk.rows kept after → TellsKept {U = Unit {0}} told told' kept (Ok tt)
+      → (text : List ℕ) × IsFile text after × Asks seen.asked seen'.asked (Lays text None ∷ Puts None ∷ [])
+  put (Ok x) keeps tells = (keeps.1, keeps.2, keeps.3)
+  put (Err why) keeps tells = absurd tells
+round_puts seen seen' told told' before after (Err fault) kept = absurd (cc kept.0)
+
+asked_in : {A : Type 0} {ghosts : Ghosts Memory} (first : Meter Memory A ghosts) (secret : List ℕ) (seen : Seen) (before : List Row) (now : Seen) (rows : List Row) (count : ℕ) (last : Meter Memory A ghosts)
+    → Reads first secret seen before count now rows last → (calls : List Asked) × Asks seen.asked now.asked calls
+asked_in first secret seen before now rows count last Begun = ([], asks_none seen.asked)
+asked_in first secret seen before now rows count last (Then n mid new was after before_it meter meter' told reads is_next round) =
+    let (front, asks) = asked_in first secret seen before mid was n before_it reads in
+    let (text, is, puts) = round_puts mid new told told was after round.polled round.kept in
+    (front ++ Lays text None ∷ Puts None ∷ [], asks_more seen.asked mid.asked new.asked front (Lays text None ∷ Puts None ∷ []) asks puts)
+
+puts_last : {A : Type 0} {ghosts : Ghosts Memory} (first : Meter Memory A ghosts) (secret : List ℕ) (seen : Seen) (before : List Row) (now : Seen) (rows : List Row) (count : ℕ) (last : Meter Memory A ghosts)
+    → Reads first secret seen before count now rows last → 0 < count → PutsLast seen.asked now.asked rows
+puts_last first secret seen before now rows count last Begun some = absurd (omega (arith, some))
+puts_last first secret seen before now rows count last (Then n mid new was after before_it meter meter' told reads is_next round) some =
+    let (front, asks) = asked_in first secret seen before mid was n before_it reads in
+    let (text, is, puts) = round_puts mid new told told was after round.polled round.kept in
+    record { text = text; is_file = is; front = front; asks = asks_more seen.asked mid.asked new.asked front (Lays text None ∷ Puts None ∷ []) asks puts }
+
+rounds_put : {A : Type 0} {ghosts : Ghosts Memory} (first : Meter Memory A ghosts) (secret : List ℕ) (stops : ℕ) (seen now : Seen) (told told' : Option Error) (before after : List Row)
+    → Rounds {T = Unit {0}} first secret stops seen now told told' before (Ok tt) after → PutsLast seen.asked now.asked after
+rounds_put first secret stops seen now told told' before after (last, reads, untold) = puts_last first secret seen before now after (stops + 1) last reads (omega arith)
 
 keeps_all : (bytes : Option (List ℕ)) → Keeps bytes bytes
 keeps_all None = tt
@@ -60,15 +106,15 @@ keeps_all (Some bytes) = refl
 pub prints_none : (printed : Printed) → PrintsNothing printed printed
 prints_none printed = (adds_none printed.moments, keeps_all printed.bytes)
 
-pub loops : {T : Type 0} (secret : List ℕ) (count : ℕ) (printed printed' : Printed) (after : List Row) (r : Result T LoopFault)
-    → ArePolled secret count after → PrintsText printed printed' after r → IfOk r (λ _. Loops secret count printed printed')
-loops secret count printed printed' after (Ok done) are prints = (after, are, prints)
-loops secret count printed printed' after (Err fault) are prints = tt
+pub loops : {A T : Type 0} (ghosts : Ghosts Memory) (alloc : A) (file : Option (List ℕ)) (secret : List ℕ) (stops : ℕ) (seen seen' : Seen) (told told' : Option Error) (printed printed' : Printed) (after : List Row) (r : Result T LoopFault)
+    → HasPolled ghosts alloc file secret stops seen seen' told told' after → PrintsText printed printed' after r → IfOk r (λ _. Loops ghosts alloc file secret stops seen seen' told told' printed printed')
+loops ghosts alloc file secret stops seen seen' told told' printed printed' after (Ok done) has prints = (after, has, prints)
+loops ghosts alloc file secret stops seen seen' told told' printed printed' after (Err fault) has prints = tt
 
-pub unlooped : {P A T : Type 0} (ghosts : Ghosts P) (alloc : A) (file : Option (List ℕ)) (secret : List ℕ) (stops : ℕ) (seen seen' : Seen) (told told' : Option Error) (printed printed' : Printed) (after : List Row) (r : Result T LoopFault)
-    → ArePolled secret (stops + 1) after → PrintsText printed printed' after r → IfErr r (Unlooped ghosts alloc file secret stops seen seen' told told' printed printed')
-unlooped ghosts alloc file secret stops seen seen' told told' printed printed' after (Ok done) are prints = tt
-unlooped ghosts alloc file secret stops seen seen' told told' printed printed' after (Err fault) are prints = inr (after, are, prints)
+pub unlooped : {A T : Type 0} (ghosts : Ghosts Memory) (alloc : A) (file : Option (List ℕ)) (secret : List ℕ) (stops : ℕ) (seen seen' : Seen) (told told' : Option Error) (printed printed' : Printed) (after : List Row) (r : Result T LoopFault)
+    → HasPolled ghosts alloc file secret stops seen seen' told told' after → PrintsText printed printed' after r → IfErr r (Unlooped ghosts alloc file secret stops seen seen' told told' printed printed')
+unlooped ghosts alloc file secret stops seen seen' told told' printed printed' after (Ok done) has prints = tt
+unlooped ghosts alloc file secret stops seen seen' told told' printed printed' after (Err fault) has prints = inr (after, has, prints)
 
 -- ---- round by round
 
@@ -80,27 +126,39 @@ untold seen seen' told told' before after (Ok done) (kept, keeps, tells) = still
   still (Err why) tells = absurd tells
 untold seen seen' told told' before after (Err fault) kept = absurd (cc kept.0)
 
-module _ {P A : Type 0} {ghosts : Ghosts P} where
-  -- so many rounds went well, and the system said nothing
-  abbrev pub SoFar : Meter P A ghosts → List ℕ → Seen → List Row → Option Error → ℕ → Seen → List Row → Option Error → Type 0
-  SoFar first secret seen before told count now rows told' = Reads first secret seen before count now rows × (told' ≡ told)
+first_is_next : {A : Type 0} {ghosts : Ghosts Memory} (meter : Meter Memory A ghosts) → IsNext 0 meter meter
+first_is_next meter = record { first = λ zero. refl; again = λ none. absurd (omega (arith, none)) }
 
-  pub first_round : (secret : List ℕ) (seen new : Seen) (meter meter' : Meter P A ghosts) (told told' : Option Error) (before after : List Row)
-      → ReadsRows {T = Unit {0}} (plan_from secret (last_clock before)) seen new meter meter' told told' before (Ok tt) after → SoFar meter secret seen before told 1 new after told'
+later_is_next : {A : Type 0} {ghosts : Ghosts Memory} (count : ℕ) (last meter : Meter Memory A ghosts) → GoesAgain last (count + 1) meter → IsNext (count + 1) last meter
+later_is_next count last meter again = record { first = λ none. absurd (omega (arith, none)); again = λ some. again }
+
+module _ {A : Type 0} {ghosts : Ghosts Memory} where
+  -- so many rounds went well, and the system said nothing
+  abbrev pub SoFar : Meter Memory A ghosts → List ℕ → Seen → List Row → Option Error → ℕ → Seen → List Row → Option Error → Meter Memory A ghosts → Type 0
+  SoFar first secret seen before told count now rows told' last = Reads first secret seen before count now rows last × (told' ≡ told)
+
+  pub first_round : (secret : List ℕ) (seen new : Seen) (meter meter' : Meter Memory A ghosts) (told told' : Option Error) (before after : List Row)
+      → ReadsRows {T = Unit {0}} (plan_from secret (last_clock before)) seen new meter meter' told told' before (Ok tt) after → SoFar meter secret seen before told 1 new after told' meter'
   first_round secret seen new meter meter' told told' before after round =
       let same : told' ≡ told = untold seen new told told' before after round.polled round.kept in
       let is = subst (λ (t : Option Error). ReadsRows {T = Unit {0}} (plan_from secret (last_clock before)) seen new meter meter' told t before (Ok tt) after) same round in
-      (Then 0 seen new before after meter meter' told Begun (λ zero. refl) is, same)
+      (Then 0 seen new before after meter meter meter' told Begun (first_is_next meter) is, same)
 
-  pub next_round : (first : Meter P A ghosts) (secret : List ℕ) (seen mid new : Seen) (meter meter' : Meter P A ghosts) (told told' told'' : Option Error) (before rows after : List Row) (count : ℕ)
-      → SoFar first secret seen before told (count + 1) mid rows told' → ReadsRows {T = Unit {0}} (plan_from secret (last_clock rows)) mid new meter meter' told' told'' rows (Ok tt) after
-      → SoFar first secret seen before told (count + 1 + 1) new after told''
-  next_round first secret seen mid new meter meter' told told' told'' before rows after count (reads, was) round =
+  pub next_round : (first : Meter Memory A ghosts) (secret : List ℕ) (seen mid new : Seen) (last meter meter' : Meter Memory A ghosts) (told told' told'' : Option Error) (before rows after : List Row) (count : ℕ)
+      → SoFar first secret seen before told (count + 1) mid rows told' last → GoesAgain last (count + 1) meter
+      → ReadsRows {T = Unit {0}} (plan_from secret (last_clock rows)) mid new meter meter' told' told'' rows (Ok tt) after
+      → SoFar first secret seen before told (count + 1 + 1) new after told'' meter'
+  next_round first secret seen mid new last meter meter' told told' told'' before rows after count (reads, was) again round =
       let same : told'' ≡ told' = untold mid new told' told'' rows after round.polled round.kept in
       let is = subst (λ (t : Option Error). ReadsRows {T = Unit {0}} (plan_from secret (last_clock rows)) mid new meter meter' told' t rows (Ok tt) after) same round in
-      (Then (count + 1) mid new rows after meter meter' told' reads (λ none. absurd (omega (arith, none))) is, same ∙ was)
+      (Then (count + 1) mid new rows after last meter meter' told' reads (later_is_next count last meter again) is, same ∙ was)
 
-  pub first_fails : (secret : List ℕ) (stops : ℕ) (seen new : Seen) (meter meter' : Meter P A ghosts) (told told' : Option Error) (before after : List Row) (fault : LoopFault) (r : Result (Unit {0}) LoopFault)
+  pub all_rounds : (first : Meter Memory A ghosts) (secret : List ℕ) (stops : ℕ) (seen now : Seen) (last : Meter Memory A ghosts) (told told' : Option Error) (before after : List Row) (count : ℕ) → count ≤ stops → stops ≤ count
+      → SoFar first secret seen before told (count + 1) now after told' last → Rounds {T = Unit {0}} first secret stops seen now told told' before (Ok tt) after
+  all_rounds first secret stops seen now last told told' before after count up down (reads, was) =
+      let same : count ≡ stops = omega (arith, up, down) in (last, subst (λ (n : ℕ). Reads first secret seen before (n + 1) now after last) same reads, was)
+
+  pub first_fails : (secret : List ℕ) (stops : ℕ) (seen new : Seen) (meter meter' : Meter Memory A ghosts) (told told' : Option Error) (before after : List Row) (fault : LoopFault) (r : Result (Unit {0}) LoopFault)
       → IsErrAnd r (λ given. given ≡ fault) → ReadsRows {T = Unit {0}} (plan_from secret (last_clock before)) seen new meter meter' told told' before (Err fault) after
       → Rounds meter secret stops seen new told told' before r after
   first_fails secret stops seen new meter meter' told told' before after fault (Ok done) is round = absurd is
@@ -108,47 +166,57 @@ module _ {P A : Type 0} {ghosts : Ghosts P} where
     0,
     seen,
     before,
+    meter,
     Begun,
     omega arith,
     inl
         (record {
           meter = meter;
           meter' = meter';
-          is_first = λ zero. refl;
+          is_next = first_is_next meter;
           reads = subst (λ (f : LoopFault). ReadsRows {T = Unit {0}} (plan_from secret (last_clock before)) seen new meter meter' told told' before (Err f) after) (sym is) round;
         }),
   )
 
-  pub round_fails : (first : Meter P A ghosts) (secret : List ℕ) (stops : ℕ) (seen mid new : Seen) (meter meter' : Meter P A ghosts) (told told' told'' : Option Error) (before rows after : List Row) (count : ℕ) (fault : LoopFault) (r : Result (Unit {0}) LoopFault)
-      → IsErrAnd r (λ given. given ≡ fault) → count < stops → SoFar first secret seen before told (count + 1) mid rows told' → ReadsRows {T = Unit {0}} (plan_from secret (last_clock rows)) mid new meter meter' told' told'' rows (Err fault) after
-      → Rounds first secret stops seen new told told'' before r after
-  round_fails first secret stops seen mid new meter meter' told told' told'' before rows after count fault (Ok done) is below so_far round = absurd is
-  round_fails first secret stops seen mid new meter meter' told told' told'' before rows after count fault (Err given) is below (reads, was) round = (
+  pub round_fails : (first : Meter Memory A ghosts) (secret : List ℕ) (stops : ℕ) (seen mid new : Seen) (last meter meter' : Meter Memory A ghosts) (told told' told'' : Option Error) (before rows after : List Row) (count : ℕ) (fault : LoopFault) (r : Result (Unit {0}) LoopFault)
+      → IsErrAnd r (λ given. given ≡ fault) → count < stops → SoFar first secret seen before told (count + 1) mid rows told' last → GoesAgain last (count + 1) meter
+      → ReadsRows {T = Unit {0}} (plan_from secret (last_clock rows)) mid new meter meter' told' told'' rows (Err fault) after → Rounds first secret stops seen new told told'' before r after
+  round_fails first secret stops seen mid new last meter meter' told told' told'' before rows after count fault (Ok done) is below so_far again round = absurd is
+  round_fails first secret stops seen mid new last meter meter' told told' told'' before rows after count fault (Err given) is below (reads, was) again round = (
     count + 1,
     mid,
     rows,
+    last,
     reads,
     omega (arith, below),
     inl
         (record {
           meter = meter;
           meter' = meter';
-          is_first = λ none. absurd (omega (arith, none));
+          is_next = later_is_next count last meter again;
           reads = subst (λ (t : Option Error). ReadsRows {T = Unit {0}} (plan_from secret (last_clock rows)) mid new meter meter' t told'' rows (Err given) after) was
               (subst (λ (f : LoopFault). ReadsRows {T = Unit {0}} (plan_from secret (last_clock rows)) mid new meter meter' told' told'' rows (Err f) after) (sym is) round);
         }),
   )
 
-  pub stop_fails : (first : Meter P A ghosts) (secret : List ℕ) (stops : ℕ) (seen mid : Seen) (told told' : Option Error) (before rows : List Row) (count : ℕ) (fault : LoopFault) (r : Result (Unit {0}) LoopFault)
-      → IsErrAnd r (λ given. given ≡ fault) → count < stops → SoFar first secret seen before told (count + 1) mid rows told' → IsOfMeter fault → Rounds first secret stops seen mid told told' before r rows
-  stop_fails first secret stops seen mid told told' before rows count fault (Ok done) is below so_far of_meter = absurd is
-  stop_fails first secret stops seen mid told told' before rows count fault (Err given) is below (reads, was) of_meter = (
+  pub stop_fails : (first : Meter Memory A ghosts) (secret : List ℕ) (stops : ℕ) (seen mid : Seen) (last : Meter Memory A ghosts) (told told' : Option Error) (before rows : List Row) (count : ℕ) (fault : LoopFault) (r : Result (Unit {0}) LoopFault)
+      → IsErrAnd r (λ given. given ≡ fault) → count < stops → SoFar first secret seen before told (count + 1) mid rows told' last → StaysAway last (count + 1) fault → Rounds first secret stops seen mid told told' before r rows
+  stop_fails first secret stops seen mid last told told' before rows count fault (Ok done) is below so_far away = absurd is
+  stop_fails first secret stops seen mid last told told' before rows count fault (Err given) is below (reads, was) away = (
     count + 1,
     mid,
     rows,
+    last,
     reads,
     omega (arith, below),
-    inr (record { stopped = omega arith; of_meter = subst IsOfMeter (sym is) of_meter; unseen = refl; untold = was; unread = refl }),
+    inr
+        (record {
+          stopped = omega arith;
+          stays_away = subst (λ (f : LoopFault). StaysAway last (count + 1) f) (sym is) away;
+          unseen = refl;
+          untold = was;
+          unread = refl;
+        }),
   )
 
 -- ---- before the rounds
@@ -157,7 +225,7 @@ held_still : (file : Option (List ℕ)) (asked mid : Option (List Asked)) (told 
 held_still None asked mid told told' (asks, same, is) = (same, (asks, refl, is))
 held_still (Some name) asked mid told told' (asks, same) = (same, (asks, refl))
 
-pub not_opened : {P A : Type 0} (ghosts : Ghosts P) (alloc : A) (file : Option (List ℕ)) (secret : List ℕ) (stops : ℕ) (seen seen' : Seen) (mid : Option (List Asked)) (told told' told'' : Option Error) (fault : LoopFault)
+pub not_opened : {A : Type 0} (ghosts : Ghosts Memory) (alloc : A) (file : Option (List ℕ)) (secret : List ℕ) (stops : ℕ) (seen seen' : Seen) (mid : Option (List Asked)) (told told' told'' : Option Error) (fault : LoopFault)
     → HoldsFile {T = Unit {0}} file seen.asked mid told told' (Ok tt) → OpensReadings mid seen'.asked told' told'' (Err fault) → IsUntouched seen seen' → LoopFails ghosts alloc file secret stops seen seen' told told'' fault
 not_opened ghosts alloc file secret stops seen seen' mid told told' told'' fault holds opens still =
     let (same, held) = held_still file seen.asked mid told told' holds in
@@ -168,8 +236,25 @@ pub has_opened : (file : Option (List ℕ)) (asked mid asked' : Option (List Ask
 has_opened file asked mid asked' told told' told'' rows holds (opens, same) =
     let (before, held) = held_still file asked mid told told' holds in (record { mid = mid; holds = held; opens = opens }, same ∙ before)
 
-pub rounds_fail : {P A : Type 0} (ghosts : Ghosts P) (alloc : A) (file : Option (List ℕ)) (secret : List ℕ) (stops : ℕ) (seen mid seen' : Seen) (told told' told'' : Option Error) (rows after : List Row) (meter : Meter P A ghosts) (fault : LoopFault)
-    → HasOpened file seen.asked mid.asked told rows × (told' ≡ told) → JoinsEnds {T = Unit {0}} seen.head mid.head seen.tail mid.tail (Ok tt) → Rounds {T = Unit {0}} meter secret stops mid seen' told' told'' rows (Err fault) after
-    → LoopFails ghosts alloc file secret stops seen seen' told told'' fault
-rounds_fail ghosts alloc file secret stops seen mid seen' told told' told'' rows after meter fault (opened, same) joins fails =
-    RoundsFail rows after mid meter opened joins (subst (λ (t : Option Error). Rounds {T = Unit {0}} meter secret stops mid seen' t told'' rows (Err fault) after) same fails)
+pub rounds_fail : {A : Type 0} (ghosts : Ghosts Memory) (alloc : A) (file : Option (List ℕ)) (secret : List ℕ) (stops : ℕ) (seen mid seen' : Seen) (told told' told'' : Option Error) (rows after : List Row) (meter : Meter Memory A ghosts) (fault : LoopFault)
+    → HasOpened file seen.asked mid.asked told rows × (told' ≡ told) → IsBegun meter → JoinsEnds {T = Unit {0}} seen.head mid.head seen.tail mid.tail (Ok tt)
+    → Rounds {T = Unit {0}} meter secret stops mid seen' told' told'' rows (Err fault) after → LoopFails ghosts alloc file secret stops seen seen' told told'' fault
+rounds_fail ghosts alloc file secret stops seen mid seen' told told' told'' rows after meter fault (opened, same) begun joins fails =
+    RoundsFail rows after mid meter opened begun joins (subst (λ (t : Option Error). Rounds {T = Unit {0}} meter secret stops mid seen' t told'' rows (Err fault) after) same fails)
+
+pub has_polled : {A : Type 0} (ghosts : Ghosts Memory) (alloc : A) (file : Option (List ℕ)) (secret : List ℕ) (stops : ℕ) (seen mid seen' : Seen) (told told' told'' : Option Error) (rows after : List Row) (meter : Meter Memory A ghosts)
+    → HasOpened file seen.asked mid.asked told rows × (told' ≡ told) → IsBegun meter → JoinsEnds {T = Unit {0}} seen.head mid.head seen.tail mid.tail (Ok tt)
+    → Rounds {T = Unit {0}} meter secret stops mid seen' told' told'' rows (Ok tt) after → HasPolled ghosts alloc file secret stops seen seen' told told'' after
+has_polled ghosts alloc file secret stops seen mid seen' told told' told'' rows after meter (opened, same) begun joins went =
+    let rounds = subst (λ (t : Option Error). Rounds {T = Unit {0}} meter secret stops mid seen' t told'' rows (Ok tt) after) same went in
+    record {
+      rows = rows;
+      mid = mid;
+      first = meter;
+      opened = opened;
+      begun = begun;
+      joined = joins;
+      rounds = rounds;
+      polled = rounds_poll meter secret stops mid seen' told told'' rows after rounds;
+      filed = rounds_put meter secret stops mid seen' told told'' rows after rounds;
+    }

@@ -1,9 +1,9 @@
 -- The rounds of the loopback: polls of a meter, one after another, and what came of each is kept.
-use Rattle.std.specs.Prelude.{◌≡◌, ◌⊎◌, ◌+◌, ◌<◌, ◌≤◌, ℕ, List, [], ◌∷◌, length, Option, Some, None, Result, Ok, Err, IsOk, IfOk, MatchResult}
+use Rattle.std.specs.Prelude.{◌≡◌, ◌⊎◌, ◌+◌, ◌<◌, ◌≤◌, ◌++◌, ℕ, List, [], ◌∷◌, length, Option, Some, None, Result, Ok, Err, IsOk, IfOk, MatchResult}
 use Rattle.std.specs.declared.io.Error.{Error}
 use Rattle.dlms_frame.specs.declared.client.Client.TheVariants.{Management}
 use Rattle.dlms_headend.specs.Asking.{PlanValue}
-use Rattle.dlms_headend.specs.Lines.{text_of}
+use Rattle.dlms_headend.specs.Lines.{IsFile, text_of}
 use Rattle.dlms_headend.specs.Merged.{last_clock, merged}
 use Rattle.dlms_headend.specs.PollerValue.{PollerValue}
 use Rattle.dlms_headend.specs.Polling.{fresh_poll}
@@ -11,22 +11,22 @@ use Rattle.dlms_headend.specs.declared.plan.Columns.TheVariants.{Asked as AsksCo
 use Rattle.dlms_headend.specs.declared.row.Row.{Row}
 use Rattle.dlms_meter.specs.Run.{MeterWorld, Stands}
 use Rattle.dlms_meter.specs.declared.meter.Meter.{Meter}
+use Rattle.dlms_pages.specs.Memory.{Memory}
 use Rattle.dlms_pages.specs.declared.device.Pages.{Ghosts}
-use Rattle.dlms_store.specs.declared.fault.AddFault.{AddFault}
-use Rattle.dlms_store.specs.declared.fault.OpenFault.{OpenFault}
 use Rattle.dlms_ends.specs.BothEnds.{IsDonePoll, Polls}
 use Rattle.dlms_ends.specs.Faults.{IsOfSystem, TellsError}
 use Rattle.dlms_filing.specs.Filing.{Asked, Asks, KeepsRows, OpensRows}
-use Rattle.dlms_filing.specs.Filing.Asked.{Holds}
+use Rattle.dlms_filing.specs.Filing.Asked.{Holds, Lays, Puts}
 use Rattle.dlms_ends.specs.Moments.{Moment, Adds}
 use Rattle.dlms_ends.specs.Moments.Moment.{Joins}
 use Rattle.dlms_filing.specs.Printing.{Printed, Prints, PrintsNothing, PrintsPart}
 use Rattle.dlms_ends.specs.declared.fault.LoopFault.{LoopFault}
-use Rattle.dlms_ends.specs.declared.fault.LoopFault.TheVariants.{Open, Add, Readings, Io, Memory}
+use Rattle.dlms_ends.specs.declared.fault.LoopFault.TheVariants.{Readings, Io, Memory as OutOfMemory}
 use Rattle.dlms_filing.specs.declared.filing.FilingFault.{FilingFault}
 use Rattle.dlms_filing.specs.declared.filing.FilingFault.TheVariants as filing
 use Rattle.dlms_filing.specs.declared.filing.OpeningFault.{OpeningFault}
 use Rattle.dlms_filing.specs.declared.filing.OpeningFault.TheVariants as opening
+use Rattle.dlms_loopback.specs.Stops.{GoesAgain, IsBegun, MakesNone, StaysAway}
 
 -- what is known of the two ends of a line, and of the place of the readings
 pub record Seen : Type 0 where
@@ -42,7 +42,7 @@ plan_from secret after = record { client = Management; secret = secret; after = 
 
 -- what is told of rows that were not kept, and what the system said of the place
 abbrev pub TellsKeeping : Option Error → Option Error → FilingFault → LoopFault → Type 0
-TellsKeeping told told' filing.Memory fault = (told' ≡ told) × (fault ≡ Memory)
+TellsKeeping told told' filing.Memory fault = (told' ≡ told) × (fault ≡ OutOfMemory)
 TellsKeeping told told' filing.Output fault = (told' ≡ told) × (fault ≡ Io)
 TellsKeeping told told' (filing.Place e) fault = (told' ≡ Some e) × TellsError e fault
 
@@ -80,37 +80,40 @@ pub record ReadsRows {P A T : Type 0} {ghosts : Ghosts P} (plan : PlanValue) (se
 
 -- ---- rounds, one after another
 
--- So many polls, each from the last row of the one before on, were done and kept, the first of them of this meter.
-pub data Reads {P A : Type 0} {ghosts : Ghosts P} (first : Meter P A ghosts) (secret : List ℕ) (seen : Seen) (before : List Row) : ℕ → Seen → List Row → Type 0 where
-  Begun : Reads first secret seen before 0 seen before
-  Then : (count : ℕ) (mid new : Seen) (rows after : List Row) (meter meter' : Meter P A ghosts) (told : Option Error) → Reads first secret seen before count mid rows → (count ≡ 0 → meter ≡ first)
-      → ReadsRows {T = Unit {0}} (plan_from secret (last_clock rows)) mid new meter meter' told told rows (Ok tt) after → Reads first secret seen before (count + 1) new after
+-- The meter of the next poll, after so many: the first poll's is this one, and before each other poll the power stopped.
+pub record IsNext {A : Type 0} {ghosts : Ghosts Memory} (count : ℕ) (last meter : Meter Memory A ghosts) : Type 0 where
+  pub first : count ≡ 0 → meter ≡ last
+  pub again : 0 < count → GoesAgain last count meter
 
--- the meter did not come back from a stop, or did not take what it was told then
-abbrev pub IsOfMeter : LoopFault → Type 0
-IsOfMeter fault = ((why : OpenFault) × (fault ≡ Open why)) ⊎ ((why : AddFault) × (fault ≡ Add why))
+-- So many polls were done, each from the last row of the one before on, and what came was kept; the first of them was of this meter. The
+-- last one left the meter so.
+pub data Reads {A : Type 0} {ghosts : Ghosts Memory} (first : Meter Memory A ghosts) (secret : List ℕ) (seen : Seen) (before : List Row) : ℕ → Seen → List Row → Meter Memory A ghosts → Type 0 where
+  Begun : Reads first secret seen before 0 seen before first
+  Then : (count : ℕ) (mid new : Seen) (rows after : List Row) (last meter meter' : Meter Memory A ghosts) (told : Option Error) → Reads first secret seen before count mid rows last → IsNext count last meter
+      → ReadsRows {T = Unit {0}} (plan_from secret (last_clock rows)) mid new meter meter' told told rows (Ok tt) after → Reads first secret seen before (count + 1) new after meter'
 
--- behind so many rounds the next one failed
-pub record RoundFails {P A : Type 0} {ghosts : Ghosts P} (first : Meter P A ghosts) (secret : List ℕ) (count : ℕ) (mid new : Seen) (told told' : Option Error) (rows : List Row) (fault : LoopFault) (after : List Row) : Type 0 where
-  pub meter : Meter P A ghosts
-  pub meter' : Meter P A ghosts
-  pub is_first : count ≡ 0 → meter ≡ first
+-- after so many rounds the next poll failed
+pub record RoundFails {A : Type 0} {ghosts : Ghosts Memory} (secret : List ℕ) (count : ℕ) (mid new : Seen) (told told' : Option Error) (rows : List Row) (last : Meter Memory A ghosts) (fault : LoopFault) (after : List Row) : Type 0 where
+  pub meter : Meter Memory A ghosts
+  pub meter' : Meter Memory A ghosts
+  pub is_next : IsNext count last meter
   pub reads : ReadsRows {T = Unit {0}} (plan_from secret (last_clock rows)) mid new meter meter' told told' rows (Err fault) after
 
--- behind a stop the meter failed
-pub record StopFails (count : ℕ) (mid new : Seen) (told told' : Option Error) (rows : List Row) (fault : LoopFault) (after : List Row) : Type 0 where
+-- after so many rounds, and a stop, the meter did not go on
+pub record StopFails {A : Type 0} {ghosts : Ghosts Memory} (count : ℕ) (mid new : Seen) (told told' : Option Error) (rows : List Row) (last : Meter Memory A ghosts) (fault : LoopFault) (after : List Row) : Type 0 where
   pub stopped : 0 < count
-  pub of_meter : IsOfMeter fault
+  pub stays_away : StaysAway last count fault
   pub unseen : new ≡ mid
   pub untold : told' ≡ told
   pub unread : after ≡ rows
 
--- All rounds went well; or behind some of them one failed, or the meter did behind a stop.
-abbrev pub Rounds : {P A T : Type 0} → {ghosts : Ghosts P} → Meter P A ghosts → List ℕ → ℕ → Seen → Seen → Option Error → Option Error → List Row → Result T LoopFault → List Row → Type 0
-Rounds first secret stops seen new told told' before (Ok done) after = Reads first secret seen before (stops + 1) new after × (told' ≡ told)
-Rounds first secret stops seen new told told' before (Err fault) after =
-    (count : ℕ) × (mid : Seen) × (rows : List Row) × Reads first secret seen before count mid rows × (count ≤ stops)
-    × (RoundFails first secret count mid new told told' rows fault after ⊎ StopFails count mid new told told' rows fault after)
+-- All rounds went well; or after some of them a poll failed, or the meter did after a stop.
+abbrev pub Rounds : {A T : Type 0} → {ghosts : Ghosts Memory} → Meter Memory A ghosts → List ℕ → ℕ → Seen → Seen → Option Error → Option Error → List Row → Result T LoopFault → List Row → Type 0
+Rounds {A} {T} {ghosts} first secret stops seen new told told' before (Ok done) after =
+    (last : Meter Memory A ghosts) × Reads first secret seen before (stops + 1) new after last × (told' ≡ told)
+Rounds {A} {T} {ghosts} first secret stops seen new told told' before (Err fault) after =
+    (count : ℕ) × (mid : Seen) × (rows : List Row) × (last : Meter Memory A ghosts) × Reads first secret seen before count mid rows last × (count ≤ stops)
+    × (RoundFails secret count mid new told told' rows last fault after ⊎ StopFails count mid new told told' rows last fault after)
 
 -- the polls of such rounds: each is done, from the last row on, and its rows are merged
 abbrev pub Polled : List ℕ → List PollerValue → List Row → List Row → Type 0
@@ -123,18 +126,13 @@ Polled secret (done ∷ polls) before after = (mid : List Row) × Polled secret 
 abbrev pub PrintsText : {T : Type 0} → Printed → Printed → List Row → Result T LoopFault → Type 0
 PrintsText printed printed' rows (Ok done) = Prints printed printed' (text_of rows)
 PrintsText printed printed' rows (Err fault) =
-    ((fault ≡ Memory) × (0 < length rows) × PrintsNothing printed printed') ⊎ (IsOfSystem fault × PrintsPart printed printed' (text_of rows))
+    ((fault ≡ OutOfMemory) × (0 < length rows) × PrintsNothing printed printed') ⊎ (IsOfSystem fault × PrintsPart printed printed' (text_of rows))
 
--- these are readings that so many such polls, the last one first, have led to
-pub record ArePolled (secret : List ℕ) (count : ℕ) (after : List Row) : Type 0 where
-  pub before : List Row
+-- these readings are what so many polls, the last one first, have added to those of before
+pub record ArePolled (secret : List ℕ) (count : ℕ) (before after : List Row) : Type 0 where
   pub polls : List PollerValue
   pub counted : length polls ≡ count
   pub polled : Polled secret polls before after
-
--- A loopback: so many polls were done, and what the readings then are was printed.
-abbrev pub Loops : List ℕ → ℕ → Printed → Printed → Type 0
-Loops secret count printed printed' = (after : List Row) × ArePolled secret count after × Prints printed printed' (text_of after)
 
 -- ---- what it fails for
 
@@ -149,33 +147,55 @@ abbrev pub JoinsEnds : {T : Type 0} → (head head' tail tail' : Option (List Mo
 JoinsEnds head head' tail tail' (Ok done) = Adds head head' (Joins None ∷ []) × Adds tail tail' (Joins None ∷ [])
 JoinsEnds head head' tail tail' (Err fault) = (error : Error) × Adds head head' (Joins (Some error) ∷ []) × Adds tail tail' (Joins (Some error) ∷ []) × TellsError error fault
 
--- no new meter was made: memory ran out, or it did not take what it was told
-abbrev pub MakesNone : LoopFault → Type 0
-MakesNone fault = (fault ≡ Memory) ⊎ IsOfMeter fault
-
 -- the file is held, and these rows stand there
 pub record HasOpened (file : Option (List ℕ)) (asked asked' : Option (List Asked)) (told : Option Error) (rows : List Row) : Type 0 where
   pub mid : Option (List Asked)
   pub holds : HoldsFile {T = Unit {0}} file asked mid told told (Ok tt)
   pub opens : OpensRows mid asked' (Ok rows)
 
+-- the last that was asked of the place was to put the text of these rows there, and that went well
+pub record PutsLast (asked asked' : Option (List Asked)) (rows : List Row) : Type 0 where
+  pub text : List ℕ
+  pub is_file : IsFile text rows
+  pub front : List Asked
+  pub asks : Asks asked asked' (front ++ Lays text None ∷ Puts None ∷ [])
+
+-- The rounds of a loopback that went well: the named file was held and these rows stood there; a new meter was made; the two ends of this
+-- line were joined; and so many rounds were done over them and kept in that file, the first of them of that meter.
+pub record HasPolled {A : Type 0} (ghosts : Ghosts Memory) (alloc : A) (file : Option (List ℕ)) (secret : List ℕ) (stops : ℕ) (seen seen' : Seen) (told told' : Option Error) (after : List Row) : Type 0 where
+  pub rows : List Row
+  pub mid : Seen
+  pub first : Meter Memory A ghosts
+  pub opened : HasOpened file seen.asked mid.asked told rows
+  pub begun : IsBegun first
+  pub joined : JoinsEnds {T = Unit {0}} seen.head mid.head seen.tail mid.tail (Ok tt)
+  pub rounds : Rounds {T = Unit {0}} first secret stops mid seen' told told' rows (Ok tt) after
+  pub polled : ArePolled secret (stops + 1) rows after
+  pub filed : PutsLast mid.asked seen'.asked after
+
+-- A loopback: its rounds went well, and what the readings then are was printed.
+abbrev pub Loops : {A : Type 0} → Ghosts Memory → A → Option (List ℕ) → List ℕ → ℕ → Seen → Seen → Option Error → Option Error → Printed → Printed → Type 0
+Loops ghosts alloc file secret stops seen seen' told told' printed printed' =
+    (after : List Row) × HasPolled ghosts alloc file secret stops seen seen' told told' after × Prints printed printed' (text_of after)
+
 -- nothing happened at the line
 abbrev pub IsUntouched : Seen → Seen → Type 0
 IsUntouched seen seen' = (seen'.head ≡ seen.head) × (seen'.tail ≡ seen.tail)
 
 -- Why it fails: the file could not be held; no readings were opened there; no meter was made; the ends were not joined; or a round failed.
-pub data LoopFails {P A : Type 0} (ghosts : Ghosts P) (alloc : A) (file : Option (List ℕ)) (secret : List ℕ) (stops : ℕ) (seen seen' : Seen) (told told' : Option Error) (fault : LoopFault) : Type 0 where
+pub data LoopFails {A : Type 0} (ghosts : Ghosts Memory) (alloc : A) (file : Option (List ℕ)) (secret : List ℕ) (stops : ℕ) (seen seen' : Seen) (told told' : Option Error) (fault : LoopFault) : Type 0 where
   NotHeld : HoldsFile {T = Unit {0}} file seen.asked seen'.asked told told' (Err fault) → IsUntouched seen seen' → LoopFails ghosts alloc file secret stops seen seen' told told' fault
   NotOpened : (mid : Option (List Asked)) → HoldsFile {T = Unit {0}} file seen.asked mid told told (Ok tt) → OpensReadings mid seen'.asked told told' (Err fault) → IsUntouched seen seen'
       → LoopFails ghosts alloc file secret stops seen seen' told told' fault
-  NoMeter : (rows : List Row) → HasOpened file seen.asked seen'.asked told rows → MakesNone fault → IsUntouched seen seen' → told' ≡ told → LoopFails ghosts alloc file secret stops seen seen' told told' fault
+  NoMeter : (rows : List Row) → HasOpened file seen.asked seen'.asked told rows → MakesNone ghosts alloc fault → IsUntouched seen seen' → told' ≡ told → LoopFails ghosts alloc file secret stops seen seen' told told' fault
   NotJoined : (rows : List Row) → HasOpened file seen.asked seen'.asked told rows → JoinsEnds {T = Unit {0}} seen.head seen'.head seen.tail seen'.tail (Err fault) → told' ≡ told
       → LoopFails ghosts alloc file secret stops seen seen' told told' fault
-  RoundsFail : (rows after : List Row) (mid : Seen) (meter : Meter P A ghosts) → HasOpened file seen.asked mid.asked told rows → JoinsEnds {T = Unit {0}} seen.head mid.head seen.tail mid.tail (Ok tt)
-      → Rounds {T = Unit {0}} meter secret stops mid seen' told told' rows (Err fault) after → LoopFails ghosts alloc file secret stops seen seen' told told' fault
+  RoundsFail : (rows after : List Row) (mid : Seen) (meter : Meter Memory A ghosts) → HasOpened file seen.asked mid.asked told rows → IsBegun meter
+      → JoinsEnds {T = Unit {0}} seen.head mid.head seen.tail mid.tail (Ok tt) → Rounds {T = Unit {0}} meter secret stops mid seen' told told' rows (Err fault) after
+      → LoopFails ghosts alloc file secret stops seen seen' told told' fault
 
--- Or it failed so, and nothing was printed; or all polls were done, and memory ran out for the text of the readings, or the output failed.
-abbrev pub Unlooped : {P A : Type 0} → Ghosts P → A → Option (List ℕ) → List ℕ → ℕ → Seen → Seen → Option Error → Option Error → Printed → Printed → LoopFault → Type 0
+-- It failed so, and nothing was printed; or its rounds went well, and memory ran out for the text of the readings, or the output failed.
+abbrev pub Unlooped : {A : Type 0} → Ghosts Memory → A → Option (List ℕ) → List ℕ → ℕ → Seen → Seen → Option Error → Option Error → Printed → Printed → LoopFault → Type 0
 Unlooped ghosts alloc file secret stops seen seen' told told' printed printed' fault =
     (LoopFails ghosts alloc file secret stops seen seen' told told' fault × PrintsNothing printed printed')
-    ⊎ ((rows : List Row) × ArePolled secret (stops + 1) rows × PrintsText {T = Unit {0}} printed printed' rows (Err fault))
+    ⊎ ((rows : List Row) × HasPolled ghosts alloc file secret stops seen seen' told told' rows × PrintsText {T = Unit {0}} printed printed' rows (Err fault))

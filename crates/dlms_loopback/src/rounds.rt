@@ -4,7 +4,8 @@ ghost use Rattle.std.specs.Prelude.{◌≡◌, ◌≤◌, ◌+◌, Some, IfErr, 
 ghost use Rattle.dlms_headend.specs.Merged.{last_clock};
 ghost use Rattle.dlms_headend.specs.Polling.{fresh_poll};
 ghost use Rattle.dlms_ends.specs.Faults.{TellsError};
-ghost use Rattle.dlms_loopback.specs.Rounds.{ArePolled, HoldsFile, IsOfMeter, JoinsEnds, LoopFails, Loops, MakesNone, OpensReadings, PrintsText, ReadsRows, Rounds, Seen, TellsKept, Unlooped, plan_from};
+ghost use Rattle.dlms_loopback.specs.Rounds.{HasPolled, HoldsFile, JoinsEnds, LoopFails, Loops, OpensReadings, PrintsText, ReadsRows, Rounds, Seen, TellsKept, Unlooped, plan_from};
+ghost use Rattle.dlms_loopback.specs.Stops.{ComesBack, IsBegun, IsUnopened, MakesNone, Restarts, TakesAll, events_after, first_events};
 
 use crate::socket::{Joining, Line};
 use arrayvec::ArrayVec;
@@ -107,7 +108,7 @@ fn print<O: Output>(readings: &Readings, output: &mut O) -> Result<(), LoopFault
 
 /// Counts 42 pulses on channel 0, and captures twice.
 fn start(meter: &mut MemoryMeter) -> Result<(), LoopFault>
-    ensures { IfErr result IsOfMeter }
+    ensures { TakesAll meter.old meter.new first_events result }
 {
     meter.pulses(0, 42)?;
     meter.moment(PERIOD)?;
@@ -118,7 +119,7 @@ fn start(meter: &mut MemoryMeter) -> Result<(), LoopFault>
 /// A new meter with 42 pulses on channel 0 and two captures.
 #[inline(never)]
 fn new_meter(alloc: Global) -> Result<MemoryMeter, LoopFault>
-    ensures { IfErr result MakesNone }
+    ensures { MatchResult result IsBegun (MakesNone ⟦<MemoryPages<Global> as Pages>⟧ alloc) }
 {
     let pages = MemoryPages::new(alloc, PAGES)?;
     let mut meter = match Meter::format(alloc, pages) {
@@ -139,24 +140,35 @@ fn new_meter(alloc: Global) -> Result<MemoryMeter, LoopFault>
 
 /// Counts one more pulse, and captures once more.
 fn go_on(meter: &mut MemoryMeter, round: u8) -> Result<(), LoopFault>
-    ensures { IfErr result IsOfMeter }
+    ensures { TakesAll meter.old meter.new (events_after round) result }
 {
     meter.pulses(0, 1)?;
     meter.moment((2 + u32::from(round)) * PERIOD)?;
     Ok(())
 }
 
+/// The meter as it comes back from a stop of the power: what its device had not synced is lost, and its links are down.
+#[inline(never)]
+fn come_back(alloc: Global, meter: MemoryMeter) -> Result<MemoryMeter, LoopFault>
+    ensures { MatchResult result (ComesBack meter) (IsUnopened meter) }
+{
+    match Meter::recover(alloc, meter.close().cut(Pick::AllOld)) {
+        Ok(meter) => Ok(meter),
+        Err((pages, fault)) => {
+            drop(pages);
+            Err(LoopFault::Open(fault))
+        }
+    }
+}
+
 /// The meter as it comes back from a stop of the power, with one more pulse and one more capture.
 #[inline(never)]
 fn stopped(alloc: Global, meter: MemoryMeter, round: u8) -> Result<MemoryMeter, LoopFault>
-    ensures { IfErr result IsOfMeter }
+    ensures { Restarts meter round result }
 {
-    let mut meter = match Meter::recover(alloc, meter.close().cut(Pick::AllOld)) {
+    let mut meter = match come_back(alloc, meter) {
         Ok(meter) => meter,
-        Err((pages, fault)) => {
-            drop(pages);
-            return Err(LoopFault::Open(fault));
-        }
+        Err(why) => return Err(why),
     };
     match go_on(&mut meter, round) {
         Ok(()) => Ok(meter),
@@ -230,10 +242,14 @@ fn polled<F: Holding, S: Joining>(
     stops: u8,
     told: &mut Option<io::Error>,
 ) -> Result<Readings, LoopFault>
-    ensures polled { IfOk result (ArePolled SECRET.now (stops + 1)) }
+    ensures polled { let before : Seen = record { head = S.past line.old.head; tail = S.past line.old.tail; asked = F.asked place.old } in
+        let after : Seen = record { head = S.past line.new.head; tail = S.past line.new.tail; asked = F.asked place.new } in
+        let name = option_map (λ x. x.now) file.entry in
+        IfOk result (HasPolled ⟦<MemoryPages<Global> as Pages>⟧ alloc name SECRET.now stops before after told.old told.new) }
     ensures fails { let before : Seen = record { head = S.past line.old.head; tail = S.past line.old.tail; asked = F.asked place.old } in
         let after : Seen = record { head = S.past line.new.head; tail = S.past line.new.tail; asked = F.asked place.new } in
-        IfErr result (LoopFails ⟦<MemoryPages<Global> as Pages>⟧ alloc (option_map (λ x. x.now) file.entry) SECRET.now stops before after told.old told.new) }
+        let name = option_map (λ x. x.now) file.entry in
+        IfErr result (LoopFails ⟦<MemoryPages<Global> as Pages>⟧ alloc name SECRET.now stops before after told.old told.new) }
 {
     match held(place, file, told) {
         Ok(()) => {}
@@ -271,10 +287,16 @@ pub fn loopback<F: Holding, S: Joining, O: Output>(
     output: &mut O,
     told: &mut Option<io::Error>,
 ) -> Result<(), LoopFault>
-    ensures loops { IfOk result (λ _. Loops SECRET.now (stops + 1) (O.printed output.old) (O.printed output.new)) }
+    ensures loops { let before : Seen = record { head = S.past line.old.head; tail = S.past line.old.tail; asked = F.asked place.old } in
+        let after : Seen = record { head = S.past line.new.head; tail = S.past line.new.tail; asked = F.asked place.new } in
+        let name = option_map (λ x. x.now) file.entry in
+        IfOk result (λ _. Loops ⟦<MemoryPages<Global> as Pages>⟧ alloc name SECRET.now stops before after told.old told.new
+        (O.printed output.old) (O.printed output.new)) }
     ensures fails { let before : Seen = record { head = S.past line.old.head; tail = S.past line.old.tail; asked = F.asked place.old } in
         let after : Seen = record { head = S.past line.new.head; tail = S.past line.new.tail; asked = F.asked place.new } in
-        IfErr result (Unlooped ⟦<MemoryPages<Global> as Pages>⟧ alloc (option_map (λ x. x.now) file.entry) SECRET.now stops before after told.old told.new (O.printed output.old) (O.printed output.new)) }
+        let name = option_map (λ x. x.now) file.entry in
+        IfErr result (Unlooped ⟦<MemoryPages<Global> as Pages>⟧ alloc name SECRET.now stops before after told.old told.new
+        (O.printed output.old) (O.printed output.new)) }
 {
     match polled(alloc, place, line, file, stops, told) {
         Ok(readings) => print(&readings, output),

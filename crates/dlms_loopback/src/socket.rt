@@ -1,6 +1,6 @@
 //! A line of this machine with itself.
 
-ghost use Rattle.std.specs.Prelude.{[], ◌∷◌};
+ghost use Rattle.std.specs.Prelude.{◌≡◌, ◌≢◌, [], ◌∷◌, MatchOption};
 ghost use Rattle.dlms_filing.specs.Filing.{error_in};
 ghost use Rattle.dlms_ends.specs.Moments.{Adds};
 ghost use Rattle.dlms_ends.specs.Moments.Moment.{Joins};
@@ -91,6 +91,14 @@ impl<R: Net> Joining for Socket<'_, R> {
     }
 }
 
+/// The end that was accepted, if it is the one whose own address this is. Any other connection is closed.
+fn own_end<S: Drop>(accepted: (S, SocketAddr), own: SocketAddr) -> Option<S>
+    ensures { MatchOption result (accepted.1 ≢ own) (λ tail. (accepted.1 ≡ own) × (tail ≡ accepted.0)) }
+{
+    let (tail, peer) = accepted;
+    if peer == own { Some(tail) } else { None }
+}
+
 /// Both ends of one TCP connection of this program with itself, over a port of the loopback that the system chooses; the
 /// port is closed again when this returns. Whoever else connects there is sent away.
 pub fn ends<R: Net>(rt: &R) -> io::Result<Line<R::Stream>> {
@@ -99,8 +107,7 @@ pub fn ends<R: Net>(rt: &R) -> io::Result<Line<R::Stream>> {
     let head = TcpStream::connect(rt, listener.local_addr()?)?;
     let own = head.local_addr()?;
     for _ in 0..STRANGERS {
-        let (tail, peer) = listener.accept()?;
-        if peer == own {
+        if let Some(tail) = own_end(listener.accept()?, own) {
             refuse_standard(head.as_raw_fd())?;
             refuse_standard(tail.as_raw_fd())?;
             prepare(&head)?;

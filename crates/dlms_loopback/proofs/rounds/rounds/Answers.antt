@@ -1,5 +1,5 @@
 use Rattle.dlms_loopback.specs.declared.rounds.TheConstants.{SECRET}
-use Rattle.dlms_loopback.proofs.RoundLemmas.{first_fails, first_round, next_round, round_fails, stop_fails}
+use Rattle.dlms_loopback.proofs.RoundLemmas.{all_rounds, first_fails, first_round, next_round, round_fails, stop_fails}
 use Rattle.dlms_loopback.proofs.rounds.rounds.Goals as goal
 
 pub returns-in_err-read : goal.returns-in_err-read
@@ -10,13 +10,16 @@ stops-init g c = first_round SECRET.now _ _ c.args.meter c.read.new.meter _ _ _ 
 
 pub returns-in_err-meter : goal.returns-in_err-meter
 returns-in_err-meter g c =
-    stop_fails c.args.meter SECRET.now c.args.stops _ _ _ _ _ _ c.stops.round c.in_err-meter.field-0.0 c.from_residual-in_err-meter.result c.from_residual-in_err-meter.ensures.1 c.stops-test.true c.stops.invariant
-    c.in_err-meter.ensures
+    stop_fails c.args.meter SECRET.now c.args.stops _ _ c.stops.meter _ _ _ _ c.stops.round c.in_err-meter.field-0.0 c.from_residual-in_err-meter.result c.from_residual-in_err-meter.ensures.1 c.stops-test.true
+    c.stops.invariant c.in_err-meter.ensures
 
 pub returns-in_err-read-2 : goal.returns-in_err-read-2
 returns-in_err-read-2 g c =
-    round_fails c.args.meter SECRET.now c.args.stops _ _ _ c.in_ok-meter.meter c.read-in-stops.new.meter _ _ _ _ _ _ c.stops.round c.in_err-read-2.field-0.0 c.from_residual-in_err-read-2.result
-    c.from_residual-in_err-read-2.ensures.1 c.stops-test.true c.stops.invariant c.in_err-read-2.ensures
+    round_fails c.args.meter SECRET.now c.args.stops _ _ _ c.stops.meter c.in_ok-meter.meter c.read-in-stops.new.meter _ _ _ _ _ _ c.stops.round c.in_err-read-2.field-0.0 c.from_residual-in_err-read-2.result
+    c.from_residual-in_err-read-2.ensures.1 c.stops-test.true c.stops.invariant c.in_ok-meter.ensures c.in_err-read-2.ensures
 
 pub stops-preserved : goal.stops-preserved
-stops-preserved g c = next_round c.args.meter SECRET.now _ _ _ c.in_ok-meter.meter c.read-in-stops.new.meter _ _ _ _ _ _ c.stops.round c.stops.invariant c.in_ok-read-2.ensures
+stops-preserved g c = next_round c.args.meter SECRET.now _ _ _ c.stops.meter c.in_ok-meter.meter c.read-in-stops.new.meter _ _ _ _ _ _ c.stops.round c.stops.invariant c.in_ok-meter.ensures c.in_ok-read-2.ensures
+
+pub returns : goal.returns
+returns g c = all_rounds c.args.meter SECRET.now c.args.stops _ _ c.stops.meter _ _ _ _ c.stops.round c.stops.auto.round-end c.stops-test.false c.stops.invariant

@@ -8,4 +8,4 @@ abbrev pub invariant-stops : goal.invariant-stops
 invariant-stops g l =
     let seen : Seen = record { head = g.S.End.past l.fn.line.head; tail = g.S.End.past l.fn.line.tail; asked = g.F.Filing.asked l.fn.place } in
     let now : Seen = record { head = g.S.End.past l.line.head; tail = g.S.End.past l.line.tail; asked = g.F.Filing.asked l.place } in
-    SoFar l.fn.meter SECRET.now seen l.fn.readings l.fn.told (l.round + 1) now l.readings l.told
+    SoFar l.fn.meter SECRET.now seen l.fn.readings l.fn.told (l.round + 1) now l.readings l.told l.meter
