@@ -27,7 +27,7 @@
 extern "C" {
 #endif
 
-/* What a call answers. Up to DLMS_SEND nothing went wrong. */
+/* What a call returns. Up to DLMS_SEND nothing went wrong. */
 enum dlms_code {
     DLMS_DONE = 0,
     DLMS_NOTHING = 1,        /* no reply, no page, no frame, no row */
@@ -35,15 +35,15 @@ enum dlms_code {
     DLMS_SYNC = 3,           /* what was written is to outlast a stop */
     DLMS_SEND = 4,           /* a frame is to be sent */
 
-    DLMS_EMPTY = 16,         /* the handle is empty */
-    DLMS_FULL = 17,          /* the handle is full */
+    DLMS_EMPTY = 16,         /* the handle is empty: nothing was done */
+    DLMS_FULL = 17,          /* the handle is full, and keeps what it holds */
     DLMS_SHORT = 18,         /* the caller's room is too short: nothing was done */
     DLMS_PAGES = 19,         /* pages wait: dlms_meter_page first. Nothing was done */
-    DLMS_LOST = 20,          /* a page could not be written or synced: free the meter, and recover it */
-    DLMS_CLOSED = 21,        /* the meter is closed */
-    DLMS_ARGUMENT = 22,      /* an argument is none that the call takes */
+    DLMS_LOST = 20,          /* dlms_meter_page_failed was called: free the meter, and recover it. Nothing was done */
+    DLMS_CLOSED = 21,        /* dlms_meter_close was called. Nothing was done */
+    DLMS_ARGUMENT = 22,      /* an argument is invalid. Nothing was done */
 
-    DLMS_MEMORY = 32,        /* want of memory */
+    DLMS_MEMORY = 32,        /* out of memory */
     DLMS_DEVICE = 33,        /* the queue of pages is full, or has no memory: free the meter, and recover it */
     DLMS_STOPPED = 34,       /* as DLMS_DEVICE, in an earlier call */
     DLMS_EXHAUSTED = 35,     /* no further generation, or number of a row */
@@ -118,8 +118,8 @@ uint32_t dlms_explain_apdu(const uint8_t *apdu, size_t length, uint8_t side, cha
  *     page, until DLMS_NOTHING                             DLMS_WRITE: write the slot at 544 * index; DLMS_SYNC: sync the file
  *     reply                                                the frame that is to be sent
  *
- * Until then every other call answers DLMS_PAGES and does nothing, and no reply is given. So a stop between is a stop within the
- * call: what a reply has told outlasts it. That holds where
+ * Until then feed, pulses, moment, hang_up, reply and close return DLMS_PAGES and do nothing. So a stop between is a stop within the
+ * call: what a reply has told outlasts it. That holds if
  *
  *   - EACH WRITE AND SYNC IS DONE, IN ITS ORDER, BEFORE THE NEXT IS TAKEN AND BEFORE THE REPLY IS SENT;
  *   - A SYNC THAT RETURNS MAKES ALL EARLIER WRITES OUTLAST A STOP, AND A STOP LEAVES OF A SLOT THAT WAS NOT SYNCED THE OLD OCTETS,
@@ -131,6 +131,15 @@ uint32_t dlms_explain_apdu(const uint8_t *apdu, size_t length, uint8_t side, cha
 
 typedef struct { void *at; bool is_full; } dlms_meter;
 
+/* A call of a full handle is refused, and nothing is done, for the first of these causes, and for no other:
+ *
+ *     DLMS_LOST     dlms_meter_page_failed was called      feed, pulses, moment, idle, hang_up, page, reply, close
+ *     DLMS_PAGES    writes or syncs wait                   feed, pulses, moment, hang_up, reply, close
+ *     DLMS_CLOSED   dlms_meter_close was called            feed, pulses, moment, idle, hang_up, close, state
+ *
+ * Before these, page has DLMS_SHORT. After them, reply has DLMS_NOTHING and DLMS_SHORT, and pulses and moment have the codes of an
+ * event: DLMS_DEVICE, DLMS_STOPPED, DLMS_EXHAUSTED, DLMS_BACK, DLMS_RANGE and DLMS_CHANNEL. */
+
 typedef struct {
     uint32_t active_import, active_export, reactive_import;
     uint32_t second;    /* the clock, counted from 2000-01-01 00:00:00 */
@@ -139,8 +148,9 @@ typedef struct {
 } dlms_meter_state_values;
 
 /* A meter in which nothing has happened, or with every event that these slots hold (at least DLMS_SLOTS octets, else DLMS_SIZE), in
- * an empty handle. With another code than DLMS_DONE the handle is empty, and what waited is gone: the file is as it was. `new` has
- * DLMS_MEMORY and DLMS_DEVICE, `recover` also DLMS_NO_CHECKPOINT, DLMS_CORRUPT and DLMS_EXHAUSTED, each for what stands there. */
+ * an empty handle. DLMS_FULL leaves a full one as it is. With every other code but DLMS_DONE the handle is empty, and nothing waits:
+ * the file is as it was. `new` has DLMS_MEMORY and DLMS_DEVICE, `recover` also DLMS_NO_CHECKPOINT, DLMS_CORRUPT and DLMS_EXHAUSTED,
+ * each for what the slots hold. */
 uint32_t dlms_meter_new(dlms_meter *meter);
 uint32_t dlms_meter_recover(dlms_meter *meter, const uint8_t *slots, size_t length);
 
@@ -157,18 +167,20 @@ uint32_t dlms_meter_idle(dlms_meter *meter);
 
 /* Ends every client's link, and with it association and transfers; half a frame is forgotten, and no reply is left. To be called
  * BEFORE THE FIRST OCTET OF A CONNECTION AND BEHIND ITS LAST ONE: ELSE THE NEXT ONE GOES ON WITH WHAT THIS ONE OPENED. It writes and
- * syncs nothing. DLMS_PAGES while pages wait, DLMS_LOST, DLMS_CLOSED: nothing was done. */
+ * syncs nothing. */
 uint32_t dlms_meter_hang_up(dlms_meter *meter);
 
-/* The next write (DLMS_WRITE: index and slot) or sync (DLMS_SYNC) that is to be done, or DLMS_NOTHING. `room` is at least
- * DLMS_SLOT, else DLMS_SHORT. */
+/* The next write (DLMS_WRITE: index and slot) or sync (DLMS_SYNC) that is to be done, or DLMS_NOTHING if none waits. `room` is at
+ * least DLMS_SLOT, else DLMS_SHORT. A closed meter hands out its last pages too. */
 uint32_t dlms_meter_page(dlms_meter *meter, uint16_t *index, uint8_t *slot, size_t room);
 uint32_t dlms_meter_page_failed(dlms_meter *meter);
 
-/* The reply to the frame that was fed last, once; DLMS_NOTHING where there is none. DLMS_SHORT leaves it, and `size` says how much
- * room it needs (DLMS_FRAME is enough for each). A reply that was not asked for is gone with the next frame. */
+/* The reply to the frame that was fed last, once; DLMS_NOTHING if there is none, as after a close. DLMS_SHORT leaves it, and `size`
+ * says how much room it needs (DLMS_FRAME is enough for each); with every other code but DLMS_DONE `size` is 0. A reply that was not
+ * asked for is gone with the next frame. */
 uint32_t dlms_meter_reply(dlms_meter *meter, uint8_t *frame, size_t room, size_t *size);
 
+/* What the meter shows. With another code than DLMS_DONE `state` is left as it was. */
 uint32_t dlms_meter_state(dlms_meter *meter, dlms_meter_state_values *state);
 
 /* Settles what is pending; its pages are still to be done. Then `free`. Without it pulses that no answer has told may be lost.
@@ -192,22 +204,27 @@ typedef struct {
     uint32_t active_import, active_export, reactive_import;
 } dlms_row;
 
-/* Makes a poller in an empty handle. The secret has at most 16 octets; the public client sends none. DLMS_ARGUMENT for
- * another client, a longer secret or a second that no clock has. */
+/* Makes a poller of exactly this plan and secret, in an empty handle. The secret has at most 16 octets; the public client sends none.
+ * DLMS_ARGUMENT for another client, a longer secret, or with `has_after` a second that no clock has (above 3,155,759,999); else
+ * DLMS_DONE, or DLMS_MEMORY. With another code than DLMS_DONE the handle is as it was. */
 uint32_t dlms_poller_new(dlms_poller *poller, const dlms_poll_plan *plan, const uint8_t *secret, size_t secret_length);
 
-/* The first frame (DLMS_SEND), once; then DLMS_NOTHING. `room` is at least DLMS_FRAME, else DLMS_SHORT. */
+/* The first frame (DLMS_SEND), once; then DLMS_NOTHING. `room` is at least DLMS_FRAME, else DLMS_SHORT. Here and below `size` is 0
+ * with another code than DLMS_SEND, and `number` is 0 with another than DLMS_DENIED and DLMS_RESULT. */
 uint32_t dlms_poller_next(dlms_poller *poller, uint8_t *frame, size_t room, size_t *size);
 
 /* Takes octets that came from the meter through at most one frame: `taken` says how many; call it again with the others.
- * DLMS_NOTHING, DLMS_SEND with the next frame, DLMS_DONE when the rows are there and the link is down, or why the poll failed. */
+ * DLMS_NOTHING, DLMS_SEND with the next frame, DLMS_DONE when the rows are there and the link is down, or why the poll failed:
+ * DLMS_DENIED, DLMS_RESULT, DLMS_PROTOCOL, DLMS_COLUMNS, or DLMS_MEMORY for an answer that needs memory for its rows. A poll that
+ * failed returns the same code for each further frame. */
 uint32_t dlms_poller_on(dlms_poller *poller, const uint8_t *octets, size_t length, size_t *taken,
                         uint8_t *frame, size_t room, size_t *size, uint8_t *number);
 
-/* Nothing came for as long as the caller waits: the frame goes again (DLMS_SEND); the fourth time in a row it is DLMS_LINE. */
+/* Nothing came for as long as the caller waits: the frame goes again (DLMS_SEND); the fourth time in a row it is DLMS_LINE.
+ * DLMS_NOTHING if no frame is out; if the poll has failed, its code again. */
 uint32_t dlms_poller_timeout(dlms_poller *poller, uint8_t *frame, size_t room, size_t *size, uint8_t *number);
 
-/* How many rows there are, and the row of an index. */
+/* How many rows there are, and the row of an index; DLMS_NOTHING if there is none, and `row` is left as it was. */
 uint32_t dlms_poller_rows(dlms_poller *poller, size_t *count);
 uint32_t dlms_poller_row(dlms_poller *poller, size_t index, dlms_row *row);
 

@@ -3,4 +3,5 @@ mod MeterValues
 mod Openings
 mod Places
 mod PollerValues
+mod Refusals
 mod Values

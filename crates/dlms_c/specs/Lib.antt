@@ -5,4 +5,5 @@ pub mod Meter
 pub mod Opening
 pub mod Place
 pub mod Poll
+pub mod Refusal
 pub mod Text

@@ -1,7 +1,8 @@
--- What the calls of a kept meter do: what its store wrote and synced in a call is handed out before the call's reply, and
--- before the next call.
-use Rattle.std.specs.Prelude.{◌≡◌, ◌≢◌, ◌<◌, ◌≤◌, ℕ, true, false, List, [], ◌∷◌, ◌++◌, Option, Some, None, Result, ◌⊎◌, ◌↔◌, length, take, IfSome, IfNone, IsSome, option_map}
-use Rattle.rtrb.specs.Ring.{known_items, received}
+-- What the calls of a kept meter do. What its store wrote and synced in a call is handed out before the call's reply, and before the
+-- next call.
+use Rattle.std.specs.Prelude.{◌≡◌, ◌≢◌, ◌<◌, ◌≤◌, ℕ, true, false, List, [], ◌∷◌, ◌++◌, Option, Some, None, Result, ◌⊎◌, ◌↔◌, length, take, IfSome, IfNone, MatchOption, option_map}
+use mathlib.Core.List.{IsPrefix}
+use Rattle.rtrb.specs.Ring.{ConsumerLooked, SameConsumer, known_items, received}
 use Rattle.dlms_meter.specs.Run.{Feeds, Judges, MeterWorld, Stands, events_of, silent}
 use Rattle.dlms_meter.specs.declared.meter.Meter.{Meter}
 use Rattle.dlms_pages.specs.declared.device.Pages.{Ghosts}
@@ -15,6 +16,8 @@ use Rattle.dlms_store.specs.World.StoreStep.{Closes as Closing}
 use Rattle.dlms_store.specs.World.StoreWorld.{Runs}
 use Rattle.dlms_store.specs.declared.fault.AddFault.{AddFault}
 use Rattle.dlms_c.specs.Codes.{add_code}
+use Rattle.dlms_c.specs.Refusal.{closed_code, idle_refusal_of, refusal_of, reply_refusal_of}
+use Rattle.dlms_c.specs.declared.codes.TheConstants.{DEVICE, DONE, NOTHING, SHORT}
 use Rattle.dlms_c.specs.HangingUp.{HangsUp}
 use Rattle.dlms_state.specs.Events.{buffer_after, clock_after, moment_after, registers_after}
 use Rattle.dlms_c.specs.declared.meter.MeterState.{MeterState}
@@ -36,9 +39,9 @@ Judged old event outcome new = Both old new (λ before after. Judges before even
 abbrev pub FallsSilent : {P A : Type 0} → {ghosts : Ghosts P} → Option (Meter P A ghosts) → Option (Meter P A ghosts) → Type 0
 FallsSilent old new = Both old new (λ before after. (w : MeterWorld) → Stands before w → Stands after (silent w))
 
--- nothing was handed out, and no page was lost
+-- Nothing was handed out, and no page was lost. The relay may have seen that more writes or syncs wait.
 pub record Rests (old new : KeptMeter) : Type 0 where
-  pub relay : received new.relay ≡ received old.relay
+  pub relay : ConsumerLooked old.relay new.relay
   pub is_lost : new.is_lost ≡ old.is_lost
 
 -- it was only looked at
@@ -47,64 +50,84 @@ pub record Looked (old new : KeptMeter) : Type 0 where
   pub reply : new.reply ≡ old.reply
   pub rests : Rests old new
 
--- Done is said only where no page was lost, and no write or sync waits; else which of the two it is.
-abbrev pub IsClearCode : KeptMeter → ℕ → KeptMeter → Type 0
-IsClearCode old code new = ((code ≡ 0) × (old.is_lost ≡ false) × (known_items new.relay ≡ [])) ⊎ (((code ≡ 20) × (old.is_lost ≡ true)) ⊎ ((code ≡ 19) × (old.is_lost ≡ false)))
-
--- Octets through at most one frame. Nothing is taken before all that was written and synced is handed out.
-pub record FeedsKept (old : KeptMeter) (octets : List ℕ) (code taken : ℕ) (new : KeptMeter) : Type 0 where
+-- A meter that is there takes octets through at most one frame, and its reply waits.
+pub record TakesOctets (old : KeptMeter) (octets : List ℕ) (code taken : ℕ) (new : KeptMeter) : Type 0 where
+  pub code_is : code ≡ closed_code old.meter
   pub within : taken ≤ length octets
-  pub fed : code ≡ 0 → (old.is_lost ≡ false) × Fed old.meter octets taken (option_map (λ reply. reply.items) new.reply) new.meter
+  pub fed : code ≡ 0 → Fed old.meter octets taken (option_map (λ reply. reply.items) new.reply) new.meter
+  pub some : code ≡ 0 → 0 < length octets → 0 < taken
+  pub left : code ≢ 0 → (taken ≡ 0) × (new ≡ old)
+  pub others : new ≡ record old { meter = new.meter; reply = new.reply }
+
+-- The meter takes octets through at most one frame, and its reply waits. If the call is refused, nothing changes.
+pub record FeedsKept (old : KeptMeter) (octets : List ℕ) (code taken : ℕ) (new : KeptMeter) : Type 0 where
+  pub code_is : code ≡ refusal_of old new
+  pub within : taken ≤ length octets
+  pub fed : code ≡ 0 → Fed old.meter octets taken (option_map (λ reply. reply.items) new.reply) new.meter
+  pub some : code ≡ 0 → 0 < length octets → 0 < taken
   pub refused : code ≢ 0 → (taken ≡ 0) × (new.meter ≡ old.meter) × (new.reply ≡ old.reply)
   pub rests : Rests old new
 
--- the code of an outcome; 21 where the meter is closed
-abbrev pub event_code : Option (Result (Unit {0}) AddFault) → ℕ
-event_code None = 21
-event_code (Some outcome) = add_code outcome
+-- A meter that is there judges an event, and the code is of its outcome.
+pub record JudgesOn {P A : Type 0} {ghosts : Ghosts P} (old : Option (Meter P A ghosts)) (event : Event) (code : ℕ) (new : Option (Meter P A ghosts)) : Type 0 where
+  pub closed : closed_code old ≢ 0 → (code ≡ closed_code old) × (new ≡ old)
+  pub judged : closed_code old ≡ 0 → (outcome : Result (Unit {0}) AddFault) × (code ≡ add_code outcome) × Judged old event outcome new
 
--- An event is judged, or the meter was not asked: it is closed, a page was lost, or a write or a sync waits.
+-- The meter judges an event, and the code is of its outcome. If the call is refused, nothing changes.
 pub record JudgesKept (old : KeptMeter) (event : Event) (code : ℕ) (new : KeptMeter) : Type 0 where
-  pub outcome : Option (Result (Unit {0}) AddFault)
-  pub judged : IfSome outcome (λ o. (code ≡ add_code o) × Judged old.meter event o new.meter)
-  pub refused : IfNone outcome (((code ≡ 19) ⊎ ((code ≡ 20) ⊎ (code ≡ 21))) × (new.meter ≡ old.meter))
+  pub refused : refusal_of old new ≢ 0 → (code ≡ refusal_of old new) × (new.meter ≡ old.meter)
+  pub judged : refusal_of old new ≡ 0 → (outcome : Result (Unit {0}) AddFault) × (code ≡ add_code outcome) × Judged old.meter event outcome new.meter
   pub reply : new.reply ≡ old.reply
   pub rests : Rests old new
 
--- The next of the writes and syncs; none where a page was lost.
+-- The next of the writes and syncs; none if none waits. If a page was lost, none is handed out, and nothing changes.
 pub record HandsOut (old : KeptMeter) (call : Option Call) (new : KeptMeter) : Type 0 where
-  pub next : IfSome call (λ c. received new.relay ≡ received old.relay ++ c ∷ [])
+  pub next : IfSome call (λ c. (received new.relay ≡ received old.relay ++ c ∷ []) × IsPrefix (known_items old.relay) (c ∷ known_items new.relay))
   pub none : IfNone call (received new.relay ≡ received old.relay)
-  pub lost : old.is_lost ≡ true → call ≡ None
+  pub all : old.is_lost ≡ false → IfNone call (known_items new.relay ≡ [])
+  pub lost : old.is_lost ≡ true → (call ≡ None) × (new ≡ old)
+  pub ring : SameConsumer old.relay new.relay
   pub meter : new.meter ≡ old.meter
   pub reply : new.reply ≡ old.reply
   pub is_lost : new.is_lost ≡ old.is_lost
 
--- The reply, once, and only behind all that the meter wrote and synced. Where the room is too short it stays.
-pub record Replies (old : KeptMeter) (room code : ℕ) (sent : List ℕ) (new : KeptMeter) : Type 0 where
-  pub given : code ≡ 0 → (old.is_lost ≡ false) × (known_items new.relay ≡ []) × IfSome old.reply (λ reply. sent ≡ reply.items) × IsSome old.reply × (new.reply ≡ None)
-  pub left : code ≢ 0 → new.reply ≡ old.reply
-  pub none : code ≡ 1 → old.reply ≡ None
-  pub short : code ≡ 18 → IfSome old.reply (λ reply. room < length reply.items)
+-- a reply is put whole, or the room is too short, and the size that it needs is reported
+pub record PutsReply (reply : List ℕ) (room code : ℕ) (sent : List ℕ) (size : ℕ) : Type 0 where
+  pub whole : length reply ≤ room → (code ≡ DONE) × (sent ≡ reply)
+  pub short : room < length reply → (code ≡ SHORT) × (size ≡ length reply)
+
+-- The reply is given, once. With any other code than DONE it stays, and nothing else changes.
+pub record Replies (old : KeptMeter) (room code : ℕ) (sent : List ℕ) (size : ℕ) (new : KeptMeter) : Type 0 where
+  pub refused : reply_refusal_of old new ≢ 0 → (code ≡ reply_refusal_of old new) × (size ≡ 0)
+  pub given : reply_refusal_of old new ≡ 0 → MatchOption old.reply ((code ≡ NOTHING) × (size ≡ 0)) (λ reply. PutsReply reply.items room code sent size)
+  pub gone : code ≡ DONE → new.reply ≡ None
+  pub left : code ≢ DONE → new.reply ≡ old.reply
   pub meter : new.meter ≡ old.meter
   pub rests : Rests old new
 
--- Half a frame is forgotten, or the meter was not asked.
+-- Half a frame is forgotten. If the call is refused, nothing changes.
 pub record FallsSilentKept (old : KeptMeter) (code : ℕ) (new : KeptMeter) : Type 0 where
+  pub code_is : code ≡ idle_refusal_of old
   pub silent : code ≡ 0 → FallsSilent old.meter new.meter
   pub refused : code ≢ 0 → new.meter ≡ old.meter
-  pub reply : new.reply ≡ old.reply
-  pub rests : Rests old new
+  pub others : new ≡ record old { meter = new.meter }
 
 -- every client's link of a meter that is there has ended
 abbrev pub HangsUpBoth : {P A : Type 0} → {ghosts : Ghosts P} → Option (Meter P A ghosts) → Option (Meter P A ghosts) → Type 0
 HangsUpBoth old new = Both old new HangsUp
 
--- Every client's link has ended, and no reply is left; or the meter was not asked: a page was lost, a write or a sync waits, or it is
--- closed.
+-- Every link of a meter that is there has ended, and no reply is left.
+pub record EndsLinks (old : KeptMeter) (code : ℕ) (new : KeptMeter) : Type 0 where
+  pub code_is : code ≡ closed_code old.meter
+  pub ended : code ≡ 0 → HangsUpBoth old.meter new.meter × (new.reply ≡ None)
+  pub left : code ≢ 0 → new ≡ old
+  pub others : new ≡ record old { meter = new.meter; reply = new.reply }
+
+-- Every client's link has ended, and no reply is left. If the call is refused, nothing changes.
 pub record HangsUpKept (old : KeptMeter) (code : ℕ) (new : KeptMeter) : Type 0 where
-  pub ended : code ≡ 0 → (old.is_lost ≡ false) × HangsUpBoth old.meter new.meter × (new.reply ≡ None)
-  pub refused : code ≢ 0 → ((code ≡ 19) ⊎ ((code ≡ 20) ⊎ (code ≡ 21))) × (new.meter ≡ old.meter) × (new.reply ≡ old.reply)
+  pub code_is : code ≡ refusal_of old new
+  pub ended : code ≡ 0 → HangsUpBoth old.meter new.meter × (new.reply ≡ None)
+  pub refused : code ≢ 0 → (new.meter ≡ old.meter) × (new.reply ≡ old.reply)
   pub rests : Rests old new
 
 -- The store gave its device back. Where that never failed, it is told to be done, and all that was accepted is settled on it, but
@@ -115,10 +138,16 @@ IsGivenBack {P = P} {ghosts = ghosts} (Some meter) code = (device : P) × ((code
     × ((settled pending : List Event) → code ≡ 0 → StoreFits meter.store (Runs settled pending) → (CommitIsExhausted meter.store → ⊥)
     → GivesUp Closing (Runs settled pending) (view_of meter.store) (ghosts.view device))
 
--- The meter is closed, and its last writes and syncs wait: done, or the device failed (33). Or it was not asked.
+-- A meter that is there is closed.
+pub record Settles (old : KeptMeter) (code : ℕ) (new : KeptMeter) : Type 0 where
+  pub closed : closed_code old.meter ≢ 0 → (code ≡ closed_code old.meter) × (new ≡ old)
+  pub settled : closed_code old.meter ≡ 0 → ((code ≡ DONE) ⊎ (code ≡ DEVICE)) × IsGivenBack old.meter code × (new.meter ≡ None) × (new.reply ≡ None)
+  pub others : new ≡ record old { meter = new.meter; reply = new.reply }
+
+-- The meter is closed, and its last writes and syncs wait: done, or the device failed (33). If the call is refused, nothing changes.
 pub record Closes (old : KeptMeter) (code : ℕ) (new : KeptMeter) : Type 0 where
-  pub closed : (code ≡ 0) ⊎ (code ≡ 33) → IsGivenBack old.meter code × (new.meter ≡ None) × (new.reply ≡ None)
-  pub refused : code ≢ 0 → code ≢ 33 → ((code ≡ 19) ⊎ ((code ≡ 20) ⊎ (code ≡ 21))) × (new.meter ≡ old.meter) × (new.reply ≡ old.reply)
+  pub refused : refusal_of old new ≢ 0 → (code ≡ refusal_of old new) × (new.meter ≡ old.meter) × (new.reply ≡ old.reply)
+  pub closed : refusal_of old new ≡ 0 → ((code ≡ DONE) ⊎ (code ≡ DEVICE)) × IsGivenBack old.meter code × (new.meter ≡ None) × (new.reply ≡ None)
   pub rests : Rests old new
 
 -- what is answered of a write or a sync

@@ -1,4 +1,4 @@
-//! What a call answers.
+//! What a call returns.
 /// It is done.
 pub const DONE: u32 = 0;
 
@@ -14,16 +14,16 @@ pub const SYNC: u32 = 3;
 /// A frame is to be sent.
 pub const SEND: u32 = 4;
 
-/// The handle holds nothing.
+/// The handle is empty.
 pub const EMPTY: u32 = 16;
 
-/// The handle holds something.
+/// The handle is full.
 pub const FULL: u32 = 17;
 
 /// The caller's room is too short.
 pub const SHORT: u32 = 18;
 
-/// Writes or syncs are to be done first.
+/// Writes or syncs wait: they are to be done first.
 pub const PAGES: u32 = 19;
 
 /// A write or a sync could not be done: free the meter, and recover it.
@@ -32,7 +32,7 @@ pub const LOST: u32 = 20;
 /// The meter is closed.
 pub const CLOSED: u32 = 21;
 
-/// An argument is none that the call takes.
+/// An argument is invalid.
 pub const ARGUMENT: u32 = 22;
 
 /// A growth was refused.

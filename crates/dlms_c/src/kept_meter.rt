@@ -1,9 +1,10 @@
 //! A meter, and what is to be done for it before its reply goes out.
-ghost use Rattle.std.specs.Prelude.{◌≡◌, ◌≢◌, ◌⊎◌, ◌≤◌, [], None, length, take, true, Ok, IfSome, IfNone, MatchOption, MatchResult, option_map};
+ghost use Rattle.std.specs.Prelude.{◌≡◌, ◌≢◌, ◌⊎◌, ◌<◌, ◌≤◌, [], None, length, take, true, Ok, IfSome, IfNone, MatchOption, MatchResult, option_map};
 ghost use Rattle.rtrb.specs.Ring.{received};
 ghost use Rattle.dlms_c.specs.declared.codes.TheConstants.{CLOSED, DEVICE, DONE, MEMORY};
 ghost use Rattle.dlms_c.specs.Codes.{open_code};
-ghost use Rattle.dlms_c.specs.Meter.{Closes, FallsSilent, FallsSilentKept, Fed, FeedsKept, HandsOut, HangsUpBoth, HangsUpKept, IsClearCode, Judged, JudgesKept, Looked, Replies, event_code};
+ghost use Rattle.dlms_c.specs.Meter.{Closes, EndsLinks, FallsSilent, FallsSilentKept, Fed, FeedsKept, HandsOut, HangsUpBoth, HangsUpKept, JudgesKept, JudgesOn, Looked, Replies, Settles, TakesOctets};
+ghost use Rattle.dlms_c.specs.Refusal.{closed_code, reply_refusal_of};
 ghost use Rattle.dlms_c.specs.Opening.{Begins, IsNewKept, IsRecovered, IsUnrecovered};
 ghost use Rattle.dlms_state.specs.declared.event.Event.TheVariants.{Moment, Pulses};
 
@@ -13,7 +14,7 @@ use crate::meter_codes::{of_event, of_opening};
 use dlms_meter::{Meter, Reply};
 use dlms_pages::{Call, Pages};
 use dlms_relay::{Relay, RelayedPages};
-use dlms_store::{AddFault, OpenFault};
+use dlms_store::OpenFault;
 use std::alloc::Global;
 
 /// How many writes and syncs have room until they are taken.
@@ -55,9 +56,11 @@ fn feed_on(
     meter: &mut Option<Meter<RelayedPages<Global>, Global>>,
     octets: &[u8],
 ) -> Option<(usize, Option<Reply>)>
-    ensures none { meter.old ≡ None → result ≡ None }
+    ensures none { IfNone result (closed_code meter.old ≡ CLOSED) }
+    ensures some { IfSome result (λ r. closed_code meter.old ≡ 0) }
     ensures left { IfNone result (meter.new ≡ meter.old) }
     ensures within { IfSome result (λ r. r.0 ≤ length octets.now) }
+    ensures takes { IfSome result (λ r. 0 < length octets.now → 0 < r.0) }
     ensures fed { IfSome result (λ r. Fed meter.old octets.now r.0 (option_map (λ reply. reply.items) r.1) meter.new) }
 {
     match meter {
@@ -71,34 +74,28 @@ fn pulses_on(
     meter: &mut Option<Meter<RelayedPages<Global>, Global>>,
     channel: u8,
     count: u32,
-) -> Option<Result<(), AddFault>>
-    ensures none { meter.old ≡ None → result ≡ None }
-    ensures left { IfNone result (meter.new ≡ meter.old) }
-    ensures judged { IfSome result (λ r. Judged meter.old (Pulses channel count) r meter.new) }
+) -> u32
+    ensures { JudgesOn meter.old (Pulses channel count) result meter.new }
 {
     match meter {
-        Some(running) => Some(running.pulses(channel, count)),
-        None => None,
+        Some(running) => of_event(&running.pulses(channel, count)),
+        None => CLOSED,
     }
 }
 
 /// Gives a meter that is there its second.
-fn moment_on(
-    meter: &mut Option<Meter<RelayedPages<Global>, Global>>,
-    second: u32,
-) -> Option<Result<(), AddFault>>
-    ensures none { meter.old ≡ None → result ≡ None }
-    ensures left { IfNone result (meter.new ≡ meter.old) }
-    ensures judged { IfSome result (λ r. Judged meter.old (Moment second) r meter.new) }
+fn moment_on(meter: &mut Option<Meter<RelayedPages<Global>, Global>>, second: u32) -> u32
+    ensures { JudgesOn meter.old (Moment second) result meter.new }
 {
     match meter {
-        Some(running) => Some(running.moment(second)),
-        None => None,
+        Some(running) => of_event(&running.moment(second)),
+        None => CLOSED,
     }
 }
 
 /// Lets a meter that is there know of silence.
 fn idle_on(meter: &mut Option<Meter<RelayedPages<Global>, Global>>) -> u32
+    ensures code { result ≡ closed_code meter.old }
     ensures silent { result ≡ DONE → FallsSilent meter.old meter.new }
     ensures left { result ≢ DONE → meter.new ≡ meter.old }
 {
@@ -113,8 +110,8 @@ fn idle_on(meter: &mut Option<Meter<RelayedPages<Global>, Global>>) -> u32
 
 /// Ends every client's link at a meter that is there.
 fn hang_up_on(meter: &mut Option<Meter<RelayedPages<Global>, Global>>) -> u32
+    ensures code { result ≡ closed_code meter.old }
     ensures ended { result ≡ DONE → HangsUpBoth meter.old meter.new }
-    ensures code { (result ≡ DONE) ⊎ (result ≡ CLOSED) }
     ensures left { result ≢ DONE → meter.new ≡ meter.old }
 {
     match meter {
@@ -122,16 +119,6 @@ fn hang_up_on(meter: &mut Option<Meter<RelayedPages<Global>, Global>>) -> u32
             hang_up(running);
             DONE
         }
-        None => CLOSED,
-    }
-}
-
-/// What a call answers where it only asks the meter for an event.
-fn code_of(outcome: &Option<Result<(), AddFault>>) -> u32
-    ensures { result ≡ event_code outcome.now }
-{
-    match outcome {
-        Some(outcome) => of_event(outcome),
         None => CLOSED,
     }
 }
@@ -158,10 +145,10 @@ impl KeptMeter {
         begun(Meter::recover(alloc, device), relay)
     }
 
-    /// Whether the meter may be asked for something: no page has failed, and none waits.
+    /// The code of a lost page, or of pages that wait; `DONE` if there is neither.
     fn is_clear(&mut self) -> u32
         ensures looked { Looked self.old self.new }
-        ensures code { IsClearCode self.old result self.new }
+        ensures code { result ≡ reply_refusal_of self.old self.new }
     {
         if self.is_lost {
             return LOST;
@@ -169,14 +156,20 @@ impl KeptMeter {
         if self.relay.is_empty() { DONE } else { PAGES }
     }
 
-    /// Takes octets through at most one frame, and how many. Its reply is given by `reply`.
+    /// Takes octets through at most one frame, and how many. Its reply is given by `give`.
     pub fn feed(&mut self, octets: &[u8]) -> (u32, usize)
         ensures { FeedsKept self.old octets.now result.0 result.1 self.new }
     {
-        let code = self.is_clear();
-        if code != DONE {
-            return (code, 0);
+        match self.is_clear() {
+            DONE => self.take_octets(octets),
+            code => (code, 0),
         }
+    }
+
+    /// Takes octets, whether or not pages wait.
+    fn take_octets(&mut self, octets: &[u8]) -> (u32, usize)
+        ensures { TakesOctets self.old octets.now result.0 result.1 self.new }
+    {
         match feed_on(&mut self.meter, octets) {
             Some((taken, reply)) => {
                 self.reply = reply;
@@ -190,24 +183,20 @@ impl KeptMeter {
     pub fn pulses(&mut self, channel: u8, count: u32) -> u32
         ensures { JudgesKept self.old (Pulses channel count) result self.new }
     {
-        let code = self.is_clear();
-        if code != DONE {
-            return code;
+        match self.is_clear() {
+            DONE => pulses_on(&mut self.meter, channel, count),
+            code => code,
         }
-        let outcome = pulses_on(&mut self.meter, channel, count);
-        code_of(&outcome)
     }
 
     /// The meter's own running second.
     pub fn moment(&mut self, second: u32) -> u32
         ensures { JudgesKept self.old (Moment second) result self.new }
     {
-        let code = self.is_clear();
-        if code != DONE {
-            return code;
+        match self.is_clear() {
+            DONE => moment_on(&mut self.meter, second),
+            code => code,
         }
-        let outcome = moment_on(&mut self.meter, second);
-        code_of(&outcome)
     }
 
     /// The next write or sync that is to be done; none where a page was lost.
@@ -229,7 +218,7 @@ impl KeptMeter {
 
     /// The reply is put into room that is not too short for it, and is gone then; how many octets it has.
     pub fn give(&mut self, room: &mut [u8]) -> (u32, usize)
-        ensures { Replies self.old (length room.old) result.0 (take result.1 room.new) self.new }
+        ensures { Replies self.old (length room.old) result.0 (take result.1 room.new) result.1 self.new }
     {
         let code = self.is_clear();
         if code != DONE {
@@ -247,15 +236,21 @@ impl KeptMeter {
         (DONE, count)
     }
 
-    /// Settles what is pending. What that writes and syncs is still to be taken; nothing else is asked of the meter any more. Where
-    /// the device has failed, in this call or in an earlier one, what was pending is in doubt, and that is told.
+    /// Settles what is pending. What that writes and syncs is still to be taken; nothing else is asked of the meter any more. If the
+    /// device has failed, in this call or in an earlier one, what was pending is in doubt, and the code says so.
     pub fn close(&mut self) -> u32
         ensures { Closes self.old result self.new }
     {
-        let code = self.is_clear();
-        if code != DONE {
-            return code;
+        match self.is_clear() {
+            DONE => self.settle(),
+            code => code,
         }
+    }
+
+    /// Settles what is pending, whether or not pages wait.
+    fn settle(&mut self) -> u32
+        ensures { Settles self.old result self.new }
+    {
         let Some(running) = self.meter.take() else {
             return CLOSED;
         };
@@ -268,10 +263,16 @@ impl KeptMeter {
     pub fn hang_up(&mut self) -> u32
         ensures { HangsUpKept self.old result self.new }
     {
-        let code = self.is_clear();
-        if code != DONE {
-            return code;
+        match self.is_clear() {
+            DONE => self.end_links(),
+            code => code,
         }
+    }
+
+    /// Ends every link, whether or not pages wait.
+    fn end_links(&mut self) -> u32
+        ensures { EndsLinks self.old result self.new }
+    {
         let code = hang_up_on(&mut self.meter);
         if code == DONE {
             self.reply = None;
@@ -284,8 +285,9 @@ impl KeptMeter {
         ensures { FallsSilentKept self.old result self.new }
     {
         if self.is_lost {
-            return LOST;
+            LOST
+        } else {
+            idle_on(&mut self.meter)
         }
-        idle_on(&mut self.meter)
     }
 }

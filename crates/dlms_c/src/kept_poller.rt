@@ -1,9 +1,11 @@
 //! A poller, and the frames that it finds in octets.
-ghost use Rattle.std.specs.Prelude.{[], ◌≡◌, ◌≤◌, ℕ, List, None, Some, IfNone, IfSome, IsSome, length, take};
+ghost use Rattle.std.specs.Prelude.{◌≡◌, ◌≤◌, ℕ, List, None, Some, IfNone, IfSome, IsSome, length, take};
 ghost use Rattle.dlms_data.specs.declared.date_time.TheConstants.{LAST_SECOND};
 ghost use Rattle.dlms_frame.specs.Frame.{Parts};
 ghost use Rattle.dlms_frame.specs.Stream.{Takes};
-ghost use Rattle.dlms_headend.specs.Polling.{CanTimeOut, Fits, Polls, TimesOut};
+ghost use Rattle.dlms_headend.specs.PollerValue.{plan_of as value_of};
+ghost use Rattle.dlms_headend.specs.Polling.{CanTimeOut, Fits, TimesOut};
+ghost use Rattle.dlms_c.specs.Poll.{IsFresh, PollsFrame};
 
 use dlms_frame::{Deframer, SentFrame};
 use dlms_headend::{Plan, PollFault, PollStep, Poller};
@@ -17,10 +19,10 @@ pub struct KeptPoller {
 }
 
 impl KeptPoller {
-    /// A poll by this plan.
+    /// The poll of this plan, not begun.
     pub fn new(alloc: Global, plan: Plan) -> KeptPoller
         requires { IfSome plan.after (λ second. second ≤ LAST_SECOND) }
-        ensures { Fits result.poller [] }
+        ensures { IsFresh (value_of plan) result }
     {
         KeptPoller {
             poller: Poller::new(alloc, plan),
@@ -33,7 +35,7 @@ impl KeptPoller {
         ensures within { result.0 ≤ length octets.now }
         ensures takes { Takes self.old.deframer.bytes (take result.0 octets.now) self.new.deframer.frame self.new.deframer.bytes }
         ensures none { self.new.deframer.frame ≡ None → (result.1 ≡ None) × (self.new.poller ≡ self.old.poller) }
-        ensures polls { (f : Parts) → self.new.deframer.frame ≡ Some f → IfSome result.1 (λ step. (apdus : List (List ℕ)) → Fits self.old.poller apdus → Polls apdus f self.old.poller step self.new.poller) }
+        ensures polls { (f : Parts) → self.new.deframer.frame ≡ Some f → IfSome result.1 (λ step. (apdus : List (List ℕ)) → Fits self.old.poller apdus → PollsFrame apdus f self.old.poller step self.new.poller) }
         ensures some { (f : Parts) → self.new.deframer.frame ≡ Some f → IsSome result.1 }
     {
         let taken = self.deframer.feed(octets);

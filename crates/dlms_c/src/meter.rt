@@ -3,6 +3,7 @@ ghost use Rattle.std.specs.Prelude.{◌≡◌, ◌≢◌, ◌⊎◌, ◌<◌, �
 ghost use Rattle.dlms_state.specs.declared.event.Event.TheVariants.{Moment, Pulses};
 ghost use Rattle.dlms_pages.specs.declared.seal.TheConstants.{SLOT_BYTES};
 ghost use Rattle.dlms_c.specs.Meter.{Closes, FallsSilentKept, FeedsKept, HandsPage, HangsUpKept, JudgesKept, Replies, Shows, TellsPage};
+ghost use Rattle.dlms_c.specs.Refusal.{closed_code};
 ghost use Rattle.dlms_c.specs.Opening.{IsNewKept, IsRecovered, IsUnrecovered};
 ghost use Rattle.dlms_c.specs.declared.codes.TheConstants.{DEVICE, DONE, EMPTY, FULL, LOST, MEMORY, SHORT, SIZE};
 ghost use Rattle.dlms_c.specs.declared.kept_meter.KeptMeter.{KeptMeter as KeptMeterOf};
@@ -259,7 +260,7 @@ pub extern "C" fn dlms_meter_reply(
     size: &mut usize,
 ) -> u32
     ensures empty { meter.old.value ≡ None → (result ≡ EMPTY) × (size.new ≡ 0) × (meter.new.value ≡ None) }
-    ensures reply { (old : KeptMeterOf) → meter.old.value ≡ Some old → (new : KeptMeterOf) × (meter.new.value ≡ Some new) × Replies old (length frame.old) result (take size.new frame.new) new }
+    ensures reply { (old : KeptMeterOf) → meter.old.value ≡ Some old → (new : KeptMeterOf) × (meter.new.value ≡ Some new) × Replies old (length frame.old) result (take size.new frame.new) size.new new }
 {
     *size = 0;
     let handle = replace(meter, none());
@@ -275,7 +276,8 @@ pub extern "C" fn dlms_meter_reply(
 
 /// What a meter that is there shows.
 fn state_on(meter: &Option<Meter<RelayedPages<Global>, Global>>, state: &mut MeterState) -> u32
-    ensures none { result ≢ DONE → meter.now ≡ None }
+    ensures code { result ≡ closed_code meter.now }
+    ensures left { result ≢ DONE → state.new ≡ state.old }
     ensures shows { result ≡ DONE → Shows meter.now state.new }
 {
     match meter {
@@ -304,7 +306,9 @@ pub extern "C" fn dlms_meter_state(
     state: &mut MeterState,
 ) -> u32
     ensures empty { meter.old.value ≡ None → (result ≡ EMPTY) × (meter.new.value ≡ None) }
-    ensures state { (old : KeptMeterOf) → meter.old.value ≡ Some old → (meter.new.value ≡ Some old) × (result ≡ DONE → Shows old.meter state.new) }
+    ensures kept { (old : KeptMeterOf) → meter.old.value ≡ Some old → (result ≡ closed_code old.meter) × (meter.new.value ≡ Some old) }
+    ensures left { result ≢ DONE → state.new ≡ state.old }
+    ensures state { (old : KeptMeterOf) → meter.old.value ≡ Some old → result ≡ DONE → Shows old.meter state.new }
 {
     let handle = replace(meter, none());
     let Some(loose) = loosened(handle, alloc) else {

@@ -1,13 +1,13 @@
 //! A poll of a meter, as C keeps it.
-ghost use Rattle.std.specs.Prelude.{[], ◌≡◌, ◌≢◌, ◌≤◌, None, Some, ◌<◌, IfSome, MatchOption, Option, length, take};
+ghost use Rattle.std.specs.Prelude.{◌≡◌, ◌≤◌, None, Some, ◌<◌, IfNone, IfSome, MatchOption, Option, length, take};
 ghost use Rattle.dlms_data.specs.declared.date_time.TheConstants.{LAST_SECOND};
 ghost use Rattle.dlms_frame.specs.declared.frame.TheConstants.{MOST_TEXT};
 ghost use Rattle.dlms_frame.specs.Frame.{FrameSpelling, Parts};
-ghost use Rattle.dlms_frame.specs.Stream.{Takes};
-ghost use Rattle.dlms_headend.specs.Polling.{Begins, Fits, Polls, TimesOut};
+ghost use Rattle.dlms_headend.specs.PollerValue.{plan_of as value_of};
+ghost use Rattle.dlms_headend.specs.Polling.{Begins};
 ghost use Rattle.dlms_headend.specs.declared.row.Row.{Row as RowOf};
-ghost use Rattle.dlms_c.specs.Poll.{IsItem, IsRow, TakesFrame, Tells, TellsAgain, TellsFrame, TimesOutOnce, fault_code, fault_number};
-ghost use Rattle.dlms_c.specs.declared.codes.TheConstants.{DONE, EMPTY, FULL, NOTHING, SHORT};
+ghost use Rattle.dlms_c.specs.Poll.{CanPoll, IsItem, IsNewPoller, IsPlanOf, IsRow, TakesFrame, Tells, TellsAgain, TellsFrame, TimesOutOnce, fault_code, fault_number};
+ghost use Rattle.dlms_c.specs.declared.codes.TheConstants.{ARGUMENT, DONE, EMPTY, FULL, MEMORY, NOTHING, SHORT};
 ghost use Rattle.dlms_c.specs.declared.kept_poller.KeptPoller.{KeptPoller as KeptPollerOf};
 
 use crate::codes::{
@@ -48,9 +48,12 @@ pub struct PolledRow {
     pub reactive_import: u32,
 }
 
-/// The plan of a poll, or none where an argument is none that a plan has.
+/// The plan of a poll, or none if no poll may have these arguments.
 fn plan_of(plan: &PollPlan, secret: &[u8]) -> Option<Plan>
-    ensures { IfSome result (λ plan. IfSome plan.after (λ second. second ≤ LAST_SECOND)) }
+    ensures none { IfNone result (CanPoll plan.now secret.now → ⊥) }
+    ensures some { IfSome result (λ made. CanPoll plan.now secret.now) }
+    ensures plan { IfSome result (λ made. IsPlanOf plan.now secret.now (value_of made)) }
+    ensures second { IfSome result (λ made. IfSome made.after (λ second. second ≤ LAST_SECOND)) }
 {
     let client = Client::of_sap(plan.client)?;
     let mut octets = ArrayVec::new();
@@ -170,7 +173,7 @@ fn put_again(
 
 /// Puts the row of this index.
 fn put_row(rows: &[Row], index: usize, row: &mut PolledRow) -> u32
-    ensures none { length rows.now ≤ index → result ≡ NOTHING }
+    ensures none { length rows.now ≤ index → (result ≡ NOTHING) × (row.new ≡ row.old) }
     ensures row { index < length rows.now → (polled : RowOf) × (result ≡ DONE) × IsItem rows.now index polled × IsRow row.new polled }
 {
     let Some(polled) = rows.get(index) else {
@@ -195,7 +198,9 @@ pub extern "C" fn dlms_poller_new(
     secret: &[u8],
 ) -> u32
     ensures full { (old : KeptPollerOf) → poller.old.value ≡ Some old → (result ≡ FULL) × (poller.new.value ≡ Some old) }
-    ensures new { poller.old.value ≡ None → MatchOption poller.new.value (result ≢ DONE) (λ new. (result ≡ DONE) × Fits new.poller []) }
+    ensures argument { poller.old.value ≡ None → (CanPoll plan.now secret.now → ⊥) → (result ≡ ARGUMENT) × (poller.new.value ≡ None) }
+    ensures new { poller.old.value ≡ None → CanPoll plan.now secret.now
+        → MatchOption poller.new.value (result ≡ MEMORY) (λ new. (result ≡ DONE) × IsNewPoller plan.now secret.now new) }
 {
     let handle = replace(poller, none());
     if let Some(loose) = loosened(handle, alloc) {
@@ -222,8 +227,8 @@ pub extern "C" fn dlms_poller_next(
     frame: &mut [u8],
     size: &mut usize,
 ) -> u32
-    ensures empty { poller.old.value ≡ None → (result ≡ EMPTY) × (poller.new.value ≡ None) }
-    ensures short { (old : KeptPollerOf) → poller.old.value ≡ Some old → length frame.old < MOST_TEXT → (result ≡ SHORT) × (poller.new.value ≡ Some old) }
+    ensures empty { poller.old.value ≡ None → (result ≡ EMPTY) × (size.new ≡ 0) × (poller.new.value ≡ None) }
+    ensures short { (old : KeptPollerOf) → poller.old.value ≡ Some old → length frame.old < MOST_TEXT → (result ≡ SHORT) × (size.new ≡ 0) × (poller.new.value ≡ Some old) }
     ensures next { (old : KeptPollerOf) → poller.old.value ≡ Some old → MOST_TEXT ≤ length frame.old
         → (new : KeptPollerOf) × (due : Option Parts) × (poller.new.value ≡ Some new) × Begins old.poller due new.poller × TellsFrame due result (take size.new frame.new) }
 {
@@ -254,8 +259,9 @@ pub extern "C" fn dlms_poller_on(
     size: &mut usize,
     number: &mut u8,
 ) -> u32
-    ensures empty { poller.old.value ≡ None → (result ≡ EMPTY) × (taken.new ≡ 0) × (poller.new.value ≡ None) }
-    ensures short { (old : KeptPollerOf) → poller.old.value ≡ Some old → length frame.old < MOST_TEXT → (result ≡ SHORT) × (taken.new ≡ 0) × (poller.new.value ≡ Some old) }
+    ensures empty { poller.old.value ≡ None → (result ≡ EMPTY) × (taken.new ≡ 0) × (size.new ≡ 0) × (number.new ≡ 0) × (poller.new.value ≡ None) }
+    ensures short { (old : KeptPollerOf) → poller.old.value ≡ Some old → length frame.old < MOST_TEXT
+        → (result ≡ SHORT) × (taken.new ≡ 0) × (size.new ≡ 0) × (number.new ≡ 0) × (poller.new.value ≡ Some old) }
     ensures on { (old : KeptPollerOf) → poller.old.value ≡ Some old → MOST_TEXT ≤ length frame.old
         → (new : KeptPollerOf) × (poller.new.value ≡ Some new) × TakesFrame old octets.now taken.new result (take size.new frame.new) number.new new }
 {
@@ -286,8 +292,9 @@ pub extern "C" fn dlms_poller_timeout(
     size: &mut usize,
     number: &mut u8,
 ) -> u32
-    ensures empty { poller.old.value ≡ None → (result ≡ EMPTY) × (poller.new.value ≡ None) }
-    ensures short { (old : KeptPollerOf) → poller.old.value ≡ Some old → length frame.old < MOST_TEXT → (result ≡ SHORT) × (poller.new.value ≡ Some old) }
+    ensures empty { poller.old.value ≡ None → (result ≡ EMPTY) × (size.new ≡ 0) × (number.new ≡ 0) × (poller.new.value ≡ None) }
+    ensures short { (old : KeptPollerOf) → poller.old.value ≡ Some old → length frame.old < MOST_TEXT
+        → (result ≡ SHORT) × (size.new ≡ 0) × (number.new ≡ 0) × (poller.new.value ≡ Some old) }
     ensures timeout { (old : KeptPollerOf) → poller.old.value ≡ Some old → MOST_TEXT ≤ length frame.old
         → (new : KeptPollerOf) × (poller.new.value ≡ Some new) × TimesOutOnce old result (take size.new frame.new) number.new new }
 {
@@ -338,7 +345,7 @@ pub extern "C" fn dlms_poller_row(
 ) -> u32
     ensures empty { poller.old.value ≡ None → (result ≡ EMPTY) × (poller.new.value ≡ None) }
     ensures kept { (old : KeptPollerOf) → poller.old.value ≡ Some old → poller.new.value ≡ Some old }
-    ensures none { (old : KeptPollerOf) → poller.old.value ≡ Some old → length old.poller.talk.rows ≤ index → result ≡ NOTHING }
+    ensures none { (old : KeptPollerOf) → poller.old.value ≡ Some old → length old.poller.talk.rows ≤ index → (result ≡ NOTHING) × (row.new ≡ row.old) }
     ensures row { (old : KeptPollerOf) → poller.old.value ≡ Some old → index < length old.poller.talk.rows → (polled : RowOf) × (result ≡ DONE) × IsItem old.poller.talk.rows index polled × IsRow row.new polled }
 {
     let handle = replace(poller, none());
