@@ -81,7 +81,10 @@ fn take_frame<W: End, A: Allocator + Copy>(
 }
 
 /// The client's first frame goes out, if it gives one.
-fn dial<W: End, A: Allocator + Copy>(client: &mut KeptClient<A>, end: &mut W) -> Result<(), CallFault>
+fn dial<W: End, A: Allocator + Copy>(
+    client: &mut KeptClient<A>,
+    end: &mut W,
+) -> Result<(), CallFault>
     ensures { DialsFirst (W.past end.old) (W.past end.new) client.old client.new result }
 {
     match client.next() {

@@ -6,6 +6,7 @@ use dlms_client::{Denial, Fault as Talked};
 use dlms_ends::LoopFault;
 use dlms_field::{ClockFault, FieldFault};
 use dlms_headend::{ColumnList, PollFault, ReadingsFault};
+use dlms_identity::Expected;
 use dlms_names::{
     access_result, action_result, diagnostic, initiate_error, service_error, state_error,
 };
@@ -46,6 +47,10 @@ pub enum Fault<'a> {
     Late(&'a str, u32),
     /// Of the rows from this address or file one is refused for its clock.
     Clock(&'a str, ClockFault),
+    /// This is no `NAME=TEXT`, or one too many.
+    Expect(&'a str),
+    /// The meter at this place does not show this text.
+    Stranger(&'a str, Expected<'a>),
     /// This is no name of an attribute or a method.
     Name(&'a str),
     /// This is no address of a meter.
@@ -111,6 +116,8 @@ impl<'a> Fault<'a> {
             FieldFault::Secret => Fault::Secret(file),
             FieldFault::Late(address, seconds) => Fault::Late(address, seconds),
             FieldFault::Clock(place, fault) => Fault::Clock(place, fault),
+            FieldFault::Stranger(place, expected) => Fault::Stranger(place, expected),
+            FieldFault::Unasked(place, fault) => Fault::of_call(place, fault),
             FieldFault::Other(fault) => Fault::of_serving(file, fault),
         }
     }
@@ -128,6 +135,8 @@ impl<'a> Fault<'a> {
             FieldFault::Secret => Fault::Secret(secret_file.unwrap_or("")),
             FieldFault::Late(address, seconds) => Fault::Late(address, seconds),
             FieldFault::Clock(place, fault) => Fault::Clock(place, fault),
+            FieldFault::Stranger(place, expected) => Fault::Stranger(place, expected),
+            FieldFault::Unasked(place, fault) => Fault::of_call(place, fault),
             FieldFault::Other(fault) => Fault::of_poll(address, readings, fault),
         }
     }
@@ -324,6 +333,20 @@ fn write_call<W: fmt::Write>(
     }
 }
 
+/// Says which text the meter at this place does not show.
+fn write_stranger<W: fmt::Write>(
+    f: &mut fmt::Formatter<W>,
+    place: &str,
+    expected: &Expected<'_>,
+) -> fmt::Result {
+    let [a, b, c, d, e, last] = expected.name;
+    let text = expected.text;
+    write!(
+        f,
+        "expect\n  {place}: {a}.{b}.{c}.{d}.{e}.{last} does not show {text}: nothing is filed\n  dlms get tells what it shows"
+    )
+}
+
 impl fmt::Display for Fault<'_> {
     fn fmt<W: fmt::Write>(&self, f: &mut fmt::Formatter<W>) -> fmt::Result {
         match self {
@@ -368,6 +391,11 @@ impl fmt::Display for Fault<'_> {
                 write!(f, "line\n  {address}: not done within {seconds} seconds")
             }
             Fault::Clock(place, fault) => write_clock(f, place, fault),
+            Fault::Expect(text) => write!(
+                f,
+                "expect\n  {text}: NAME=TEXT is wanted, as 0.0.42.0.0.255=RTL0000000000001, four times at most"
+            ),
+            Fault::Stranger(place, expected) => write_stranger(f, place, expected),
             Fault::Name(text) => write!(
                 f,
                 "name\n  {text}: a name is wanted as 1.0.1.8.0.255 or 1.0.99.1.0.255/3"

@@ -17,6 +17,7 @@ use dlms_plot::{Form, plot_readings};
 use dlms_program::{Buffered, Job, Sink, Source, job, replay};
 use dlms_show::{Curve, ShowFault, show_file};
 use dlms_store::{AddFault, OpenFault, PAGES};
+use dlms_words::Expecting;
 use std::alloc::Global;
 use std::cell::RefCell;
 use std::fs::File;
@@ -31,8 +32,10 @@ mod asking;
 mod columns;
 mod demo;
 mod errand;
+mod expected;
 mod fault;
 mod given;
+mod introduced;
 mod objects;
 mod occupant;
 mod spoken;
@@ -42,7 +45,9 @@ mod watched;
 
 use asking::{Errand, ask, ask_to_act, ask_to_set};
 use errand::Shape;
+use expected::expected_of;
 pub use fault::Fault;
+use introduced::{introduce, is_new};
 use occupant::refuse_occupied;
 use streams::{Input, Output, flush};
 use watched::Watched;
@@ -364,14 +369,15 @@ fn run_serve<'a, H: Net + Files<File = File> + Clock + AllocGlobal, W: Write, E:
     served
 }
 
-/// Polls the meter at an address once.
+/// Polls the meter at an address once. A new file of readings begins with the name of the meter, among the errors.
 #[inline(never)]
-fn run_poll<'a, H: Net + Files<File = File> + Clock + AllocGlobal, W: Write, E: Write>(
+fn run_poll_of<'a, H: Net + Files<File = File> + Clock + AllocGlobal, W: Write, E: Write>(
     host: &H,
-    polling: &Polling<'a>,
+    polling: &Polling<'a, '_>,
     output: &mut W,
     errors: &mut E,
 ) -> Result<(), Fault<'a>> {
+    let new_file = polling.readings.filter(|file| is_new(host, *file));
     let mut office = Office::of(host);
     let told = match poll(host.alloc(), &mut office, polling, output, errors) {
         Ok(()) => Ok(()),
@@ -383,7 +389,37 @@ fn run_poll<'a, H: Net + Files<File = File> + Clock + AllocGlobal, W: Write, E: 
             fault,
         )),
     };
+    match new_file {
+        Some(file) if told.is_ok() && polling.expected.is_empty() => {
+            let _told = introduce(
+                host.alloc(),
+                &mut office.line,
+                polling.address,
+                file,
+                errors,
+            );
+        }
+        _ => {}
+    }
     drop(office);
+    told
+}
+
+/// Polls the meter at an address once, if it shows the texts of `--expect`.
+fn run_poll<'a, H: Net + Files<File = File> + Clock + AllocGlobal, W: Write, E: Write>(
+    host: &H,
+    polling: &Polling<'a, '_>,
+    expecting: &Expecting<'a>,
+    output: &mut W,
+    errors: &mut E,
+) -> Result<(), Fault<'a>> {
+    let expected = expected_of(host.alloc(), expecting)?;
+    let polling = Polling {
+        expected: expected.as_slice(),
+        ..*polling
+    };
+    let told = run_poll_of(host, &polling, output, errors);
+    drop(expected);
     told
 }
 
@@ -587,6 +623,7 @@ fn run_job<
             deadline,
             ahead,
             strict,
+            expecting,
         } => {
             let polling = Polling {
                 address,
@@ -596,8 +633,9 @@ fn run_job<
                 deadline,
                 ahead,
                 strict,
+                expected: &[],
             };
-            unread(run_poll(host, &polling, output, errors), input)
+            unread(run_poll(host, &polling, &expecting, output, errors), input)
         }
         Job::Explain {
             file,
@@ -657,11 +695,12 @@ fn run_job<
     }
 }
 
-/// Whether whoever reads what the job prints may have had enough of it: then the job is done.
+/// Whether the job only shows something: if its reader closes the pipe, the job is done. A replay changes its meter, so it is not
+/// done while lines of it are left.
 fn may_be_cut(job: &Job<'_>) -> bool {
     matches!(
         job,
-        Job::Replay { .. } | Job::Explain { .. } | Job::Show { .. } | Job::Plot { .. }
+        Job::Explain { .. } | Job::List { .. } | Job::Show { .. } | Job::Plot { .. }
     )
 }
 

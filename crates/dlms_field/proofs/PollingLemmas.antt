@@ -1,6 +1,6 @@
 -- A poll over a line, until a deadline.
 use Rattle.std.proofs.Common.{refl, sym, ap, ◌∙◌, ◌≡◌, ◌+◌, ℕ, Bool, arith, List, [], ◌∷◌, ◌++◌, map, Option, Some, None, Result, Ok, Err, subst, inr}
-use Rattle.std.specs.Prelude.{IsErrAnd}
+use Rattle.std.specs.Prelude.{IfOk, IfSome, IsErrAnd}
 use Rattle.std.specs.declared.io.Error.{Error}
 use Rattle.std.proofs.lemmas.List.{append-nil, length-append}
 use Rattle.dlms_frame.specs.Frame.{Parts, spelling}
@@ -18,13 +18,13 @@ use Rattle.dlms_ends.specs.declared.head_end.HeadEnd.{HeadEnd}
 use Rattle.dlms_ends.specs.declared.polling.TheConstants.{TURNS}
 use Rattle.dlms_ends.proofs.MomentLemmas.{map_append}
 use Rattle.dlms_ends.proofs.PollLemmas.{HeadSide, system_told}
-use Rattle.dlms_field.specs.Calling.{AreWithin, Attempts, ClockFails, Does, Calls, Drives, GivesUp, HeadFails, Looks, Over, Polling, Refused, Slow, Tires, Tried, Tries, Unbegun, Waits, next_line}
+use Rattle.dlms_field.specs.Calling.{Aim, AreWithin, Attempts, ClockFails, Does, Calls, Drives, GivesUp, HeadFails, Looks, Over, Polling, Refused, Slow, Tires, Tried, Tries, Unbegun, Waits, next_line}
 use Rattle.dlms_field.specs.Deadline.{IsOver}
 use Rattle.dlms_field.specs.Keeping.{PrintsLine}
 use Rattle.dlms_field.specs.Watching.{Sight, Sees}
 use Rattle.dlms_field.specs.Watching.Sight.{Second}
 use Rattle.dlms_field.specs.declared.fault.FieldFault.{FieldFault}
-use Rattle.dlms_field.specs.declared.fault.FieldFault.TheVariants.{System, Secret, Late, Clock, Other}
+use Rattle.dlms_field.specs.declared.fault.FieldFault.TheVariants.{System, Secret, Late, Clock, Stranger, Unasked, Other}
 use Rattle.dlms_field.proofs.TalkLemmas.{sees_more, sees_nothing}
 
 pub looks_none : (seconds : ℕ) (seen : Option (List Sight)) → Looks seconds seen seen 0 []
@@ -99,37 +99,50 @@ has_tired seconds old now v w poller head count all under =
 
 -- ---- an attempt
 
-pub attempt_found : (connected : Bool) (address : List ℕ) (seconds : ℕ) (old new : Option (List Moment)) (v w : Option (List Sight)) (poller : PollerValue) (found : Option PollerValue)
-    → Drives connected address seconds old new v w poller (Ok found) → Attempts connected address seconds old new v w poller (Ok found)
-attempt_found connected address seconds old new v w poller (Some done) drives = drives
-attempt_found connected address seconds old new v w poller None drives = Polling drives
+pub attempt_found : (connected : Bool) (aim : Aim) (old new : Option (List Moment)) (v w : Option (List Sight)) (found : Option PollerValue)
+    → Drives connected aim old new v w (Ok found) → Attempts connected aim old new v w (Ok found)
+attempt_found connected aim old new v w (Some done) drives = drives
+attempt_found connected aim old new v w None drives = Polling drives
 
 -- ---- a call
 
 -- the attempts so far, and one more
-pub tries_so : (address : List ℕ) (seconds : ℕ) (old mid new : Option (List Moment)) (v before w : Option (List Sight)) (poller fresh : PollerValue) (count : ℕ) (connected : Bool) (r : Result (Option PollerValue) FieldFault)
-    → Tried address seconds fresh old v count connected mid before → poller ≡ fresh → Attempts connected address seconds mid new before w poller r → Tries address seconds old new v w fresh r
-tries_so address seconds old mid new v before w poller fresh count connected r tried is attempt =
-    record { count = count; connected = connected; mid = mid; before = before; tried = tried; attempt = subst (λ (p : PollerValue). Attempts connected address seconds mid new before w p r) is attempt }
+pub tries_so : (aim : Aim) (old mid new : Option (List Moment)) (v before w : Option (List Sight)) (count : ℕ) (connected : Bool) (r : Result (Option PollerValue) FieldFault)
+    → Tried aim old v count connected mid before → Attempts connected aim mid new before w r → Tries aim old new v w r
+tries_so aim old mid new v before w count connected r tried attempt = record { count = count; connected = connected; mid = mid; before = before; tried = tried; attempt = attempt }
 
-pub has_called : (address : List ℕ) (seconds : ℕ) (old new : Option (List Moment)) (v w : Option (List Sight)) (poller : PollerValue) (found : Option PollerValue)
-    → Tries address seconds old new v w poller (Ok found) → Calls address seconds old new v w poller (Ok found)
-has_called address seconds old new v w poller (Some done) tries = tries
-has_called address seconds old new v w poller None tries = Slow tries
+pub has_called : (aim : Aim) (old new : Option (List Moment)) (v w : Option (List Sight)) (found : Option PollerValue)
+    → Tries aim old new v w (Ok found) → Calls aim old new v w (Ok found)
+has_called aim old new v w (Some done) tries = tries
+has_called aim old new v w None tries = Slow tries
 
 -- at the deadline
-pub gave_up : (address : List ℕ) (seconds : ℕ) (old new : Option (List Moment)) (v mid w : Option (List Sight)) (poller : PollerValue) (fault : FieldFault) (next : Bool) (r : Result (Option PollerValue) FieldFault)
-    → Tries address seconds old new v mid poller (Err fault) → next_line fault ≡ Some next → Waits address seconds mid w (Ok None) → GivesUp fault r → Calls address seconds old new v w poller r
-gave_up address seconds old new v mid w poller (System place error) next r tries is waits gives =
-    subst (λ (given : Result (Option PollerValue) FieldFault). Calls address seconds old new v w poller given) (sym gives) (Refused next mid tries is refl waits)
-gave_up address seconds old new v mid w poller Secret next r tries is waits gives =
-    subst (λ (given : Result (Option PollerValue) FieldFault). Calls address seconds old new v w poller given) (sym gives) (Over Secret next mid tries is refl waits)
-gave_up address seconds old new v mid w poller (Late place deadline) next r tries is waits gives =
-    subst (λ (given : Result (Option PollerValue) FieldFault). Calls address seconds old new v w poller given) (sym gives) (Over (Late place deadline) next mid tries is refl waits)
-gave_up address seconds old new v mid w poller (Clock place why) next r tries is waits gives =
-    subst (λ (given : Result (Option PollerValue) FieldFault). Calls address seconds old new v w poller given) (sym gives) (Over (Clock place why) next mid tries is refl waits)
-gave_up address seconds old new v mid w poller (Other why) next r tries is waits gives =
-    subst (λ (given : Result (Option PollerValue) FieldFault). Calls address seconds old new v w poller given) (sym gives) (Over (Other why) next mid tries is refl waits)
+pub gave_up : (aim : Aim) (old new : Option (List Moment)) (v mid w : Option (List Sight)) (fault : FieldFault) (next : Bool) (r : Result (Option PollerValue) FieldFault)
+    → Tries aim old new v mid (Err fault) → next_line fault ≡ Some next → Waits aim.address aim.seconds mid w (Ok None) → GivesUp fault r → Calls aim old new v w r
+gave_up aim old new v mid w (System place error) next r tries is waits gives =
+    subst (λ (given : Result (Option PollerValue) FieldFault). Calls aim old new v w given) (sym gives) (Refused next mid tries is refl waits)
+gave_up aim old new v mid w Secret next r tries is waits gives =
+    subst (λ (given : Result (Option PollerValue) FieldFault). Calls aim old new v w given) (sym gives) (Over Secret next mid tries is refl waits)
+gave_up aim old new v mid w (Late place deadline) next r tries is waits gives =
+    subst (λ (given : Result (Option PollerValue) FieldFault). Calls aim old new v w given) (sym gives) (Over (Late place deadline) next mid tries is refl waits)
+gave_up aim old new v mid w (Clock place why) next r tries is waits gives =
+    subst (λ (given : Result (Option PollerValue) FieldFault). Calls aim old new v w given) (sym gives) (Over (Clock place why) next mid tries is refl waits)
+gave_up aim old new v mid w (Stranger place one) next r tries is waits gives =
+    subst (λ (given : Result (Option PollerValue) FieldFault). Calls aim old new v w given) (sym gives) (Over (Stranger place one) next mid tries is refl waits)
+gave_up aim old new v mid w (Unasked place why) next r tries is waits gives =
+    subst (λ (given : Result (Option PollerValue) FieldFault). Calls aim old new v w given) (sym gives) (Over (Unasked place why) next mid tries is refl waits)
+gave_up aim old new v mid w (Other why) next r tries is waits gives =
+    subst (λ (given : Result (Option PollerValue) FieldFault). Calls aim old new v w given) (sym gives) (Over (Other why) next mid tries is refl waits)
+
+-- what is returned then is no poll
+pub gives_none : (P : PollerValue → Type 0) (fault : FieldFault) (r : Result (Option PollerValue) FieldFault) → GivesUp fault r → IfOk r (λ found. IfSome found P)
+gives_none P (System place error) r gives = subst (λ (given : Result (Option PollerValue) FieldFault). IfOk given (λ found. IfSome found P)) (sym gives) tt
+gives_none P Secret r gives = subst (λ (given : Result (Option PollerValue) FieldFault). IfOk given (λ found. IfSome found P)) (sym gives) tt
+gives_none P (Late place deadline) r gives = subst (λ (given : Result (Option PollerValue) FieldFault). IfOk given (λ found. IfSome found P)) (sym gives) tt
+gives_none P (Clock place why) r gives = subst (λ (given : Result (Option PollerValue) FieldFault). IfOk given (λ found. IfSome found P)) (sym gives) tt
+gives_none P (Stranger place one) r gives = subst (λ (given : Result (Option PollerValue) FieldFault). IfOk given (λ found. IfSome found P)) (sym gives) tt
+gives_none P (Unasked place why) r gives = subst (λ (given : Result (Option PollerValue) FieldFault). IfOk given (λ found. IfSome found P)) (sym gives) tt
+gives_none P (Other why) r gives = subst (λ (given : Result (Option PollerValue) FieldFault). IfOk given (λ found. IfSome found P)) (sym gives) tt
 
 -- ---- a line of errors
 

@@ -5,7 +5,6 @@ use Rattle.dlms_frame.specs.declared.client.Client.{Client}
 use Rattle.dlms_headend.specs.Asking.{PlanValue}
 use Rattle.dlms_headend.specs.Merged.{last_clock}
 use Rattle.dlms_headend.specs.PollerValue.{PollerValue}
-use Rattle.dlms_headend.specs.Polling.{fresh_poll}
 use Rattle.dlms_headend.specs.declared.plan.Columns.TheVariants.{Asked as AsksColumns}
 use Rattle.dlms_headend.specs.declared.row.Row.{Row}
 use Rattle.dlms_ends.specs.BothEnds.{IsDonePoll}
@@ -14,7 +13,7 @@ use Rattle.dlms_filing.specs.Filing.{Asked}
 use Rattle.dlms_ends.specs.Moments.{Moment}
 use Rattle.dlms_filing.specs.Printing.{Printed}
 use Rattle.dlms_ends.specs.declared.fault.LoopFault.{LoopFault}
-use Rattle.dlms_field.specs.Calling.{FailsCalled, HasDone}
+use Rattle.dlms_field.specs.Calling.{FailsCalled, HasDone, aim_of}
 use Rattle.dlms_field.specs.Clocks.{AreInTime, IsFirstAhead, Takes}
 use Rattle.dlms_field.specs.Faults.{IsOther}
 use Rattle.dlms_field.specs.Keeping.{FilesNone, FilesPolled, HoldsFile, OpensFile}
@@ -95,8 +94,8 @@ pub data IsUnready (polling : Polling) (seen seen' : Option (List Sight)) (asked
 
 -- ---- the whole of it
 
--- It was ready; a poll by this client, from the second of the last row that stands there on, was done over the line, with rows that are
--- taken; and they are filed.
+-- It was ready; over the line each expected text was shown, and then a poll by this client was done, from the second of the last row that
+-- stands there on, with rows that are taken; and they are filed.
 pub record IsDone (polling : Polling) (before after : Known) : Type 0 where
   pub secret : List ℕ
   pub rows : List Row
@@ -105,7 +104,7 @@ pub record IsDone (polling : Polling) (before after : Known) : Type 0 where
   pub asked : Option (List Asked)
   pub ready : IsReady polling before.seen seen before.asked asked secret rows limit
   pub done : PollerValue
-  pub called : HasDone polling.address.now polling.deadline before.past after.past seen after.seen (fresh_poll (plan_behind polling.client secret rows)) done
+  pub called : HasDone (aim_of polling (plan_behind polling.client secret rows)) before.past after.past seen after.seen done
   pub takes : Takes polling.strict limit done.talk.rows
   pub polled : IsDonePoll (plan_behind polling.client secret rows) done
   pub files : FilesPolled asked after.asked before.printed after.printed before.errors after.errors rows done.talk.rows
@@ -118,10 +117,10 @@ PrintsNone before after = (after.printed ≡ before.printed) × (after.errors �
 pub data PollFails (polling : Polling) (before after : Known) (fault : FieldFault) : Type 0 where
   NotReady : IsUnready polling before.seen after.seen before.asked after.asked fault → after.past ≡ before.past → PrintsNone before after → PollFails polling before after fault
   NotCalled : (secret : List ℕ) (rows : List Row) (limit : Option Limit) (seen : Option (List Sight)) → IsReady polling before.seen seen before.asked after.asked secret rows limit
-      → FailsCalled polling.address.now polling.deadline polling.strict limit before.past after.past seen after.seen (fresh_poll (plan_behind polling.client secret rows)) fault → PrintsNone before after
+      → FailsCalled (aim_of polling (plan_behind polling.client secret rows)) polling.strict limit before.past after.past seen after.seen fault → PrintsNone before after
       → PollFails polling before after fault
   NotFiled : (secret : List ℕ) (rows : List Row) (limit : Option Limit) (seen : Option (List Sight)) (asked : Option (List Asked)) → IsReady polling before.seen seen before.asked asked secret rows limit
-      → (done : PollerValue) → HasDone polling.address.now polling.deadline before.past after.past seen after.seen (fresh_poll (plan_behind polling.client secret rows)) done → Takes polling.strict limit done.talk.rows
+      → (done : PollerValue) → HasDone (aim_of polling (plan_behind polling.client secret rows)) before.past after.past seen after.seen done → Takes polling.strict limit done.talk.rows
       → FilesNone (readings_of polling) asked after.asked before.printed after.printed before.errors after.errors rows done.talk.rows fault → PollFails polling before after fault
 
 abbrev pub Polls : {T : Type 0} → Polling → Known → Known → Result T FieldFault → Type 0

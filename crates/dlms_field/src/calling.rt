@@ -1,28 +1,37 @@
 //! A meter is called and polled. A line that is refused, lost or silent is tried again until the deadline.
 
-ghost use Rattle.std.specs.Prelude.{◌≡◌, ◌↔◌, ◌≤◌, IfOk, IfSome, IsTrue};
+ghost use Rattle.std.specs.Prelude.{◌≡◌, ◌↔◌, ◌≤◌, IfOk, IfSome, IsTrue, option_map};
 ghost use Rattle.std.specs.IoError.{error_kind};
 ghost use Rattle.dlms_data.specs.declared.date_time.TheConstants.{LAST_SECOND};
 ghost use Rattle.dlms_headend.specs.Asking.{PlanValue};
 ghost use Rattle.dlms_headend.specs.Polling.{fresh_poll};
 ghost use Rattle.dlms_ends.specs.BothEnds.{IsDonePoll};
 ghost use Rattle.dlms_headend.specs.PollerValue.{plan_of};
-ghost use Rattle.dlms_field.specs.Calling.{Attempts, Calls, Does, GivesUp, IsOfCall, Reaches, Waits, is_lost, next_line};
+ghost use Rattle.dlms_client.specs.Plan.{IsPlan, plan_of as asking_plan};
+ghost use Rattle.dlms_field.specs.Calling.{Attempts, Calls, Does, GivesUp, IsOfCall, IsUnaskedAt, Knows, Reaches, Waits, aim_of, asker_of, is_lost, next_line, secret_by};
 ghost use Rattle.dlms_field.specs.Deadline.{IsOver};
 
 use crate::deadline::{Timer, is_over};
 use crate::desk::Desk;
 use crate::fault::FieldFault;
 use crate::phone::Dialling;
+use crate::polling::Polling;
 use arrayvec::ArrayVec;
+use dlms_call::CallFault;
+use dlms_client::Fault;
 use dlms_ends::{End, HeadEnd, LoopFault, TURNS, Turn, dial};
+use dlms_frame::{Address, Client};
 use dlms_headend::{Plan, PollFault, Poller};
+use dlms_identity::first_other;
 use std::alloc::Global;
 use std::io;
 use std::io::ErrorKind;
 
 /// The most attempts of a poll. Each is followed by a pause of a second, and no deadline is that long.
 pub const ATTEMPTS: u32 = 131_072;
+
+/// The most bytes of an APDU by which a text is asked for.
+const SIZE: u16 = 1_024;
 
 /// Whether a poll that may take this many seconds has to end at this one.
 fn has_to_end(seconds: u32, time: u64) -> bool
@@ -83,27 +92,87 @@ fn reach<L: Dialling>(
     line.connect(address, seconds)
 }
 
-/// One attempt: the line is connected, within the seconds that are left, and the poll is done over it.
+/// The secret that a client sends.
+fn secret_by(client: Client, secret: &ArrayVec<u8, 16>) -> Option<ArrayVec<u8, 16>>
+    ensures { option_map (λ secret. secret.items) result ≡ secret_by client secret.now.items }
+{
+    match client {
+        Client::Public => None,
+        Client::Management => Some(copied(secret)),
+        Client::Reader => Some(copied(secret)),
+    }
+}
+
+/// The client of a poll's plan, as it asks for texts.
+fn asker(plan: &Plan) -> dlms_client::Plan
+    ensures asker { asking_plan result ≡ asker_of (plan_of plan.now) }
+    ensures lawful { IsPlan (asking_plan result) }
+{
+    dlms_client::Plan {
+        sap: plan.client.sap(),
+        server: Address::One(1),
+        secret: secret_by(plan.client, &plan.secret),
+        size: SIZE,
+    }
+}
+
+/// The fault of a text that could not be asked for: if the line failed, with the system's error.
+fn asking_fault<'a>(
+    address: &'a str,
+    fault: CallFault,
+    failure: Option<io::Error>,
+) -> FieldFault<'a>
+    ensures { IsUnaskedAt address.now fault result }
+{
+    match (fault, failure) {
+        (CallFault::Io, Some(error)) => FieldFault::System(address, error),
+        _ => FieldFault::Unasked(address, fault),
+    }
+}
+
+/// Asks for the texts that the meter has to show.
+#[inline(never)]
+fn knows<'a, L: Dialling>(
+    alloc: Global,
+    line: &mut L,
+    polling: &Polling<'a, '_>,
+    plan: &Plan,
+) -> Result<(), FieldFault<'a>>
+    ensures { Knows (aim_of polling.now (plan_of plan.now)) (L.past line.old) (L.past line.new) result }
+{
+    match first_other(alloc, line, &asker(plan), polling.expected) {
+        Ok(None) => Ok(()),
+        Ok(Some(one)) => Err(FieldFault::Stranger(polling.address, one)),
+        Err(fault) => Err(asking_fault(polling.address, fault, line.failure())),
+    }
+}
+
+/// One attempt: the line is connected, within the seconds that are left, the expected texts are asked for, and the poll is done over it.
 fn attempt<'a, D: Desk, L: Dialling>(
+    alloc: Global,
     desk: &mut D,
     line: &mut L,
-    address: &'a str,
-    seconds: u32,
+    polling: &Polling<'a, '_>,
+    plan: &Plan,
     left: u32,
     connected: bool,
-    poller: Poller,
 ) -> Result<Option<Poller>, FieldFault<'a>>
-    ensures attempts { Attempts connected address.now seconds (L.past line.old) (L.past line.new) (D.seen desk.old) (D.seen desk.new) poller result }
-    ensures done { (plan : PlanValue) → poller ≡ fresh_poll plan → IfOk result (λ done. IfSome done (IsDonePoll plan)) }
+    requires { IfSome plan.now.after (λ second. second ≤ LAST_SECOND) }
+    ensures attempts { Attempts connected (aim_of polling.now (plan_of plan.now)) (L.past line.old) (L.past line.new) (D.seen desk.old) (D.seen desk.new) result }
+    ensures done { IfOk result (λ done. IfSome done (IsDonePoll (plan_of plan.now))) }
 {
-    match reach(line, address, left, connected) {
+    match reach(line, polling.address, left, connected) {
         Ok(true) => {}
         Ok(false) => return Ok(None),
-        Err(error) => return Err(FieldFault::System(address, error)),
+        Err(error) => return Err(FieldFault::System(polling.address, error)),
     }
-    match done(line, desk, seconds, poller) {
+    match knows(alloc, line, polling, plan) {
+        Ok(()) => {}
+        Err(fault) => return Err(fault),
+    }
+    match done(line, desk, polling.deadline, fresh(alloc, plan)) {
         Ok(poller) => Ok(poller),
-        Err(fault) => Err(line_fault(address, fault, line.failure())),
+        Err(fault) => Err(line_fault(polling.address, fault, line.failure())),
     }
 }
 
@@ -129,6 +198,7 @@ fn next_line(fault: &FieldFault<'_>) -> Option<bool>
 {
     match fault {
         FieldFault::Other(LoopFault::Poll(PollFault::Line)) => Some(true),
+        FieldFault::Unasked(_, CallFault::Talk(Fault::Line)) => Some(true),
         FieldFault::System(_, error) => { if is_lost(*error) { Some(false) } else { None } }
         _ => None,
     }
@@ -195,38 +265,36 @@ fn fresh(alloc: Global, plan: &Plan) -> Poller
     )
 }
 
-/// Calls the meter at an address, and polls it by this plan. Returns the poll that is done, with its rows, and none if the seconds are
-/// over before. A connection that is refused or lost is made again, and a meter that does not answer is asked again over the same one, a
-/// second later, until then. If the line failed, the fault has the system's error.
+/// Calls a meter, and polls it by this plan, once it has shown the expected texts. Returns the poll that is done, with its rows, and none
+/// if the seconds are over before. A connection that is refused or lost is made again, and a meter that does not answer is asked again
+/// over the same one, a second later, until then. If the line failed, the fault has the system's error.
 pub fn call<'a, D: Desk, L: Dialling>(
     alloc: Global,
     desk: &mut D,
     line: &mut L,
-    address: &'a str,
-    seconds: u32,
+    polling: &Polling<'a, '_>,
     plan: &Plan,
 ) -> Result<Option<Poller>, FieldFault<'a>>
     requires { IfSome plan.now.after (λ second. second ≤ LAST_SECOND) }
-    ensures calls { Calls address.now seconds (L.past line.old) (L.past line.new) (D.seen desk.old) (D.seen desk.new) (fresh_poll (plan_of plan.now)) result }
+    ensures calls { Calls (aim_of polling.now (plan_of plan.now)) (L.past line.old) (L.past line.new) (D.seen desk.old) (D.seen desk.new) result }
     ensures done { IfOk result (λ done. IfSome done (IsDonePoll (plan_of plan.now))) }
 {
     match desk.start() {
         Ok(()) => {}
-        Err(error) => return Err(FieldFault::System(address, error)),
+        Err(error) => return Err(FieldFault::System(polling.address, error)),
     }
     let mut connected = false;
-    let mut left = seconds;
+    let mut left = polling.deadline;
     'attempts: for _attempt in 0..ATTEMPTS {
-        let poller = fresh(alloc, plan);
-        let fault = match attempt(desk, line, address, seconds, left, connected, poller) {
+        let fault = match attempt(alloc, desk, line, polling, plan, left, connected) {
             Ok(found) => return Ok(found),
             Err(fault) => fault,
         };
         let Some(next) = next_line(&fault) else {
             return Err(fault);
         };
-        match wait(desk, address, seconds) {
-            Ok(Some(time)) => left = left_of(seconds, time),
+        match wait(desk, polling.address, polling.deadline) {
+            Ok(Some(time)) => left = left_of(polling.deadline, time),
             Ok(None) => return given_up(fault),
             Err(fault) => return Err(fault),
         }

@@ -3,7 +3,9 @@ ghost use Rattle.std.specs.Prelude.{◌≡◌};
 ghost use Rattle.dlms_field.specs.declared.fault.FieldFault.TheVariants.{Other as OtherOf};
 
 use crate::clocks::ClockFault;
+use dlms_call::CallFault;
 use dlms_ends::LoopFault;
+use dlms_identity::Expected;
 use std::io;
 
 /// Why a tool of the field ended early.
@@ -17,6 +19,10 @@ pub enum FieldFault<'a> {
     Late(&'a str, u32),
     /// Of the rows from this address or file one is refused for its clock.
     Clock(&'a str, ClockFault),
+    /// The meter at this address does not show this text.
+    Stranger(&'a str, Expected<'a>),
+    /// The meter at this address could not be asked for a text.
+    Unasked(&'a str, CallFault),
     /// Anything else.
     Other(LoopFault),
 }

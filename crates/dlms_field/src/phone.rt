@@ -98,12 +98,26 @@ fn opened<R: Net + Files<File = File> + AllocGlobal>(rt: &R, device: &str) -> io
 pub struct Phone<'r, R: Net + Clock> {
     rt: &'r R,
     line: Option<Line<'r, R, Wire<R::Stream>>>,
+    has_deadline: bool,
 }
 
 impl<'r, R: Net + Clock> Phone<'r, R> {
     /// It is connected to nothing.
     pub fn new(rt: &'r R) -> Self {
-        Phone { rt, line: None }
+        Phone {
+            rt,
+            line: None,
+            has_deadline: false,
+        }
+    }
+
+    /// It is connected to nothing. Once it is connected, nothing more comes after the seconds within which it had to be.
+    pub fn until(rt: &'r R) -> Self {
+        Phone {
+            rt,
+            line: None,
+            has_deadline: true,
+        }
     }
 }
 
@@ -136,10 +150,10 @@ impl<R: Net + Files<File = File> + Clock + AllocGlobal> Dialling for Phone<'_, R
     /// Of a path from the root on it is the serial line of that device. Bytes go out at once, and no call waits for more than two
     /// seconds.
     fn connect(&mut self, address: &str, seconds: u32) -> io::Result<bool> {
+        let deadline = Deadline::new(self.rt, seconds)?;
         let wire = if is_device(address) {
             Wire::Serial(opened(self.rt, address)?)
         } else {
-            let deadline = Deadline::new(self.rt, seconds)?;
             let Some(stream) = connected(self.rt, address, &deadline)? else {
                 return Ok(false);
             };
@@ -148,7 +162,12 @@ impl<R: Net + Files<File = File> + Clock + AllocGlobal> Dialling for Phone<'_, R
             prepare(&mut stream)?;
             Wire::Socket(stream)
         };
-        self.line = Some(Line::new(self.rt, wire)?);
+        let until = if self.has_deadline {
+            Some(deadline)
+        } else {
+            None
+        };
+        self.line = Some(Line::new(self.rt, wire, until)?);
         Ok(true)
     }
 

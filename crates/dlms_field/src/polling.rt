@@ -2,9 +2,8 @@
 
 ghost use Rattle.std.specs.Prelude.{◌≤◌, IfErr, IfOk, IfSome, option_map};
 ghost use Rattle.dlms_headend.specs.PollerValue.{plan_of};
-ghost use Rattle.dlms_headend.specs.Polling.{fresh_poll};
 ghost use Rattle.dlms_ends.specs.BothEnds.{IsDonePoll};
-ghost use Rattle.dlms_field.specs.Calling.{FailsCalled, HasDone};
+ghost use Rattle.dlms_field.specs.Calling.{FailsCalled, HasDone, aim_of};
 ghost use Rattle.dlms_field.specs.Clocks.{Takes};
 ghost use Rattle.dlms_field.specs.Polled.{IsReady, IsUnready, JudgesFiled, Known, Limits, Polls};
 
@@ -21,6 +20,7 @@ use dlms_ends::LoopFault;
 use dlms_filing::{FilePlace, Holding, HostDisk, Output};
 use dlms_frame::Client;
 use dlms_headend::{Columns, Plan, Poller, Readings, Row};
+use dlms_identity::Expected;
 use std::alloc::Global;
 use std::fs::{File, Files};
 use std::net::Net;
@@ -28,7 +28,7 @@ use std::time::Clock;
 
 /// What is polled, into which file, and by whom.
 #[derive(Clone, Copy, Debug)]
-pub struct Polling<'a> {
+pub struct Polling<'a, 'e> {
     /// The meter's address and port, or the device of its serial line.
     pub address: &'a str,
     /// The file that the readings stand in.
@@ -43,6 +43,8 @@ pub struct Polling<'a> {
     pub ahead: Option<u32>,
     /// Whether an answer is refused if one of its rows is not later than the row before it. Otherwise such rows are left out.
     pub strict: bool,
+    /// What the meter has to show before it is polled.
+    pub expected: &'e [Expected<'a>],
 }
 
 /// What a head end polls with: what it asks of the world, the place of its readings, and its line.
@@ -63,7 +65,7 @@ impl<'r, R: Net + Files<File = File> + Clock> Office<
         Office {
             desk: HostDesk::new(rt),
             place: FilePlace::of(rt),
-            line: Phone::new(rt),
+            line: Phone::until(rt),
         }
     }
 }
@@ -115,7 +117,7 @@ fn prepared<'a, D: Desk, F: Holding>(
     alloc: Global,
     desk: &mut D,
     place: &mut F,
-    polling: &Polling<'a>,
+    polling: &Polling<'a, '_>,
 ) -> Result<Ready, FieldFault<'a>>
     ensures ready { IfOk result (λ ready. IsReady polling.now (D.seen desk.old) (D.seen desk.new) (F.asked place.old) (F.asked place.new) ready.secret.items ready.readings ready.limit) }
     ensures fails { IfErr result (IsUnready polling.now (D.seen desk.old) (D.seen desk.new) (F.asked place.old) (F.asked place.new)) }
@@ -152,16 +154,16 @@ fn called<'a, D: Desk, L: Dialling>(
     alloc: Global,
     desk: &mut D,
     line: &mut L,
-    polling: &Polling<'a>,
+    polling: &Polling<'a, '_>,
     plan: &Plan,
     limit: Option<Limit>,
 ) -> Result<Poller, FieldFault<'a>>
     requires { IfSome plan.now.after (λ second. second ≤ LAST_SECOND) }
-    ensures fails { IfErr result (FailsCalled polling.now.address.now polling.now.deadline polling.now.strict limit (L.past line.old) (L.past line.new) (D.seen desk.old) (D.seen desk.new) (fresh_poll (plan_of plan.now))) }
-    ensures takes { IfOk result (λ done. HasDone polling.now.address.now polling.now.deadline (L.past line.old) (L.past line.new) (D.seen desk.old) (D.seen desk.new) (fresh_poll (plan_of plan.now)) done × Takes polling.now.strict limit done.talk.rows) }
+    ensures fails { IfErr result (FailsCalled (aim_of polling.now (plan_of plan.now)) polling.now.strict limit (L.past line.old) (L.past line.new) (D.seen desk.old) (D.seen desk.new)) }
+    ensures takes { IfOk result (λ done. HasDone (aim_of polling.now (plan_of plan.now)) (L.past line.old) (L.past line.new) (D.seen desk.old) (D.seen desk.new) done × Takes polling.now.strict limit done.talk.rows) }
     ensures done { IfOk result (IsDonePoll (plan_of plan.now)) }
 {
-    let called = call(alloc, desk, line, polling.address, polling.deadline, plan);
+    let called = call(alloc, desk, line, polling, plan);
     let poller = match called {
         Ok(Some(poller)) => poller,
         Ok(None) => return Err(FieldFault::Late(polling.address, polling.deadline)),
@@ -173,14 +175,14 @@ fn called<'a, D: Desk, L: Dialling>(
     }
 }
 
-/// Polls the meter at an address once over a line, merges the rows into the file where one is named, and prints those that the
+/// Polls the meter at an address once over a line, if it shows the expected texts, merges the rows into the file where one is named, and prints those that the
 /// file did not have. The secret and the file are read before the meter is called, and no other poll has the file until the end.
 /// Each row is filed that is later than the row filed before it; how many rows are left out is reported on the errors. Rows that are too
 /// far past the clock of the day are refused, and with `strict` rows that do not rise are too: nothing is filed then.
 pub fn poll<'a, D: Desk, F: Holding, L: Dialling, O: Output, E: Output>(
     alloc: Global,
     office: &mut Office<D, F, L>,
-    polling: &Polling<'a>,
+    polling: &Polling<'a, '_>,
     output: &mut O,
     errors: &mut E,
 ) -> Result<(), FieldFault<'a>>

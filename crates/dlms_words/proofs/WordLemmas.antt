@@ -1,5 +1,5 @@
 -- What the program's words come to.
-use Rattle.std.proofs.Common.{◌≡◌, ◌∙◌, ◌&&◌, refl, ap, subst, inl, inr, Bool, true, false, not, List, [], ◌∷◌, Option, Some, None, codes}
+use Rattle.std.proofs.Common.{◌≡◌, ◌∙◌, ◌&&◌, ℕ, refl, sym, ap, subst, inl, inr, Bool, true, false, not, List, [], ◌∷◌, Option, Some, None, codes, Bor}
 use Rattle.std.specs.Prelude.{◌⊎◌, cond, find, is_some, option_map}
 use Rattle.std.specs.List.{list_any}
 use Rattle.clap.specs.Words.{App, HasMatchesOf, Row, Shape, Text, built, fault_of, subcommand_of, subcommand_rows_of}
@@ -10,6 +10,9 @@ use Rattle.clap.specs.Faults.{check_fault, defaults_fault, entered_fault, level_
 use Rattle.clap.specs.Takes.{is_given}
 use Rattle.clap.specs.Walk.{Held, Names, answers_to, finished, nothing_held, settled, walk, walk_from}
 use Rattle.clap.specs.Kinds.{Kinds, check_kinds, or_else}
+use Rattle.std.specs.Prelude.{slice_get, map}
+use Rattle.std.proofs.lemmas.Option.{slice_get-map}
+use Rattle.dlms_words.specs.Words.{nth_of}
 use Rattle.dlms_words.specs.Grammar.{dlms}
 
 -- ---- where no fault is met, a command is
@@ -140,3 +143,12 @@ matched a words m is has =
 pub is_some_map : {A B : Type 0} (f : A → B) (o : Option A) → is_some (option_map f o) ≡ is_some o
 is_some_map f None = refl
 is_some_map f (Some x) = refl
+
+-- ---- the texts of an option that was given several times
+
+pub nth_none : (place : ℕ) (texts : Option (List Text)) → None ≡ texts → None ≡ nth_of place texts
+nth_none place texts e = ap (nth_of place) e
+
+pub nth_some : (place : ℕ) (found : List (Bor Text)) (texts : Option (List Text)) → Some (map (λ v. v.now) found) ≡ texts
+    → option_map (λ v. v.now) (slice_get found place) ≡ nth_of place texts
+nth_some place found texts e = sym (slice_get-map (λ v. v.now) found place) ∙ ap (nth_of place) e

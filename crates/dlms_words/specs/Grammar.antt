@@ -1,14 +1,14 @@
 -- The program's commands, and what each may be given.
 use Rattle.std.specs.Prelude.{◌≡◌, ℕ, pos, List, [], ◌∷◌, Some, codes, map, true, false}
 use Rattle.clap.specs.Words.{App, Rule, Text, new_app, new_rule, with_rule, with_subcommand}
-use Rattle.clap.specs.declared.builder.action.ArgAction.TheVariants.{SetTrue}
+use Rattle.clap.specs.declared.builder.action.ArgAction.TheVariants.{Append, SetTrue}
 use Rattle.clap.specs.declared.builder.arg.Arg.{Arg}
 use Rattle.clap.specs.declared.builder.command.Command.{Command}
 use Rattle.clap.specs.declared.builder.command.Command.TheViews.{out-Command as fields_of}
 use Rattle.clap.specs.declared.builder.value_parser.ValueParser.TheVariants as parser
 use Rattle.dlms_words.specs.declared.arguments.Argument.{Argument}
 use Rattle.dlms_words.specs.declared.arguments.Kind.{Kind}
-use Rattle.dlms_words.specs.declared.arguments.Kind.TheVariants.{Value, Wanted, Flag, ShortFlag, Option as OptionOf, Number}
+use Rattle.dlms_words.specs.declared.arguments.Kind.TheVariants.{Value, Wanted, Flag, ShortFlag, Option as OptionOf, Options, Number}
 use Rattle.dlms_words.specs.declared.grammar.CommandWords.{CommandWords}
 
 -- ---- what a command may be given
@@ -31,6 +31,10 @@ short_flag_rule name letter = record (flag_rule name) { short = Some letter }
 abbrev pub option_rule : Text → Rule
 option_rule name = record (new_rule name) { long = Some name; value_names = 1 }
 
+-- an option that may be given several times
+abbrev pub options_rule : Text → Rule
+options_rule name = record (option_rule name) { action = Some Append }
+
 -- an option whose value is a number from `least` to `most`
 abbrev pub number_rule : Text → (least most : ℕ) → Rule
 number_rule name least most = record (option_rule name) { parser = Some (parser.Signed (pos least) (pos most)) }
@@ -42,6 +46,7 @@ rule_as Wanted name = wanted_rule name
 rule_as Flag name = flag_rule name
 rule_as (ShortFlag letter) name = short_flag_rule name letter
 rule_as (OptionOf value) name = option_rule name
+rule_as (Options value) name = options_rule name
 rule_as (Number value least most) name = number_rule name least most
 
 abbrev pub rule_for : Argument → Rule
@@ -89,7 +94,8 @@ serve_command = with_rules (new_app (codes "serve"))
 abbrev pub poll_command : App
 poll_command = with_rules (new_app (codes "poll"))
     (wanted_rule (codes "PLACE") ∷ option_rule (codes "readings") ∷ option_rule (codes "secret-file") ∷ flag_rule (codes "public") ∷ flag_rule (codes "reader")
-    ∷ number_rule (codes "deadline") 1 86400 ∷ flag_rule (codes "check-clock") ∷ number_rule (codes "ahead") 0 31536000 ∷ flag_rule (codes "strict") ∷ [])
+    ∷ number_rule (codes "deadline") 1 86400 ∷ flag_rule (codes "check-clock") ∷ number_rule (codes "ahead") 0 31536000 ∷ flag_rule (codes "strict")
+    ∷ options_rule (codes "expect") ∷ [])
 
 -- which meter is asked, by whom, whether the frames are explained, and how long a value may be
 abbrev pub asking_rules : List Rule

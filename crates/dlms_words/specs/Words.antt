@@ -1,13 +1,15 @@
 -- The job that a parse of the program's words names.
 use Rattle.std.specs.Str.{bytes_eq}
-use Rattle.std.specs.Prelude.{◌≡◌, ◌⊎◌, if◌then◌else◌, ◌<◌, ◌↔◌, ◌^◌, ℕ, [], List, Option, Some, None, codes, cond, option_map, unwrap_or, Bool, true, false, is_some, IsTrue}
+use Rattle.std.specs.Str.Parse.{without_leading_plus}
+use Rattle.std.specs.Prelude.{◌≡◌, ◌⊎◌, if◌then◌else◌, ◌<◌, ◌↔◌, ◌^◌, ℕ, [], List, Option, Some, None, codes, cond, option_map, unwrap_or, Bool, true, false, is_some, IsTrue, slice_get}
 use Rattle.clap.specs.Values.{kind_of}
-use Rattle.clap.specs.Words.{Row, Text, first_of}
+use Rattle.clap.specs.Words.{Row, Text, all_of, first_of}
 use Rattle.clap.specs.declared.error.Error.{Error}
 use Rattle.clap.specs.declared.error.kind.ErrorKind.TheVariants.{ArgumentConflict, InvalidValue}
 use Rattle.dlms_words.specs.declared.commands.Job.{Job}
 use Rattle.dlms_words.specs.declared.commands.Job.TheVariants.{Format, Replay, Loopback, Serve, Poll, Get, List as ListOf, Set, Act, Explain, Show, Plot}
 use Rattle.dlms_words.specs.declared.commands.Asking.{Asking}
+use Rattle.dlms_words.specs.declared.commands.Expecting.{Expecting}
 use Rattle.dlms_words.specs.declared.words.TheConstants.{AHEAD, CLIENT, DEADLINE, IDLE, INACTIVITY, MOST, TICK, TURN}
 use Rattle.dlms_words.specs.Addresses.{IsAddress, is_device}
 use Rattle.dlms_words.specs.Numbers.{IsNumberOf}
@@ -22,10 +24,10 @@ Met = Option (Text × List Row)
 abbrev pub file_in : List Row → Option Text
 file_in rows = first_of (codes "FILE") rows
 
--- a number of so many bits, where none is said this one
+-- a number of so many bits, with a plus before it or without; if none is said, this one
 abbrev pub Says : (bits other : ℕ) → Option Text → ℕ → Type 0
 Says bits other None number = number ≡ other
-Says bits other (Some text) number = (n : ℕ) → n < 2 ^ bits → IsNumberOf text n → number ≡ n
+Says bits other (Some text) number = (n : ℕ) → n < 2 ^ bits → IsNumberOf (without_leading_plus text) n → number ≡ n
 
 -- the number that was said for this value, where none is this one: so many stops; so many watts, seconds and the like
 abbrev pub SaysStops : Option Text → ℕ → Type 0
@@ -42,7 +44,7 @@ IsSaid found flag = IsTrue flag ↔ (found ≡ Some (codes "true"))
 -- looked at, and else it is not looked at
 abbrev pub SaysAhead : Bool → Option Text → Option ℕ → Type 0
 SaysAhead checks None ahead = ahead ≡ cond checks (Some AHEAD) None
-SaysAhead checks (Some text) ahead = (n : ℕ) → n < 2 ^ 32 → IsNumberOf text n → ahead ≡ Some n
+SaysAhead checks (Some text) ahead = (n : ℕ) → n < 2 ^ 32 → IsNumberOf (without_leading_plus text) n → ahead ≡ Some n
 
 abbrev pub ChecksClock : List Row → Option ℕ → Type 0
 ChecksClock rows ahead = (checks : Bool) × IsSaid (first_of (codes "check-clock") rows) checks × SaysAhead checks (first_of (codes "ahead") rows) ahead
@@ -66,6 +68,19 @@ pub record IsAsking (rows : List Row) (asking : Asking) : Type 0 where
   pub verbose : IsSaid (first_of (codes "verbose") rows) asking.verbose
   pub most : IsSaidFor (codes "most") rows MOST asking.most
 
+-- the text at this place among those that were given, if so many were
+abbrev pub nth_of : ℕ → Option (List Text) → Option Text
+nth_of place None = None
+nth_of place (Some texts) = slice_get texts place
+
+-- the first five of the texts that were given
+pub record IsExpecting (texts : Option (List Text)) (expecting : Expecting) : Type 0 where
+  pub first : option_map (λ text. text.now) expecting.first ≡ nth_of 0 texts
+  pub second : option_map (λ text. text.now) expecting.second ≡ nth_of 1 texts
+  pub third : option_map (λ text. text.now) expecting.third ≡ nth_of 2 texts
+  pub fourth : option_map (λ text. text.now) expecting.fourth ≡ nth_of 3 texts
+  pub fifth : option_map (λ text. text.now) expecting.fifth ≡ nth_of 4 texts
+
 -- the words ask for the job, with these values
 abbrev pub Asks : Met → Job → Type 0
 Asks met (Format file demo force) = (rows : List Row) × (met ≡ Some (codes "format", rows)) × (file.now ≡ unwrap_or (file_in rows) []) × IsSaid (first_of (codes "demo") rows) demo × IsSaid (first_of (codes "force") rows) force
@@ -75,10 +90,10 @@ Asks met (Serve file listen line load tick quiet idle turn inactivity) = (rows :
     × (option_map (λ a. a.now) listen ≡ first_of (codes "listen") rows) × (option_map (λ d. d.now) line ≡ first_of (codes "line") rows) × IsSaidFor (codes "load") rows 0 load
     × IsSaidFor (codes "tick") rows TICK tick × IsSaid (first_of (codes "quiet") rows) quiet
     × IsSaidFor (codes "idle") rows IDLE idle × IsSaidFor (codes "turn") rows TURN turn × IsSaidFor (codes "inactivity") rows INACTIVITY inactivity
-Asks met (Poll address readings secret client deadline ahead strict) = (rows : List Row) × (met ≡ Some (codes "poll", rows)) × (address.now ≡ unwrap_or (first_of (codes "PLACE") rows) [])
+Asks met (Poll address readings secret client deadline ahead strict expecting) = (rows : List Row) × (met ≡ Some (codes "poll", rows)) × (address.now ≡ unwrap_or (first_of (codes "PLACE") rows) [])
     × (option_map (λ f. f.now) readings ≡ first_of (codes "readings") rows) × (option_map (λ f. f.now) secret ≡ first_of (codes "secret-file") rows)
     × IsAsker rows client × IsSaidFor (codes "deadline") rows DEADLINE deadline × ChecksClock rows ahead
-    × IsSaid (first_of (codes "strict") rows) strict
+    × IsSaid (first_of (codes "strict") rows) strict × IsExpecting (all_of (codes "expect") rows) expecting
 Asks met (Get asking names of_class raw json) = (rows : List Row) × (met ≡ Some (codes "get", rows)) × IsAsking rows asking × (names.now ≡ unwrap_or (first_of (codes "NAMES") rows) [])
     × IsSaidFor (codes "class") rows 0 of_class × IsSaid (first_of (codes "raw") rows) raw × IsSaid (first_of (codes "json") rows) json
 Asks met (ListOf asking json) = (rows : List Row) × (met ≡ Some (codes "list", rows)) × IsAsking rows asking × IsSaid (first_of (codes "json") rows) json

@@ -21,6 +21,16 @@ pub struct Asking<'a> {
     pub most: u32,
 }
 
+/// The texts of an option that was given several times, in their order. `fifth` is there to be refused: four are taken at most.
+#[derive(Clone, Copy)]
+pub struct Expecting<'a> {
+    pub first: Option<&'a str>,
+    pub second: Option<&'a str>,
+    pub third: Option<&'a str>,
+    pub fourth: Option<&'a str>,
+    pub fifth: Option<&'a str>,
+}
+
 /// The work that the program is asked to do.
 #[derive(Clone, Copy)]
 pub enum Job<'a> {
@@ -60,7 +70,7 @@ pub enum Job<'a> {
     /// Polls the meter at this address or on this serial line once, into this file if one is named. It asks as this client, with the
     /// secret in a file, or with the client's first secret if no file is named and the client has one. It may take `deadline` seconds.
     /// With `ahead` no row's clock may be more seconds past the system's; with `strict` each row has to be later than the one before
-    /// it.
+    /// it. With `expecting` it polls only a meter whose objects show these texts.
     Poll {
         address: &'a str,
         readings: Option<&'a str>,
@@ -69,6 +79,7 @@ pub enum Job<'a> {
         deadline: u32,
         ahead: Option<u32>,
         strict: bool,
+        expecting: Expecting<'a>,
     },
     /// Asks a meter for the attributes with these names, of objects of this class where it is not 0; prints their encodings where
     /// `raw` is set, and JSON where `json` is.

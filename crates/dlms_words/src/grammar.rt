@@ -223,6 +223,11 @@ const COMMANDS: [CommandWords; 12] = [
                 kind: Kind::Flag,
                 help: "Refuses the whole answer if a row is not later than the one before it",
             },
+            Argument {
+                name: "expect",
+                kind: Kind::Options("NAME=TEXT"),
+                help: "Polls only a meter whose object NAME shows TEXT; may be given up to four times",
+            },
         ],
         more: &[],
     },

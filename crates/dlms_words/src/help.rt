@@ -82,14 +82,16 @@ leaves the old text or the new one. Prints a line \"clock,r0,r1,r2\" for each ro
 what was printed and not filed comes again with the next poll. A row is filed if it is later than FILE's last row and than every \
 row before it in the answer; a line on standard error says how many rows were left out, and which was the first. With --strict \
 such an answer is refused instead. Until the deadline a connection that is refused or lost is made again, and a meter that does not \
-answer is asked again, a second later. One poll at a time has FILE, by the lock of FILE.lock, which stays. A frame that is not \
+answer is asked again, a second later. With --expect NAME=TEXT the meter is polled only if its object NAME of class Data shows TEXT, \
+as in --expect 0.0.42.0.0.255=RTL0000000000001; up to four may be given, and if one differs nothing is filed. Without --expect the \
+first poll into a new FILE says on standard error what the meter calls itself. One poll at a time has FILE, by the lock of FILE.lock, which stays. A frame that is not \
 answered within two seconds goes out again, three times at most.
 
 Exit status: 0; 1 after a fault (dlms: io, with the file or PLACE and the system's words on a second line; dlms: line N \
 for a line of FILE that is none of readings; dlms: secret for one of more than 16 bytes; dlms: line where nobody answers, or \
 the deadline is over, as a second line says; dlms: protocol (also for \
 rows of other columns than the clock and the three registers), dlms: refused N or dlms: result N for the poll; dlms: clock N where, with --strict, row N is not later than the one before it; dlms: ahead N where row N is too far past the system's clock, of the poll or \
-of FILE, as a second line says; dlms: memory); \
+of FILE, as a second line says; dlms: expect where the meter does not show an expected TEXT; dlms: memory); \
 2 for words that are not understood, and for this help.";
 
 /// What `get` does, for its help.

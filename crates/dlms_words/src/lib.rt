@@ -10,6 +10,6 @@ pub mod laws;
 mod numbers;
 mod words;
 
-pub use commands::{Asking, Job};
+pub use commands::{Asking, Expecting, Job};
 pub use numbers::number;
 pub use words::job;

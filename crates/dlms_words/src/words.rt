@@ -1,12 +1,12 @@
 //! What the program's words ask for.
-ghost use Rattle.std.specs.Prelude.{◌≡◌, ◌⊎◌, ◌↔◌, [], List, Some, option_map, OnOk, IfErr, IfNone, IfOk, OnSome, IsTrue, codes, is_some, map};
+ghost use Rattle.std.specs.Prelude.{◌≡◌, ◌⊎◌, ◌↔◌, [], List, Some, option_map, OnOk, IfErr, IfNone, IfOk, OnSome, IsTrue, codes, is_some, map, slice_get};
 ghost use Rattle.clap.specs.Values.{kind_of};
-ghost use Rattle.clap.specs.Words.{fault_of, first_of, Row, FailsBy, HasKind, subcommand_rows_of, subcommand_of};
+ghost use Rattle.clap.specs.Words.{all_of, fault_of, first_of, Row, FailsBy, HasKind, subcommand_rows_of, subcommand_of};
 ghost use Rattle.dlms_words.specs.Grammar.{dlms};
-ghost use Rattle.dlms_words.specs.Words.{asker as client_by, address_in, Asks, AsksBoth, AsksTwoClients, IsAsking, IsClear, IsUnclear, NamesNoAddress, NamesTwoPlaces, IsSaid, IsSaidFor, Says, SaysAhead, SaysStops, unless_device};
+ghost use Rattle.dlms_words.specs.Words.{asker as client_by, address_in, Asks, AsksBoth, AsksTwoClients, IsAsking, IsClear, IsExpecting, IsUnclear, NamesNoAddress, NamesTwoPlaces, nth_of, IsSaid, IsSaidFor, Says, SaysAhead, SaysStops, unless_device};
 
 use crate::addresses::{is_address, is_device};
-use crate::commands::{Asking, Job};
+use crate::commands::{Asking, Expecting, Job};
 use crate::grammar::program;
 use clap::error::ErrorKind;
 use clap::{ArgMatches, Error};
@@ -62,6 +62,21 @@ fn value_for<'a>(matches: &ArgMatches<'a>, command: &str, id: &str) -> Option<&'
     ensures { (rows : List Row) → subcommand_rows_of matches.now ≡ Some (command.now, rows) → option_map (λ value. value.now) result ≡ first_of id.now rows }
 {
     matches.subcommand_matches(command)?.get_str(id)
+}
+
+/// The text at this place, if there are so many.
+fn text_at<'a>(texts: &[&'a str], place: usize) -> Option<&'a str>
+    ensures { result ≡ slice_get texts.now place }
+{
+    texts.get(place).copied()
+}
+
+/// The text at this place, from 0 on, among those that were found for one of a command's values, if there are so many.
+fn nth_for<'a>(matches: &ArgMatches<'a>, command: &str, id: &str, place: usize) -> Option<&'a str>
+    ensures { (rows : List Row) → subcommand_rows_of matches.now ≡ Some (command.now, rows) → option_map (λ value. value.now) result ≡ nth_of place (all_of id.now rows) }
+{
+    let texts = matches.subcommand_matches(command)?.get_strs(id)?;
+    text_at(texts, place)
 }
 
 /// The count of stops that was said.
@@ -164,6 +179,19 @@ fn asker(public: bool, reader: bool) -> Client
     }
 }
 
+/// The texts that the meter's objects have to show.
+fn expecting<'a>(matches: &ArgMatches<'a>) -> Expecting<'a>
+    ensures { (rows : List Row) → subcommand_rows_of matches.now ≡ Some (codes "poll", rows) → IsExpecting (all_of (codes "expect") rows) result }
+{
+    Expecting {
+        first: nth_for(matches, "poll", "expect", 0),
+        second: nth_for(matches, "poll", "expect", 1),
+        third: nth_for(matches, "poll", "expect", 2),
+        fourth: nth_for(matches, "poll", "expect", 3),
+        fifth: nth_for(matches, "poll", "expect", 4),
+    }
+}
+
 /// The values of `poll`.
 fn poll_job<'a>(matches: &ArgMatches<'a>) -> Job<'a>
     ensures { (rows : List Row) → subcommand_rows_of matches.now ≡ Some (codes "poll", rows) → Asks (Some (codes "poll", rows)) result }
@@ -180,6 +208,7 @@ fn poll_job<'a>(matches: &ArgMatches<'a>) -> Job<'a>
         deadline: number_for(matches, "poll", "deadline", DEADLINE),
         ahead: ahead(checks, value_for(matches, "poll", "ahead")),
         strict,
+        expecting: expecting(matches),
     }
 }
 

@@ -8,6 +8,7 @@ use dlms_command::{Fault, finish};
 use dlms_ends::LoopFault;
 use dlms_field::ClockFault;
 use dlms_headend::{PollFault, list_columns};
+use dlms_identity::Expected;
 use dlms_program::ReplayFault;
 use dlms_store::OpenFault;
 use std::alloc::Global;
@@ -61,7 +62,12 @@ fn say_of_polls(alloc: Global, told: &mut Vec<u8>) -> Result<()> {
     listed?;
     say_columns(told, &[])?;
     say(told, Fault::Late(ADDRESS, 300))?;
-    say(told, Fault::Clock(ADDRESS, ClockFault::Fallen(3)))
+    say(told, Fault::Clock(ADDRESS, ClockFault::Fallen(3)))?;
+    let expected = Expected {
+        name: [0, 0, 42, 0, 0, 255],
+        text: "RTL0000000000001",
+    };
+    say(told, Fault::Stranger(ADDRESS, expected))
 }
 
 /// Says what is said of a meter's device, and of streams.

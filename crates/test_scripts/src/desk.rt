@@ -9,6 +9,7 @@ use arrayvec::ArrayVec;
 use dlms_ends::{End, Heard, PIECE};
 use dlms_field::{Desk, Dialling, FieldFault, MOST_READ, Office, Polling, Timer, poll};
 use dlms_frame::Client;
+use dlms_identity::Expected;
 use dlms_meter::Meter;
 use dlms_pages::MemoryPages;
 use dlms_store::PAGES;
@@ -262,29 +263,37 @@ enum Came {
     Rows,
     Late,
     OfSystem,
+    Stranger,
     Elsewhere,
 }
 
-/// A poll of a meter is done, and its rows are filed and printed; or a call failed, and nothing is.
+/// A poll of a meter that shows the expected name is done, and its rows are filed and printed; or it shows another one, or a call
+/// failed, and nothing is.
 #[test]
 fn a_meter_is_polled(rt: HostRuntime) {
-    let polling = Polling {
-        address: "meter:4059",
-        readings: Some("rows.csv"),
-        secret_file: Some("secret"),
-        client: Client::Management,
-        deadline: 600,
-        ahead: Some(60),
-        strict: false,
-    };
-    for (fails, is_there, came) in [
-        (9, true, Came::Rows),
-        (9, false, Came::Late),
-        (0, true, Came::Elsewhere),
-        (6, true, Came::OfSystem),
-        (7, true, Came::Elsewhere),
-        (8, true, Came::OfSystem),
+    for (fails, is_there, text, came) in [
+        (9, true, "RTL0000000000001", Came::Rows),
+        (9, true, "RTL0000000000005", Came::Stranger),
+        (9, false, "RTL0000000000001", Came::Late),
+        (0, true, "RTL0000000000001", Came::Elsewhere),
+        (6, true, "RTL0000000000001", Came::OfSystem),
+        (7, true, "RTL0000000000001", Came::Elsewhere),
+        (8, true, "RTL0000000000001", Came::OfSystem),
     ] {
+        let expected = [Expected {
+            name: [0, 0, 42, 0, 0, 255],
+            text,
+        }];
+        let polling = Polling {
+            address: "meter:4059",
+            readings: Some("rows.csv"),
+            secret_file: Some("secret"),
+            client: Client::Management,
+            deadline: 600,
+            ahead: Some(60),
+            strict: false,
+            expected: &expected,
+        };
         let mut office = Office {
             desk: Table::new(&rt, rt.alloc(), b"12345678\n", fails),
             place: Shelf::new(&rt, rt.alloc(), "", usize::MAX),
@@ -296,6 +305,7 @@ fn a_meter_is_polled(rt: HostRuntime) {
             Ok(()) => Came::Rows,
             Err(FieldFault::Late("meter:4059", 600)) => Came::Late,
             Err(FieldFault::System(_, _)) => Came::OfSystem,
+            Err(FieldFault::Stranger(_, _)) => Came::Stranger,
             Err(_) => Came::Elsewhere,
         };
         assert_eq!(rt; polled, came);

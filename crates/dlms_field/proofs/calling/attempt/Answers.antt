@@ -1,12 +1,26 @@
-use Rattle.std.proofs.Common.{refl, subst, Bool, true, Ok}
-use Rattle.dlms_field.specs.Calling.{LineFails, NoLine, Reaches}
+use Rattle.std.proofs.Common.{refl, subst, Bool, true, Ok, Err}
+use Rattle.dlms_headend.specs.PollerValue.{PollerValue}
+use Rattle.dlms_field.specs.Calling.{Does, LineFails, NoLine, NotKnown, Reaches}
 use Rattle.dlms_field.proofs.calling.attempt.Goals as goal
 
 pub returns-in-Err-clause-attempts : goal.returns-in-Err-clause-attempts
 returns-in-Err-clause-attempts g c = NoLine c.in-Err.error (refl, refl) c.in-Err.ensures refl
 
+pub returns-in-Err-knows-clause-attempts : goal.returns-in-Err-knows-clause-attempts
+returns-in-Err-knows-clause-attempts g c =
+    let reached : Reaches c.args.connected c.args.polling.now.address.now (g.L.End.past c.args.line.now) (g.L.End.past c.reach.new.line) (Ok true) =
+    subst (λ (b : Bool). Reaches c.args.connected c.args.polling.now.address.now (g.L.End.past c.args.line.now) (g.L.End.past c.reach.new.line) (Ok b)) c.in-Ok-true.field-0-test c.in-Ok-true.ensures in
+    NotKnown (g.L.End.past c.reach.new.line) reached c.in-Err-knows.ensures refl
+
 pub returns-in-Err-done-clause-attempts : goal.returns-in-Err-done-clause-attempts
 returns-in-Err-done-clause-attempts g c =
-    let reached : Reaches c.args.connected c.args.address.now (g.L.End.past c.args.line.now) (g.L.End.past c.reach.new.line) (Ok true) =
-    subst (λ (b : Bool). Reaches c.args.connected c.args.address.now (g.L.End.past c.args.line.now) (g.L.End.past c.reach.new.line) (Ok b)) c.in-Ok-true.field-0-test c.in-Ok-true.ensures in
-    LineFails c.in-Err-done.fault c.line_fault.ensures (record { mid = g.L.End.past c.reach.new.line; reaches = reached; does = c.in-Err-done.ensures.does })
+    let reached : Reaches c.args.connected c.args.polling.now.address.now (g.L.End.past c.args.line.now) (g.L.End.past c.reach.new.line) (Ok true) =
+    subst (λ (b : Bool). Reaches c.args.connected c.args.polling.now.address.now (g.L.End.past c.args.line.now) (g.L.End.past c.reach.new.line) (Ok b)) c.in-Ok-true.field-0-test c.in-Ok-true.ensures in
+    LineFails c.in-Err-done.fault c.line_fault.ensures
+    (record {
+      mid = g.L.End.past c.reach.new.line;
+      known = g.L.End.past c.knows.new.line;
+      reaches = reached;
+      knows = c.in-Ok.ensures;
+      does = subst (λ (p : PollerValue). Does c.args.polling.now.deadline (g.L.End.past c.knows.new.line) (g.L.End.past c.done.new.line) (g.D.Timer.seen c.args.desk.now) (g.D.Timer.seen c.done.new.timer) p (Err c.in-Err-done.fault)) c.fresh.ensures c.in-Err-done.ensures.does;
+    })

@@ -1,7 +1,6 @@
 use Rattle.dlms_headend.specs.PollerValue.{plan_of}
-use Rattle.dlms_headend.specs.Polling.{fresh_poll}
-use Rattle.dlms_field.specs.Calling.{Tried}
+use Rattle.dlms_field.specs.Calling.{Tried, aim_of}
 use Rattle.dlms_field.proofs.calling.call.Given as goal
 
 abbrev pub invariant-attempts : goal.invariant-attempts
-invariant-attempts g l = Tried l.fn.address l.fn.seconds (fresh_poll (plan_of l.fn.plan)) (g.L.End.past l.fn.line) (g.D.Timer.seen l.fn.desk) l._attempt l.connected (g.L.End.past l.line) (g.D.Timer.seen l.desk)
+invariant-attempts g l = Tried (aim_of l.fn.polling (plan_of l.fn.plan)) (g.L.End.past l.fn.line) (g.D.Timer.seen l.fn.desk) l._attempt l.connected (g.L.End.past l.line) (g.D.Timer.seen l.desk)

@@ -2,7 +2,6 @@ use Rattle.std.proofs.Common.{refl, ◌≡◌, ◌∙◌, ap, subst, ℕ, List, 
 use Rattle.std.specs.Prelude.{IfErr, IfOk}
 use Rattle.dlms_headend.specs.Asking.{PlanValue}
 use Rattle.dlms_ends.specs.BothEnds.{IsDonePoll}
-use Rattle.dlms_headend.specs.Polling.{fresh_poll}
 use Rattle.dlms_headend.specs.declared.plan.Columns.TheVariants.{Asked}
 use Rattle.dlms_headend.specs.declared.row.Row.{Row}
 use Rattle.dlms_field.specs.Keeping.{FilesNone, FilesPolled}
@@ -20,10 +19,9 @@ returns-in-Err-called g c =
     let given : PlanValue = record { client = client; secret = ready.secret.items; after = c.last.result; columns = Asked } in
     let same : given ≡ plan_behind client ready.secret.items ready.readings =
     ap (λ (after : Option ℕ). let plan : PlanValue = record { client = client; secret = ready.secret.items; after = after; columns = Asked } in plan) c.last.ensures.last in
-    let fresh : fresh_poll given ≡ fresh_poll (plan_behind client ready.secret.items ready.readings) = ap fresh_poll same in
     let before : Known = record { seen = g.D.Timer.seen c.args.office.now.desk; asked = g.F.Filing.asked c.args.office.now.place; past = g.L.End.past c.args.office.now.line; printed = g.O.Output.printed c.args.output.now; errors = g.E.Output.printed c.args.errors.now } in
     let after : Known = record { seen = g.D.Timer.seen c.called.new.desk; asked = g.F.Filing.asked c.prepared.new.place; past = g.L.End.past c.called.new.line; printed = g.O.Output.printed c.args.output.now; errors = g.E.Output.printed c.args.errors.now } in
-    not_called c.args.polling.now before after ready.secret.items ready.readings ready.limit (g.D.Timer.seen c.prepared.new.desk) (fresh_poll given) c.in-Err-called.fault c.in-Ok.ensures.ready fresh c.in-Err-called.ensures.fails (refl, refl)
+    not_called c.args.polling.now before after ready.secret.items ready.readings ready.limit (g.D.Timer.seen c.prepared.new.desk) given c.in-Err-called.fault c.in-Ok.ensures.ready same c.in-Err-called.ensures.fails (refl, refl)
 
 pub returns : goal.returns
 returns g c =
@@ -32,11 +30,10 @@ returns g c =
     let given : PlanValue = record { client = client; secret = ready.secret.items; after = c.last.result; columns = Asked } in
     let same : given ≡ plan_behind client ready.secret.items ready.readings =
     ap (λ (after : Option ℕ). let plan : PlanValue = record { client = client; secret = ready.secret.items; after = after; columns = Asked } in plan) c.last.ensures.last in
-    let fresh : fresh_poll given ≡ fresh_poll (plan_behind client ready.secret.items ready.readings) = ap fresh_poll same in
     let before : Known = record { seen = g.D.Timer.seen c.args.office.now.desk; asked = g.F.Filing.asked c.args.office.now.place; past = g.L.End.past c.args.office.now.line; printed = g.O.Output.printed c.args.output.now; errors = g.E.Output.printed c.args.errors.now } in
     let after : Known = record { seen = g.D.Timer.seen c.called.new.desk; asked = g.F.Filing.asked c.filed.new.place; past = g.L.End.past c.called.new.line; printed = g.O.Output.printed c.filed.new.output; errors = g.E.Output.printed c.filed.new.errors } in
     let asked = g.F.Filing.asked c.prepared.new.place in
     let done = c.in-Ok-called.poller in
-    polls_so c.args.polling.now before after ready.secret.items ready.readings ready.limit (g.D.Timer.seen c.prepared.new.desk) asked (fresh_poll given) done c.in-Ok.ensures.ready fresh c.in-Ok-called.ensures.takes.0 c.in-Ok-called.ensures.takes.1 (subst (λ (plan : PlanValue). IsDonePoll plan done) same c.in-Ok-called.ensures.done) c.filed.result
+    polls_so c.args.polling.now before after ready.secret.items ready.readings ready.limit (g.D.Timer.seen c.prepared.new.desk) asked given done c.in-Ok.ensures.ready same c.in-Ok-called.ensures.takes.0 c.in-Ok-called.ensures.takes.1 (subst (λ (plan : PlanValue). IsDonePoll plan done) same c.in-Ok-called.ensures.done) c.filed.result
     (subst (λ (rs : List Row). IfOk c.filed.result (λ _. FilesPolled asked after.asked before.printed after.printed before.errors after.errors ready.readings rs)) c.rows.ensures.rows c.filed.ensures.files)
     (subst (λ (rs : List Row). IfErr c.filed.result (FilesNone (readings_of c.args.polling.now) asked after.asked before.printed after.printed before.errors after.errors ready.readings rs)) c.rows.ensures.rows c.filed.ensures.fails)

@@ -26,4 +26,5 @@ returns c = λ rows met.
         subst (λ (said : Option Text). SaysAhead c.is_given-checks.result said c.ahead.result) (c.value_for-8.ensures rows met) c.ahead.ensures,
       ),
       subst (λ (said : Option Text). IsSaid said c.is_given-strict.result) (c.value_for-4.ensures rows met) c.is_given-strict.ensures,
+      c.expecting.ensures rows met,
     )

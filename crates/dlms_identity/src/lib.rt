@@ -1,0 +1,8 @@
+//! Which meter is at the other end of a line: the texts that its objects show.
+#![tactic(auto)]
+
+mod showing;
+mod text;
+
+pub use showing::{Expected, MOST, first_other, shown, shows};
+pub use text::text_in;
