@@ -69,7 +69,8 @@ pub record FeedsKept (old : KeptMeter) (octets : List ℕ) (code taken : ℕ) (n
   pub rests : Rests old new
 
 -- A meter that is there judges an event, and the code is of its outcome.
-pub record JudgesOn {P A : Type 0} {ghosts : Ghosts P} (old : Option (Meter P A ghosts)) (event : Event) (code : ℕ) (new : Option (Meter P A ghosts)) : Type 0 where
+pub record JudgesOn {P A : Type 0} {ghosts : Ghosts P} (old : Option (Meter P A ghosts)) (event : Event) (code : ℕ)
+    (new : Option (Meter P A ghosts)) : Type 0 where
   pub closed : closed_code old ≢ 0 → (code ≡ closed_code old) × (new ≡ old)
   pub judged : closed_code old ≡ 0 → (outcome : Result (Unit {0}) AddFault) × (code ≡ add_code outcome) × Judged old event outcome new
 

@@ -125,7 +125,8 @@ pub record TakesFrame (old : KeptPoller) (octets : List ℕ) (taken code : ℕ) 
   pub takes : Takes old.deframer.bytes (take taken octets) new.deframer.frame new.deframer.bytes
   pub step : Option (Result PollStep PollFault)
   pub none : new.deframer.frame ≡ None → (step ≡ None) × (new.poller ≡ old.poller)
-  pub polls : (f : Parts) → new.deframer.frame ≡ Some f → IfSome step (λ made. (apdus : List (List ℕ)) → Fits old.poller apdus → PollsFrame apdus f old.poller made new.poller)
+  pub polls : (f : Parts) → new.deframer.frame ≡ Some f → IfSome step
+      (λ made. (apdus : List (List ℕ)) → Fits old.poller apdus → PollsFrame apdus f old.poller made new.poller)
   pub some : (f : Parts) → new.deframer.frame ≡ Some f → IsSome step
   pub tells : Tells step code sent number
 

@@ -35,7 +35,8 @@ impl KeptPoller {
         ensures within { result.0 ≤ length octets.now }
         ensures takes { Takes self.old.deframer.bytes (take result.0 octets.now) self.new.deframer.frame self.new.deframer.bytes }
         ensures none { self.new.deframer.frame ≡ None → (result.1 ≡ None) × (self.new.poller ≡ self.old.poller) }
-        ensures polls { (f : Parts) → self.new.deframer.frame ≡ Some f → IfSome result.1 (λ step. (apdus : List (List ℕ)) → Fits self.old.poller apdus → PollsFrame apdus f self.old.poller step self.new.poller) }
+        ensures polls { (f : Parts) → self.new.deframer.frame ≡ Some f
+            → IfSome result.1 (λ step. (apdus : List (List ℕ)) → Fits self.old.poller apdus → PollsFrame apdus f self.old.poller step self.new.poller) }
         ensures some { (f : Parts) → self.new.deframer.frame ≡ Some f → IsSome result.1 }
     {
         let taken = self.deframer.feed(octets);

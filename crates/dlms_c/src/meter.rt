@@ -260,7 +260,8 @@ pub extern "C" fn dlms_meter_reply(
     size: &mut usize,
 ) -> u32
     ensures empty { meter.old.value ≡ None → (result ≡ EMPTY) × (size.new ≡ 0) × (meter.new.value ≡ None) }
-    ensures reply { (old : KeptMeterOf) → meter.old.value ≡ Some old → (new : KeptMeterOf) × (meter.new.value ≡ Some new) × Replies old (length frame.old) result (take size.new frame.new) size.new new }
+    ensures reply { (old : KeptMeterOf) → meter.old.value ≡ Some old
+        → (new : KeptMeterOf) × (meter.new.value ≡ Some new) × Replies old (length frame.old) result (take size.new frame.new) size.new new }
 {
     *size = 0;
     let handle = replace(meter, none());

@@ -228,7 +228,8 @@ pub extern "C" fn dlms_poller_next(
     size: &mut usize,
 ) -> u32
     ensures empty { poller.old.value ≡ None → (result ≡ EMPTY) × (size.new ≡ 0) × (poller.new.value ≡ None) }
-    ensures short { (old : KeptPollerOf) → poller.old.value ≡ Some old → length frame.old < MOST_TEXT → (result ≡ SHORT) × (size.new ≡ 0) × (poller.new.value ≡ Some old) }
+    ensures short { (old : KeptPollerOf) → poller.old.value ≡ Some old → length frame.old < MOST_TEXT
+        → (result ≡ SHORT) × (size.new ≡ 0) × (poller.new.value ≡ Some old) }
     ensures next { (old : KeptPollerOf) → poller.old.value ≡ Some old → MOST_TEXT ≤ length frame.old
         → (new : KeptPollerOf) × (due : Option Parts) × (poller.new.value ≡ Some new) × Begins old.poller due new.poller × TellsFrame due result (take size.new frame.new) }
 {
