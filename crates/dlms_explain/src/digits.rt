@@ -64,6 +64,25 @@ pub fn digits_len(bytes: &[u8]) -> usize {
         .unwrap_or(bytes.len())
 }
 
+/// Whether the octet at this place is the x of a mark `0x`.
+fn is_mark(bytes: &[u8], at: usize, byte: u8) -> bool {
+    matches!(byte, b'x' | b'X') && before(bytes, at) == Some(b'0')
+}
+
+/// How many octets hexadecimal digits in front have, with marks `0x` between them: octets may be written `0x850x74`, without a blank.
+pub fn marked_len(bytes: &[u8]) -> usize {
+    bytes
+        .iter()
+        .enumerate()
+        .position(|(at, byte)| !byte.is_ascii_hexdigit() && !is_mark(bytes, at, *byte))
+        .unwrap_or(bytes.len())
+}
+
+/// How many of these octets are hexadecimal digits.
+pub fn digits_in(bytes: &[u8]) -> usize {
+    bytes.iter().filter(|byte| byte.is_ascii_hexdigit()).count()
+}
+
 /// Whether a letter or a digit is in front.
 fn begins_word(bytes: &[u8]) -> bool {
     match bytes {

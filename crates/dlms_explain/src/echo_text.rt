@@ -1,6 +1,8 @@
 //! The words of a line that is not read: its octets are left out, and what would steer a terminal is shown by its number.
 
-use crate::digits::{Between, LEAST_HIDDEN, before, digits_len, is_word, plain_len, run_of};
+use crate::digits::{
+    Between, LEAST_HIDDEN, before, digits_in, is_word, marked_len, plain_len, run_of,
+};
 use crate::json::write_quoted;
 use crate::words::{Text, hexadecimal, number};
 use std::alloc::Allocator;
@@ -90,15 +92,16 @@ fn write_part<A: Allocator>(text: &mut Text<A>, written: Written, words: &str) {
     }
 }
 
-/// Digits in a row, within a word that has other letters too.
+/// Digits in a row, within a word that has other letters too. A mark `0x` between them ends no row.
 fn step_within(line: &[u8], at: usize, rest: &[u8]) -> Step {
-    let digits = digits_len(rest);
+    let len = marked_len(rest);
+    let digits = digits_in(rest.get(..len).unwrap_or(&[]));
     if digits < LEAST_HIDDEN {
-        return Step::Shown(digits.max(1));
+        return Step::Shown(len.max(1));
     }
     Step::Hidden(Hidden {
         from: at,
-        to: at.saturating_add(digits).min(line.len()),
+        to: at.saturating_add(len).min(line.len()),
         digits,
         is_last: digits >= LEAST_OCTETS,
     })
