@@ -64,11 +64,21 @@ fn is_from_meter(segment: Segment<'_>) -> bool {
     }
 }
 
+/// Whether a head of the wrapper begins so: its version is 1, and no port is 0, which is no station's (IEC 62056-47, reserved ports).
+fn begins_head(octets: &[u8]) -> bool {
+    match octets {
+        [0, 1, 0, 0, ..] => false,
+        [0, 1, _, _, 0, 0, ..] => false,
+        [0, 1, ..] => true,
+        _ => false,
+    }
+}
+
 /// What a connection carries whose first octets these are.
 fn carried(ends: Ends, octets: &[u8]) -> Carries {
     match octets {
         [FLAG, ..] => Carries::Frames,
-        [0, 1, ..] => Carries::Wrapped,
+        _ if begins_head(octets) => Carries::Wrapped,
         _ if ends.to.port == PORT => Carries::Nothing,
         _ => Carries::Other,
     }
