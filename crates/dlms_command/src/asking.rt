@@ -272,6 +272,12 @@ fn told<'a>(
     }
 }
 
+/// Drops a line, in a frame of its own: what explains its bytes is large, and would be on the stack during the whole session.
+#[inline(never)]
+fn close<S: Drop, E>(line: Spoken<'_, S, E>) {
+    drop(line);
+}
+
 /// Asks a meter over the line to it.
 fn answered<'a, 'r, 'e, H: Net + Files<File = File> + Clock + AllocGlobal, W: Write, E: Write>(
     host: &'r H,
@@ -284,7 +290,7 @@ fn answered<'a, 'r, 'e, H: Net + Files<File = File> + Clock + AllocGlobal, W: Wr
     let mut line = line;
     let talked = talked(host.alloc(), asking, plan, &mut line, errand, output);
     let told = told(host.alloc(), asking.place, talked, line.stream.failure());
-    drop(line);
+    close(line);
     told
 }
 
