@@ -125,7 +125,7 @@ pub packed_holds : (bits : List Bool) → HoldsBits (packed (bytes_for (length b
 packed_holds bits =
     (length-packed (bytes_for (length bits)) bits, bits_again (bytes_for (length bits)) bits (omega arith))
 
--- whole bytes in front, and what is left
+-- whole bytes at the front, and the rest
 packed_front : (full total m n used : ℕ) (bytes : List ℕ) → ((i : ℕ) → get_or bytes i 0 < 256) → total ≡ full + m → n ≡ 8 * full + used → full ≤ length bytes
     → packed total (take n (bits_of bytes)) ≡ take full bytes ++ packed m (take used (bits_of (drop full bytes)))
 packed_front zero total m n used bytes are is_total is_n le =
@@ -143,12 +143,12 @@ packed_front (suc full) (suc total) m n used (b ∷ bytes) are is_total is_n le 
     let rest = packed_front full total m (n - 8) used bytes (λ i. are (suc i)) (omega arith) (omega arith) (omega arith) in
     ap (packed (suc total)) parts ∙ ap₂ (λ (x : ℕ) (w : List ℕ). x ∷ w) first rest
 
--- where the last byte is full
+-- if the last byte is full
 pub packed_full : (n : ℕ) (bytes : List ℕ) → ((i : ℕ) → get_or bytes i 0 < 256) → length bytes ≡ bytes_for n → n % 8 ≡ 0 → packed (bytes_for n) (take n (bits_of bytes)) ≡ take (n / 8) bytes
 packed_full n bytes are len none_left =
     packed_front (n / 8) (bytes_for n) 0 n 0 bytes are (omega arith) (omega arith) (omega arith) ∙ append-nil (take (n / 8) bytes)
 
--- where it has bits to spare
+-- if it has bits to spare
 pub packed_part : (n : ℕ) (bytes : List ℕ) → ((i : ℕ) → get_or bytes i 0 < 256) → length bytes ≡ bytes_for n → 0 < n % 8
     → packed (bytes_for n) (take n (bits_of bytes)) ≡ take (n / 8) bytes ++ (get_or bytes (n / 8) 0 - get_or bytes (n / 8) 0 % 2 ^ (8 - n % 8)) ∷ []
 packed_part n bytes are len some_left =

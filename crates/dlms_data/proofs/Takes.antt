@@ -1,4 +1,4 @@
--- What is read is spelled so, and what is spelled so is read.
+-- Everything that is read has that spelling, and everything spelled so is read.
 use Rattle.std.proofs.Common.{◌≡◌, ℕ, zero, suc, ◌-◌, ◌≤◌, Bool, true, false, cond, ltb, eqb, ◌||◌, List, [], ◌∷◌, ◌++◌, length, take, drop, Option, Some, None, Result, Ok, Err, refl, sym, ap, subst, ◌∙◌, append_assoc, arith, ◌⊎◌, inl, inr}
 use Rattle.std.proofs.lemmas.Bool.{ltb-false, le-ltb, ltb-true, lt-ltb, eqb-true, eq-eqb}
 use Rattle.std.proofs.lemmas.List.{take_at, drop_at, take-append-drop, length-append, length-take, length-drop, append-nil, take_all}
@@ -38,7 +38,7 @@ chosen : {A : Type 0} (b : Bool) (x y z : A) → cond b x y ≡ z → ((b ≡ tr
 chosen true x y z e = inl (refl, e)
 chosen false x y z e = inr (refl, e)
 
--- text of this kind stands at the front, and rest behind it
+-- text of this kind is at the front, and rest follows it
 abbrev pub Takes : List ℕ → List ℕ → (List ℕ → Type 0) → Type 0
 Takes bytes rest kind = (text : List ℕ) × (bytes ≡ text ++ rest) × kind text
 
@@ -153,7 +153,7 @@ bits_again text bits rest h =
 
 -- ---- values
 
--- what one reader takes is a spelling of at most so many levels
+-- the value that one reader reads has a spelling of at most this many levels
 abbrev TakesValue : ℕ → List ℕ → Value × List ℕ → Type 0
 TakesValue room bytes x = Takes bytes x.1 (λ text. Spells text x.0) × (depth x.0 ≤ room)
 
@@ -176,11 +176,11 @@ values_take item room good (suc n) bytes x e =
     subst (λ (y : Values × List ℕ). TakesAll room (suc n) bytes y) (ok_is (cons a.0.0 b.0.0, b.0.1) x b.2)
     ((f.0 ++ o.0, whole, (f.0, o.0, refl, f.2, o.2)), ap suc others.1, omega (arith, first.1, others.2))
 
--- what stands behind the tag of an array or a structure
+-- the content after the tag of an array or a structure
 abbrev TakesNested : ℕ → List ℕ → Values × List ℕ → Type 0
 TakesNested room bytes x = Takes bytes x.1 (λ text. Counted text (count x.0) (λ body. SpellAll body x.0)) × (suc (values_depth x.0) ≤ room)
 
--- behind a tag
+-- after a tag
 tagged : (b : ℕ) (bytes rest : List ℕ) (kind : List ℕ → Type 0) → Takes bytes rest kind → Takes (b ∷ bytes) rest (λ text. (more : List ℕ) × (text ≡ b ∷ more) × kind more)
 tagged b bytes rest kind t = (b ∷ t.0, ap (λ (w : List ℕ). b ∷ w) t.1, (t.0, refl, t.2))
 
@@ -203,7 +203,7 @@ by_octets room b make bytes x spelled low e =
     let t = octets_takes bytes a.0 a.1 in
     subst (λ (y : Value × List ℕ). TakesValue room (b ∷ bytes) y) (ok_is (make a.0.0, a.0.1) x a.2) ((b ∷ t.0, ap (λ (w : List ℕ). b ∷ w) t.1, spelled t.0 a.0.0 t.2), low a.0.0)
 
--- so many octets, made a value
+-- this many octets, made into a value
 by_taken : (room b k : ℕ) (make : List ℕ → Value) (bytes : List ℕ) (x : Value × List ℕ) → ((text : List ℕ) → length text ≡ k → Spells (b ∷ text) (make text))
     → ((octets : List ℕ) → depth (make octets) ≤ room) → (taken_at k bytes >>= λ y. Ok (make y.0, y.1)) ≡ Ok x → TakesValue room (b ∷ bytes) x
 by_taken room b k make bytes x spelled low e =
@@ -211,7 +211,7 @@ by_taken room b k make bytes x spelled low e =
     let t = taken_takes k bytes a.0 a.1 in
     subst (λ (y : Value × List ℕ). TakesValue room (b ∷ bytes) y) (ok_is (make a.0.0, a.0.1) x a.2) ((b ∷ a.0.0, ap (λ (w : List ℕ). b ∷ w) t.0, spelled a.0.0 t.1), low a.0.0)
 
--- the tag that stands for a type
+-- the tag of a type
 abbrev plain_tag : Plain → ℕ
 plain_tag plain.Null = 0
 plain_tag plain.Boolean = 3
@@ -292,7 +292,7 @@ type_is : (b : ℕ) (t : Tag) → type_of b ≡ Some t → b ≡ tag_of t
 type_is b t e =
     pick b 0 (tag.Plain plain.Null) t _ refl (pick b 1 tag.Array t _ refl (pick b 2 tag.Structure t _ refl (pick b 3 (tag.Plain plain.Boolean) t _ refl (pick b 4 (tag.Plain plain.BitString) t _ refl (pick b 5 (tag.Plain plain.DoubleLong) t _ refl (pick b 6 (tag.Plain plain.DoubleLongUnsigned) t _ refl (pick b 9 (tag.Plain plain.OctetString) t _ refl (pick b 10 (tag.Plain plain.VisibleString) t _ refl (pick b 12 (tag.Plain plain.Utf8String) t _ refl (pick b 13 (tag.Plain plain.Bcd) t _ refl (pick b 15 (tag.Plain plain.Integer) t _ refl (pick b 16 (tag.Plain plain.Long) t _ refl (pick b 17 (tag.Plain plain.Unsigned) t _ refl (pick b 18 (tag.Plain plain.LongUnsigned) t _ refl (pick b 20 (tag.Plain plain.Long64) t _ refl (pick b 21 (tag.Plain plain.Long64Unsigned) t _ refl (pick b 22 (tag.Plain plain.Enum) t _ refl (pick b 25 (tag.Plain plain.DateTime) t _ refl (pick b 26 (tag.Plain plain.Date) t _ refl (pick b 27 (tag.Plain plain.Time) t _ refl (λ no. absurd cc))))))))))))))))))))) e
 
--- a value, where what nests is read well
+-- a value, if nested values are read correctly
 value_takes : (items : List ℕ → Result (Values × List ℕ) Fault) (room : ℕ) → ((bytes : List ℕ) (x : Values × List ℕ) → items bytes ≡ Ok x → TakesNested room bytes x)
     → (bytes : List ℕ) (x : Value × List ℕ) → value_at items bytes ≡ Ok x → TakesValue room bytes x
 value_takes items room good [] x e = absurd cc
@@ -384,7 +384,7 @@ mutual
 
 -- ---- the call
 
--- what is behind a value, and the value
+-- the rest after a value, and the value
 valued : (r : Result (Value × List ℕ) Fault) (rest : List ℕ) → behind r ≡ Ok rest → (v : Value) × (r ≡ Ok (v, rest))
 valued (Ok x) rest h = let e : x.1 ≡ rest = cc in (x.0, ap (λ (w : List ℕ). Ok (x.0, w)) e)
 valued (Err f) rest h = absurd cc
@@ -401,7 +401,7 @@ rest_within bytes rest h =
     let back : drop (length bytes - length rest) bytes ≡ rest = ap (drop (length bytes - length rest)) t.1 ∙ drop_at t.0 rest (length bytes - length rest) len in
     (omega (arith, ap length t.1, length-append t.0 rest), sym back)
 
--- the value that is read, where it is known how far it reaches
+-- the value that is read, if its end is known
 pub is_exact : (bytes : List ℕ) (v : Value) (rest : List ℕ) (n : ℕ) → behind (data_at 8 bytes) ≡ Ok (drop n bytes) → data_at 8 bytes ≡ Ok (v, rest) → data_at 8 bytes ≡ Ok (v, drop n bytes)
 is_exact bytes v rest n h e =
     let same : rest ≡ drop n bytes = let b : behind (data_at 8 bytes) ≡ Ok rest = ap behind e in cc in
@@ -438,7 +438,7 @@ is_only bytes x n le e v text rest h parts =
     let len : length text ≡ n = omega (arith, ap length parts, length-append text rest, ap length behind_it, length-drop n bytes) in
     rw (value, len) refl
 
--- no fault but memory, where a spelling stands
+-- no fault except out of memory, if there is a spelling
 pub no_fault : (f : DataFault) (bytes : List ℕ) → Wants NeedsFirst f (data_at 8 bytes) → (v : Value) (text rest : List ℕ) → IsSpelling text v → bytes ≡ text ++ rest → Wants NeedsFirst f (done {A = Value × ℕ} (v, length text))
 no_fault Memory bytes h v text rest s parts = rw (spelled bytes v text rest s parts) at h
 no_fault Short bytes h v text rest s parts = let e = spelled bytes v text rest s parts in absurd cc
@@ -450,7 +450,7 @@ faulty : (r : Result (Value × List ℕ) Fault) (f : Fault) → behind r ≡ Err
 faulty (Ok x) f h = absurd cc
 faulty (Err g) f h = cc
 
--- a fault that was told before
+-- a fault that was reported before
 pub told_fault : (f : DataFault) (r : Result (Value × List ℕ) Fault) → IsFault f (behind r) → Wants NeedsFirst f r
 told_fault Memory r h = absurd h
 told_fault Short r h = faulty r short h
@@ -458,7 +458,7 @@ told_fault NoTag r h = faulty r no_type h
 told_fault Length r h = faulty r no_length h
 told_fault Depth r h = faulty r too_deep h
 
--- a fault that was told, of a function that may have wanted memory
+-- a fault reported by a function that may have run out of memory
 pub told_fails : {Y : Type 0} (needs : Y × List ℕ → Type 0) (f : DataFault) (r : Result (Y × List ℕ) Fault) → IsFault f (behind r) → Fails needs f r
 told_fails needs Memory r h = absurd h
 told_fails needs Short (Ok x) h = absurd cc
@@ -470,7 +470,7 @@ told_fails needs Length (Err g) h = cc
 told_fails needs Depth (Ok x) h = absurd cc
 told_fails needs Depth (Err g) h = cc
 
--- where the value's end is known, only memory may be wanting
+-- if the value's end is known, the only fault is out of memory
 pub only_memory : (f : DataFault) (r : Result (Value × List ℕ) Fault) (rest : List ℕ) → behind r ≡ Ok rest → Fails NeedsFirst f r → Wants NeedsFirst f r
 only_memory Memory (Ok x) rest h fails = fails
 only_memory Memory (Err g) rest h fails = absurd cc
@@ -481,7 +481,7 @@ only_memory Depth r rest h fails = fails
 
 -- ---- how far a spelling reaches
 
--- a value is spelled as far as was told
+-- a value is spelled up to the reported end
 pub span_found : (bytes rest : List ℕ) → behind (data_at 8 bytes) ≡ Ok rest → (v : Value) × IsSpelling (take (length bytes - length rest) bytes) v
 span_found bytes rest h =
     let x = valued (data_at 8 bytes) rest h in

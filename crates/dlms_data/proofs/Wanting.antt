@@ -19,7 +19,7 @@ told_then needs NoTag r f h = rw h refl
 told_then needs Length r f h = rw h refl
 told_then needs Depth r f h = rw h refl
 
--- what the first step makes needs memory where what it read does
+-- the first step's result needs memory if its input does
 pub made_then : {X Y : Type 0} (few : X → Type 0) (needs : Y → Type 0) (e : DataFault) (r : Result X Fault) (f : X → Y) → ((x : X) → few x → needs (f x)) → Fails few e r → Fails needs e (r >>= λ x. Ok (f x))
 made_then few needs Memory (Ok x) f implies h = implies x h
 made_then few needs Memory (Err d) f implies h = tt
@@ -47,7 +47,7 @@ counted item (suc n) bytes x e = by_item (λ w y h. counted item n w y h) (item 
     by_item again (Ok v) e = by_rest v.0 (values_at item n v.1) (λ y h. again v.1 y h) e
     by_item again (Err d) e = absurd cc
 
--- so there are some where the number is above 0
+-- there are some if the number is above 0
 pub some_more : (item : Reader) (n : ℕ) (bytes : List ℕ) → 0 < n → IfOk (values_at item n bytes) AreSome
 some_more item n bytes lt = by_values (values_at item n bytes) refl
   where

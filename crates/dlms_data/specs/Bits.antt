@@ -17,13 +17,14 @@ abbrev pub digit : Bool → ℕ
 digit false = 0
 digit true = 1
 
--- how many bytes hold so many bits
+-- how many bytes hold n bits
 abbrev pub bytes_for : ℕ → ℕ
 bytes_for n = (n + 7) / 8
 
 -- bytes that hold these bits at their front, and fewer than eight bits more
 abbrev pub HoldsBits : List ℕ → List Bool → Type 0
-HoldsBits bytes bits = (length bytes ≡ bytes_for (length bits)) × (take (length bits) (bits_of bytes) ≡ bits)
+HoldsBits bytes bits = (length bytes ≡ bytes_for (length bits))
+    × (take (length bits) (bits_of bytes) ≡ bits)
 
 -- the number whose k binary digits are the first k bits, zeros standing for those that are missing
 abbrev pub number_of_bits : ℕ → List Bool → ℕ
@@ -31,7 +32,7 @@ number_of_bits zero bits = 0
 number_of_bits (suc k) [] = 0
 number_of_bits (suc k) (b ∷ bits) = digit b * 2 ^ k + number_of_bits k bits
 
--- that many bytes of bits, with zeros behind the last
+-- that many bytes of bits, with zeros after the last bit
 abbrev pub packed : ℕ → List Bool → List ℕ
 packed zero bits = []
 packed (suc k) bits = number_of_bits 8 bits ∷ packed k (drop 8 bits)

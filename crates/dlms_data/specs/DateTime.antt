@@ -34,7 +34,8 @@ HasDate octets = IsCivilDate (pos (year_of octets)) (month_of octets) (day_of oc
 
 -- the clock has the time
 abbrev pub HasTime : List ℕ → Type 0
-HasTime octets = (slice_index octets 5 < 24) × (slice_index octets 6 < 60) × (slice_index octets 7 < 60)
+HasTime octets = (slice_index octets 5 < 24) × (slice_index octets 6 < 60)
+    × (slice_index octets 7 < 60)
 
 -- the deviation is 0 or left open
 abbrev pub IsDeviation : ℕ → ℕ → Type 0

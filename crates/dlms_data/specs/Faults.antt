@@ -1,4 +1,4 @@
--- Where the faults stand: for each, what stands in front of it and what is wrong there.
+-- Where each fault occurs: what precedes it, and what is wrong there.
 use Rattle.std.specs.Prelude.{◌≡◌, ◌↔◌, ℕ, zero, suc, ◌<◌, ◌≤◌, ◌-◌, ◌⊎◌, List, [], ◌∷◌, ◌++◌, length, Option, Some, None, Err}
 use Rattle.dlms_data.specs.declared.tag.Tag.{Tag}
 use Rattle.dlms_data.specs.declared.tag.Tag.TheVariants as tag
@@ -11,12 +11,16 @@ use Rattle.dlms_data.specs.Reading.{Fault, short, no_type, no_length, too_deep, 
 
 -- what is wrong at a length: it is cut, or no length begins so
 abbrev pub LengthFault : Fault → List ℕ → Type 0
-LengthFault short bytes = (bytes ≡ []) ⊎ ((b : ℕ) × (rest : List ℕ) × (bytes ≡ b ∷ rest) × (0x80 < b) × (b ≤ 0x84) × (length rest < b - 0x80))
-LengthFault no_length bytes = (b : ℕ) × (rest : List ℕ) × (bytes ≡ b ∷ rest) × ((b ≡ 0x80) ⊎ (0x84 < b))
+LengthFault short bytes = (bytes ≡ [])
+    ⊎ ((b : ℕ) × (rest : List ℕ) × (bytes ≡ b ∷ rest) × (0x80 < b) × (b ≤ 0x84)
+    × (length rest < b - 0x80))
+LengthFault no_length bytes = (b : ℕ) × (rest : List ℕ) × (bytes ≡ b ∷ rest)
+    × ((b ≡ 0x80) ⊎ (0x84 < b))
 LengthFault no_type bytes = ⊥
 LengthFault too_deep bytes = ⊥
 
--- what stands behind the tag of a type that holds no other values: so many bytes, or a length n and as many as it needs
+-- the content after the tag of a type that contains no other values: a fixed number of bytes, or a length n and as many bytes as it
+-- needs
 pub data Content : Type 0 where
   fixed : ℕ → Content
   counted : (ℕ → ℕ) → Content
@@ -46,7 +50,9 @@ content_of plain.Time = fixed 4
 abbrev pub ContentFault : Fault → Content → List ℕ → Type 0
 ContentFault f (fixed k) bytes = (f ≡ short) × (length bytes < k)
 ContentFault f (counted needs) bytes =
-    LengthFault f bytes ⊎ ((f ≡ short) × ((len rest : List ℕ) × (n : ℕ) × (bytes ≡ len ++ rest) × IsLength len n × (length rest < needs n)))
+    LengthFault f bytes ⊎ ((f ≡ short)
+    × ((len rest : List ℕ) × (n : ℕ) × (bytes ≡ len ++ rest) × IsLength len n
+    × (length rest < needs n)))
 
 -- what is wrong at a value: no byte is there, no type has its tag, or its content is wrong
 abbrev pub TypeFault : (List ℕ → Type 0) → Fault → Option Tag → List ℕ → Type 0
@@ -59,14 +65,17 @@ abbrev pub ValueFault : (List ℕ → Type 0) → Fault → List ℕ → Type 0
 ValueFault inside f [] = f ≡ short
 ValueFault inside f (b ∷ bytes) = TypeFault inside f (type_of b) bytes
 
--- what is wrong inside an array or a structure, with so many levels left: there is none left, its count is wrong, or
--- something is wrong at the value behind fewer than its count of whole ones
+-- what is wrong inside an array or a structure, with this many levels left: there is none left, its count is wrong, or something is
+-- wrong at the value after fewer whole values than its count
 abbrev pub Inside : ℕ → Fault → List ℕ → Type 0
 Inside zero f bytes = f ≡ too_deep
 Inside (suc levels) f bytes =
     LengthFault f bytes
-    ⊎ ((len front rest : List ℕ) × (n : ℕ) × (vs : Values) × (bytes ≡ len ++ (front ++ rest)) × IsLength len n × SpellAll front vs × (values_depth vs ≤ levels) × (count vs < n) × ValueFault (Inside levels f) f rest)
+    ⊎ ((len front rest : List ℕ) × (n : ℕ) × (vs : Values) × (bytes ≡ len ++ (front ++ rest))
+    × IsLength len n × SpellAll front vs × (values_depth vs ≤ levels) × (count vs < n)
+    × ValueFault (Inside levels f) f rest)
 
--- the law: a fault is told where it stands so, with eight levels, and nowhere else
+-- the law: a fault is reported exactly if it occurs so, with eight levels
 abbrev pub TellsFaults : Type 0
-TellsFaults = (bytes : List ℕ) (f : Fault) → (data_at 8 bytes ≡ Err f) ↔ ValueFault (Inside 8 f) f bytes
+TellsFaults = (bytes : List ℕ) (f : Fault) → (data_at 8 bytes ≡ Err f)
+    ↔ ValueFault (Inside 8 f) f bytes

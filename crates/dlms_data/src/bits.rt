@@ -41,14 +41,14 @@ impl<A: Allocator> Bits<A> {
         self.count
     }
 
-    /// Whether there are none.
+    /// Whether there are no bits.
     pub fn is_empty(&self) -> bool
         ensures { IsTrue result ↔ (length self.now ≡ 0) }
     {
         self.len() == 0
     }
 
-    /// The bytes that hold the bits. What stands behind the last bit is anything.
+    /// The bytes that hold the bits. The bits after the last one can have any value.
     pub fn as_bytes(&self) -> &[u8]
         ensures { HoldsBits result.now self.now }
     {

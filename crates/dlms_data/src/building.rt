@@ -31,7 +31,8 @@ fn extended_by_two<A: Allocator>(
     first: Data<A>,
     second: Data<A>,
 ) -> Result<Items<A>, AllocError>
-    ensures { IfOk result (λ more. more ≡ push_value (push_value items (value_of first)) (value_of second)) }
+    ensures { IfOk result (λ more. more ≡ push_value (push_value items (value_of first))
+        (value_of second)) }
 {
     extended(extended(items, first)?, second)
 }
@@ -54,7 +55,8 @@ pub fn three<A: Allocator + Copy>(
     second: Data<A>,
     third: Data<A>,
 ) -> Result<Items<A>, AllocError>
-    ensures { IfOk result (λ items. items ≡ cons (value_of first) (cons (value_of second) (cons (value_of third) none))) }
+    ensures { IfOk result (λ items. items ≡ cons (value_of first)
+        (cons (value_of second) (cons (value_of third) none))) }
 {
     let items = extended_by_two(room(alloc, 3)?, first, second)?;
     extended(items, third)
@@ -69,7 +71,8 @@ pub fn four<A: Allocator + Copy>(
     fourth: Data<A>,
 ) -> Result<Items<A>, AllocError>
     ensures { IfOk result (λ items. items
-        ≡ cons (value_of first) (cons (value_of second) (cons (value_of third) (cons (value_of fourth) none)))) }
+        ≡ cons (value_of first) (cons (value_of second)
+        (cons (value_of third) (cons (value_of fourth) none)))) }
 {
     let items = extended_by_two(room(alloc, 4)?, first, second)?;
     extended_by_two(items, third, fourth)

@@ -19,7 +19,7 @@ impl<A: Allocator> Model for Bytes<A> {
     ghost view = { λ b. b.bytes.items };
 }
 
-/// A copy of bytes in a vector of just their size. No memory is asked for where there are none.
+/// A copy of the bytes in a vector of exactly their size. No memory is allocated if there are none.
 pub fn copied<A: Allocator>(alloc: A, bytes: &[u8]) -> Result<Vec<u8, A>, AllocError>
     ensures items { IfOk result (λ copy. copy.items ≡ bytes.now) }
     ensures memory { OnErr result (0 < length bytes.now) }
@@ -30,7 +30,7 @@ pub fn copied<A: Allocator>(alloc: A, bytes: &[u8]) -> Result<Vec<u8, A>, AllocE
 }
 
 impl<A: Allocator> Bytes<A> {
-    /// A copy of bytes, for which no memory is needed where there are none.
+    /// A copy of the bytes, which takes no memory if there are none.
     pub fn from_slice(alloc: A, bytes: &[u8]) -> Result<Bytes<A>, AllocError>
         ensures items { IfOk result (λ b. b ≡ bytes.now) }
         ensures memory { OnErr result (0 < length bytes.now) }

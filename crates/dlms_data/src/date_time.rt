@@ -1,22 +1,27 @@
 //! The clock's seconds as date-times of twelve octets.
 
 ghost use Rattle.std.specs.Prelude.{◌≡◌, ◌↔◌, ℕ, ◌+◌, ◌*◌, ◌<◌, ◌≤◌, length, pos, slice_index, IfSome, IfNone, IsTrue};
-ghost use Rattle.jiff_core.specs.Calendar.{IsBetween, IsCivilDate};
-ghost use Rattle.jiff_core.specs.Date.{epoch_day, IsYmd};
+ghost use Rattle.jiff_core.specs.Calendar.{IsCivilDate, days_from_civil};
+ghost use Rattle.jiff.specs.Words.{epoch_day, IsBetween, IsYmd};
 ghost use Rattle.dlms_data.specs.DateTime.{second_at, IsDeviation, NamesSecond, IsPlainlyWritten};
 
-use jiff_core::civil::Date;
+use jiff::ToSpan;
+use jiff::civil::{Date, date};
 
 /// The last second of the clock: the end of 2099.
 pub const LAST_SECOND: u32 = 3_155_759_999;
-
-/// How many days after -9999-01-01 the clock begins.
-const FIRST_DAY: u32 = 4_382_544;
 
 /// How many days after 2000-01-01 it ends.
 const LAST_DAY: u32 = 36_524;
 
 const SECONDS_A_DAY: u32 = 86_400;
+
+/// The day on which the clock begins.
+fn first_day() -> Date
+    ensures { epoch_day result ≡ days_from_civil (pos 2000) 1 1 }
+{
+    date(2000, 1, 1)
+}
 
 /// The date that many days after 2000-01-01.
 fn date_after(days: u32) -> Date
@@ -24,7 +29,7 @@ fn date_after(days: u32) -> Date
     ensures day { epoch_day result ≡ pos (10957 + days) }
     ensures year { IsBetween (pos 2000) (pos 2099) result.year }
 {
-    Date::from_days_since_min(FIRST_DAY + days)
+    first_day() + i64::from(days).days()
 }
 
 /// The date's year in two octets, high one first.
@@ -33,7 +38,7 @@ fn year_octets(date: Date) -> [u8; 2]
     ensures size { length result ≡ 2 }
     ensures value { pos (256 * slice_index result 0 + slice_index result 1) ≡ date.year }
 {
-    (date.year as u16).to_be_bytes()
+    (date.year() as u16).to_be_bytes()
 }
 
 /// The date-time of a second, counted from 2000-01-01 00:00:00: year (2 octets), month, day, day of the
@@ -46,13 +51,15 @@ pub fn octets(secs: u32) -> [u8; 12]
 {
     let date = date_after(secs / SECONDS_A_DAY);
     let time = secs % SECONDS_A_DAY;
-    let weekday = date.weekday().index() + 1;
     let [high, low] = year_octets(date);
+    let month = date.month() as u8;
+    let day = date.day() as u8;
+    let weekday = date.weekday().to_monday_one_offset() as u8;
     let hour = (time / 3600) as u8;
     let minute = (time / 60 % 60) as u8;
     let second = (time % 60) as u8;
     [
-        high, low, date.month, date.day, weekday, hour, minute, second, 0, 0, 0, 0,
+        high, low, month, day, weekday, hour, minute, second, 0, 0, 0, 0,
     ]
 }
 
@@ -70,14 +77,17 @@ fn date_of(year: u16, month: u8, day: u8) -> Option<Date>
 /// The clock's second at that second of a day, if the clock has it.
 fn second_of(date: Date, time: u32) -> Option<u32>
     requires { time < SECONDS_A_DAY }
-    ensures some { IfSome result (λ s. (s ≤ LAST_SECOND) × (pos s ≡ second_at (epoch_day date) time)) }
-    ensures none { IfNone result ((s : ℕ) → s ≤ LAST_SECOND → ¬ (pos s ≡ second_at (epoch_day date) time)) }
+    ensures some { IfSome result (λ s. (s ≤ LAST_SECOND)
+        × (pos s ≡ second_at (epoch_day date) time)) }
+    ensures none { IfNone result ((s : ℕ) → s ≤ LAST_SECOND
+        → ¬ (pos s ≡ second_at (epoch_day date) time)) }
 {
-    let days = date.days_since_min();
-    if days < FIRST_DAY || days > FIRST_DAY + LAST_DAY {
+    let year = date.year();
+    if year < 2000 || year > 2099 {
         return None;
     }
-    Some((days - FIRST_DAY) * SECONDS_A_DAY + time)
+    let midnight = date.duration_since(first_day()).as_secs();
+    Some(midnight as u32 + time)
 }
 
 /// Whether the deviation is 0 or left open.

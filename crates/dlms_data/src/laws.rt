@@ -7,7 +7,7 @@ ghost use Rattle.dlms_data.specs.Laws.{ReadsWhatIsSpelled, ReadsOneValue, ReadsW
 
 use crate::date_time::{LAST_SECOND, octets, secs};
 
-/// What is read is what the grammar has: the value, and what follows it.
+/// Reading follows the grammar: it returns the value and what follows it.
 pub fn reads_what_is_spelled()
     ensures { ReadsWhatIsSpelled }
 {}

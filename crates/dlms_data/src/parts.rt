@@ -1,4 +1,4 @@
-//! What stands behind tags: lengths, numbers, octets and bits.
+//! Reads what follows a tag: lengths, numbers, octets and bits.
 
 ghost use Rattle.std.specs.Prelude.{◌≡◌, ◌≤◌, ◌<◌, ◌+◌, length, IfOk};
 ghost use Rattle.byteorder.specs.Endian.{big_number};
@@ -94,8 +94,7 @@ pub fn length_of(bytes: &[u8]) -> Result<(u32, &[u8]), DataFault>
     }
 }
 
-/// A length, in any of its spellings, and so many octets: where they stand, and what follows them. No memory is
-/// taken.
+/// A length, in any of its spellings, and that many octets: returns the octets and what follows them. Takes no memory.
 #[tactic(auto, unfolding(crate::specs::Reading::octets_at))]
 pub fn counted(bytes: &[u8]) -> Result<(&[u8], &[u8]), DataFault>
     ensures told { Tells (λ x. (x.0.now, x.1.now)) result (octets_at bytes.now) }
@@ -104,7 +103,7 @@ pub fn counted(bytes: &[u8]) -> Result<(&[u8], &[u8]), DataFault>
     taken(rest, count as usize)
 }
 
-/// A length and so many octets.
+/// A length and that many octets.
 pub fn octets<A: Allocator>(alloc: A, bytes: &[u8]) -> Result<(Bytes<A>, &[u8]), DataFault>
     ensures { Gives (λ x. (x.0, x.1.now)) HasSome result (octets_at bytes.now) }
 {
@@ -112,7 +111,7 @@ pub fn octets<A: Allocator>(alloc: A, bytes: &[u8]) -> Result<(Bytes<A>, &[u8]),
     Ok((Bytes::from_slice(alloc, front)?, rest))
 }
 
-/// A length and so many bits.
+/// A length and that many bits.
 #[tactic(auto, unfolding(crate::specs::Reading::bits_at))]
 pub fn bits<A: Allocator>(alloc: A, bytes: &[u8]) -> Result<(Bits<A>, &[u8]), DataFault>
     ensures { Gives (λ x. (x.0, x.1.now)) HasSome result (bits_at bytes.now) }

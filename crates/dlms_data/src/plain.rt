@@ -13,7 +13,7 @@ use crate::parts::{
 use crate::tag::Plain;
 use std::alloc::Allocator;
 
-/// What stands behind the tag of a type that holds no other values.
+/// The content after the tag of a type that contains no other values.
 #[tactic(auto, using(crate::proofs::Wanting::wanting), unfolding(crate::specs::Reading::plain_at))]
 pub fn plain<A: Allocator>(
     alloc: A,
@@ -99,7 +99,7 @@ pub fn plain<A: Allocator>(
     }
 }
 
-/// What follows a length and so many bits.
+/// What follows a length and that many bits.
 #[tactic(auto, unfolding(crate::specs::Reading::bits_at))]
 fn after_bits(bytes: &[u8]) -> Result<&[u8], DataFault>
     ensures { Tells (λ x. x.now) result (behind (bits_at bytes.now)) }
@@ -109,7 +109,7 @@ fn after_bits(bytes: &[u8]) -> Result<&[u8], DataFault>
     Ok(rest)
 }
 
-/// What follows the content behind the tag of a type that holds no other values.
+/// What follows the content after the tag of a type that contains no other values.
 #[tactic(auto, using(crate::proofs::Scan::behind_map), unfolding(crate::specs::Reading::plain_at, crate::specs::Reading::number_at))]
 pub fn after_plain(tag: Plain, bytes: &[u8]) -> Result<&[u8], DataFault>
     ensures { Tells (λ x. x.now) result (behind (plain_at tag bytes.now)) }

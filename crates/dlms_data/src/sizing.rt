@@ -28,7 +28,7 @@ fn head_size(len: usize) -> usize
     }
 }
 
-/// How many bytes a tag, a length and so many octets take.
+/// How many bytes a tag, a length and that many octets take.
 fn counted_size(len: usize) -> usize
     ensures { result ≡ min (length (short_length len) + 1 + len) (2 ^ 64 - 1) }
 {
@@ -42,7 +42,7 @@ fn bits_size<B: Allocator>(bits: &Bits<B>) -> usize
     head_size(bits.len()).saturating_add(bits.as_bytes().len())
 }
 
-/// How many bytes the canonical spelling takes, or the largest `usize` where it takes more.
+/// How many bytes the canonical spelling takes, or the largest `usize` if it takes more.
 #[cycle(sizing)]
 #[tactic(auto, using(crate::proofs::Sizes::length_counted))]
 pub fn size<B: Allocator>(source: Source<'_, B>) -> usize
@@ -75,7 +75,8 @@ pub fn size<B: Allocator>(source: Source<'_, B>) -> usize
 #[tactic(auto, using(crate::proofs::Walk::depth_at, crate::proofs::Walk::in_range_at, crate::proofs::Sizes::size_at))]
 fn size_all<B: Allocator>(sources: Sources<'_, B>) -> usize
     requires { AllInRange (values_of sources.values.now) }
-    ensures { result ≡ min (length (all_canonical (values_of sources.entry.values.now))) (2 ^ 64 - 1) }
+    ensures { result ≡ min (length (all_canonical (values_of sources.entry.values.now)))
+        (2 ^ 64 - 1) }
 {
     let mut total = 0usize;
     let items = sources.values;

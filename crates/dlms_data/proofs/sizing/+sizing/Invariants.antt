@@ -10,7 +10,7 @@ decreases-size g l = 2 * depth (value_of l.source.value.now)
 abbrev pub decreases-size_all : goal.decreases-size_all
 decreases-size_all g l = 2 * values_depth (values_of l.sources.values.now) + 1
 
--- what was counted and what is still to be counted are all
+-- the values counted and those still to be counted are all values
 abbrev pub invariant-size_all-loop-item : goal.invariant-size_all-loop-item
 invariant-size_all-loop-item g l = record {
   bounded : l.total ≤ 2 ^ 64 - 1;
