@@ -30,7 +30,7 @@ fn slices_of<'a, A: Allocator>(
     Ok(slices)
 }
 
-/// Does what the words ask for, on the standard streams.
+/// Carries out the job of the arguments, on the standard streams.
 fn status_by(rt: &HostRuntime, words: &[&str]) -> io::Result<u8> {
     let mut errors = rt.stderr();
     run(rt, words, &mut rt.stdin(), &mut io::writer(rt), &mut errors)
@@ -53,7 +53,7 @@ fn status_for(rt: &HostRuntime, owned: &[String]) -> io::Result<u8> {
     }
 }
 
-/// Does what the program's words ask for.
+/// Carries out the job of the program's arguments.
 fn status_of(rt: &HostRuntime) -> io::Result<u8> {
     match words_of(rt) {
         Ok(owned) => {

@@ -1,5 +1,5 @@
-//! The standard streams, which have to exist before anything is opened: the system gives a closed stream's descriptor to the next
-//! file or socket, and what is printed would be written into it.
+//! The standard streams, which must exist before anything is opened: the system gives a closed stream's descriptor to the next file
+//! or socket, and printed text would be written to it.
 
 use std::fs::{File, Files, OpenOptions};
 use std::os::fd::{AsRawFd, RawFd};
@@ -10,7 +10,7 @@ const NOTHING: &str = "/dev/null";
 /// The descriptor of the errors (POSIX, STDERR_FILENO); those of the input and of the output are below it.
 const ERRORS: RawFd = 2;
 
-/// The files that stand in for closed streams, for as long as this value exists.
+/// The files that replace closed streams, for as long as this value exists.
 #[derive(Drop)]
 pub struct StandIns {
     first: Option<File>,
@@ -34,8 +34,8 @@ fn stand_in<R: Files<File = File>>(rt: &R) -> Option<File> {
 }
 
 impl StandIns {
-    /// Makes sure that descriptors 0, 1 and 2 are in use. Without `/dev/null` nothing stands in; files and sockets that get such a
-    /// descriptor are then refused where they are opened.
+    /// Makes sure that descriptors 0, 1 and 2 are in use. Without `/dev/null` nothing replaces them; files and sockets that get
+    /// such a descriptor are then refused when they are opened.
     pub fn open<R: Files<File = File>>(rt: &R) -> Self {
         StandIns {
             first: stand_in(rt),

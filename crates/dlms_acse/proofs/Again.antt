@@ -1,4 +1,4 @@
--- What is written is read again.
+-- Written APDUs are read again.
 use Rattle.std.proofs.Common.{◌≡◌, ℕ, ◌+◌, ◌*◌, ◌/◌, ◌%◌, ◌≤◌, ◌<◌, Bool, true, false, if◌then◌else◌, ltb, eqb, eq-eqb, lit<, subst, List, [], ◌∷◌, ◌++◌, length, Ok, Some, None, refl, sym, ap, ◌∙◌, arith}
 use Rattle.std.proofs.lemmas.Bool.{le-ltb}
 use Rattle.std.proofs.lemmas.List.{append-nil, length-append}

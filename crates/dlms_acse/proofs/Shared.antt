@@ -1,4 +1,4 @@
--- A length and what it counts are read here as dlms_data reads them, where the length has no more bytes than may be.
+-- A length and its content are read here as dlms_data reads them, if the length has no more bytes than allowed.
 use Rattle.std.proofs.Common.{◌≡◌, ℕ, ◌-◌, ◌≤◌, Bool, true, false, cond, ltb, ◌||◌, List, [], ◌∷◌, length, take, drop, Result, Ok, Err, refl, ap, ◌∙◌, arith}
 use Rattle.std.proofs.lemmas.Bool.{ltb-false, le-ltb, ltb-true}
 use Rattle.byteorder.specs.Endian.{big_number}
@@ -69,7 +69,7 @@ same_octets : (most : ℕ) (bytes : List ℕ) → most ≤ 4 → is_longer most 
 unfolding octets_at xdr.octets_at
 same_octets most bytes few short = rw (same_length most bytes few short) (then_taken (xdr.length_at bytes))
 
--- what is told of a fault of dlms_data's
+-- the fault for a fault of dlms_data's
 told_here : {X Y : Type 0} (view : X → Y) (f : DataFault) (read : Result Y xdr.Fault) → xdr.IsFault f read → here read ≡ Err (told f)
 told_here view fault.Short read e = rw e refl
 told_here view fault.Tag read e = rw e refl
@@ -83,7 +83,7 @@ ok_here most bytes x few short e = same_octets most bytes few short ∙ ap here 
 pub err_here : (most : ℕ) (bytes : List ℕ) (f : DataFault) → most ≤ 4 → is_longer most bytes ≡ false → xdr.IsFault f (xdr.octets_at bytes) → octets_at most bytes ≡ Err (told f)
 err_here most bytes f few short e = same_octets most bytes few short ∙ told_here (λ x. x) f (xdr.octets_at bytes) e
 
--- a length that is too long is none
+-- a length that is too long is invalid
 pub longer_here : (most : ℕ) (bytes : List ℕ) → is_longer most bytes ≡ true → octets_at most bytes ≡ Err Length
 unfolding octets_at length_at
 longer_here most [] long = absurd cc

@@ -1,4 +1,4 @@
--- Lengths and what they count: what is read is spelled so, and what is spelled so is read.
+-- Lengths and their content: everything that is read has that spelling, and everything spelled so is read.
 use Rattle.std.proofs.Common.{◌≡◌, ℕ, ◌-◌, ◌+◌, ◌≤◌, Bool, true, false, cond, ltb, ◌||◌, List, [], ◌∷◌, ◌++◌, length, take, drop, Result, Ok, Err, refl, sym, ap, subst, ◌∙◌, append_assoc, arith, ◌⊎◌, inl, inr}
 use Rattle.std.proofs.lemmas.Bool.{ltb-false, le-ltb, ltb-true, lt-ltb}
 use Rattle.std.proofs.lemmas.List.{take_at, drop_at, take-append-drop, length-append, length-take}
@@ -28,7 +28,7 @@ pub chosen : {A : Type 0} (b : Bool) (x y z : A) → cond b x y ≡ z → ((b �
 chosen true x y z e = inl (refl, e)
 chosen false x y z e = inr (refl, e)
 
--- text of this kind stands at the front, and rest behind it
+-- text of this kind is at the front, and rest follows it
 abbrev pub Takes : List ℕ → List ℕ → (List ℕ → Type 0) → Type 0
 Takes bytes rest kind = (text : List ℕ) × (bytes ≡ text ++ rest) × kind text
 

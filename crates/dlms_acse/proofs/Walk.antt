@@ -7,7 +7,7 @@ use Rattle.dlms_acse.specs.declared.fault.AcseFault.TheVariants.{Repeated}
 use Rattle.dlms_acse.specs.Reading.{octets_at, contains, checked_at, find_at}
 use Rattle.dlms_acse.proofs.Takes.{octets_within}
 
--- one field is read, and the walk goes on behind it
+-- one field is read, and the walk continues after it
 pub checked-next : (n tag : ℕ) (tags rest : List ℕ) (x : List ℕ × List ℕ) → suc (length rest) ≤ n → contains tag tags ≡ false → octets_at 2 rest ≡ Ok x →
     (m : ℕ) × (length x.1 ≤ m) × (checked_at n tags (tag ∷ rest) ≡ checked_at m (tag ∷ tags) x.1)
 checked-next zero tag tags rest x l new e = absurd (omega arith)
@@ -59,7 +59,7 @@ table-next seen tag k tags lt e = by_test (tag == k) refl
 abbrev pub Knows : List Bool → List ℕ → Type 0
 Knows seen tags = (length seen ≡ 256) × ((k : ℕ) → k < 256 → get_or seen k false ≡ contains k tags)
 
--- the whole is checked as what is left
+-- the whole is checked like the rest
 abbrev pub IsLeft : List Bool → List ℕ → Result (Unit {0}) AcseFault → Type 0
 IsLeft seen rest total = (n : ℕ) × (tags : List ℕ) × (length rest ≤ n) × Knows seen tags × (total ≡ checked_at n tags rest)
 

@@ -20,7 +20,12 @@ pub record Request : Type 0 where
   pub initiate : Option Initiate
 
 abbrev pub request_of : Aarq → Request
-request_of a = record { context = a.context; mechanism = a.mechanism; secret = option_map (λ s. s.items) a.secret; initiate = a.initiate }
+request_of a = record {
+  context = a.context;
+  mechanism = a.mechanism;
+  secret = option_map (λ s. s.items) a.secret;
+  initiate = a.initiate;
+}
 
 abbrev pub is_absent : Mechanism → Bool
 is_absent Absent = true
@@ -55,7 +60,7 @@ agreed i = bit_and i.conformance.0 offered
 abbrev pub has_get : ℕ → Bool
 has_get bits = not (bit_and bits 0x10 == 0)
 
--- the largest APDU that the meter sends: the client's size, at most 1,024, and 0 stands for no limit
+-- the largest APDU that the meter sends: the client's size, at most 1,024; 0 means no limit
 abbrev pub size_in_use : ℕ → ℕ
 size_in_use size = if size == 0 then MOST_SIZE else min size MOST_SIZE
 
@@ -76,8 +81,11 @@ first_fit (row ∷ rows) = if row.0 then Some row.1 else first_fit rows
 
 -- the client may not be who it says
 abbrev pub doubts : Request → Client → List ℕ → List (Bool × Verdict)
-doubts r client secret =
-    (not (has_secret client) && not (is_absent r.mechanism) && not (is_lowest r.mechanism), refused 11)
+doubts r client secret = (
+  not (has_secret client) && not (is_absent r.mechanism) && not
+      (is_lowest r.mechanism),
+  refused 11,
+)
     ∷ (has_secret client && is_absent r.mechanism, refused 14)
     ∷ (has_secret client && is_lowest r.mechanism, refused 14)
     ∷ (has_secret client && not (is_low r.mechanism), refused 11)
@@ -93,9 +101,10 @@ objections initiate =
     ∷ (proposes (λ i. nat_lt 0 i.size && nat_lt i.size LEAST_SIZE) initiate, initiate_error 3)
     ∷ []
 
--- the table: another context, then who the client is, then what it proposes; where no case fits it is accepted
+-- the table: another context, then who the client is, then what it proposes; if no case applies it is accepted
 abbrev pub cases : Request → Client → List ℕ → List (Bool × Verdict)
-cases r client secret = (not r.context, refused 2) ∷ (doubts r client secret ++ objections r.initiate)
+cases r client secret = (not r.context, refused 2)
+    ∷ (doubts r client secret ++ objections r.initiate)
 
 abbrev pub verdict : Request → Client → List ℕ → Verdict
 verdict r client secret = unwrap_or (first_fit (cases r client secret)) (accepted r.initiate)

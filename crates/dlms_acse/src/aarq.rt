@@ -1,4 +1,4 @@
-//! What a client's request for an association says.
+//! The content of a client's association request.
 
 use crate::conformance::Conformance;
 use arrayvec::ArrayVec;
@@ -34,8 +34,8 @@ pub struct Aarq {
     pub context: bool,
     /// The mechanism.
     pub mechanism: Mechanism,
-    /// The secret; none where it is absent, unreadable or longer.
+    /// The secret; none if it is absent, unreadable or longer.
     pub secret: Option<ArrayVec<u8, 16>>,
-    /// The initiate request; none where it is absent or unreadable.
+    /// The initiate request; none if it is absent or unreadable.
     pub initiate: Option<Initiate>,
 }

@@ -37,7 +37,7 @@ bitflag_items! {
 }
 
 impl Conformance {
-    /// What the meter offers: blocks with get, set and action, get, set, selective access, and action.
+    /// The services that the meter offers: blocks with get, set and action, get, set, selective access, and action.
     pub const OFFERED: Conformance = Conformance(0x1c1d);
 }
 

@@ -14,11 +14,11 @@ pub enum AcseFault {
     /// The first byte is that of another APDU.
     #[error("another APDU")]
     Tag,
-    /// A length begins with 80, or with 83 to FF, or bytes stand behind the whole.
-    #[error("no length begins so, or bytes stand behind the whole")]
+    /// A length begins with 80, or with 83 to FF, or bytes follow the whole.
+    #[error("no length begins so, or bytes follow the end")]
     Length,
     /// A tag stands twice.
-    #[error("a tag stands twice")]
+    #[error("a tag occurs twice")]
     Repeated,
 }
 

@@ -17,7 +17,7 @@ fn is_longer(bytes: &[u8], most: u8) -> bool
     }
 }
 
-/// What is told of a length.
+/// The fault for a fault in a length.
 fn told(fault: DataFault) -> AcseFault
     ensures { result ≡ told fault }
 {
@@ -27,7 +27,7 @@ fn told(fault: DataFault) -> AcseFault
     }
 }
 
-/// A length and what it counts, and the bytes behind that: BER's spelling of a length is A-XDR's, with at most so many bytes.
+/// A length and its content, and the bytes after that: BER's spelling of a length is A-XDR's, with at most `most` bytes.
 pub(crate) fn counted(bytes: &[u8], most: u8) -> Result<(&[u8], &[u8]), AcseFault>
     requires { most ≤ 4 }
     ensures exact { Tells (λ x. (x.0.now, x.1.now)) result (octets_at most bytes.now) }

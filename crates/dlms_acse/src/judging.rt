@@ -16,8 +16,8 @@ pub const LEAST_SIZE: u16 = 64;
 /// The greatest size of an APDU that the meter takes and gives.
 pub const MOST_SIZE: u16 = 1024;
 
-// Whether two secrets are the same. Every byte is compared, whatever the ones before it gave, so that the work tells
-// nothing of where the secrets differ: keep this form, which no contract can ask for.
+// Whether two secrets are equal. Every byte is compared, whatever the earlier comparisons gave, so that the time does not show
+// where the secrets differ: keep this form, which no contract can require.
 fn is_same(one: &[u8], other: &[u8]) -> bool
     ensures { result ≡ bytes_eq one.now other.now }
 {
@@ -80,9 +80,10 @@ fn doubt(aarq: &Aarq, client: Client, secret: &[u8]) -> Option<Verdict>
     }
 }
 
-/// What the proposed services come to.
+/// The verdict on the proposed services.
 fn services(initiate: Initiate) -> Verdict
-    ensures { result ≡ unwrap_or (first_fit (objections (Some initiate))) (accepted (Some initiate)) }
+    ensures { result ≡ unwrap_or (first_fit (objections (Some initiate)))
+        (accepted (Some initiate)) }
 {
     let agreed = initiate.conformance.0 & Conformance::OFFERED.0;
     if initiate.version < 6 {
@@ -103,8 +104,8 @@ fn services(initiate: Initiate) -> Verdict
     }
 }
 
-/// What the meter answers to this request of this client, whose secret at the meter is the one given: the first of these
-/// cases that fits. Of a client without a secret the one given is not looked at.
+/// The meter's answer to this request of this client, whose secret at the meter is the one given: the first of these cases that
+/// applies. For a client without a secret the given one is ignored.
 ///
 /// | Case | Diagnostic | Initiate error |
 /// |---|---|---|

@@ -2,7 +2,7 @@
 
 use crate::conformance::Conformance;
 
-/// What the meter answers to an association request.
+/// The meter's answer to an association request.
 #[derive(Clone, Copy, PartialEq, Eq, Debug)]
 pub enum Verdict {
     /// The association is open.
@@ -16,7 +16,7 @@ pub enum Verdict {
     Refused {
         /// Why, as a diagnostic of the service user.
         diagnostic: u8,
-        /// Why, as an initiate error, where the services are the cause.
+        /// Why, as an initiate error, if the services are the cause.
         initiate: Option<u8>,
     },
 }

@@ -75,7 +75,7 @@ fn secret_of(value: &[u8]) -> Option<ArrayVec<u8, 16>>
     }
 }
 
-/// What stands behind a dedicated key.
+/// The bytes after a dedicated key.
 #[tactic(auto, unfolding(crate::specs::Reading::key_at))]
 fn after_key(bytes: &[u8]) -> Option<&[u8]>
     ensures { option_map (λ x. x.now) result ≡ key_at bytes.now }
@@ -90,7 +90,7 @@ fn after_key(bytes: &[u8]) -> Option<&[u8]>
     }
 }
 
-/// What stands behind an option of one byte.
+/// The bytes after an option of one byte.
 #[tactic(auto, unfolding(crate::specs::Reading::option_at))]
 fn after_option(bytes: &[u8]) -> Option<&[u8]>
     ensures { option_map (λ x. x.now) result ≡ option_at bytes.now }
@@ -102,7 +102,7 @@ fn after_option(bytes: &[u8]) -> Option<&[u8]>
     }
 }
 
-/// The conformance bits and the size, behind a version.
+/// The conformance bits and the size, after a version.
 #[tactic(auto, unfolding(crate::specs::Reading::block_at))]
 fn block(version: u8, bytes: &[u8]) -> Option<Initiate>
     ensures { result ≡ block_at version bytes.now }
@@ -156,7 +156,7 @@ fn initiate_of(value: &[u8]) -> Option<Initiate>
     request(bytes)
 }
 
-/// What an association request says.
+/// The content of an association request.
 fn said(bytes: &[u8]) -> Result<Aarq, AcseFault>
     ensures { Tells (λ a. request_of a) result (aarq_at bytes.now) }
 {
@@ -177,12 +177,12 @@ fn said(bytes: &[u8]) -> Result<Aarq, AcseFault>
     })
 }
 
-/// Reads an association request. The fields stand in any order, each tag at most once, and others than the named ones are
-/// skipped. What is not readable inside a field makes no fault: the field then says nothing.
+/// Reads an association request. The fields are in any order, each tag at most once, and unknown ones are skipped. Unreadable
+/// content of a field is no fault: the field then has no value.
 pub fn read_aarq(bytes: &[u8]) -> Result<Aarq, AcseFault>
     // The bytes are an association request that says this.
     ensures found { IfOk result (λ a. IsAarq bytes.now (request_of a)) }
-    // What an association request says is what is read of it.
+    // The content of an association request is the result.
     ensures only { (r : Request) → IsAarq bytes.now r → IsOkAnd result (λ a. request_of a ≡ r) }
     // Which fault it is.
     ensures exact { Tells (λ a. request_of a) result (aarq_at bytes.now) }

@@ -77,12 +77,13 @@ fn error_of(bytes: &[u8]) -> Option<u8>
 
 /// The user information of a response.
 fn user_of(value: Option<&[u8]>) -> Option<&[u8]>
-    ensures { option_map (λ x. x.now) result ≡ on_some (option_map (λ x. x.now) value.entry) (inner_at 4) }
+    ensures { option_map (λ x. x.now) result ≡ on_some (option_map (λ x. x.now) value.entry)
+        (inner_at 4) }
 {
     inner(value?, 0x04)
 }
 
-/// What a response with this result, this diagnostic and this user information says.
+/// The content of a response with this result, this diagnostic and this user information.
 fn answer(number: u8, diagnostic: u8, user: Option<&[u8]>) -> Result<Verdict, AcseFault>
     ensures { result ≡ answer_from number diagnostic (option_map (λ x. x.now) user.entry) }
 {
@@ -104,7 +105,7 @@ fn answer(number: u8, diagnostic: u8, user: Option<&[u8]>) -> Result<Verdict, Ac
     }
 }
 
-/// What a response says.
+/// The content of a response.
 fn said(bytes: &[u8]) -> Result<Verdict, AcseFault>
     ensures { result ≡ aare_at bytes.now }
 {
@@ -121,7 +122,7 @@ fn said(bytes: &[u8]) -> Result<Verdict, AcseFault>
 pub fn read_aare(bytes: &[u8]) -> Result<Verdict, AcseFault>
     // The bytes are a response that says this.
     ensures found { IfOk result (λ v. IsAare bytes.now v) }
-    // What a response says is what is read of it.
+    // The content of a response is the result.
     ensures only { (v : Verdict) → IsAare bytes.now v → result ≡ Ok v }
     // Which fault it is.
     ensures exact { result ≡ aare_at bytes.now }

@@ -15,7 +15,7 @@ const CONTEXT: [u8; 11] = [
     0xa1, 0x09, 0x06, 0x07, 0x60, 0x85, 0x74, 0x05, 0x08, 0x01, 0x01,
 ];
 
-/// What stands in front of a client's secret: the requirements, the mechanism.
+/// The bytes before a client's secret: the requirements, the mechanism.
 const LOW_LEVEL: [u8; 13] = [
     0x8a, 0x02, 0x07, 0x80, 0x8b, 0x07, 0x60, 0x85, 0x74, 0x05, 0x08, 0x02, 0x01,
 ];
@@ -115,8 +115,8 @@ fn request_text(
     text
 }
 
-/// The association request of a client that proposes these services and receives APDUs of this size in bytes; 0 stands for no limit.
-/// The secret, of at most 16 bytes, is not written for a client without one. Of the services the lower 24 bits are written.
+/// The association request of a client that proposes these services and receives APDUs of this size in bytes; 0 means no limit. The
+/// secret, of at most 16 bytes, is not written for a client without one. Only the lower 24 bits of the services are written.
 pub fn write_aarq(
     client: Client,
     secret: &[u8],
@@ -172,8 +172,8 @@ fn response_text(verdict: &Verdict) -> ArrayVec<u8, 128>
     }
 }
 
-/// The response to an association request. An accepted one always says that the meter receives APDUs of 1,024 bytes. Of the
-/// services the lower 24 bits are written.
+/// The response to an association request. An accepting one always states that the meter receives APDUs of 1,024 bytes. Only the
+/// lower 24 bits of the services are written.
 pub fn write_aare(verdict: &Verdict) -> ArrayVec<u8, 128>
     ensures bytes { result.items ≡ aare_bytes verdict.now }
     // It is a response that says this verdict, an accepted one with the size 1,024.

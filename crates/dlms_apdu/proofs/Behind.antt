@@ -4,7 +4,7 @@ use Rattle.dlms_data.specs.Value.{Value}
 use Rattle.dlms_data.specs.Reading.{Fault, behind}
 use Rattle.dlms_apdu.specs.Reading.{value_from}
 
--- a value stands in front of what is behind it
+-- a value precedes the bytes after it
 pub behind_value : (r : Result (Value × List ℕ) Fault) (rest : List ℕ) → behind r ≡ Ok rest → (v : Value) × (value_from r ≡ Ok (v, rest))
 behind_value (Ok x) rest e =
     let same : x.1 ≡ rest = cc in

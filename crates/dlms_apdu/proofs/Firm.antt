@@ -1,4 +1,4 @@
--- Choice is told for good: however the bytes go on, it is told again.
+-- Choice is final: whatever bytes follow, it is reported again.
 use Rattle.std.proofs.Common.{◌≡◌, ℕ, ◌-◌, Bool, true, false, cond, ltb, eqb, ◌||◌, if◌then◌else◌, List, [], ◌∷◌, ◌++◌, length, take, drop, Option, Result, Ok, Err, refl, sym, ap, ◌∙◌, ◌⊎◌, inl, inr}
 use Rattle.dlms_data.specs.Value.{Value}
 use Rattle.dlms_data.specs.Reading.{Fault, short, no_type, no_length, too_deep, ◌>>=◌, data_at, taken_at as data_taken_at, number_at as data_number_at, length_at, octets_at}
@@ -10,7 +10,7 @@ use Rattle.dlms_apdu.specs.Spelling.{IsByte, IsNumber, IsFlag, AreBytes, IsDescr
 use Rattle.dlms_apdu.proofs.Takes.{Takes, failed, regrouped, byte_takes, byte_again, taken_takes, taken_again, number_takes, number_again, flag_takes, flag_again, descriptor_takes, descriptor_again, value_takes, value_again, raw_takes, raw_again}
 use Rattle.dlms_apdu.proofs.Options.{IsBlock, selector_takes, selector_again, parameter_takes, parameter_again, block_takes, block_again}
 
--- where it tells Choice, it does so however the bytes go on
+-- if it reports Choice, it does so whatever bytes follow
 abbrev IsFirm : {Y : Type 0} → (List ℕ → Result Y Refusal) → Type 0
 IsFirm r = (bytes more : List ℕ) → r bytes ≡ Err Choice → r (bytes ++ more) ≡ Err Choice
 

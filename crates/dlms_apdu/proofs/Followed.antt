@@ -1,4 +1,4 @@
--- Bytes behind a spelling: where Trailing is told, a spelling stands in front.
+-- Bytes after a spelling: if Trailing is reported, a spelling precedes them.
 use Rattle.std.proofs.Common.{◌≡◌, ℕ, Bool, true, false, cond, ltb, eqb, if◌then◌else◌, List, [], ◌∷◌, ◌++◌, length, take, drop, Result, Ok, Err, refl, ap, subst, ◌∙◌, ◌⊎◌, inl, inr}
 use Rattle.std.proofs.lemmas.Bool.{eqb-true}
 use Rattle.dlms_data.specs.Value.{Value}
@@ -13,7 +13,7 @@ use Rattle.dlms_apdu.proofs.Options.{IsBlock, selector_takes, parameter_takes, b
 
 -- ---- no part is refused for what stands behind it
 
--- a step that did not fail, where the whole did
+-- a step that did not fail, if the whole did not
 record Passed {A B : Type 0} (r : Result A Refusal) (f : A → Result B Refusal) : Type 0 where
   value : A
   is : r ≡ Ok value
@@ -72,7 +72,7 @@ never_raw_from (Err too_deep) e = cc
 never_raw : (bytes : List ℕ) → raw_at bytes ≡ Err Trailing → ⊥
 never_raw bytes e = never_raw_from (octets_at bytes) e
 
--- the first byte was one of these, and what is behind it failed
+-- the first byte was one of these, and the reading of what follows failed
 abbrev ChoseFailing : {Y : Type 0} → List (ℕ × (List ℕ → Result Y Refusal)) → List ℕ → Type 0
 ChoseFailing [] bytes = ⊥
 ChoseFailing (row ∷ rows) bytes = ((rest : List ℕ) × (bytes ≡ row.0 ∷ rest) × (row.1 rest ≡ Err Trailing)) ⊎ ChoseFailing rows bytes

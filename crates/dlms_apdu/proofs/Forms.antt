@@ -1,4 +1,4 @@
--- What is told without memory is an answer.
+-- A result reported without memory is an answer.
 use Rattle.std.proofs.Common.{◌≡◌, ◌∙◌, sym, refl, Result, Ok, Err, IfOk, MatchResult}
 use Rattle.dlms_apdu.specs.Fault.{fault_of}
 use Rattle.dlms_apdu.specs.declared.fault.Refusal.{Refusal}

@@ -1,4 +1,4 @@
--- Selectors, parameters and blocks: what is read is spelled so, and what is spelled so is read.
+-- Selectors, parameters and blocks: everything that is read has that spelling, and everything spelled so is read.
 use Rattle.std.proofs.Common.{◌≡◌, ℕ, Bool, List, [], ◌∷◌, ◌++◌, Option, Some, None, Result, Ok, refl, sym, ap, subst, ◌∙◌, inl, inr}
 use Rattle.dlms_data.specs.Value.{Value}
 use Rattle.dlms_apdu.specs.declared.fault.Refusal.{Refusal}

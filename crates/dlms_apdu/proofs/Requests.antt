@@ -1,4 +1,4 @@
--- Requests: what is read is spelled so, and what is spelled so is read.
+-- Requests: everything that is read has that spelling, and everything spelled so is read.
 use Rattle.std.proofs.Common.{◌≡◌, ℕ, List, [], ◌∷◌, ◌++◌, Option, Result, Ok, refl, sym, ap, subst, ◌∙◌, inl, inr}
 use Rattle.std.proofs.lemmas.List.{append-nil}
 use Rattle.dlms_data.specs.declared.descriptor.Descriptor.{Descriptor}
@@ -212,7 +212,7 @@ request_found bytes r e =
       ]
     ]
 
--- what is spelled so is read, and what stands behind it is told
+-- a spelling is read, and bytes after it are reported
 pub request_again_before : (bytes rest : List ℕ) (r : RequestForm) → SpellsRequest bytes r → request_at (bytes ++ rest) ≡ ended r rest
 unfolding request_at get_at set_at action_at
 request_again_before bytes rest (get_normal invoke d s) h = ap (λ (w : List ℕ). request_at (w ++ rest)) (headed 0xC0 1 bytes h.0 h.1 h.4.0 h.4.1 h.2 h.3 h.4.2 h.4.3) ∙ get_normal_again invoke d s h.4.1 rest h.4.4

@@ -1,4 +1,4 @@
--- Responses: what is read is spelled so, and what is spelled so is read.
+-- Responses: everything that is read has that spelling, and everything spelled so is read.
 use Rattle.std.proofs.Common.{◌≡◌, ℕ, Bool, true, false, cond, if◌then◌else◌, List, [], ◌∷◌, ◌++◌, Result, Ok, refl, sym, ap, subst, ◌∙◌, inl, inr}
 use Rattle.std.proofs.lemmas.List.{append-nil}
 use Rattle.dlms_data.specs.Value.{Value}
@@ -42,7 +42,7 @@ get_block_result_found i n bytes r e =
     let z = ended_ok _ r _ q.further in
     (q.value.0, z.1, alone IsByte bytes q.value tq z.0)
 
--- a choice that there is only where a test holds
+-- a choice that exists only if a test is true
 chose_if : {Y : Type 0} (b : Bool) (row : ℕ × (List ℕ → Result Y Refusal)) (bytes : List ℕ) (y : Y) → Chose (cond b (row ∷ []) []) bytes y
     → (b ≡ true) × ((rest : List ℕ) × (bytes ≡ row.0 ∷ rest) × (row.1 rest ≡ Ok y))
 chose_if true row bytes y h = elim h [ inl g ↦ (refl, g) | inr g ↦ absurd g ]
@@ -292,7 +292,7 @@ response_found bytes r e =
       ]
     ]
 
--- what is spelled so is read, and what stands behind it is told
+-- a spelling is read, and bytes after it are reported
 pub response_again_before : (bytes rest : List ℕ) (r : ResponseForm) → SpellsResponse bytes r → response_at (bytes ++ rest) ≡ ended r rest
 unfolding response_at get_response_at set_response_at action_response_at
 response_again_before bytes rest (get_data invoke v) h = ap (λ (w : List ℕ). response_at (w ++ rest)) (headed 0xC4 1 bytes h.0 h.1 h.4.0 h.4.1 h.2 h.3 h.4.2 h.4.3) ∙ get_data_again invoke v h.4.1 rest h.4.4

@@ -1,4 +1,4 @@
--- The parts: what is read is spelled so, and what is spelled so is read.
+-- The parts: everything that is read has that spelling, and everything spelled so is read.
 use Rattle.std.proofs.Common.{◌≡◌, ℕ, ◌≤◌, Bool, true, false, cond, ltb, eqb, List, [], ◌∷◌, ◌++◌, length, take, drop, Option, Some, None, Result, Ok, Err, refl, sym, ap, subst, ◌∙◌, append_assoc, arith, ◌⊎◌, inl, inr}
 use Rattle.std.proofs.lemmas.Bool.{ltb-false, le-ltb, eqb-true}
 use Rattle.std.proofs.lemmas.List.{take_at, drop_at, take-append-drop, length-append, length-take, append-nil}
@@ -16,7 +16,7 @@ use Rattle.dlms_apdu.specs.Spelling.{◌▷◌, IsByte, IsNumber, AreBytes, IsFl
 
 -- ---- steps
 
--- a step that did not fail: its value, and what came of it
+-- a step that did not fail: its value, and the result of the rest
 pub record Step {A B : Type 0} (r : Result A Refusal) (f : A → Result B Refusal) (y : B) : Type 0 where
   pub value : A
   pub is : r ≡ Ok value
@@ -44,7 +44,7 @@ goes_on r f bytes front rest x parts e =
     let whole : r bytes ≡ done (x, rest) = ap r parts ∙ e in
     rw whole refl
 
--- nothing stands behind
+-- nothing follows
 pub ended_ok : {Y : Type 0} (y z : Y) (rest : List ℕ) → ended y rest ≡ Ok z → (rest ≡ []) × (y ≡ z)
 unfolding and_then
 ended_ok y z [] e = (refl, ok_is y z e)
@@ -63,13 +63,13 @@ ended_again y = refl
 abbrev pub Takes : {X : Type 0} → (X → List ℕ → Type 0) → List ℕ → X × List ℕ → Type 0
 Takes P bytes x = (front : List ℕ) × (bytes ≡ front ++ x.1) × P x.0 front
 
--- the bytes are the part, where nothing stands behind it
+-- the bytes are the part, if nothing follows it
 pub alone : {X : Type 0} (P : X → List ℕ → Type 0) (bytes : List ℕ) (x : X × List ℕ) → Takes P bytes x → x.1 ≡ [] → P x.0 bytes
 alone P bytes x t none =
     let same : t.0 ≡ bytes = sym (append-nil t.0) ∙ ap (λ (w : List ℕ). t.0 ++ w) (sym none) ∙ sym t.1 in
     subst (λ (w : List ℕ). P x.0 w) same t.2
 
--- two parts, one behind the other
+-- two parts, one after the other
 pub both : (P Q : List ℕ → Type 0) (bytes behind rest front next : List ℕ) → bytes ≡ front ++ behind → behind ≡ next ++ rest → P front → Q next
     → (all : List ℕ) × (bytes ≡ all ++ rest) × (P ▷ Q) all
 both P Q bytes behind rest front next e d p q =

@@ -1,5 +1,5 @@
--- What requests and responses say, without where it lies in memory: a form for each xDLMS APDU that is served
--- (IEC 62056-5-3, Get-Request to Exception-Response), with its named parts in their order.
+-- The content of requests and responses, without their place in memory: a form for each xDLMS APDU that is served (IEC 62056-5-3,
+-- Get-Request to Exception-Response), with its named parts in order.
 use Rattle.std.specs.Prelude.{ℕ, Bool, List, Option}
 use Rattle.dlms_data.specs.declared.descriptor.Descriptor.{Descriptor}
 use Rattle.dlms_data.specs.Value.{Value}

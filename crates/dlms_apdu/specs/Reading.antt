@@ -11,8 +11,9 @@ use Rattle.dlms_apdu.specs.declared.fault.Refusal.{Refusal}
 use Rattle.dlms_apdu.specs.declared.fault.Refusal.TheVariants.{Short, Choice, Trailing, Data}
 use Rattle.dlms_apdu.specs.Forms.{Selection, BlockForm, RequestForm, ResponseForm, get_normal, get_next, set_normal, set_first, set_block, action_normal, action_first, action_block, get_data, get_result, get_block, get_block_result, set_result, set_block_taken, set_last, action_result, action_block_taken, exception}
 
--- what is read further, where a step did not fail
-unfoldable pub and_then : {A B : Type 0} → Result A Refusal → (A → Result B Refusal) → Result B Refusal
+-- the rest of the reading, if a step did not fail
+unfoldable pub and_then : {A B : Type 0} → Result A Refusal → (A → Result B Refusal)
+    → Result B Refusal
 and_then (Ok x) f = f x
 and_then (Err e) f = Err e
 
@@ -25,13 +26,15 @@ abbrev pub Tells : {X Y : Type 0} → (X → Y) → Result X Refusal → Result 
 Tells view (Ok x) read = read ≡ Ok (view x)
 Tells view (Err e) read = read ≡ Err e
 
--- the bytes behind what reading gives, or its refusal
-abbrev pub Passes : {X Y : Type 0} → (X → List ℕ) → Result X Refusal → Result (Y × List ℕ) Refusal → Type 0
+-- the bytes after the part that was read, or the refusal
+abbrev pub Passes : {X Y : Type 0} → (X → List ℕ) → Result X Refusal → Result (Y × List ℕ) Refusal
+    → Type 0
 Passes {X} {Y} view (Ok x) read = (y : Y) × (read ≡ Ok (y, view x))
 Passes view (Err e) read = read ≡ Err e
 
 -- what reading gives; memory is wanting only for what needs some
-abbrev pub Makes : {X Y : Type 0} → (X → Y) → (Y → Type 0) → Result X ApduFault → Result (Y × List ℕ) Refusal → Type 0
+abbrev pub Makes : {X Y : Type 0} → (X → Y) → (Y → Type 0) → Result X ApduFault
+    → Result (Y × List ℕ) Refusal → Type 0
 Makes view needs (Ok x) read = (rest : List ℕ) × (read ≡ Ok (view x, rest))
 Makes view needs (Err e) read = (e ≡ fault.Memory) × IsOkAnd read (λ x. needs x.0)
 
@@ -45,7 +48,8 @@ Wants needs fault.Data read = read ≡ Err Data
 Wants needs fault.Memory read = IsOkAnd read needs
 
 -- what a function returned, seen by view, is what reading gives
-abbrev pub Answers : {X Y : Type 0} → (X → Y) → (Y → Type 0) → Result X ApduFault → Result Y Refusal → Type 0
+abbrev pub Answers : {X Y : Type 0} → (X → Y) → (Y → Type 0) → Result X ApduFault → Result Y Refusal
+    → Type 0
 Answers view needs (Ok x) read = read ≡ Ok (view x)
 Answers view needs (Err e) read = Wants needs e read
 
@@ -75,7 +79,7 @@ descriptor_at bytes = do
   id ← byte_at name.1
   Ok (record { class = class.0; name = name.0; id = id.0 }, id.1)
 
--- a value that is none is one refusal, also where the bytes end within it
+-- an invalid value is one refusal, also if the bytes end within it
 abbrev pub value_from : {Y : Type 0} → Result Y Fault → Result Y Refusal
 value_from (Ok x) = Ok x
 value_from (Err e) = Err Data
@@ -95,7 +99,7 @@ raw_from (Err e) = Err (length_refusal e)
 abbrev pub raw_at : List ℕ → Result (List ℕ × List ℕ) Refusal
 raw_at bytes = raw_from (octets_at bytes)
 
--- nothing stands behind what was read
+-- nothing follows the last part
 abbrev pub end_at : List ℕ → Result (Unit {0}) Refusal
 end_at [] = Ok tt
 end_at (b ∷ rest) = Err Trailing
@@ -103,12 +107,14 @@ end_at (b ∷ rest) = Err Trailing
 abbrev pub ended : {Y : Type 0} → Y → List ℕ → Result Y Refusal
 ended y rest = end_at rest >>= λ e. Ok y
 
--- the first byte chooses among these, each with what is read behind it
-abbrev pub chosen : {Y : Type 0} → List (ℕ × (List ℕ → Result Y Refusal)) → ℕ → List ℕ → Result Y Refusal
+-- the first byte selects one of these, each with the reading of what follows
+abbrev pub chosen : {Y : Type 0} → List (ℕ × (List ℕ → Result Y Refusal)) → ℕ → List ℕ
+    → Result Y Refusal
 chosen [] b rest = Err Choice
 chosen (row ∷ rows) b rest = if b == row.0 then row.1 rest else chosen rows b rest
 
-abbrev pub choice_at : {Y : Type 0} → List (ℕ × (List ℕ → Result Y Refusal)) → List ℕ → Result Y Refusal
+abbrev pub choice_at : {Y : Type 0} → List (ℕ × (List ℕ → Result Y Refusal)) → List ℕ
+    → Result Y Refusal
 choice_at rows [] = Err Short
 choice_at rows (b ∷ rest) = chosen rows b rest
 
@@ -203,7 +209,8 @@ unfoldable pub set_at : List ℕ → Result RequestForm Refusal
 set_at bytes = choice_at ((1, set_normal_at) ∷ (2, set_first_at) ∷ (3, set_block_at) ∷ []) bytes
 
 unfoldable pub action_at : List ℕ → Result RequestForm Refusal
-action_at bytes = choice_at ((1, action_normal_at) ∷ (4, action_first_at) ∷ (6, action_block_at) ∷ []) bytes
+action_at bytes = choice_at ((1, action_normal_at) ∷ (4, action_first_at) ∷ (6, action_block_at)
+    ∷ []) bytes
 
 unfoldable pub request_at : List ℕ → Result RequestForm Refusal
 request_at bytes = choice_at ((0xC0, get_at) ∷ (0xC1, set_at) ∷ (0xC3, action_at) ∷ []) bytes
@@ -255,13 +262,14 @@ get_block_result_at invoke n bytes = do
   r ← byte_at bytes
   ended (get_block_result invoke n r.0) r.1
 
--- a result stands only where the last block would
+-- a result is only in the place of the last block
 unfoldable pub get_block_answer_at : List ℕ → Result ResponseForm Refusal
 get_block_answer_at bytes = do
   invoke ← byte_at bytes
   last ← flag_at invoke.1
   n ← number_at 4 last.1
-  choice_at ((0, get_raw_at invoke.0 last.0 n.0) ∷ (if last.0 then (1, get_block_result_at invoke.0 n.0) ∷ [] else [])) n.1
+  choice_at ((0, get_raw_at invoke.0 last.0 n.0) ∷ (if last.0
+      then (1, get_block_result_at invoke.0 n.0) ∷ [] else [])) n.1
 
 unfoldable pub set_result_at : List ℕ → Result ResponseForm Refusal
 set_result_at bytes = do
@@ -305,13 +313,16 @@ unfoldable pub get_response_at : List ℕ → Result ResponseForm Refusal
 get_response_at bytes = choice_at ((1, get_answer_at) ∷ (2, get_block_answer_at) ∷ []) bytes
 
 unfoldable pub set_response_at : List ℕ → Result ResponseForm Refusal
-set_response_at bytes = choice_at ((1, set_result_at) ∷ (2, set_block_taken_at) ∷ (3, set_last_at) ∷ []) bytes
+set_response_at bytes = choice_at
+    ((1, set_result_at) ∷ (2, set_block_taken_at) ∷ (3, set_last_at) ∷ []) bytes
 
 unfoldable pub action_response_at : List ℕ → Result ResponseForm Refusal
 action_response_at bytes = choice_at ((1, action_result_at) ∷ (4, action_block_taken_at) ∷ []) bytes
 
 unfoldable pub response_at : List ℕ → Result ResponseForm Refusal
-response_at bytes = choice_at ((0xC4, get_response_at) ∷ (0xC5, set_response_at) ∷ (0xC7, action_response_at) ∷ (0xD8, exception_at) ∷ []) bytes
+response_at bytes = choice_at
+    ((0xC4, get_response_at) ∷ (0xC5, set_response_at) ∷ (0xC7, action_response_at)
+    ∷ (0xD8, exception_at) ∷ []) bytes
 
 -- and of a response
 abbrev pub HoldsData : ResponseForm → Type 0

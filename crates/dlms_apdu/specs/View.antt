@@ -1,4 +1,4 @@
--- What a `Request` and a `Response` say.
+-- The content of a `Request` and a `Response`.
 use Rattle.std.specs.Prelude.{Option, option_map}
 use Rattle.dlms_data.specs.declared.descriptor.Selector.{Selector}
 use Rattle.dlms_data.specs.View.{value_of}
@@ -16,7 +16,8 @@ abbrev pub request_of : {A : Type 0} → Request A → RequestForm
 request_of (GetNormal invoke d s) = get_normal invoke d (option_map selection_of s)
 request_of (GetNext invoke n) = get_next invoke n
 request_of (SetNormal invoke d s v) = set_normal invoke d (option_map selection_of s) (value_of v)
-request_of (SetFirst invoke d s last n raw) = set_first invoke d (option_map selection_of s) last n raw.now
+request_of (SetFirst invoke d s last n raw) =
+    set_first invoke d (option_map selection_of s) last n raw.now
 request_of (SetBlock invoke last n raw) = set_block invoke last n raw.now
 request_of (ActionNormal invoke d p) = action_normal invoke d (option_map value_of p)
 request_of (ActionFirst invoke d last n raw) = action_first invoke d last n raw.now

@@ -27,17 +27,22 @@ block_bytes last n raw = digit last ∷ (big_bytes 4 n ++ raw_bytes raw)
 abbrev pub request_bytes : RequestForm → List ℕ
 request_bytes (get_normal invoke d s) = 0xC0 ∷ 1 ∷ invoke ∷ (descriptor_bytes d ++ selector_bytes s)
 request_bytes (get_next invoke n) = 0xC0 ∷ 2 ∷ invoke ∷ big_bytes 4 n
-request_bytes (set_normal invoke d s v) = 0xC1 ∷ 1 ∷ invoke ∷ (descriptor_bytes d ++ (selector_bytes s ++ canonical v))
-request_bytes (set_first invoke d s last n raw) = 0xC1 ∷ 2 ∷ invoke ∷ (descriptor_bytes d ++ (selector_bytes s ++ block_bytes last n raw))
+request_bytes (set_normal invoke d s v) = 0xC1 ∷ 1 ∷ invoke
+    ∷ (descriptor_bytes d ++ (selector_bytes s ++ canonical v))
+request_bytes (set_first invoke d s last n raw) = 0xC1 ∷ 2 ∷ invoke
+    ∷ (descriptor_bytes d ++ (selector_bytes s ++ block_bytes last n raw))
 request_bytes (set_block invoke last n raw) = 0xC1 ∷ 3 ∷ invoke ∷ block_bytes last n raw
-request_bytes (action_normal invoke d p) = 0xC3 ∷ 1 ∷ invoke ∷ (descriptor_bytes d ++ parameter_bytes p)
-request_bytes (action_first invoke d last n raw) = 0xC3 ∷ 4 ∷ invoke ∷ (descriptor_bytes d ++ block_bytes last n raw)
+request_bytes (action_normal invoke d p) = 0xC3 ∷ 1 ∷ invoke
+    ∷ (descriptor_bytes d ++ parameter_bytes p)
+request_bytes (action_first invoke d last n raw) = 0xC3 ∷ 4 ∷ invoke
+    ∷ (descriptor_bytes d ++ block_bytes last n raw)
 request_bytes (action_block invoke last n raw) = 0xC3 ∷ 6 ∷ invoke ∷ block_bytes last n raw
 
 abbrev pub response_bytes : ResponseForm → List ℕ
 response_bytes (get_data invoke v) = 0xC4 ∷ 1 ∷ invoke ∷ 0 ∷ canonical v
 response_bytes (get_result invoke r) = 0xC4 ∷ 1 ∷ invoke ∷ 1 ∷ r ∷ []
-response_bytes (get_block invoke last n raw) = 0xC4 ∷ 2 ∷ invoke ∷ digit last ∷ (big_bytes 4 n ++ 0 ∷ raw_bytes raw)
+response_bytes (get_block invoke last n raw) = 0xC4 ∷ 2 ∷ invoke ∷ digit last
+    ∷ (big_bytes 4 n ++ 0 ∷ raw_bytes raw)
 response_bytes (get_block_result invoke n r) = 0xC4 ∷ 2 ∷ invoke ∷ 1 ∷ (big_bytes 4 n ++ 1 ∷ r ∷ [])
 response_bytes (set_result invoke r) = 0xC5 ∷ 1 ∷ invoke ∷ r ∷ []
 response_bytes (set_block_taken invoke n) = 0xC5 ∷ 2 ∷ invoke ∷ big_bytes 4 n

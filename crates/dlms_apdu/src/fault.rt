@@ -7,7 +7,7 @@ ghost use Rattle.dlms_apdu.specs.declared.fault.ApduFault.TheVariants.{Memory};
 use std::alloc::AllocError;
 use thiserror::Error;
 
-/// Why the bytes could not be read: the first cause from left to right, and `Memory` behind all others.
+/// Why the bytes could not be read: the first cause from left to right, and `Memory` only if there is no other.
 #[derive(Clone, Copy, Debug, PartialEq, Eq, Error)]
 pub enum ApduFault {
     /// The bytes end within the APDU, but not within a value.
@@ -17,11 +17,11 @@ pub enum ApduFault {
     /// and 01, or no length begins so.
     #[error("no form has this byte here")]
     Choice,
-    /// Bytes stand behind the APDU.
-    #[error("bytes stand behind the APDU")]
+    /// Bytes follow the APDU.
+    #[error("bytes follow the APDU")]
     Trailing,
-    /// A value is none, also where the bytes end within it.
-    #[error("no value stands where one belongs")]
+    /// There is no valid value, also if the bytes end within it.
+    #[error("a value is missing or invalid")]
     Data,
     /// A growth was refused.
     #[error("out of memory")]
@@ -43,7 +43,7 @@ impl ApduFault {
     }
 }
 
-/// Why bytes are no APDU, which is told without memory.
+/// Why bytes are no APDU. Reporting it takes no memory.
 #[derive(Clone, Copy, Debug, PartialEq, Eq)]
 pub enum Refusal {
     /// As `ApduFault::Short`.

@@ -2,7 +2,7 @@
 
 ghost use Rattle.dlms_apdu.specs.Laws.{ReadsRequests, ReadsResponses, ReadsWrittenRequests, ReadsWrittenResponses, HasOneRequest, HasOneResponse, TellsWhatFollowsARequest, TellsWhatFollowsAResponse, KeepsRefusingRequests, KeepsRefusingResponses, TellsBeginningsOfRequests, TellsBeginningsOfResponses};
 
-/// Reading from left to right gives a request exactly where the bytes are a spelling of it.
+/// Reading from left to right returns a request exactly if the bytes are a spelling of it.
 pub fn reads_requests()
     ensures { ReadsRequests }
 {}
@@ -32,7 +32,7 @@ pub fn reads_written_responses()
     ensures { ReadsWrittenResponses }
 {}
 
-/// Bytes are refused for what stands behind a request exactly where a request stands in front of it.
+/// `Trailing` is reported exactly if a request is followed by more bytes.
 pub fn tells_what_follows_a_request()
     ensures { TellsWhatFollowsARequest }
 {}
@@ -42,7 +42,7 @@ pub fn tells_what_follows_a_response()
     ensures { TellsWhatFollowsAResponse }
 {}
 
-/// Choice is told for good: no bytes that begin so are a request.
+/// `Choice` is final: no longer sequence that begins with these bytes is a request.
 pub fn keeps_refusing_requests()
     ensures { KeepsRefusingRequests }
 {}
@@ -52,7 +52,7 @@ pub fn keeps_refusing_responses()
     ensures { KeepsRefusingResponses }
 {}
 
-/// A request that is cut short is refused as Short, or as Data where the cut goes through a value.
+/// A request that is cut short is refused as `Short`, or as `Data` if the cut is inside a value.
 pub fn tells_beginnings_of_requests()
     ensures { TellsBeginningsOfRequests }
 {}

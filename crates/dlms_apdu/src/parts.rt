@@ -1,5 +1,5 @@
-//! The parts of a form, read from left to right: each with the bytes behind it. What holds a value is first
-//! passed over, and made where it is known to stand, so that no memory is asked for before all has been read.
+//! The parts of a form, read from left to right, each with the bytes after it. A part that contains a value is first skipped, and
+//! created once everything has been read, so that no memory is allocated before.
 
 ghost use Rattle.std.specs.Prelude.{◌≡◌, length, IfOk, IsOk, MatchResult, option_map};
 ghost use Rattle.dlms_data.specs.Memory.{NeedsMemory};
@@ -105,7 +105,7 @@ pub fn read_block(bytes: &[u8]) -> Result<(Block<'_>, &[u8]), Refusal>
     Ok((Block { last, number, raw }, rest))
 }
 
-/// What stands behind a value.
+/// The bytes after a value.
 #[tactic(auto, using(crate::proofs::Behind::behind_value))]
 pub fn after_value(bytes: &[u8]) -> Result<&[u8], Refusal>
     ensures { Passes (λ x. x.now) result (value_at bytes.now) }
@@ -116,7 +116,7 @@ pub fn after_value(bytes: &[u8]) -> Result<&[u8], Refusal>
     }
 }
 
-/// The value that stands at the front.
+/// The value at the front.
 pub fn value<A: Allocator + Copy>(alloc: A, bytes: &[u8]) -> Result<Data<A>, ApduFault>
     requires { IsOk (value_at bytes.now) }
     ensures { Makes value_of NeedsMemory result (value_at bytes.now) }
@@ -127,7 +127,7 @@ pub fn value<A: Allocator + Copy>(alloc: A, bytes: &[u8]) -> Result<Data<A>, Apd
     }
 }
 
-/// What stands behind a selector or its absence.
+/// The bytes after a selector or its absence.
 #[tactic(auto, unfolding(crate::specs::Reading::selector_at, crate::specs::Reading::some_selector_at, crate::specs::Reading::and_then))]
 pub fn after_selector(bytes: &[u8]) -> Result<&[u8], Refusal>
     ensures { Passes (λ x. x.now) result (selector_at bytes.now) }
@@ -143,7 +143,7 @@ pub fn after_selector(bytes: &[u8]) -> Result<&[u8], Refusal>
     }
 }
 
-/// The selector that stands at the front, or none.
+/// The selector at the front, or none.
 #[tactic(auto, unfolding(crate::specs::Reading::selector_at, crate::specs::Reading::some_selector_at, crate::specs::Reading::and_then))]
 pub fn selector<A: Allocator + Copy>(
     alloc: A,
@@ -164,7 +164,7 @@ pub fn selector<A: Allocator + Copy>(
     }
 }
 
-/// What stands behind a parameter or its absence.
+/// The bytes after a parameter or its absence.
 #[tactic(auto, unfolding(crate::specs::Reading::parameter_at, crate::specs::Reading::some_parameter_at, crate::specs::Reading::and_then))]
 pub fn after_parameter(bytes: &[u8]) -> Result<&[u8], Refusal>
     ensures { Passes (λ x. x.now) result (parameter_at bytes.now) }
@@ -177,7 +177,7 @@ pub fn after_parameter(bytes: &[u8]) -> Result<&[u8], Refusal>
     }
 }
 
-/// The parameter that stands at the front, or none.
+/// The parameter at the front, or none.
 #[tactic(auto, unfolding(crate::specs::Reading::parameter_at, crate::specs::Reading::some_parameter_at, crate::specs::Reading::and_then))]
 pub fn parameter<A: Allocator + Copy>(alloc: A, bytes: &[u8]) -> Result<Option<Data<A>>, ApduFault>
     requires { IsOk (parameter_at bytes.now) }
@@ -189,7 +189,7 @@ pub fn parameter<A: Allocator + Copy>(alloc: A, bytes: &[u8]) -> Result<Option<D
     }
 }
 
-/// Refuses bytes behind the last part.
+/// Refuses bytes after the last part.
 pub fn ended(bytes: &[u8]) -> Result<(), Refusal>
     ensures { Tells (λ x. tt) result (end_at bytes.now) }
 {

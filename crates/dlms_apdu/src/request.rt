@@ -1,4 +1,4 @@
-//! What a client asks.
+//! Requests of a client.
 
 use dlms_data::{Data, Descriptor, Selector};
 use std::alloc::{Allocator, Global};
@@ -14,7 +14,7 @@ pub enum Request<'a, A: Allocator = Global> {
         descriptor: Descriptor,
         selector: Option<Selector<A>>,
     },
-    /// `c0 02`, invoke, number (4 bytes): asks for the block behind the one with this number.
+    /// `c0 02`, invoke, number (4 bytes): asks for the block after the one with this number.
     GetNext {
         invoke: u8,
         number: u32,

@@ -15,7 +15,7 @@ use crate::parts::{
 use crate::request::Request;
 use std::alloc::Allocator;
 
-/// GET of an attribute, behind the form's byte.
+/// GET of an attribute, after the form's byte.
 #[tactic(auto, using(crate::proofs::Forms::told), unfolding(crate::specs::Reading::get_normal_at, crate::specs::Reading::and_then))]
 fn get_normal<A: Allocator + Copy>(alloc: A, bytes: &[u8]) -> Result<Request<'_, A>, ApduFault>
     ensures { Answers request_of HoldsValue result (get_normal_at bytes.now) }
@@ -30,7 +30,7 @@ fn get_normal<A: Allocator + Copy>(alloc: A, bytes: &[u8]) -> Result<Request<'_,
     })
 }
 
-/// GET of a further block, behind the form's byte.
+/// GET of a further block, after the form's byte.
 #[tactic(auto, using(crate::proofs::Forms::told), unfolding(crate::specs::Reading::get_next_at, crate::specs::Reading::and_then))]
 fn get_next<A: Allocator>(bytes: &[u8]) -> Result<Request<'_, A>, Refusal>
     ensures { Tells request_of result (get_next_at bytes.now) }
@@ -41,7 +41,7 @@ fn get_next<A: Allocator>(bytes: &[u8]) -> Result<Request<'_, A>, Refusal>
     Ok(Request::GetNext { invoke, number })
 }
 
-/// SET of an attribute, behind the form's byte.
+/// SET of an attribute, after the form's byte.
 #[tactic(auto, using(crate::proofs::Forms::told), unfolding(crate::specs::Reading::set_normal_at, crate::specs::Reading::and_then))]
 fn set_normal<A: Allocator + Copy>(alloc: A, bytes: &[u8]) -> Result<Request<'_, A>, ApduFault>
     ensures { Answers request_of HoldsValue result (set_normal_at bytes.now) }
@@ -58,7 +58,7 @@ fn set_normal<A: Allocator + Copy>(alloc: A, bytes: &[u8]) -> Result<Request<'_,
     })
 }
 
-/// SET of an attribute, the first block, behind the form's byte.
+/// SET of an attribute, the first block, after the form's byte.
 #[tactic(auto, using(crate::proofs::Forms::told), unfolding(crate::specs::Reading::set_first_at, crate::specs::Reading::and_then))]
 fn set_first<A: Allocator + Copy>(alloc: A, bytes: &[u8]) -> Result<Request<'_, A>, ApduFault>
     ensures { Answers request_of HoldsValue result (set_first_at bytes.now) }
@@ -78,7 +78,7 @@ fn set_first<A: Allocator + Copy>(alloc: A, bytes: &[u8]) -> Result<Request<'_, 
     })
 }
 
-/// SET of an attribute, a further block, behind the form's byte.
+/// SET of an attribute, a further block, after the form's byte.
 #[tactic(auto, using(crate::proofs::Forms::told), unfolding(crate::specs::Reading::set_block_at, crate::specs::Reading::and_then))]
 fn set_block<A: Allocator>(bytes: &[u8]) -> Result<Request<'_, A>, Refusal>
     ensures { Tells request_of result (set_block_at bytes.now) }
@@ -95,7 +95,7 @@ fn set_block<A: Allocator>(bytes: &[u8]) -> Result<Request<'_, A>, Refusal>
     })
 }
 
-/// ACTION, behind the form's byte.
+/// ACTION, after the form's byte.
 #[tactic(auto, using(crate::proofs::Forms::told), unfolding(crate::specs::Reading::action_normal_at, crate::specs::Reading::and_then))]
 fn action_normal<A: Allocator + Copy>(alloc: A, bytes: &[u8]) -> Result<Request<'_, A>, ApduFault>
     ensures { Answers request_of HoldsValue result (action_normal_at bytes.now) }
@@ -110,7 +110,7 @@ fn action_normal<A: Allocator + Copy>(alloc: A, bytes: &[u8]) -> Result<Request<
     })
 }
 
-/// ACTION, the first block, behind the form's byte.
+/// ACTION, the first block, after the form's byte.
 #[tactic(auto, using(crate::proofs::Forms::told), unfolding(crate::specs::Reading::action_first_at, crate::specs::Reading::and_then))]
 fn action_first<A: Allocator>(bytes: &[u8]) -> Result<Request<'_, A>, Refusal>
     ensures { Tells request_of result (action_first_at bytes.now) }
@@ -129,7 +129,7 @@ fn action_first<A: Allocator>(bytes: &[u8]) -> Result<Request<'_, A>, Refusal>
     })
 }
 
-/// ACTION, a further block, behind the form's byte.
+/// ACTION, a further block, after the form's byte.
 #[tactic(auto, using(crate::proofs::Forms::told), unfolding(crate::specs::Reading::action_block_at, crate::specs::Reading::and_then))]
 fn action_block<A: Allocator>(bytes: &[u8]) -> Result<Request<'_, A>, Refusal>
     ensures { Tells request_of result (action_block_at bytes.now) }
@@ -146,7 +146,7 @@ fn action_block<A: Allocator>(bytes: &[u8]) -> Result<Request<'_, A>, Refusal>
     })
 }
 
-/// A GET, behind the service's byte.
+/// A GET, after the service's byte.
 #[tactic(auto, using(crate::proofs::Forms::told), unfolding(crate::specs::Reading::get_at))]
 fn get<A: Allocator + Copy>(alloc: A, bytes: &[u8]) -> Result<Request<'_, A>, ApduFault>
     ensures { Answers request_of HoldsValue result (get_at bytes.now) }
@@ -159,7 +159,7 @@ fn get<A: Allocator + Copy>(alloc: A, bytes: &[u8]) -> Result<Request<'_, A>, Ap
     }
 }
 
-/// A SET, behind the service's byte.
+/// A SET, after the service's byte.
 #[tactic(auto, using(crate::proofs::Forms::told), unfolding(crate::specs::Reading::set_at))]
 fn set<A: Allocator + Copy>(alloc: A, bytes: &[u8]) -> Result<Request<'_, A>, ApduFault>
     ensures { Answers request_of HoldsValue result (set_at bytes.now) }
@@ -173,7 +173,7 @@ fn set<A: Allocator + Copy>(alloc: A, bytes: &[u8]) -> Result<Request<'_, A>, Ap
     }
 }
 
-/// An ACTION, behind the service's byte.
+/// An ACTION, after the service's byte.
 #[tactic(auto, using(crate::proofs::Forms::told), unfolding(crate::specs::Reading::action_at))]
 fn action<A: Allocator + Copy>(alloc: A, bytes: &[u8]) -> Result<Request<'_, A>, ApduFault>
     ensures { Answers request_of HoldsValue result (action_at bytes.now) }
@@ -201,17 +201,17 @@ fn request<A: Allocator + Copy>(alloc: A, bytes: &[u8]) -> Result<Request<'_, A>
     }
 }
 
-/// Reads a request, which is all of the bytes. The first fault from left to right is told. A block's bytes stay
-/// where they are; memory is taken for values alone, and asked for only where the bytes are a request, so that a GET
-/// without a selector is read without any.
+/// Reads a request, which takes up all of the bytes. The first fault from left to right is reported. A block's bytes stay where
+/// they are; memory is allocated for values alone, and only if the bytes are a request, so a GET without a selector takes none.
 pub fn read_request<A: Allocator + Copy>(
     alloc: A,
     bytes: &[u8],
 ) -> Result<Request<'_, A>, ApduFault>
-    // The bytes are a spelling of what is read.
+    // The bytes are a spelling of the result.
     ensures found { IfOk result (λ r. SpellsRequest bytes.now (request_of r)) }
-    // What the bytes are a spelling of is read, unless it holds a value that needs memory, and memory runs out.
-    ensures only { (r : RequestForm) → SpellsRequest bytes.now r → MatchResult result (λ x. request_of x ≡ r) (λ e. (e ≡ Memory) × HoldsValue r) }
+    // A request that the bytes spell is returned, unless it contains a value that needs memory and memory runs out.
+    ensures only { (r : RequestForm) → SpellsRequest bytes.now r
+        → MatchResult result (λ x. request_of x ≡ r) (λ e. (e ≡ Memory) × HoldsValue r) }
     // Which fault it is.
     ensures exact { Answers request_of HoldsValue result (request_at bytes.now) }
 {

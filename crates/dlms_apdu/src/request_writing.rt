@@ -12,7 +12,7 @@ use crate::request::Request;
 use dlms_data::{Data, Descriptor, Selector, append, append_counted};
 use std::alloc::{AllocError, Allocator};
 
-/// The bytes, and behind them a descriptor.
+/// The bytes, followed by a descriptor.
 fn with_descriptor<A: Allocator>(
     mut out: Vec<u8, A>,
     descriptor: Descriptor,
@@ -25,13 +25,14 @@ fn with_descriptor<A: Allocator>(
     Ok(out)
 }
 
-/// The bytes, and behind them a selector or its absence.
+/// The bytes, followed by a selector or its absence.
 fn with_selector<A: Allocator, B: Allocator>(
     mut out: Vec<u8, A>,
     selector: &Option<Selector<B>>,
 ) -> Result<Vec<u8, A>, AllocError>
     requires { SelectorFits (option_map selection_of selector.now) }
-    ensures { IfOk result (λ longer. longer.items ≡ out.items ++ selector_bytes (option_map selection_of selector.now)) }
+    ensures { IfOk result (λ longer. longer.items ≡ out.items
+        ++ selector_bytes (option_map selection_of selector.now)) }
 {
     match selector {
         None => {
@@ -45,13 +46,14 @@ fn with_selector<A: Allocator, B: Allocator>(
     }
 }
 
-/// The bytes, and behind them a parameter or its absence.
+/// The bytes, followed by a parameter or its absence.
 fn with_parameter<A: Allocator, B: Allocator>(
     mut out: Vec<u8, A>,
     parameter: &Option<Data<B>>,
 ) -> Result<Vec<u8, A>, AllocError>
     requires { ParameterFits (option_map value_of parameter.now) }
-    ensures { IfOk result (λ longer. longer.items ≡ out.items ++ parameter_bytes (option_map value_of parameter.now)) }
+    ensures { IfOk result (λ longer. longer.items ≡ out.items
+        ++ parameter_bytes (option_map value_of parameter.now)) }
 {
     match parameter {
         None => {
@@ -65,7 +67,7 @@ fn with_parameter<A: Allocator, B: Allocator>(
     }
 }
 
-/// The bytes, and behind them a block.
+/// The bytes, followed by a block.
 fn with_block<A: Allocator>(
     mut out: Vec<u8, A>,
     last: bool,
@@ -88,7 +90,8 @@ fn with_head<A: Allocator>(
     invoke: u8,
     descriptor: Descriptor,
 ) -> Result<Vec<u8, A>, AllocError>
-    ensures canonical { IfOk result (λ out. out.items ≡ service ∷ form ∷ invoke ∷ descriptor_bytes descriptor) }
+    ensures canonical { IfOk result
+        (λ out. out.items ≡ service ∷ form ∷ invoke ∷ descriptor_bytes descriptor) }
     ensures in_range { DescriptorInRange descriptor }
 {
     with_descriptor(
@@ -107,7 +110,10 @@ fn set_normal_text<A: Allocator, B: Allocator>(
 ) -> Result<Vec<u8, A>, AllocError>
     requires selector { SelectorFits (option_map selection_of selector.now) }
     requires value { Fits (value_of value.now) }
-    ensures canonical { IfOk result (λ out. out.items ≡ request_bytes (set_normal invoke descriptor (option_map selection_of selector.now) (value_of value.now))) }
+    ensures canonical { IfOk result
+        (λ out. out.items ≡ request_bytes
+        (set_normal invoke descriptor (option_map selection_of selector.now)
+        (value_of value.now))) }
     ensures in_range { OnOk result (DescriptorInRange descriptor) }
 {
     let out = with_head(alloc, 0xc1, 1, invoke, descriptor)?;

@@ -1,11 +1,11 @@
-//! What a meter answers.
+//! Responses of a meter.
 
 use dlms_data::Data;
 use std::alloc::{Allocator, Global};
 
-/// An answer of the services GET, SET and ACTION, or an exception (the xDLMS APDUs of IEC 62056-5-3). `invoke`
-/// is the request's invoke-id-and-priority byte, `result` 0 for success or the cause of a refusal, `number` the
-/// number of a block; `raw` are a block's bytes, which stay where they were read.
+/// An answer of the services GET, SET and ACTION, or an exception (the xDLMS APDUs of IEC 62056-5-3). `invoke` is the request's
+/// invoke-id-and-priority byte, `result` is 0 for success or the cause of a refusal, `number` is the number of a block; `raw` are a
+/// block's bytes, which stay where they were read.
 #[derive(Debug, Drop)]
 pub enum Response<'a, A: Allocator = Global> {
     /// `c4 01`, invoke, `00`, value.

@@ -38,7 +38,7 @@ fn get_result<A: Allocator>(invoke: u8, bytes: &[u8]) -> Result<Response<'_, A>,
     Ok(Response::GetResult { invoke, result })
 }
 
-/// The answer to a GET, behind the form's byte.
+/// The answer to a GET, after the form's byte.
 #[tactic(auto, using(crate::proofs::Forms::told), unfolding(crate::specs::Reading::get_answer_at, crate::specs::Reading::and_then))]
 fn get_answer<A: Allocator + Copy>(alloc: A, bytes: &[u8]) -> Result<Response<'_, A>, ApduFault>
     ensures { Answers response_of HoldsData result (get_answer_at bytes.now) }
@@ -90,7 +90,7 @@ fn get_block_result<A: Allocator>(
     })
 }
 
-/// The answer to a GET in blocks, behind the form's byte.
+/// The answer to a GET in blocks, after the form's byte.
 #[tactic(auto, unfolding(crate::specs::Reading::get_block_answer_at, crate::specs::Reading::and_then))]
 fn get_block_answer<A: Allocator>(bytes: &[u8]) -> Result<Response<'_, A>, Refusal>
     ensures { Tells response_of result (get_block_answer_at bytes.now) }
@@ -106,7 +106,7 @@ fn get_block_answer<A: Allocator>(bytes: &[u8]) -> Result<Response<'_, A>, Refus
     }
 }
 
-/// The answer to a SET, behind the form's byte.
+/// The answer to a SET, after the form's byte.
 #[tactic(auto, unfolding(crate::specs::Reading::set_result_at, crate::specs::Reading::and_then))]
 fn set_result<A: Allocator>(bytes: &[u8]) -> Result<Response<'_, A>, Refusal>
     ensures { Tells response_of result (set_result_at bytes.now) }
@@ -117,7 +117,7 @@ fn set_result<A: Allocator>(bytes: &[u8]) -> Result<Response<'_, A>, Refusal>
     Ok(Response::SetResult { invoke, result })
 }
 
-/// The answer to a block of a SET, behind the form's byte.
+/// The answer to a block of a SET, after the form's byte.
 #[tactic(auto, unfolding(crate::specs::Reading::set_block_taken_at, crate::specs::Reading::and_then))]
 fn set_block_taken<A: Allocator>(bytes: &[u8]) -> Result<Response<'_, A>, Refusal>
     ensures { Tells response_of result (set_block_taken_at bytes.now) }
@@ -128,7 +128,7 @@ fn set_block_taken<A: Allocator>(bytes: &[u8]) -> Result<Response<'_, A>, Refusa
     Ok(Response::SetBlock { invoke, number })
 }
 
-/// The answer to the last block of a SET, behind the form's byte.
+/// The answer to the last block of a SET, after the form's byte.
 #[tactic(auto, unfolding(crate::specs::Reading::set_last_at, crate::specs::Reading::and_then))]
 fn set_last<A: Allocator>(bytes: &[u8]) -> Result<Response<'_, A>, Refusal>
     ensures { Tells response_of result (set_last_at bytes.now) }
@@ -144,7 +144,7 @@ fn set_last<A: Allocator>(bytes: &[u8]) -> Result<Response<'_, A>, Refusal>
     })
 }
 
-/// The answer to an ACTION, behind the form's byte.
+/// The answer to an ACTION, after the form's byte.
 #[tactic(auto, unfolding(crate::specs::Reading::action_result_at, crate::specs::Reading::and_then))]
 fn action_result<A: Allocator>(bytes: &[u8]) -> Result<Response<'_, A>, Refusal>
     ensures { Tells response_of result (action_result_at bytes.now) }
@@ -161,7 +161,7 @@ fn action_result<A: Allocator>(bytes: &[u8]) -> Result<Response<'_, A>, Refusal>
     }
 }
 
-/// The answer to a block of an ACTION, behind the form's byte.
+/// The answer to a block of an ACTION, after the form's byte.
 #[tactic(auto, unfolding(crate::specs::Reading::action_block_taken_at, crate::specs::Reading::and_then))]
 fn action_block_taken<A: Allocator>(bytes: &[u8]) -> Result<Response<'_, A>, Refusal>
     ensures { Tells response_of result (action_block_taken_at bytes.now) }
@@ -172,7 +172,7 @@ fn action_block_taken<A: Allocator>(bytes: &[u8]) -> Result<Response<'_, A>, Ref
     Ok(Response::ActionBlock { invoke, number })
 }
 
-/// An exception, behind the service's byte.
+/// An exception, after the service's byte.
 #[tactic(auto, unfolding(crate::specs::Reading::exception_at, crate::specs::Reading::and_then))]
 fn exception<A: Allocator>(bytes: &[u8]) -> Result<Response<'_, A>, Refusal>
     ensures { Tells response_of result (exception_at bytes.now) }
@@ -183,7 +183,7 @@ fn exception<A: Allocator>(bytes: &[u8]) -> Result<Response<'_, A>, Refusal>
     Ok(Response::Exception { state, service })
 }
 
-/// An answer to a GET, behind the service's byte.
+/// An answer to a GET, after the service's byte.
 #[tactic(auto, using(crate::proofs::Forms::told), unfolding(crate::specs::Reading::get_response_at))]
 fn get_response<A: Allocator + Copy>(alloc: A, bytes: &[u8]) -> Result<Response<'_, A>, ApduFault>
     ensures { Answers response_of HoldsData result (get_response_at bytes.now) }
@@ -196,7 +196,7 @@ fn get_response<A: Allocator + Copy>(alloc: A, bytes: &[u8]) -> Result<Response<
     }
 }
 
-/// An answer to a SET, behind the service's byte.
+/// An answer to a SET, after the service's byte.
 #[tactic(auto, unfolding(crate::specs::Reading::set_response_at, crate::specs::Reading::and_then))]
 fn set_response<A: Allocator>(bytes: &[u8]) -> Result<Response<'_, A>, Refusal>
     ensures { Tells response_of result (set_response_at bytes.now) }
@@ -210,7 +210,7 @@ fn set_response<A: Allocator>(bytes: &[u8]) -> Result<Response<'_, A>, Refusal>
     }
 }
 
-/// An answer to an ACTION, behind the service's byte.
+/// An answer to an ACTION, after the service's byte.
 #[tactic(auto, unfolding(crate::specs::Reading::action_response_at, crate::specs::Reading::and_then))]
 fn action_response<A: Allocator>(bytes: &[u8]) -> Result<Response<'_, A>, Refusal>
     ensures { Tells response_of result (action_response_at bytes.now) }
@@ -238,16 +238,17 @@ fn response<A: Allocator + Copy>(alloc: A, bytes: &[u8]) -> Result<Response<'_, 
     }
 }
 
-/// Reads a response, which is all of the bytes. The first fault from left to right is told. A block's bytes stay
-/// where they are; memory is taken for a value alone, and asked for only where the bytes are a response.
+/// Reads a response, which takes up all of the bytes. The first fault from left to right is reported. A block's bytes stay where
+/// they are; memory is allocated for a value alone, and only if the bytes are a response.
 pub fn read_response<A: Allocator + Copy>(
     alloc: A,
     bytes: &[u8],
 ) -> Result<Response<'_, A>, ApduFault>
-    // The bytes are a spelling of what is read.
+    // The bytes are a spelling of the result.
     ensures found { IfOk result (λ r. SpellsResponse bytes.now (response_of r)) }
-    // What the bytes are a spelling of is read, unless it holds a value that needs memory, and memory runs out.
-    ensures only { (r : ResponseForm) → SpellsResponse bytes.now r → MatchResult result (λ x. response_of x ≡ r) (λ e. (e ≡ Memory) × HoldsData r) }
+    // A response that the bytes spell is returned, unless it contains a value that needs memory and memory runs out.
+    ensures only { (r : ResponseForm) → SpellsResponse bytes.now r
+        → MatchResult result (λ x. response_of x ≡ r) (λ e. (e ≡ Memory) × HoldsData r) }
     // Which fault it is.
     ensures exact { Answers response_of HoldsData result (response_at bytes.now) }
 {

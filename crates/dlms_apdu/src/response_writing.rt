@@ -23,7 +23,8 @@ fn bytes_of(bytes: &[u8]) -> ArrayVec<u8, 10>
 
 /// The spelling of a response that holds neither a value nor raw bytes.
 fn short<B: Allocator>(response: &Response<'_, B>) -> Option<ArrayVec<u8, 10>>
-    ensures canonical { IfSome result (λ text. text.items ≡ response_bytes (response_of response.now)) }
+    ensures canonical { IfSome result
+        (λ text. text.items ≡ response_bytes (response_of response.now)) }
     ensures in_range { OnSome result (ResponseInRange (response_of response.now)) }
     ensures none { IfNone result (IsShort (response_of response.now) → ⊥) }
 {
@@ -73,7 +74,8 @@ fn block_text<A: Allocator>(
     raw: &[u8],
 ) -> Result<Vec<u8, A>, AllocError>
     requires { RawFits raw.now }
-    ensures canonical { IfOk result (λ out. out.items ≡ response_bytes (get_block invoke last number raw.now)) }
+    ensures canonical { IfOk result
+        (λ out. out.items ≡ response_bytes (get_block invoke last number raw.now)) }
     ensures in_range { OnOk result (ResponseInRange (get_block invoke last number raw.now)) }
 {
     let mut out = Vec::from_slice(alloc, &[0xc4, 2, invoke, u8::from(last)])?;

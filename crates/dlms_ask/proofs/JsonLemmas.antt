@@ -6,9 +6,9 @@ use Rattle.std.proofs.lemmas.Bool.{cases_lt}
 use Rattle.std.proofs.lemmas.List.{map-append, take-append-le, take_all}
 use Rattle.std.proofs.Math.Seq.{take-append-add}
 use Rattle.dlms_data.specs.Bits.{HoldsBits, binary_digits, bits_of}
-use Rattle.dlms_ask.specs.Json.{bit_of}
+use Rattle.dlms_ask.specs.Json.{Begins, IsPartly, bit_of}
 
--- the first so many of eight digits and others
+-- the first n octets of eight digits and others
 pub take_pieces : (n : ℕ) (d r : List ℕ) → length d ≡ 8 → take n (d ++ r) ≡ take (min n 8) d ++ take (n - 8) r
 take_pieces n d r eight =
     elim (cases_lt n 8) [
@@ -34,6 +34,26 @@ digits_on bytes i d left text total lt so_far =
     ap (λ (s : List ℕ). take left s) pieces ∙ take_pieces left (map bit_of (binary_digits 8 (get_or bytes i d))) (map bit_of (bits_of (drop (suc i) bytes))) refl in
     rw add-one (append_assoc text (take (min left 8) (map bit_of (binary_digits 8 (get_or bytes i d)))) (take (left - 8) (map bit_of (bits_of (drop (suc i) bytes))))
     ∙ ap (λ (t : List ℕ). text ++ t) (sym taken) ∙ so_far)
+
+pub digits_next : (bytes : List ℕ) (i d left rest : ℕ) (text new total : List ℕ) → i < length bytes → new ≡ text ++ take (min left 8) (map bit_of (binary_digits 8 (get_or bytes i d))) → rest ≡ left - 8
+    → text ++ take left (map bit_of (bits_of (drop i bytes))) ≡ total → new ++ take rest (map bit_of (bits_of (drop (i + 1) bytes))) ≡ total
+digits_next bytes i d left rest text new total lt grown fewer so_far = rw (grown, fewer) (digits_on bytes i d left text total lt so_far)
+
+pub digits_kept : (old text new more : List ℕ) → Begins old text → new ≡ text ++ more → Begins old new
+digits_kept old text new more kept grown = (kept.0 ++ more, grown ∙ ap (λ (t : List ℕ). t ++ more) kept.1 ∙ append_assoc old kept.0 more)
+
+-- it stopped at an octet
+pub digits_stop : (bytes : List ℕ) (i d left : ℕ) (old text new total : List ℕ) → i < length bytes → Begins old text → IsPartly text new (text ++ take (min left 8) (map bit_of (binary_digits 8 (get_or bytes i d))))
+    → text ++ take left (map bit_of (bits_of (drop i bytes))) ≡ old ++ total → IsPartly old new (old ++ total)
+digits_stop bytes i d left old text new total lt kept part so_far =
+    let on = digits_on bytes i d left text (old ++ total) lt so_far in
+    record {
+      kept = (kept.0 ++ part.kept.0, part.kept.1 ∙ ap (λ (t : List ℕ). t ++ part.kept.0) kept.1 ∙ append_assoc old kept.0 part.kept.0);
+      part = (
+        part.part.0 ++ take (left - 8) (map bit_of (bits_of (drop (i + 1) bytes))),
+        sym on ∙ ap (λ (t : List ℕ). t ++ take (left - 8) (map bit_of (bits_of (drop (i + 1) bytes)))) part.part.1 ∙ append_assoc new part.part.0 (take (left - 8) (map bit_of (bits_of (drop (i + 1) bytes)))),
+      );
+    }
 
 -- the digits of the bits that octets hold
 pub held_digits : (bytes : List ℕ) (bits : List Bool) → HoldsBits bytes bits → take (length bits) (map bit_of (bits_of bytes)) ≡ map bit_of bits

@@ -1,5 +1,6 @@
 pub mod Texts
 pub mod Names
+pub mod Walking
 pub mod Json
 pub mod Kinds
 pub mod Values

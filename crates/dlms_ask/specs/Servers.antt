@@ -10,11 +10,15 @@ IsWide wide high low = (wide ≡ true) ⊎ (127 < high) ⊎ (127 < low)
 
 abbrev pub IsParts : Bool → List ℕ → List ℕ → Address → Type 0
 IsParts wide upper lower (One part) = ⊥
-IsParts wide upper lower (Two high low) = (wide ≡ false) × IsBelow 128 upper high × IsBelow 128 lower low
-IsParts wide upper lower (Four high low) = IsWide wide high low × IsBelow 16384 upper high × IsBelow 16384 lower low
+IsParts wide upper lower (Two high low) = (wide ≡ false) × IsBelow 128 upper high
+    × IsBelow 128 lower low
+IsParts wide upper lower (Four high low) = IsWide wide high low × IsBelow 16384 upper high
+    × IsBelow 16384 lower low
 
 -- an upper address alone has one octet
 abbrev pub IsServer : Bool → List ℕ → Address → Type 0
 IsServer wide text (One part) = (wide ≡ false) × (has 47 text ≡ false) × IsBelow 128 text part
-IsServer wide text (Two high low) = (has 47 text ≡ true) × IsParts wide (before 47 text) (behind 47 text) (Two high low)
-IsServer wide text (Four high low) = (has 47 text ≡ true) × IsParts wide (before 47 text) (behind 47 text) (Four high low)
+IsServer wide text (Two high low) = (has 47 text ≡ true)
+    × IsParts wide (before 47 text) (behind 47 text) (Two high low)
+IsServer wide text (Four high low) = (has 47 text ≡ true)
+    × IsParts wide (before 47 text) (behind 47 text) (Four high low)

@@ -3,7 +3,7 @@ use Rattle.std.specs.Prelude.{◌≡◌, ◌<◌, ◌+◌, ◌⊎◌, ◌==◌, 
 use Rattle.std.specs.List.{after_first, before_first, position_or_len}
 use Rattle.std.specs.Str.Parse.{IsNumeral, digits_value}
 
--- whether this octet stands in a text; what stands before the first one, and behind it
+-- whether this octet occurs in a text; the text before its first occurrence, and after it
 abbrev pub has : ℕ → List ℕ → Bool
 has octet text = nat_lt (position_or_len (λ x. x == octet) text) (length text)
 
@@ -22,4 +22,6 @@ pub record IsBelow (bound : ℕ) (digits : List ℕ) (number : ℕ) : Type 0 whe
 -- the same of a number that may have a minus before its digits
 abbrev pub IsSigned : (bound : ℕ) → List ℕ → ℤ → Type 0
 IsSigned bound text z =
-    ((n : ℕ) × IsBelow bound text n × (z ≡ pos n)) ⊎ ((digits : List ℕ) × (n : ℕ) × (text ≡ 45 ∷ digits) × IsBelow (bound + 1) digits n × (z ≡ neg_ℤ (pos n)))
+    ((n : ℕ) × IsBelow bound text n × (z ≡ pos n))
+    ⊎ ((digits : List ℕ) × (n : ℕ) × (text ≡ 45 ∷ digits) × IsBelow (bound + 1) digits n
+    × (z ≡ neg_ℤ (pos n)))

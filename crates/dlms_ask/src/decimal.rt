@@ -16,7 +16,7 @@ fn append_zeros<A: Allocator>(text: &mut Vec<u8, A>, count: usize) -> Result<(),
     Ok(())
 }
 
-/// Appends digits, so many of them behind a point.
+/// Appends digits, this many of them after a point.
 fn append_with_point<A: Allocator>(
     text: &mut Vec<u8, A>,
     digits: &[u8],
@@ -35,8 +35,7 @@ fn append_with_point<A: Allocator>(
     text.extend_from_slice(digits)
 }
 
-/// Appends a number times a power of ten in decimal digits, all of them, and no more of them behind the point than the power asks
-/// for.
+/// Appends a number times a power of ten in decimal digits: all of them, and no more of them after the point than the power needs.
 pub fn append_decimal<A: Allocator>(
     text: &mut Vec<u8, A>,
     is_negative: bool,

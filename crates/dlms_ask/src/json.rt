@@ -1,71 +1,79 @@
 //! Values as JSON (RFC 8259).
 
-ghost use Rattle.std.specs.Prelude.{◌≡◌, ◌++◌, ◌<◌, ◌*◌, ◌%◌, OnOk, decimal, map, nat_le, take};
+ghost use Rattle.std.specs.Prelude.{◌≡◌, ◌++◌, ◌<◌, ◌*◌, ◌-◌, ◌%◌, decimal, map, min, nat_le, take};
 ghost use Rattle.std.specs.Fmt.{signed_decimal};
-ghost use Rattle.dlms_ask.specs.Json.{bit_of, letter_of, letters_of, pair_of, pairs_of, plain_of, quoted};
+ghost use Rattle.dlms_ask.specs.Json.{Appends, AppendsJson, Grows, bit_of, bracketed, items_of, json_of, letter_of, letters_of, others_of, pair_of, pairs_of, plain_of, quoted};
+ghost use Rattle.dlms_ask.specs.Walking.{held};
 ghost use Rattle.dlms_data.specs.Bits.{binary_digits, bits_of};
+ghost use Rattle.dlms_data.specs.Reading.{data_at, values_at};
 ghost use Rattle.dlms_data.specs.View.{value_of};
 
 use crate::fault::ValueFault;
 use crate::walk::{Front, front_of, value_at};
-use dlms_data::{Bits, Data};
+use dlms_data::{Bits, Data, span};
 use itoa::Buffer;
 use std::alloc::{AllocError, Allocator};
 
-/// How many levels of arrays and structures a value has at most.
+/// The most levels of arrays and structures that a value has.
 const MOST_LEVELS: u8 = 8;
 
 const DIGITS: [u8; 16] = *b"0123456789abcdef";
 
-/// Appends an octet as a pair of hexadecimal digits.
-fn append_pair<A: Allocator>(text: &mut Vec<u8, A>, octet: u8) -> Result<(), AllocError>
-    ensures { OnOk result (text.new.items ≡ text.old.items ++ pair_of octet) }
+/// Appends octets. If memory runs out, the text is unchanged.
+fn append_octets<A: Allocator>(text: &mut Vec<u8, A>, octets: &[u8]) -> Result<(), AllocError>
+    ensures { Grows result text.old.items text.new.items octets.now }
 {
-    text.push(DIGITS[usize::from(octet / 16)])?;
-    text.push(DIGITS[usize::from(octet % 16)])?;
-    Ok(())
+    text.extend_from_slice(octets)
 }
 
-/// Appends pairs of hexadecimal digits.
+/// An octet as two lower case hexadecimal digits, the high four bits first.
+fn pair(octet: u8) -> [u8; 2]
+    ensures { result ≡ pair_of octet }
+{
+    [
+        DIGITS[usize::from(octet / 16)],
+        DIGITS[usize::from(octet % 16)],
+    ]
+}
+
+/// Appends each octet as two lower case hexadecimal digits. If memory runs out, a part of them is appended.
 pub fn append_pairs<A: Allocator>(text: &mut Vec<u8, A>, bytes: &[u8]) -> Result<(), AllocError>
-    ensures { OnOk result (text.new.items ≡ text.old.items ++ pairs_of bytes.now) }
+    ensures { Grows result text.old.items text.new.items (pairs_of bytes.now) }
 {
     'octets: for byte in bytes {
-        append_pair(text, *byte)?;
+        let digits = pair(*byte);
+        append_octets(text, &digits)?;
     }
     Ok(())
 }
 
-/// Appends pairs of hexadecimal digits between quotes.
+/// Appends octets as hexadecimal digits between double quotes.
 fn append_quoted_pairs<A: Allocator>(text: &mut Vec<u8, A>, bytes: &[u8]) -> Result<(), AllocError>
-    ensures { OnOk result (text.new.items ≡ text.old.items ++ quoted (pairs_of bytes.now)) }
+    ensures { Grows result text.old.items text.new.items (quoted (pairs_of bytes.now)) }
 {
-    text.push(b'"')?;
+    append_octets(text, b"\"")?;
     append_pairs(text, bytes)?;
-    text.push(b'"')?;
-    Ok(())
+    append_octets(text, b"\"")
 }
 
-/// Appends an octet of a text. A quote and a backslash stand behind a backslash; what is no plain ASCII is escaped, as the character
-/// of its number.
+/// Appends an octet of a text. A double quote and a backslash are written after a backslash. An octet that is not printable ASCII is
+/// escaped as the character of its number.
 fn append_letter<A: Allocator>(text: &mut Vec<u8, A>, octet: u8) -> Result<(), AllocError>
-    ensures { OnOk result (text.new.items ≡ text.old.items ++ letter_of octet) }
+    ensures { Grows result text.old.items text.new.items (letter_of octet) }
 {
     if octet == b'"' || octet == b'\\' {
-        text.push(b'\\')?;
-        text.push(octet)?;
+        append_octets(text, &[b'\\', octet])
     } else if octet < b' ' || octet > b'~' {
-        text.extend_from_slice(b"\\u00")?;
-        append_pair(text, octet)?;
+        let [high, low] = pair(octet);
+        append_octets(text, &[b'\\', b'u', b'0', b'0', high, low])
     } else {
-        text.push(octet)?;
+        append_octets(text, &[octet])
     }
-    Ok(())
 }
 
 /// Appends the octets of a text.
 fn append_letters<A: Allocator>(text: &mut Vec<u8, A>, bytes: &[u8]) -> Result<(), AllocError>
-    ensures { OnOk result (text.new.items ≡ text.old.items ++ letters_of bytes.now) }
+    ensures { Grows result text.old.items text.new.items (letters_of bytes.now) }
 {
     'octets: for byte in bytes {
         append_letter(text, *byte)?;
@@ -73,33 +81,33 @@ fn append_letters<A: Allocator>(text: &mut Vec<u8, A>, bytes: &[u8]) -> Result<(
     Ok(())
 }
 
-/// Appends a text between quotes. What is no plain ASCII is escaped, each octet as the character of its number.
+/// Appends a text between double quotes. An octet that is not printable ASCII is escaped as the character of its number. If memory
+/// runs out, a part is appended.
 pub fn append_quoted<A: Allocator>(text: &mut Vec<u8, A>, bytes: &[u8]) -> Result<(), AllocError>
-    ensures { OnOk result (text.new.items ≡ text.old.items ++ quoted (letters_of bytes.now)) }
+    ensures { Grows result text.old.items text.new.items (quoted (letters_of bytes.now)) }
 {
-    text.push(b'"')?;
+    append_octets(text, b"\"")?;
     append_letters(text, bytes)?;
-    text.push(b'"')?;
-    Ok(())
+    append_octets(text, b"\"")
 }
 
-/// Appends a number.
+/// Appends a number in decimal digits. If memory runs out, a part is appended.
 pub fn append_number<A: Allocator>(text: &mut Vec<u8, A>, number: u64) -> Result<(), AllocError>
-    ensures { OnOk result (text.new.items ≡ text.old.items ++ decimal number) }
+    ensures { Grows result text.old.items text.new.items (decimal number) }
 {
     let mut buffer = Buffer::new();
-    text.extend_from_slice(buffer.format(number).as_bytes())
+    append_octets(text, buffer.format(number).as_bytes())
 }
 
-/// Appends a number that may be below 0.
+/// Appends a number that may be negative, with its sign.
 fn append_signed<A: Allocator>(text: &mut Vec<u8, A>, number: i64) -> Result<(), AllocError>
-    ensures { OnOk result (text.new.items ≡ text.old.items ++ signed_decimal number) }
+    ensures { Grows result text.old.items text.new.items (signed_decimal number) }
 {
     let mut buffer = Buffer::new();
-    text.extend_from_slice(buffer.format(number).as_bytes())
+    append_octets(text, buffer.format(number).as_bytes())
 }
 
-/// A bit of this weight as a digit, and what is left of the octet behind it.
+/// The bit of this weight as a digit, and the lower bits of the octet.
 fn bit(rest: u8, weight: u8) -> (u8, u8)
     requires some { 0 < weight }
     requires last { rest < 2 * weight }
@@ -113,7 +121,7 @@ fn bit(rest: u8, weight: u8) -> (u8, u8)
     }
 }
 
-/// The bits of an octet as digits.
+/// The bits of an octet as digits, the highest bit first.
 fn bits_in(octet: u8) -> [u8; 8]
     ensures { result ≡ map bit_of (binary_digits 8 octet) }
 {
@@ -128,48 +136,59 @@ fn bits_in(octet: u8) -> [u8; 8]
     [a, b, c, d, e, f, g, h]
 }
 
-/// Appends so many bits of octets as digits.
-#[tactic(auto, using(crate::proofs::JsonLemmas::digits_on))]
+/// Appends the first `count` bits of an octet as digits, all eight if `count` is larger.
+fn append_octet<A: Allocator>(
+    text: &mut Vec<u8, A>,
+    count: usize,
+    octet: u8,
+) -> Result<(), AllocError>
+    ensures { Grows result text.old.items text.new.items
+        (take (min count 8) (map bit_of (binary_digits 8 octet))) }
+{
+    let digits = bits_in(octet);
+    append_octets(text, &digits[..count.min(8)])
+}
+
+/// Appends the first `count` bits of octets as digits.
 fn append_digits<A: Allocator>(
     text: &mut Vec<u8, A>,
     count: usize,
     bytes: &[u8],
 ) -> Result<(), AllocError>
-    ensures { OnOk result (text.new.items ≡ text.old.items ++ take count (map bit_of (bits_of bytes.now))) }
+    ensures { Grows result text.old.items text.new.items
+        (take count (map bit_of (bits_of bytes.now))) }
 {
     let mut left = count;
     'octets: for byte in bytes {
-        let digits = bits_in(*byte);
-        text.extend_from_slice(&digits[..left.min(8)])?;
+        append_octet(text, left, *byte)?;
         left = left.saturating_sub(8);
     }
     Ok(())
 }
 
-/// Appends bits as digits, the first one first.
+/// Appends bits as digits, in order.
 fn append_held<A: Allocator>(text: &mut Vec<u8, A>, bits: &Bits<A>) -> Result<(), AllocError>
-    ensures { OnOk result (text.new.items ≡ text.old.items ++ map bit_of bits.now) }
+    ensures { Grows result text.old.items text.new.items (map bit_of bits.now) }
 {
     append_digits(text, bits.len(), bits.as_bytes())
 }
 
-/// Appends bits as digits between quotes.
+/// Appends bits as digits between double quotes.
 fn append_bits<A: Allocator>(text: &mut Vec<u8, A>, bits: &Bits<A>) -> Result<(), AllocError>
-    ensures { OnOk result (text.new.items ≡ text.old.items ++ quoted (map bit_of bits.now)) }
+    ensures { Grows result text.old.items text.new.items (quoted (map bit_of bits.now)) }
 {
-    text.push(b'"')?;
+    append_octets(text, b"\"")?;
     append_held(text, bits)?;
-    text.push(b'"')?;
-    Ok(())
+    append_octets(text, b"\"")
 }
 
-/// Appends a value that holds no others.
+/// Appends a value that contains no other values.
 fn append_plain<A: Allocator>(text: &mut Vec<u8, A>, value: &Data<A>) -> Result<(), AllocError>
-    ensures { OnOk result (text.new.items ≡ text.old.items ++ plain_of (value_of value.now)) }
+    ensures { Grows result text.old.items text.new.items (plain_of (value_of value.now)) }
 {
     match value {
-        Data::Boolean(true) => text.extend_from_slice(b"true"),
-        Data::Boolean(false) => text.extend_from_slice(b"false"),
+        Data::Boolean(true) => append_octets(text, b"true"),
+        Data::Boolean(false) => append_octets(text, b"false"),
         Data::BitString(bits) => append_bits(text, bits),
         Data::DoubleLong(z) => append_signed(text, i64::from(*z)),
         Data::Integer(z) => append_signed(text, i64::from(*z)),
@@ -187,16 +206,19 @@ fn append_plain<A: Allocator>(text: &mut Vec<u8, A>, value: &Data<A>) -> Result<
         Data::DateTime(octets) => append_quoted_pairs(text, octets),
         Data::Date(octets) => append_quoted_pairs(text, octets),
         Data::Time(octets) => append_quoted_pairs(text, octets),
-        _ => text.extend_from_slice(b"null"),
+        _ => append_octets(text, b"null"),
     }
 }
 
-/// Appends the value at the front of an encoding, which holds no others, and says what follows it.
+/// Appends the value at the front of an encoding, which contains no other values, and returns what follows it.
 fn append_leaf<'a, A: Allocator + Copy>(
     alloc: A,
     text: &mut Vec<u8, A>,
     bytes: &'a [u8],
-) -> Result<&'a [u8], ValueFault> {
+) -> Result<&'a [u8], ValueFault>
+    ensures { Appends (λ x. x.now) plain_of text.old.items text.new.items result
+        (data_at 8 bytes.now) }
+{
     let (value, rest) = value_at(alloc, bytes)?;
     let appended = append_plain(text, &value);
     drop(value);
@@ -206,7 +228,7 @@ fn append_leaf<'a, A: Allocator + Copy>(
     }
 }
 
-/// Appends so many values, each behind a comma, and says what follows them.
+/// Appends `count` values, each after a comma, and returns what follows them.
 #[cycle(json)]
 fn append_others<'a, A: Allocator + Copy>(
     alloc: A,
@@ -214,16 +236,38 @@ fn append_others<'a, A: Allocator + Copy>(
     room: u8,
     count: u32,
     bytes: &'a [u8],
-) -> Result<&'a [u8], ValueFault> {
+) -> Result<&'a [u8], ValueFault>
+    ensures { Appends (λ x. x.now) others_of text.old.items text.new.items result
+        (values_at (data_at room) count bytes.now) }
+{
     let mut rest = bytes;
-    for _ in 0..count {
-        text.push(b',')?;
+    'others: for _ in 0..count {
+        append_octets(text, b",")?;
         rest = append_value(alloc, text, room, rest)?;
     }
     Ok(rest)
 }
 
-/// Appends so many values between brackets, with room for so many levels, and says what follows them.
+/// Appends `count` values with commas between them, and returns what follows them.
+#[cycle(json)]
+fn append_several<'a, A: Allocator + Copy>(
+    alloc: A,
+    text: &mut Vec<u8, A>,
+    room: u8,
+    count: u32,
+    bytes: &'a [u8],
+) -> Result<&'a [u8], ValueFault>
+    ensures { Appends (λ x. x.now) items_of text.old.items text.new.items result
+        (values_at (data_at room) count bytes.now) }
+{
+    if count == 0 {
+        return Ok(bytes);
+    }
+    let rest = append_value(alloc, text, room, bytes)?;
+    append_others(alloc, text, room, count - 1, rest)
+}
+
+/// Appends `count` values between brackets, which may have `room` levels with the array itself, and returns what follows them.
 #[cycle(json)]
 fn append_items<'a, A: Allocator + Copy>(
     alloc: A,
@@ -231,28 +275,31 @@ fn append_items<'a, A: Allocator + Copy>(
     room: u8,
     count: u32,
     bytes: &'a [u8],
-) -> Result<&'a [u8], ValueFault> {
+) -> Result<&'a [u8], ValueFault>
+    ensures { Appends (λ x. x.now)
+        (λ vs. bracketed (items_of vs)) text.old.items text.new.items result
+        (held room count bytes.now) }
+{
     if room == 0 {
         return Err(ValueFault::Form);
     }
-    text.push(b'[')?;
-    let mut rest = bytes;
-    if count > 0 {
-        rest = append_value(alloc, text, room - 1, rest)?;
-        rest = append_others(alloc, text, room - 1, count - 1, rest)?;
-    }
-    text.push(b']')?;
+    append_octets(text, b"[")?;
+    let rest = append_several(alloc, text, room - 1, count, bytes)?;
+    append_octets(text, b"]")?;
     Ok(rest)
 }
 
-/// Appends the value at the front, with room for so many levels, and says what follows it.
+/// Appends the value at the front, which may have `room` levels, and returns what follows it.
 #[cycle(json)]
 fn append_value<'a, A: Allocator + Copy>(
     alloc: A,
     text: &mut Vec<u8, A>,
     room: u8,
     bytes: &'a [u8],
-) -> Result<&'a [u8], ValueFault> {
+) -> Result<&'a [u8], ValueFault>
+    ensures { Appends (λ x. x.now) json_of text.old.items text.new.items result
+        (data_at room bytes.now) }
+{
     match front_of(bytes) {
         (Front::Array(count), rest) => append_items(alloc, text, room, count, rest),
         (Front::Structure(count), rest) => append_items(alloc, text, room, count, rest),
@@ -260,13 +307,18 @@ fn append_value<'a, A: Allocator + Copy>(
     }
 }
 
-/// Appends the value at the front of an encoding as JSON, and says what follows it: a number as a number, however long; strings of
-/// octets, bits and times as digits between quotes, texts as texts; arrays and structures as arrays. Where no value stands there it is
-/// `Form`, and what was appended up to there stays.
+/// Appends the value at the front of an encoding as JSON, and returns what follows it. Numbers are numbers, however long; octet-strings,
+/// dates and times are strings of hexadecimal digits; bit-strings are strings of 0 and 1; texts are strings; arrays and structures
+/// are arrays. If no value is there, the fault is `Form` and the text is unchanged. If memory runs out, a part is appended.
 pub fn append_json<'a, A: Allocator + Copy>(
     alloc: A,
     text: &mut Vec<u8, A>,
     bytes: &'a [u8],
-) -> Result<&'a [u8], ValueFault> {
-    append_value(alloc, text, MOST_LEVELS, bytes)
+) -> Result<&'a [u8], ValueFault>
+    ensures { AppendsJson (λ x. x.now) text.old.items text.new.items result (data_at 8 bytes.now) }
+{
+    match span(bytes) {
+        Ok(_) => append_value(alloc, text, MOST_LEVELS, bytes),
+        Err(_) => Err(ValueFault::Form),
+    }
 }

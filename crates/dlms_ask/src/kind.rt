@@ -3,7 +3,7 @@
 ghost use Rattle.std.specs.Prelude.{◌≡◌, IfNone, IfSome};
 ghost use Rattle.dlms_ask.specs.Kinds.{word_of};
 
-/// How what stands behind a word and a colon writes a value.
+/// How the text after a word and a colon writes a value.
 #[derive(Clone, Copy, Debug, PartialEq, Eq)]
 pub enum Kind {
     /// `u8:`, a number as unsigned.
@@ -38,7 +38,7 @@ pub enum Kind {
     Raw,
 }
 
-/// What a word names.
+/// The kind that a word names.
 pub fn kind_of(word: &str) -> Option<Kind>
     ensures some { IfSome result (λ kind. word.now ≡ word_of kind) }
     ensures none { IfNone result ((kind : Kind) → word.now ≡ word_of kind → ⊥) }

@@ -1,4 +1,4 @@
-//! What is asked of any meter, and what it answers, as text.
+//! Requests to any meter, and its answers, as text.
 #![tactic(auto)]
 
 mod decimal;

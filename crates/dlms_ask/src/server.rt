@@ -24,7 +24,8 @@ fn below(digits: &str, bound: u16) -> Option<u16>
 /// The address of two parts.
 fn parted(upper: &str, lower: &str, wide: bool) -> Option<Address>
     ensures some { IfSome result (IsParts wide upper.now lower.now) }
-    ensures none { IfNone result ((address : Address) → IsParts wide upper.now lower.now address → ⊥) }
+    ensures none { IfNone result ((address : Address) → IsParts wide upper.now lower.now address
+        → ⊥) }
 {
     let upper = below(upper, LONG)?;
     let lower = below(lower, LONG)?;

@@ -3,10 +3,11 @@
 ghost use Rattle.std.specs.Prelude.{◌≡◌, ◌<◌, ◌^◌, ℕ, ℤ, IfNone, IfSome, MatchOption, true, false};
 ghost use Rattle.dlms_ask.specs.Texts.{IsBelow, IsSigned, before, behind, has};
 
-/// What stands before the first of these octets of ASCII, and behind it; none where there is none.
+/// The text before the first occurrence of this octet of ASCII, and the text after it; `None` if it does not occur.
 pub fn cut(text: &str, octet: char) -> Option<(&str, &str)>
     requires { octet < 128 }
-    ensures { MatchOption result (has octet text.now ≡ false) (λ x. (has octet text.now ≡ true) × (x.0.now ≡ before octet text.now) × (x.1.now ≡ behind octet text.now)) }
+    ensures { MatchOption result (has octet text.now ≡ false) (λ x. (has octet text.now ≡ true)
+        × (x.0.now ≡ before octet text.now) × (x.1.now ≡ behind octet text.now)) }
 {
     text.split_once(octet)
 }
@@ -30,7 +31,7 @@ pub fn octet(digits: &str) -> Option<u8>
     u8::try_from(number(digits)?).ok()
 }
 
-/// The number at least -2^63 and below 2^63 that these digits write, with a minus before them where it is below 0.
+/// The number, at least -2^63 and below 2^63, that these digits write, with a minus before them if it is below 0.
 pub fn signed(text: &str) -> Option<i64>
     ensures some { IfSome result (IsSigned (2 ^ 63) text.now) }
     ensures none { IfNone result ((z : ℤ) → IsSigned (2 ^ 63) text.now z → ⊥) }

@@ -1,9 +1,10 @@
 //! Values that a text writes.
 
-ghost use Rattle.std.specs.Prelude.{◌≡◌, ◌⊎◌, ◌≤◌, ℕ, List, Ok, IfErr, IfOk, IfNone, IfSome};
-ghost use Rattle.dlms_ask.specs.Values.{IsWorded, IsWritten, Writes, WritesPlain, WritesSigned};
-ghost use Rattle.dlms_ask.specs.declared.fault.ValueFault.TheVariants.{Form};
-ghost use Rattle.hex.specs.Hex.{decode_of};
+ghost use Rattle.std.specs.Prelude.{◌≡◌, ◌⊎◌, ◌≤◌, ◌↔◌, ℕ, List, Ok, IfErr, IfOk, IfNone, IfSome, IsTrue};
+ghost use Rattle.dlms_ask.specs.Values.{AreOctets, Fails, IsWorded, IsWritten, NeedsMemory, TextNeedsMemory, WordNeedsMemory, Writes, WritesPlain, WritesSigned};
+ghost use Rattle.dlms_ask.specs.declared.fault.ValueFault.TheVariants.{Form, Memory};
+ghost use Rattle.hex.specs.Hex.{decode_of, is_hex_digit};
+ghost use Rattle.std.specs.List.{list_all};
 ghost use Rattle.dlms_data.specs.Spelling.{IsSpelling};
 ghost use Rattle.dlms_data.specs.View.{value_of as data_of};
 ghost use Rattle.dlms_data.specs.Value.{Value};
@@ -12,11 +13,10 @@ ghost use Rattle.dlms_data.specs.declared.date_time.TheConstants.{LAST_SECOND};
 use crate::fault::ValueFault;
 use crate::kind::{Kind, kind_of};
 use crate::texts::{cut, number, signed};
-use dlms_data::{Bytes, Data, DataFault, octet_string_of, read, time_of};
-use hex::FromHexError;
+use dlms_data::{Bytes, Data, is_value, read, time_of};
 use std::alloc::{AllocError, Allocator};
 
-/// The value of a number without a sign.
+/// The value of an unsigned number.
 fn plain<A: Allocator>(kind: Kind, digits: &str) -> Option<Data<A>>
     ensures some { IfSome result (λ v. WritesPlain kind digits.now (data_of v)) }
     ensures none { IfNone result ((v : Value) → WritesPlain kind digits.now v → ⊥) }
@@ -32,7 +32,7 @@ fn plain<A: Allocator>(kind: Kind, digits: &str) -> Option<Data<A>>
     }
 }
 
-/// The value of a number that may have a sign.
+/// The value of a number that may be negative.
 fn with_sign<A: Allocator>(kind: Kind, text: &str) -> Option<Data<A>>
     ensures some { IfSome result (λ v. WritesSigned kind text.now (data_of v)) }
     ensures none { IfNone result ((v : Value) → WritesSigned kind text.now v → ⊥) }
@@ -50,7 +50,7 @@ fn with_sign<A: Allocator>(kind: Kind, text: &str) -> Option<Data<A>>
 /// A boolean.
 fn boolean<A: Allocator>(text: &str) -> Result<Data<A>, ValueFault>
     ensures ok { IfOk result (λ v. Writes Kind.Bool text.now (data_of v)) }
-    ensures form { IfErr result (λ fault. fault ≡ Form → (v : Value) → Writes Kind.Bool text.now v → ⊥) }
+    ensures err { IfErr result (Fails (Writes Kind.Bool text.now) ⊥) }
 {
     match text {
         "true" => Ok(Data::Boolean(true)),
@@ -59,58 +59,88 @@ fn boolean<A: Allocator>(text: &str) -> Result<Data<A>, ValueFault>
     }
 }
 
-/// The bytes of pairs of hexadecimal digits.
+/// Whether an octet is a hexadecimal digit, in either case.
+fn is_digit(octet: u8) -> bool
+    ensures { result ≡ is_hex_digit octet }
+{
+    matches!(octet, b'0'..=b'9' | b'A'..=b'F' | b'a'..=b'f')
+}
+
+/// Whether all octets are hexadecimal digits.
+fn are_digits(text: &[u8]) -> bool
+    ensures { result ≡ list_all is_hex_digit text.now }
+{
+    text.iter().all(|octet| is_digit(*octet))
+}
+
+/// Whether a text is hexadecimal digits, two for each octet.
+#[tactic(auto, using(crate::proofs::ValueLemmas::digits_tell, crate::proofs::ValueLemmas::odd_tells))]
+fn are_pairs(text: &[u8]) -> bool
+    ensures { IsTrue result ↔ AreOctets text.now }
+{
+    if text.len() % 2 != 0 {
+        return false;
+    }
+    are_digits(text)
+}
+
+/// The octets that pairs of hexadecimal digits write.
 fn pairs<A: Allocator>(alloc: A, text: &str) -> Result<Vec<u8, A>, ValueFault>
     ensures ok { IfOk result (λ bytes. decode_of text.now ≡ Ok bytes.items) }
-    ensures form { IfErr result (λ fault. fault ≡ Form → (bytes : List ℕ) → decode_of text.now ≡ Ok bytes → ⊥) }
+    ensures form { IfErr result (λ fault. fault ≡ Form → (bytes : List ℕ)
+        → decode_of text.now ≡ Ok bytes → ⊥) }
+    ensures memory { IfErr result (λ fault. fault ≡ Memory → AreOctets text.now) }
 {
+    if !are_pairs(text.as_bytes()) {
+        return Err(ValueFault::Form);
+    }
     match hex::decode(alloc, text) {
         Ok(bytes) => Ok(bytes),
-        Err(FromHexError::OutOfMemory) => Err(ValueFault::Memory),
-        Err(_) => Err(ValueFault::Form),
+        Err(_) => Err(ValueFault::Memory),
     }
 }
 
-/// Why the bytes of a value are none.
-fn fault_of(fault: DataFault) -> ValueFault
-    ensures { fault ≡ DataFault.Memory → result ≡ ValueFault.Memory }
-{
-    match fault {
-        DataFault::Memory => ValueFault::Memory,
-        _ => ValueFault::Form,
-    }
-}
-
-/// The value that is all of these bytes.
+/// The value that is all of these bytes. `Memory` means that there is one, and it needs memory.
 fn whole<A: Allocator + Copy>(alloc: A, bytes: &[u8]) -> Result<Data<A>, ValueFault>
     ensures ok { IfOk result (λ v. IsSpelling bytes.now (data_of v)) }
-    ensures form { IfErr result (λ fault. fault ≡ Form → (v : Value) → IsSpelling bytes.now v → ⊥) }
+    ensures err { IfErr result (Fails (IsSpelling bytes.now) ((v : Value)
+        × IsSpelling bytes.now v)) }
 {
+    if !is_value(bytes) {
+        return Err(ValueFault::Form);
+    }
     match read(alloc, bytes) {
-        Ok((value, length)) => {
-            if length == bytes.len() {
-                Ok(value)
-            } else {
-                Err(ValueFault::Form)
-            }
-        }
-        Err(fault) => Err(fault_of(fault)),
+        Ok((value, _)) => Ok(value),
+        Err(_) => Err(ValueFault::Memory),
     }
 }
 
-/// The value whose whole encoding stands in pairs of hexadecimal digits.
+/// The value whose whole encoding is written in hexadecimal digits.
 fn raw<A: Allocator + Copy>(alloc: A, text: &str) -> Result<Data<A>, ValueFault>
     ensures ok { IfOk result (λ v. Writes Kind.Raw text.now (data_of v)) }
-    ensures form { IfErr result (λ fault. fault ≡ Form → (v : Value) → Writes Kind.Raw text.now v → ⊥) }
+    ensures err { IfErr result (Fails (Writes Kind.Raw text.now) (AreOctets text.now)) }
 {
     let bytes = pairs(alloc, text)?;
     whole(alloc, bytes.as_slice())
 }
 
-/// The number that stands behind the word of a kind.
+/// The octet-string whose octets are written in hexadecimal digits.
+fn octets<A: Allocator + Copy>(alloc: A, text: &str) -> Result<Data<A>, ValueFault>
+    ensures ok { IfOk result (λ v. Writes Kind.Hex text.now (data_of v)) }
+    ensures err { IfErr result (Fails (Writes Kind.Hex text.now) (AreOctets text.now)) }
+{
+    match pairs(alloc, text) {
+        Ok(bytes) => Ok(Data::OctetString(Bytes::from_vec(bytes))),
+        Err(fault) => Err(fault),
+    }
+}
+
+/// The number after the word of a kind.
 fn numeral<A: Allocator>(kind: Kind, text: &str) -> Result<Data<A>, ValueFault>
-    ensures ok { IfOk result (λ v. WritesPlain kind text.now (data_of v) ⊎ WritesSigned kind text.now (data_of v)) }
-    ensures form { IfErr result (λ fault. fault ≡ Form → (v : Value) → WritesPlain kind text.now v ⊎ WritesSigned kind text.now v → ⊥) }
+    ensures ok { IfOk result (λ v. WritesPlain kind text.now (data_of v)
+        ⊎ WritesSigned kind text.now (data_of v)) }
+    ensures err { IfErr result (Fails (λ v. WritesPlain kind text.now v
+        ⊎ WritesSigned kind text.now v) ⊥) }
 {
     match plain(kind, text) {
         Some(value) => Ok(value),
@@ -121,17 +151,17 @@ fn numeral<A: Allocator>(kind: Kind, text: &str) -> Result<Data<A>, ValueFault>
     }
 }
 
-/// The value that stands behind the word of a kind.
+/// The value after the word of a kind.
 fn behind_word<A: Allocator + Copy>(alloc: A, kind: Kind, text: &str) -> Result<Data<A>, ValueFault>
     ensures ok { IfOk result (λ v. Writes kind text.now (data_of v)) }
-    ensures form { IfErr result (λ fault. fault ≡ Form → (v : Value) → Writes kind text.now v → ⊥) }
+    ensures err { IfErr result (Fails (Writes kind text.now) (NeedsMemory kind text.now)) }
 {
     match kind {
         Kind::Bool => boolean(text),
-        Kind::Text => Ok(octet_string_of(alloc, text.as_bytes())?),
+        Kind::Text => Ok(Data::OctetString(Bytes::from_slice(alloc, text.as_bytes())?)),
         Kind::Visible => Ok(Data::VisibleString(Bytes::from_slice(alloc, text.as_bytes())?)),
         Kind::Utf8 => Ok(Data::Utf8String(Bytes::from_slice(alloc, text.as_bytes())?)),
-        Kind::Hex => Ok(Data::OctetString(Bytes::from_vec(pairs(alloc, text)?))),
+        Kind::Hex => octets(alloc, text),
         Kind::Raw => raw(alloc, text),
         Kind::Unsigned => numeral(Kind::Unsigned, text),
         Kind::LongUnsigned => numeral(Kind::LongUnsigned, text),
@@ -145,10 +175,10 @@ fn behind_word<A: Allocator + Copy>(alloc: A, kind: Kind, text: &str) -> Result<
     }
 }
 
-/// The value that stands behind a word and a colon.
+/// The value after a word and a colon.
 fn worded<A: Allocator + Copy>(alloc: A, text: &str) -> Result<Data<A>, ValueFault>
     ensures ok { IfOk result (λ v. IsWorded text.now (data_of v)) }
-    ensures form { IfErr result (λ fault. fault ≡ Form → (v : Value) → IsWorded text.now v → ⊥) }
+    ensures err { IfErr result (Fails (IsWorded text.now) (WordNeedsMemory text.now)) }
 {
     let Some((word, rest)) = cut(text, ':') else {
         return Err(ValueFault::Form);
@@ -159,11 +189,12 @@ fn worded<A: Allocator + Copy>(alloc: A, text: &str) -> Result<Data<A>, ValueFau
     }
 }
 
-/// The value that a text writes, where `now` is this second of the clock, counted from 2000-01-01 00:00:00.
+/// The value that a text writes, as `u32:900` or `text:name`. `now` is the current second, counted from 2000-01-01 00:00:00. The fault
+/// is `Form` if the text writes no value. `Memory` comes only if the text needs memory: for `now`, for text and for octets.
 pub fn value_of<A: Allocator + Copy>(alloc: A, text: &str, now: u32) -> Result<Data<A>, ValueFault>
     requires { now ≤ LAST_SECOND }
     ensures ok { IfOk result (λ v. IsWritten now text.now (data_of v)) }
-    ensures form { IfErr result (λ fault. fault ≡ Form → (v : Value) → IsWritten now text.now v → ⊥) }
+    ensures err { IfErr result (Fails (IsWritten now text.now) (TextNeedsMemory text.now)) }
 {
     if text == "null" {
         return Ok(Data::Null);

@@ -18,9 +18,14 @@ pub record BlockValue : Type 0 where
 
 -- block n of an encoding
 abbrev pub block : List ℕ → ℕ → ℕ → BlockValue
-block encoding room n = record { last = is_last encoding room n; number = n; bytes = block_bytes encoding room n }
+block encoding room n = record {
+  last = is_last encoding room n;
+  number = n;
+  bytes = block_bytes encoding room n;
+}
 
 -- the bytes of the first n blocks, joined
 abbrev pub blocks_up_to : List ℕ → ℕ → ℕ → List ℕ
 blocks_up_to encoding room zero = []
-blocks_up_to encoding room (suc n) = blocks_up_to encoding room n ++ block_bytes encoding room (n + 1)
+blocks_up_to encoding room (suc n) = blocks_up_to encoding room n
+    ++ block_bytes encoding room (n + 1)

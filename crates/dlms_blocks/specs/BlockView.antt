@@ -1,4 +1,4 @@
--- What a contract sees of a block.
+-- The contract's view of a block.
 use Rattle.dlms_blocks.specs.Block.{BlockValue}
 use Rattle.dlms_blocks.specs.declared.block.Block.{Block}
 

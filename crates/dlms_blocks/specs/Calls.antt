@@ -5,7 +5,7 @@ use Rattle.dlms_blocks.specs.Block.{BlockValue, block, blocks_up_to}
 use Rattle.dlms_blocks.specs.BlockView.{view_of}
 use Rattle.dlms_blocks.specs.Going.{Going, beginning, answer, after}
 
--- a call for the block after this number, and what it answered: a block, or a result
+-- a call for the block after this number, and its answer: a block, or a result
 pub record Call : Type 0 where
   pub number : ℕ
   pub answered : Result BlockValue ℕ
@@ -33,10 +33,11 @@ abbrev pub given : List Call → List BlockValue
 given [] = []
 given (c ∷ cs) = given_first c.answered (given cs)
 
--- so many blocks of an encoding, behind those up to a number
+-- blocks of an encoding, after those up to a number
 abbrev pub blocks_behind : List ℕ → ℕ → ℕ → ℕ → List BlockValue
 blocks_behind encoding room number zero = []
-blocks_behind encoding room number (suc n) = block encoding room (number + 1) ∷ blocks_behind encoding room (number + 1) n
+blocks_behind encoding room number (suc n) = block encoding room (number + 1)
+    ∷ blocks_behind encoding room (number + 1) n
 
 -- the bytes of blocks, joined
 abbrev pub joined : List BlockValue → List ℕ
@@ -58,18 +59,22 @@ AreInOrder number (c ∷ cs) = (c.number ≡ number) × AreInOrder (number + 1) 
 -- the blocks that were given are those with the numbers 1, 2, 3 and so on, and each of them has bytes
 abbrev pub GiveTheBlocks : Type 0
 GiveTheBlocks =
-    (encoding : List ℕ) (room : ℕ) (calls : List Call) (g : Going) → 0 < length encoding → AreCalls (beginning encoding room) calls g
+    (encoding : List ℕ) (room : ℕ) (calls : List Call) (g : Going) → 0 < length encoding
+    → AreCalls (beginning encoding room) calls g
     → (given calls ≡ blocks_behind encoding room 0 (length (given calls)))
     × (0 < length (given calls) → (length (given calls) - 1) * room < length encoding)
 
 -- joined they are the first blocks of the value, and all of it once one says that it is the last
 abbrev pub JoinToTheValue : Type 0
 JoinToTheValue =
-    (encoding : List ℕ) (room : ℕ) (calls : List Call) (g : Going) → 0 < length encoding → AreCalls (beginning encoding room) calls g
-    → (joined (given calls) ≡ blocks_up_to encoding room (length (given calls))) × (has_last (given calls) ≡ true → joined (given calls) ≡ encoding)
+    (encoding : List ℕ) (room : ℕ) (calls : List Call) (g : Going) → 0 < length encoding
+    → AreCalls (beginning encoding room) calls g
+    → (joined (given calls) ≡ blocks_up_to encoding room (length (given calls)))
+    × (has_last (given calls) ≡ true → joined (given calls) ≡ encoding)
 
--- where each call asks for the next block, each gives it, until the last is given
+-- if each call asks for the next block, each returns it, until the last is returned
 abbrev pub GiveEachInOrder : Type 0
 GiveEachInOrder =
-    (encoding : List ℕ) (room : ℕ) (calls : List Call) (g : Going) → AreInOrder 0 calls → AreCalls (beginning encoding room) calls g
+    (encoding : List ℕ) (room : ℕ) (calls : List Call) (g : Going) → AreInOrder 0 calls
+    → AreCalls (beginning encoding room) calls g
     → (length (given calls) ≡ length calls) ⊎ (has_last (given calls) ≡ true)

@@ -5,7 +5,7 @@ use Rattle.dlms_blocks.specs.declared.block.PutStep.TheVariants.{More, Whole}
 use Rattle.dlms_blocks.specs.declared.block.TheConstants.{LONG_SET_ABORTED, NO_LONG_SET, UNKNOWN_BLOCK}
 use Rattle.dlms_blocks.specs.declared.put_in.TheConstants.{MOST_BYTES}
 
--- the bytes joined so far, and the number of the last block taken where a further one is to come
+-- the bytes joined so far, and the number of the last block accepted if a further one is to come
 pub record Coming : Type 0 where
   pub joined : List ℕ
   pub taken : Option ℕ
@@ -25,23 +25,27 @@ taken_on last number joined = record { joined = joined; taken = if last then Non
 -- a first block has number 1, and at most 1,024 bytes
 abbrev pub first_answer : Bool → ℕ → List ℕ → Result PutStep ℕ
 first_answer last number bytes =
-    if number == 1 then (if nat_le (length bytes) MOST_BYTES then Ok (step_of last) else Err LONG_SET_ABORTED) else Err UNKNOWN_BLOCK
+    if number == 1 then (if nat_le (length bytes) MOST_BYTES then Ok (step_of last)
+    else Err LONG_SET_ABORTED) else Err UNKNOWN_BLOCK
 
 abbrev pub first_after : Bool → ℕ → List ℕ → Coming
 first_after last number bytes =
-    if number == 1 then (if nat_le (length bytes) MOST_BYTES then taken_on last 1 bytes else nothing) else nothing
+    if number == 1 then (if nat_le (length bytes) MOST_BYTES then taken_on last 1 bytes
+    else nothing) else nothing
 
 -- the number is the next one; after 2^32 - 1 none is
 abbrev pub follows : ℕ → ℕ → Bool
 follows before number = nat_lt before 4294967295 && (number == before + 1)
 
--- a further block; the results are those where no transfer is open, for another number, and for more bytes in all than fit
+-- a further block; the results are those if no transfer is open, for another number, and for more bytes in all than fit
 abbrev pub more_answer : Option ℕ → List ℕ → Bool → ℕ → List ℕ → Result PutStep ℕ
 more_answer None joined last number bytes = Err NO_LONG_SET
 more_answer (Some before) joined last number bytes =
-    if follows before number then (if nat_le (length joined + length bytes) MOST_BYTES then Ok (step_of last) else Err LONG_SET_ABORTED) else Err UNKNOWN_BLOCK
+    if follows before number then (if nat_le (length joined + length bytes) MOST_BYTES
+    then Ok (step_of last) else Err LONG_SET_ABORTED) else Err UNKNOWN_BLOCK
 
 abbrev pub more_after : Option ℕ → Coming → Bool → ℕ → List ℕ → Coming
 more_after None c last number bytes = c
 more_after (Some before) c last number bytes =
-    if follows before number then (if nat_le (length c.joined + length bytes) MOST_BYTES then taken_on last number (c.joined ++ bytes) else nothing) else nothing
+    if follows before number then (if nat_le (length c.joined + length bytes) MOST_BYTES
+    then taken_on last number (c.joined ++ bytes) else nothing) else nothing

@@ -27,7 +27,10 @@ answer g number =
 abbrev pub after : Going → ℕ → Going
 after g number =
     if g.over then g
-    else if number == g.given then record g { given = g.given + 1; over = is_last g.encoding g.room (g.given + 1) }
+    else if number == g.given then record g {
+      given = g.given + 1;
+      over = is_last g.encoding g.room (g.given + 1);
+    }
     else record g { over = true }
 
 -- what each transfer keeps to

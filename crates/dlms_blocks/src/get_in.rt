@@ -41,12 +41,14 @@ impl<A: Allocator> GetIn<A> {
         self.joined.as_slice()
     }
 
-    /// Takes a block, and says whether it was the last. Another number than the next, and a block after the last, are
-    /// answered 19; where memory is refused it is 2, which is no answer to a block of no bytes; both change nothing. After
-    /// number 2^32 - 1 each number is another.
+    /// Accepts a block, and returns whether it was the last. A number other than the next, and a block after the last, are answered
+    /// 19; a failed allocation is answered 2, which never answers a block of no bytes; both change nothing. After number 2^32 - 1
+    /// no number is the next.
     pub fn more(&mut self, last: bool, number: u32, bytes: &[u8]) -> Result<bool, u8>
-        ensures ok { IfOk result (λ whole. (whole ≡ last) × (is_next self.old number ≡ true) × (self.new ≡ with_block self.old last number bytes.now)) }
-        ensures err { IfErr result (λ code. ((code ≡ 19) × (is_next self.old number ≡ false)) ⊎ ((code ≡ 2) × (is_next self.old number ≡ true) × (0 < length bytes.now))) }
+        ensures ok { IfOk result (λ whole. (whole ≡ last) × (is_next self.old number ≡ true)
+            × (self.new ≡ with_block self.old last number bytes.now)) }
+        ensures err { IfErr result (λ code. ((code ≡ 19) × (is_next self.old number ≡ false))
+            ⊎ ((code ≡ 2) × (is_next self.old number ≡ true) × (0 < length bytes.now))) }
         ensures same { IfErr result (λ code. self.new ≡ self.old) }
     {
         if self.over || self.taken == u32::MAX || number != self.taken + 1 {

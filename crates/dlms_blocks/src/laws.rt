@@ -14,13 +14,15 @@ use std::alloc::Allocator;
 
 /// The blocks of one encoding, joined, are a beginning of it, and all of it once the last is given.
 pub fn blocks_join()
-    ensures beginning { (encoding : List ℕ) (room n : ℕ) → blocks_up_to encoding room n ≡ take (n * room) encoding }
-    ensures whole { (encoding : List ℕ) (room n : ℕ) → is_last encoding room n ≡ true → blocks_up_to encoding room n ≡ encoding }
+    ensures beginning { (encoding : List ℕ) (room n : ℕ)
+        → blocks_up_to encoding room n ≡ take (n * room) encoding }
+    ensures whole { (encoding : List ℕ) (room n : ℕ) → is_last encoding room n ≡ true
+        → blocks_up_to encoding room n ≡ encoding }
 {}
 
-/// Calls for the blocks of one value, one after another, whatever numbers they ask for: the blocks that they give have the
-/// numbers 1, 2, 3 and so on, none stands behind the last, and joined they are the value. Calls that ask for each block in
-/// order are given each, up to the last.
+/// Calls for the blocks of one value, one after another, whatever numbers they ask for: the blocks that they return have the
+/// numbers 1, 2, 3 and so on, none comes after the last, and joined they are the value. Calls that ask for each block in order get
+/// each, up to the last.
 pub fn calls_give_the_value()
     ensures blocks { GiveTheBlocks }
     ensures joined { JoinToTheValue }
@@ -46,5 +48,6 @@ pub fn the_numbers()
     ensures sizes { (LEAST_SIZE ≡ 64) × (MOST_SIZE ≡ 1024) }
     ensures heads { (GET_HEAD ≡ 12) × (PUT_HEAD ≡ 21) }
     ensures most { (MOST_BYTES ≡ 1012) × (MOST_VALUE ≡ 1024) }
-    ensures results { (TEMPORARY_FAILURE ≡ 2) × (NO_LONG_GET ≡ 16) × (LONG_SET_ABORTED ≡ 17) × (NO_LONG_SET ≡ 18) × (UNKNOWN_BLOCK ≡ 19) }
+    ensures results { (TEMPORARY_FAILURE ≡ 2) × (NO_LONG_GET ≡ 16) × (LONG_SET_ABORTED ≡ 17)
+        × (NO_LONG_SET ≡ 18) × (UNKNOWN_BLOCK ≡ 19) }
 {}

@@ -63,7 +63,8 @@ impl PutIn {
     /// A first block, which drops an open transfer. Its number is 1, or it is answered 19; more than 1,024 bytes are
     /// answered 17.
     pub fn first(&mut self, last: bool, number: u32, bytes: &[u8]) -> Result<PutStep, u8>
-        ensures answer { MatchResult result (λ step. first_answer last number bytes.now ≡ Ok step) (λ code. first_answer last number bytes.now ≡ Err code) }
+        ensures answer { MatchResult result (λ step. first_answer last number bytes.now ≡ Ok step)
+            (λ code. first_answer last number bytes.now ≡ Err code) }
         ensures after { self.new ≡ first_after last number bytes.now }
     {
         self.end();
@@ -80,7 +81,9 @@ impl PutIn {
     /// A further block. Without an open transfer it is answered 18 and changes nothing; another number than the next is
     /// 19, more than 1,024 bytes in all are 17, and both end the transfer. After number 2^32 - 1 each number is another.
     pub fn more(&mut self, last: bool, number: u32, bytes: &[u8]) -> Result<PutStep, u8>
-        ensures answer { MatchResult result (λ step. more_answer self.old.taken self.old.joined last number bytes.now ≡ Ok step) (λ code. more_answer self.old.taken self.old.joined last number bytes.now ≡ Err code) }
+        ensures answer { MatchResult result
+            (λ step. more_answer self.old.taken self.old.joined last number bytes.now ≡ Ok step)
+            (λ code. more_answer self.old.taken self.old.joined last number bytes.now ≡ Err code) }
         ensures after { self.new ≡ more_after self.old.taken self.old last number bytes.now }
     {
         let Some(before) = self.taken else {

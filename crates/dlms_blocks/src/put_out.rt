@@ -44,7 +44,8 @@ impl<A: Allocator> PutOut<A> {
 
     /// The block after this number, as `next` would give it; nothing changes.
     pub fn peek(&self, number: u32) -> Result<Block, u8>
-        ensures { MatchResult result (λ found. answer self.now number ≡ Ok (view_of found)) (λ code. answer self.now number ≡ Err code) }
+        ensures { MatchResult result (λ found. answer self.now number ≡ Ok (view_of found))
+            (λ code. answer self.now number ≡ Err code) }
     {
         self.value.peek(number)
     }
@@ -52,7 +53,8 @@ impl<A: Allocator> PutOut<A> {
     /// The block after this number, which is that of the last block given (0 before the first). Another number is
     /// answered 19 and ends the transfer, as the last block does; then it is 16.
     pub fn next(&mut self, number: u32) -> Result<Block, u8>
-        ensures answer { MatchResult result (λ found. answer self.old number ≡ Ok (view_of found)) (λ code. answer self.old number ≡ Err code) }
+        ensures answer { MatchResult result (λ found. answer self.old number ≡ Ok (view_of found))
+            (λ code. answer self.old number ≡ Err code) }
         ensures after { self.new ≡ after self.old number }
     {
         self.value.next(number)

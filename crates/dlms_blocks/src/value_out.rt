@@ -1,4 +1,4 @@
-//! What a value that goes out in blocks keeps.
+//! A value that is sent in blocks.
 ghost use Rattle.std.specs.Prelude.{◌≡◌, ◌≤◌, ◌<◌, ◌+◌, ◌-◌, ◌*◌, List, ℕ, length, take, drop, nat_le, MatchResult, Ok, Err};
 ghost use Rattle.dlms_blocks.specs.Block.{block, block_bytes, is_last};
 ghost use Rattle.dlms_blocks.specs.Going.{beginning, answer, after};
@@ -39,7 +39,7 @@ fn stored(bytes: &[u8]) -> ArrayVec<u8, MOST_BYTES>
     stored
 }
 
-/// At most so many bytes, from a place on.
+/// At most `room` bytes, from a place on.
 fn cut(encoding: &[u8], from: usize, room: usize) -> ArrayVec<u8, MOST_BYTES>
     requires { room ≤ MOST_BYTES }
     ensures { result.items ≡ take room (drop from encoding.now) }
@@ -50,7 +50,7 @@ fn cut(encoding: &[u8], from: usize, room: usize) -> ArrayVec<u8, MOST_BYTES>
 }
 
 impl<A: Allocator> ValueOut<A> {
-    /// A transfer that begins, with room for so many bytes in a block.
+    /// A new transfer, with `room` bytes in a block.
     pub fn new(encoding: Vec<u8, A>, room: u16) -> Self
         requires some { 0 < room }
         requires most { room ≤ MOST_BYTES }
@@ -84,7 +84,8 @@ impl<A: Allocator> ValueOut<A> {
 
     /// The block after this number, which is that of the last block given.
     pub fn peek(&self, number: u32) -> Result<Block, u8>
-        ensures { MatchResult result (λ found. answer self.now number ≡ Ok (view_of found)) (λ code. answer self.now number ≡ Err code) }
+        ensures { MatchResult result (λ found. answer self.now number ≡ Ok (view_of found))
+            (λ code. answer self.now number ≡ Err code) }
     {
         if self.over {
             return Err(NO_LONG_GET);
@@ -98,7 +99,8 @@ impl<A: Allocator> ValueOut<A> {
 
     /// As `peek`, and the transfer goes on, or is over.
     pub fn next(&mut self, number: u32) -> Result<Block, u8>
-        ensures answer { MatchResult result (λ found. answer self.old number ≡ Ok (view_of found)) (λ code. answer self.old number ≡ Err code) }
+        ensures answer { MatchResult result (λ found. answer self.old number ≡ Ok (view_of found))
+            (λ code. answer self.old number ≡ Err code) }
         ensures after { self.new ≡ after self.old number }
     {
         let answer = self.peek(number);

@@ -36,7 +36,7 @@ seen_first memory fixed = fixed.only (memory_view memory).seen (memory_rules mem
 pub loaded_seen : (slots : List ℕ) (memory : Memory) → IsLoaded slots 62 memory.first → IsFixed (memory_view memory) memory.first → IsLoaded slots 62 (memory_view memory).seen
 loaded_seen slots memory loaded fixed = subst (IsLoaded slots 62) (sym (seen_first memory fixed)) loaded
 
--- where a store left what was loaded, the device rests so
+-- if a store left what was loaded, the device rests so
 pub rests_so : (memory : Memory) → IsFixed (memory_view memory) memory.first → (events : List Event) → IsLeftFor events (memory_view memory).seen → DeviceFits (memory_view memory) (Rests events)
 rests_so memory fixed events left = record {
   honest = refl;
@@ -80,7 +80,7 @@ module _ {P A : Type 0} {ghosts : Ghosts P} where
         subst (λ found. IsLeftFor found image) (ap events_in so.1) so.2;
   }
 
-  -- what a recovery of what was loaded says
+  -- the statement about a recovery of what was loaded
   pub recovers_from : (slots : List ℕ) (old : View) (opened : Result (Meter P A ghosts) (P × OpenFault)) → IsLoaded slots 62 old.seen → old.moment ≡ 0
       → ((events : List Event) → IsLeftFor events old.seen → DeviceFits old (Rests events))
       → ((before : StoreWorld) → DeviceFits old before → IfOk opened (λ meter. OpensAs before old meter.store))
@@ -94,7 +94,7 @@ module _ {P A : Type 0} {ghosts : Ghosts P} where
   recovers_from slots old (Err e) loaded first rests opens stands back exact size =
       inr (e.1, refl, unopened slots old e.1 loaded exact (λ events left. (back (Rests events) (rests events left)).cause) size)
 
-  -- what a format of what was made says
+  -- the statement about a format of what was made
   pub formats : (old : View) (opened : Result (Meter P A ghosts) (P × OpenFault)) → length old.seen ≡ 62
       → IfOk opened (λ meter. Stands meter first_world)
       → IfOk opened (λ meter. StoreFits meter.store (Runs [] []))
@@ -136,7 +136,7 @@ module _ {X Y : Type 0} where
   kept_as opened None P Q is none = none
   kept_as opened (Some meter) P Q is same = subst (λ r. MatchResult r P Q) same is
 
-  -- and what is so of the code of each fault is so of the one that is told
+  -- and a property of each fault's code is one of the returned code
   told_as : (opened : Result X Y) (P : X → Type 0) (R : ℕ → Type 0) (code_of : Y → ℕ) (code : ℕ) → MatchResult opened P (λ e. R (code_of e))
       → MatchResult opened (λ meter. ⊥) (λ e. code ≡ code_of e) → R code
   told_as (Ok meter) P R code_of code is none = absurd none
@@ -149,7 +149,7 @@ module _ {X Y : Type 0} where
   begun_as (Ok k) opened B meter_of P R code_of is there = (there.0, kept_as opened (meter_of k) P (λ e. R (code_of e)) is there.1)
   begun_as (Err code) opened B meter_of P R code_of is there = told_as opened P R code_of code is there
 
--- what is so of each meter that was made is so of the one in the handle, and what is so of each code of the one that is told
+-- a property of each new meter is one of the meter in the handle, and a property of each code is one of the returned code
 pub made_in : {X : Type 0} (made : Result X ℕ) (value : Option X) (code : ℕ) (P : X → Type 0) (Q : ℕ → Type 0) → MatchResult made P Q → Q 32
     → MatchOption value ((code ≡ 32) ⊎ (made ≡ Err code)) (λ new. (code ≡ 0) × (made ≡ Ok new)) → MatchOption value (Q code) (λ new. (code ≡ 0) × P new)
 made_in made None code P Q is memory (inl same) = subst Q (sym same) memory

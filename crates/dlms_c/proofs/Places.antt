@@ -21,7 +21,7 @@ info_in s front (x ∷ xs) after i at text place =
     ∙ ap (λ t. take (length (x ∷ xs)) t) (sym (drop-drop (1 + length (checked front)) i s) ∙ ap (λ t. drop (1 + length (checked front)) t) (text ∙ parts) ∙ drop_at (126 ∷ checked front) (x ∷ xs ++ rest) (1 + length (checked front)) (omega arith))
     ∙ take_at (x ∷ xs) rest (length (x ∷ xs)) refl
 
--- the information of a frame that stands at i
+-- the information of a frame at i
 pub info_at : (s : List ℕ) (i j at : ℕ) (f : Parts) → FrameAt s i j f → at ≡ i + 6 + length (address_bytes f.dest) + length (address_bytes f.src)
     → take (length f.info) (drop at s) ≡ f.info
 info_at s i j at f stands place = info_in s (header_bytes (header_of f)) f.info stands.after i at stands.text (omega (arith, place, length-header_bytes (header_of f)))
@@ -48,7 +48,7 @@ found_in old new s n f small begins takes =
       next = subst (λ k. IsNext s 0 k (n - 1) f) first (subst (λ k. IsNext s 0 i k f) end all);
     }
 
--- where nothing was found there is nothing
+-- if nothing was found there is nothing
 pub no_frame : (old new s : List ℕ) → Fits old [] 0 → Takes old s None new → FramesOf s 0 []
 no_frame old new s begins takes i j f behind stands =
     let fits = takes [] 0 begins in

@@ -1,4 +1,4 @@
--- What a meter begins with: nothing, or what stands in slots; and why it does not begin.
+-- How a meter begins: with nothing, or with the contents of slots; and why it does not begin.
 use Rattle.std.specs.Prelude.{◌≡◌, ◌⊎◌, ℕ, List, [], None, false, MatchOption}
 use Rattle.rtrb.specs.Ring.{received}
 use Rattle.dlms_meter.specs.Run.{Stands, first_world, recovered}
@@ -35,20 +35,23 @@ pub record IsNew {P A : Type 0} {ghosts : Ghosts P} (meter : Meter P A ghosts) :
 abbrev pub IsNewKept : KeptMeter → Type 0
 IsNewKept k = Begins k × MatchOption k.meter ⊥ (λ meter. IsNew meter)
 
--- It was opened from the pages that stand in these slots, and has the state of the events that they stand for, all links down.
--- Where a store left them for events, these are settled in it; and what a stop at any moment since leaves is left for them too.
-pub record IsOpenedFrom {P A : Type 0} {ghosts : Ghosts P} (slots : List ℕ) (meter : Meter P A ghosts) : Type 0 where
+-- It was opened from the pages in these slots, and has the state of the events that they represent, all links down. If a store left
+-- them for events, these are settled in it; and a stop at any moment since leaves what represents them too.
+pub record IsOpenedFrom {P A : Type 0} {ghosts : Ghosts P} (slots : List ℕ)
+    (meter : Meter P A ghosts) : Type 0 where
   pub image : Image
   pub loaded : IsLoaded slots PAGES image
   pub opened : IsOpened image meter.store
-  pub stands : (events : List Event) → Remembers events [] meter.store → Stands meter (recovered events)
+  pub stands : (events : List Event) → Remembers events [] meter.store
+      → Stands meter (recovered events)
   pub fits : (events : List Event) → IsLeftFor events image → StoreFits meter.store (Runs events [])
-  pub any_moment : (events : List Event) → IsLeftFor events image → (left : Image) → (view_of meter.store).left_since 0 left → IsLeftFor events left
+  pub any_moment : (events : List Event) → IsLeftFor events image → (left : Image)
+      → (view_of meter.store).left_since 0 left → IsLeftFor events left
 
 abbrev pub IsRecovered : List ℕ → KeptMeter → Type 0
 IsRecovered slots k = Begins k × MatchOption k.meter ⊥ (λ meter. IsOpenedFrom slots meter)
 
--- What stands in these slots is why they are not opened, or the device failed. Where a store left them for events, it is want of
+-- The contents of these slots are why they are not opened, or the device failed. If a store left them for events, it is out of
 -- memory, a failed device or the last generation.
 pub record IsUnopened (slots : List ℕ) (fault : OpenFault) : Type 0 where
   pub image : Image
@@ -59,4 +62,5 @@ pub record IsUnopened (slots : List ℕ) (fault : OpenFault) : Type 0 where
 
 -- a growth was refused, or this is the code of why
 abbrev pub IsUnrecovered : List ℕ → ℕ → Type 0
-IsUnrecovered slots code = (code ≡ 32) ⊎ ((fault : OpenFault) × (code ≡ open_code fault) × IsUnopened slots fault)
+IsUnrecovered slots code = (code ≡ 32)
+    ⊎ ((fault : OpenFault) × (code ≡ open_code fault) × IsUnopened slots fault)

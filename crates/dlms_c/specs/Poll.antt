@@ -1,4 +1,4 @@
--- What the calls of a poller answer.
+-- The answers of a poller's calls.
 use Rattle.std.specs.Prelude.{◌≡◌, ◌≤◌, ℕ, Bool, true, false, if◌then◌else◌, List, [], ◌∷◌, length, take, Option, Some, None, Result, Ok, Err, IfNone, IfSome, IsSome, slice_index_or}
 use Rattle.dlms_data.specs.declared.date_time.TheConstants.{LAST_SECOND}
 use Rattle.dlms_frame.specs.Client.{client_of}
@@ -93,8 +93,9 @@ pub record TellsFault (fault : PollFault) (code : ℕ) (sent : List ℕ) (number
   pub none : sent ≡ []
   pub carried : number ≡ fault_number fault
 
--- What is answered of what the poll made of a frame: the code, the octets of the frame that is to be sent, and the fault's number.
-abbrev pub Tells : Option (Result PollStep PollFault) → (code : ℕ) (sent : List ℕ) (number : ℕ) → Type 0
+-- The answer for a poll's outcome: the code, the octets of the frame to send, and the fault's number.
+abbrev pub Tells : Option (Result PollStep PollFault) → (code : ℕ) (sent : List ℕ) (number : ℕ)
+    → Type 0
 Tells None code sent number = TellsOnly NOTHING code sent number
 Tells (Some (Ok Nothing)) code sent number = TellsOnly NOTHING code sent number
 Tells (Some (Ok (Send frame))) code sent number = TellsSend frame code sent number
@@ -107,40 +108,46 @@ TellsFrame None code sent = (code ≡ NOTHING) × (sent ≡ [])
 TellsFrame (Some frame) code sent = (code ≡ SEND) × FrameSpelling sent frame
 
 -- the same of a time-out
-abbrev pub TellsAgain : Option (Result Parts PollFault) → (code : ℕ) (sent : List ℕ) (number : ℕ) → Type 0
+abbrev pub TellsAgain : Option (Result Parts PollFault) → (code : ℕ) (sent : List ℕ) (number : ℕ)
+    → Type 0
 TellsAgain None code sent number = TellsOnly NOTHING code sent number
 TellsAgain (Some (Ok frame)) code sent number = TellsSend frame code sent number
 TellsAgain (Some (Err fault)) code sent number = TellsFault fault code sent number
 
--- What the poll makes of a frame after these APDUs. It is done only if they hold the rows, and memory is wanting only for an answer
+-- How the poll handles a frame after these APDUs. It is done only if they hold the rows, and out of memory comes only for an answer
 -- that needs some.
-pub record PollsFrame (apdus : List (List ℕ)) (f : Parts) (old : PollerValue) (made : Result PollStep PollFault) (new : PollerValue) : Type 0 where
+pub record PollsFrame (apdus : List (List ℕ)) (f : Parts) (old : PollerValue)
+    (made : Result PollStep PollFault) (new : PollerValue) : Type 0 where
   pub polls : Polls apdus f old made new
   pub done : made ≡ Ok Done → HasReleased old.plan.columns apdus new.talk.rows
   pub memory : old.course ≡ Running → made ≡ Err Memory → WantsMemory old apdus f
 
--- Octets through at most one frame of the stretch, what the poll makes of it, and what is answered of that.
-pub record TakesFrame (old : KeptPoller) (octets : List ℕ) (taken code : ℕ) (sent : List ℕ) (number : ℕ) (new : KeptPoller) : Type 0 where
+-- Octets through at most one frame of the stretch, how the poll handles it, and the answer.
+pub record TakesFrame (old : KeptPoller) (octets : List ℕ) (taken code : ℕ) (sent : List ℕ)
+    (number : ℕ) (new : KeptPoller) : Type 0 where
   pub within : taken ≤ length octets
   pub takes : Takes old.deframer.bytes (take taken octets) new.deframer.frame new.deframer.bytes
   pub step : Option (Result PollStep PollFault)
   pub none : new.deframer.frame ≡ None → (step ≡ None) × (new.poller ≡ old.poller)
   pub polls : (f : Parts) → new.deframer.frame ≡ Some f → IfSome step
-      (λ made. (apdus : List (List ℕ)) → Fits old.poller apdus → PollsFrame apdus f old.poller made new.poller)
+      (λ made. (apdus : List (List ℕ)) → Fits old.poller apdus
+      → PollsFrame apdus f old.poller made new.poller)
   pub some : (f : Parts) → new.deframer.frame ≡ Some f → IsSome step
   pub tells : Tells step code sent number
 
--- A time-out, and what is answered of it; nothing where none can be.
-pub record TimesOutOnce (old : KeptPoller) (code : ℕ) (sent : List ℕ) (number : ℕ) (new : KeptPoller) : Type 0 where
+-- A timeout, and its answer; nothing if there can be none.
+pub record TimesOutOnce (old : KeptPoller) (code : ℕ) (sent : List ℕ) (number : ℕ)
+    (new : KeptPoller) : Type 0 where
   pub again : Option (Result Parts PollFault)
   pub none : IfNone again ((CanTimeOut old.poller → ⊥) × (new ≡ old))
   pub some : IfSome again (λ made. CanTimeOut old.poller × TimesOut old.poller made new.poller)
   pub tells : TellsAgain again code sent number
 
--- this stands at the index
+-- this is at the index
 abbrev pub IsItem : {X : Type 0} → List X → ℕ → X → Type 0
 IsItem {X} xs index x = (d : X) → slice_index_or xs index d ≡ x
 
 -- a row's second and registers, in their order
 abbrev pub IsRow : PolledRow → Row → Type 0
-IsRow row polled = (row.second ≡ polled.clock) × (polled.registers ≡ row.active_import ∷ row.active_export ∷ row.reactive_import ∷ [])
+IsRow row polled = (row.second ≡ polled.clock)
+    × (polled.registers ≡ row.active_import ∷ row.active_export ∷ row.reactive_import ∷ [])

@@ -25,14 +25,14 @@ abbrev pub first_code : ℕ → ℕ → ℕ
 first_code zero other = other
 first_code (suc code) other = suc code
 
--- Why no reply is given: a page was lost, else pages wait. Which pages wait is what the relay saw in the call.
+-- Why no reply is returned: a page was lost, otherwise pages wait. The relay determines in the call which pages wait.
 abbrev pub reply_refusal_of : (old new : KeptMeter) → ℕ
 reply_refusal_of old new = first_code (lost_code old.is_lost) (pages_code (known_items new.relay))
 
--- Why octets, an event, a hang-up or a close is refused: a page was lost, else pages wait, else the meter is closed.
+-- Why octets, an event, a hang-up or a close is refused: a page was lost, otherwise pages wait, otherwise the meter is closed.
 abbrev pub refusal_of : (old new : KeptMeter) → ℕ
 refusal_of old new = first_code (reply_refusal_of old new) (closed_code old.meter)
 
--- Why a silence is refused: a page was lost, else the meter is closed. It writes no page, so it needs not wait for one.
+-- Why a silence is refused: a page was lost, otherwise the meter is closed. It writes no page, so it need not wait for one.
 abbrev pub idle_refusal_of : KeptMeter → ℕ
 idle_refusal_of old = first_code (lost_code old.is_lost) (closed_code old.meter)

@@ -1,4 +1,4 @@
-//! What a call returns.
+//! The codes that calls return.
 /// It is done.
 pub const DONE: u32 = 0;
 

@@ -33,7 +33,7 @@ fn side_of(number: u8) -> Option<Option<Side>>
     }
 }
 
-/// The text of the frames in these octets, and of what stands between them.
+/// The text of the frames in these octets, and of the octets between them.
 fn explained(alloc: Global, octets: &[u8]) -> Result<String, AllocError> {
     let mut text = String::new(alloc);
     let mut explainer = Explainer::new(alloc, Form::full());
@@ -49,7 +49,7 @@ fn explained_apdu(alloc: Global, side: Option<Side>, apdu: &[u8]) -> Result<Stri
     Ok(text)
 }
 
-/// Puts octets into the caller's room: all, or where it is too short none.
+/// Writes octets to the caller's buffer: all of them, or none if it is too short.
 fn put(told: &[u8], text: &mut [u8], size: &mut usize) -> u32
     ensures puts { Puts told.now text.old result size.new text.new }
     ensures code { (result ≡ DONE) ⊎ (result ≡ SHORT) }
@@ -63,9 +63,9 @@ fn put(told: &[u8], text: &mut [u8], size: &mut usize) -> u32
     DONE
 }
 
-/// Writes what the frames in these octets say, in the words of `dlms explain`, line by line: each frame's ends, control and checks,
-/// and the APDU in it; of secrets, and of strings that may be one, the length alone. Which end sends a frame is told by its
-/// addresses. `size` is how many octets the text has; where the room is too short, nothing is written.
+/// Explains the frames in these octets, in the words of `dlms explain`, line by line: each frame's ends, control and checks, and
+/// the APDU in it; of secrets, and of strings that may be one, only the length. A frame's sender is recognised by its addresses.
+/// `size` gets the number of octets of the text; if the buffer is too short, nothing is written.
 #[unsafe(no_mangle)]
 pub extern "C" fn dlms_explain(
     alloc: Global,
@@ -85,9 +85,9 @@ pub extern "C" fn dlms_explain(
     put(told.as_bytes(), text, size)
 }
 
-/// Writes what an APDU says that stands by itself, with no LLC before it, as a frame's does in `dlms_explain`: of what came before
-/// it nothing is known. `side` is who sent it: 1 the client, 2 the meter, 0 either. `size` is how many octets the text has; where
-/// the room is too short, nothing is written.
+/// Explains an APDU by itself, with no LLC before it, like that of a frame in `dlms_explain`: nothing is known of earlier ones.
+/// `side` is the sender: 1 the client, 2 the meter, 0 either. `size` gets the number of octets of the text; if the buffer is too
+/// short, nothing is written.
 #[unsafe(no_mangle)]
 pub extern "C" fn dlms_explain_apdu(
     alloc: Global,

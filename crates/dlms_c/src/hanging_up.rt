@@ -27,7 +27,7 @@ fn disc(client: Client) -> SentFrame
     )
 }
 
-/// Ends a client's link: behind a silence the meter takes the DISC of that client. What it replies goes nowhere.
+/// Ends a client's link: after a silence the meter takes the DISC of that client. Its reply is dropped.
 fn end_link<P: Pages, A: Allocator + Copy>(meter: &mut Meter<P, A>, client: Client)
     ensures { EndsLink client meter.old meter.new }
 {

@@ -1,4 +1,4 @@
-//! A meter, and what is to be done for it before its reply goes out.
+//! A meter, and the pages to be written before its reply goes out.
 ghost use Rattle.std.specs.Prelude.{◌≡◌, ◌≢◌, ◌⊎◌, ◌<◌, ◌≤◌, [], None, length, take, true, Ok, IfSome, IfNone, MatchOption, MatchResult, option_map};
 ghost use Rattle.rtrb.specs.Ring.{received};
 ghost use Rattle.dlms_c.specs.declared.codes.TheConstants.{CLOSED, DEVICE, DONE, MEMORY};
@@ -20,8 +20,8 @@ use std::alloc::Global;
 /// How many writes and syncs have room until they are taken.
 pub const ROOM: usize = 128;
 
-/// A meter whose pages another program keeps: what that program has not done yet stands in the relay, and a reply goes out
-/// behind it.
+/// A meter whose pages another program keeps: the calls that that program has not carried out yet are in the relay, and a reply
+/// goes out after them.
 #[derive(Drop)]
 pub struct KeptMeter {
     pub meter: Option<Meter<RelayedPages<Global>, Global>>,
@@ -61,7 +61,8 @@ fn feed_on(
     ensures left { IfNone result (meter.new ≡ meter.old) }
     ensures within { IfSome result (λ r. r.0 ≤ length octets.now) }
     ensures takes { IfSome result (λ r. 0 < length octets.now → 0 < r.0) }
-    ensures fed { IfSome result (λ r. Fed meter.old octets.now r.0 (option_map (λ reply. reply.items) r.1) meter.new) }
+    ensures fed { IfSome result (λ r. Fed meter.old octets.now r.0
+        (option_map (λ reply. reply.items) r.1) meter.new) }
 {
     match meter {
         Some(running) => Some(running.feed(octets)),
@@ -199,7 +200,7 @@ impl KeptMeter {
         }
     }
 
-    /// The next write or sync that is to be done; none where a page was lost.
+    /// The next write or sync to carry out; none if a page was lost.
     pub fn next_page(&mut self) -> Option<Call>
         ensures { HandsOut self.old result self.new }
     {
@@ -218,7 +219,8 @@ impl KeptMeter {
 
     /// The reply is put into room that is not too short for it, and is gone then; how many octets it has.
     pub fn give(&mut self, room: &mut [u8]) -> (u32, usize)
-        ensures { Replies self.old (length room.old) result.0 (take result.1 room.new) result.1 self.new }
+        ensures { Replies self.old (length room.old) result.0
+            (take result.1 room.new) result.1 self.new }
     {
         let code = self.is_clear();
         if code != DONE {

@@ -33,10 +33,13 @@ impl KeptPoller {
     /// Takes octets through at most one frame, and how many; what the poll makes of the frame, if there is one.
     pub fn on(&mut self, octets: &[u8]) -> (usize, Option<Result<PollStep, PollFault>>)
         ensures within { result.0 ≤ length octets.now }
-        ensures takes { Takes self.old.deframer.bytes (take result.0 octets.now) self.new.deframer.frame self.new.deframer.bytes }
-        ensures none { self.new.deframer.frame ≡ None → (result.1 ≡ None) × (self.new.poller ≡ self.old.poller) }
+        ensures takes { Takes self.old.deframer.bytes
+            (take result.0 octets.now) self.new.deframer.frame self.new.deframer.bytes }
+        ensures none { self.new.deframer.frame ≡ None
+            → (result.1 ≡ None) × (self.new.poller ≡ self.old.poller) }
         ensures polls { (f : Parts) → self.new.deframer.frame ≡ Some f
-            → IfSome result.1 (λ step. (apdus : List (List ℕ)) → Fits self.old.poller apdus → PollsFrame apdus f self.old.poller step self.new.poller) }
+            → IfSome result.1 (λ step. (apdus : List (List ℕ)) → Fits self.old.poller apdus
+            → PollsFrame apdus f self.old.poller step self.new.poller) }
         ensures some { (f : Parts) → self.new.deframer.frame ≡ Some f → IsSome result.1 }
     {
         let taken = self.deframer.feed(octets);
@@ -46,10 +49,11 @@ impl KeptPoller {
         }
     }
 
-    /// What comes of a time-out, where a frame is out or the poll has failed.
+    /// The outcome of a timeout, if a frame is out or the poll has failed.
     pub fn again(&mut self) -> Option<Result<SentFrame, PollFault>>
         ensures none { IfNone result ((CanTimeOut self.old.poller → ⊥) × (self.new ≡ self.old)) }
-        ensures again { IfSome result (λ again. CanTimeOut self.old.poller × TimesOut self.old.poller again self.new.poller) }
+        ensures again { IfSome result (λ again. CanTimeOut self.old.poller
+            × TimesOut self.old.poller again self.new.poller) }
     {
         if self.poller.is_waiting() {
             Some(self.poller.timeout())

@@ -21,7 +21,7 @@ use std::mem::replace;
 /// How many octets the slots of a meter have.
 const SLOTS: usize = dlms_store::PAGES as usize * SLOT_BYTES;
 
-/// What a meter shows.
+/// The state of a meter.
 #[repr(C)]
 #[derive(Clone, Copy)]
 pub struct MeterState {
@@ -33,7 +33,7 @@ pub struct MeterState {
     pub rows: usize,
 }
 
-/// A meter that was made is put into the handle; else the handle stays empty, and why is told.
+/// Puts a new meter into the handle; otherwise the handle stays empty, and the reason is returned.
 fn filled(alloc: Global, made: Result<KeptMeter, u32>, meter: &mut MeterHandle) -> u32
     requires { meter.old.value ≡ None }
     ensures { MatchOption meter.new.value
@@ -55,9 +55,11 @@ fn filled(alloc: Global, made: Result<KeptMeter, u32>, meter: &mut MeterHandle) 
 /// Makes a meter in which nothing has happened, in a handle that holds none.
 #[unsafe(no_mangle)]
 pub extern "C" fn dlms_meter_new(alloc: Global, meter: &mut MeterHandle) -> u32
-    ensures full { (old : KeptMeterOf) → meter.old.value ≡ Some old → (result ≡ FULL) × (meter.new.value ≡ Some old) }
+    ensures full { (old : KeptMeterOf) → meter.old.value ≡ Some old
+        → (result ≡ FULL) × (meter.new.value ≡ Some old) }
     ensures new { meter.old.value ≡ None
-        → MatchOption meter.new.value ((result ≡ MEMORY) ⊎ (result ≡ DEVICE)) (λ new. (result ≡ DONE) × IsNewKept new) }
+        → MatchOption meter.new.value ((result ≡ MEMORY)
+        ⊎ (result ≡ DEVICE)) (λ new. (result ≡ DONE) × IsNewKept new) }
 {
     let handle = replace(meter, none());
     if let Some(loose) = loosened(handle, alloc) {
@@ -70,10 +72,13 @@ pub extern "C" fn dlms_meter_new(alloc: Global, meter: &mut MeterHandle) -> u32
 /// Makes a meter with every event that these slots hold, in a handle that holds none.
 #[unsafe(no_mangle)]
 pub extern "C" fn dlms_meter_recover(alloc: Global, meter: &mut MeterHandle, slots: &[u8]) -> u32
-    ensures full { (old : KeptMeterOf) → meter.old.value ≡ Some old → (result ≡ FULL) × (meter.new.value ≡ Some old) }
-    ensures size { meter.old.value ≡ None → length slots.now < 33728 → (result ≡ SIZE) × (meter.new.value ≡ None) }
+    ensures full { (old : KeptMeterOf) → meter.old.value ≡ Some old
+        → (result ≡ FULL) × (meter.new.value ≡ Some old) }
+    ensures size { meter.old.value ≡ None → length slots.now < 33728
+        → (result ≡ SIZE) × (meter.new.value ≡ None) }
     ensures recovers { meter.old.value ≡ None → 33728 ≤ length slots.now
-        → MatchOption meter.new.value (IsUnrecovered slots.now result) (λ new. (result ≡ DONE) × IsRecovered slots.now new) }
+        → MatchOption meter.new.value (IsUnrecovered slots.now result) (λ new. (result ≡ DONE)
+        × IsRecovered slots.now new) }
 {
     let handle = replace(meter, none());
     if let Some(loose) = loosened(handle, alloc) {
@@ -86,7 +91,7 @@ pub extern "C" fn dlms_meter_recover(alloc: Global, meter: &mut MeterHandle, slo
     filled(alloc, KeptMeter::recover(alloc, slots), meter)
 }
 
-/// Takes octets through at most one frame. Its reply is given by `dlms_meter_reply`, behind the pages.
+/// Takes octets through at most one frame. Its reply is returned by `dlms_meter_reply`, after the pages.
 #[unsafe(no_mangle)]
 pub extern "C" fn dlms_meter_feed(
     alloc: Global,
@@ -94,8 +99,11 @@ pub extern "C" fn dlms_meter_feed(
     octets: &[u8],
     taken: &mut usize,
 ) -> u32
-    ensures empty { meter.old.value ≡ None → (result ≡ EMPTY) × (taken.new ≡ 0) × (meter.new.value ≡ None) }
-    ensures feeds { (old : KeptMeterOf) → meter.old.value ≡ Some old → (new : KeptMeterOf) × (meter.new.value ≡ Some new) × FeedsKept old octets.now result taken.new new }
+    ensures empty { meter.old.value ≡ None
+        → (result ≡ EMPTY) × (taken.new ≡ 0) × (meter.new.value ≡ None) }
+    ensures feeds { (old : KeptMeterOf) → meter.old.value ≡ Some old
+        → (new : KeptMeterOf) × (meter.new.value ≡ Some new)
+        × FeedsKept old octets.now result taken.new new }
 {
     *taken = 0;
     let handle = replace(meter, none());
@@ -118,7 +126,9 @@ pub extern "C" fn dlms_meter_pulses(
     count: u32,
 ) -> u32
     ensures empty { meter.old.value ≡ None → (result ≡ EMPTY) × (meter.new.value ≡ None) }
-    ensures judges { (old : KeptMeterOf) → meter.old.value ≡ Some old → (new : KeptMeterOf) × (meter.new.value ≡ Some new) × JudgesKept old (Pulses channel count) result new }
+    ensures judges { (old : KeptMeterOf) → meter.old.value ≡ Some old
+        → (new : KeptMeterOf) × (meter.new.value ≡ Some new)
+        × JudgesKept old (Pulses channel count) result new }
 {
     let handle = replace(meter, none());
     let Some(loose) = loosened(handle, alloc) else {
@@ -134,7 +144,9 @@ pub extern "C" fn dlms_meter_pulses(
 #[unsafe(no_mangle)]
 pub extern "C" fn dlms_meter_moment(alloc: Global, meter: &mut MeterHandle, second: u32) -> u32
     ensures empty { meter.old.value ≡ None → (result ≡ EMPTY) × (meter.new.value ≡ None) }
-    ensures judges { (old : KeptMeterOf) → meter.old.value ≡ Some old → (new : KeptMeterOf) × (meter.new.value ≡ Some new) × JudgesKept old (Moment second) result new }
+    ensures judges { (old : KeptMeterOf) → meter.old.value ≡ Some old
+        → (new : KeptMeterOf) × (meter.new.value ≡ Some new)
+        × JudgesKept old (Moment second) result new }
 {
     let handle = replace(meter, none());
     let Some(loose) = loosened(handle, alloc) else {
@@ -150,7 +162,8 @@ pub extern "C" fn dlms_meter_moment(alloc: Global, meter: &mut MeterHandle, seco
 #[unsafe(no_mangle)]
 pub extern "C" fn dlms_meter_idle(alloc: Global, meter: &mut MeterHandle) -> u32
     ensures empty { meter.old.value ≡ None → (result ≡ EMPTY) × (meter.new.value ≡ None) }
-    ensures idle { (old : KeptMeterOf) → meter.old.value ≡ Some old → (new : KeptMeterOf) × (meter.new.value ≡ Some new) × FallsSilentKept old result new }
+    ensures idle { (old : KeptMeterOf) → meter.old.value ≡ Some old
+        → (new : KeptMeterOf) × (meter.new.value ≡ Some new) × FallsSilentKept old result new }
 {
     let handle = replace(meter, none());
     let Some(loose) = loosened(handle, alloc) else {
@@ -166,7 +179,8 @@ pub extern "C" fn dlms_meter_idle(alloc: Global, meter: &mut MeterHandle) -> u32
 #[unsafe(no_mangle)]
 pub extern "C" fn dlms_meter_hang_up(alloc: Global, meter: &mut MeterHandle) -> u32
     ensures empty { meter.old.value ≡ None → (result ≡ EMPTY) × (meter.new.value ≡ None) }
-    ensures hangs_up { (old : KeptMeterOf) → meter.old.value ≡ Some old → (new : KeptMeterOf) × (meter.new.value ≡ Some new) × HangsUpKept old result new }
+    ensures hangs_up { (old : KeptMeterOf) → meter.old.value ≡ Some old
+        → (new : KeptMeterOf) × (meter.new.value ≡ Some new) × HangsUpKept old result new }
 {
     let handle = replace(meter, none());
     let Some(loose) = loosened(handle, alloc) else {
@@ -190,7 +204,8 @@ fn put_slot(whole: &[u8; SLOT_BYTES], slot: &mut [u8])
 fn put_page(is_lost: bool, call: &Option<Call>, index: &mut u16, slot: &mut [u8]) -> u32
     requires { SLOT_BYTES ≤ length slot.old }
     ensures lost { is_lost ≡ true → result ≡ LOST }
-    ensures tells { is_lost ≡ false → TellsPage call.now result index.new (take SLOT_BYTES slot.new) }
+    ensures tells { is_lost ≡ false
+        → TellsPage call.now result index.new (take SLOT_BYTES slot.new) }
 {
     if is_lost {
         return LOST;
@@ -206,7 +221,7 @@ fn put_page(is_lost: bool, call: &Option<Call>, index: &mut u16, slot: &mut [u8]
     }
 }
 
-/// The next write or sync that is to be done. Of a room of less than 544 octets nothing is done.
+/// The next write or sync to carry out. With a buffer of less than 544 octets nothing is done.
 #[unsafe(no_mangle)]
 pub extern "C" fn dlms_meter_page(
     alloc: Global,
@@ -215,9 +230,11 @@ pub extern "C" fn dlms_meter_page(
     slot: &mut [u8],
 ) -> u32
     ensures empty { meter.old.value ≡ None → (result ≡ EMPTY) × (meter.new.value ≡ None) }
-    ensures short { (old : KeptMeterOf) → meter.old.value ≡ Some old → length slot.old < SLOT_BYTES → (result ≡ SHORT) × (meter.new.value ≡ Some old) }
+    ensures short { (old : KeptMeterOf) → meter.old.value ≡ Some old → length slot.old < SLOT_BYTES
+        → (result ≡ SHORT) × (meter.new.value ≡ Some old) }
     ensures page { (old : KeptMeterOf) → meter.old.value ≡ Some old → SLOT_BYTES ≤ length slot.old
-        → (new : KeptMeterOf) × (meter.new.value ≡ Some new) × HandsPage old result index.new (take SLOT_BYTES slot.new) new }
+        → (new : KeptMeterOf) × (meter.new.value ≡ Some new)
+        × HandsPage old result index.new (take SLOT_BYTES slot.new) new }
 {
     let handle = replace(meter, none());
     let Some(loose) = loosened(handle, alloc) else {
@@ -238,7 +255,8 @@ pub extern "C" fn dlms_meter_page(
 #[unsafe(no_mangle)]
 pub extern "C" fn dlms_meter_page_failed(alloc: Global, meter: &mut MeterHandle) -> u32
     ensures empty { meter.old.value ≡ None → (result ≡ EMPTY) × (meter.new.value ≡ None) }
-    ensures lost { (old : KeptMeterOf) → meter.old.value ≡ Some old → (result ≡ DONE) × (meter.new.value ≡ Some (record old { is_lost = true })) }
+    ensures lost { (old : KeptMeterOf) → meter.old.value ≡ Some old
+        → (result ≡ DONE) × (meter.new.value ≡ Some (record old { is_lost = true })) }
 {
     let handle = replace(meter, none());
     let Some(loose) = loosened(handle, alloc) else {
@@ -250,8 +268,8 @@ pub extern "C" fn dlms_meter_page_failed(alloc: Global, meter: &mut MeterHandle)
     DONE
 }
 
-/// The reply to the frame that was fed last, once, behind all pages. Where the room is too short nothing is done but that `size`
-/// says how much is needed.
+/// The reply to the frame that was fed last, once, after all pages. If the buffer is too short nothing is done except that `size`
+/// gets the required size.
 #[unsafe(no_mangle)]
 pub extern "C" fn dlms_meter_reply(
     alloc: Global,
@@ -259,9 +277,11 @@ pub extern "C" fn dlms_meter_reply(
     frame: &mut [u8],
     size: &mut usize,
 ) -> u32
-    ensures empty { meter.old.value ≡ None → (result ≡ EMPTY) × (size.new ≡ 0) × (meter.new.value ≡ None) }
+    ensures empty { meter.old.value ≡ None
+        → (result ≡ EMPTY) × (size.new ≡ 0) × (meter.new.value ≡ None) }
     ensures reply { (old : KeptMeterOf) → meter.old.value ≡ Some old
-        → (new : KeptMeterOf) × (meter.new.value ≡ Some new) × Replies old (length frame.old) result (take size.new frame.new) size.new new }
+        → (new : KeptMeterOf) × (meter.new.value ≡ Some new)
+        × Replies old (length frame.old) result (take size.new frame.new) size.new new }
 {
     *size = 0;
     let handle = replace(meter, none());
@@ -275,7 +295,7 @@ pub extern "C" fn dlms_meter_reply(
     code
 }
 
-/// What a meter that is there shows.
+/// The state of a meter, if there is one.
 fn state_on(meter: &Option<Meter<RelayedPages<Global>, Global>>, state: &mut MeterState) -> u32
     ensures code { result ≡ closed_code meter.now }
     ensures left { result ≢ DONE → state.new ≡ state.old }
@@ -299,7 +319,7 @@ fn state_on(meter: &Option<Meter<RelayedPages<Global>, Global>>, state: &mut Met
     }
 }
 
-/// What the meter shows.
+/// The state of the meter.
 #[unsafe(no_mangle)]
 pub extern "C" fn dlms_meter_state(
     alloc: Global,
@@ -307,9 +327,11 @@ pub extern "C" fn dlms_meter_state(
     state: &mut MeterState,
 ) -> u32
     ensures empty { meter.old.value ≡ None → (result ≡ EMPTY) × (meter.new.value ≡ None) }
-    ensures kept { (old : KeptMeterOf) → meter.old.value ≡ Some old → (result ≡ closed_code old.meter) × (meter.new.value ≡ Some old) }
+    ensures kept { (old : KeptMeterOf) → meter.old.value ≡ Some old
+        → (result ≡ closed_code old.meter) × (meter.new.value ≡ Some old) }
     ensures left { result ≢ DONE → state.new ≡ state.old }
-    ensures state { (old : KeptMeterOf) → meter.old.value ≡ Some old → result ≡ DONE → Shows old.meter state.new }
+    ensures state { (old : KeptMeterOf) → meter.old.value ≡ Some old → result ≡ DONE
+        → Shows old.meter state.new }
 {
     let handle = replace(meter, none());
     let Some(loose) = loosened(handle, alloc) else {
@@ -325,7 +347,8 @@ pub extern "C" fn dlms_meter_state(
 #[unsafe(no_mangle)]
 pub extern "C" fn dlms_meter_close(alloc: Global, meter: &mut MeterHandle) -> u32
     ensures empty { meter.old.value ≡ None → (result ≡ EMPTY) × (meter.new.value ≡ None) }
-    ensures closes { (old : KeptMeterOf) → meter.old.value ≡ Some old → (new : KeptMeterOf) × (meter.new.value ≡ Some new) × Closes old result new }
+    ensures closes { (old : KeptMeterOf) → meter.old.value ≡ Some old
+        → (new : KeptMeterOf) × (meter.new.value ≡ Some new) × Closes old result new }
 {
     let handle = replace(meter, none());
     let Some(loose) = loosened(handle, alloc) else {
@@ -337,7 +360,7 @@ pub extern "C" fn dlms_meter_close(alloc: Global, meter: &mut MeterHandle) -> u3
     code
 }
 
-/// Lets a meter go, and what it had not settled.
+/// Drops a meter, and everything that it had not settled.
 #[unsafe(no_mangle)]
 pub extern "C" fn dlms_meter_free(alloc: Global, meter: &mut MeterHandle)
     ensures { meter.new.value ≡ None }

@@ -40,11 +40,11 @@ pub struct FrameAddress {
 #[repr(C)]
 #[derive(Clone, Copy)]
 pub struct FramePlace {
-    /// How many octets stand before its opening flag.
+    /// The number of octets before its opening flag.
     pub start: usize,
     /// How many octets the buffer has up to and with its closing flag.
     pub end: usize,
-    /// How many octets stand before its information, and how many the information has.
+    /// The number of octets before its information, and of the information itself.
     pub information: usize,
     pub information_length: usize,
     pub destination: FrameAddress,
@@ -75,8 +75,8 @@ fn told(address: Address) -> FrameAddress
     }
 }
 
-/// Finds the first frame that is whole in these octets: of those that end first, the one that begins earliest. Whether there is
-/// one; where there is none, the place is left as it was.
+/// Finds the first complete frame in these octets: of those that end first, the one that begins earliest. Returns whether there is
+/// one; if there is none, the place is left as it was.
 #[unsafe(no_mangle)]
 pub extern "C" fn dlms_next_frame(octets: &[u8], place: &mut FramePlace) -> bool
     ensures found { result ≡ true → (f : Parts) × IsFirst octets.now place.new f }

@@ -24,7 +24,7 @@ use dlms_headend::{Columns, Plan, PollFault, PollStep, Row};
 use std::alloc::Global;
 use std::mem::replace;
 
-/// What is polled.
+/// The plan of a poll.
 #[repr(C)]
 #[derive(Clone, Copy)]
 pub struct PollPlan {
@@ -174,7 +174,8 @@ fn put_again(
 /// Puts the row of this index.
 fn put_row(rows: &[Row], index: usize, row: &mut PolledRow) -> u32
     ensures none { length rows.now ≤ index → (result ≡ NOTHING) × (row.new ≡ row.old) }
-    ensures row { index < length rows.now → (polled : RowOf) × (result ≡ DONE) × IsItem rows.now index polled × IsRow row.new polled }
+    ensures row { index < length rows.now
+        → (polled : RowOf) × (result ≡ DONE) × IsItem rows.now index polled × IsRow row.new polled }
 {
     let Some(polled) = rows.get(index) else {
         return NOTHING;
@@ -197,10 +198,13 @@ pub extern "C" fn dlms_poller_new(
     plan: &PollPlan,
     secret: &[u8],
 ) -> u32
-    ensures full { (old : KeptPollerOf) → poller.old.value ≡ Some old → (result ≡ FULL) × (poller.new.value ≡ Some old) }
-    ensures argument { poller.old.value ≡ None → (CanPoll plan.now secret.now → ⊥) → (result ≡ ARGUMENT) × (poller.new.value ≡ None) }
+    ensures full { (old : KeptPollerOf) → poller.old.value ≡ Some old
+        → (result ≡ FULL) × (poller.new.value ≡ Some old) }
+    ensures argument { poller.old.value ≡ None → (CanPoll plan.now secret.now → ⊥)
+        → (result ≡ ARGUMENT) × (poller.new.value ≡ None) }
     ensures new { poller.old.value ≡ None → CanPoll plan.now secret.now
-        → MatchOption poller.new.value (result ≡ MEMORY) (λ new. (result ≡ DONE) × IsNewPoller plan.now secret.now new) }
+        → MatchOption poller.new.value (result ≡ MEMORY) (λ new. (result ≡ DONE)
+        × IsNewPoller plan.now secret.now new) }
 {
     let handle = replace(poller, none());
     if let Some(loose) = loosened(handle, alloc) {
@@ -219,7 +223,7 @@ pub extern "C" fn dlms_poller_new(
     }
 }
 
-/// The first frame of the poll, once; none from then on. Of a room of less than 160 octets nothing is done.
+/// The first frame of the poll, once; none from then on. With a buffer of less than 160 octets nothing is done.
 #[unsafe(no_mangle)]
 pub extern "C" fn dlms_poller_next(
     alloc: Global,
@@ -227,11 +231,14 @@ pub extern "C" fn dlms_poller_next(
     frame: &mut [u8],
     size: &mut usize,
 ) -> u32
-    ensures empty { poller.old.value ≡ None → (result ≡ EMPTY) × (size.new ≡ 0) × (poller.new.value ≡ None) }
-    ensures short { (old : KeptPollerOf) → poller.old.value ≡ Some old → length frame.old < MOST_TEXT
+    ensures empty { poller.old.value ≡ None
+        → (result ≡ EMPTY) × (size.new ≡ 0) × (poller.new.value ≡ None) }
+    ensures short { (old : KeptPollerOf) → poller.old.value ≡ Some old
+        → length frame.old < MOST_TEXT
         → (result ≡ SHORT) × (size.new ≡ 0) × (poller.new.value ≡ Some old) }
     ensures next { (old : KeptPollerOf) → poller.old.value ≡ Some old → MOST_TEXT ≤ length frame.old
-        → (new : KeptPollerOf) × (due : Option Parts) × (poller.new.value ≡ Some new) × Begins old.poller due new.poller × TellsFrame due result (take size.new frame.new) }
+        → (new : KeptPollerOf) × (due : Option Parts) × (poller.new.value ≡ Some new)
+        × Begins old.poller due new.poller × TellsFrame due result (take size.new frame.new) }
 {
     *size = 0;
     let handle = replace(poller, none());
@@ -248,8 +255,8 @@ pub extern "C" fn dlms_poller_next(
     put_due(&due, frame, size)
 }
 
-/// Takes octets of the meter through at most one frame, and tells what the poll makes of it: nothing, a frame that is to be sent,
-/// that the poll is done, or why it failed. Of a room of less than 160 octets nothing is done.
+/// Takes octets of the meter through at most one frame, and returns the outcome: nothing, a frame to send, that the poll is done,
+/// or why it failed. With a buffer of less than 160 octets nothing is done.
 #[unsafe(no_mangle)]
 pub extern "C" fn dlms_poller_on(
     alloc: Global,
@@ -260,11 +267,16 @@ pub extern "C" fn dlms_poller_on(
     size: &mut usize,
     number: &mut u8,
 ) -> u32
-    ensures empty { poller.old.value ≡ None → (result ≡ EMPTY) × (taken.new ≡ 0) × (size.new ≡ 0) × (number.new ≡ 0) × (poller.new.value ≡ None) }
-    ensures short { (old : KeptPollerOf) → poller.old.value ≡ Some old → length frame.old < MOST_TEXT
-        → (result ≡ SHORT) × (taken.new ≡ 0) × (size.new ≡ 0) × (number.new ≡ 0) × (poller.new.value ≡ Some old) }
+    ensures empty { poller.old.value ≡ None
+        → (result ≡ EMPTY) × (taken.new ≡ 0) × (size.new ≡ 0) × (number.new ≡ 0)
+        × (poller.new.value ≡ None) }
+    ensures short { (old : KeptPollerOf) → poller.old.value ≡ Some old
+        → length frame.old < MOST_TEXT
+        → (result ≡ SHORT) × (taken.new ≡ 0) × (size.new ≡ 0) × (number.new ≡ 0)
+        × (poller.new.value ≡ Some old) }
     ensures on { (old : KeptPollerOf) → poller.old.value ≡ Some old → MOST_TEXT ≤ length frame.old
-        → (new : KeptPollerOf) × (poller.new.value ≡ Some new) × TakesFrame old octets.now taken.new result (take size.new frame.new) number.new new }
+        → (new : KeptPollerOf) × (poller.new.value ≡ Some new)
+        × TakesFrame old octets.now taken.new result (take size.new frame.new) number.new new }
 {
     *taken = 0;
     *size = 0;
@@ -284,7 +296,7 @@ pub extern "C" fn dlms_poller_on(
     put_step(&step, frame, size, number)
 }
 
-/// A time-out of the frame that is out, which goes again; the fourth in a row is a fault. Nothing where no frame is out.
+/// A timeout of the frame that is out, which goes again; the fourth in a row is a fault. Nothing if no frame is out.
 #[unsafe(no_mangle)]
 pub extern "C" fn dlms_poller_timeout(
     alloc: Global,
@@ -293,11 +305,15 @@ pub extern "C" fn dlms_poller_timeout(
     size: &mut usize,
     number: &mut u8,
 ) -> u32
-    ensures empty { poller.old.value ≡ None → (result ≡ EMPTY) × (size.new ≡ 0) × (number.new ≡ 0) × (poller.new.value ≡ None) }
-    ensures short { (old : KeptPollerOf) → poller.old.value ≡ Some old → length frame.old < MOST_TEXT
+    ensures empty { poller.old.value ≡ None
+        → (result ≡ EMPTY) × (size.new ≡ 0) × (number.new ≡ 0) × (poller.new.value ≡ None) }
+    ensures short { (old : KeptPollerOf) → poller.old.value ≡ Some old
+        → length frame.old < MOST_TEXT
         → (result ≡ SHORT) × (size.new ≡ 0) × (number.new ≡ 0) × (poller.new.value ≡ Some old) }
-    ensures timeout { (old : KeptPollerOf) → poller.old.value ≡ Some old → MOST_TEXT ≤ length frame.old
-        → (new : KeptPollerOf) × (poller.new.value ≡ Some new) × TimesOutOnce old result (take size.new frame.new) number.new new }
+    ensures timeout { (old : KeptPollerOf) → poller.old.value ≡ Some old
+        → MOST_TEXT ≤ length frame.old
+        → (new : KeptPollerOf) × (poller.new.value ≡ Some new)
+        × TimesOutOnce old result (take size.new frame.new) number.new new }
 {
     *size = 0;
     *number = 0;
@@ -322,8 +338,11 @@ pub extern "C" fn dlms_poller_rows(
     poller: &mut PollerHandle,
     count: &mut usize,
 ) -> u32
-    ensures empty { poller.old.value ≡ None → (result ≡ EMPTY) × (count.new ≡ 0) × (poller.new.value ≡ None) }
-    ensures rows { (old : KeptPollerOf) → poller.old.value ≡ Some old → (result ≡ DONE) × (count.new ≡ length old.poller.talk.rows) × (poller.new.value ≡ Some old) }
+    ensures empty { poller.old.value ≡ None
+        → (result ≡ EMPTY) × (count.new ≡ 0) × (poller.new.value ≡ None) }
+    ensures rows { (old : KeptPollerOf) → poller.old.value ≡ Some old
+        → (result ≡ DONE) × (count.new ≡ length old.poller.talk.rows)
+        × (poller.new.value ≡ Some old) }
 {
     *count = 0;
     let handle = replace(poller, none());
@@ -336,7 +355,7 @@ pub extern "C" fn dlms_poller_rows(
     DONE
 }
 
-/// The row of this index, counted from 0; nothing where there is none.
+/// The row with this index, counted from 0; nothing if there is none.
 #[unsafe(no_mangle)]
 pub extern "C" fn dlms_poller_row(
     alloc: Global,
@@ -345,9 +364,14 @@ pub extern "C" fn dlms_poller_row(
     row: &mut PolledRow,
 ) -> u32
     ensures empty { poller.old.value ≡ None → (result ≡ EMPTY) × (poller.new.value ≡ None) }
-    ensures kept { (old : KeptPollerOf) → poller.old.value ≡ Some old → poller.new.value ≡ Some old }
-    ensures none { (old : KeptPollerOf) → poller.old.value ≡ Some old → length old.poller.talk.rows ≤ index → (result ≡ NOTHING) × (row.new ≡ row.old) }
-    ensures row { (old : KeptPollerOf) → poller.old.value ≡ Some old → index < length old.poller.talk.rows → (polled : RowOf) × (result ≡ DONE) × IsItem old.poller.talk.rows index polled × IsRow row.new polled }
+    ensures kept { (old : KeptPollerOf) → poller.old.value ≡ Some old
+        → poller.new.value ≡ Some old }
+    ensures none { (old : KeptPollerOf) → poller.old.value ≡ Some old
+        → length old.poller.talk.rows ≤ index → (result ≡ NOTHING) × (row.new ≡ row.old) }
+    ensures row { (old : KeptPollerOf) → poller.old.value ≡ Some old
+        → index < length old.poller.talk.rows
+        → (polled : RowOf) × (result ≡ DONE) × IsItem old.poller.talk.rows index polled
+        × IsRow row.new polled }
 {
     let handle = replace(poller, none());
     let Some(loose) = loosened(handle, alloc) else {

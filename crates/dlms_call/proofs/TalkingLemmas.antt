@@ -23,14 +23,14 @@ use Rattle.dlms_ends.proofs.MomentLemmas.{adds_as, adds_more, adds_none, adds_st
 use Rattle.dlms_call.specs.Asking.{DialFails, FailsToDial, TakesTurnWithin, joined_in}
 use Rattle.dlms_call.specs.Asking.FailsToDial.{HasNoRoom, IsBroken}
 use Rattle.dlms_call.specs.Asking.TakesTurnWithin.{IsBeyond, IsWithin}
-use Rattle.dlms_call.specs.Talking.{Act, Acts, AreListening, Did, Does, Ends, Gives, GivesAgain, IsAt, IsHearing, IsIn, IsOfSystem, Listened, Repeats, SendsFrame, TakesFrame, TakesPiece, TakesTurn, TalkWorld, Turned, behind, moments_by, moments_of, piece_by, pieces_in, told_by, told_by_step}
+use Rattle.dlms_call.specs.Talking.{Act, Acts, AreListening, Did, Does, Ends, Gives, GivesAgain, IsAt, IsHearing, IsIn, IsOfSystem, Listened, Repeats, SendsFrame, TellsError, TakesFrame, TakesPiece, TakesTurn, TalkWorld, Turned, behind, moments_by, moments_of, piece_by, pieces_in, told_by, told_by_step}
 use Rattle.dlms_call.specs.Talking.Act.{Gets, Skips, Hears, Waits}
 use Rattle.dlms_call.specs.Talking.Ends.{Tells, BreaksReading, BreaksSending, Floods, NoneIsOut, Tires}
 use Rattle.dlms_call.specs.Talking.Repeats.{IsIdle, IsTold}
 use Rattle.dlms_call.specs.declared.client_end.ClientEnd.{ClientEnd}
 use Rattle.dlms_call.specs.declared.client_end.TheConstants.{READS}
-use Rattle.dlms_call.specs.declared.client_end.Turn.{Turn}
-use Rattle.dlms_call.specs.declared.client_end.Turn.TheVariants.{Sent}
+use Rattle.dlms_call.specs.declared.client_end.ClientTurn.{ClientTurn}
+use Rattle.dlms_call.specs.declared.client_end.ClientTurn.TheVariants.{Sent}
 use Rattle.dlms_call.specs.declared.fault.CallFault.{CallFault}
 use Rattle.dlms_call.specs.declared.fault.CallFault.TheVariants.{Memory, Talk, TooLarge}
 
@@ -66,7 +66,7 @@ did_none past t = record { does = refl; happened = adds_none past }
 
 -- ---- the frames of a piece
 
--- of none of them anything was told so far, and this rest is to be taken
+-- none of them had an outcome so far, and this rest is to be taken
 pub record Listening {A : Type 0} (old now : Option (List Moment)) (t : TalkWorld) (end : ClientEnd A) (rest : List ℕ) : Type 0 where
   pub acts : List Act
   pub world : TalkWorld
@@ -124,7 +124,7 @@ hears end world rest piece left kept frame given after at taken cut takes comes 
       is_rest = f.3;
     }
 
--- one of which nothing is told
+-- one without an outcome
 heard_none : {A : Type 0} (old now new : Option (List Moment)) (t : TalkWorld) (end end' : ClientEnd A) (rest piece left kept : List ℕ) (frame : Parts) (given : Result Step Fault)
     → piece ++ left ≡ rest → TakesBytes end.deframer.bytes piece (Some frame) kept → Comes end.client frame given end'.client → end'.deframer.bytes ≡ kept → end'.left ≡ end.left
     → Listening old now t end rest → Gives now new given None → Listening old new t end' left
@@ -145,8 +145,8 @@ pub fed_none : {A : Type 0} (old now new : Option (List Moment)) (start end end'
 fed_none old now new start end end' bytes rest piece left kept frame cut so_far takes (given, comes, gives) same may t at taken =
     heard_none old now new t end end' rest piece left kept frame given cut takes comes same may (so_far t at taken) gives
 
--- one of which something is told
-told_at : (count : ℕ) (old new : Option (List Moment)) (t t' : TalkWorld) (piece : List ℕ) (frame : Parts) (given : Result Step Fault) (result : Result Turn CallFault)
+-- one with an outcome
+told_at : (count : ℕ) (old new : Option (List Moment)) (t t' : TalkWorld) (piece : List ℕ) (frame : Parts) (given : Result Step Fault) (result : Result ClientTurn CallFault)
     → IsHearing t piece frame given t' → Gives old new given (Some result) → Ends count old new t t' result
 told_at count old new t t' piece frame (Ok step.Nothing) result hears (told, adds) = absurd (cc told)
 told_at count old new t t' piece frame (Ok (step.Send next)) (Ok turn) hears (is, adds) = Tells (Hears piece frame (Ok (step.Send next))) (rw is refl) hears adds
@@ -157,8 +157,8 @@ told_at count old new t t' piece frame (Ok (step.Answered answer)) result hears 
 told_at count old new t t' piece frame (Ok step.Down) result hears (told, adds) = Tells (Hears piece frame (Ok step.Down)) (sym told) hears adds
 told_at count old new t t' piece frame (Err e) result hears (told, adds) = Tells (Hears piece frame (Err e)) (sym told) hears adds
 
--- behind which what is left is dropped
-is_told : (old new : Option (List Moment)) (given : Result Step Fault) (result : Result Turn CallFault) (inflow : Inflow) → Gives old new given (Some result) → behind (told_by_step given) inflow ≡ cleared inflow
+-- after which the rest is dropped
+is_told : (old new : Option (List Moment)) (given : Result Step Fault) (result : Result ClientTurn CallFault) (inflow : Inflow) → Gives old new given (Some result) → behind (told_by_step given) inflow ≡ cleared inflow
 is_told old new (Ok step.Nothing) result inflow (told, adds) = absurd (cc told)
 is_told old new (Ok (step.Send next)) result inflow gives = refl
 is_told old new (Ok step.Associated) result inflow gives = refl
@@ -166,7 +166,7 @@ is_told old new (Ok (step.Answered answer)) result inflow gives = refl
 is_told old new (Ok step.Down) result inflow gives = refl
 is_told old new (Err e) result inflow gives = refl
 
-pub fed_some : {A : Type 0} (old now new : Option (List Moment)) (start end end' : ClientEnd A) (bytes rest piece left kept : List ℕ) (frame : Parts) (result : Result Turn CallFault)
+pub fed_some : {A : Type 0} (old now new : Option (List Moment)) (start end end' : ClientEnd A) (bytes rest piece left kept : List ℕ) (frame : Parts) (result : Result ClientTurn CallFault)
     → piece ++ left ≡ rest → EndFed old now start end bytes rest → TakesBytes end.deframer.bytes piece (Some frame) kept → TakesFrame now new end.client frame end'.client (Some result)
     → Fits end'.deframer.bytes [] 0 → end'.left ≡ end.left → (t : TalkWorld) → IsAt start t → t.inflow.rest ≡ bytes → TakesPiece old new t end' (Some result)
 fed_some old now new start end end' bytes rest piece left kept frame result cut so_far takes (given, comes, gives) idle may t at taken =
@@ -195,7 +195,7 @@ fed_all old now start end bytes rest none so_far t at taken =
 
 -- ---- a turn
 
--- so many pieces came, and nothing was told
+-- this many pieces arrived, and none had an outcome
 pub record TurnSoFar {A : Type 0} (old now : Option (List Moment)) (t : TalkWorld) (end : ClientEnd A) (count : ℕ) : Type 0 where
   pub front : List Act
   pub mid : TalkWorld
@@ -210,8 +210,8 @@ EndSoFar old now start end count = (t : TalkWorld) → IsIn start t → TurnSoFa
 pub so_far_start : {A : Type 0} (past : Option (List Moment)) (end : ClientEnd A) → EndSoFar past past end end 0
 so_far_start past end = λ t stands. record { front = []; mid = t; listens = tt; pieces = refl; did = did_none past t; stands = stands }
 
--- what ends a turn behind no piece ends it behind any number of them
-ends_behind : (count : ℕ) (old new : Option (List Moment)) (t t' : TalkWorld) (result : Result Turn CallFault) → Ends 0 old new t t' result → Ends count old new t t' result
+-- the end of a turn after no piece is its end after any number of them
+ends_behind : (count : ℕ) (old new : Option (List Moment)) (t t' : TalkWorld) (result : Result ClientTurn CallFault) → Ends 0 old new t t' result → Ends count old new t t' result
 ends_behind count old new t t' result (Tells act told does adds) = Tells act told does adds
 ends_behind count old new t t' result (BreaksReading f error is told same adds) = BreaksReading f error is told same adds
 ends_behind count old new t t' result (BreaksSending act frame f is told gives does part missing begins adds) = BreaksSending act frame f is told gives does part missing begins adds
@@ -219,7 +219,7 @@ ends_behind count old new t t' result (Floods bytes told more same adds) = Flood
 ends_behind count old new t t' result (NoneIsOut told none same adds) = NoneIsOut told none same adds
 ends_behind count old new t t' result (Tires told all same adds) = absurd (omega (arith, all))
 
-turned_behind : (old now new : Option (List Moment)) (t m t' : TalkWorld) (result : Result Turn CallFault) (front : List Act) → AreListening front → Did old now t front m → Turned 0 now new m t' result → TakesTurn old new result t t'
+turned_behind : (old now new : Option (List Moment)) (t m t' : TalkWorld) (result : Result ClientTurn CallFault) (front : List Act) → AreListening front → Did old now t front m → Turned 0 now new m t' result → TakesTurn old new result t t'
 turned_behind old now new t m t' result front listens did turned =
     let count = pieces_in (front ++ turned.front) in (
       count,
@@ -234,7 +234,7 @@ turned_behind old now new t m t' result front listens did turned =
       },
     )
 
-ends_turn : {A : Type 0} (old now new : Option (List Moment)) (t t' : TalkWorld) (end : ClientEnd A) (count : ℕ) (result : Result Turn CallFault) → (s : TurnSoFar old now t end count) → Ends count now new s.mid t' result → TakesTurn old new result t t'
+ends_turn : {A : Type 0} (old now new : Option (List Moment)) (t t' : TalkWorld) (end : ClientEnd A) (count : ℕ) (result : Result ClientTurn CallFault) → (s : TurnSoFar old now t end count) → Ends count now new s.mid t' result → TakesTurn old new result t t'
 ends_turn old now new t t' end count result s ends = (count, record { front = s.front; mid = s.mid; now = now; listens = s.listens; pieces = s.pieces; did = s.did; ends = ends })
 
 -- a piece came, and is counted
@@ -251,8 +251,8 @@ gets end end' t bytes count stands long within counted =
       b.3,
     )
 
--- and something was told of it
-pub turn_ends : {A : Type 0} (old now mid new : Option (List Moment)) (start end end' end'' : ClientEnd A) (count room : ℕ) (bytes : List ℕ) (result : Result Turn CallFault) → EndSoFar old now start end count → Adds now mid (Came bytes ∷ [])
+-- and it had an outcome
+pub turn_ends : {A : Type 0} (old now mid new : Option (List Moment)) (start end end' end'' : ClientEnd A) (count room : ℕ) (bytes : List ℕ) (result : Result ClientTurn CallFault) → EndSoFar old now start end count → Adds now mid (Came bytes ∷ [])
     → length bytes ≡ room → room ≤ end.left → end' ≡ record end { left = end.left - room } → ((t : TalkWorld) → IsAt end' t → t.inflow.rest ≡ bytes → TakesPiece mid new t end'' (Some result))
     → (t : TalkWorld) → IsIn start t → (t' : TalkWorld) × IsIn end'' t' × TakesTurn old new result t t'
 turn_ends old now mid new start end end' end'' count room bytes result so_far came long within counted ends t stands =
@@ -289,7 +289,7 @@ turn_floods old now new start end end' count room bytes so_far came long more sa
     (s.mid, subst (λ (e : ClientEnd _). IsIn e s.mid) (sym same) s.stands, ends_turn old now new t s.mid end count (Err (Talk fault.Form)) s (Floods bytes refl many refl came))
 
 -- a read failed
-pub turn_unheard : {A : Type 0} (old now new : Option (List Moment)) (start end : ClientEnd A) (count : ℕ) (why : CallFault) (error : Error) → EndSoFar old now start end count → Adds now new (Unheard error ∷ []) → IsOfSystem why
+pub turn_unheard : {A : Type 0} (old now new : Option (List Moment)) (start end : ClientEnd A) (count : ℕ) (why : CallFault) (error : Error) → EndSoFar old now start end count → Adds now new (Unheard error ∷ []) → TellsError error why
     → (t : TalkWorld) → IsIn start t → (t' : TalkWorld) × IsIn end t' × TakesTurn old new (Err why) t t'
 turn_unheard old now new start end count why error so_far broke is t stands =
     let s = so_far t stands in
@@ -303,13 +303,13 @@ turn_tires old now start end count so_far all t stands =
     (s.mid, s.stands, ends_turn old now now t s.mid end count (Err (Talk fault.Line)) s (Tires refl all refl (adds_none now)))
 
 -- nothing came
-waits_so : (count : ℕ) (old now new : Option (List Moment)) (t t' : TalkWorld) (given : Result Parts Fault) (result : Result Turn CallFault) → Adds old now (Quiet ∷ []) → Does t (Waits given) t' → GivesAgain now new given result → Ends count old new t t' result
+waits_so : (count : ℕ) (old now new : Option (List Moment)) (t t' : TalkWorld) (given : Result Parts Fault) (result : Result ClientTurn CallFault) → Adds old now (Quiet ∷ []) → Does t (Waits given) t' → GivesAgain now new given result → Ends count old new t t' result
 waits_so count old now new t t' (Ok frame) (Ok turn) quiet does (is, adds) = Tells (Waits (Ok frame)) (rw is refl) does (adds_more old now new (Quiet ∷ []) (Went (spelling frame) ∷ []) quiet adds)
 waits_so count old now new t t' (Ok frame) (Err f) quiet does (is, (part, missing, begins, adds)) =
     BreaksSending (Waits (Ok frame)) frame f is refl refl does part missing begins (adds_more old now new (Quiet ∷ []) (Broke part ∷ []) quiet adds)
-waits_so count old now new t t' (Err f) result quiet does (told, adds) = Tells (Waits (Err f)) (ap (λ (r : Result Turn CallFault). Some r) (sym told)) does (adds_still old now new (Quiet ∷ []) quiet adds)
+waits_so count old now new t t' (Err f) result quiet does (told, adds) = Tells (Waits (Err f)) (ap (λ (r : Result ClientTurn CallFault). Some r) (sym told)) does (adds_still old now new (Quiet ∷ []) quiet adds)
 
-repeats_so : (count : ℕ) (old now new : Option (List Moment)) (t : TalkWorld) (c c' : ClientValue) (result : Result Turn CallFault) → c ≡ t.client → t.inflow.rest ≡ [] → Adds old now (Quiet ∷ []) → Repeats now new c c' result
+repeats_so : (count : ℕ) (old now new : Option (List Moment)) (t : TalkWorld) (c c' : ClientValue) (result : Result ClientTurn CallFault) → c ≡ t.client → t.inflow.rest ≡ [] → Adds old now (Quiet ∷ []) → Repeats now new c c' result
     → Ends count old new t (record { inflow = cleared t.inflow; client = c' }) result
 repeats_so count old now new t c c' result is taken quiet (IsIdle none told same adds) =
     NoneIsOut told (subst (λ (x : ClientValue). CanTimeOut x → ⊥) is none) (ap (λ (x : ClientValue). record { inflow = cleared t.inflow; client = x }) (same ∙ is)) (adds_still old now new (Quiet ∷ []) quiet adds)
@@ -317,7 +317,7 @@ repeats_so count old now new t c c' result is taken quiet (IsTold given can time
     waits_so count old now new t (record { inflow = cleared t.inflow; client = c' }) given result quiet
     (record { taken = taken; can = subst (λ (x : ClientValue). CanTimeOut x) is can; times = subst (λ (x : ClientValue). TimesOut x given c') is times; after = refl }) gives
 
-pub turn_waits : {A : Type 0} (old now mid new : Option (List Moment)) (start end end' : ClientEnd A) (count : ℕ) (result : Result Turn CallFault) → EndSoFar old now start end count → Adds now mid (Quiet ∷ [])
+pub turn_waits : {A : Type 0} (old now mid new : Option (List Moment)) (start end end' : ClientEnd A) (count : ℕ) (result : Result ClientTurn CallFault) → EndSoFar old now start end count → Adds now mid (Quiet ∷ [])
     → Fits end'.deframer.bytes [] 0 → end'.left ≡ end.left → Repeats mid new end.client end'.client result → (t : TalkWorld) → IsIn start t → (t' : TalkWorld) × IsIn end' t' × TakesTurn old new result t t'
 turn_waits old now mid new start end end' count result so_far quiet idle may again t stands =
     let s = so_far t stands in
@@ -332,23 +332,23 @@ turn_waits old now mid new start end end' count result so_far quiet idle may aga
 pub found_as : (old taken new : List ℕ) (o p : Option Parts) → o ≡ p → TakesBytes old taken o new → TakesBytes old taken p new
 found_as old taken new o p is h = subst (λ (q : Option Parts). TakesBytes old taken q new) is h
 
-pub frame_as : (old new : Option (List Moment)) (before after : ClientValue) (frame : Parts) (o p : Option (Result Turn CallFault)) → o ≡ p → TakesFrame old new before frame after o → TakesFrame old new before frame after p
-frame_as old new before after frame o p is h = subst (λ (x : Option (Result Turn CallFault)). TakesFrame old new before frame after x) is h
+pub frame_as : (old new : Option (List Moment)) (before after : ClientValue) (frame : Parts) (o p : Option (Result ClientTurn CallFault)) → o ≡ p → TakesFrame old new before frame after o → TakesFrame old new before frame after p
+frame_as old new before after frame o p is h = subst (λ (x : Option (Result ClientTurn CallFault)). TakesFrame old new before frame after x) is h
 
-pub piece_as : {A : Type 0} (old new : Option (List Moment)) (t : TalkWorld) (end : ClientEnd A) (o p : Option (Result Turn CallFault)) → o ≡ p → TakesPiece old new t end o → TakesPiece old new t end p
-piece_as old new t end o p is takes = subst (λ (x : Option (Result Turn CallFault)). TakesPiece old new t end x) is takes
+pub piece_as : {A : Type 0} (old new : Option (List Moment)) (t : TalkWorld) (end : ClientEnd A) (o p : Option (Result ClientTurn CallFault)) → o ≡ p → TakesPiece old new t end o → TakesPiece old new t end p
+piece_as old new t end o p is takes = subst (λ (x : Option (Result ClientTurn CallFault)). TakesPiece old new t end x) is takes
 
 pub comes_as : (c c' : ClientValue) (frame : Parts) (x y : Step) → x ≡ y → Comes c frame (Ok x) c' → Comes c frame (Ok y) c'
 comes_as c c' frame x y is comes = subst (λ (s : Step). Comes c frame (Ok s) c') is comes
 
-pub turn_as : (old new : Option (List Moment)) (t t' : TalkWorld) (x y : Turn) → x ≡ y → TakesTurn old new (Ok x) t t' → TakesTurn old new (Ok y) t t'
-turn_as old new t t' x y is turns = subst (λ (u : Turn). TakesTurn old new (Ok u) t t') is turns
+pub turn_as : (old new : Option (List Moment)) (t t' : TalkWorld) (x y : ClientTurn) → x ≡ y → TakesTurn old new (Ok x) t t' → TakesTurn old new (Ok y) t t'
+turn_as old new t t' x y is turns = subst (λ (u : ClientTurn). TakesTurn old new (Ok u) t t') is turns
 
-pub within_as : (most : ℕ) (old new : Option (List Moment)) (t t' : TalkWorld) (x y : Turn) → x ≡ y → TakesTurnWithin most old new (Ok x) t t' → TakesTurnWithin most old new (Ok y) t t'
-within_as most old new t t' x y is turns = subst (λ (u : Turn). TakesTurnWithin most old new (Ok u) t t') is turns
+pub within_as : (most : ℕ) (old new : Option (List Moment)) (t t' : TalkWorld) (x y : ClientTurn) → x ≡ y → TakesTurnWithin most old new (Ok x) t t' → TakesTurnWithin most old new (Ok y) t t'
+within_as most old new t t' x y is turns = subst (λ (u : ClientTurn). TakesTurnWithin most old new (Ok u) t t') is turns
 
 -- a turn whose value was judged by its length
-pub judged_turn : (most joined : ℕ) (old new : Option (List Moment)) (t t' : TalkWorld) (turn : Turn) (result : Result Turn CallFault) → TakesTurn old new (Ok turn) t t'
+pub judged_turn : (most joined : ℕ) (old new : Option (List Moment)) (t t' : TalkWorld) (turn : ClientTurn) (result : Result ClientTurn CallFault) → TakesTurn old new (Ok turn) t t'
     → joined ≡ joined_in t' → (most < joined → result ≡ Err TooLarge) → (joined ≤ most → result ≡ Ok turn) → TakesTurnWithin most old new result t t'
 judged_turn most joined old new t t' turn result turns is beyond within =
     elim (cases_lt most joined) [

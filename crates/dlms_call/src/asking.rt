@@ -13,7 +13,7 @@ ghost use Rattle.dlms_call.specs.Talking.{IsIn, Leads, TalkWorld};
 ghost use Rattle.dlms_data.specs.View.{value_of};
 ghost use Rattle.dlms_data.specs.Writing.{Fits};
 
-use crate::client_end::{ClientEnd, Turn, send};
+use crate::client_end::{ClientEnd, ClientTurn, send};
 use crate::fault::CallFault;
 use crate::kept::KeptClient;
 use dlms_client::{Answer, Fault, Plan};
@@ -28,8 +28,8 @@ const NO_BOUND: usize = usize::MAX;
 /// The most turns of one request.
 const TURNS: u32 = 65_536;
 
-/// A turn, where no more octets are joined than so many; else `TooLarge`.
-fn size_judged(turn: Turn, joined: usize, most: usize) -> Result<Turn, CallFault>
+/// A turn, if at most this many octets are joined; otherwise `TooLarge`.
+fn check_size(turn: ClientTurn, joined: usize, most: usize) -> Result<ClientTurn, CallFault>
     ensures beyond { most < joined → result ≡ Err TooLarge }
     ensures within { joined ≤ most → result ≡ Ok turn }
 {
@@ -45,11 +45,12 @@ fn turn_within<S: End, A: Allocator + Copy>(
     line: &mut S,
     head: &mut ClientEnd<A>,
     most: usize,
-) -> Result<Turn, CallFault>
-    ensures { Leads head.old head.new (TakesTurnWithin most (S.past line.old) (S.past line.new) result) }
+) -> Result<ClientTurn, CallFault>
+    ensures { Leads head.old head.new
+        (TakesTurnWithin most (S.past line.old) (S.past line.new) result) }
 {
     match head.turn(line) {
-        Ok(turn) => size_judged(turn, head.client.value().len(), most),
+        Ok(turn) => check_size(turn, head.client.value().len(), most),
         Err(fault) => Err(fault),
     }
 }
@@ -59,62 +60,69 @@ fn settle<S: End, A: Allocator + Copy>(
     line: &mut S,
     head: &mut ClientEnd<A>,
     most: usize,
-) -> Result<Turn, CallFault>
+) -> Result<ClientTurn, CallFault>
     ensures { Leads head.old head.new (Settles most (S.past line.old) (S.past line.new) result) }
 {
     'turns: for _turn in 0..TURNS {
         match turn_within(line, head, most) {
-            Ok(Turn::Sent) => {}
-            Ok(Turn::Associated) => return Ok(Turn::Associated),
-            Ok(Turn::Answered(answer)) => return Ok(Turn::Answered(answer)),
-            Ok(Turn::Down) => return Ok(Turn::Down),
+            Ok(ClientTurn::Sent) => {}
+            Ok(ClientTurn::Associated) => return Ok(ClientTurn::Associated),
+            Ok(ClientTurn::Answered(answer)) => return Ok(ClientTurn::Answered(answer)),
+            Ok(ClientTurn::Down) => return Ok(ClientTurn::Down),
             Err(fault) => return Err(fault),
         }
     }
     Err(CallFault::Talk(Fault::Line))
 }
 
-/// What is told of an association that is asked for.
-fn opened_in(turn: Result<Turn, CallFault>) -> Result<(), CallFault>
+/// The outcome of a requested association.
+fn opened_in(turn: Result<ClientTurn, CallFault>) -> Result<(), CallFault>
     ensures { result ≡ opened_in turn }
 {
     match turn {
-        Ok(Turn::Associated) => Ok(()),
-        Ok(Turn::Sent | Turn::Answered(_) | Turn::Down) => Err(CallFault::Talk(Fault::Form)),
+        Ok(ClientTurn::Associated) => Ok(()),
+        Ok(ClientTurn::Sent | ClientTurn::Answered(_) | ClientTurn::Down) => Err(CallFault::Talk(
+            Fault::Form,
+        )),
         Err(fault) => Err(fault),
     }
 }
 
-/// What is told of a request.
-fn answer_in(turn: Result<Turn, CallFault>) -> Result<Answer, CallFault>
+/// The outcome of a request.
+fn answer_in(turn: Result<ClientTurn, CallFault>) -> Result<Answer, CallFault>
     ensures { result ≡ answer_in turn }
 {
     match turn {
-        Ok(Turn::Answered(answer)) => Ok(answer),
-        Ok(Turn::Sent | Turn::Associated | Turn::Down) => Err(CallFault::Talk(Fault::Form)),
+        Ok(ClientTurn::Answered(answer)) => Ok(answer),
+        Ok(ClientTurn::Sent | ClientTurn::Associated | ClientTurn::Down) => Err(CallFault::Talk(
+            Fault::Form,
+        )),
         Err(fault) => Err(fault),
     }
 }
 
-/// What is told of the link's end that is asked for.
-fn ended_in(turn: Result<Turn, CallFault>) -> Result<(), CallFault>
+/// The outcome of the requested end of the link.
+fn ended_in(turn: Result<ClientTurn, CallFault>) -> Result<(), CallFault>
     ensures { result ≡ ended_in turn }
 {
     match turn {
-        Ok(Turn::Down) => Ok(()),
-        Ok(Turn::Sent | Turn::Associated | Turn::Answered(_)) => Err(CallFault::Talk(Fault::Form)),
+        Ok(ClientTurn::Down) => Ok(()),
+        Ok(ClientTurn::Sent | ClientTurn::Associated | ClientTurn::Answered(_)) => Err(
+            CallFault::Talk(Fault::Form),
+        ),
         Err(fault) => Err(fault),
     }
 }
 
 /// A request's first frame goes out, and its answer is awaited.
-fn answered<S: End, A: Allocator + Copy>(
+fn request_answer<S: End, A: Allocator + Copy>(
     line: &mut S,
     head: &mut ClientEnd<A>,
     frame: &SentFrame,
     most: usize,
 ) -> Result<Answer, CallFault>
-    ensures { Leads head.old head.new (GoesOut most answer_in (S.past line.old) (S.past line.new) frame.now result) }
+    ensures { Leads head.old head.new
+        (GoesOut most answer_in (S.past line.old) (S.past line.new) frame.now result) }
 {
     match send(line, frame) {
         Ok(_) => {
@@ -133,8 +141,10 @@ pub fn begin<S: End, A: Allocator + Copy>(
     plan: Plan,
 ) -> Result<ClientEnd<A>, CallFault>
     requires { IsPlan (plan_of plan) }
-    ensures opens { IfOk result (λ head. (t : TalkWorld) × IsIn head t × Opens (S.past line.old) (S.past line.new) (fresh (plan_of plan)) t) }
-    ensures fails { IfErr result (FailsToOpen (S.past line.old) (S.past line.new) (fresh (plan_of plan))) }
+    ensures opens { IfOk result (λ head. (t : TalkWorld) × IsIn head t
+        × Opens (S.past line.old) (S.past line.new) (fresh (plan_of plan)) t) }
+    ensures fails { IfErr result (FailsToOpen (S.past line.old) (S.past line.new)
+        (fresh (plan_of plan))) }
 {
     let client = match KeptClient::new(alloc, plan) {
         Ok(client) => client,
@@ -161,22 +171,24 @@ fn parameter_fits<A: Allocator>(parameter: &Option<Data<A>>) -> bool
     }
 }
 
-/// Asks for an attribute whose encoding has so many octets at most. While no association is open, or a request is out, nothing is
-/// asked, and it is `Form`. Once more octets have come it is `TooLarge`, and no further block is asked for: the request stays out, so
-/// that the association is of no more use.
+/// Requests an attribute whose encoding has at most `most` octets. Without an open association, or while a request is out, nothing
+/// is sent, and it is `Form`. Once more octets have come it is `TooLarge`, and no further block is requested: the request stays
+/// out, so the association cannot be used any more.
 pub fn get<S: End, A: Allocator + Copy>(
     line: &mut S,
     head: &mut ClientEnd<A>,
     attribute: Descriptor,
     most: usize,
 ) -> Result<Answer, CallFault>
-    ensures { Leads head.old head.new (Requests most (IsFree head.old.client) Get (get_normal INVOKE attribute None) (S.past line.old) (S.past line.new) result) }
+    ensures { Leads head.old head.new
+        (Requests most (IsFree head.old.client) Get (get_normal INVOKE attribute None)
+        (S.past line.old) (S.past line.new) result) }
 {
     if !head.client.is_free() {
         return Err(CallFault::Talk(Fault::Form));
     }
     match head.client.get::<A>(attribute, None) {
-        Ok(frame) => answered(line, head, &frame, most),
+        Ok(frame) => request_answer(line, head, &frame, most),
         Err(fault) => Err(CallFault::from(fault)),
     }
 }
@@ -188,7 +200,9 @@ pub fn set<S: End, A: Allocator + Copy>(
     attribute: Descriptor,
     value: Data<A>,
 ) -> Result<Answer, CallFault>
-    ensures { Leads head.old head.new (Requests NO_BOUND (IsFree head.old.client × Fits (value_of value)) Set (set_normal INVOKE attribute None (value_of value)) (S.past line.old) (S.past line.new) result) }
+    ensures { Leads head.old head.new (Requests NO_BOUND (IsFree head.old.client
+        × Fits (value_of value)) Set (set_normal INVOKE attribute None (value_of value))
+        (S.past line.old) (S.past line.new) result) }
 {
     if !head.client.is_free() {
         drop(value);
@@ -199,7 +213,7 @@ pub fn set<S: End, A: Allocator + Copy>(
         return Err(CallFault::Talk(Fault::Form));
     }
     match head.client.set::<A>(attribute, None, value) {
-        Ok(frame) => answered(line, head, &frame, NO_BOUND),
+        Ok(frame) => request_answer(line, head, &frame, NO_BOUND),
         Err(fault) => Err(CallFault::from(fault)),
     }
 }
@@ -211,7 +225,10 @@ pub fn act<S: End, A: Allocator + Copy>(
     method: Descriptor,
     parameter: Option<Data<A>>,
 ) -> Result<Answer, CallFault>
-    ensures { Leads head.old head.new (Requests NO_BOUND (IsFree head.old.client × ParameterFits (option_map value_of parameter)) Action (action_normal INVOKE method (option_map value_of parameter)) (S.past line.old) (S.past line.new) result) }
+    ensures { Leads head.old head.new (Requests NO_BOUND (IsFree head.old.client
+        × ParameterFits (option_map value_of parameter)) Action
+        (action_normal INVOKE method (option_map value_of parameter)) (S.past line.old)
+        (S.past line.new) result) }
 {
     if !head.client.is_free() {
         drop(parameter);
@@ -222,7 +239,7 @@ pub fn act<S: End, A: Allocator + Copy>(
         return Err(CallFault::Talk(Fault::Form));
     }
     match head.client.act(method, parameter) {
-        Ok(frame) => answered(line, head, &frame, NO_BOUND),
+        Ok(frame) => request_answer(line, head, &frame, NO_BOUND),
         Err(fault) => Err(CallFault::from(fault)),
     }
 }
@@ -233,7 +250,8 @@ pub fn end<S: End, A: Allocator + Copy>(
     line: &mut S,
     head: &mut ClientEnd<A>,
 ) -> Result<(), CallFault>
-    ensures { Leads head.old head.new (EndsTalk (IsFree head.old.client) (S.past line.old) (S.past line.new) result) }
+    ensures { Leads head.old head.new
+        (EndsTalk (IsFree head.old.client) (S.past line.old) (S.past line.new) result) }
 {
     if !head.client.is_free() {
         return Err(CallFault::Talk(Fault::Form));

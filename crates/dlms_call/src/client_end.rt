@@ -3,7 +3,7 @@
 ghost use Rattle.std.specs.Prelude.{◌≡◌, ◌≤◌, ◌<◌, ◌-◌, [], false, IfErr, IfOk, IsTrue};
 ghost use Rattle.dlms_frame.specs.Stream.{Fits};
 ghost use Rattle.dlms_call.specs.Asking.{Dials, DialsFirst, FailsToDial};
-ghost use Rattle.dlms_call.specs.Talking.{IsAt, IsIn, IsOfSystem, Leads, Repeats, SendsFrame, TakesFrame, TakesPiece, TakesTurn, TalkWorld, first_world};
+ghost use Rattle.dlms_call.specs.Talking.{IsAt, IsIn, Leads, Repeats, SendsFrame, TakesFrame, TakesPiece, TakesTurn, TalkWorld, TellsError, first_world};
 
 use crate::fault::CallFault;
 use crate::kept::{KeptClient, KeptDeframer};
@@ -20,9 +20,9 @@ pub const MOST_BYTES: usize = 16_777_216;
 /// The most reads of one turn.
 const READS: u32 = 4_096;
 
-/// What a client has come to in a turn.
+/// The outcome of a client's turn.
 #[derive(Clone, Copy, Debug, PartialEq, Eq)]
-pub enum Turn {
+pub enum ClientTurn {
     /// A frame is out.
     Sent,
     /// The association is open.
@@ -41,9 +41,9 @@ pub struct ClientEnd<A: Allocator = Global> {
     pub client: KeptClient<A>,
 }
 
-/// An error of the system as a fault.
+/// The fault of an error of the system: `Memory` if an allocation failed, otherwise `Io`.
 fn of_system(error: &io::Error) -> CallFault
-    ensures { IsOfSystem result }
+    ensures { TellsError error.now result }
 {
     if error.kind() == ErrorKind::OutOfMemory {
         CallFault::Memory
@@ -53,29 +53,30 @@ fn of_system(error: &io::Error) -> CallFault
 }
 
 /// A frame goes out.
-pub fn send<W: End>(end: &mut W, frame: &SentFrame) -> Result<Turn, CallFault>
+pub fn send<W: End>(end: &mut W, frame: &SentFrame) -> Result<ClientTurn, CallFault>
     ensures { SendsFrame (W.past end.old) (W.past end.new) frame.now result }
 {
     match end.put(frame.put().as_slice()) {
-        Ok(()) => Ok(Turn::Sent),
+        Ok(()) => Ok(ClientTurn::Sent),
         Err(error) => Err(of_system(&error)),
     }
 }
 
-/// Gives a frame to the client; none where nothing is told of it.
+/// Gives a frame to the client; none if it has no outcome.
 fn take_frame<W: End, A: Allocator + Copy>(
     client: &mut KeptClient<A>,
     end: &mut W,
     frame: Frame<'_>,
-) -> Option<Result<Turn, CallFault>>
-    ensures { TakesFrame (W.past end.old) (W.past end.new) client.old frame.entry client.new result }
+) -> Option<Result<ClientTurn, CallFault>>
+    ensures { TakesFrame (W.past end.old)
+        (W.past end.new) client.old frame.entry client.new result }
 {
     match client.on(&frame) {
         Ok(Step::Nothing) => None,
         Ok(Step::Send(next)) => Some(send(end, &next)),
-        Ok(Step::Associated) => Some(Ok(Turn::Associated)),
-        Ok(Step::Answered(answer)) => Some(Ok(Turn::Answered(answer))),
-        Ok(Step::Down) => Some(Ok(Turn::Down)),
+        Ok(Step::Associated) => Some(Ok(ClientTurn::Associated)),
+        Ok(Step::Answered(answer)) => Some(Ok(ClientTurn::Answered(answer))),
+        Ok(Step::Down) => Some(Ok(ClientTurn::Down)),
         Err(fault) => Some(Err(CallFault::Talk(fault))),
     }
 }
@@ -97,10 +98,11 @@ fn dial<W: End, A: Allocator + Copy>(
 }
 
 impl<A: Allocator + Copy> ClientEnd<A> {
-    /// Sends the client's first frame. Where there is no memory for what comes, nothing is sent.
+    /// Sends the client's first frame. Without memory for incoming data, nothing is sent.
     #[tactic(auto, using(crate::proofs::TalkingLemmas::no_room, crate::proofs::TalkingLemmas::is_broken))]
     pub fn begin<W: End>(alloc: A, end: &mut W, client: KeptClient<A>) -> Result<Self, CallFault>
-        ensures dials { IfOk result (λ head. Dials (W.past end.old) (W.past end.new) client head.client) }
+        ensures dials { IfOk result (λ head. Dials (W.past end.old)
+            (W.past end.new) client head.client) }
         ensures stands { IfOk result (λ head. IsIn head (first_world head.client)) }
         ensures fails { IfErr result (FailsToDial (W.past end.old) (W.past end.new) client) }
     {
@@ -119,10 +121,11 @@ impl<A: Allocator + Copy> ClientEnd<A> {
         }
     }
 
-    /// Takes the frames among the bytes, up to the one that is answered or brings something. What stands behind it came before the
-    /// question that is out now, and is dropped.
-    fn take<W: End>(&mut self, end: &mut W, bytes: &[u8]) -> Option<Result<Turn, CallFault>>
-        ensures { (t : TalkWorld) → IsAt self.old t → t.inflow.rest ≡ bytes.now → TakesPiece (W.past end.old) (W.past end.new) t self.new result }
+    /// Takes the frames among the bytes, up to the one that is answered or has an outcome. Bytes after it arrived before the
+    /// request that is out now, and are dropped.
+    fn take<W: End>(&mut self, end: &mut W, bytes: &[u8]) -> Option<Result<ClientTurn, CallFault>>
+        ensures { (t : TalkWorld) → IsAt self.old t → t.inflow.rest ≡ bytes.now
+            → TakesPiece (W.past end.old) (W.past end.new) t self.new result }
     {
         let mut rest = bytes;
         'frames: while !rest.is_empty() {
@@ -142,9 +145,11 @@ impl<A: Allocator + Copy> ClientEnd<A> {
         None
     }
 
-    /// Whether so many bytes more may come; then they are counted.
+    /// Whether this many more bytes may arrive; if so they are counted.
     fn counts(&mut self, bytes: usize) -> bool
-        ensures counted { IsTrue result → (bytes ≤ self.old.left) × (self.new ≡ record self.old { left = self.old.left - bytes }) }
+        ensures counted { IsTrue result
+            → (bytes ≤ self.old.left)
+            × (self.new ≡ record self.old { left = self.old.left - bytes }) }
         ensures more { result ≡ false → (self.old.left < bytes) × (self.new ≡ self.old) }
     {
         match self.left.checked_sub(bytes) {
@@ -157,8 +162,9 @@ impl<A: Allocator + Copy> ClientEnd<A> {
     }
 
     /// Nothing came: the frame that is out goes again, and the fourth time-out in a row is a fault.
-    fn repeat<W: End>(&mut self, end: &mut W) -> Result<Turn, CallFault>
-        ensures again { Repeats (W.past end.old) (W.past end.new) self.old.client self.new.client result }
+    fn repeat<W: End>(&mut self, end: &mut W) -> Result<ClientTurn, CallFault>
+        ensures again { Repeats (W.past end.old)
+            (W.past end.new) self.old.client self.new.client result }
         ensures idle { Fits self.new.deframer.bytes [] 0 }
         ensures left { self.new.left ≡ self.old.left }
     {
@@ -174,7 +180,7 @@ impl<A: Allocator + Copy> ClientEnd<A> {
 
     /// The client takes what comes, until a frame of its own is out or something has come. What comes in more than so many pieces
     /// without one is a fault of the line.
-    pub fn turn<S: End>(&mut self, end: &mut S) -> Result<Turn, CallFault>
+    pub fn turn<S: End>(&mut self, end: &mut S) -> Result<ClientTurn, CallFault>
         ensures { Leads self.old self.new (TakesTurn (S.past end.old) (S.past end.new) result) }
     {
         let mut piece = [0u8; PIECE];

@@ -1,4 +1,4 @@
-//! What is large at a client's end of a line, kept on the heap.
+//! The large parts of a client's end of a line, kept on the heap.
 
 ghost use Rattle.std.specs.Prelude.{◌≡◌, ◌≤◌, ◌<◌, ◌↔◌, [], None, length, take, IfNone, IfOk, IsTrue, option_map};
 ghost use Rattle.dlms_frame.specs.Stream.{Fits, Takes};
@@ -33,7 +33,7 @@ impl<A: Allocator> Model for KeptDeframer<A> {
 }
 
 impl<A: Allocator> KeptDeframer<A> {
-    /// At the start of a stretch. It stands by itself, so that the deframer is on the stack in no other call.
+    /// The state at the start of a stretch. It is a function of its own, so that the deframer is on the stack in no other call.
     #[inline(never)]
     pub fn new(alloc: A) -> Result<Self, AllocError>
         ensures { IfOk result (λ kept. Fits kept.bytes [] 0) }
@@ -131,7 +131,8 @@ impl<A: Allocator + Copy> KeptClient<A> {
     ) -> Result<SentFrame, AskFault>
         requires free { IsFree self.old }
         requires fits { SelectorFits (option_map selection_of selector) }
-        ensures { Asks Get (get_normal INVOKE descriptor (option_map selection_of selector)) self.old result self.new }
+        ensures { Asks Get (get_normal INVOKE descriptor
+            (option_map selection_of selector)) self.old result self.new }
     {
         self.client.get(descriptor, selector)
     }
@@ -145,7 +146,8 @@ impl<A: Allocator + Copy> KeptClient<A> {
         requires free { IsFree self.old }
         requires selector { SelectorFits (option_map selection_of selector) }
         requires value { FitsData (value_of value) }
-        ensures { Asks Set (set_normal INVOKE descriptor (option_map selection_of selector) (value_of value)) self.old result self.new }
+        ensures { Asks Set (set_normal INVOKE descriptor (option_map selection_of selector)
+            (value_of value)) self.old result self.new }
     {
         self.client.set(descriptor, selector, value)
     }
@@ -157,7 +159,8 @@ impl<A: Allocator + Copy> KeptClient<A> {
     ) -> Result<SentFrame, AskFault>
         requires free { IsFree self.old }
         requires fits { ParameterFits (option_map value_of parameter) }
-        ensures { Asks Action (action_normal INVOKE descriptor (option_map value_of parameter)) self.old result self.new }
+        ensures { Asks Action (action_normal INVOKE descriptor
+            (option_map value_of parameter)) self.old result self.new }
     {
         self.client.act(descriptor, parameter)
     }

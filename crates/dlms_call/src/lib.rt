@@ -1,4 +1,4 @@
-//! What is asked of any meter over a line: an association, values, results, and its end.
+//! Requests to any meter over a line: an association, values, results, and its end.
 #![tactic(auto)]
 
 mod asking;
@@ -7,5 +7,5 @@ mod fault;
 mod kept;
 
 pub use asking::{act, begin, end, get, set};
-pub use client_end::{ClientEnd, MOST_BYTES, Turn};
+pub use client_end::{ClientEnd, ClientTurn, MOST_BYTES};
 pub use fault::CallFault;

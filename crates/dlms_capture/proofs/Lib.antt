@@ -1,0 +1,5 @@
+mod Headers
+mod Leads
+mod Options
+mod Steps
+mod Stretches

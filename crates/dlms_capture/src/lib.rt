@@ -1,9 +1,11 @@
-//! What stands in a capture of a network's traffic: the packets of its file, the ends and octets that a packet of IP carries by TCP
-//! or UDP, and the octets of a connection in their order.
+//! The contents of a capture of a network's traffic: the packets of its file, the ends and octets that a packet of IP carries by
+//! TCP or UDP, and the octets of a connection in their order.
 #![tactic(auto)]
 
 mod file;
+mod front;
 mod interface;
+pub mod laws;
 mod order;
 mod packet;
 mod pcap;

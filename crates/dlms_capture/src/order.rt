@@ -1,8 +1,8 @@
 //! The octets of one direction of a TCP connection, in the order of their numbers.
 
-ghost use Rattle.std.specs.Prelude.{◌≡◌, ◌<◌, ◌≤◌, ◌%◌, ◌++◌, [], Some, None, true, false, nat_le, nat_lt, is_some, length, if◌then◌else◌, IfOk, IfSome, IfNone, OnOk};
+ghost use Rattle.std.specs.Prelude.{◌≡◌, ◌<◌, ◌≤◌, ◌%◌, ◌++◌, [], Some, None, true, false, nat_le, nat_lt, is_some, length, IfOk, IfSome, IfNone, OnErr, OnOk};
 ghost use Rattle.std.specs.List.{HoldsAt};
-ghost use Rattle.dlms_capture.specs.Streams.{AreEarly, GivesDue, Waits, behind, first_place, given_more, is_due, late_of, missing_at, next_at, next_more, number_behind, number_before, place_by, place_in, resumed_at};
+ghost use Rattle.dlms_capture.specs.Streams.{AreEarly, GivesDue, LosesDue, Waits, added_by, behind, first_place, given_more, is_due, is_place, known_next, late_of, missing_at, next_at, next_more, number_behind, number_before, place_by, place_in, resumed_at, resumed_start};
 
 use crate::interface::Stamp;
 use std::alloc::{AllocError, Allocator};
@@ -26,7 +26,7 @@ struct Early<A: Allocator> {
 pub struct Order<A: Allocator> {
     /// The place of the octet that is next.
     given: u64,
-    /// The number of that octet, where one is known.
+    /// The number of that octet, if it is known.
     next: Option<u32>,
     /// The place of the first octet of this direction, once octets may be given.
     start: Option<u64>,
@@ -53,7 +53,7 @@ fn low_part(count: u64) -> u32
     (count % NUMBERS) as u32
 }
 
-/// The number of the octet so many places behind the one with this number.
+/// The number of the octet that is this many places after the one with this number.
 fn number_behind(number: u32, count: u64) -> u32
     ensures { result ≡ number_behind count number }
 {
@@ -105,12 +105,13 @@ impl<A: Allocator + Copy> Order<A> {
         }
     }
 
-    /// The connection is opened by a segment with this number (SYN): the number behind it is that of the first octet. Segments that
-    /// came before that keep their places; where octets have been given already, it is another connection, and nothing is kept.
+    /// The connection is opened by a segment with this number (SYN): the next number is that of the first octet. Segments that came
+    /// before keep their places; if octets have been given already, it is another connection, and nothing is kept.
     pub fn open(&mut self, sequence: u32)
         ensures next { self.new.next ≡ Some (number_behind 1 sequence) }
         ensures start { self.new.start ≡ Some self.new.given }
-        ensures first { self.old.start ≡ None → self.new.given ≡ place_in self.old (number_behind 1 sequence) }
+        ensures first { self.old.start ≡ None
+            → self.new.given ≡ place_in self.old (number_behind 1 sequence) }
         ensures waiting { self.old.start ≡ None → self.new.early ≡ self.old.early }
         ensures anew { is_some self.old.start ≡ true → (self.new.given ≡ NUMBERS) }
         ensures empty { is_some self.old.start ≡ true → self.new.early.items ≡ [] }
@@ -135,8 +136,14 @@ impl<A: Allocator + Copy> Order<A> {
     }
 
     /// Whether a segment with this number opens the connection once more, as it was opened.
-    pub fn is_repeated(&self, sequence: u32) -> bool {
-        self.start == Some(self.place(number_behind(sequence, 1)))
+    pub fn is_repeated(&self, sequence: u32) -> bool
+        ensures { result ≡ is_place (place_in self.now (number_behind 1 sequence)) self.now.start }
+    {
+        let place = self.place(number_behind(sequence, 1));
+        match self.start {
+            Some(start) => place == start,
+            None => false,
+        }
     }
 
     /// So many octets more have been given.
@@ -160,9 +167,14 @@ impl<A: Allocator + Copy> Order<A> {
         octets: &[u8],
         output: &mut Vec<u8, A>,
     ) -> Result<(), AllocError>
-        ensures octets { OnOk result (output.new.items ≡ output.old.items ++ behind self.old.given place octets.now) }
-        ensures given { OnOk result (self.new.given ≡ given_more self.old.given (length (behind self.old.given place octets.now))) }
-        ensures next { OnOk result (self.new.next ≡ next_more self.old.next (length (behind self.old.given place octets.now))) }
+        ensures octets { OnOk result (output.new.items ≡ output.old.items
+            ++ behind self.old.given place octets.now) }
+        ensures given { OnOk result (self.new.given ≡ given_more self.old.given
+            (length (behind self.old.given place octets.now))) }
+        ensures next { OnOk result (self.new.next ≡ next_more self.old.next
+            (length (behind self.old.given place octets.now))) }
+        ensures nothing { OnErr result (output.new.items ≡ output.old.items) }
+        ensures same { OnErr result (self.new ≡ self.old) }
         ensures start { self.new.start ≡ self.old.start }
         ensures early { self.new.early ≡ self.old.early }
     {
@@ -183,14 +195,18 @@ impl<A: Allocator + Copy> Order<A> {
             .position(|early| early.place <= self.given)
     }
 
-    /// Appends the octets of a segment that waited and does so no more, and says when it came; of none where there is none, or where it is
-    /// not known which octet is the first of this direction. Memory is wanted only for the octets: where it is refused, they are lost.
+    /// Appends the octets of a waiting segment that is now due, and returns when it came; `None` if there is none, or if it is not
+    /// known which octet is the first of this direction. Memory is needed only for the octets: if it is refused, they are lost.
     pub fn give_due(&mut self, output: &mut Vec<u8, A>) -> Result<Option<Option<Stamp>>, AllocError>
-        ensures due { IfOk result (λ found. IfSome found (λ stamp. GivesDue self.old self.new output.old.items output.new.items stamp)) }
-        ensures none { IfOk result (λ found. IfNone found (is_some self.old.start ≡ true → AreEarly self.old.given self.old.early.items)) }
+        ensures due { IfOk result (λ found. IfSome found
+            (λ stamp. GivesDue self.old self.new output.old.items output.new.items stamp)) }
+        ensures none { IfOk result (λ found. IfNone found (is_some self.old.start ≡ true
+            → AreEarly self.old.given self.old.early.items)) }
+        ensures lost { OnErr result (LosesDue self.old self.new output.old.items output.new.items) }
         ensures begun { IfOk result (λ found. IfSome found (λ _. is_some self.old.start ≡ true)) }
         ensures same { IfOk result (λ found. IfNone found (self.new ≡ self.old)) }
-        ensures nothing { IfOk result (λ found. IfNone found (output.new.items ≡ output.old.items)) }
+        ensures nothing { IfOk result
+            (λ found. IfNone found (output.new.items ≡ output.old.items)) }
     {
         if self.start.is_none() {
             return Ok(None);
@@ -216,7 +232,7 @@ impl<A: Allocator + Copy> Order<A> {
     /// The same; the first number that comes is that of the next octet.
     fn locate(&mut self, number: u32) -> u64
         ensures place { result ≡ place_in self.old number }
-        ensures next { self.new.next ≡ (if is_some self.old.next then self.old.next else Some number) }
+        ensures next { self.new.next ≡ known_next self.old.next number }
         ensures given { self.new.given ≡ self.old.given }
         ensures start { self.new.start ≡ self.old.start }
         ensures early { self.new.early ≡ self.old.early }
@@ -239,14 +255,29 @@ impl<A: Allocator + Copy> Order<A> {
         octets: &[u8],
         output: &mut Vec<u8, A>,
     ) -> Result<(), AllocError>
-        ensures octets { is_due self.old sequence ≡ true → OnOk result (output.new.items ≡ output.old.items ++ behind self.old.given (place_in self.old sequence) octets.now) }
+        ensures octets { is_due self.old sequence ≡ true
+            → OnOk result (output.new.items ≡ output.old.items
+            ++ added_by self.old sequence octets.now) }
         ensures given { is_due self.old sequence ≡ true
-            → OnOk result (self.new.given ≡ given_more self.old.given (length (behind self.old.given (place_in self.old sequence) octets.now))) }
+            → OnOk result (self.new.given ≡ given_more self.old.given
+            (length (added_by self.old sequence octets.now))) }
+        ensures next { is_due self.old sequence ≡ true
+            → OnOk result (self.new.next ≡ next_more (known_next self.old.next sequence)
+            (length (added_by self.old sequence octets.now))) }
+        ensures others { is_due self.old sequence ≡ true → self.new.early ≡ self.old.early }
         ensures nothing { is_due self.old sequence ≡ false → output.new.items ≡ output.old.items }
         ensures same { is_due self.old sequence ≡ false → self.new.given ≡ self.old.given }
-        ensures others { is_due self.old sequence ≡ true → self.new.early ≡ self.old.early }
+        ensures known { is_due self.old sequence ≡ false
+            → self.new.next ≡ known_next self.old.next sequence }
         ensures waits { is_due self.old sequence ≡ false → 0 < length octets.now
-            → OnOk result (Waits self.old.early.items self.new.early.items (place_in self.old sequence) stamp octets.now) }
+            → OnOk result (Waits self.old.early.items self.new.early.items
+            (place_in self.old sequence) stamp octets.now) }
+        ensures no_octets { is_due self.old sequence ≡ false → octets.now ≡ []
+            → self.new.early ≡ self.old.early }
+        ensures refused { OnErr result (output.new.items ≡ output.old.items) }
+        ensures stays { OnErr result (self.new.given ≡ self.old.given) }
+        ensures still { OnErr result (self.new.next ≡ known_next self.old.next sequence) }
+        ensures kept { OnErr result (self.new.early.items ≡ self.old.early.items) }
         ensures start { self.new.start ≡ self.old.start }
     {
         let place = self.locate(sequence);
@@ -287,7 +318,7 @@ impl<A: Allocator + Copy> Order<A> {
         first_place(self.early.as_slice()) < self.place(number)
     }
 
-    /// How many of so many octets from this number on are in front of the first ones of this direction.
+    /// How many of `count` octets from this number on come before the first ones of this direction.
     pub fn late(&self, sequence: u32, count: usize) -> u64
         ensures { result ≡ late_of self.now.start (place_in self.now sequence) count }
     {
@@ -312,13 +343,15 @@ impl<A: Allocator + Copy> Order<A> {
         self.given = place;
     }
 
-    /// Goes on at the first segment that waits, without the octets in front of it, and says how many are missing: none where it is the
+    /// Goes on at the first waiting segment, without the octets before it, and returns how many are missing: none if it is the
     /// first one of its direction.
     pub fn resume(&mut self) -> u64
         ensures given { self.new.given ≡ resumed_at self.old.start self.old.given self.old.early.items }
-        ensures next { 0 < length self.old.early.items → self.new.next ≡ next_at self.old.next self.old.given self.new.given }
+        ensures next { 0 < length self.old.early.items
+            → self.new.next ≡ next_at self.old.next self.old.given self.new.given }
+        ensures nothing { self.old.early.items ≡ [] → self.new ≡ self.old }
         ensures missing { result ≡ missing_at self.old.start self.old.given self.old.early.items }
-        ensures start { 0 < length self.old.early.items → is_some self.new.start ≡ true }
+        ensures start { self.new.start ≡ resumed_start self.old.start self.new.given self.old.early.items }
         ensures early { self.new.early ≡ self.old.early }
     {
         if self.early.is_empty() {

@@ -38,7 +38,7 @@ lengths s bytes is =
       head = subst (HeadIs s) (sym is.spelled.joined) (head_again s held is.legal.within fits is.legal.numbers);
     }
 
--- the places behind a head
+-- the places after a head
 pub few_places : (count next : ℕ) → count ≤ 4 → 4 * count * (next % 30) ≤ 464
 few_places count next few = omega (arith, mul-le-mul_right (next % 30) few)
 

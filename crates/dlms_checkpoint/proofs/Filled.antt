@@ -21,7 +21,7 @@ use Rattle.dlms_checkpoint.proofs.Whole.{head_alone, known, spelled}
 
 -- ---- places within a stretch
 
--- a place before the last one of so many ends within them
+-- a place before the last one ends within all of them
 pub within_them : (w i count long : ℕ) → long ≡ 4 * w * count → i < count → 4 * w * (i + 1) ≤ long
 within_them w i count long is low =
     let next : i + 1 ≤ count = omega (arith, low) in
@@ -40,7 +40,7 @@ in_page i part whole xs fits =
 
 -- ---- the rows that are read
 
--- the rows from the one numbered a to the one before n, of the places of the ring and those behind
+-- the rows from the one numbered a to the one before n, of the places of the ring and those after it
 abbrev pub read_rows : (w a n : ℕ) (ring behind : List ℕ) → List Row
 read_rows w a n ring behind = rows_at w (n - a) (drop (4 * w * (a % 30)) (ring ++ behind))
 

@@ -1,9 +1,9 @@
--- Places in lists that stand one behind another.
+-- Places in concatenated lists.
 use Rattle.std.proofs.Common.{◌≡◌, ℕ, zero, suc, ◌+◌, ◌*◌, ◌<◌, ◌^◌, List, [], ◌∷◌, ◌++◌, length, drop, slice_index, refl, sym, ap, ◌∙◌, arith}
 use Rattle.byteorder.specs.Endian.{big_from, big_bytes}
 use Rattle.byteorder.specs.Numbers.{big_from-cons, big_number-reads_back}
 
--- what stands behind the front, by its place there
+-- the element after the front, by its place there
 pub at_behind : (front rest : List ℕ) (i k : ℕ) → k ≡ length front + i → slice_index (front ++ rest) k ≡ slice_index rest i
 at_behind [] rest i k e = ap (slice_index rest) (omega (arith, e))
 at_behind (x ∷ front) rest i zero e = absurd (omega (arith, e))
@@ -22,7 +22,7 @@ drop_behind (x ∷ front) rest i (suc k) e = drop_behind front rest i k (omega (
 pub number_here : (n x : ℕ) (rest : List ℕ) → x < 256 ^ n → big_from 0 n (big_bytes n x ++ rest) ≡ x
 number_here n x rest fits = big_number-reads_back n x rest fits
 
--- the same by what is left
+-- the same by the rest
 pub from_drop : (i n : ℕ) (bytes : List ℕ) → big_from 0 n (drop i bytes) ≡ big_from i n bytes
 from_drop zero n bytes = refl
 from_drop (suc i) zero [] = refl

@@ -21,7 +21,7 @@ pub few_missing : (version : Version) → missing version ≤ 22
 few_missing Rings = omega arith
 few_missing Columns = omega arith
 
--- so many bytes more than the front has
+-- this many bytes more than the front has
 take_past : (front behind : List ℕ) (a k n : ℕ) → length front ≡ a → n ≡ a + k → take n (front ++ behind) ≡ front ++ take k behind
 take_past front behind a k n long is =
     ap (λ (m : ℕ). take m (front ++ behind)) is ∙ take-add a k (front ++ behind)

@@ -57,7 +57,7 @@ rows_on w s a b k t ring more long sum none some within =
     ∙ ap (rows_at w (a + b)) (sym (drop-append-le (4 * w * s) ring more fits)))
     (cases_lt k 1)
 
--- rows of the columns behind the first so many places
+-- rows of the columns after the skipped places
 pub fit_from : (v : List ℕ) (first from skipped count : ℕ) (places : List ℕ) → RowsFit v first from places → first ≤ from + skipped → 4 * length v * (skipped + count) ≤ length places
     → (i : ℕ) → i < count → IsRowOf v (row_at (length v) (4 * length v * i) (drop (4 * length v * skipped) places))
 fit_from v first from skipped count places fit past within i low =
@@ -120,7 +120,7 @@ columns_are bytes k = refl
 
 -- ---- rows more
 
--- so many rows more of a further stretch
+-- this many more rows of a further stretch
 pub state_on : (bytes : List ℕ) (a b k t : ℕ) (ring more : List ℕ) → length ring ≡ 4 * length (columns_said bytes) * k → k + t ≡ first_said bytes % 30 + a → (k ≡ 0 → a ≡ 0) → (0 < k → t ≡ 0) → first_said bytes % 30 ≤ k + t
     → with_rows (state_with bytes a ring) more t b ≡ state_with bytes (a + b) (ring ++ more)
 state_on bytes a b k t ring more long sum none some within =
@@ -262,7 +262,7 @@ page_made r now state places told from page t same is_first is_page is_from is_t
 
 -- ---- all of it restored
 
--- The rows in the bodies behind those of the ring pages.
+-- The rows in the bodies after those of the ring pages.
 record Behind (r : Refilled) (ring behind : List ℕ) : Type 0 where
   here : r.page ≡ next_said r.bytes / 30
   long : length behind ≡ 4 * length (columns_said r.bytes) * (next_said r.bytes % 30)

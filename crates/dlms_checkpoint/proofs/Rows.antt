@@ -1,4 +1,4 @@
--- Rows one after another, each of so many values.
+-- Rows one after another, each with the same number of values.
 use Rattle.std.proofs.Common.{◌≡◌, ℕ, zero, suc, ◌+◌, ◌*◌, ◌/◌, ◌%◌, ◌<◌, ◌≤◌, ◌^◌, List, [], ◌∷◌, ◌++◌, length, take, drop, get_or, refl, sym, ap, ◌∙◌, subst, arith, append_assoc, All}
 use Rattle.std.proofs.lemmas.List.{length-append, drop-drop, length-drop, drop-append-le, take-append-le}
 use Rattle.std.proofs.Math.Seq.{take-add}
@@ -196,7 +196,7 @@ row_further width skipped i bytes =
     let far : 4 * width * skipped + 4 * width * i ≡ 4 * width * (skipped + i) = omega arith in
     sym (row_drop width (4 * width * i) (drop (4 * width * skipped) bytes)) ∙ ap (row_at width 0) (drop-drop (4 * width * i) (4 * width * skipped) bytes) ∙ row_drop width (4 * width * skipped + 4 * width * i) bytes ∙ ap (λ (j : ℕ). row_at width j bytes) far
 
--- a row of two stretches, one behind the other
+-- a row of two stretches, one after the other
 values_of_front : (n : ℕ) (front back : List ℕ) → 4 * n ≤ length front → values_at n (front ++ back) ≡ values_at n front
 values_of_front zero front back long = refl
 values_of_front (suc n) front back long =

@@ -1,4 +1,4 @@
--- What a checkpoint's bytes are: the head, and the places of the ring page that is not filled.
+-- The bytes of a checkpoint: the head, and the places of the ring page that is not filled.
 use Rattle.std.proofs.Common.{◌≡◌, ℕ, List, [], ◌++◌, length, take, drop, refl, sym, ap, ◌∙◌, subst, arith}
 use Rattle.std.proofs.lemmas.List.{take_at, drop_at, append-nil, take-append-drop}
 use Rattle.dlms_profile.specs.Rows.{RowsValue, none_before}
@@ -11,7 +11,7 @@ use Rattle.dlms_checkpoint.specs.declared.version.Version.TheVariants.{Columns}
 use Rattle.dlms_checkpoint.specs.Reading.{parts_at}
 use Rattle.dlms_checkpoint.proofs.Heads.{HeadIs, head_again, length-head}
 
--- the rows of a state do not stand in its head
+-- the rows of a state are not in its head
 pub head_alone : (s : StateValue) (rows : RowsValue) (first next : ℕ) → head_bytes (record s { rows = rows }) first next ≡ head_bytes s first next
 unfolding head_bytes
 head_alone s rows first next = refl

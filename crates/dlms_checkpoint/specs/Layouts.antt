@@ -1,5 +1,5 @@
--- The layouts by which bodies stand on the medium, each with the number that the heads of their pages say. Version 1 has rows of
--- the clock and the three registers, and says nothing of columns and of the reader's secret; version 2 is the present one.
+-- The layouts of bodies on the medium, each with the number in the heads of their pages. Version 1 has rows of the clock and the
+-- three registers, and has neither columns nor the reader's secret; version 2 is the present one.
 use Rattle.std.specs.Prelude.{ℕ, ◌-◌, ◌==◌, List, ◌++◌, take, drop, Option, Some, None, if◌then◌else◌}
 use Rattle.dlms_state.specs.Columns.{first_columns}
 use Rattle.dlms_state.specs.Events.{first_secret}
@@ -34,7 +34,7 @@ abbrev pub missing : Version → ℕ
 missing Rings = SETTINGS_BYTES
 missing Columns = 0
 
--- how many bytes stand before the rows
+-- the number of bytes before the rows
 abbrev pub head_length : Version → ℕ
 head_length version = HEAD_BYTES - missing version
 

@@ -11,7 +11,7 @@ use dlms_state::Parts;
 /// The bytes before the rows.
 pub(crate) const HEAD_BYTES: usize = 324;
 
-/// Where the columns and the reader's secret stand in a head.
+/// The places of the columns and of the reader's secret in a head.
 pub(crate) const SETTINGS_PLACE: usize = 286;
 
 /// The bytes of the columns and the reader's secret.
@@ -53,7 +53,7 @@ pub(crate) fn append_row<const N: usize>(bytes: &mut ArrayVec<u8, N>, row: &Row)
     }
 }
 
-/// These bytes in a room of `ROOM`, with zeros behind them.
+/// These bytes, padded with zeros to `ROOM`.
 fn padded<const ROOM: usize>(bytes: &[u8]) -> [u8; ROOM]
     requires { length bytes.now ≤ ROOM }
     ensures { result ≡ bytes.now ++ replicate (ROOM - length bytes.now) 0 }
@@ -64,7 +64,7 @@ fn padded<const ROOM: usize>(bytes: &[u8]) -> [u8; ROOM]
     room
 }
 
-/// Appends bytes behind their count, in a room of `ROOM`.
+/// Appends the count of the bytes and the bytes, padded to `ROOM`.
 #[tactic(auto, unfolding(crate::specs::Checkpoint::field))]
 fn append_field<const N: usize, const ROOM: usize>(
     bytes: &mut ArrayVec<u8, N>,

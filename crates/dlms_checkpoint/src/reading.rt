@@ -39,8 +39,7 @@ pub enum RingFault {
     Clock,
 }
 
-/// The bodies of a checkpoint taken so far, in their order, as they stand on the medium. They stand in a fixed buffer of 788
-/// bytes.
+/// The bodies of a checkpoint taken so far, in order, as they are on the medium. They are in a fixed buffer of 788 bytes.
 #[derive(Drop)]
 pub struct Restoring {
     version: Version,
@@ -58,7 +57,7 @@ impl Model for Restoring {
     ghost invariant = { λ r. HasHead (as_present r.version r.bytes.items) };
 }
 
-/// All bodies of a checkpoint in the present layout, where they are the bytes of a state. They stand in a fixed buffer of 788 bytes.
+/// All bodies of a checkpoint in the present layout, if they are the bytes of a state. They are in a fixed buffer of 788 bytes.
 #[derive(Drop)]
 pub struct Joined {
     bytes: ArrayVec<u8, MOST_BYTES>,
@@ -102,15 +101,16 @@ impl Joined {
         are_first_columns(self.bytes.as_slice())
     }
 
-    /// The first ring page that the bodies name, by its number among all ring pages ever filled; nothing where they name none.
+    /// The first ring page that the bodies name, by its number among all ring pages ever filled; none if they name none.
     pub fn first_page(&self) -> Option<u64>
-        ensures { MatchOption result (open_page self.now ≤ first_page self.now) (λ page. (page ≡ first_page self.now) × (page < open_page self.now)) }
+        ensures { MatchOption result (open_page self.now ≤ first_page self.now)
+            (λ page. (page ≡ first_page self.now) × (page < open_page self.now)) }
     {
         page_among(self.bytes.as_slice(), first_page_of(self.bytes.as_slice()))
     }
 
-    /// The state that the bodies spell, and no row of the ring pages that they name. Only here memory is asked for. Where it is
-    /// refused, ring pages are judged all the same, and `finish` tells of it.
+    /// The state that the bodies spell, without the rows of the ring pages that they name. This is the only call that allocates. If
+    /// the allocation fails, ring pages are judged all the same, and `finish` reports it.
     pub fn refilling<A: Allocator + Copy>(self, alloc: A) -> Refilling<A>
         ensures bodies { result.bytes ≡ self }
         ensures begun { IsRefilled result [] }
@@ -209,10 +209,14 @@ fn fault_of(version: Version, body: &[u8]) -> Option<BodyFault>
 }
 
 impl Restoring {
-    /// Takes the first body of a version. Of several faults the first of these is told: fewer bytes than a head has, counts
-    /// past their limits, another length than the counts ask for.
+    /// Takes the first body of a version. Of several faults the first of these is reported: fewer bytes than a head has, counts
+    /// past their limits, a length other than the counts require.
     pub fn begin(version: Version, body: &[u8]) -> Result<Restoring, BodyFault>
-        ensures { MatchResult result (λ taken. (first_fault version body.now ≡ None) × (taken ≡ record { version = version; bytes = body.now })) (λ fault. first_fault version body.now ≡ Some fault) }
+        ensures { MatchResult result (λ taken. (first_fault version body.now ≡ None)
+            × (taken ≡ record {
+              version = version;
+              bytes = body.now;
+            })) (λ fault. first_fault version body.now ≡ Some fault) }
     {
         if let Some(fault) = fault_of(version, body) {
             return Err(fault);
@@ -233,8 +237,12 @@ impl Restoring {
 
     /// Takes the next body, which has exactly the awaited length. Another one changes nothing.
     pub fn more(&mut self, body: &[u8]) -> Result<(), BodyFault>
-        ensures when { IsOk result ↔ (length body.now ≡ awaited (as_present self.old.version self.old.bytes)) }
-        ensures ok { OnOk result (self.new ≡ record { version = self.old.version; bytes = self.old.bytes ++ body.now }) }
+        ensures when { IsOk result ↔ (length body.now ≡ awaited
+            (as_present self.old.version self.old.bytes)) }
+        ensures ok { OnOk result (self.new ≡ record {
+          version = self.old.version;
+          bytes = self.old.bytes ++ body.now;
+        }) }
         ensures length { IfErr result (λ fault. fault ≡ BodyFault.Length) }
         ensures err { OnErr result (self.new ≡ self.old) }
     {
@@ -245,11 +253,13 @@ impl Restoring {
         Ok(())
     }
 
-    /// All bodies, where they are the bytes of a state, whatever rows the ring pages hold that they name; else nothing.
+    /// All bodies, if they are the bytes of a state whatever rows the named ring pages hold; otherwise none.
     pub fn joined(self) -> Option<Joined>
         requires { awaited (as_present self.version self.bytes) ≡ 0 }
         ensures bytes { IfSome result (λ joined. joined ≡ as_present self.version self.bytes) }
-        ensures spelled { MatchOption result ((s : StateValue) → IsCheckpointOf self.version s self.bytes → ⊥) (λ _. (s : StateValue) × IsCheckpointOf self.version s self.bytes) }
+        ensures spelled { MatchOption result ((s : StateValue)
+            → IsCheckpointOf self.version s self.bytes
+            → ⊥) (λ _. (s : StateValue) × IsCheckpointOf self.version s self.bytes) }
     {
         let bytes = present_of(self.version, self.bytes.as_slice());
         if !are_spelled(bytes.as_slice()) {
@@ -304,10 +314,11 @@ fn first_page_of(bytes: &[u8]) -> u64
     (first_of(bytes) / RING_ROWS as u128) as u64
 }
 
-/// A page, where it stands before the one that is not filled.
+/// A page, if it comes before the one that is not filled.
 fn page_among(bytes: &[u8], page: u64) -> Option<u64>
     requires { HEAD_BYTES ≤ length bytes.now }
-    ensures { MatchOption result (open_page bytes.now ≤ page) (λ named. (named ≡ page) × (named < open_page bytes.now)) }
+    ensures { MatchOption result (open_page bytes.now ≤ page) (λ named. (named ≡ page)
+        × (named < open_page bytes.now)) }
 {
     if u128::from(page) < next_of(bytes) / RING_ROWS as u128 {
         Some(page)
@@ -326,20 +337,23 @@ impl<A: Allocator + Copy> Refilling<A> {
 
     /// The ring page that is taken next, by its number among all ring pages ever filled; nothing where every one was taken.
     pub fn awaited_page(&self) -> Option<u64>
-        ensures { MatchOption result (open_page self.now.bytes ≤ self.now.page) (λ page. (page ≡ self.now.page) × (page < open_page self.now.bytes)) }
+        ensures { MatchOption result (open_page self.now.bytes ≤ self.now.page)
+            (λ page. (page ≡ self.now.page) × (page < open_page self.now.bytes)) }
     {
         page_among(self.bytes.as_slice(), self.page)
     }
 
-    /// Takes the rows of the awaited ring page. Rows that are no such page's change nothing: of another length, or with a
-    /// clock past its range in a row that is kept, of which the length is told first. Where no column is the clock, nothing
-    /// but the length is looked at.
+    /// Takes the rows of the awaited ring page. Rows that cannot be that page's change nothing: those of another length, or with a
+    /// clock out of range in a kept row (the length is reported first). If no column is the clock, only the length is checked.
     pub fn take(&mut self, places: &[u8]) -> Result<(), RingFault>
         requires { self.old.page < open_page self.old.bytes }
-        ensures when { IsOk result ↔ ArePlaces (columns_said self.old.bytes) (first_said self.old.bytes) self.old.page places.now }
+        ensures when { IsOk result ↔ ArePlaces (columns_said self.old.bytes)
+            (first_said self.old.bytes) self.old.page places.now }
         ensures ok { OnOk result (self.new ≡ with_page self.old places.now) }
-        ensures rows { OnOk result ((ring : List ℕ) → IsRefilled self.old ring → IsRefilled self.new (ring ++ places.now)) }
-        ensures length { (result ≡ Err RingFault.Length) ↔ (length places.now ≢ page_length (columns_said self.old.bytes)) }
+        ensures rows { OnOk result ((ring : List ℕ) → IsRefilled self.old ring
+            → IsRefilled self.new (ring ++ places.now)) }
+        ensures length { (result ≡ Err RingFault.Length)
+            ↔ (length places.now ≢ page_length (columns_said self.old.bytes)) }
         ensures err { OnErr result (self.new ≡ self.old) }
     {
         let bytes = self.bytes.as_slice();
@@ -359,13 +373,15 @@ impl<A: Allocator + Copy> Refilling<A> {
         Ok(())
     }
 
-    /// The state that the bodies and all the ring pages spell. Where memory was refused for it, there is none.
+    /// The state that the bodies and all the ring pages spell. None if its memory could not be allocated.
     pub fn finish(self) -> Result<State<A>, AllocError>
         requires { open_page self.bytes ≤ self.page }
-        ensures state { (ring : List ℕ) → IsRefilled self ring → IfOk result (λ state. IsFilledBy state (record { bytes = self.bytes; ring = ring })) }
+        ensures state { (ring : List ℕ) → IsRefilled self ring
+            → IfOk result (λ state. IsFilledBy state (record { bytes = self.bytes; ring = ring })) }
         ensures events { IfOk result HasEvents }
         ensures memory { IsErr result ↔ (self.state ≡ None) }
-        ensures some { (ring : List ℕ) → IsRefilled self ring → (s : StateValue) × IsFilledBy s (record { bytes = self.bytes; ring = ring }) }
+        ensures some { (ring : List ℕ) → IsRefilled self ring
+            → (s : StateValue) × IsFilledBy s (record { bytes = self.bytes; ring = ring }) }
     {
         let bytes = self.bytes;
         let (head, places) = bytes.as_slice().split_at(HEAD_BYTES);
@@ -460,7 +476,7 @@ fn registers_at(bytes: &[u8], place: usize) -> [u32; 3]
     ]
 }
 
-/// What a head says of a state without its rows.
+/// The state of a head, without its rows.
 #[tactic(auto, unfolding(crate::specs::Reading::parts_at))]
 fn parts_of(head: &[u8]) -> Parts
     requires long { HEAD_BYTES ≤ length head.now }

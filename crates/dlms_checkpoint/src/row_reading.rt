@@ -1,4 +1,4 @@
-//! Rows read of places that stand one behind another.
+//! Reads rows of consecutive places.
 ghost use Rattle.std.specs.Prelude.{◌≡◌, ◌≤◌, ◌<◌, ◌*◌, ◌+◌, ◌↔◌, ◌-◌, IfSome, length, IsTrue};
 ghost use Rattle.byteorder.specs.Endian.{big_from};
 ghost use Rattle.dlms_state.specs.Columns.{IsRowOf};
@@ -22,7 +22,7 @@ pub(crate) fn word_at(bytes: &[u8], place: usize) -> u32
     BigEndian::read_u32(&bytes[place..])
 }
 
-/// The row at this place among rows of so many values.
+/// The row at this place among rows of `width` values.
 fn row_of(rows: &[u8], width: usize, index: usize) -> Row
     requires few { width ≤ 4 }
     requires within { 4 * width * (index + 1) ≤ length rows.now }
@@ -54,13 +54,14 @@ fn is_in_time(columns: &[u8], row: &Row) -> bool
 fn fits_at(rows: &[u8], columns: &[u8], index: usize) -> bool
     requires few { length columns.now ≤ 4 }
     requires within { row_width columns.now * (index + 1) ≤ length rows.now }
-    ensures { IsTrue result ↔ IsRowOf columns.now (row_at (length columns.now) (row_width columns.now * index) rows.now) }
+    ensures { IsTrue result ↔ IsRowOf columns.now
+        (row_at (length columns.now) (row_width columns.now * index) rows.now) }
 {
     let row = row_of(rows, columns.len(), index);
     is_in_time(columns, &row)
 }
 
-/// Whether each row from the one numbered `first` on is one of these columns, where the rows' numbers begin with `from`.
+/// Whether each row from the one numbered `first` on is one of these columns, if the rows' numbers begin with `from`.
 pub(crate) fn are_rows(rows: &[u8], columns: &[u8], first: u128, from: u128) -> bool
     requires some { 0 < length columns.now }
     requires few { length columns.now ≤ 4 }
@@ -75,7 +76,7 @@ pub(crate) fn are_rows(rows: &[u8], columns: &[u8], first: u128, from: u128) -> 
     true
 }
 
-/// Restores so many rows of places that stand one behind another, from this place on.
+/// Restores consecutive rows from this place on.
 pub(crate) fn restore_rows<A: Allocator + Copy>(
     state: &mut State<A>,
     places: &[u8],
@@ -93,7 +94,7 @@ pub(crate) fn restore_rows<A: Allocator + Copy>(
     state.has_events();
 }
 
-/// Restores the rows of a ring page's places behind the first so many, where there is a state.
+/// Restores the rows of a ring page's places after the skipped ones, if there is a state.
 pub(crate) fn restore_page<A: Allocator + Copy>(
     state: &mut Option<State<A>>,
     places: &[u8],

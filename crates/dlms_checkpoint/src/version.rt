@@ -50,7 +50,7 @@ impl Version {
         }
     }
 
-    /// How many bytes stand before the rows.
+    /// The number of bytes before the rows.
     pub(crate) fn head_length(self) -> usize
         ensures { result ≡ head_length self }
     {

@@ -1,4 +1,4 @@
-//! A state as the bytes of a checkpoint: what stands in its bodies, and the ring pages that they name.
+//! A state as the bytes of a checkpoint: the content of its bodies, and the ring pages that they name.
 ghost use Rattle.std.specs.Prelude.{◌≡◌, ◌≤◌, ◌<◌, ◌*◌, ◌+◌, ◌++◌, ◌^◌, All, length, take, nat_eq, if◌then◌else◌};
 ghost use Rattle.arrayvec.specs.ArrayVec.{array_vec_len};
 ghost use Rattle.dlms_profile.specs.Rows.{none_before};
@@ -28,7 +28,7 @@ pub(crate) const MOST_BYTES: usize = HEAD_BYTES + MOST_ROW_BYTES * (RING_ROWS - 
 /// One above the greatest number of a row.
 pub(crate) const NUMBERS_END: u128 = 18_446_744_073_709_551_616;
 
-/// The bytes of a state's bodies, which are read body by body. They stand in a fixed buffer of 788 bytes and take no memory.
+/// The bytes of a state's bodies, which are read body by body. They are in a fixed buffer of 788 bytes and take no memory.
 #[derive(Drop)]
 pub struct Checkpoint {
     bytes: ArrayVec<u8, MOST_BYTES>,
@@ -52,7 +52,7 @@ impl Checkpoint {
         self.bytes.len().div_ceil(MOST_BODY) as u16
     }
 
-    /// The body at this place, counted from 0; behind the last, nothing.
+    /// The body at this place, counted from 0; empty past the last.
     pub fn body(&self, index: u16) -> &[u8]
         ensures bytes { result.now ≡ body_at index self.now }
         ensures fits { length result.now ≤ MOST_BODY }
@@ -93,8 +93,10 @@ pub fn checkpoint_of<A: Allocator + Copy>(state: &State<A>) -> Checkpoint
 /// captured and that the last one is still kept.
 pub fn ring_page_of<A: Allocator + Copy>(state: &State<A>, page: u64) -> ArrayVec<u8, RING_BYTES>
     requires { IsNamed state.now.rows page }
-    ensures places { result.items ≡ places_of state.now.columns state.now.rows (RING_ROWS * page) RING_ROWS }
-    ensures holds { HoldsRows state.now.columns state.now.rows (RING_ROWS * page) RING_ROWS result.items }
+    ensures places { result.items ≡ places_of state.now.columns state.now.rows
+        (RING_ROWS * page) RING_ROWS }
+    ensures holds { HoldsRows state.now.columns state.now.rows
+        (RING_ROWS * page) RING_ROWS result.items }
 {
     let mut places = ArrayVec::new();
     let rows = state.rows();
@@ -124,7 +126,7 @@ pub(crate) fn next_written(next: u128) -> u64
     if next == NUMBERS_END { 0 } else { next as u64 }
 }
 
-/// Appends the place of a row that was captured: its bytes, or zeros where it is no longer kept.
+/// Appends the place of a captured row: its bytes, or zeros if it is no longer kept.
 fn append_place<const N: usize, A: Allocator + Copy>(
     bytes: &mut ArrayVec<u8, N>,
     columns: &[u8],
@@ -168,7 +170,7 @@ fn append_places<const N: usize, A: Allocator + Copy>(
     }
 }
 
-/// A copy of what a state holds, but for its rows.
+/// A copy of a state without its rows.
 fn parts_of<A: Allocator + Copy>(state: &State<A>) -> Parts
     ensures { state_of_parts result state.now.rows.next ≡ record state.now { rows = none_before state.now.rows.next } }
 {

@@ -29,7 +29,7 @@ use Rattle.dlms_classes.specs.Shown.{Match, IsRow, IsCell, IsTable, Part, whole,
 use Rattle.dlms_classes.proofs.Listed.{listed_more, mapped_more, values_more}
 use Rattle.dlms_classes.proofs.Matching.{Match-push, range_more, cell_at, count_cells}
 
--- the spelling of one more value stands at the end
+-- the spelling of one more value is at the end
 pub all_canonical-push : (vs : Values) (v : Value) → all_canonical (push_value vs v) ≡ all_canonical vs ++ canonical v
 all_canonical-push none v = append-nil (canonical v)
 all_canonical-push (cons w vs) v = ap (λ (l : List ℕ). canonical w ++ l) (all_canonical-push vs v) ∙ sym (append_assoc (canonical w) (all_canonical vs) (canonical v))
@@ -49,7 +49,7 @@ put_more R xs x old middle new (vs, shows, is) (v, holds, more) = (
   more ∙ ap (λ (l : List ℕ). l ++ canonical v) is ∙ append_assoc old (all_canonical vs) (canonical v) ∙ ap (λ (l : List ℕ). old ++ l) (sym (all_canonical-push vs v)),
 )
 
--- elements behind others
+-- elements after others
 Match-append : {X : Type 0} (R : X → Value → Type 0) (xs ys : List X) (vs ws : Values) → Match R xs vs → Match R ys ws → (us : Values) × Match R (xs ++ ys) us × (all_canonical us ≡ all_canonical vs ++ all_canonical ws)
 Match-append R [] ys none ws h k = (ws, k, refl)
 Match-append R [] ys (cons v vs) ws h k = absurd h
@@ -88,13 +88,13 @@ fields_put columns values first i old middle new le lt same so_far more =
     rw (range_more (cells_of columns values) first i (Number 0) le (omega (arith, count)), cell_at columns values i (Number 0) lt same)
     (put_more IsCell (slice_range (cells_of columns values) first i) (cell_of (slice_index columns i) (slice_index values i)) old middle new so_far more)
 
--- a row behind its head
+-- a row after its head
 pub row_put : (cs : List Cell) (n : ℕ) (old new : List ℕ) → n ≡ length cs → ArePut IsCell cs (old ++ 2 ∷ short_length n) new → IsPut (IsRow cs) old new
 row_put cs n old new e (vs, shows, is) =
     let number : n ≡ count vs = e ∙ sym (count_match IsCell cs vs shows) in
     (structure vs, shows, is ∙ append_assoc old (2 ∷ short_length n) (all_canonical vs) ∙ ap (λ (k : ℕ). old ++ 2 ∷ (short_length k ++ all_canonical vs)) number)
 
--- a table behind its head
+-- a table after its head
 pub table_put : (rows : List (List Cell)) (n : ℕ) (old new : List ℕ) → n ≡ length rows → ArePut IsRow rows (old ++ 1 ∷ short_length n) new → IsPut (IsTable rows) old new
 table_put rows n old new e (vs, shows, is) =
     let number : n ≡ count vs = e ∙ sym (count_match IsRow rows vs shows) in
@@ -115,7 +115,7 @@ pub rows_put : (f : Row → List Cell) (choice : Choice) (rows : List Row) (i : 
 rows_put f choice rows i d old middle new lt so_far more =
     rw (take_more rows i d lt, filter-append, map-append) (put_behind IsRow (map f (filter (chooses choice) (take i rows))) (map f (filter (chooses choice) (get_or rows i d ∷ []))) old middle new so_far more)
 
--- each row is chosen where no range is
+-- each row is selected if no range is
 pub all_chosen : (rows : List Row) → filter (chooses Whole) rows ≡ rows
 all_chosen [] = refl
 all_chosen (row ∷ rows) = ap (λ (l : List Row). row ∷ l) (all_chosen rows)
@@ -142,7 +142,7 @@ range_both xs ys first end =
 
 -- ---- whole arrays
 
--- one more behind the others
+-- one more after the others
 pub appended : (head old new : List ℕ) (vs ws : Values) (v : Value) → ws ≡ push_value vs v → old ≡ head ++ all_canonical vs → new ≡ old ++ canonical v → new ≡ head ++ all_canonical ws
 appended head old new vs ws v e so_far more =
     more ∙ ap (λ (l : List ℕ). l ++ canonical v) so_far ∙ append_assoc head (all_canonical vs) (canonical v)
@@ -176,7 +176,7 @@ count_numbered : {X : Type 0} (n : ℕ) (xs : List X) → length (enumerate_from
 count_numbered n [] = refl
 count_numbered n (x ∷ xs) = ap suc (count_numbered (n + 1) xs)
 
--- an array behind its head
+-- an array after its head
 array_put : (vs : Values) (n : ℕ) (old new : List ℕ) → n ≡ count vs → new ≡ (old ++ 1 ∷ short_length n) ++ all_canonical vs → new ≡ old ++ canonical (array vs)
 array_put vs n old new e is = is ∙ append_assoc old (1 ∷ short_length n) (all_canonical vs) ∙ ap (λ (k : ℕ). old ++ 1 ∷ (short_length k ++ all_canonical vs)) e
 
@@ -217,7 +217,7 @@ tables_put f choice older newer k m start middle new ek em e one two =
     rw (filter-append, map-append)
     (table_put (a ++ b) (k + m) [] new number (subst (λ (l : List ℕ). ArePut IsRow (a ++ b) l new) e (put_behind IsRow a b start middle new one two)))
 
--- the entries of rows that stand in two lists
+-- the entries of rows in two lists
 pub entries_of_both : (older newer rows : List Row) (first last until : ℕ) (one two : List Row) → older ++ newer ≡ rows → until ≡ (if nat_eq last 0 then length rows else last)
     → one ≡ slice_range older (first - 1) until → two ≡ slice_range newer ((first - 1) - length older) (until - length older) → one ++ two ≡ entries first last rows
 entries_of_both older newer rows first last until one two is ends a b =

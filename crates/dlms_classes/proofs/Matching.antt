@@ -19,12 +19,12 @@ Match-push R [] (cons w ws) x v h r = absurd h
 Match-push R (y ∷ xs) none x v h r = absurd h
 Match-push R (y ∷ xs) (cons w ws) x v h r = (h.0, Match-push R xs ws x v h.1 r)
 
--- the next element, and what was pushed for it
+-- the next element, and the value pushed for it
 pub matches_more : {X : Type 0} (R : X → Value → Type 0) (xs : List X) (i : ℕ) (d : X) (vs ws : Values) (v : Value) → i < length xs → ws ≡ push_value vs v → Match R (take i xs) vs
     → R (get_or xs i d) v → Match R (take (i + 1) xs) ws
 matches_more R xs i d vs ws v lt e h r = rw (take_more xs i d lt, e) (Match-push R (take i xs) vs (get_or xs i d) v h r)
 
--- the next of some elements behind others
+-- the next of some elements after others
 pub rows_more : {X Y : Type 0} (R : Y → Value → Type 0) (f : X → Y) (xs : List X) (i : ℕ) (d : X) (done : List Y) (vs ws : Values) (v : Value) → i < length xs → ws ≡ push_value vs v
     → Match R (done ++ map f (take i xs)) vs → R (f (get_or xs i d)) v → Match R (done ++ map f (take (i + 1) xs)) ws
 rows_more R f xs i d done vs ws v lt e h r =

@@ -1,4 +1,4 @@
--- What is shown, one value shows.
+-- Each content has one value.
 use Rattle.std.proofs.Common.{◌≡◌, ℕ, List, [], ◌∷◌, map, refl, sym, ap, ap₂, ◌∙◌, unsigned_abs, Option, Some}
 use Rattle.dlms_data.specs.DateTime.{NamesSecond}
 use Rattle.dlms_data.specs.Value.{Value, Values, array, structure, octet_string, none, cons}
@@ -27,7 +27,7 @@ one_cell : IsSingle IsCell
 one_cell (Second s) v w h k = one_time s v w h k
 one_cell (Number n) v w h k = h ∙ sym k
 
--- what a row or a table is, told by what it holds
+-- what a row or a table is, by its content
 in_row : (row : List Cell) (v : Value) → IsRow row v → (vs : Values) × (v ≡ structure vs) × Match IsCell row vs
 in_row row (structure vs) h = (vs, refl, h)
 in_row row _ h = absurd h

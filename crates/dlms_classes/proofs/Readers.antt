@@ -1,4 +1,4 @@
--- What the reader may do, by management's rights.
+-- The reader's rights, by management's rights.
 use Rattle.std.proofs.Common.{◌≡◌, ◌∙◌, refl, sym, ap, Bool, true, false, if◌then◌else◌, List, ℕ, Result, Ok, Err, Some}
 use Rattle.dlms_data.specs.Value.{Value, octet_string}
 use Rattle.dlms_frame.specs.declared.client.Client.TheVariants.{Management, Reader}

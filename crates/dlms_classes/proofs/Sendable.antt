@@ -1,4 +1,4 @@
--- What is shown of a state that fits its types has a spelling, and it is not longer than that of the full buffer.
+-- The value of a state that fits its types has a spelling, which is no longer than the full buffer's.
 use Rattle.std.proofs.Common.{◌≡◌, ◌∙◌, refl, sym, ap, subst, arith, ℕ, zero, suc, ◌+◌, ◌-◌, ◌*◌, ◌^◌, ◌<◌, ◌≤◌, Bool, true, false, ◌&&◌, if◌then◌else◌, List, [], ◌∷◌, length, map, filter, slice_index, slice_get, find, Option, Some, None, ok_or, Result, Ok, Err, length-take, length-drop, pos}
 use Rattle.std.specs.Prelude.{All, IfOk, ◌==◌, nat_le, nat_lt, nat_eq}
 use Rattle.std.specs.List.{list_all}

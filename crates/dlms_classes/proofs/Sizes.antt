@@ -19,7 +19,7 @@ use Rattle.dlms_classes.specs.Table.{object_of_column}
 use Rattle.dlms_classes.proofs.Matching.{few_cells}
 use Rattle.dlms_state.specs.Columns.{are_distinct}
 
--- at most so many levels, numbers in their ranges, and a spelling of at most so many bytes
+-- at most this many levels, numbers in their ranges, and a spelling of at most this many bytes
 pub record Small (levels bytes : ℕ) (v : Value) : Type 0 where
   pub deep : depth v ≤ levels
   pub fits : InRange v

@@ -11,7 +11,7 @@ use Rattle.dlms_data.specs.DateTime.{NamesSecond, IsPlainlyWritten, year_of, mon
 dated : (y m d : ℕ) → IsCivilDate (pos y) m d → Date
 dated y m d h = record { year = pos y; month = m; day = d; year_in = h.0; month_in = h.1; day_in = h.2 }
 
--- the parts of a date are told by its day number
+-- the parts of a date follow from its day number
 same_date : (y m d y₂ m₂ d₂ : ℕ) → IsCivilDate (pos y) m d → IsCivilDate (pos y₂) m₂ d₂ → days_from_civil (pos y) m d ≡ days_from_civil (pos y₂) m₂ d₂ → (y ≡ y₂) × (m ≡ m₂) × (d ≡ d₂)
 unfolding dated
 same_date y m d y₂ m₂ d₂ h k e =

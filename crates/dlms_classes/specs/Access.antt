@@ -19,14 +19,16 @@ number_of TypeUnmatched = 12
 number_of ScopeOfAccessViolated = 13
 number_of OtherReason = 250
 
--- one step, and the next where it is not refused
+-- one step, and the next if it is not refused
 infixl 10 ◌>>=◌
-abbrev pub ◌>>=◌ : {X Y : Type 0} → Result X AccessResult → (X → Result Y AccessResult) → Result Y AccessResult
+abbrev pub ◌>>=◌ : {X Y : Type 0} → Result X AccessResult → (X → Result Y AccessResult)
+    → Result Y AccessResult
 (Ok x) >>= f = f x
 (Err r) >>= f = Err r
 
 -- the call answers this: the value by what contracts see of it, or the refusal
-abbrev pub IsToldAs : {X Y : Type 0} → (X → Y) → Result X AccessResult → Result Y AccessResult → Type 0
+abbrev pub IsToldAs : {X Y : Type 0} → (X → Y) → Result X AccessResult → Result Y AccessResult
+    → Type 0
 IsToldAs seen result told = MatchResult result (λ x. told ≡ Ok (seen x)) (λ r. told ≡ Err r)
 
 -- the object of this name
@@ -37,11 +39,12 @@ object_named name = find (λ o. bytes_eq o.name name) objects
 abbrev pub numbered : {X : Type 0} → ℕ → List X → Option X
 numbered id xs = if id == 0 then None else slice_get xs (id - 1)
 
--- refused where no object has the name, and then where the object is of another class
+-- refused if no object has the name, and then if the object has another class
 abbrev pub object_of : Descriptor → Result Entry AccessResult
-object_of d = ok_or (object_named d.name) ObjectUndefined >>= λ o. (if o.class == d.class then Ok o else Err ObjectClassInconsistent)
+object_of d = ok_or (object_named d.name) ObjectUndefined >>= λ o. (if o.class == d.class then Ok o
+    else Err ObjectClassInconsistent)
 
--- then where its class has no such attribute
+-- then if its class has no such attribute
 abbrev pub attribute_of : Descriptor → Result Attribute AccessResult
 attribute_of d = object_of d >>= λ o. ok_or (numbered d.id o.attributes) ObjectUndefined
 
@@ -49,12 +52,15 @@ attribute_of d = object_of d >>= λ o. ok_or (numbered d.id o.attributes) Object
 abbrev pub method_of : Descriptor → Result Call AccessResult
 method_of d = object_of d >>= λ o. ok_or (numbered d.id o.methods) ObjectUndefined
 
--- then where the client may not do that
+-- then if the client has no right to it
 abbrev pub readable : Client → Descriptor → Result Attribute AccessResult
-readable client d = attribute_of d >>= λ a. (if may_read (rights_of client a) then Ok a else Err ReadWriteDenied)
+readable client d = attribute_of d >>= λ a. (if may_read (rights_of client a) then Ok a
+    else Err ReadWriteDenied)
 
 abbrev pub writable : Client → Descriptor → Result Attribute AccessResult
-writable client d = attribute_of d >>= λ a. (if may_write (rights_of client a) then Ok a else Err ReadWriteDenied)
+writable client d = attribute_of d >>= λ a. (if may_write (rights_of client a) then Ok a
+    else Err ReadWriteDenied)
 
 abbrev pub callable : Client → Descriptor → Result Call AccessResult
-callable client d = method_of d >>= λ method. (if may_call client method then Ok method else Err ReadWriteDenied)
+callable client d = method_of d >>= λ method. (if may_call client method then Ok method
+    else Err ReadWriteDenied)

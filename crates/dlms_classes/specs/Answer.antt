@@ -29,11 +29,13 @@ wanted client d selection =
     part_of a.content selection >>= λ p.
     Ok (record { content = a.content; part = p })
 
--- What is wanted of a state is this: the value that shows it; or the refusal, which is for another reason where the state's
--- columns have no such part.
-abbrev pub IsShown : StateValue → Client → Descriptor → Result Wanted AccessResult → Result Value AccessResult → Type 0
+-- The value that a state has for the request; or the refusal, which is for another reason if the state's columns have no such part.
+abbrev pub IsShown : StateValue → Client → Descriptor → Result Wanted AccessResult
+    → Result Value AccessResult → Type 0
 IsShown s client d (Err r) result = result ≡ Err r
-IsShown s client d (Ok w) result = MatchResult result (λ v. HasPart s.columns w.part × Shows (shown s client d w.part w.content) v) (λ r. (r ≡ OtherReason) × ¬ (HasPart s.columns w.part))
+IsShown s client d (Ok w) result = MatchResult result (λ v. HasPart s.columns w.part
+    × Shows (shown s client d w.part w.content) v) (λ r. (r ≡ OtherReason)
+    × ¬ (HasPart s.columns w.part))
 
 -- nothing refuses it in a state of these columns
 abbrev pub IsGranted : (columns : List ℕ) → Result Wanted AccessResult → Type 0
@@ -45,14 +47,18 @@ abbrev pub NeedsMemory : StateValue → Result Wanted AccessResult → Type 0
 NeedsMemory s (Err r) = ⊥
 NeedsMemory s (Ok w) = HasPart s.columns w.part × TakesMemory s w.part w.content
 
--- what a call answers: what is shown, or want of memory where it takes memory to show it
-abbrev pub IsAnswer : {A : Type 0} → StateValue → Client → Descriptor → Result Wanted AccessResult → Result (Data A) AccessResult → Type 0
+-- a call's answer: the value, or out of memory if it takes memory
+abbrev pub IsAnswer : {A : Type 0} → StateValue → Client → Descriptor → Result Wanted AccessResult
+    → Result (Data A) AccessResult → Type 0
 IsAnswer s client d w result =
-    MatchResult result (λ v. IsShown s client d w (Ok (value_of v))) (λ r. IsShown s client d w (Err r) ⊎ (NeedsMemory s w × (r ≡ TemporaryFailure)))
+    MatchResult result (λ v. IsShown s client d w (Ok (value_of v)))
+    (λ r. IsShown s client d w (Err r) ⊎ (NeedsMemory s w × (r ≡ TemporaryFailure)))
 
 -- the answer after a list of events: the state is that of the definitions of settings, registers, clock and buffer
-abbrev pub AnswersAfter : {A : Type 0} → List Event → Client → Descriptor → Option Selection → Result (Data A) AccessResult → Type 0
-AnswersAfter E client d selection result = IsAnswer (state_of E) client d (wanted client d selection) result
+abbrev pub AnswersAfter : {A : Type 0} → List Event → Client → Descriptor → Option Selection
+    → Result (Data A) AccessResult → Type 0
+AnswersAfter E client d selection result =
+    IsAnswer (state_of E) client d (wanted client d selection) result
 
 -- The bytes of the whole buffer when it is full: an array of structures of a time and three numbers. No attribute has more.
 abbrev pub most_bytes : ℕ

@@ -55,7 +55,7 @@ range_of v =
 
 -- ---- by entry
 
--- from_entry, to_entry, from_selected_value, to_selected_value: refused where the first entry or column is 0
+-- from_entry, to_entry, from_selected_value, to_selected_value: refused if the first entry or column is 0
 abbrev pub cut_of : Value → Result Part AccessResult
 cut_of v =
     four_of v >>= λ fields.
@@ -63,7 +63,8 @@ cut_of v =
     double_long_unsigned_of fields.1 >>= λ last.
     long_unsigned_of fields.2 >>= λ first_col.
     long_unsigned_of fields.3 >>= λ last_col.
-    (if nat_lt 0 first && nat_lt 0 first_col then Ok (cut first last first_col last_col) else Err OtherReason)
+    (if nat_lt 0 first && nat_lt 0 first_col then Ok (cut first last first_col last_col)
+    else Err OtherReason)
 
 -- ---- the selector
 
@@ -73,7 +74,7 @@ part_named s =
     else if s.number == 2 then cut_of s.value
     else Err ScopeOfAccessViolated
 
--- the part that is wanted of an attribute; a selector is refused where none is taken
+-- the selected part of an attribute; a selector is refused if the attribute takes none
 abbrev pub part_of : Content → Option Selection → Result Part AccessResult
 part_of content None = Ok whole
 part_of content (Some s) = if is_selective content then part_named s else Err ScopeOfAccessViolated
@@ -93,21 +94,27 @@ pub record HasRange (columns : List ℕ) (first last : List ℕ) : Type 0 where
 abbrev pub HasPart : (columns : List ℕ) → Part → Type 0
 HasPart columns whole = ⊤
 HasPart columns (between first last) = HasRange columns first last
-HasPart columns (cut first last first_col last_col) = first_col ≤ last_column (length columns) last_col
+HasPart columns (cut first last first_col last_col) =
+    first_col ≤ last_column (length columns) last_col
 
--- what a program's choice stands for
+-- the meaning of the program's choice
 abbrev pub Picks : (columns : List ℕ) → Part → Choice → Type 0
 Picks columns whole choice = choice ≡ Whole
-Picks columns (between first last) (Between place from to) = (clock_place columns ≡ Some place) × NamesSecond first from × NamesSecond last to
+Picks columns (between first last) (Between place from to) = (clock_place columns ≡ Some place)
+    × NamesSecond first from × NamesSecond last to
 Picks columns (between first last) _ = ⊥
-Picks columns (cut first last first_col last_col) choice = choice ≡ Cut first last first_col last_col
+Picks columns (cut first last first_col last_col) choice =
+    choice ≡ Cut first last first_col last_col
 
 -- entries and columns count from 1, and the last column is not below the first
 abbrev pub IsProper : (columns : List ℕ) → Choice → Type 0
-IsProper columns (Cut first last first_col last_col) = (0 < first) × (0 < first_col) × (first_col ≤ last_column (length columns) last_col)
+IsProper columns (Cut first last first_col last_col) = (0 < first) × (0 < first_col)
+    × (first_col ≤ last_column (length columns) last_col)
 IsProper columns _ = ⊤
 
--- the choice that stands for the part, or the refusal: for another reason where these columns have no such part
-abbrev pub IsChoice : (columns : List ℕ) → Result Part AccessResult → Result Choice AccessResult → Type 0
+-- the choice for the part, or the refusal: for another reason if these columns have no such part
+abbrev pub IsChoice : (columns : List ℕ) → Result Part AccessResult → Result Choice AccessResult
+    → Type 0
 IsChoice columns (Err r) result = result ≡ Err r
-IsChoice columns (Ok p) result = MatchResult result (Picks columns p) (λ r. (r ≡ OtherReason) × ¬ (HasPart columns p))
+IsChoice columns (Ok p) result = MatchResult result (Picks columns p) (λ r. (r ≡ OtherReason)
+    × ¬ (HasPart columns p))

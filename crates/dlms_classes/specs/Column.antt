@@ -37,7 +37,8 @@ column_named v =
     octet_string_of fields.1 >>= λ name.
     integer_of fields.2 >>= λ attribute.
     long_unsigned_of fields.3 >>= λ index.
-    Ok (if int_eq attribute (pos captured_attribute) && (index == 0) then id_of class name else None)
+    Ok (if int_eq attribute (pos captured_attribute) && (index == 0) then id_of class name
+    else None)
 
 -- ---- columns
 
@@ -46,7 +47,7 @@ abbrev pub all_named : Values → Result (List (Option ℕ)) AccessResult
 all_named none = Ok []
 all_named (cons v vs) = column_named v >>= λ id. all_named vs >>= λ ids. Ok (id ∷ ids)
 
--- the ids, where each structure names a column
+-- the ids, if each structure names a column
 abbrev pub known : List (Option ℕ) → Option (List ℕ)
 known [] = Some []
 known (None ∷ named) = None

@@ -20,23 +20,29 @@ use Rattle.dlms_classes.specs.Shown.{Match}
 -- ---- the answer
 
 -- the bytes spell the value that shows what is wanted of a state, and canonically
-pub record Encodes (s : StateValue) (client : Client) (d : Descriptor) (w : Result Wanted AccessResult) (bytes : List ℕ) : Type 0 where
+pub record Encodes (s : StateValue) (client : Client) (d : Descriptor)
+    (w : Result Wanted AccessResult) (bytes : List ℕ) : Type 0 where
   pub value : Value
   pub shown : IsShown s client d w (Ok value)
   pub sendable : IsSendable value
   pub spelled : IsSpelling bytes value
   pub canonically : bytes ≡ canonical value
 
--- What is wanted is refused; or memory is, which an encoding takes whatever is shown.
-abbrev pub IsRefused : StateValue → Client → Descriptor → Result Wanted AccessResult → AccessResult → Type 0
-IsRefused s client d w r = IsShown s client d w (Err r) ⊎ (IsGranted s.columns w × (r ≡ TemporaryFailure))
+-- The request is refused; or memory is, which every encoding takes.
+abbrev pub IsRefused : StateValue → Client → Descriptor → Result Wanted AccessResult → AccessResult
+    → Type 0
+IsRefused s client d w r = IsShown s client d w (Err r)
+    ⊎ (IsGranted s.columns w × (r ≡ TemporaryFailure))
 
 -- the same after a list of events
 abbrev pub EncodesAfter : List Event → Client → Descriptor → Option Selection → List ℕ → Type 0
-EncodesAfter E client d selection bytes = Encodes (state_of E) client d (wanted client d selection) bytes
+EncodesAfter E client d selection bytes =
+    Encodes (state_of E) client d (wanted client d selection) bytes
 
-abbrev pub IsRefusedAfter : List Event → Client → Descriptor → Option Selection → AccessResult → Type 0
-IsRefusedAfter E client d selection r = IsRefused (state_of E) client d (wanted client d selection) r
+abbrev pub IsRefusedAfter : List Event → Client → Descriptor → Option Selection → AccessResult
+    → Type 0
+IsRefusedAfter E client d selection r =
+    IsRefused (state_of E) client d (wanted client d selection) r
 
 -- ---- its parts, for private functions alone
 
@@ -48,7 +54,7 @@ IsPut P old new = (v : Value) × P v × (new ≡ old ++ canonical v)
 abbrev pub ArePut : {X : Type 0} → (X → Value → Type 0) → List X → (old new : List ℕ) → Type 0
 ArePut R xs old new = (vs : Values) × Match R xs vs × (new ≡ old ++ all_canonical vs)
 
--- the row lies in the range that is chosen; each does where none is
+-- the row is in the selected range; each one is if no range is selected
 abbrev pub chooses : Choice → Row → Bool
 chooses (Between place from to) row = is_between place from to row
 chooses Whole row = true

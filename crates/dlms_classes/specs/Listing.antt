@@ -36,11 +36,14 @@ selectors = cons (integer (pos 1)) (cons (integer (pos 2)) none)
 -- attribute_id, access_mode, access_selectors
 abbrev pub listed_attribute : Client → ℕ × Attribute → Value
 listed_attribute client a =
-    structure (cons (integer (pos a.0)) (cons (enumerated (mode_of (rights_of client a.1))) (cons (if is_selective a.1.content then array selectors else null) none)))
+    structure (cons (integer (pos a.0))
+    (cons (enumerated (mode_of (rights_of client a.1))) (cons (if is_selective a.1.content
+    then array selectors else null) none)))
 
 -- method_id, access_mode
 abbrev pub listed_method : Client → ℕ × Call → Value
-listed_method client m = structure (cons (integer (pos m.0)) (cons (boolean (may_call client m.1)) none))
+listed_method client m = structure
+    (cons (integer (pos m.0)) (cons (boolean (may_call client m.1)) none))
 
 -- attribute_access and method_access
 abbrev pub listed_rights : Client → Entry → Value
@@ -50,7 +53,9 @@ listed_rights client o =
 
 -- class_id, version, logical_name, access_rights
 abbrev pub listed : Client → Entry → Value
-listed client o = structure (cons (long_unsigned o.class) (cons (unsigned o.version) (cons (octet_string o.name) (cons (listed_rights client o) none))))
+listed client o = structure (cons (long_unsigned o.class)
+    (cons (unsigned o.version) (cons (octet_string o.name)
+    (cons (listed_rights client o) none))))
 
 unfoldable pub object_list : Client → Value
 object_list client = array (map_values (listed client) objects)

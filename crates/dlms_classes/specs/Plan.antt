@@ -78,11 +78,12 @@ Does (text_to bytes) e = text_set e ≡ Some bytes
 Does (secret_to whose bytes) e = secret_set whose e ≡ Some bytes
 Does (columns_to ids) e = columns_set e ≡ Some ids
 
--- the event that does what is asked, or the refusal: for another reason where the octets name no second, or where the bytes
--- are more than any event holds
+-- the event that carries out the request, or the refusal: for another reason if the octets name no second, or if there are more
+-- bytes than an event holds
 abbrev pub IsPlan : Result Setting AccessResult → Result Event AccessResult → Type 0
 IsPlan (Err r) result = result ≡ Err r
-IsPlan (Ok setting) result = MatchResult result (Does setting) (λ r. (r ≡ OtherReason) × ((e : Event) → FitsType e → ¬ (Does setting e)))
+IsPlan (Ok setting) result = MatchResult result (Does setting) (λ r. (r ≡ OtherReason)
+    × ((e : Event) → FitsType e → ¬ (Does setting e)))
 
 -- a shift takes a long; the other methods take anything or nothing
 abbrev pub shift_asked : Option Value → Result Event AccessResult

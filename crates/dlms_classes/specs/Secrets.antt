@@ -1,4 +1,4 @@
--- Whose secret a client knows.
+-- The secret that each client knows.
 use Rattle.std.specs.Prelude.{Option, Some, None}
 use Rattle.dlms_frame.specs.declared.client.Client.{Client}
 use Rattle.dlms_frame.specs.declared.client.Client.TheVariants.{Public, Management, Reader}

@@ -1,5 +1,5 @@
--- What an answer shows, and which value shows it: the attributes' values of IEC 62056-6-2 (Blue Book: Data 4.3.1, Register
--- 4.3.2, Profile generic 4.3.6, Association LN 4.4.4, Clock 4.5.1). The constants are the meter's own.
+-- The content of an answer, and its value: the attributes' values of IEC 62056-6-2 (Blue Book: Data 4.3.1, Register 4.3.2, Profile
+-- generic 4.3.6, Association LN 4.4.4, Clock 4.5.1). The constants are the meter's own.
 use Rattle.std.specs.Prelude.{◌≡◌, ◌≢◌, ℕ, zero, suc, ◌-◌, ◌==◌, ◌≤◌, ◌||◌, nat_lt, if◌then◌else◌, List, [], ◌∷◌, map, length, slice_index, slice_range, codes, replicate, pos, ⊤, Bool, true, false, IsTrue, Option, Some}
 use Rattle.std.specs.List.{position_from}
 use Rattle.dlms_data.specs.Value.{Value, Values, null, array, structure, boolean, double_long_unsigned, octet_string, integer, long, unsigned, long_unsigned, enumerated, none, cons}
@@ -54,7 +54,7 @@ cells columns row = cells_of columns row.values.items
 abbrev pub clock_place : List ℕ → Option ℕ
 clock_place columns = position_from (λ id. id == 0) 0 columns
 
--- of so many columns those from first to last, counted from 1; 0 or past the end is the last one
+-- the columns from first to last, counted from 1; 0 or a number past the end means the last one
 abbrev pub last_column : (count last : ℕ) → ℕ
 last_column count last = if (last == 0) || nat_lt count last then count else last
 
@@ -65,7 +65,8 @@ abbrev pub part_shown : (columns : List ℕ) → Part → List Row → Shown
 part_shown columns whole rows = as_table (map (cells columns) rows)
 part_shown columns (between first last) rows = as_range columns first last rows
 part_shown columns (cut first last first_column last_column) rows =
-    as_table (map (λ row. columns_between (length columns) first_column last_column (cells columns row)) (entries first last rows))
+    as_table (map (λ row. columns_between (length columns) first_column last_column
+    (cells columns row)) (entries first last rows))
 
 abbrev pub two : Value → Value → Values
 two a b = cons a (cons b none)
@@ -75,11 +76,13 @@ four a b c d = cons a (cons b (cons c (cons d none)))
 
 -- the column that an object gives: class_id, logical_name, attribute_index, data_index
 abbrev pub column_value : Entry → Value
-column_value o = structure (four (long_unsigned o.class) (octet_string o.name) (integer (pos captured_attribute)) (long_unsigned 0))
+column_value o = structure (four (long_unsigned o.class) (octet_string o.name)
+    (integer (pos captured_attribute)) (long_unsigned 0))
 
 -- no object: the sort method needs none
 abbrev pub no_column : Value
-no_column = structure (four (long_unsigned 0) (octet_string (replicate 6 0)) (integer (pos 0)) (long_unsigned 0))
+no_column = structure (four (long_unsigned 0) (octet_string (replicate 6 0)) (integer (pos 0))
+    (long_unsigned 0))
 
 -- a date-time of which nothing is said
 abbrev pub open_time : List ℕ
@@ -91,8 +94,10 @@ shown s client d p LogicalName = as_value (octet_string d.name)
 shown s client d p DeviceName = as_value (octet_string (codes "RTL0000000000001"))
 shown s client d p SerialNumber = as_value (octet_string (codes "00000001"))
 shown s client d p Text = as_value (octet_string s.text)
-shown s client d p (Register channel) = as_value (double_long_unsigned (slice_index s.registers channel))
-shown s client d p (ScalerUnit unit) = as_value (structure (two (integer (pos 0)) (enumerated unit)))
+shown s client d p (Register channel) =
+    as_value (double_long_unsigned (slice_index s.registers channel))
+shown s client d p (ScalerUnit unit) =
+    as_value (structure (two (integer (pos 0)) (enumerated unit)))
 shown s client d p Time = as_time (clock_at s.last s.offset)
 shown s client d p TimeZone = as_value (long (pos 0))
 shown s client d p ClockStatus = as_value (unsigned 0)
@@ -101,10 +106,12 @@ shown s client d p DaylightDeviation = as_value (integer (pos 0))
 shown s client d p DaylightEnabled = as_value (boolean false)
 shown s client d p ClockBase = as_value (enumerated 1)
 shown s client d p ObjectList = as_value (object_list client)
-shown s client d p AssociatedPartners = as_value (structure (two (integer (pos (sap_of client))) (long_unsigned 1)))
+shown s client d p AssociatedPartners =
+    as_value (structure (two (integer (pos (sap_of client))) (long_unsigned 1)))
 shown s client d p AssociationStatus = as_value (enumerated 2)
 shown s client d p Buffer = part_shown s.columns p s.rows.items
-shown s client d p CaptureObjects = as_value (array (map_values (λ id. column_value (object_of_column id)) s.columns))
+shown s client d p CaptureObjects =
+    as_value (array (map_values (λ id. column_value (object_of_column id)) s.columns))
 shown s client d p CapturePeriod = as_value (double_long_unsigned s.period)
 shown s client d p SortMethod = as_value (enumerated 1)
 shown s client d p SortObject = as_value no_column
@@ -135,10 +142,11 @@ takes_memory _ = true
 abbrev pub HasRows : (columns : List ℕ) → List Row → Part → Type 0
 HasRows columns rows whole = rows ≢ []
 HasRows columns rows (between first last) =
-    (place : ℕ) × (from : ℕ) × (to : ℕ) × (clock_place columns ≡ Some place) × NamesSecond first from × NamesSecond last to × (in_range place from to rows ≢ [])
+    (place : ℕ) × (from : ℕ) × (to : ℕ) × (clock_place columns ≡ Some place)
+    × NamesSecond first from × NamesSecond last to × (in_range place from to rows ≢ [])
 HasRows columns rows (cut first last first_column last_column) = entries first last rows ≢ []
 
--- what is wanted of a state takes memory to show: of the buffer, where that part has a row
+-- the value for the request takes memory: for the buffer, if that part has a row
 abbrev pub TakesMemory : StateValue → Part → Content → Type 0
 TakesMemory s p Buffer = HasRows s.columns s.rows.items p
 TakesMemory s p content = IsTrue (takes_memory content)
@@ -171,7 +179,8 @@ IsTable rows _ = ⊥
 
 -- the clock is one of the columns, and these are the rows whose clock lies between the seconds that two date-times name, both
 -- included
-pub record IsRange (columns : List ℕ) (first last : List ℕ) (rows : List Row) (v : Value) : Type 0 where
+pub record IsRange (columns : List ℕ) (first last : List ℕ) (rows : List Row) (v : Value)
+    : Type 0 where
   pub place : ℕ
   pub is_column : clock_place columns ≡ Some place
   pub from : ℕ

@@ -26,7 +26,11 @@ pub record Entry : Type 0 where
 
 -- an attribute with the rights of the public client and of management
 abbrev pub holds : Content → Rights → Rights → Attribute
-holds content public management = record { content = content; public = public; management = management }
+holds content public management = record {
+  content = content;
+  public = public;
+  management = management;
+}
 
 -- every client may read it
 abbrev pub shows : Content → Attribute
@@ -37,7 +41,13 @@ abbrev pub sets : Content → Attribute
 sets content = holds content Read ReadWrite
 
 abbrev pub entry : ℕ → ℕ → List ℕ → List Attribute → List Call → Entry
-entry class version name attributes methods = record { class = class; version = version; name = name; attributes = attributes; methods = methods }
+entry class version name attributes methods = record {
+  class = class;
+  version = version;
+  name = name;
+  attributes = attributes;
+  methods = methods;
+}
 
 -- Data: logical_name, value
 abbrev pub data_entry : List ℕ → Attribute → Entry
@@ -46,14 +56,16 @@ data_entry name value = entry 1 0 name (shows LogicalName ∷ value ∷ []) []
 -- Register: logical_name, value, scaler_unit; reset
 abbrev pub register_entry : List ℕ → (channel unit : ℕ) → Entry
 register_entry name channel unit =
-    entry 3 0 name (shows LogicalName ∷ shows (Register channel) ∷ shows (ScalerUnit unit) ∷ []) (call.ResetRegister channel ∷ [])
+    entry 3 0 name (shows LogicalName ∷ shows (Register channel) ∷ shows (ScalerUnit unit) ∷ [])
+    (call.ResetRegister channel ∷ [])
 
 -- Association LN: logical_name, object_list, associated_partners_id, application_context_name, xDLMS_context_info,
 -- authentication_mechanism_name, secret, association_status; its four methods are nobody's
 abbrev pub association_entry : List ℕ → Entry
 association_entry name =
     entry 15 0 name
-    (shows LogicalName ∷ shows ObjectList ∷ shows AssociatedPartners ∷ holds Withheld Nothing Nothing ∷ holds Withheld Nothing Nothing
+    (shows LogicalName ∷ shows ObjectList ∷ shows AssociatedPartners
+    ∷ holds Withheld Nothing Nothing ∷ holds Withheld Nothing Nothing
     ∷ holds Withheld Nothing Nothing ∷ holds Secret Nothing Write ∷ shows AssociationStatus ∷ [])
     (call.Withheld ∷ call.Withheld ∷ call.Withheld ∷ call.Withheld ∷ [])
 
@@ -62,16 +74,19 @@ association_entry name =
 abbrev pub clock_entry : List ℕ → Entry
 clock_entry name =
     entry 8 0 name
-    (shows LogicalName ∷ sets Time ∷ shows TimeZone ∷ shows ClockStatus ∷ shows DaylightTime ∷ shows DaylightTime ∷ shows DaylightDeviation
+    (shows LogicalName ∷ sets Time ∷ shows TimeZone ∷ shows ClockStatus ∷ shows DaylightTime
+    ∷ shows DaylightTime ∷ shows DaylightDeviation
     ∷ shows DaylightEnabled ∷ shows ClockBase ∷ [])
-    (call.Withheld ∷ call.Withheld ∷ call.AdjustToMinute ∷ call.Withheld ∷ call.Withheld ∷ call.ShiftTime ∷ [])
+    (call.Withheld ∷ call.Withheld ∷ call.AdjustToMinute ∷ call.Withheld ∷ call.Withheld
+    ∷ call.ShiftTime ∷ [])
 
 -- Profile generic: logical_name, buffer, capture_objects, capture_period, sort_method, sort_object, entries_in_use,
 -- profile_entries; reset, capture
 abbrev pub profile_entry : List ℕ → Entry
 profile_entry name =
     entry 7 1 name
-    (shows LogicalName ∷ holds Buffer Nothing Read ∷ sets CaptureObjects ∷ sets CapturePeriod ∷ shows SortMethod ∷ shows SortObject
+    (shows LogicalName ∷ holds Buffer Nothing Read ∷ sets CaptureObjects ∷ sets CapturePeriod
+    ∷ shows SortMethod ∷ shows SortObject
     ∷ shows EntriesInUse ∷ shows ProfileEntries ∷ [])
     (call.ResetProfile ∷ call.Capture ∷ [])
 

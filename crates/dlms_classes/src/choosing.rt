@@ -28,7 +28,7 @@ pub enum Choice {
     /// The rows from a second of the clock to another, both included, and before them the clock's place in a row, counted
     /// from 0.
     Between(usize, u32, u32),
-    /// From one entry to another, and from one column to another, counted from 1; where 0 stands for the last one.
+    /// From one entry to another, and from one column to another, counted from 1; 0 means the last one.
     Cut(u32, u32, u16, u16),
 }
 
@@ -103,7 +103,7 @@ fn range<A: Allocator>(columns: &[u8], value: &Data<A>) -> Result<Choice, Access
     between(columns, first, last)
 }
 
-/// Of so many columns the last one, where 0 or past the end stands for it too.
+/// The last of `count` columns; 0 or a number past the end means the last column, too.
 pub fn last_column(count: usize, last: u16) -> usize
     ensures { result ≡ last_of count last }
 {
@@ -152,7 +152,8 @@ pub fn chosen<A: Allocator>(
     content: Content,
     selector: Option<&Selector<A>>,
 ) -> Result<Choice, AccessResult>
-    ensures choice { IsChoice columns.now (part_of content (option_map (λ s. selection_of s.now) selector.entry)) result }
+    ensures choice { IsChoice columns.now
+        (part_of content (option_map (λ s. selection_of s.now) selector.entry)) result }
     ensures proper { IfOk result (IsProper columns.now) }
 {
     let Some(selector) = selector else {

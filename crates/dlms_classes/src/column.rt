@@ -17,7 +17,9 @@ use std::alloc::Allocator;
 pub fn four<A: Allocator>(
     value: &Data<A>,
 ) -> Result<(&Data<A>, &Data<A>, &Data<A>, &Data<A>), AccessResult>
-    ensures { IsToldAs (λ x. (value_of x.0.now, value_of x.1.now, value_of x.2.now, value_of x.3.now)) result (four_of (value_of value.now)) }
+    ensures { IsToldAs
+        (λ x. (value_of x.0.now, value_of x.1.now, value_of x.2.now, value_of x.3.now)) result
+        (four_of (value_of value.now)) }
 {
     let Data::Structure(items) = value else {
         return Err(AccessResult::TypeUnmatched);

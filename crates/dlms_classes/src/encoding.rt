@@ -29,14 +29,16 @@ fn encoded_value<A: Allocator + Copy>(
     descriptor: Descriptor,
     content: Content,
 ) -> Result<Vec<u8, A>, AllocError>
-    requires sendable { (v : Value) → Shows (shown state.now client descriptor whole content) v → IsSendable v }
-    ensures { IfOk result (λ out. IsPut (Shows (shown state.now client descriptor whole content)) [] out.items) }
+    requires sendable { (v : Value) → Shows (shown state.now client descriptor whole content) v
+        → IsSendable v }
+    ensures { IfOk result (λ out. IsPut
+        (Shows (shown state.now client descriptor whole content)) [] out.items) }
 {
     let value = value(alloc, state, client, descriptor, Choice::Whole, content)?;
     write(alloc, &value)
 }
 
-/// The encoding of what an attribute shows to a client; of the buffer, of the part that is wanted.
+/// The encoding of an attribute's value for a client; for the buffer, of the selected part.
 fn encoded<A: Allocator + Copy>(
     alloc: A,
     state: &State<A>,
@@ -47,8 +49,11 @@ fn encoded<A: Allocator + Copy>(
 ) -> Result<Vec<u8, A>, AllocError>
     requires proper { IsProper state.now.columns choice }
     requires columns { length state.now.columns ≤ 4 }
-    requires sendable { (v : Value) → Shows (shown state.now client descriptor whole content) v → IsSendable v }
-    ensures { (p : Part) → Picks state.now.columns p choice → IfOk result (λ out. IsPut (Shows (shown state.now client descriptor p content)) [] out.items) }
+    requires sendable { (v : Value) → Shows (shown state.now client descriptor whole content) v
+        → IsSendable v }
+    ensures { (p : Part) → Picks state.now.columns p choice
+        → IfOk result (λ out. IsPut (Shows
+        (shown state.now client descriptor p content)) [] out.items) }
 {
     match content {
         Content::Buffer => encoded_buffer(alloc, state.columns(), state.rows(), choice),
@@ -67,8 +72,13 @@ fn answer<A: Allocator + Copy>(
     selector: Option<&Selector<A>>,
 ) -> Result<Vec<u8, A>, AccessResult>
     requires { HasEvents state.now }
-    ensures encoding { IfOk result (λ out. Encodes state.now client descriptor (wanted client descriptor (option_map (λ s. selection_of s.now) selector.entry)) out.items) }
-    ensures refusal { IfErr result (λ r. IsRefused state.now client descriptor (wanted client descriptor (option_map (λ s. selection_of s.now) selector.entry)) r) }
+    ensures encoding { IfOk result
+        (λ out. Encodes state.now client descriptor
+        (wanted client descriptor (option_map
+        (λ s. selection_of s.now) selector.entry)) out.items) }
+    ensures refusal { IfErr result
+        (λ r. IsRefused state.now client descriptor
+        (wanted client descriptor (option_map (λ s. selection_of s.now) selector.entry)) r) }
 {
     let attribute = readable(client, descriptor)?;
     let choice = chosen(state.columns(), attribute.content, selector)?;
@@ -79,8 +89,8 @@ fn answer<A: Allocator + Copy>(
 /// order. The buffer, the object list and the columns are written as they are read, without a value in between: the memory
 /// that is asked for is that of the encoding, at once and in its exact size.
 ///
-/// Want of memory is answered only where a value would have been, but there for a number too, since each encoding takes some.
-/// An encoding has at most the 29,764 bytes of the full buffer's.
+/// Out of memory is answered only instead of a value, but also for a number, because each encoding takes some. An encoding has at
+/// most the 29,764 bytes of the full buffer's.
 pub fn get_encoded<A: Allocator + Copy>(
     alloc: A,
     state: &State<A>,
@@ -88,8 +98,12 @@ pub fn get_encoded<A: Allocator + Copy>(
     descriptor: Descriptor,
     selector: Option<&Selector<A>>,
 ) -> Result<Vec<u8, A>, AccessResult>
-    ensures encoding { (E : List Event) → IsStateOf E state.now → IfOk result (λ out. EncodesAfter E client descriptor (option_map (λ s. selection_of s.now) selector.entry) out.items) }
-    ensures refusal { (E : List Event) → IsStateOf E state.now → IfErr result (λ r. IsRefusedAfter E client descriptor (option_map (λ s. selection_of s.now) selector.entry) r) }
+    ensures encoding { (E : List Event) → IsStateOf E state.now
+        → IfOk result (λ out. EncodesAfter E client descriptor
+        (option_map (λ s. selection_of s.now) selector.entry) out.items) }
+    ensures refusal { (E : List Event) → IsStateOf E state.now
+        → IfErr result (λ r. IsRefusedAfter E client descriptor
+        (option_map (λ s. selection_of s.now) selector.entry) r) }
     ensures short { IfOk result (λ out. length out.items ≤ most_bytes) }
 {
     state.has_events();

@@ -1,4 +1,4 @@
-//! The objects of the meter, who may do what with them, and what a service on one of them answers.
+//! The objects of the meter, the rights to them, and the answers of the services.
 #![tactic(auto)]
 
 mod access;

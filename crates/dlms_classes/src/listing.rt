@@ -1,4 +1,4 @@
-//! The object list: what there is, and what a client may do with it.
+//! The object list: the objects, and a client's rights to them.
 
 ghost use Rattle.std.specs.Prelude.{◌≡◌, ◌<◌, IfOk, length};
 ghost use Rattle.std.specs.List.{enumerate_from};
@@ -76,7 +76,8 @@ fn listed_attributes<A: Allocator + Copy>(
     attributes: &[Attribute],
 ) -> Result<Data<A>, AllocError>
     requires { length attributes.now < 127 }
-    ensures { IfOk result (λ v. value_of v ≡ array (map_values (attribute_value client) (enumerate_from 1 attributes.now))) }
+    ensures { IfOk result (λ v. value_of v ≡ array
+        (map_values (attribute_value client) (enumerate_from 1 attributes.now))) }
 {
     let mut items = room(alloc, attributes.len())?;
     for (i, attribute) in attributes.iter().enumerate() {
@@ -92,7 +93,8 @@ fn listed_methods<A: Allocator + Copy>(
     methods: &[Call],
 ) -> Result<Data<A>, AllocError>
     requires { length methods.now < 127 }
-    ensures { IfOk result (λ v. value_of v ≡ array (map_values (method_value client) (enumerate_from 1 methods.now))) }
+    ensures { IfOk result (λ v. value_of v ≡ array
+        (map_values (method_value client) (enumerate_from 1 methods.now))) }
 {
     let mut items = room(alloc, methods.len())?;
     for (i, method) in methods.iter().enumerate() {

@@ -1,4 +1,4 @@
-//! What a descriptor names, and whether the client may use it so.
+//! Finds the object that a descriptor names, and checks the client's right to it.
 
 ghost use Rattle.std.specs.Prelude.{◌≡◌, option_map};
 ghost use Rattle.dlms_classes.specs.Table.{entry_of, rights_of, but_own_secret as rights_but_own_secret, may_read as reads, may_write as writes, may_call as calls};
@@ -61,7 +61,7 @@ fn method(descriptor: Descriptor) -> Result<Call, AccessResult>
     numbered(object.methods, descriptor.id).ok_or(AccessResult::ObjectUndefined)
 }
 
-/// What a client may do with an attribute.
+/// A client's rights to an attribute.
 pub fn rights(client: Client, attribute: Attribute) -> Rights
     ensures { result ≡ rights_of client attribute }
 {

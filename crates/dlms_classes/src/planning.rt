@@ -142,7 +142,8 @@ pub fn plan_action<A: Allocator>(
     descriptor: Descriptor,
     parameter: Option<&Data<A>>,
 ) -> Result<Event, AccessResult>
-    ensures { result ≡ event_asked client descriptor (option_map (λ v. value_of v.now) parameter.entry) }
+    ensures { result ≡ event_asked client descriptor
+        (option_map (λ v. value_of v.now) parameter.entry) }
 {
     match callable(client, descriptor)? {
         Call::ResetRegister(channel) => Ok(Event::ResetRegister(channel)),

@@ -39,7 +39,8 @@ pub fn put_octets<A: Allocator>(out: &mut Vec<u8, A>, octets: &[u8]) -> Result<(
 
 /// Appends a double-long-unsigned.
 pub fn put_number<A: Allocator>(out: &mut Vec<u8, A>, number: u32) -> Result<(), AllocError>
-    ensures { OnOk result (out.new.items ≡ out.old.items ++ canonical (double_long_unsigned number)) }
+    ensures { OnOk result (out.new.items ≡ out.old.items
+        ++ canonical (double_long_unsigned number)) }
 {
     let [a, b, c, d] = number.to_be_bytes();
     out.extend_from_slice(&[6, a, b, c, d])

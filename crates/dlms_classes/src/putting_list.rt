@@ -36,7 +36,8 @@ fn put_attribute<A: Allocator>(
     attribute: Attribute,
 ) -> Result<(), AllocError>
     requires { id < 128 }
-    ensures { OnOk result (out.new.items ≡ out.old.items ++ canonical (attribute_value client (id, attribute))) }
+    ensures { OnOk result (out.new.items ≡ out.old.items
+        ++ canonical (attribute_value client (id, attribute))) }
 {
     put_count(out, STRUCTURE, 3)?;
     put_integer(out, id as i8)?;
@@ -56,7 +57,8 @@ fn put_method<A: Allocator>(
     method: Call,
 ) -> Result<(), AllocError>
     requires { id < 128 }
-    ensures { OnOk result (out.new.items ≡ out.old.items ++ canonical (method_value client (id, method))) }
+    ensures { OnOk result (out.new.items ≡ out.old.items
+        ++ canonical (method_value client (id, method))) }
 {
     put_count(out, STRUCTURE, 2)?;
     put_integer(out, id as i8)?;
@@ -70,7 +72,9 @@ fn put_attributes<A: Allocator>(
     attributes: &[Attribute],
 ) -> Result<(), AllocError>
     requires { length attributes.now < 127 }
-    ensures { OnOk result (out.new.items ≡ out.old.items ++ canonical (array (map_values (attribute_value client) (enumerate_from 1 attributes.now)))) }
+    ensures { OnOk result (out.new.items ≡ out.old.items
+        ++ canonical (array (map_values (attribute_value client)
+        (enumerate_from 1 attributes.now)))) }
 {
     put_count(out, ARRAY, attributes.len() as u16)?;
     for (i, attribute) in attributes.iter().enumerate() {
@@ -86,7 +90,9 @@ fn put_methods<A: Allocator>(
     methods: &[Call],
 ) -> Result<(), AllocError>
     requires { length methods.now < 127 }
-    ensures { OnOk result (out.new.items ≡ out.old.items ++ canonical (array (map_values (method_value client) (enumerate_from 1 methods.now)))) }
+    ensures { OnOk result (out.new.items ≡ out.old.items
+        ++ canonical (array (map_values (method_value client)
+        (enumerate_from 1 methods.now)))) }
 {
     put_count(out, ARRAY, methods.len() as u16)?;
     for (i, method) in methods.iter().enumerate() {
@@ -103,7 +109,8 @@ fn put_object<A: Allocator>(
 ) -> Result<(), AllocError>
     requires attributes { length object.attributes.now < 127 }
     requires methods { length object.methods.now < 127 }
-    ensures { OnOk result (out.new.items ≡ out.old.items ++ canonical (object_value client (entry_of object))) }
+    ensures { OnOk result (out.new.items ≡ out.old.items
+        ++ canonical (object_value client (entry_of object))) }
 {
     put_count(out, STRUCTURE, 4)?;
     put_long_unsigned(out, object.class)?;
@@ -155,7 +162,8 @@ fn put_column<A: Allocator>(out: &mut Vec<u8, A>, object: Object) -> Result<(), 
 /// The encoding of the columns of the load profile.
 pub fn encoded_columns<A: Allocator>(alloc: A, columns: &[u8]) -> Result<Vec<u8, A>, AllocError>
     requires { length columns.now < 65536 }
-    ensures { IfOk result (λ out. out.items ≡ canonical (array (map_values (λ id. column (column_object id)) columns.now))) }
+    ensures { IfOk result (λ out. out.items ≡ canonical
+        (array (map_values (λ id. column (column_object id)) columns.now))) }
 {
     let mut out = Vec::with_capacity(alloc, columns.len().saturating_mul(18).saturating_add(2))?;
     put_count(&mut out, ARRAY, columns.len() as u16)?;

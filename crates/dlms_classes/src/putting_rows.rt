@@ -61,7 +61,9 @@ fn put_row<A: Allocator>(
     requires row { IsRowOf columns.now row.now }
     requires order { first ≤ end }
     requires end { end ≤ length columns.now }
-    ensures { OnOk result (IsPut (IsRow (slice_range (cells_of columns.now row.now) first end)) out.old.items out.new.items) }
+    ensures { OnOk result (IsPut (IsRow
+        (slice_range
+        (cells_of columns.now row.now) first end)) out.old.items out.new.items) }
 {
     let values = row.values.as_slice();
     put_count(out, STRUCTURE, (end - first) as u16)?;
@@ -71,7 +73,7 @@ fn put_row<A: Allocator>(
     Ok(())
 }
 
-/// Whether a row is chosen: one whose clock lies in the range that is chosen, and each one where no range is.
+/// Whether a row is selected: its clock is in the selected range, or no range is selected.
 fn is_chosen(choice: Choice, row: &Row) -> bool
     ensures { result ≡ chooses choice row.now }
 {
@@ -103,7 +105,9 @@ fn put_if_chosen<A: Allocator>(
     requires row { IsRowOf columns.now row.now }
     requires order { first ≤ end }
     requires end { end ≤ length columns.now }
-    ensures { OnOk result (ArePut IsRow (map (λ row. slice_range (cells_of columns.now row) first end) (filter (chooses choice) (row.now ∷ []))) out.old.items out.new.items) }
+    ensures { OnOk result (ArePut IsRow
+        (map (λ row. slice_range (cells_of columns.now row) first end)
+        (filter (chooses choice) (row.now ∷ []))) out.old.items out.new.items) }
 {
     if is_chosen(choice, row) {
         put_row(out, columns, row, first, end)
@@ -124,7 +128,9 @@ fn put_rows<A: Allocator>(
     requires rows { All (IsRowOf columns.now) rows.now }
     requires order { first ≤ end }
     requires end { end ≤ length columns.now }
-    ensures { OnOk result (ArePut IsRow (map (λ row. slice_range (cells_of columns.now row) first end) (filter (chooses choice) rows.now)) out.old.items out.new.items) }
+    ensures { OnOk result (ArePut IsRow
+        (map (λ row. slice_range (cells_of columns.now row) first end)
+        (filter (chooses choice) rows.now)) out.old.items out.new.items) }
 {
     for row in rows {
         put_if_chosen(out, columns, row, choice, first, end)?;
@@ -132,7 +138,7 @@ fn put_rows<A: Allocator>(
     Ok(())
 }
 
-/// How many bytes a table of so many rows takes, each with these columns.
+/// The size in bytes of a table of `count` rows with these columns.
 fn table_len(count: usize, columns: &[u8]) -> usize {
     let mut row_len = 2usize;
     for id in columns {
@@ -153,7 +159,7 @@ fn table_len(count: usize, columns: &[u8]) -> usize {
     count.saturating_mul(row_len).saturating_add(head_len)
 }
 
-/// The encoding of the array of some columns of the rows that are chosen, which stand in two slices.
+/// The encoding of the array of some columns of the selected rows, which are in two slices.
 fn table<A: Allocator + Copy>(
     alloc: A,
     columns: &[u8],
@@ -168,7 +174,9 @@ fn table<A: Allocator + Copy>(
     requires few { length (older.now ++ newer.now) ≤ CAPACITY }
     requires order { first ≤ end }
     requires end { end ≤ length columns.now }
-    ensures { IfOk result (λ out. IsPut (IsTable (map (λ row. slice_range (cells_of columns.now row) first end) (filter (chooses choice) (older.now ++ newer.now)))) [] out.items) }
+    ensures { IfOk result (λ out. IsPut
+        (IsTable (map (λ row. slice_range (cells_of columns.now row) first end)
+        (filter (chooses choice) (older.now ++ newer.now)))) [] out.items) }
 {
     let count = count_chosen(older, choice) + count_chosen(newer, choice);
     let mut out = Vec::with_capacity(alloc, table_len(count, &columns[first..end]))?;
@@ -178,7 +186,7 @@ fn table<A: Allocator + Copy>(
     Ok(out)
 }
 
-/// Of rows those behind the first `skipped`, to before `end`.
+/// The rows after the first `skipped`, up to before `end`.
 fn part(rows: &[Row], skipped: usize, end: usize) -> &[Row]
     ensures { result.now ≡ slice_range rows.now skipped end }
 {
@@ -190,7 +198,7 @@ fn part(rows: &[Row], skipped: usize, end: usize) -> &[Row]
     }
 }
 
-/// How many of so many rows there are up to this entry, counted from 1, where 0 stands for the last one.
+/// The number of rows, of `count`, up to this entry, counted from 1; 0 means the last one.
 fn end_of(last: u32, count: usize) -> usize
     ensures { result ≡ if nat_eq last 0 then count else last }
 {
@@ -209,7 +217,10 @@ fn cut<A: Allocator + Copy>(
     requires entry { 0 < entries.0 }
     requires column { 0 < shown.0 }
     requires order { shown.0 ≤ last_of (length columns.now) shown.1 }
-    ensures { IfOk result (λ out. IsPut (IsTable (map (λ row. columns_between (length columns.now) shown.0 shown.1 (cells_of columns.now row)) (cut_out entries.0 entries.1 rows.now.items))) [] out.items) }
+    ensures { IfOk result (λ out. IsPut
+        (IsTable (map (λ row. columns_between (length columns.now) shown.0 shown.1
+        (cells_of columns.now row))
+        (cut_out entries.0 entries.1 rows.now.items))) [] out.items) }
 {
     let skipped = entries.0 as usize - 1;
     let until = end_of(entries.1, rows.len());
@@ -240,7 +251,9 @@ fn whole<A: Allocator + Copy>(
     choice: Choice,
 ) -> Result<Vec<u8, A>, AllocError>
     requires rows { All (IsRowOf columns.now) rows.now.items }
-    ensures { IfOk result (λ out. IsPut (IsTable (map (cells_of columns.now) (filter (chooses choice) rows.now.items))) [] out.items) }
+    ensures { IfOk result (λ out. IsPut
+        (IsTable (map (cells_of columns.now)
+        (filter (chooses choice) rows.now.items))) [] out.items) }
 {
     let _few = rows.len();
     let (older, newer) = rows.as_slices();
@@ -256,7 +269,9 @@ pub fn encoded_buffer<A: Allocator + Copy>(
 ) -> Result<Vec<u8, A>, AllocError>
     requires rows { All (IsRowOf columns.now) rows.now.items }
     requires proper { IsProper columns.now choice }
-    ensures { (p : Part) → Picks columns.now p choice → IfOk result (λ out. IsPut (Shows (part_shown columns.now p rows.now.items)) [] out.items) }
+    ensures { (p : Part) → Picks columns.now p choice
+        → IfOk result (λ out. IsPut (Shows
+        (part_shown columns.now p rows.now.items)) [] out.items) }
 {
     match choice {
         Choice::Whole => whole(alloc, columns, rows, Choice::Whole),

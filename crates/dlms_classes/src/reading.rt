@@ -24,24 +24,26 @@ fn answer<A: Allocator + Copy>(
     descriptor: Descriptor,
     selector: Option<&Selector<A>>,
 ) -> Result<Data<A>, AccessResult>
-    ensures { IsAnswer state.now client descriptor (wanted client descriptor (option_map (λ s. selection_of s.now) selector.entry)) result }
+    ensures { IsAnswer state.now client descriptor
+        (wanted client descriptor (option_map (λ s. selection_of s.now) selector.entry)) result }
 {
     let attribute = readable(client, descriptor)?;
     let choice = chosen(state.columns(), attribute.content, selector)?;
     Ok(value(alloc, state, client, descriptor, choice, attribute.content)?)
 }
 
-/// The value of an attribute, as this client may read it, or why it is refused: the first that fits of name, class,
-/// attribute, right, selector, types of its parameters and their values. A refusal takes no memory, and want of memory is
-/// answered only where a value would have been that takes some: not for a number, an enumeration's place or a truth.
+/// The value of an attribute as this client may read it, or why it is refused: the first cause that applies, in the order name,
+/// class, attribute, right, selector, types of its parameters, their values. A refusal takes no memory, and out of memory is
+/// answered only instead of a value that takes some: not for a number, an enumeration or a boolean.
 ///
-/// A selector is taken by the load profile's buffer alone: 1 by range, a structure of the clock's column, from and to (octet
-/// strings of twelve or date-times) and an empty array; 2 by entry, a structure of first and last entry (double-long-unsigned)
-/// and first and last column (long-unsigned), counted from 1, where 0 as the last stands for the end. No attribute takes
-/// another selector (`ScopeOfAccessViolated`). All types are looked at before any value (`TypeUnmatched`). Refused for another
-/// reason (`OtherReason`) is by range another column than the clock's time, columns that are named, octets that name no
-/// second, and each range where the clock is none of the state's columns; by entry a first entry or a first column of 0, a first
-/// column past the last of the state's columns, and a last column below the first. It is borrowed, `Option<&Selector>`, since a request holds it and nothing keeps it.
+/// Only the load profile's buffer takes a selector: 1 by range, a structure of the clock's column, from and to (octet strings of
+/// twelve or date-times) and an empty array; 2 by entry, a structure of first and last entry (double-long-unsigned) and first and
+/// last column (long-unsigned), counted from 1, where 0 as the last means the end. No attribute takes another selector
+/// (`ScopeOfAccessViolated`). All types are checked before any value (`TypeUnmatched`). Refused for another reason (`OtherReason`)
+/// are, by range: another column than the clock's time, named columns, octets that name no second, and each range if the clock is
+/// not one of the state's columns; by entry: a first entry or first column of 0, a first column past the last of the state's
+/// columns, and a last column below the first. The selector is borrowed, `Option<&Selector>`, because a request holds it and
+/// nothing keeps it.
 ///
 /// A value that is answered has a spelling, of at most the 29,764 bytes of the full buffer.
 pub fn get<A: Allocator + Copy>(
@@ -51,7 +53,9 @@ pub fn get<A: Allocator + Copy>(
     descriptor: Descriptor,
     selector: Option<&Selector<A>>,
 ) -> Result<Data<A>, AccessResult>
-    ensures answer { (E : List Event) → IsStateOf E state.now → AnswersAfter E client descriptor (option_map (λ s. selection_of s.now) selector.entry) result }
+    ensures answer { (E : List Event) → IsStateOf E state.now
+        → AnswersAfter E client descriptor
+        (option_map (λ s. selection_of s.now) selector.entry) result }
     ensures sendable { IfOk result (λ v. IsSendable (value_of v)) }
 {
     state.has_events();

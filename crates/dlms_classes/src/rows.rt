@@ -55,7 +55,8 @@ fn row_of<A: Allocator + Copy>(
     requires row { IsRowOf columns.now row.now }
     requires order { first ≤ end }
     requires end { end ≤ length columns.now }
-    ensures { IfOk result (λ v. IsRow (slice_range (cells_of columns.now row.now) first end) (value_of v)) }
+    ensures { IfOk result (λ v. IsRow (slice_range (cells_of columns.now row.now) first end)
+        (value_of v)) }
 {
     let values = row.values.as_slice();
     let mut items = room(alloc, end - first)?;
@@ -78,7 +79,8 @@ fn put_rows<A: Allocator + Copy>(
     requires order { first ≤ end }
     requires end { end ≤ length columns.now }
     ensures { OnOk result ((done : List (List Cell)) → Match IsRow done items.old
-        → Match IsRow (done ++ map (λ row. slice_range (cells_of columns.now row) first end) rows.now) items.new) }
+        → Match IsRow (done ++ map (λ row. slice_range
+        (cells_of columns.now row) first end) rows.now) items.new) }
 {
     for row in rows {
         items.push(row_of(alloc, columns, row, first, end)?)?;
@@ -93,7 +95,7 @@ fn are_none(older: &[Row], newer: &[Row]) -> bool
     older.is_empty() && newer.is_empty()
 }
 
-/// The array of some columns of rows, which stand in two slices.
+/// The array of some columns of rows, which are in two slices.
 fn table_of<A: Allocator + Copy>(
     alloc: A,
     columns: &[u8],
@@ -107,7 +109,9 @@ fn table_of<A: Allocator + Copy>(
     requires newer { All (IsRowOf columns.now) newer.now }
     requires order { first ≤ end }
     requires end { end ≤ length columns.now }
-    ensures table { IfOk result (λ v. IsTable (map (λ row. slice_range (cells_of columns.now row) first end) (older.now ++ newer.now)) (value_of v)) }
+    ensures table { IfOk result (λ v. IsTable
+        (map (λ row. slice_range (cells_of columns.now row) first end) (older.now ++ newer.now))
+        (value_of v)) }
     ensures lacks { IsErr result → older.now ++ newer.now ≢ [] }
 {
     if are_none(older, newer) {
@@ -126,7 +130,8 @@ fn whole<A: Allocator + Copy>(
     rows: &Rows<A>,
 ) -> Result<Data<A>, AllocError>
     requires rows { All (IsRowOf columns.now) rows.now.items }
-    ensures table { IfOk result (λ v. IsTable (map (cells_of columns.now) rows.now.items) (value_of v)) }
+    ensures table { IfOk result (λ v. IsTable (map (cells_of columns.now) rows.now.items)
+        (value_of v)) }
     ensures lacks { IsErr result → rows.now.items ≢ [] }
 {
     let (older, newer) = rows.as_slices();
@@ -143,7 +148,8 @@ fn between<A: Allocator + Copy>(
     to: u32,
 ) -> Result<Data<A>, AllocError>
     requires rows { All (IsRowOf columns.now) rows.now.items }
-    ensures table { IfOk result (λ v. IsTable (map (cells_of columns.now) (in_range place from to rows.now.items)) (value_of v)) }
+    ensures table { IfOk result (λ v. IsTable
+        (map (cells_of columns.now) (in_range place from to rows.now.items)) (value_of v)) }
     ensures lacks { IsErr result → in_range place from to rows.now.items ≢ [] }
 {
     let found = rows.by_range(place, from, to)?;
@@ -170,7 +176,10 @@ fn cut<A: Allocator + Copy>(
     requires entry { 0 < entries.0 }
     requires column { 0 < shown.0 }
     requires order { shown.0 ≤ last_of (length columns.now) shown.1 }
-    ensures table { IfOk result (λ v. IsTable (map (λ row. columns_between (length columns.now) shown.0 shown.1 (cells_of columns.now row)) (cut_out entries.0 entries.1 rows.now.items)) (value_of v)) }
+    ensures table { IfOk result (λ v. IsTable
+        (map (λ row. columns_between (length columns.now) shown.0 shown.1
+        (cells_of columns.now row)) (cut_out entries.0 entries.1 rows.now.items))
+        (value_of v)) }
     ensures lacks { IsErr result → cut_out entries.0 entries.1 rows.now.items ≢ [] }
 {
     let found = rows.by_entry(entries.0, entries.1)?;
@@ -187,7 +196,7 @@ fn cut<A: Allocator + Copy>(
     )
 }
 
-/// The array of the part that is wanted, of rows with these columns. Want of memory is told only where that part has a row.
+/// The array of the selected part of rows with these columns. Out of memory is reported only if that part has a row.
 pub fn buffer<A: Allocator + Copy>(
     alloc: A,
     columns: &[u8],
@@ -196,8 +205,10 @@ pub fn buffer<A: Allocator + Copy>(
 ) -> Result<Data<A>, AllocError>
     requires rows { All (IsRowOf columns.now) rows.now.items }
     requires proper { IsProper columns.now choice }
-    ensures shows { (p : Part) → Picks columns.now p choice → IfOk result (λ v. Shows (part_shown columns.now p rows.now.items) (value_of v)) }
-    ensures lacks { (p : Part) → Picks columns.now p choice → IsErr result → HasRows columns.now rows.now.items p }
+    ensures shows { (p : Part) → Picks columns.now p choice
+        → IfOk result (λ v. Shows (part_shown columns.now p rows.now.items) (value_of v)) }
+    ensures lacks { (p : Part) → Picks columns.now p choice → IsErr result
+        → HasRows columns.now rows.now.items p }
 {
     match choice {
         Choice::Whole => whole(alloc, columns, rows),

@@ -1,4 +1,4 @@
-//! Whose secret a client knows.
+//! The secret that each client knows.
 
 ghost use Rattle.std.specs.Prelude.{◌≡◌, is_some};
 ghost use Rattle.dlms_frame.specs.Client.{has_secret};

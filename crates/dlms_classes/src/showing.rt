@@ -37,7 +37,8 @@ fn column_of<A: Allocator + Copy>(alloc: A, object: Object) -> Result<Data<A>, A
 
 /// The columns of the load profile.
 fn columns_of<A: Allocator + Copy>(alloc: A, columns: &[u8]) -> Result<Data<A>, AllocError>
-    ensures { IfOk result (λ v. value_of v ≡ array (map_values (λ id. column (column_object id)) columns.now)) }
+    ensures { IfOk result (λ v. value_of v ≡ array
+        (map_values (λ id. column (column_object id)) columns.now)) }
 {
     let mut items = room(alloc, columns.len())?;
     for id in columns {
@@ -57,7 +58,7 @@ fn no_column<A: Allocator + Copy>(alloc: A) -> Result<Data<A>, AllocError>
     Ok(Data::Structure(four(alloc, class, name, attribute, index)?))
 }
 
-/// The value of a register, which is 0 where there is no such channel.
+/// The value of a register; 0 if there is no such channel.
 fn register<A: Allocator + Copy>(state: &State<A>, channel: u8) -> u32
     ensures { result ≡ slice_index state.now.registers channel }
 {
@@ -74,13 +75,14 @@ fn scaler_unit<A: Allocator + Copy>(alloc: A, unit: u8) -> Result<Data<A>, Alloc
 
 /// The two ends of a client's association: the client, and the one logical device.
 fn partners<A: Allocator + Copy>(alloc: A, client: Client) -> Result<Data<A>, AllocError>
-    ensures { IfOk result (λ v. value_of v ≡ structure (pair (integer (pos (sap_of client))) (long_unsigned 1))) }
+    ensures { IfOk result (λ v. value_of v ≡ structure
+        (pair (integer (pos (sap_of client))) (long_unsigned 1))) }
 {
     let sap = Data::Integer(client.sap() as i8);
     Ok(Data::Structure(two(alloc, sap, Data::LongUnsigned(1))?))
 }
 
-/// What an attribute shows to a client; of the buffer, the part that is wanted. Want of memory stands only where it takes some.
+/// The value of an attribute for a client; for the buffer, of the selected part. Out of memory is reported only if it takes some.
 pub fn value<A: Allocator + Copy>(
     alloc: A,
     state: &State<A>,
@@ -90,8 +92,10 @@ pub fn value<A: Allocator + Copy>(
     content: Content,
 ) -> Result<Data<A>, AllocError>
     requires { IsProper state.now.columns choice }
-    ensures shows { (p : Part) → Picks state.now.columns p choice → IfOk result (λ v. Shows (shown state.now client descriptor p content) (value_of v)) }
-    ensures lacks { (p : Part) → Picks state.now.columns p choice → IsErr result → TakesMemory state.now p content }
+    ensures shows { (p : Part) → Picks state.now.columns p choice
+        → IfOk result (λ v. Shows (shown state.now client descriptor p content) (value_of v)) }
+    ensures lacks { (p : Part) → Picks state.now.columns p choice → IsErr result
+        → TakesMemory state.now p content }
 {
     match content {
         Content::LogicalName => octet_string_of(alloc, descriptor.name.as_slice()),

@@ -9,7 +9,7 @@ const WATT_HOURS: u8 = 30;
 
 const VAR_HOURS: u8 = 32;
 
-/// What an attribute holds.
+/// The content of an attribute.
 #[derive(Clone, Copy, Debug, PartialEq, Eq)]
 pub enum Content {
     LogicalName,
@@ -42,7 +42,7 @@ pub enum Content {
     ProfileEntries,
 }
 
-/// What a client may do with an attribute.
+/// A client's rights to an attribute.
 #[derive(Clone, Copy, Debug, PartialEq, Eq)]
 pub enum Rights {
     Nothing,
@@ -51,7 +51,7 @@ pub enum Rights {
     ReadWrite,
 }
 
-/// What a method does.
+/// The effect of a method.
 #[derive(Clone, Copy, Debug, PartialEq, Eq)]
 pub enum Call {
     /// Listed, and held from everybody.

@@ -1,4 +1,4 @@
--- What a link awaits.
+-- The answer that a link awaits.
 use Rattle.std.proofs.Common.{◌≡◌, refl, subst, Bool, true, false, if◌then◌else◌, None, IsSome}
 use Rattle.dlms_frame.specs.Frame.{Parts}
 use Rattle.dlms_link.specs.Client.{ClientRecord, IsDown, IsIdle, client_step, on_control, on_counted, on_ua, by_way, takes, way_of, is_answer}

@@ -1,4 +1,4 @@
--- What an answer that was told says.
+-- The meaning of an answer that was returned.
 use Rattle.std.proofs.Common.{◌≡◌, ◌∙◌, ◌+◌, ◌≤◌, refl, sym, ap, subst, arith, ℕ, List, [], ◌∷◌, ◌++◌, drop, append_assoc, append-nil, Bool, true, Option, Some, None, Result, Ok, Err}
 use Rattle.dlms_apdu.specs.Forms.{ResponseForm, get_data, get_result, get_block, get_block_result, set_result, set_last, action_result}
 use Rattle.dlms_apdu.specs.Reading.{response_at}
@@ -24,7 +24,7 @@ no_fewer : (before taken : ℕ) (apdus : List (List ℕ)) (joined : List ℕ) �
 no_fewer before taken [] joined h = let e : taken ≡ before = h.0 in omega arith
 no_fewer before taken (apdu ∷ apdus) joined h = let more : before + 1 ≤ taken = no_fewer (before + 1) taken apdus h.1 h.4 in omega arith
 
--- where none was taken, none came
+-- if none was taken, none came
 none_came : (taken : ℕ) (apdus : List (List ℕ)) (joined : List ℕ) → AreBlocks 0 apdus taken joined → taken ≡ 0 → (apdus ≡ []) × (joined ≡ [])
 none_came taken [] joined h none = (refl, h.1)
 none_came taken (apdu ∷ apdus) joined h none = let more : 1 ≤ taken = no_fewer 1 taken apdus h.1 h.4 in absurd (omega arith)

@@ -1,4 +1,5 @@
--- The link knows one client and one meter, by the addresses 10 and 01. Outside, their own addresses stand in these places.
+-- The link knows one client and one meter, by the addresses 10 and 01. In frames on the line, their own addresses are in these
+-- places.
 use Rattle.std.specs.Prelude.{◌==◌, ◌&&◌, Bool, false}
 use Rattle.dlms_frame.specs.declared.frame.Address.{Address}
 use Rattle.dlms_frame.specs.declared.frame.Address.TheVariants.{One, Two, Four}

@@ -1,4 +1,4 @@
--- The association (IEC 62056-5-3): what is asked, and what an APDU says in answer to that and to the release.
+-- The association (IEC 62056-5-3): its request, and the meaning of an APDU as an answer to that and to the release.
 use Rattle.std.specs.Prelude.{ℕ, ◌==◌, if◌then◌else◌, true, false, Bool, List, [], ◌∷◌, Option, Some, None, Result, Ok, Err}
 use Rattle.dlms_acse.specs.Reading.{aare_at}
 use Rattle.dlms_acse.specs.Writing.{aarq_bytes}
@@ -36,7 +36,10 @@ denied_or None fault = fault
 
 -- the answer to the association request
 abbrev pub granted_by : Result Verdict AcseFault → List ℕ → Result Granted Fault
-granted_by (Ok (Accepted conformance size)) apdu = Ok (record { conformance = conformance; size = size })
+granted_by (Ok (Accepted conformance size)) apdu = Ok (record {
+  conformance = conformance;
+  size = size;
+})
 granted_by (Ok (Rejected diagnostic initiate)) apdu = Err (Refused diagnostic initiate)
 granted_by (Err fault) apdu = Err (denied_or (denial_of apdu) (Association fault))
 

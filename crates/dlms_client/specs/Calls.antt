@@ -42,24 +42,35 @@ abbrev pub no_grant : Granted
 no_grant = record { conformance = record { 0 = 0 }; size = 0 }
 
 abbrev pub fresh : PlanValue → ClientValue
-fresh plan = record { plan = plan; link = fresh_client Public; stage = Closed; failed = None; granted = no_grant; blocks = empty; sent = None }
+fresh plan = record {
+  plan = plan;
+  link = fresh_client Public;
+  stage = Closed;
+  failed = None;
+  granted = no_grant;
+  blocks = empty;
+  sent = None;
+}
 
 -- with the link as this
 abbrev pub with_link : ClientValue → ClientRecord → ClientValue
 with_link c link = record c { link = link }
 
 -- it is over for good: nothing else of it changes
-pub record HasFailed {X : Type 0} (at : ClientValue) (fault : Fault) (result : Result X Fault) (new : ClientValue) : Type 0 where
+pub record HasFailed {X : Type 0} (at : ClientValue) (fault : Fault) (result : Result X Fault)
+    (new : ClientValue) : Type 0 where
   pub answer : result ≡ Err fault
   pub after : new ≡ record at { failed = Some fault }
 
 -- nothing happens
-pub record IsPassedOver (old : ClientValue) (result : Result Step Fault) (new : ClientValue) : Type 0 where
+pub record IsPassedOver (old : ClientValue) (result : Result Step Fault) (new : ClientValue)
+    : Type 0 where
   pub answer : result ≡ Ok step.Nothing
   pub after : new ≡ old
 
 -- an APDU goes out, on a link that awaits nothing; then this is awaited
-pub record Sends (at : ClientValue) (apdu : List ℕ) (stage : Stage) (frame : Parts) (new : ClientValue) : Type 0 where
+pub record Sends (at : ClientValue) (apdu : List ℕ) (stage : Stage) (frame : Parts)
+    (new : ClientValue) : Type 0 where
   pub goes_out : frame ≡ outward at.plan (client_send at.link apdu).1
   pub after : new ≡ record at { link = (client_send at.link apdu).0; stage = stage }
 
@@ -71,7 +82,8 @@ pub record Leaves (at : ClientValue) (frame : Parts) (new : ClientValue) : Type 
 -- ---- the first frame
 
 abbrev pub BeginsAt : Stage → ClientValue → Option Parts → ClientValue → Type 0
-BeginsAt Closed old result new = (result ≡ Some (outward old.plan (snrm_of old.link))) × (new ≡ record old { link = client_connect old.link; stage = Associating })
+BeginsAt Closed old result new = (result ≡ Some (outward old.plan (snrm_of old.link)))
+    × (new ≡ record old { link = client_connect old.link; stage = Associating })
 BeginsAt Associating old result new = (result ≡ None) × (new ≡ old)
 BeginsAt Free old result new = (result ≡ None) × (new ≡ old)
 BeginsAt (Asking asked) old result new = (result ≡ None) × (new ≡ old)
@@ -89,12 +101,15 @@ Begins old result new = BeginsBy old.failed old result new
 
 -- the answer to the association request
 abbrev pub OpensBy : Result Granted Fault → ClientValue → Result Step Fault → ClientValue → Type 0
-OpensBy (Ok granted) at result new = (result ≡ Ok step.Associated) × (new ≡ record at { stage = Free; granted = granted })
+OpensBy (Ok granted) at result new = (result ≡ Ok step.Associated)
+    × (new ≡ record at { stage = Free; granted = granted })
 OpensBy (Err fault) at result new = HasFailed at fault result new
 
 -- the answer to the release: the link's end is asked for
-abbrev pub ReleasesBy : Result (Unit {0}) Fault → ClientValue → Result Step Fault → ClientValue → Type 0
-ReleasesBy (Ok u) at result new = (frame : Parts) × (result ≡ Ok (step.Send frame)) × Leaves at frame new
+abbrev pub ReleasesBy : Result (Unit {0}) Fault → ClientValue → Result Step Fault → ClientValue
+    → Type 0
+ReleasesBy (Ok u) at result new = (frame : Parts) × (result ≡ Ok (step.Send frame))
+    × Leaves at frame new
 ReleasesBy (Err fault) at result new = HasFailed at fault result new
 
 -- the bytes of a further block of a value to set, and of a method's parameter
@@ -104,38 +119,49 @@ next_of_set b = request_bytes (set_block INVOKE b.last b.number b.bytes)
 abbrev pub next_of_action : BlockValue → List ℕ
 next_of_action b = request_bytes (action_block INVOKE b.last b.number b.bytes)
 
--- the block of what goes out behind the one with this number, and what is left
+-- the block of the outgoing value after the one with this number, and the rest
 abbrev pub block_in : Result BlockValue ℕ → Option BlockValue
 block_in (Ok b) = Some b
 block_in (Err code) = None
 
 abbrev pub HasNext : Option Going → ℕ → Option BlockValue → ClientValue → ClientValue → Type 0
 HasNext None number result old new = (result ≡ None) × (new ≡ old)
-HasNext (Some going) number result old new = (result ≡ block_in (answer going number)) × (new ≡ record old { sent = Some (after going number) })
+HasNext (Some going) number result old new = (result ≡ block_in (answer going number))
+    × (new ≡ record old { sent = Some (after going number) })
 
--- behind a block that was taken goes the next one, or it was another than the last one that went
-abbrev pub GivesBlock : Result BlockValue ℕ → (BlockValue → List ℕ) → Asked → ClientValue → Result Step Fault → ClientValue → Type 0
-GivesBlock (Ok b) spelled asked at result new = (frame : Parts) × (result ≡ Ok (step.Send frame)) × Sends at (spelled b) (Asking asked) frame new
+-- after a block that was accepted the next one is sent, or it was another than the last one sent
+abbrev pub GivesBlock : Result BlockValue ℕ → (BlockValue → List ℕ) → Asked → ClientValue
+    → Result Step Fault → ClientValue → Type 0
+GivesBlock (Ok b) spelled asked at result new = (frame : Parts) × (result ≡ Ok (step.Send frame))
+    × Sends at (spelled b) (Asking asked) frame new
 GivesBlock (Err code) spelled asked at result new = HasFailed at Block result new
 
-abbrev pub GivesNext : Option Going → ℕ → (BlockValue → List ℕ) → Asked → ClientValue → Result Step Fault → ClientValue → Type 0
+abbrev pub GivesNext : Option Going → ℕ → (BlockValue → List ℕ) → Asked → ClientValue
+    → Result Step Fault → ClientValue → Type 0
 GivesNext None number spelled asked at result new = HasFailed at Block result new
-GivesNext (Some going) number spelled asked at result new = GivesBlock (answer going number) spelled asked (record at { sent = Some (after going number) }) result new
+GivesNext (Some going) number spelled asked at result new =
+    GivesBlock (answer going number) spelled asked
+    (record at { sent = Some (after going number) }) result new
 
--- what is asked behind a block with this number
+-- the request after a block with this number
 abbrev pub AsksMore : Asked → ℕ → ClientValue → Result Step Fault → ClientValue → Type 0
-AsksMore Get number at result new = (frame : Parts) × (result ≡ Ok (step.Send frame)) × Sends at (next_bytes number) (Asking Get) frame new
+AsksMore Get number at result new = (frame : Parts) × (result ≡ Ok (step.Send frame))
+    × Sends at (next_bytes number) (Asking Get) frame new
 AsksMore Set number at result new = GivesNext at.sent number next_of_set Set at result new
 AsksMore Action number at result new = GivesNext at.sent number next_of_action Action at result new
 
--- what was made of the answer to a request: the next block is asked for, or goes; the answer is told; or it is over
-abbrev pub GoesOn : Result Heard Fault → Asked → ClientValue → Result Step Fault → ClientValue → Type 0
+-- how the answer to a request is handled: the next block is requested, or sent; the answer is returned; or it is over
+abbrev pub GoesOn : Result Heard Fault → Asked → ClientValue → Result Step Fault → ClientValue
+    → Type 0
 GoesOn (Ok (More number)) asked at result new = AsksMore asked number at result new
-GoesOn (Ok (Told answer)) asked at result new = (result ≡ Ok (step.Answered answer)) × (new ≡ record at { stage = Free })
+GoesOn (Ok (Told answer)) asked at result new = (result ≡ Ok (step.Answered answer))
+    × (new ≡ record at { stage = Free })
 GoesOn (Err fault) asked at result new = HasFailed at fault result new
 
 abbrev pub Answers : Asked → ClientValue → Result Step Fault → ClientValue → Type 0
-Answers asked at result new = (heard : Result Heard Fault) × (blocks : Joining) × Hears asked at.blocks at.link.apdu heard blocks × GoesOn heard asked (record at { blocks = blocks }) result new
+Answers asked at result new = (heard : Result Heard Fault) × (blocks : Joining)
+    × Hears asked at.blocks at.link.apdu heard blocks
+    × GoesOn heard asked (record at { blocks = blocks }) result new
 
 -- the link hands an APDU up
 abbrev pub TakesAt : Stage → ClientValue → Result Step Fault → ClientValue → Type 0
@@ -155,26 +181,33 @@ GoesDownAt Free at result new = HasFailed at WentDown result new
 GoesDownAt (Asking asked) at result new = HasFailed at WentDown result new
 GoesDownAt Releasing at result new = HasFailed at WentDown result new
 
--- by what the link makes of the frame
-abbrev pub ComesBy : ClientOut → ClientRecord → ClientValue → Result Step Fault → ClientValue → Type 0
+-- by how the link handles the frame
+abbrev pub ComesBy : ClientOut → ClientRecord → ClientValue → Result Step Fault → ClientValue
+    → Type 0
 ComesBy out.Nothing link old result new = IsPassedOver old result new
-ComesBy out.Up link old result new = (frame : Parts) × (result ≡ Ok (step.Send frame)) × Sends (with_link old link) (association_bytes old.plan) Associating frame new
-ComesBy (out.Send frame) link old result new = (result ≡ Ok (step.Send (outward old.plan frame))) × (new ≡ with_link old link)
+ComesBy out.Up link old result new = (frame : Parts) × (result ≡ Ok (step.Send frame))
+    × Sends (with_link old link) (association_bytes old.plan) Associating frame new
+ComesBy (out.Send frame) link old result new = (result ≡ Ok (step.Send (outward old.plan frame)))
+    × (new ≡ with_link old link)
 ComesBy out.Apdu link old result new = TakesAt old.stage (with_link old link) result new
 ComesBy out.Down link old result new = GoesDownAt old.stage (with_link old link) result new
 
 -- a frame of others is passed over
 abbrev pub ComesTo : Bool → ClientValue → Parts → Result Step Fault → ClientValue → Type 0
-ComesTo true old frame result new = ComesBy (client_step old.link (inward frame)).1 (client_step old.link (inward frame)).0 old result new
+ComesTo true old frame result new =
+    ComesBy (client_step old.link (inward frame)).1
+    (client_step old.link (inward frame)).0 old result new
 ComesTo false old frame result new = IsPassedOver old result new
 
 -- and so is each, while nothing is awaited
-abbrev pub ComesWhile : Option Parts → ClientValue → Parts → Result Step Fault → ClientValue → Type 0
+abbrev pub ComesWhile : Option Parts → ClientValue → Parts → Result Step Fault → ClientValue
+    → Type 0
 ComesWhile (Some waits) old frame result new = ComesTo (is_ours old.plan frame) old frame result new
 ComesWhile None old frame result new = IsPassedOver old result new
 
 -- after a fault it is the same fault again
-abbrev pub ComesUnless : Option Fault → ClientValue → Parts → Result Step Fault → ClientValue → Type 0
+abbrev pub ComesUnless : Option Fault → ClientValue → Parts → Result Step Fault → ClientValue
+    → Type 0
 ComesUnless None old frame result new = ComesWhile old.link.waits old frame result new
 ComesUnless (Some fault) old frame result new = (result ≡ Err fault) × (new ≡ old)
 
@@ -183,8 +216,10 @@ Comes old frame result new = ComesUnless old.failed old frame result new
 
 -- ---- a time-out
 
-abbrev pub TimesOutBy : ClientRecord × Option Parts → ClientValue → Result Parts Fault → ClientValue → Type 0
-TimesOutBy (link, Some frame) old result new = (result ≡ Ok (outward old.plan frame)) × (new ≡ with_link old link)
+abbrev pub TimesOutBy : ClientRecord × Option Parts → ClientValue → Result Parts Fault → ClientValue
+    → Type 0
+TimesOutBy (link, Some frame) old result new = (result ≡ Ok (outward old.plan frame))
+    × (new ≡ with_link old link)
 TimesOutBy (link, None) old result new = HasFailed (with_link old link) Line result new
 
 abbrev pub TimesOutUnless : Option Fault → ClientValue → Result Parts Fault → ClientValue → Type 0
@@ -210,7 +245,7 @@ pub record IsFree (c : ClientValue) : Type 0 where
   pub free : c.stage ≡ Free
   pub idle : IsIdle c.link
 
--- the most bytes of an APDU that goes out: as many as the meter takes, where it says so, and as the plan allows
+-- the most bytes of an outgoing APDU: as many as the meter takes, if it states a limit, and as the plan allows
 abbrev pub most_bytes : ClientValue → ℕ
 most_bytes c = if c.granted.size == 0 then c.plan.size else min c.granted.size c.plan.size
 
@@ -218,7 +253,7 @@ most_bytes c = if c.granted.size == 0 then c.plan.size else min c.granted.size c
 abbrev pub emptied : ClientValue → Option Going → ClientValue
 emptied c sent = record c { blocks = empty; sent = sent }
 
--- the encoding that may go in blocks: of a value to set where no selector stands beside it, of a method's parameter
+-- the encoding that may go in blocks: that of a value to set without a selector, or of a method's parameter
 abbrev pub long_value : RequestForm → Option (List ℕ)
 long_value (set_normal invoke d None v) = Some (canonical v)
 long_value (action_normal invoke d (Some v)) = Some (canonical v)
@@ -226,11 +261,13 @@ long_value form = None
 
 -- the request with its first block
 abbrev pub first_request : RequestForm → BlockValue → List ℕ
-first_request (set_normal invoke d s v) b = request_bytes (set_first INVOKE d None b.last b.number b.bytes)
-first_request (action_normal invoke d p) b = request_bytes (action_first INVOKE d b.last b.number b.bytes)
+first_request (set_normal invoke d s v) b =
+    request_bytes (set_first INVOKE d None b.last b.number b.bytes)
+first_request (action_normal invoke d p) b =
+    request_bytes (action_first INVOKE d b.last b.number b.bytes)
 first_request form b = []
 
--- an encoding goes in blocks that fit into so many bytes
+-- an encoding goes in blocks that fit into this many bytes
 pub record GoesInBlocks (form : RequestForm) (most : ℕ) (encoding : List ℕ) : Type 0 where
   pub long : most < length (request_bytes form)
   pub encodes : long_value form ≡ Some encoding
@@ -239,18 +276,24 @@ pub record GoesInBlocks (form : RequestForm) (most : ℕ) (encoding : List ℕ) 
 
 -- an encoding begins to go in blocks
 abbrev pub Starts : List ℕ → ClientValue → Result BlockOf AskFault → ClientValue → Type 0
-Starts encoding old (Ok first) new = (LEAST_SIZE ≤ most_bytes old) × (length encoding ≤ 65536) × (view_of first ≡ block encoding (most_bytes old - PUT_HEAD) 1) × (new ≡ emptied old (Some (after (beginning encoding (most_bytes old - PUT_HEAD)) 0)))
-Starts encoding old (Err TooLong) new = (LEAST_SIZE ≤ most_bytes old → length encoding ≤ 65536 → ⊥) × (new ≡ old)
+Starts encoding old (Ok first) new = (LEAST_SIZE ≤ most_bytes old) × (length encoding ≤ 65536)
+    × (view_of first ≡ block encoding (most_bytes old - PUT_HEAD) 1)
+    × (new ≡ emptied old (Some (after (beginning encoding (most_bytes old - PUT_HEAD)) 0)))
+Starts encoding old (Err TooLong) new = (LEAST_SIZE ≤ most_bytes old → length encoding ≤ 65536 → ⊥)
+    × (new ≡ old)
 Starts encoding old (Err Memory) new = new ≡ old
 
--- A request goes out in one piece where it may; or else its value goes in blocks, the first of them now; and where it may not
--- either, it is too long.
+-- A request goes out in one piece if it fits; otherwise its value goes in blocks, the first of them now; and if it may not either,
+-- it is too long.
 abbrev pub Asks : Asked → RequestForm → ClientValue → Result Parts AskFault → ClientValue → Type 0
 Asks asked form old (Ok frame) new =
-    ((length (request_bytes form) ≤ most_bytes old) × Sends (emptied old None) (request_bytes form) (Asking asked) frame new)
+    ((length (request_bytes form) ≤ most_bytes old)
+    × Sends (emptied old None) (request_bytes form) (Asking asked) frame new)
     ⊎ ((encoding : List ℕ) × GoesInBlocks form (most_bytes old) encoding
-    × Sends (emptied old (Some (after (beginning encoding (most_bytes old - PUT_HEAD)) 0))) (first_request form (block encoding (most_bytes old - PUT_HEAD) 1)) (Asking asked) frame new)
-Asks asked form old (Err TooLong) new = (most_bytes old < length (request_bytes form)) × ((encoding : List ℕ) → GoesInBlocks form (most_bytes old) encoding → ⊥) × (new ≡ old)
+    × Sends (emptied old (Some (after (beginning encoding (most_bytes old - PUT_HEAD)) 0)))
+    (first_request form (block encoding (most_bytes old - PUT_HEAD) 1)) (Asking asked) frame new)
+Asks asked form old (Err TooLong) new = (most_bytes old < length (request_bytes form))
+    × ((encoding : List ℕ) → GoesInBlocks form (most_bytes old) encoding → ⊥) × (new ≡ old)
 Asks asked form old (Err Memory) new = new ≡ old
 
 abbrev pub Releases : ClientValue → Parts → ClientValue → Type 0

@@ -1,4 +1,4 @@
--- What a contract sees of a client.
+-- The contract's view of a client.
 use Rattle.std.specs.Prelude.{◌≡◌, ◌≤◌, Option, None, IfSome}
 use Rattle.dlms_blocks.specs.Going.{Going}
 use Rattle.dlms_blocks.specs.Joining.{Joining}
@@ -21,11 +21,12 @@ pub record ClientValue : Type 0 where
   pub granted : Granted
   -- what was joined of the last GET's value
   pub blocks : Joining
-  -- the encoding that goes out in blocks with the last request, where it does
+  -- the encoding that goes out in blocks with the last request, if it does
   pub sent : Option Going
 
 -- Where nothing is awaited before the first frame, the link is down; and each block of a request fits into a segment.
-pub record IsStanding (plan : Plan) (link : ClientRecord) (stage : Stage) (failed : Option Fault) (sent : Option Going) : Type 0 where
+pub record IsStanding (plan : Plan) (link : ClientRecord) (stage : Stage) (failed : Option Fault)
+    (sent : Option Going) : Type 0 where
   pub is_plan : IsPlan (plan_of plan)
   pub room : IfSome sent (λ going. going.room ≤ MOST_RAW)
   pub down : failed ≡ None → stage ≡ Closed → IsDown link

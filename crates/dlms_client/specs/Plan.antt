@@ -12,7 +12,12 @@ pub record PlanValue : Type 0 where
   pub size : ℕ
 
 abbrev pub plan_of : Plan → PlanValue
-plan_of plan = record { sap = plan.sap; server = plan.server; secret = option_map (λ secret. secret.items) plan.secret; size = plan.size }
+plan_of plan = record {
+  sap = plan.sap;
+  server = plan.server;
+  secret = option_map (λ secret. secret.items) plan.secret;
+  size = plan.size;
+}
 
 -- a client's address is 1 to 127; each part of the meter's has its bits; two ends may agree on APDUs of this size
 pub record IsPlan (plan : PlanValue) : Type 0 where

@@ -21,7 +21,7 @@ use Rattle.dlms_client.specs.declared.stage.Stage.TheVariants.{Asking}
 use Rattle.dlms_client.specs.declared.step.Step.{Step}
 use Rattle.dlms_client.specs.declared.step.Step.TheVariants as step
 
--- a call, and what it answered: for the first frame, with a frame that came, for a time-out, with a request, for the release, for the
+-- a call and its answer: for the first frame, with a frame that arrived, for a timeout, with a request, for the release, for the
 -- link's end
 pub data Call : Type 0 where
   Next : (frame : Option Parts) → Call
@@ -59,7 +59,8 @@ handed_by out.Apdu link = link.apdu ∷ []
 handed_by out.Down link = []
 
 abbrev pub handed_to : Bool → ClientValue → Parts → List (List ℕ)
-handed_to true c frame = handed_by (client_step c.link (inward frame)).1 (client_step c.link (inward frame)).0
+handed_to true c frame = handed_by (client_step c.link (inward frame)).1
+    (client_step c.link (inward frame)).0
 handed_to false c frame = []
 
 abbrev pub handed_while : Option Parts → ClientValue → Parts → List (List ℕ)
@@ -93,11 +94,13 @@ since_after c (Disconnect frame) since = since
 -- the calls, one after another
 abbrev pub Runs : ClientValue → Since → List Call → ClientValue → Since → Type 0
 Runs old since [] new now = (new ≡ old) × (now ≡ since)
-Runs old since (call ∷ calls) new now = (mid : ClientValue) × IsCall old call mid × Runs mid (since_after old call since) calls new now
+Runs old since (call ∷ calls) new now = (mid : ClientValue) × IsCall old call mid
+    × Runs mid (since_after old call since) calls new now
 
 -- An answer that a frame brings was awaited, and is what the APDUs say that were taken since the last request, and that frame's
 -- APDU; it leaves the client with this value, and free for another request.
-pub record IsAnswered (since : Since) (at : ClientValue) (frame : Parts) (answer : Answer) (new : ClientValue) : Type 0 where
+pub record IsAnswered (since : Since) (at : ClientValue) (frame : Parts) (answer : Answer)
+    (new : ClientValue) : Type 0 where
   pub form : RequestForm
   pub apdu : List ℕ
   pub request : since.request ≡ Some form
@@ -108,10 +111,12 @@ pub record IsAnswered (since : Since) (at : ClientValue) (frame : Parts) (answer
 
 -- The calls of a client, from a new one on, in any order and with any frames: so is each answer.
 abbrev pub AnswersAreSaid : Type 0
-AnswersAreSaid = (plan : PlanValue) (calls : List Call) (at new : ClientValue) (since : Since) (frame : Parts) (answer : Answer) → Runs (fresh plan) nothing_yet calls at since → Comes at frame (Ok (step.Answered answer)) new
+AnswersAreSaid = (plan : PlanValue) (calls : List Call) (at new : ClientValue) (since : Since)
+    (frame : Parts) (answer : Answer) → Runs (fresh plan) nothing_yet calls at since
+    → Comes at frame (Ok (step.Answered answer)) new
     → IsAnswered since at frame answer new
 
--- What goes out in blocks is the encoding of the value in the last request.
+-- The blocks sent are those of the encoding of the value in the last request.
 pub record IsOfTheRequest (since : Since) (sent : Option Going) : Type 0 where
   pub form : RequestForm
   pub request : since.request ≡ Some form
@@ -119,4 +124,6 @@ pub record IsOfTheRequest (since : Since) (sent : Option Going) : Type 0 where
 
 -- So it is while the answer to a request is awaited.
 abbrev pub BlocksAreOfTheRequest : Type 0
-BlocksAreOfTheRequest = (plan : PlanValue) (calls : List Call) (at : ClientValue) (since : Since) (asked : Asked) → Runs (fresh plan) nothing_yet calls at since → at.failed ≡ None → at.stage ≡ Asking asked → IsOfTheRequest since at.sent
+BlocksAreOfTheRequest = (plan : PlanValue) (calls : List Call) (at : ClientValue) (since : Since)
+    (asked : Asked) → Runs (fresh plan) nothing_yet calls at since → at.failed ≡ None
+    → at.stage ≡ Asking asked → IsOfTheRequest since at.sent

@@ -1,4 +1,4 @@
--- What the APDUs that were taken since a request say in answer to it (IEC 62056-5-3): the last of them this one.
+-- The meaning of the APDUs taken since a request as an answer to it (IEC 62056-5-3), the last of them this one.
 use Rattle.std.specs.Prelude.{◌≡◌, ℕ, ◌+◌, true, List, [], ◌++◌, Some, Result, Ok}
 use Rattle.dlms_apdu.specs.Forms.{ResponseForm, get_data, get_result, get_block, get_block_result, set_result, set_last, action_result}
 use Rattle.dlms_apdu.specs.Reading.{response_at}
@@ -23,12 +23,22 @@ GivesResult Set (Ok (set_last invoke r number)) code = r ≡ code
 GivesResult Action (Ok (action_result invoke r)) code = r ≡ code
 GivesResult asked read code = ⊥
 
--- A GET has a value in one piece, where no block came before; or the last block, and the encoding of its value is that of the
--- blocks, joined in their order. Each request may have a result, an ACTION a value beside it; and each may be denied.
-pub data Says (asked : Asked) (before : List (List ℕ)) (apdu : List ℕ) (answer : Answer) (value : List ℕ) : Type 0 where
-  in_one_piece : (invoke : ℕ) (v : Value) → asked ≡ Get → before ≡ [] → response_at apdu ≡ Ok (get_data invoke v) → IsSpelling value v → answer ≡ ValueCame → Says asked before apdu answer value
-  in_blocks : (invoke taken : ℕ) (joined raw : List ℕ) (v : Value) → asked ≡ Get → AreBlocks 0 before taken joined → response_at apdu ≡ Ok (get_block invoke true (taken + 1) raw) → value ≡ joined ++ raw → IsSpelling value v
+-- A GET has a value in one piece, if no block came before; or the last block, and the encoding of its value is that of the blocks,
+-- joined in order. Each request may have a result, an ACTION a value with it; and each may be denied.
+pub data Says (asked : Asked) (before : List (List ℕ)) (apdu : List ℕ) (answer : Answer)
+    (value : List ℕ) : Type 0 where
+  in_one_piece : (invoke : ℕ) (v : Value) → asked ≡ Get → before ≡ []
+      → response_at apdu ≡ Ok (get_data invoke v) → IsSpelling value v → answer ≡ ValueCame
+      → Says asked before apdu answer value
+  in_blocks : (invoke taken : ℕ) (joined raw : List ℕ) (v : Value) → asked ≡ Get
+      → AreBlocks 0 before taken joined
+      → response_at apdu ≡ Ok (get_block invoke true (taken + 1) raw) → value ≡ joined ++ raw
+      → IsSpelling value v
       → answer ≡ ValueCame → Says asked before apdu answer value
-  by_result : (code : ℕ) → GivesResult asked (response_at apdu) code → answer ≡ HasResult code → Says asked before apdu answer value
-  returned : (code : ℕ) (bytes : List ℕ) (v : Value) → asked ≡ Action → returned_at apdu ≡ Some (code, bytes) → value ≡ bytes → IsSpelling value v → answer ≡ HasResult code → Says asked before apdu answer value
-  denied : (denial : Denial) → denial_of apdu ≡ Some denial → answer ≡ Denied denial → Says asked before apdu answer value
+  by_result : (code : ℕ) → GivesResult asked (response_at apdu) code → answer ≡ HasResult code
+      → Says asked before apdu answer value
+  returned : (code : ℕ) (bytes : List ℕ) (v : Value) → asked ≡ Action
+      → returned_at apdu ≡ Some (code, bytes) → value ≡ bytes → IsSpelling value v
+      → answer ≡ HasResult code → Says asked before apdu answer value
+  denied : (denial : Denial) → denial_of apdu ≡ Some denial → answer ≡ Denied denial
+      → Says asked before apdu answer value

@@ -81,7 +81,7 @@ impl<A: Allocator + Copy> Client<A> {
         }
     }
 
-    /// The first frame, where there is no link yet, and again once it is down as was asked for; none otherwise.
+    /// The first frame, if there is no link yet, and again once it is down as requested; none otherwise.
     pub fn next(&mut self) -> Option<SentFrame>
         ensures { Begins self.old result self.new }
     {
@@ -98,7 +98,8 @@ impl<A: Allocator + Copy> Client<A> {
         }
     }
 
-    /// What the client makes of a frame. After a fault it is the same fault again; while nothing is awaited it is nothing.
+    /// How the client handles a frame. After a fault it returns the same fault again; while nothing is awaited it returns
+    /// `Nothing`.
     pub fn on(&mut self, frame: &Frame<'_>) -> Result<Step, Fault>
         ensures { Comes self.old frame.now result self.new }
     {
@@ -115,7 +116,8 @@ impl<A: Allocator + Copy> Client<A> {
     fn hears(&mut self, frame: &Frame<'_>) -> Result<Step, Fault>
         requires whole { self.old.failed ≡ None }
         requires waits { IsSome self.old.link.waits }
-        ensures { ComesBy (client_step self.old.link frame.now).1 (client_step self.old.link frame.now).0 self.old result self.new }
+        ensures { ComesBy (client_step self.old.link frame.now).1
+            (client_step self.old.link frame.now).0 self.old result self.new }
     {
         match self.link.on(frame) {
             ClientOut::Nothing => Ok(Step::Nothing),
@@ -194,7 +196,7 @@ impl<A: Allocator + Copy> Client<A> {
         }
     }
 
-    /// What is asked behind a block with this number.
+    /// The request after a block with this number.
     fn asks_more(&mut self, asked: Asked, number: u32) -> Result<Step, Fault>
         requires { IsIdle self.old.link }
         ensures { AsksMore asked number self.old result self.new }
@@ -221,7 +223,7 @@ impl<A: Allocator + Copy> Client<A> {
         }
     }
 
-    /// The block of the request behind the one with this number, if that was the last one that went and another one follows.
+    /// The block of the request after the one with this number, if that was the last one sent and another one follows.
     fn next_block(&mut self, number: u32) -> Option<Block>
         ensures next { HasNext self.old.sent number (option_map view_of result) self.old self.new }
         ensures short { IfSome result (λ block. length block.bytes.items ≤ MOST_RAW) }
@@ -313,7 +315,8 @@ impl<A: Allocator + Copy> Client<A> {
     ) -> Result<SentFrame, AskFault>
         requires free { IsFree self.old }
         requires fits { SelectorFits (option_map selection_of selector) }
-        ensures { Asks Get (get_normal INVOKE descriptor (option_map selection_of selector)) self.old result self.new }
+        ensures { Asks Get (get_normal INVOKE descriptor
+            (option_map selection_of selector)) self.old result self.new }
     {
         let request = Request::GetNormal {
             invoke: INVOKE,
@@ -335,7 +338,8 @@ impl<A: Allocator + Copy> Client<A> {
         requires free { IsFree self.old }
         requires selector { SelectorFits (option_map selection_of selector) }
         requires value { Fits (value_of value) }
-        ensures { Asks Set (set_normal INVOKE descriptor (option_map selection_of selector) (value_of value)) self.old result self.new }
+        ensures { Asks Set (set_normal INVOKE descriptor (option_map selection_of selector)
+            (value_of value)) self.old result self.new }
     {
         let request = Request::SetNormal {
             invoke: INVOKE,
@@ -356,7 +360,8 @@ impl<A: Allocator + Copy> Client<A> {
     ) -> Result<SentFrame, AskFault>
         requires free { IsFree self.old }
         requires fits { ParameterFits (option_map value_of parameter) }
-        ensures { Asks Action (action_normal INVOKE descriptor (option_map value_of parameter)) self.old result self.new }
+        ensures { Asks Action (action_normal INVOKE descriptor
+            (option_map value_of parameter)) self.old result self.new }
     {
         let request = Request::ActionNormal {
             invoke: INVOKE,
@@ -472,7 +477,7 @@ impl<A: Allocator + Copy> Client<A> {
         self.leave()
     }
 
-    /// The encoding of the last GET's value, as far as it was joined: all of it once the answer was told.
+    /// The encoding of the last GET's value, as far as it was joined: all of it once the answer was returned.
     pub fn value(&self) -> &[u8]
         ensures { result.now ≡ self.now.blocks.joined }
     {
@@ -486,7 +491,7 @@ impl<A: Allocator + Copy> Client<A> {
         self.link.apdu()
     }
 
-    /// What the meter granted last; nothing before an association.
+    /// The services and size that the meter granted last; nothing before an association.
     pub fn granted(&self) -> Granted
         ensures { result ≡ self.now.granted }
     {

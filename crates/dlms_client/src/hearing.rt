@@ -1,4 +1,4 @@
-//! What an APDU says in answer to a request.
+//! The meaning of an APDU as an answer to a request.
 
 ghost use Rattle.std.specs.Prelude.{◌≡◌, drop, option_map, true, Ok};
 ghost use Rattle.dlms_apdu.specs.Reading.{response_at};
@@ -15,16 +15,16 @@ use dlms_blocks::{GetIn, UNKNOWN_BLOCK};
 use dlms_data::is_value;
 use std::alloc::Allocator;
 
-/// What an APDU says in answer to a request.
+/// The meaning of an APDU as an answer to a request.
 #[derive(Clone, Copy)]
 pub enum Heard {
-    /// The block of this number has come, or was taken, behind which others are to come or to go.
+    /// The block with this number has come, or was accepted, and others are to come or to go.
     More(u32),
     /// The request has this answer.
     Told(Answer),
 }
 
-/// What stands behind the first four bytes.
+/// The bytes after the first four.
 fn behind_head(apdu: &[u8]) -> &[u8]
     ensures { result.now ≡ drop 4 apdu.now }
 {
@@ -65,7 +65,7 @@ fn whole<A: Allocator>(blocks: &mut GetIn<A>, apdu: &[u8]) -> Result<Heard, Faul
     block(blocks, true, 1, behind_head(apdu), Answer::Value)
 }
 
-/// What a response says in answer to a GET.
+/// The meaning of a response as an answer to a GET.
 fn get_by<A: Allocator, B: Allocator>(
     blocks: &mut GetIn<A>,
     apdu: &[u8],
@@ -103,7 +103,7 @@ fn get<A: Allocator + Copy>(alloc: A, blocks: &mut GetIn<A>, apdu: &[u8]) -> Res
     }
 }
 
-/// What a response says in answer to a SET, or to a block of one.
+/// The meaning of a response as an answer to a SET, or to a block of one.
 fn set_by<A: Allocator>(response: &Response<'_, A>) -> Result<Heard, Fault>
     ensures { result ≡ set_heard (Ok (response_of response.now)) }
 {
@@ -141,7 +141,7 @@ fn returned(apdu: &[u8]) -> Option<(u8, &[u8])>
     }
 }
 
-/// What a response says in answer to an ACTION, or to a block of one.
+/// The meaning of a response as an answer to an ACTION, or to a block of one.
 fn action_by<A: Allocator>(response: &Response<'_, A>) -> Result<Heard, Fault>
     ensures { result ≡ action_heard (Ok (response_of response.now)) }
 {
@@ -169,7 +169,8 @@ fn action_result<A: Allocator + Copy>(alloc: A, apdu: &[u8]) -> Result<Heard, Fa
 
 /// The answer to an ACTION, or to a block of one.
 fn action<A: Allocator + Copy>(alloc: A, blocks: &mut GetIn<A>, apdu: &[u8]) -> Result<Heard, Fault>
-    ensures { ActionHears (returned_at apdu.now) blocks.old (response_at apdu.now) result blocks.new }
+    ensures { ActionHears (returned_at apdu.now) blocks.old
+        (response_at apdu.now) result blocks.new }
 {
     match returned(apdu) {
         Some((result, bytes)) => block(blocks, true, 1, bytes, Answer::Result(result)),
@@ -177,7 +178,7 @@ fn action<A: Allocator + Copy>(alloc: A, blocks: &mut GetIn<A>, apdu: &[u8]) -> 
     }
 }
 
-/// The answer to what was asked. An exception or a service error answers each request.
+/// The answer to the request. An exception or a service error answers any request.
 pub fn hear<A: Allocator + Copy>(
     alloc: A,
     asked: Asked,

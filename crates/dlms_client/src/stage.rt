@@ -11,7 +11,7 @@ pub enum Asked {
     Action,
 }
 
-/// What is awaited.
+/// The answer that is awaited.
 #[derive(Clone, Copy, Debug, PartialEq, Eq)]
 pub enum Stage {
     /// Nothing: there is no link.

@@ -1,9 +1,9 @@
-//! What comes of a frame.
+//! The outcome of a frame.
 
 use crate::answer::Answer;
 use dlms_frame::SentFrame;
 
-/// What a client makes of a frame.
+/// How a client handled a frame.
 #[derive(Drop)]
 pub enum Step {
     /// Nothing is to be done.

@@ -1,20 +1,22 @@
-//! A meter that is asked: the line to it, the association, and the errand.
+//! A meter that is asked: the line to it, the association, and the request.
 
 ghost use Rattle.dlms_client.specs.Plan.{IsPlan, plan_of};
 
-use crate::errand::{Shape, Talk, named};
+use crate::explained_stream::ExplainedStream;
 use crate::fault::Fault;
 use crate::given::value_given;
-use crate::spoken::Spoken;
+use crate::requests::{MeterSession, read_name};
 use arrayvec::ArrayVec;
 use dlms_ask::server_of;
 use dlms_call::{CallFault, ClientEnd, begin};
 use dlms_client::Plan;
 use dlms_data::Data;
 use dlms_ends::End;
-use dlms_field::{Dialling, FieldFault, HostDesk, Phone, secret_of};
+use dlms_field::{Dialling, FieldFault, HostPollInputs, MeterLine, secret_of};
 use dlms_frame::{Address, Client};
-use dlms_program::Asking;
+use dlms_words::{
+    ActOptions, Asking, GetOptions, ListOptions, OutputFormat, SetOptions, ValueFormat,
+};
 use std::alloc::Global;
 use std::fs::File;
 use std::io;
@@ -29,16 +31,16 @@ const SIZE: u16 = 1_024;
 /// For how many seconds the addresses of a place are tried.
 const CONNECT_SECONDS: u32 = 60;
 
-/// What is asked of a meter, in words that were looked at.
+/// A request to a meter, with its arguments checked.
 #[derive(Drop)]
-pub enum Errand<'a> {
+pub enum Request<'a> {
     Get {
         names: &'a str,
         class: u16,
-        shape: Shape,
+        format: ValueFormat,
     },
     List {
-        json: bool,
+        format: OutputFormat,
     },
     Set {
         name: &'a str,
@@ -63,7 +65,7 @@ fn server<'a>(asking: &Asking<'a>) -> Result<Address, Fault<'a>> {
     }
 }
 
-/// The secret in the file, where one is named.
+/// The secret in the file, if a file is given.
 #[inline(never)]
 fn secret<'a, H: Files + Clock>(
     host: &H,
@@ -73,36 +75,36 @@ fn secret<'a, H: Files + Clock>(
     let Some(file) = asking.secret_file else {
         return Ok(None);
     };
-    let mut desk = HostDesk::new(host);
-    match secret_of(&mut desk, Client::Management, Some(file)) {
+    let mut inputs = HostPollInputs::new(host);
+    match secret_of(&mut inputs, Client::Management, Some(file)) {
         Ok(secret) => Ok(Some(secret)),
         Err(FieldFault::System(place, error)) => Err(Fault::of_system(alloc, place, &error)),
         Err(_) => Err(Fault::Secret(file)),
     }
 }
 
-/// The errand, once the association is open.
+/// The request, once the association is open.
 #[inline(never)]
-fn done<'a, S: End, W: Write>(
-    talk: &mut Talk<'a, '_, S>,
-    errand: Errand<'a>,
+fn run_request<'a, S: End, W: Write>(
+    talk: &mut MeterSession<'a, '_, S>,
+    request: Request<'a>,
     output: &mut W,
 ) -> Result<(), Fault<'a>> {
-    match errand {
-        Errand::Get {
+    match request {
+        Request::Get {
             names,
             class,
-            shape,
-        } => talk.get_all(names, class, shape, output),
-        Errand::List { json } => talk.list_all(json, output),
-        Errand::Set { name, value, class } => talk.set_one(name, value, class, output),
-        Errand::Act { name, value, class } => talk.act_one(name, value, class, output),
+            format,
+        } => talk.get_all(names, class, format, output),
+        Request::List { format } => talk.list_all(format, output),
+        Request::Set { name, value, class } => talk.set_one(name, value, class, output),
+        Request::Act { name, value, class } => talk.act_one(name, value, class, output),
     }
 }
 
 /// An association over a line, on the heap.
 #[inline(never)]
-fn held<S: End>(
+fn associate<S: End>(
     alloc: Global,
     plan: Plan,
     line: &mut S,
@@ -118,9 +120,9 @@ fn held<S: End>(
     }
 }
 
-/// An association over a line, where its addresses are some.
+/// An association over a line, if its addresses are valid.
 #[inline(never)]
-fn opened<'a, S: End>(
+fn open_association<'a, S: End>(
     alloc: Global,
     place: &'a str,
     plan: Plan,
@@ -129,50 +131,50 @@ fn opened<'a, S: End>(
     if !plan.is_lawful() {
         return Err(Fault::Server(place));
     }
-    match held(alloc, plan, line) {
+    match associate(alloc, plan, line) {
         Ok(head) => Ok(head),
         Err(fault) => Err(Fault::of_call(place, fault)),
     }
 }
 
-/// An association over a line, the errand in it, and its end, whatever came of the errand.
+/// An association over a line, the request in it, and its end, whatever came of the request.
 #[inline(never)]
-fn talked<'a, S: End, W: Write>(
+fn exchange<'a, S: End, W: Write>(
     alloc: Global,
     asking: &Asking<'a>,
     plan: Plan,
     line: &mut S,
-    errand: Errand<'a>,
+    request: Request<'a>,
     output: &mut W,
 ) -> Result<(), Fault<'a>> {
     let place = asking.place;
-    let head = match opened(alloc, place, plan, line) {
+    let head = match open_association(alloc, place, plan, line) {
         Ok(head) => head,
         Err(fault) => {
-            drop(errand);
+            drop(request);
             return Err(fault);
         }
     };
-    let mut talk = Talk {
+    let mut talk = MeterSession {
         alloc,
         place,
         line,
         head,
         most: asking.most,
     };
-    let outcome = done(&mut talk, errand, output);
+    let outcome = run_request(&mut talk, request, output);
     talk.end();
     outcome
 }
 
-/// Looks at the names of an errand.
-fn look<'a>(errand: &Errand<'a>) -> Result<(), Fault<'a>> {
-    let names = match errand {
-        Errand::Get { names, .. } => names,
-        Errand::List { .. } => return Ok(()),
-        Errand::Set { name, .. } => name,
-        Errand::Act { name, .. } => {
-            return if named(name)?.number.is_some() {
+/// Looks at the names of a request.
+fn look<'a>(request: &Request<'a>) -> Result<(), Fault<'a>> {
+    let names = match request {
+        Request::Get { names, .. } => names,
+        Request::List { .. } => return Ok(()),
+        Request::Set { name, .. } => name,
+        Request::Act { name, .. } => {
+            return if read_name(name)?.number.is_some() {
                 Ok(())
             } else {
                 Err(Fault::Name(name))
@@ -183,13 +185,13 @@ fn look<'a>(errand: &Errand<'a>) -> Result<(), Fault<'a>> {
     'names: for _name in 0..names.len() {
         match rest.split_once(',') {
             Some((said, behind)) => {
-                named(said)?;
+                read_name(said)?;
                 rest = behind;
             }
             None => break,
         }
     }
-    named(rest)?;
+    read_name(rest)?;
     Ok(())
 }
 
@@ -207,40 +209,40 @@ fn connect<'a, L: Dialling>(alloc: Global, line: &mut L, place: &'a str) -> Resu
 fn line_to<'a, 'r, H: Net + Files<File = File> + Clock + AllocGlobal>(
     host: &'r H,
     place: &'a str,
-) -> Result<Phone<'r, H>, Fault<'a>> {
-    let mut phone = Phone::new(host);
-    match connect(host.alloc(), &mut phone, place) {
-        Ok(()) => Ok(phone),
+) -> Result<MeterLine<'r, H>, Fault<'a>> {
+    let mut line = MeterLine::new(host);
+    match connect(host.alloc(), &mut line, place) {
+        Ok(()) => Ok(line),
         Err(fault) => {
-            drop(phone);
+            drop(line);
             Err(fault)
         }
     }
 }
 
-/// The line to a meter, explained among the errors where that is asked for.
-fn spoken_to<'a, 'r, 'e, H: Net + Files<File = File> + Clock + AllocGlobal, E: Write>(
+/// The line to a meter, explained on standard error if that is asked for.
+fn explained_line_to<'a, 'r, 'e, H: Net + Files<File = File> + Clock + AllocGlobal, E: Write>(
     host: &'r H,
     asking: &Asking<'a>,
     errors: &'e mut E,
-) -> Result<Spoken<'e, Phone<'r, H>, E>, Fault<'a>> {
+) -> Result<ExplainedStream<'e, MeterLine<'r, H>, E>, Fault<'a>> {
     let line = match line_to(host, asking.place) {
         Ok(line) => line,
         Err(fault) => return Err(fault),
     };
-    match Spoken::new(host.alloc(), line, asking.verbose, errors) {
-        Ok(spoken) => Ok(spoken),
+    match ExplainedStream::new(host.alloc(), line, asking.verbose, errors) {
+        Ok(line) => Ok(line),
         Err(error) => Err(Fault::from(error)),
     }
 }
 
-/// The association that is asked for, where the errand's names are some.
+/// The association that is asked for, if the request's names are valid.
 fn plan_of<'a, H: Files + Clock + AllocGlobal>(
     host: &H,
     asking: &Asking<'a>,
-    errand: &Errand<'a>,
+    request: &Request<'a>,
 ) -> Result<Plan, Fault<'a>> {
-    look(errand)?;
+    look(request)?;
     let server = server(asking)?;
     let secret = secret(host, host.alloc(), asking)?;
     Ok(Plan {
@@ -256,8 +258,8 @@ fn is_of_line(talked: &Result<(), Fault<'_>>) -> bool {
     matches!(talked, Err(Fault::Call(_, CallFault::Io)))
 }
 
-/// What came of a talk: where the line failed, in the system's words, if it has some.
-fn told<'a>(
+/// The result of an exchange; if the line failed, with the system's message, if it has one.
+fn with_system_error<'a>(
     alloc: Global,
     place: &'a str,
     talked: Result<(), Fault<'a>>,
@@ -274,22 +276,22 @@ fn told<'a>(
 
 /// Drops a line, in a frame of its own: what explains its bytes is large, and would be on the stack during the whole session.
 #[inline(never)]
-fn close<S: Drop, E>(line: Spoken<'_, S, E>) {
+fn close<S: Drop, E>(line: ExplainedStream<'_, S, E>) {
     drop(line);
 }
 
 /// Asks a meter over the line to it.
-fn answered<'a, 'r, 'e, H: Net + Files<File = File> + Clock + AllocGlobal, W: Write, E: Write>(
+fn ask_over<'a, 'r, 'e, H: Net + Files<File = File> + Clock + AllocGlobal, W: Write, E: Write>(
     host: &'r H,
     asking: &Asking<'a>,
     plan: Plan,
-    line: Spoken<'e, Phone<'r, H>, E>,
-    errand: Errand<'a>,
+    line: ExplainedStream<'e, MeterLine<'r, H>, E>,
+    request: Request<'a>,
     output: &mut W,
 ) -> Result<(), Fault<'a>> {
     let mut line = line;
-    let talked = talked(host.alloc(), asking, plan, &mut line, errand, output);
-    let told = told(host.alloc(), asking.place, talked, line.stream.failure());
+    let talked = exchange(host.alloc(), asking, plan, &mut line, request, output);
+    let told = with_system_error(host.alloc(), asking.place, talked, line.stream.failure());
     close(line);
     told
 }
@@ -299,79 +301,105 @@ fn ask_by<'a, H: Net + Files<File = File> + Clock + AllocGlobal, W: Write, E: Wr
     host: &H,
     asking: &Asking<'a>,
     plan: Plan,
-    errand: Errand<'a>,
+    request: Request<'a>,
     output: &mut W,
     errors: &mut E,
 ) -> Result<(), Fault<'a>> {
-    let line = match spoken_to(host, asking, errors) {
+    let line = match explained_line_to(host, asking, errors) {
         Ok(line) => line,
         Err(fault) => {
-            drop(errand);
+            drop(request);
             return Err(fault);
         }
     };
-    answered(host, asking, plan, line, errand, output)
+    ask_over(host, asking, plan, line, request, output)
 }
 
 /// Asks a meter.
 #[inline(never)]
-pub fn ask<'a, H: Net + Files<File = File> + Clock + AllocGlobal, W: Write, E: Write>(
+fn ask<'a, H: Net + Files<File = File> + Clock + AllocGlobal, W: Write, E: Write>(
     host: &H,
     asking: &Asking<'a>,
-    errand: Errand<'a>,
+    request: Request<'a>,
     output: &mut W,
     errors: &mut E,
 ) -> Result<(), Fault<'a>> {
-    match plan_of(host, asking, &errand) {
-        Ok(plan) => ask_by(host, asking, plan, errand, output, errors),
+    match plan_of(host, asking, &request) {
+        Ok(plan) => ask_by(host, asking, plan, request, output, errors),
         Err(fault) => {
-            drop(errand);
+            drop(request);
             Err(fault)
         }
     }
+}
+
+/// The number of a class; 0 for a number that is not of 16 bits.
+fn class_number(class: u32) -> u16 {
+    u16::try_from(class).unwrap_or(0)
+}
+
+/// Asks a meter for attributes, and prints their values.
+#[inline(never)]
+pub fn ask_to_get<'a, H: Net + Files<File = File> + Clock + AllocGlobal, W: Write, E: Write>(
+    host: &H,
+    options: &GetOptions<'a>,
+    output: &mut W,
+    errors: &mut E,
+) -> Result<(), Fault<'a>> {
+    let request = Request::Get {
+        names: options.names,
+        class: class_number(options.class),
+        format: options.format,
+    };
+    ask(host, &options.asking, request, output, errors)
+}
+
+/// Asks a meter for its object list, and prints it.
+#[inline(never)]
+pub fn ask_to_list<'a, H: Net + Files<File = File> + Clock + AllocGlobal, W: Write, E: Write>(
+    host: &H,
+    options: &ListOptions<'a>,
+    output: &mut W,
+    errors: &mut E,
+) -> Result<(), Fault<'a>> {
+    let request = Request::List {
+        format: options.format,
+    };
+    ask(host, &options.asking, request, output, errors)
 }
 
 /// Asks a meter to set an attribute to the value that a text writes.
 #[inline(never)]
 pub fn ask_to_set<'a, H: Net + Files<File = File> + Clock + AllocGlobal, W: Write, E: Write>(
     host: &H,
-    asking: &Asking<'a>,
-    name: &'a str,
-    value: &'a str,
-    class: u16,
+    options: &SetOptions<'a>,
     output: &mut W,
     errors: &mut E,
 ) -> Result<(), Fault<'a>> {
-    let value = value_given(host, value)?;
-    ask(
-        host,
-        asking,
-        Errand::Set { name, value, class },
-        output,
-        errors,
-    )
+    let request = Request::Set {
+        name: options.name,
+        value: value_given(host, options.value)?,
+        class: class_number(options.class),
+    };
+    ask(host, &options.asking, request, output, errors)
 }
 
-/// Asks a meter to carry out a method with the value that a text writes, where there is one.
+/// Asks a meter to carry out a method, with the value that a text writes, if there is one.
 #[inline(never)]
 pub fn ask_to_act<'a, H: Net + Files<File = File> + Clock + AllocGlobal, W: Write, E: Write>(
     host: &H,
-    asking: &Asking<'a>,
-    name: &'a str,
-    value: Option<&'a str>,
-    class: u16,
+    options: &ActOptions<'a>,
     output: &mut W,
     errors: &mut E,
 ) -> Result<(), Fault<'a>> {
-    let value = match value {
+    let value = match options.value {
         Some(value) => Some(value_given(host, value)?),
         None => None,
     };
-    ask(
-        host,
-        asking,
-        Errand::Act { name, value, class },
-        output,
-        errors,
-    )
+    let request = Request::Act {
+        name: options.name,
+        value,
+        class: class_number(options.class),
+    };
+    ask(host, &options.asking, request, output, errors)
 }

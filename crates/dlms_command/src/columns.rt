@@ -12,7 +12,7 @@ const REGISTER: u16 = 3;
 /// The attribute that a clock's time and a register's value are.
 const VALUE: u8 = 2;
 
-/// A column in words: what it captures, and where it is not the value of a clock or of a register what it is.
+/// A column as text: what it captures, and which attribute if it is not the value of a clock or of a register.
 #[derive(Drop)]
 struct Column<'a>(&'a ListedColumn);
 

@@ -14,13 +14,13 @@ const IMPORT: u8 = 0;
 
 const EXPORT: u8 = 1;
 
-/// The watt-hours of a quarter of an hour that begins at each full hour, and of the one behind the day: a morning, and an evening.
+/// The watt-hours of the quarter of an hour that begins at each full hour, and of the one after the day: a morning, and an evening.
 const TAKEN_IN: [u16; 25] = [
     45, 38, 34, 32, 32, 36, 60, 130, 150, 95, 60, 35, 20, 15, 20, 40, 75, 120, 190, 230, 200, 160,
     110, 70, 45,
 ];
 
-/// The same of what is fed in: a sunny noon.
+/// The same for exported energy: a sunny noon.
 const FED_IN: [u16; 25] = [
     0, 0, 0, 0, 0, 0, 0, 0, 15, 60, 125, 185, 220, 215, 175, 110, 45, 5, 0, 0, 0, 0, 0, 0, 0,
 ];
@@ -34,7 +34,7 @@ fn watt_hours(hours: &[u16; 25], quarter: u32) -> u32 {
     (u32::from(here) * (4 - part) + u32::from(next) * part) / 4
 }
 
-/// Tells the meter of the pulses of a quarter, where there are any.
+/// Gives the meter the pulses of a quarter, if there are any.
 fn count<P: Pages>(meter: &mut Meter<P>, channel: u8, pulses: u32) -> Result<(), AddFault> {
     if pulses == 0 {
         return Ok(());

@@ -1,4 +1,4 @@
-//! What a meter has to show before it is polled, in the words of `--expect`.
+//! The texts that a meter must show before it is polled, as `--expect` gives them.
 
 use crate::fault::Fault;
 use dlms_ask::name_of;
@@ -47,7 +47,7 @@ fn take_all<'a>(list: &mut Vec<Expected<'a>>, expecting: &Expecting<'a>) -> Resu
     take(list, expecting.fifth)
 }
 
-/// What the texts name, in their order. A fifth one is refused.
+/// The names and texts that the arguments give, in their order. A fifth one is refused.
 pub fn expected_of<'a>(
     alloc: Global,
     expecting: &Expecting<'a>,

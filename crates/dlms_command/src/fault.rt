@@ -1,9 +1,9 @@
-//! Why a run ended early, and what is said of it: its name in the first line, where and why in the second, and in a third what to
-//! do, where something can be done.
+//! Why a run ended early, and its message: its name in the first line, where and why in the second, and in a third what to do, if
+//! something can be done.
 use crate::columns::Columns;
 use dlms_call::CallFault;
 use dlms_client::{Denial, Fault as Talked};
-use dlms_ends::LoopFault;
+use dlms_ends::RunFault;
 use dlms_field::{ClockFault, FieldFault};
 use dlms_headend::{ColumnList, PollFault, ReadingsFault};
 use dlms_identity::Expected;
@@ -27,25 +27,25 @@ pub enum Fault<'a> {
     System(&'a str, String),
     /// The output failed; why it keeps itself.
     Output,
-    /// What stands at this place cannot be read any more.
+    /// The contents of this place can no longer be read.
     Input(&'a str),
     /// The meter could not be made or recovered, or its device failed: that in this file, or one in memory.
     Open(Option<&'a str>, OpenFault),
     /// The replay ended early.
     Replay(ReplayFault),
     /// The loopback, or the meter that serves, ended early.
-    Loop(LoopFault),
+    Run(RunFault),
     /// The poll of this address failed.
     Poll(&'a str, PollFault),
     /// The meter at this address has these columns, which are others than those of a readings file.
     Columns(&'a str, ColumnList),
-    /// In this file the line of this number is none of readings.
+    /// In this file the line of this number is not a line of readings.
     Readings(&'a str, usize),
     /// The secret in this file has more than 16 bytes.
     Secret(&'a str),
-    /// The poll of this address was not done within so many seconds.
+    /// The poll of this address was not done within this many seconds.
     Late(&'a str, u32),
-    /// Of the rows from this address or file one is refused for its clock.
+    /// One of the rows from this address or file is refused for its clock.
     Clock(&'a str, ClockFault),
     /// This is no `NAME=TEXT`, or one too many.
     Expect(&'a str),
@@ -65,7 +65,7 @@ pub enum Fault<'a> {
     Denied(&'a str, Denial),
     /// The talk with the meter at this place ended early.
     Call(&'a str, CallFault),
-    /// What was asked for by this name has more than so many octets.
+    /// The value of this name has more than this many octets.
     Large(&'a str, u32),
     /// The value in this file has too many bytes.
     File(&'a str),
@@ -89,23 +89,23 @@ impl<'a> Fault<'a> {
     }
 
     /// The fault of a poll of the meter at this place into this file.
-    pub fn of_poll(place: &'a str, readings: Option<&'a str>, fault: LoopFault) -> Fault<'a> {
+    pub fn of_poll(place: &'a str, readings: Option<&'a str>, fault: RunFault) -> Fault<'a> {
         match (fault, readings) {
-            (LoopFault::Readings(ReadingsFault::Line(number)), Some(file)) => {
+            (RunFault::Readings(ReadingsFault::Line(number)), Some(file)) => {
                 Fault::Readings(file, number)
             }
-            (LoopFault::Poll(fault), _) => Fault::Poll(place, fault),
-            (LoopFault::Columns(list), _) => Fault::Columns(place, list),
-            (fault, _) => Fault::Loop(fault),
+            (RunFault::Poll(fault), _) => Fault::Poll(place, fault),
+            (RunFault::Columns(list), _) => Fault::Columns(place, list),
+            (fault, _) => Fault::Run(fault),
         }
     }
 
     /// The fault of a meter in this file that serves.
-    fn of_serving(file: &'a str, fault: LoopFault) -> Fault<'a> {
+    fn of_serving(file: &'a str, fault: RunFault) -> Fault<'a> {
         match fault {
-            LoopFault::Add(AddFault::Device) => Fault::Open(Some(file), OpenFault::Device),
-            LoopFault::Add(AddFault::Exhausted) => Fault::Open(Some(file), OpenFault::Exhausted),
-            fault => Fault::Loop(fault),
+            RunFault::Add(AddFault::Device) => Fault::Open(Some(file), OpenFault::Device),
+            RunFault::Add(AddFault::Exhausted) => Fault::Open(Some(file), OpenFault::Exhausted),
+            fault => Fault::Run(fault),
         }
     }
 
@@ -170,7 +170,7 @@ impl<'a> Fault<'a> {
     pub fn is_of_a_stream(&self) -> bool {
         matches!(
             self,
-            Fault::Output | Fault::Replay(ReplayFault::Io) | Fault::Loop(LoopFault::Io)
+            Fault::Output | Fault::Replay(ReplayFault::Io) | Fault::Run(RunFault::Io)
         )
     }
 }
@@ -187,7 +187,7 @@ impl From<AllocFailed<u8>> for Fault<'_> {
     }
 }
 
-/// The words of an error without the system's number, which stands behind them.
+/// The text of an error without the system's number, which follows it.
 fn without_number(words: &str) -> &str {
     match words.split_once(" (os error ") {
         Some((before, _)) => before,
@@ -204,17 +204,17 @@ fn write_open<W: fmt::Write>(
     match fault {
         OpenFault::NoCheckpoint => write!(
             f,
-            "\n  {file}: it holds no meter\n  dlms show tells what its pages hold"
+            "\n  {file}: it contains no meter\n  dlms show prints what its pages contain"
         ),
         OpenFault::Corrupt(page) => {
             let page = *page;
             write!(
                 f,
-                "\n  {file}: page {page} is damaged, or does not fit\n  dlms show tells which pages count"
+                "\n  {file}: page {page} is damaged, or does not fit\n  dlms show says which pages count"
             )
         }
         OpenFault::Device => write!(f, "\n  {file}: a call of the system failed"),
-        OpenFault::Exhausted => write!(f, "\n  {file}: it takes no further checkpoint"),
+        OpenFault::Exhausted => write!(f, "\n  {file}: it accepts no further checkpoint"),
         OpenFault::Size => write!(f, "\n  {file}: it has too few pages"),
         OpenFault::Memory => Ok(()),
     }
@@ -228,10 +228,10 @@ fn write_poll<W: fmt::Write>(
 ) -> fmt::Result {
     match fault {
         PollFault::Refused(number) => {
-            let name = diagnostic(*number).unwrap_or("for a reason of its own");
+            let name = diagnostic(*number).unwrap_or("for a reason without a name");
             write!(f, "\n  {address}: the association is refused, {name}")?;
             if *number == AUTHENTICATION_FAILURE {
-                f.write_str("\n  --secret-file names the file of the client's secret")?;
+                f.write_str("\n  --secret-file names the file with the client's secret")?;
             }
             Ok(())
         }
@@ -322,7 +322,7 @@ fn write_call<W: fmt::Write>(
         CallFault::Talk(fault) => write!(f, "protocol\n  {place}: {fault}"),
         CallFault::TooLong => write!(
             f,
-            "long\n  {place}: the value is longer than the meter takes"
+            "long\n  {place}: the value is longer than the meter accepts"
         ),
         CallFault::TooLarge => write!(
             f,
@@ -343,7 +343,7 @@ fn write_stranger<W: fmt::Write>(
     let text = expected.text;
     write!(
         f,
-        "expect\n  {place}: {a}.{b}.{c}.{d}.{e}.{last} does not show {text}: nothing is filed\n  dlms get tells what it shows"
+        "expect\n  {place}: {a}.{b}.{c}.{d}.{e}.{last} does not show {text}: nothing is filed\n  dlms get prints what it shows"
     )
 }
 
@@ -354,7 +354,7 @@ impl fmt::Display for Fault<'_> {
                 let words = without_number(words.as_str());
                 write!(f, "io\n  {place}: {words}")
             }
-            Fault::Output => f.write_str("io\n  standard output: it takes no more"),
+            Fault::Output => f.write_str("io\n  standard output: it accepts no more"),
             Fault::Input(place) => write!(f, "io\n  {place}: it cannot be read"),
             Fault::Open(file, fault) => {
                 write!(f, "{fault}")?;
@@ -367,7 +367,7 @@ impl fmt::Display for Fault<'_> {
                 "recovery\n  the meter could not be recovered: the last line that was printed says why",
             ),
             Fault::Replay(fault) => write!(f, "{fault}"),
-            Fault::Loop(fault) => write!(f, "{fault}"),
+            Fault::Run(fault) => write!(f, "{fault}"),
             Fault::Poll(address, fault) => {
                 write!(f, "{fault}")?;
                 write_poll(f, address, fault)
@@ -383,7 +383,7 @@ impl fmt::Display for Fault<'_> {
                 let number = *number;
                 write!(
                     f,
-                    "line {number}\n  {file}: this line is none of readings (clock,register,register,register)"
+                    "line {number}\n  {file}: this line is not a line of readings (clock,register,register,register)"
                 )
             }
             Fault::Secret(file) => write!(f, "secret\n  {file}: more than 16 bytes"),
@@ -393,24 +393,24 @@ impl fmt::Display for Fault<'_> {
             Fault::Clock(place, fault) => write_clock(f, place, fault),
             Fault::Expect(text) => write!(
                 f,
-                "expect\n  {text}: NAME=TEXT is wanted, as 0.0.42.0.0.255=RTL0000000000001, four times at most"
+                "expect\n  {text}: NAME=TEXT is expected, as 0.0.42.0.0.255=RTL0000000000001, at most four times"
             ),
             Fault::Stranger(place, expected) => write_stranger(f, place, expected),
             Fault::Name(text) => write!(
                 f,
-                "name\n  {text}: a name is wanted as 1.0.1.8.0.255 or 1.0.99.1.0.255/3"
+                "name\n  {text}: a name is expected as 1.0.1.8.0.255 or 1.0.99.1.0.255/3"
             ),
             Fault::Server(text) => write!(
                 f,
-                "server\n  {text}: an address is wanted as UPPER or UPPER/LOWER"
+                "server\n  {text}: an address is expected as UPPER or UPPER/LOWER"
             ),
             Fault::Value(text) => write!(
                 f,
-                "value\n  {text}: a value is wanted as u32:900, text:.., hex:.., raw:.., null or now"
+                "value\n  {text}: a value is expected as u32:900, text:.., hex:.., raw:.., null or now"
             ),
             Fault::Class(name) => write!(
                 f,
-                "class\n  {name}: it is not in the object list\n  --class says the class of an object"
+                "class\n  {name}: it is not in the object list\n  --class gives the class of an object"
             ),
             Fault::Result(name, code, is_action) => {
                 let code = *code;

@@ -1,25 +1,25 @@
-//! Values that the words give: as a text, out of a file, or the system's clock.
+//! Values that the arguments give: as a text, in a file, or the system's clock.
 
 ghost use Rattle.std.specs.Prelude.{◌≤◌, IfOk};
 ghost use Rattle.dlms_data.specs.declared.date_time.TheConstants.{LAST_SECOND};
 
-use crate::errand::{second_of, written};
 use crate::fault::Fault;
+use crate::requests::{read_value, second_of};
 use dlms_data::{Data, octet_string_of};
-use dlms_ends::LoopFault;
+use dlms_ends::RunFault;
 use std::alloc::Global;
 use std::io::{ErrorKind, Read};
 use std::rt::Files;
 use std::time::Clock;
 use std::{fs, io};
 
-/// The most bytes of a file that a value stands in: as many as the longest octet-string takes that is sent in blocks.
+/// The most bytes of a file with a value: as many as the longest octet-string that is sent in blocks.
 const MOST_IN_FILE: usize = 65_536;
 
 /// How many bytes are read at a time.
 const PIECE: usize = 512;
 
-/// The second of the system's clock, where a meter's clock can show it.
+/// The second of the system's clock, if a meter's clock can show it.
 fn now<'a, H: Clock>(host: &H) -> Result<u32, Fault<'a>>
     ensures { IfOk result (λ second. second ≤ LAST_SECOND) }
 {
@@ -28,7 +28,7 @@ fn now<'a, H: Clock>(host: &H) -> Result<u32, Fault<'a>>
             Some(second) => Ok(second),
             None => Err(Fault::Now),
         },
-        Err(_) => Err(Fault::Loop(LoopFault::Io)),
+        Err(_) => Err(Fault::Run(RunFault::Io)),
     }
 }
 
@@ -106,5 +106,5 @@ pub fn value_given<'a, H: Files + Clock + AllocGlobal>(
         return from_file(host, path, false);
     }
     let second = if text == "now" { now(host)? } else { 0 };
-    written(host.alloc(), text, second)
+    read_value(host.alloc(), text, second)
 }

@@ -5,7 +5,7 @@ use dlms_client::Plan;
 use dlms_data::Bytes;
 use dlms_ends::End;
 use dlms_frame::{Address, Client};
-use dlms_identity::shown;
+use dlms_identity::shown_text;
 use std::alloc::Global;
 use std::fs::{File, Files};
 use std::io::Write;
@@ -17,7 +17,7 @@ const DEVICE: [u8; 6] = [0, 0, 42, 0, 0, 255];
 /// The most bytes of an APDU.
 const SIZE: u16 = 1_024;
 
-/// Whether no readings stand in this file yet.
+/// Whether this file contains no readings yet.
 pub fn is_new<H: Files<File = File>>(host: &H, file: &str) -> bool {
     match fs::metadata(host, file) {
         Ok(metadata) => metadata.len() == 0,
@@ -25,7 +25,7 @@ pub fn is_new<H: Files<File = File>>(host: &H, file: &str) -> bool {
     }
 }
 
-/// What the meter at the other end of a line calls itself, as the public client is told.
+/// The name that the meter at the other end of a line gives to the public client.
 #[inline(never)]
 fn name_over<S: End>(alloc: Global, line: &mut S) -> Result<Option<Bytes<Global>>, CallFault> {
     let plan = Plan {
@@ -34,7 +34,7 @@ fn name_over<S: End>(alloc: Global, line: &mut S) -> Result<Option<Bytes<Global>
         secret: None,
         size: SIZE,
     };
-    shown(alloc, line, plan, DEVICE)
+    shown_text(alloc, line, plan, DEVICE)
 }
 
 /// Whether octets are letters, digits and signs of ASCII alone.

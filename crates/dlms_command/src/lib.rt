@@ -1,4 +1,4 @@
-//! What the program does for its words, over any three streams.
+//! What the program does for its arguments, over any three streams.
 #![tactic(auto)]
 
 ghost use Rattle.std.specs.Prelude.{◌≡◌, ◌≢◌, ◌⊎◌, [], map, IfOk, MatchResult, is_some, true};
@@ -8,16 +8,19 @@ ghost use Rattle.dlms_words.specs.Words.{AsksBoth, IsClear, NamesNoAddress};
 
 use clap::error::ErrorKind;
 use dlms_explain::{ExplainFault, Form as ExplainForm, explain};
-use dlms_field::{Office, Polling, Serving, Times, poll, serve, serve_line};
+use dlms_field::{PollSetup, Polling, Serving, Times, poll, serve, serve_line};
 use dlms_filing::FilePlace;
 use dlms_loopback::{loopback, sockets};
 use dlms_meter::Meter;
 use dlms_pages::{FilePages, MemoryPages, Pages};
 use dlms_plot::{Form, plot_readings};
-use dlms_program::{Buffered, Job, Sink, Source, job, replay};
+use dlms_program::{Buffered, Sink, Source, replay};
 use dlms_show::{Curve, ShowFault, show_file};
 use dlms_store::{AddFault, OpenFault, PAGES};
-use dlms_words::Expecting;
+use dlms_words::{
+    ExplainOptions, FormatOptions, Job, LoopbackOptions, OutputFormat, PlotOptions, PollOptions,
+    ServeOptions, ShowOptions, job,
+};
 use std::alloc::Global;
 use std::cell::RefCell;
 use std::fs::File;
@@ -31,20 +34,19 @@ use std::{fs, io};
 mod asking;
 mod columns;
 mod demo;
-mod errand;
 mod expected;
+mod explained_stream;
 mod fault;
 mod given;
 mod introduced;
 mod objects;
 mod occupant;
-mod spoken;
+mod requests;
 mod streams;
 mod telling;
 mod watched;
 
-use asking::{Errand, ask, ask_to_act, ask_to_set};
-use errand::Shape;
+use asking::{ask_to_act, ask_to_get, ask_to_list, ask_to_set};
 use expected::expected_of;
 pub use fault::Fault;
 use introduced::{introduce, is_new};
@@ -55,13 +57,13 @@ use watched::Watched;
 /// How many bytes are read or written at a time.
 const BUFFER: usize = 65_536;
 
-/// The address that a meter listens on where none is named.
+/// The address that a meter listens on by default.
 const LISTEN: &str = "127.0.0.1:4059";
 
 /// The place of the meter that a loopback polls.
 const LOOPBACK: &str = "the loopback";
 
-/// The places of what is printed and of what is read, and the name of a file that stands for the latter.
+/// The names of the output and the input in messages, and the file name that means the input.
 const OUTPUT: &str = "standard output";
 
 const INPUT: &str = "standard input";
@@ -81,7 +83,7 @@ pub const FAULT: u8 = 1;
 pub const USAGE: u8 = 2;
 
 /// Says what was made.
-fn told<W: Write>(output: &mut W, demo: bool) -> io::Result<()> {
+fn report_format<W: Write>(output: &mut W, demo: bool) -> io::Result<()> {
     writeln!(output, "formatted {PAGES} pages")?;
     if demo {
         let rows = demo::QUARTERS;
@@ -99,7 +101,7 @@ fn pass_a_day<'a, P: Pages>(meter: &mut Meter<P>, file: &'a str) -> Result<(), F
     }
 }
 
-/// Lets a day pass on a new meter where that is asked for, and says why there is no meter where none was made.
+/// Lets a day pass on a new meter if that is asked for, and says why there is no meter if none was made.
 fn pass_where_asked<'a, P: Pages>(
     made: &mut Result<Meter<P>, (P, OpenFault)>,
     file: &'a str,
@@ -134,12 +136,11 @@ fn has_failed<P: Pages + Drop>(made: Result<Meter<P>, (P, OpenFault)>) -> bool {
 #[inline(never)]
 fn run_format<'a, H: Files<File = File> + AllocGlobal, W: Write>(
     host: &H,
-    file: &'a str,
-    demo: bool,
-    force: bool,
+    options: &FormatOptions<'a>,
     output: &mut W,
 ) -> Result<(), Fault<'a>> {
-    if let Err(error) = refuse_occupied(host, file, force) {
+    let file = options.file;
+    if let Err(error) = refuse_occupied(host, file, options.force) {
         return Err(Fault::of_system(host.alloc(), file, &error));
     }
     let pages = match FilePages::create(host, file, PAGES) {
@@ -147,14 +148,14 @@ fn run_format<'a, H: Files<File = File> + AllocGlobal, W: Write>(
         Err(error) => return Err(Fault::of_system(host.alloc(), file, &error)),
     };
     let mut formatted = Meter::format(host.alloc(), pages);
-    match pass_where_asked(&mut formatted, file, demo) {
+    match pass_where_asked(&mut formatted, file, options.demo) {
         Ok(()) => {}
         Err(fault) => return Err(fault),
     }
     if has_failed(formatted) {
         return Err(Fault::Open(Some(file), OpenFault::Device));
     }
-    match told(output, demo) {
+    match report_format(output, options.demo) {
         Ok(()) => Ok(()),
         Err(_) => Err(Fault::Output),
     }
@@ -210,7 +211,10 @@ fn run_on<'f, H: AllocGlobal, R: Source, W: Sink, P: Pages + Drop>(
 }
 
 /// The end of a run, and that of its output.
-fn ended<'a>(run: Result<(), Fault<'a>>, flushed: io::Result<()>) -> Result<(), Fault<'a>> {
+fn result_with_flush<'a>(
+    run: Result<(), Fault<'a>>,
+    flushed: io::Result<()>,
+) -> Result<(), Fault<'a>> {
     run?;
     match flushed {
         Ok(()) => Ok(()),
@@ -219,7 +223,7 @@ fn ended<'a>(run: Result<(), Fault<'a>>, flushed: io::Result<()>) -> Result<(), 
 }
 
 /// The input, through a buffer.
-fn buffered<R: Read + Drop>(alloc: Global, input: R) -> Result<BufReader<R>, Fault<'static>> {
+fn buffer_input<R: Read + Drop>(alloc: Global, input: R) -> Result<BufReader<R>, Fault<'static>> {
     match BufReader::with_capacity(alloc, BUFFER, input) {
         Ok(reader) => Ok(reader),
         Err(_) => Err(Fault::MEMORY),
@@ -227,22 +231,25 @@ fn buffered<R: Read + Drop>(alloc: Global, input: R) -> Result<BufReader<R>, Fau
 }
 
 /// The output, through a buffer.
-fn written<W: Write + Drop>(alloc: Global, output: W) -> Result<BufWriter<W>, Fault<'static>> {
+fn buffer_output<W: Write + Drop>(
+    alloc: Global,
+    output: W,
+) -> Result<BufWriter<W>, Fault<'static>> {
     match BufWriter::with_capacity(alloc, BUFFER, output) {
         Ok(writer) => Ok(writer),
         Err(_) => Err(Fault::MEMORY),
     }
 }
 
-/// The input through a buffer, where a meter was recovered to replay it on.
-fn buffered_for<'a, P: Pages, R: Read + Drop>(
+/// The input through a buffer, if a meter was recovered to replay it on.
+fn buffer_input_for<'a, P: Pages, R: Read + Drop>(
     alloc: Global,
     recovered: &Result<Meter<P>, (P, OpenFault)>,
     file: &'a str,
     input: R,
 ) -> Result<BufReader<R>, Fault<'a>> {
     match recovered {
-        Ok(_) => buffered(alloc, input),
+        Ok(_) => buffer_input(alloc, input),
         Err(failed) => {
             drop(input);
             Err(Fault::Open(Some(file), failed.1))
@@ -263,13 +270,13 @@ fn run_replay_file<'a, H: Files<File = File> + AllocGlobal, R: Read + Drop, W: W
         Err(error) => return Err(Fault::of_system(host.alloc(), file, &error)),
     };
     let recovered = Meter::recover(host.alloc(), pages);
-    let reader = match buffered_for(host.alloc(), &recovered, file, input) {
+    let reader = match buffer_input_for(host.alloc(), &recovered, file, input) {
         Ok(reader) => reader,
         Err(fault) => return Err(fault),
     };
     let mut input = Buffered { reader };
     let replayed = run_on(host, Some(file), &mut input, output, recovered);
-    ended(replayed, output.flush())
+    result_with_flush(replayed, output.flush())
 }
 
 /// Replays the input on a new meter in memory. The answers go out through a buffer, before more input is waited for.
@@ -279,8 +286,8 @@ fn run_replay_memory<H: AllocGlobal, R: Read + Drop, W: Write + Drop>(
     input: R,
     output: W,
 ) -> Result<(), Fault<'static>> {
-    let reader = buffered(host.alloc(), input)?;
-    let writer = written(host.alloc(), output)?;
+    let reader = buffer_input(host.alloc(), input)?;
+    let writer = buffer_output(host.alloc(), output)?;
     let output = RefCell::new(writer);
     let Ok(pages) = MemoryPages::new(host.alloc(), PAGES) else {
         return Err(Fault::MEMORY);
@@ -288,17 +295,17 @@ fn run_replay_memory<H: AllocGlobal, R: Read + Drop, W: Write + Drop>(
     let formatted = Meter::format(host.alloc(), pages);
     let mut input = Input::new(reader, &output);
     let replayed = run_on(host, None, &mut input, &mut Output(&output), formatted);
-    ended(replayed, flush(&output))
+    result_with_flush(replayed, flush(&output))
 }
 
-/// Polls a meter in memory over a socket, into the file where one is named.
+/// Polls a meter in memory over a socket, into the file if one is given.
 #[inline(never)]
 fn run_loopback<'a, H: Net + Files<File = File> + AllocGlobal, W: Write>(
     host: &H,
-    file: Option<&'a str>,
-    stops: u8,
+    options: &LoopbackOptions<'a>,
     output: &mut W,
 ) -> Result<(), Fault<'a>> {
+    let file = options.readings;
     let mut told = None;
     let mut place = FilePlace::of(host);
     let mut line = sockets(host);
@@ -307,7 +314,7 @@ fn run_loopback<'a, H: Net + Files<File = File> + AllocGlobal, W: Write>(
         &mut place,
         &mut line,
         file,
-        stops,
+        options.stops,
         output,
         &mut told,
     );
@@ -346,23 +353,40 @@ fn run_meter<'a, H: Net + Files<File = File> + Clock + AllocGlobal, P: Pages, W:
     }
 }
 
+/// What is served by these options, and to whom.
+fn serving_by<'a>(options: &ServeOptions<'a>) -> Serving<'a> {
+    Serving {
+        address: options.line.unwrap_or(options.listen.unwrap_or(LISTEN)),
+        load: options.load,
+        tick: options.tick,
+        times: Times {
+            inactivity: options.inactivity,
+            idle: options.idle,
+            longest: options.turn,
+        },
+        quiet: options.quiet,
+        errors: Some(STANDARD_ERROR),
+    }
+}
+
 /// Recovers the meter in a file, and serves it on a TCP port, or where `on_line` is set on a serial line.
 #[inline(never)]
 fn run_serve<'a, H: Net + Files<File = File> + Clock + AllocGlobal, W: Write, E: Write>(
     host: &H,
-    file: &'a str,
-    serving: &Serving<'a>,
-    on_line: bool,
+    options: &ServeOptions<'a>,
     output: &mut W,
     errors: &mut E,
 ) -> Result<(), Fault<'a>> {
+    let file = options.file;
+    let serving = serving_by(options);
+    let on_line = options.line.is_some();
     let pages = match FilePages::open(host, file, PAGES) {
         Ok(pages) => pages,
         Err(error) => return Err(Fault::of_system(host.alloc(), file, &error)),
     };
     let mut recovered = Meter::recover(host.alloc(), pages);
     let served = match &mut recovered {
-        Ok(meter) => run_meter(host, file, meter, serving, on_line, output, errors),
+        Ok(meter) => run_meter(host, file, meter, &serving, on_line, output, errors),
         Err(failed) => Err(Fault::Open(Some(file), failed.1)),
     };
     let _has_failed = has_failed(recovered);
@@ -378,8 +402,8 @@ fn run_poll_of<'a, H: Net + Files<File = File> + Clock + AllocGlobal, W: Write, 
     errors: &mut E,
 ) -> Result<(), Fault<'a>> {
     let new_file = polling.readings.filter(|file| is_new(host, *file));
-    let mut office = Office::of(host);
-    let told = match poll(host.alloc(), &mut office, polling, output, errors) {
+    let mut setup = PollSetup::of(host);
+    let told = match poll(host.alloc(), &mut setup, polling, output, errors) {
         Ok(()) => Ok(()),
         Err(fault) => Err(Fault::of_field(
             host.alloc(),
@@ -391,98 +415,106 @@ fn run_poll_of<'a, H: Net + Files<File = File> + Clock + AllocGlobal, W: Write, 
     };
     match new_file {
         Some(file) if told.is_ok() && polling.expected.is_empty() => {
-            let _told = introduce(
-                host.alloc(),
-                &mut office.line,
-                polling.address,
-                file,
-                errors,
-            );
+            let _told = introduce(host.alloc(), &mut setup.line, polling.address, file, errors);
         }
         _ => {}
     }
-    drop(office);
+    drop(setup);
     told
 }
 
 /// Polls the meter at an address once, if it shows the texts of `--expect`.
 fn run_poll<'a, H: Net + Files<File = File> + Clock + AllocGlobal, W: Write, E: Write>(
     host: &H,
-    polling: &Polling<'a, '_>,
-    expecting: &Expecting<'a>,
+    options: &PollOptions<'a>,
     output: &mut W,
     errors: &mut E,
 ) -> Result<(), Fault<'a>> {
-    let expected = expected_of(host.alloc(), expecting)?;
+    let expected = expected_of(host.alloc(), &options.expecting)?;
     let polling = Polling {
+        address: options.address,
+        readings: options.readings,
+        secret_file: options.secret_file,
+        client: options.client,
+        deadline: options.deadline,
+        ahead: options.ahead,
+        strict: options.strict,
         expected: expected.as_slice(),
-        ..*polling
     };
     let told = run_poll_of(host, &polling, output, errors);
     drop(expected);
     told
 }
 
-/// The file's name, but for the one that stands for the standard input.
-fn named(file: Option<&str>) -> Option<&str> {
+/// The file's name, unless it is the one that means standard input.
+fn named_file(file: Option<&str>) -> Option<&str> {
     file.filter(|name| *name != INPUT_NAME)
 }
 
-/// Explains the frames that stand in a file, or on the input where none is named.
+/// Explains the frames in a file, or on the input if no file is given.
 #[inline(never)]
 fn run_explain<'a, H: Files<File = File> + AllocGlobal, R: Read + Drop, W: Write>(
     host: &H,
-    file: Option<&'a str>,
-    form: ExplainForm,
+    options: &ExplainOptions<'a>,
     input: R,
     output: &mut W,
 ) -> Result<(), Fault<'a>> {
-    let Some(file) = named(file) else {
-        return explained(host, form, INPUT, input, output);
+    let form = ExplainForm {
+        raw: options.raw,
+        short: options.short,
+        hex: options.hex,
+        json: options.format == OutputFormat::Json,
+    };
+    let Some(file) = named_file(options.file) else {
+        return explain_input(host, form, INPUT, input, output);
     };
     match fs::open(host, file) {
-        Ok(opened) => explained(host, form, file, opened, output),
+        Ok(opened) => explain_input(host, form, file, opened, output),
         Err(error) => Err(Fault::of_system(host.alloc(), file, &error)),
     }
 }
 
-/// Explains the frames that stand on an input. What is told of a line goes out before the next one is waited for.
-fn explained<'a, H: AllocGlobal, R: Read + Drop, W: Write>(
+/// Explains the frames on an input. The explanation of a line is written before the next line is waited for.
+fn explain_input<'a, H: AllocGlobal, R: Read + Drop, W: Write>(
     host: &H,
     form: ExplainForm,
     place: &'a str,
     input: R,
     output: &mut W,
 ) -> Result<(), Fault<'a>> {
-    let mut reader = buffered(host.alloc(), input)?;
+    let mut reader = buffer_input(host.alloc(), input)?;
     let explained = match explain(host.alloc(), form, &mut reader, output) {
         Ok(()) => Ok(()),
         Err(ExplainFault::Memory) => Err(Fault::MEMORY),
         Err(ExplainFault::Input) => Err(Fault::Input(place)),
         Err(ExplainFault::Output) => Err(Fault::Output),
     };
-    let told = ended(explained, output.flush());
+    let told = result_with_flush(explained, output.flush());
     drop(reader);
     told
 }
 
-/// Shows what stands in a meter's file, and the curve of its load profile where it is asked for.
+/// Shows the contents of a meter's file, and the curve of its load profile if it is asked for.
 #[inline(never)]
 fn run_show<'a, H: Files<File = File> + AllocGlobal, W: Write + Drop>(
     host: &H,
-    file: &'a str,
-    plot: bool,
+    options: &ShowOptions<'a>,
     output: W,
 ) -> Result<(), Fault<'a>> {
-    let mut writer = written(host.alloc(), output)?;
-    let curve = if plot { Curve::Text } else { Curve::None };
+    let file = options.file;
+    let mut writer = buffer_output(host.alloc(), output)?;
+    let curve = if options.plot {
+        Curve::Text
+    } else {
+        Curve::None
+    };
     let shown = match show_file(host, file, curve, &mut writer) {
         Ok(()) => Ok(()),
         Err(ShowFault::File(error)) => Err(Fault::of_system(host.alloc(), file, &error)),
         Err(ShowFault::Memory) => Err(Fault::MEMORY),
         Err(ShowFault::Output) => Err(Fault::Output),
     };
-    ended(shown, writer.flush())
+    result_with_flush(shown, writer.flush())
 }
 
 /// The text that was read at a place.
@@ -497,13 +529,13 @@ fn text_at<'a>(
     }
 }
 
-/// The text of a readings file, or of the input where its name says so, and where it stands.
+/// The text of a readings file, or of the input if its name says so, and its name for messages.
 fn readings_text<'a, H: Files + AllocGlobal, R: Read + Drop>(
     host: &H,
     readings: &'a str,
     input: R,
 ) -> Result<(&'a str, String), Fault<'a>> {
-    match named(Some(readings)) {
+    match named_file(Some(readings)) {
         Some(file) => {
             let text = text_at(host.alloc(), file, fs::read_to_string(host, file));
             drop(input);
@@ -513,39 +545,39 @@ fn readings_text<'a, H: Files + AllocGlobal, R: Read + Drop>(
     }
 }
 
-/// Plots the load profile of the readings in a text, which stands at this place.
-fn plotted<'a, W: Write + Drop>(
+/// Plots the load profile of the readings in a text, which comes from this place.
+fn plot_text<'a, W: Write + Drop>(
     alloc: Global,
     place: &'a str,
     text: &str,
     form: Form,
     output: W,
 ) -> Result<(), Fault<'a>> {
-    let mut writer = written(alloc, output)?;
+    let mut writer = buffer_output(alloc, output)?;
     let plotted = match plot_readings(alloc, text, form, &mut writer) {
         Ok(()) => Ok(()),
         Err(fault) => Err(Fault::of_plot(place, fault)),
     };
-    ended(plotted, writer.flush())
+    result_with_flush(plotted, writer.flush())
 }
 
 /// Plots the load profile of a readings file.
 #[inline(never)]
 fn run_plot<'a, H: Files + AllocGlobal, R: Read + Drop, W: Write + Drop>(
     host: &H,
-    readings: &'a str,
-    svg: bool,
+    options: &PlotOptions<'a>,
     input: R,
     output: W,
 ) -> Result<(), Fault<'a>> {
-    let (place, text) = readings_text(host, readings, input)?;
-    let form = if svg { Form::Svg } else { Form::Text };
-    plotted(host.alloc(), place, text.as_str(), form, output)
+    let (place, text) = readings_text(host, options.readings, input)?;
+    let form = if options.svg { Form::Svg } else { Form::Text };
+    plot_text(host.alloc(), place, text.as_str(), form, output)
 }
 
 /// The status of a run that has ended; a fault is named among the errors.
 pub fn finish<E: Write>(ended: Result<(), Fault<'_>>, errors: &mut E) -> io::Result<u8>
-    ensures { IfOk result (λ status. MatchResult ended.entry (λ _. status ≡ DONE) (λ _. status ≡ FAULT)) }
+    ensures { IfOk result (λ status. MatchResult ended.entry (λ _. status ≡ DONE)
+        (λ _. status ≡ FAULT)) }
 {
     match ended {
         Ok(()) => Ok(DONE),
@@ -556,11 +588,6 @@ pub fn finish<E: Write>(ended: Result<(), Fault<'_>>, errors: &mut E) -> io::Res
             Ok(FAULT)
         }
     }
-}
-
-/// The number of a class that was said, or 0.
-fn class_number(class: u32) -> u16 {
-    u16::try_from(class).unwrap_or(0)
 }
 
 /// How a job ended that reads no input.
@@ -579,119 +606,19 @@ fn run_job<
     E: Write,
 >(host: &H, job: Job<'a>, input: R, output: &mut W, errors: &mut E) -> Result<(), Fault<'a>> {
     match job {
-        Job::Format { file, demo, force } => unread(
-            run_format(host, file, demo, force, output),
-            input,
-        ),
-        Job::Replay { file: Some(file) } => run_replay_file(host, file, input, output),
-        Job::Replay { file: None } => run_replay_memory(host, input, output),
-        Job::Loopback { readings, stops } => unread(
-            run_loopback(host, readings, stops, output),
-            input,
-        ),
-        Job::Serve {
-            file,
-            listen,
-            line,
-            load,
-            tick,
-            quiet,
-            idle,
-            turn,
-            inactivity,
-        } => {
-            let serving = Serving {
-                address: line.unwrap_or(listen.unwrap_or(LISTEN)),
-                load,
-                tick,
-                times: Times {
-                    inactivity,
-                    idle,
-                    longest: turn,
-                },
-                quiet,
-                errors: Some(STANDARD_ERROR),
-            };
-            let ended = run_serve(host, file, &serving, line.is_some(), output, errors);
-            unread(ended, input)
-        }
-        Job::Poll {
-            address,
-            readings,
-            secret_file,
-            client,
-            deadline,
-            ahead,
-            strict,
-            expecting,
-        } => {
-            let polling = Polling {
-                address,
-                readings,
-                secret_file,
-                client,
-                deadline,
-                ahead,
-                strict,
-                expected: &[],
-            };
-            unread(run_poll(host, &polling, &expecting, output, errors), input)
-        }
-        Job::Explain {
-            file,
-            raw,
-            short,
-            hex,
-            json,
-        } => {
-            let form = ExplainForm {
-                raw,
-                short,
-                hex,
-                json,
-            };
-            run_explain(host, file, form, input, output)
-        }
-        Job::Get {
-            asking,
-            names,
-            class,
-            raw,
-            json,
-        } => {
-            let errand = Errand::Get {
-                names,
-                class: class_number(class),
-                shape: Shape::of(raw, json),
-            };
-            unread(ask(host, &asking, errand, output, errors), input)
-        }
-        Job::List { asking, json } => {
-            let errand = Errand::List { json };
-            unread(ask(host, &asking, errand, output, errors), input)
-        }
-        Job::Set {
-            asking,
-            name,
-            value,
-            class,
-        } => {
-            let class = class_number(class);
-            let ended = ask_to_set(host, &asking, name, value, class, output, errors);
-            unread(ended, input)
-        }
-        Job::Act {
-            asking,
-            name,
-            value,
-            class,
-        } => {
-            let class = class_number(class);
-            let ended = ask_to_act(host, &asking, name, value, class, output, errors);
-            unread(ended, input)
-        }
-        Job::Show { file, plot } => unread(run_show(host, file, plot, output), input),
-        Job::Plot { readings, svg } => run_plot(host, readings, svg, input, output),
+        Job::Format(options) => unread(run_format(host, &options, output), input),
+        Job::Replay(Some(file)) => run_replay_file(host, file, input, output),
+        Job::Replay(None) => run_replay_memory(host, input, output),
+        Job::Loopback(options) => unread(run_loopback(host, &options, output), input),
+        Job::Serve(options) => unread(run_serve(host, &options, output, errors), input),
+        Job::Poll(options) => unread(run_poll(host, &options, output, errors), input),
+        Job::Explain(options) => run_explain(host, &options, input, output),
+        Job::Get(options) => unread(ask_to_get(host, &options, output, errors), input),
+        Job::List(options) => unread(ask_to_list(host, &options, output, errors), input),
+        Job::Set(options) => unread(ask_to_set(host, &options, output, errors), input),
+        Job::Act(options) => unread(ask_to_act(host, &options, output, errors), input),
+        Job::Show(options) => unread(run_show(host, &options, output), input),
+        Job::Plot(options) => run_plot(host, &options, input, output),
     }
 }
 
@@ -700,7 +627,7 @@ fn run_job<
 fn may_be_cut(job: &Job<'_>) -> bool {
     matches!(
         job,
-        Job::Explain { .. } | Job::List { .. } | Job::Show { .. } | Job::Plot { .. }
+        Job::Explain(_) | Job::List(_) | Job::Show(_) | Job::Plot(_)
     )
 }
 
@@ -712,8 +639,8 @@ fn is_of_a_stream(ended: &Result<(), Fault<'_>>) -> bool {
     }
 }
 
-/// How a job ended, where the output may have failed: why it did is told, but for a reader that has closed its end of a pipe.
-fn judged<'a>(
+/// How a job ended, if the output may have failed: the reason is reported, unless a reader has closed its end of a pipe.
+fn outcome<'a>(
     alloc: Global,
     job: &Job<'a>,
     ended: Result<(), Fault<'a>>,
@@ -732,9 +659,8 @@ fn judged<'a>(
     }
 }
 
-/// Does the job that the words name, the first of which is the program's own name, and answers its status. What a replay
-/// reads is the input, what is printed goes to the output, a fault's name and the help go to the errors. An Err comes where
-/// the errors can't be written.
+/// Does the job that the arguments name (the first is the program's own name), and returns its status. A replay reads the input,
+/// output is printed on the output, and a fault's name and the help go to the errors. An Err comes if the errors can't be written.
 pub fn run<H: Net + Files<File = File> + Clock + AllocGlobal, R: Read + Drop, W: Write, E: Write>(
     host: &H,
     words: &[&str],
@@ -742,17 +668,21 @@ pub fn run<H: Net + Files<File = File> + Clock + AllocGlobal, R: Read + Drop, W:
     output: &mut W,
     errors: &mut E,
 ) -> io::Result<u8>
-    // Words that ask for nothing are told as such, or memory was wanting; and only they are: those that clap refuses, and those that
-    // ask for two clients or name no address.
-    ensures done { IfOk result (λ status. status ≡ DONE → (fault_of dlms (map (λ word. word.now) words.now) ≡ []) × IsClear (subcommand_of dlms (map (λ word. word.now) words.now))) }
-    ensures usage { IfOk result (λ status. status ≡ USAGE → (fault_of dlms (map (λ word. word.now) words.now) ≢ [])
-        ⊎ AsksBoth (subcommand_of dlms (map (λ word. word.now) words.now)) ⊎ NamesNoAddress (subcommand_of dlms (map (λ word. word.now) words.now))) }
+    // Arguments that ask for nothing give the status 2 (or 1 if memory runs out), and no others give 2: those that clap refuses, those with
+    // two clients, and those without a valid address.
+    ensures done { IfOk result (λ status. status ≡ DONE
+        → (fault_of dlms (map (λ word. word.now) words.now) ≡ [])
+        × IsClear (subcommand_of dlms (map (λ word. word.now) words.now))) }
+    ensures usage { IfOk result (λ status. status ≡ USAGE
+        → (fault_of dlms (map (λ word. word.now) words.now) ≢ [])
+        ⊎ AsksBoth (subcommand_of dlms (map (λ word. word.now) words.now))
+        ⊎ NamesNoAddress (subcommand_of dlms (map (λ word. word.now) words.now))) }
 {
     match job(host.alloc(), words) {
         Ok(job) => {
             let mut output = Watched::new(output);
             let ended = run_job(host, job, input, &mut output, errors);
-            finish(judged(host.alloc(), &job, ended, output.failure()), errors)
+            finish(outcome(host.alloc(), &job, ended, output.failure()), errors)
         }
         Err(error) if error.kind() == ErrorKind::OutOfMemory => {
             finish(Err(Fault::MEMORY), errors)

@@ -47,7 +47,7 @@ fn right_name(is_method: bool, mode: u8) -> &'static str {
     }
 }
 
-/// Appends the rights to attributes, or to methods, each behind its number.
+/// Appends the rights to attributes, or to methods, each after its number.
 fn append_rights(
     text: &mut Vec<u8>,
     label: &str,
@@ -67,7 +67,7 @@ fn append_rights(
     Ok(())
 }
 
-/// Appends a code and what it names.
+/// Appends a code and its name.
 fn append_name(alloc: Global, text: &mut Vec<u8>, code: [u8; 6]) -> Result<(), AllocError> {
     let mut words = String::new(alloc);
     match write_code(&mut words, code) {
@@ -100,7 +100,7 @@ fn class_name(class: u16) -> &'static str {
     }
 }
 
-/// Appends rights as an object of JSON behind a label, which opens it.
+/// Appends rights as an object of JSON after a label, which opens it.
 fn append_rights_json(
     text: &mut Vec<u8>,
     label: &[u8],
@@ -131,7 +131,7 @@ fn append_entry_json(text: &mut Vec<u8>, entry: &Entry<'_, Global>) -> Result<()
     text.extend_from_slice(b"}")
 }
 
-/// The value of an element of an object list; none where it is longer than an entry can be.
+/// The value of an element of an object list; `None` if it is longer than an entry can be.
 fn element_of(alloc: Global, element: &[u8]) -> Result<Option<Data<Global>>, ValueFault> {
     if element.len() > MOST_ENTRY {
         return Ok(None);
@@ -169,7 +169,7 @@ pub fn append_object(
     Ok(appended?)
 }
 
-/// Appends an element that was read as an object of JSON; null where it has another form.
+/// Appends an element that was read as an object of JSON; null if it has another form.
 fn append_read_json(text: &mut Vec<u8>, value: &Data<Global>) -> Result<(), AllocError> {
     match entry_of(value) {
         Some(entry) => append_entry_json(text, &entry),
@@ -177,7 +177,7 @@ fn append_read_json(text: &mut Vec<u8>, value: &Data<Global>) -> Result<(), Allo
     }
 }
 
-/// Appends an element of an object list as an object of JSON; null where it has another form.
+/// Appends an element of an object list as an object of JSON; null if it has another form.
 pub fn append_object_json(
     alloc: Global,
     text: &mut Vec<u8>,
@@ -205,7 +205,7 @@ fn class_of_element(
     Ok(class)
 }
 
-/// The class of the first element of an object list that has this name; none where no element has it, or it is no list.
+/// The class of the first element of an object list that has this name; `None` if no element has it, or it is not a list.
 pub fn class_named(alloc: Global, list: &[u8], name: [u8; 6]) -> Result<Option<u16>, ValueFault> {
     let (Front::Array(count), bytes) = front_of(list) else {
         return Ok(None);

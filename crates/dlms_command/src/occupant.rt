@@ -1,4 +1,4 @@
-//! What a file holds that a meter is to be made in, so that nothing of the user's is overwritten.
+//! The present contents of the file for a new meter, so that nothing of the user's is overwritten.
 
 use dlms_pages::{PageRead, SLOT_BYTES, opened};
 use dlms_store::PAGES;
@@ -6,7 +6,7 @@ use std::fs::{File, Files};
 use std::io::{ErrorKind, Read};
 use std::{fs, io};
 
-/// What a file holds.
+/// The kind of a file's contents.
 #[derive(Clone, Copy, Debug, PartialEq, Eq)]
 pub enum Occupant {
     /// Nothing: the file is not there, or is empty.
@@ -47,7 +47,7 @@ fn fill<R: Read>(reader: &mut R, slot: &mut [u8; SLOT_BYTES]) -> io::Result<usiz
     Ok(count)
 }
 
-/// What the next slot tells, whose number this is.
+/// What the next slot shows; its number is given.
 fn next_slot<R: Read>(reader: &mut R, index: u16) -> io::Result<Slot> {
     let mut slot = [0u8; SLOT_BYTES];
     let count = fill(reader, &mut slot)?;
@@ -64,7 +64,7 @@ fn next_slot<R: Read>(reader: &mut R, index: u16) -> io::Result<Slot> {
     }
 }
 
-/// What is read, slot after slot.
+/// Reads slot after slot.
 fn look<R: Read>(reader: &mut R) -> io::Result<Occupant> {
     let mut zeros = 0u16;
     for index in 0..PAGES {
@@ -82,7 +82,8 @@ fn look<R: Read>(reader: &mut R) -> io::Result<Occupant> {
     }
 }
 
-/// What a file holds. A name that leads to no file is nothing; a folder, a device and a file that cannot be read are errors.
+/// The kind of a file's contents. A name that leads to no file is nothing; a folder, a device and a file that cannot be read are
+/// errors.
 pub fn occupant_of<H: Files<File = File>>(host: &H, file: &str) -> io::Result<Occupant> {
     match fs::metadata(host, file) {
         Ok(metadata) if !metadata.is_file() => {

@@ -10,7 +10,7 @@ use std::io::{BufReader, BufWriter, ErrorKind, Read, Write};
 /// An output through a buffer, which its input flushes.
 pub type Shared<W> = RefCell<BufWriter<W>>;
 
-/// Sends out what stands in the buffer.
+/// Writes out the contents of the buffer.
 pub fn flush<W: Write + Drop>(output: &Shared<W>) -> io::Result<()> {
     match output.try_borrow_mut() {
         Ok(mut output) => output.flush(),
@@ -27,7 +27,7 @@ pub struct Input<'a, R: Read + Drop, W: Write + Drop> {
 }
 
 impl<'a, R: Read + Drop, W: Write + Drop> Input<'a, R, W> {
-    /// The input that this reader gives, of whoever reads that output.
+    /// The input from this reader, for a user who reads that output.
     pub fn new(reader: BufReader<R>, output: &'a Shared<W>) -> Self {
         Input {
             buffered: Buffered { reader },

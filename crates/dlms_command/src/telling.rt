@@ -1,6 +1,5 @@
-//! What is printed of a meter's values and objects.
+//! The output for a meter's values and objects.
 
-use crate::errand::Shape;
 use crate::fault::Fault;
 use crate::objects::{append_object, append_object_json};
 use dlms_ask::{
@@ -11,6 +10,7 @@ use dlms_call::CallFault;
 use dlms_data::{Data, Descriptor};
 use dlms_explain::write_value;
 use dlms_names::unit_name;
+use dlms_words::{OutputFormat, ValueFormat};
 use std::alloc::{AllocError, Global};
 use std::io::Write;
 
@@ -23,12 +23,12 @@ const MOST_LEVELS: u8 = 8;
 /// A field of a date-time that is left open.
 const OPEN: u8 = 0xff;
 
-/// The units of energy, which are told in thousands: Wh, VAh, varh (IEC 62056-6-2, Blue Book 4.3.2, units).
+/// The units of energy, which are shown in thousands: Wh, VAh, varh (IEC 62056-6-2, Blue Book 4.3.2, units).
 const FIRST_ENERGY: u8 = 30;
 
 const LAST_ENERGY: u8 = 32;
 
-/// The unit of what has none.
+/// The unit of a value without a unit.
 const COUNT: u8 = 255;
 
 /// Prints a text.
@@ -46,7 +46,7 @@ pub fn put_line<'a, W: Write>(output: &mut W, word: &str, name: &str) -> Result<
     put(output, b"\n")
 }
 
-/// The sign and the size of a number; none of what is no number.
+/// The sign and the size of a number; `None` for a value that is not a number.
 fn number_in(value: &Data<Global>) -> Option<(bool, u64)> {
     let signed = match value {
         Data::DoubleLongUnsigned(n) => return Some((false, u64::from(*n))),
@@ -80,13 +80,13 @@ fn append_quantity(
     text.extend_from_slice(b"\n")
 }
 
-/// Appends a number behind a label.
+/// Appends a number after a label.
 pub fn append_labelled(text: &mut Vec<u8>, label: &[u8], number: u64) -> Result<(), AllocError> {
     text.extend_from_slice(label)?;
     append_number(text, number)
 }
 
-/// Appends the name of a unit, or its number where it has none.
+/// Appends the name of a unit, or its number if it has no name.
 fn append_unit(text: &mut Vec<u8>, unit: u8) -> Result<(), AllocError> {
     match unit_name(unit) {
         Some(name) => text.extend_from_slice(name.as_bytes()),
@@ -121,7 +121,7 @@ fn append_scale_json(text: &mut Vec<u8>, scaler: i8, unit: u8) -> Result<(), All
     append_quoted(text, unit_name(unit).unwrap_or("").as_bytes())
 }
 
-/// Appends a field of a date-time in two digits; `*` where it is left open.
+/// Appends a field of a date-time in two digits; `*` if it is not specified.
 fn append_field(text: &mut Vec<u8>, field: u8) -> Result<(), AllocError> {
     if field == OPEN {
         return text.extend_from_slice(b"*");
@@ -132,7 +132,7 @@ fn append_field(text: &mut Vec<u8>, field: u8) -> Result<(), AllocError> {
     append_number(text, u64::from(field))
 }
 
-/// Appends a field of a date-time behind what parts it from the one before.
+/// Appends a field of a date-time after a separator.
 fn append_parted(text: &mut Vec<u8>, parting: &[u8], field: u8) -> Result<(), AllocError> {
     text.extend_from_slice(parting)?;
     append_field(text, field)
@@ -141,7 +141,7 @@ fn append_parted(text: &mut Vec<u8>, parting: &[u8], field: u8) -> Result<(), Al
 /// Appends what a clock shows, as `2026-11-27 15:00:00`.
 fn append_clock(text: &mut Vec<u8>, octets: Option<[u8; 12]>) -> Result<(), AllocError> {
     let Some(octets) = octets else {
-        return text.extend_from_slice(b"not told");
+        return text.extend_from_slice(b"not specified");
     };
     append_number(text, u64::from(octets[0]) * 256 + u64::from(octets[1]))?;
     append_parted(text, b"-", octets[2])?;
@@ -195,7 +195,7 @@ fn append_leaf<'b>(
     Ok(rest)
 }
 
-/// Appends the line of an array or a structure of so many values.
+/// Appends the line of an array or a structure of this many values.
 fn append_head(text: &mut Vec<u8>, depth: u8, kind: &[u8], count: u32) -> Result<(), AllocError> {
     for _ in 0..depth {
         text.extend_from_slice(b"  ")?;
@@ -224,7 +224,7 @@ impl<'a, 'o, W: Write> Teller<'a, 'o, W> {
         }
     }
 
-    /// The fault of a value that could not be told.
+    /// The fault of a value that could not be printed.
     fn fault(&self, fault: ValueFault) -> Fault<'a> {
         match fault {
             ValueFault::Form => Fault::of_call(
@@ -235,14 +235,14 @@ impl<'a, 'o, W: Write> Teller<'a, 'o, W> {
         }
     }
 
-    /// What stands in the text goes out.
+    /// Writes out the text.
     fn flush(&mut self) -> Result<(), Fault<'a>> {
         let put = put(self.output, self.text.as_slice());
         self.text.clear();
         put
     }
 
-    /// What stands in the text goes out, where it is long.
+    /// Writes out the text if it is long.
     fn flush_long(&mut self) -> Result<(), Fault<'a>> {
         if self.text.len() < PIECE {
             return Ok(());
@@ -291,7 +291,7 @@ impl<'a, 'o, W: Write> Teller<'a, 'o, W> {
         }
     }
 
-    /// The sign and the size of the number that an encoding says; none of what is no number.
+    /// The sign and the size of the number in an encoding; `None` if it is not a number.
     fn number_at(&self, bytes: &[u8]) -> Result<Option<(bool, u64)>, Fault<'a>> {
         match value_at(self.alloc, bytes) {
             Ok((value, _)) => {
@@ -322,19 +322,19 @@ impl<'a, 'o, W: Write> Teller<'a, 'o, W> {
         self.flush()
     }
 
-    /// Prints the value of an attribute, of a number with its scaler and its unit where it has them.
+    /// Prints the value of an attribute, and for a number its scaler and its unit if it has them.
     pub fn put_value(
         &mut self,
         attribute: Descriptor,
         bytes: &[u8],
-        shape: Shape,
+        format: ValueFormat,
         scaled: Option<(i8, u8)>,
     ) -> Result<(), Fault<'a>> {
-        match (shape, scaled) {
-            (Shape::Raw, _) => self.put_raw(bytes),
-            (Shape::Json, _) => self.put_json(attribute, bytes, scaled),
-            (Shape::Words, Some((scaler, unit))) => self.put_scaled(bytes, scaler, unit),
-            (Shape::Words, None) => self.put_words(bytes),
+        match (format, scaled) {
+            (ValueFormat::Encoding, _) => self.put_raw(bytes),
+            (ValueFormat::Json, _) => self.put_json(attribute, bytes, scaled),
+            (ValueFormat::Text, Some((scaler, unit))) => self.put_scaled(bytes, scaler, unit),
+            (ValueFormat::Text, None) => self.put_words(bytes),
         }
     }
 
@@ -350,7 +350,7 @@ impl<'a, 'o, W: Write> Teller<'a, 'o, W> {
         }
     }
 
-    /// Prints an element of an object list as an object of JSON, or null where it has another form.
+    /// Prints an element of an object list as an object of JSON, or null if it has another form.
     fn put_object_json(&mut self, is_first: bool, element: &[u8]) -> Result<(), Fault<'a>> {
         if !is_first {
             self.text.extend_from_slice(b",\n ")?;
@@ -362,16 +362,20 @@ impl<'a, 'o, W: Write> Teller<'a, 'o, W> {
     }
 
     /// Prints so many elements of an object list.
-    fn put_elements(&mut self, count: u32, bytes: &[u8], json: bool) -> Result<(), Fault<'a>> {
+    fn put_elements(
+        &mut self,
+        count: u32,
+        bytes: &[u8],
+        format: OutputFormat,
+    ) -> Result<(), Fault<'a>> {
         let mut rest = bytes;
         for at in 0..count {
             let Some((element, behind)) = first_of(rest) else {
                 return Err(self.fault(ValueFault::Form));
             };
-            if json {
-                self.put_object_json(at == 0, element)?;
-            } else {
-                self.put_object(element)?;
+            match format {
+                OutputFormat::Json => self.put_object_json(at == 0, element)?,
+                OutputFormat::Text => self.put_object(element)?,
             }
             rest = behind;
         }
@@ -379,22 +383,22 @@ impl<'a, 'o, W: Write> Teller<'a, 'o, W> {
     }
 
     /// Prints an object list, a line an element or as an array of JSON.
-    pub fn put_objects(&mut self, list: &[u8], json: bool) -> Result<(), Fault<'a>> {
+    pub fn put_objects(&mut self, list: &[u8], format: OutputFormat) -> Result<(), Fault<'a>> {
         let (Front::Array(count), rest) = front_of(list) else {
             return Err(self.fault(ValueFault::Form));
         };
-        if json {
+        if format == OutputFormat::Json {
             self.text.extend_from_slice(b"[")?;
         }
-        self.put_elements(count, rest, json)?;
-        if json {
+        self.put_elements(count, rest, format)?;
+        if format == OutputFormat::Json {
             self.text.extend_from_slice(b"]\n")?;
         }
         self.flush()
     }
 }
 
-/// The lines of an array or a structure of so many values, with room for so many levels; and what follows it.
+/// The lines of an array or a structure of this many values, with room for this many levels; and what follows it.
 #[cycle(lines)]
 fn tell_items<'a, 'b, W: Write>(
     teller: &mut Teller<'a, '_, W>,
@@ -419,7 +423,7 @@ fn tell_items<'a, 'b, W: Write>(
     Ok(rest)
 }
 
-/// The lines of the value at the front, with room for so many levels; and what follows it.
+/// The lines of the value at the front, with room for this many levels; and what follows it.
 #[cycle(lines)]
 fn tell_tree<'a, 'b, W: Write>(
     teller: &mut Teller<'a, '_, W>,

@@ -1,4 +1,4 @@
--- Fields stand one behind another.
+-- Fields that follow one another.
 use Rattle.std.proofs.Common.{◌≡◌, ◌≢◌, ℕ, List, [], ◌∷◌, ◌++◌, Option, Some, None, refl, subst, sym}
 use Rattle.dlms_dissect.specs.Acse.{IsFound, StandsBehind, field_at}
 

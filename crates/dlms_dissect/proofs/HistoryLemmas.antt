@@ -1,4 +1,4 @@
--- What is kept of a talk was asked for, and since then nothing was missing.
+-- The kept object of a session was requested, and since then no frame was missing.
 use Rattle.std.proofs.Common.{◌≡◌, ◌⊎◌, inl, inr, ℕ, ◌==◌, ◌&&◌, not, if◌then◌else◌, Bool, true, false, List, [], ◌∷◌, Option, Some, None, refl}
 use Rattle.dlms_apdu.specs.declared.request.Request.{Request}
 use Rattle.dlms_apdu.specs.declared.request.Request.TheVariants.{GetNormal, GetNext, SetNormal, SetFirst, SetBlock, ActionNormal, ActionFirst, ActionBlock}
@@ -127,7 +127,7 @@ kept-heard t AnswersUnfollowed f a (inl h) = cc
 kept-heard t AnswersUnfollowed f a (inr k) = inl (inr k)
 kept-heard t Says f a k = inl k
 
--- a block that is read is of what was asked for, or of what its first one is
+-- the object of a block that is read is the requested one, or that of its first block
 kept-either : {A : Type 0} (t : Talk A) (first : Bool) (a : Asked) → (if first then t.services.asked else t.services.transfers.got_of) ≡ Some a → IsKept t a
 kept-either t true a h = inl h
 kept-either t false a h = inr (inl h)

@@ -1,4 +1,4 @@
--- Pairs are read one behind another.
+-- Pairs are read one after another.
 use Rattle.std.proofs.Common.{◌≡◌, ℕ, ◌&&◌, if◌then◌else◌, Bool, true, false, List, [], ◌∷◌, Option, Some, None, option_map, refl, sym, ap, ◌∙◌}
 use Rattle.std.specs.List.{list_all}
 use Rattle.dlms_dissect.specs.Lines.{are_pairs, are_some, digit_of, first_pair, from_pair, is_parting, octet_of, octets_of, pair_with_rest, with_octet}
@@ -17,7 +17,7 @@ are_behind-none None = refl
 are_behind-none (Some []) = refl
 are_behind-none (Some (x ∷ xs)) = refl
 
--- the octets of a pair and of what stands behind it
+-- the octets of a pair and of the rest after it
 abbrev octets_behind : Option (ℕ × List ℕ) → Option (List ℕ)
 octets_behind None = None
 octets_behind (Some found) = with_octet (Some found.0) (octets_of None found.1)
@@ -49,7 +49,7 @@ no-octets_from : (high : ℕ) (xs : List ℕ) → pair_with_rest (high ∷ xs) �
 no-octets_from high [] h = refl
 no-octets_from high (low ∷ ys) h = pair-none ys (octet_of (digit_of high) (digit_of low)) h
 
--- where there is no first pair, there is none: only what may stand between two stands there, or something else
+-- if there is no first pair, there is none: only what may come between two pairs is there, or something else
 no-octets : (digits : List ℕ) → first_pair digits ≡ None → octets_of None digits ≡ (if list_all is_parting digits then Some [] else None)
 no-octets [] h = refl
 no-octets (x ∷ xs) h =
@@ -57,7 +57,7 @@ no-octets (x ∷ xs) h =
     → (if b then octets_of None xs else octets_of (Some x) xs) ≡ (if b && list_all is_parting xs then Some [] else None) in
     (elim (is_parting x) as P [ true ↦ no-octets xs | false ↦ no-octets_from x xs ]) h
 
--- behind a pair
+-- after a pair
 behind-pair : (has_pair : Bool) (o : Option (List ℕ)) (octet : ℕ) → are_behind true o ≡ are_behind has_pair (with_octet (Some octet) o)
 behind-pair has_pair None octet = refl
 behind-pair has_pair (Some []) octet = refl
@@ -80,7 +80,7 @@ pairs-end has_pair digits h =
     let one = no-octets digits h in
     let two = behind-blank has_pair (list_all is_parting digits) in cc
 
--- behind the last pair, or where there is none
+-- after the last pair, or if there is none
 pub pairs-blank : (has_pair : Bool) (rest digits : List ℕ) (blank : Bool) → first_pair rest ≡ None → are_pairs_behind has_pair rest ≡ are_pairs_behind false digits → has_pair ≡ true
     → blank ≡ list_all is_parting rest → blank ≡ are_pairs digits
 pairs-blank true rest digits blank h same has is = is ∙ sym (pairs-end true rest h) ∙ same ∙ are_behind-none (octets_of None digits)

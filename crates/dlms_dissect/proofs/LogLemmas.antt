@@ -11,7 +11,7 @@ steps (suc n) (x ∷ xs) h m = steps n xs (omega arith) m
 end-all : (n : ℕ) (xs : List ℕ) → take (length xs - n) (drop n xs) ≡ drop n xs
 end-all n xs = take_all (length xs - n) (drop n xs) (let e : length (drop n xs) ≡ length xs - n = length-drop n xs in omega arith)
 
--- where no mark with pairs stands in front of an end, it stands in the rest of it or nowhere
+-- if no mark with pairs begins a tail, it begins a shorter one or none
 pub ends-step : (n : ℕ) (xs : List ℕ) → n < length xs → is_marked (take (length xs - n) (drop n xs)) ≡ false
     → is_logged (drop n xs) ≡ is_logged (drop (suc n) xs)
 ends-step n xs h m = steps n xs h (ap is_marked (sym (end-all n xs)) ∙ m)

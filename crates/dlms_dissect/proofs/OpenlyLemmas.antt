@@ -1,4 +1,4 @@
--- What stands before a field that is not told as it is.
+-- The fields before one that is not shown as it is.
 use Rattle.std.proofs.Common.{◌≡◌, ℕ, ◌≤◌, true, false, List, [], ◌∷◌, ◌++◌, length, Option, Some, None, refl, sym, subst, ap, arith}
 use Rattle.dlms_dissect.specs.Acse.{field_at}
 use Rattle.dlms_dissect.specs.Openly.{AreOpen, IsOpened, Leaves, StandOpen, is_open, is_open_tag}
@@ -19,7 +19,7 @@ pub opened-more : (known : Secrecy) (steps : List Step) (octets : List ℕ) (beh
 opened-more known steps octets behind next rest left t opened is told =
     (opened.0 ++ (t ∷ []), (read-more steps octets opened.0 behind next rest left t opened.1.0 is, open-more known opened.0 t opened.1.1 told))
 
--- two ways from one place: by fields that are told as they are, and up to one that is not
+-- two ways from one place: by fields that are shown as they are, and up to one that is not
 before-closed : (known : Secrecy) (steps : List Step) (octets : List ℕ) (ts us : List Told) (behind behind' next : List Step) (rest rest' left : List ℕ) (t : Told)
     → IsRead steps octets ts behind rest → AreOpen known ts → IsRead steps octets us behind' rest' → next_of behind' rest' ≡ Some (t, next, left) → is_open known t ≡ false
     → length rest' ≤ length rest

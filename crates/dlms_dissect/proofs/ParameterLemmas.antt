@@ -1,9 +1,9 @@
--- Parameters are read one behind another.
+-- Parameters are read one after another.
 use Rattle.std.proofs.Common.{◌≡◌, ℕ, List, [], ◌∷◌, ◌++◌, length, refl}
 use Rattle.dlms_dissect.specs.declared.parameters.Parameters.{Parameters}
 use Rattle.dlms_dissect.specs.Parameters.{AreParameters, Parameter, nothing, parameter_octets, told_of, with_number}
 
--- what is left of the octets, where the parameters before it say this
+-- the rest of the octets, if the parameters before it have this content
 abbrev pub IsLeft : List ℕ → Parameters → List ℕ → Type 0
 IsLeft octets told rest = (ps : List Parameter) × (AreParameters octets ps rest × (told ≡ told_of nothing ps))
 

@@ -77,7 +77,7 @@ spells-none (date_time b) h = tagged-none 25 _ h
 spells-none (date b) h = tagged-none 26 _ h
 spells-none (time b) h = tagged-none 27 _ h
 
--- what stands behind so many octets
+-- the rest after this many octets
 rest-is : (octets : List ℕ) (n : ℕ) → take (length octets - n) (drop n octets) ≡ drop n octets
 rest-is octets n =
     let P : ℕ → Type 0 = λ k. take k (drop n octets) ≡ drop n octets in

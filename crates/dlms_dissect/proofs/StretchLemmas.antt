@@ -1,4 +1,4 @@
--- Which of the kept bytes are told.
+-- Which of the kept bytes are reported.
 use Rattle.std.proofs.Common.{◌≡◌, ℕ, ◌-◌, min, List, length, take, drop, arith, rules}
 use Rattle.std.proofs.lemmas.List.{places, same_lists}
 

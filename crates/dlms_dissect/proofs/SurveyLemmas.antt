@@ -1,4 +1,4 @@
--- What fields name, one behind another.
+-- The objects that consecutive fields name.
 use Rattle.std.proofs.Common.{◌≡◌, ◌⊎◌, inl, inr, ℕ, ◌≤◌, ◌==◌, nat_le, if◌then◌else◌, Bool, true, false, List, [], ◌∷◌, ◌++◌, length, Option, Some, None, refl, sym, subst, arith}
 use Rattle.dlms_dissect.specs.Secrets.{secrecy_at}
 use Rattle.dlms_dissect.specs.Survey.{IsSurvey, Names, chief, name_in, named_by, noted, noted_all, nothing, rank, rank_of, secrecy_of_named, with_name}
@@ -41,7 +41,7 @@ surveyed-end steps octets s behind rest surveyed done empty =
     let Q : List ℕ → Type 0 = λ r. IsRead steps octets surveyed.0 [] r in
     (surveyed.0, (subst Q empty (subst P done surveyed.1.0), surveyed.1.1))
 
--- octets are left behind the last step
+-- octets are left after the last step
 pub left-nothing : (behind : List Step) (rest : List ℕ) → behind ≡ [] → (rest ≡ [] → ⊥) → SpellsNothing behind rest
 left-nothing behind rest done some [] whole = some whole.1
 left-nothing behind rest done some (t ∷ ts) whole =

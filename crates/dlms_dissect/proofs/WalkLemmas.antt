@@ -1,4 +1,4 @@
--- Fields are read one behind another, and octets spell them in one way.
+-- Fields are read one after another, and octets spell them in one way.
 use Rattle.std.proofs.Common.{◌≡◌, ℕ, zero, suc, ◌<◌, ◌≤◌, ◌+◌, ◌-◌, ◌&&◌, nat_le, nat_lt, if◌then◌else◌, Bool, true, false, List, [], ◌∷◌, ◌++◌, length, take, drop, replicate, Option, Some, None, refl, subst, ap, arith, append_assoc, length-append, length-drop}
 use Rattle.std.proofs.lemmas.List.{length-replicate, replicate-append-replicate}
 use Rattle.dlms_dissect.specs.Fields.{front_at}
@@ -54,7 +54,7 @@ left-spells steps octets (t ∷ ts) (u ∷ us) behind rest read whole =
 
 -- ---- each field has an octet at least
 
--- behind a field of some octets that are there, no more octets are left
+-- after a field of some octets that are there, no more octets are left
 some-checked : (own : ℕ) (octets : List ℕ) (checked : Bool) (x y : Told × List Step × List ℕ) → checked ≡ (nat_lt 0 own && nat_le own (length octets))
     → (if checked then Some x else None) ≡ Some y → (x ≡ y) × (length (drop own octets) < length octets)
 some-checked own octets true x y is e = (cc, simp length-drop (grind arith))
@@ -108,12 +108,12 @@ spells-long (s ∷ steps) octets (t ∷ ts) whole =
 
 -- ---- what spells nothing
 
--- the first step is none
+-- the first step is empty
 pub next-none : (step : Step) (steps : List Step) (octets : List ℕ) → next_of (step ∷ steps) octets ≡ None → SpellsNothing (step ∷ steps) octets
 next-none step steps octets none [] whole = let e : step ∷ steps ≡ [] = whole.0 in cc
 next-none step steps octets none (t ∷ ts) whole = let e : next_of (step ∷ steps) octets ≡ Some (t, whole.0, whole.1) = whole.2.0 in cc
 
--- behind it more is to come than octets are left
+-- more octets are to follow it than are left
 pub next-long_none : (step : Step) (steps : List Step) (octets : List ℕ) (t : Told) (next : List Step) (left : List ℕ)
     → next_of (step ∷ steps) octets ≡ Some (t, next, left) → length left < length next → SpellsNothing (step ∷ steps) octets
 next-long_none step steps octets t next left is more [] whole = let e : step ∷ steps ≡ [] = whole.0 in cc

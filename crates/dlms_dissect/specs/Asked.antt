@@ -1,4 +1,4 @@
--- What a further APDU goes on with (IEC 62056-5-3: the invoke-id-and-priority of a request stands in each APDU that belongs to it).
+-- Which APDUs a further APDU continues (IEC 62056-5-3: the invoke-id-and-priority of a request is in each APDU that belongs to it).
 use Rattle.std.specs.Prelude.{ℕ, ◌==◌, if◌then◌else◌, Bool, true, false, Option, Some, None}
 use Rattle.dlms_dissect.specs.declared.named.Asked.{Asked}
 

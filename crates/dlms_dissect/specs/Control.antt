@@ -21,8 +21,8 @@ unnumbered_of octet =
     else (if is_either octet 0x03 0x13 then Ui
     else Other)))))
 
--- I has its low bit 0, RR and RNR have the low half 1 and 5; their numbers stand in the high three bits, and of I in the
--- three behind the lowest
+-- I has its low bit 0, RR and RNR have the low half 1 and 5; their numbers are in the high three bits, and for I in the three after
+-- the lowest
 abbrev pub control_of : ℕ → Control
 control_of octet =
     if octet % 2 == 0 then Information (octet / 2 % 8) (octet / 32)

@@ -7,10 +7,12 @@ is_within least most names field = (nat_le least field && nat_le field most) || 
 
 -- minutes from UTC in two's complement: 0 to 840, 0x8000 which leaves them open, -720 to -1
 abbrev pub is_deviation : ℕ → ℕ → Bool
-is_deviation high low = nat_le (high * 256 + low) 840 || ((high * 256 + low == 0x8000) || nat_le 64816 (high * 256 + low))
+is_deviation high low = nat_le
+    (high * 256 + low) 840 || ((high * 256 + low == 0x8000) || nat_le 64816 (high * 256 + low))
 
 abbrev pub is_day : ℕ → ℕ → ℕ → Bool
-is_day month day weekday = is_within 1 12 0xfd month && (is_within 1 31 0xfd day && is_within 1 7 0xff weekday)
+is_day month day weekday =
+    is_within 1 12 0xfd month && (is_within 1 31 0xfd day && is_within 1 7 0xff weekday)
 
 abbrev pub is_hour : ℕ → ℕ → ℕ → ℕ → Bool
 is_hour hour minute second hundredths =
@@ -19,6 +21,7 @@ is_hour hour minute second hundredths =
 -- The year is any number. In the month 0xFE begins and 0xFD ends daylight saving, in the day 0xFE is the last one of the month
 -- and 0xFD the one before it. Every status is one.
 abbrev pub is_date_time : List ℕ → Bool
-is_date_time (y ∷ z ∷ month ∷ day ∷ weekday ∷ hour ∷ minute ∷ second ∷ hundredths ∷ high ∷ low ∷ status ∷ []) =
+is_date_time (y ∷ z ∷ month ∷ day ∷ weekday ∷ hour ∷ minute ∷ second ∷ hundredths ∷ high ∷ low
+    ∷ status ∷ []) =
     is_day month day weekday && (is_hour hour minute second hundredths && is_deviation high low)
 is_date_time _ = false

@@ -1,5 +1,5 @@
--- The fields of the APDUs (IEC 62056-5-3, the ASN.1 of the services, in A-XDR), by how many octets each has of its own, and how
--- many values stand behind these in it.
+-- The fields of the APDUs (IEC 62056-5-3, the ASN.1 of the services, in A-XDR), by the number of their own octets, and the number
+-- of values after these in them.
 use Rattle.std.specs.Prelude.{ℕ, ◌+◌, ◌==◌, ◌||◌, nat_lt, if◌then◌else◌, List, [], ◌∷◌, drop, Option, Some, None, option_and_then}
 use Rattle.dlms_dissect.specs.declared.fields.Field.{Field}
 use Rattle.dlms_dissect.specs.declared.fields.Field.TheVariants as field
@@ -23,7 +23,7 @@ fixed_len field.Method = 9
 fixed_len field.Notified = 9
 fixed_len _ = 0
 
--- behind the option stands a selector
+-- the option is followed by a selector
 abbrev pub selected : List ℕ → Option Front
 selected (selector ∷ rest) = spans 11 1
 selected [] = None
@@ -38,24 +38,28 @@ attribute_at _ = None
 
 -- an option: 00, or 01 and a value
 abbrev pub choice_at : List ℕ → Option Front
-choice_at (option ∷ rest) = if option == 0 then spans 1 0 else if option == 1 then spans 1 1 else None
+choice_at (option ∷ rest) = if option == 0 then spans 1 0 else if option == 1 then spans 1 1
+    else None
 choice_at _ = None
 
 -- Get-Data-Result: 00 and a value, or 01 and a Data-Access-Result
 abbrev pub result_at : List ℕ → Option Front
-result_at (choice ∷ rest) = if choice == 0 then spans 1 1 else if choice == 1 then spans 2 0 else None
+result_at (choice ∷ rest) = if choice == 0 then spans 1 1 else if choice == 1 then spans 2 0
+    else None
 result_at _ = None
 
 -- Action-Response-With-Optional-Data: an Action-Result, and the option of a Get-Data-Result
 abbrev pub returned_at : List ℕ → Option Front
-returned_at (choice ∷ rest) = if choice == 0 then spans 3 1 else if choice == 1 then spans 4 0 else None
+returned_at (choice ∷ rest) = if choice == 0 then spans 3 1 else if choice == 1 then spans 4 0
+    else None
 returned_at _ = None
 
 abbrev pub return_at : List ℕ → Option Front
-return_at (result ∷ option ∷ rest) = if option == 0 then spans 2 0 else if option == 1 then returned_at rest else None
+return_at (result ∷ option ∷ rest) = if option == 0 then spans 2 0 else if option == 1
+    then returned_at rest else None
 return_at _ = None
 
--- state-error and service-error; where that is 6, invocation-counter-error, a counter of four octets stands behind
+-- state-error and service-error; if that is 6, invocation-counter-error, a counter of four octets follows
 abbrev pub exception_at : List ℕ → Option Front
 exception_at (state ∷ service ∷ rest) = if service == 6 then spans 6 0 else spans 2 0
 exception_at _ = spans 2 0
@@ -70,12 +74,15 @@ block_result_at _ = None
 
 -- an option: 00, or 01 and a text
 abbrev pub optional_text : List ℕ → Option Front
-optional_text (option ∷ rest) = if option == 0 then spans 1 0 else if option == 1 then text_behind 1 (option ∷ rest) else None
+optional_text (option ∷ rest) = if option == 0 then spans 1 0 else if option == 1
+    then text_behind 1 (option ∷ rest) else None
 optional_text _ = None
 
 -- Key-Info: 00, or 01 with 00 and an identified key, 01 with its kind and a wrapped key, 02 with parameters and a ciphered key
 abbrev pub agreed_at : List ℕ → Option Front
-agreed_at bytes = option_and_then (λ p. option_and_then (λ c. spans (p.own + c.own) 0) (text_behind 0 (drop p.own bytes))) (text_behind 2 bytes)
+agreed_at bytes = option_and_then
+    (λ p. option_and_then (λ c. spans (p.own + c.own) 0) (text_behind 0 (drop p.own bytes)))
+    (text_behind 2 bytes)
 
 abbrev pub key_kind_at : List ℕ → List ℕ → Option Front
 key_kind_at bytes (kind ∷ rest) =
@@ -86,7 +93,8 @@ key_kind_at bytes (kind ∷ rest) =
 key_kind_at bytes _ = None
 
 abbrev pub key_at : List ℕ → Option Front
-key_at (option ∷ rest) = if option == 0 then spans 1 0 else if option == 1 then key_kind_at (option ∷ rest) rest else None
+key_at (option ∷ rest) = if option == 0 then spans 1 0 else if option == 1
+    then key_kind_at (option ∷ rest) rest else None
 key_at _ = None
 
 abbrev pub none_at : List ℕ → Option Front
@@ -95,7 +103,8 @@ none_at _ = None
 
 -- a text that begins with a security header, which has five octets (IEC 62056-5-3, 9.2.7.2.4.1)
 abbrev pub ciphered_at : List ℕ → Option Front
-ciphered_at bytes = option_and_then (λ l. if nat_lt l.number 5 then None else text_behind 0 bytes) (length_at bytes)
+ciphered_at bytes = option_and_then (λ l. if nat_lt l.number 5 then None
+    else text_behind 0 bytes) (length_at bytes)
 
 -- Access-Request-Specification: 01 get, 02 set, 03 action; 04 and 05 get and set with a selection
 abbrev pub access_at : List ℕ → Option Front
@@ -107,7 +116,8 @@ access_at _ = None
 
 -- Variable-Access-Specification: 02 a name, 04 a name with a selector and a value, 05 the number of a block
 abbrev pub short_name_at : List ℕ → Option Front
-short_name_at (choice ∷ rest) = if (choice == 2) || (choice == 5) then spans 3 0 else if choice == 4 then spans 4 1 else None
+short_name_at (choice ∷ rest) = if (choice == 2) || (choice == 5) then spans 3 0 else if choice == 4
+    then spans 4 1 else None
 short_name_at _ = None
 
 -- ReadResponse: 00 a value, 01 a Data-Access-Result, 02 a block with its number, 03 the number of a block
@@ -129,7 +139,7 @@ short_result_at (choice ∷ rest) =
     else None
 short_result_at _ = None
 
--- the field at the front; whether so many octets are there is not asked
+-- the field at the front; it is not checked whether there are that many octets
 abbrev pub front_at : Field → List ℕ → Option Front
 front_at field.Value bytes = node_at bytes
 front_at field.Attribute bytes = attribute_at bytes

@@ -16,13 +16,15 @@ use Rattle.dlms_dissect.specs.declared.survey.Survey.{Survey}
 
 -- no form's fields are spelled
 abbrev pub IsNoForm : List ℕ → Type 0
-IsNoForm bytes = (row : Row) (octets : List ℕ) (ts : List Told) → form_at bytes ≡ Some (row, octets) → Spells row.steps octets ts → ⊥
+IsNoForm bytes = (row : Row) (octets : List ℕ) (ts : List Told) → form_at bytes ≡ Some (row, octets)
+    → Spells row.steps octets ts → ⊥
 
 -- The APDU has this form, whose fields its octets spell, and this is said of them; or it has none.
 abbrev pub IsForeign : List ℕ → Option Foreign → Type 0
 IsForeign bytes None = IsNoForm bytes
 IsForeign bytes (Some f) =
-    (first_of bytes ≡ Some f.tag) × (form_at bytes ≡ Some (row_of f.form, f.fields.now)) × IsSurvey f.form.steps.now f.fields.now f.survey
+    (first_of bytes ≡ Some f.tag) × (form_at bytes ≡ Some (row_of f.form, f.fields.now))
+    × IsSurvey f.form.steps.now f.fields.now f.survey
 
 -- requests and responses of GET, SET and ACTION; the responses to a read by short names and to an access
 abbrev pub role_of : ℕ → Role
@@ -45,8 +47,8 @@ abbrev pub answered_by : Option Asked → Option ℕ → Option Asked
 answered_by asked None = None
 answered_by asked (Some invoke) = of_invoke asked invoke
 
--- How its values are told: by what it names; of an answer by what was asked for, and where that is not followed always as what
--- may be a secret.
+-- How its values are reported: by the objects that it names; for an answer by the requested object, and if that is not followed
+-- always as a possible secret.
 abbrev pub values_of : Role → Bool → Option Asked → Survey → Secrecy
 values_of Asks raw asked s = told_as raw (secrecy_of_named s.chief)
 values_of Answers raw asked s = told_as raw (secrecy_of (answered_by asked s.invoke))

@@ -1,4 +1,4 @@
--- What a frame that holds no APDU does in a talk (IEC 62056-46, 6.4.3).
+-- How a frame without an APDU changes a session (IEC 62056-46, 6.4.3).
 use Rattle.std.specs.Prelude.{ℕ, ◌&&◌, if◌then◌else◌, Bool, true, false, Option, Some, None}
 use Rattle.dlms_dissect.specs.declared.control.Control.{Control}
 use Rattle.dlms_dissect.specs.declared.control.Control.TheVariants.{Snrm, Disc, Ua, Dm, Frmr, Ui, Information, Ready, NotReady, Other}

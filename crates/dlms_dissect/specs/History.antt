@@ -1,4 +1,4 @@
--- Talks as lists of what happens in them, whatever of it stands in a log.
+-- Sessions as lists of their events, whichever of them a log contains.
 use Rattle.std.specs.Prelude.{◌≡◌, ◌⊎◌, ℕ, Bool, true, List, [], ◌∷◌, Option, Some}
 use Rattle.dlms_apdu.specs.declared.request.Request.{Request}
 use Rattle.dlms_apdu.specs.declared.response.Response.{Response}
@@ -67,8 +67,10 @@ Names _ a = ⊥
 -- a request among the steps named it, and since then no frame was missing, and the link went neither down nor up
 abbrev pub WasAsked : {A : Type 0} → Talk A → List (Step A) → Asked → Type 0
 WasAsked t [] a = ⊥
-WasAsked t (s ∷ ss) a = (Names s a × AreUnbroken (talk_after t s) ss) ⊎ WasAsked (talk_after t s) ss a
+WasAsked t (s ∷ ss) a = (Names s a × AreUnbroken (talk_after t s) ss)
+    ⊎ WasAsked (talk_after t s) ss a
 
 -- the answer that comes next, or a value in blocks, is known to be of it
 abbrev pub IsKept : {A : Type 0} → Talk A → Asked → Type 0
-IsKept t a = (t.services.asked ≡ Some a) ⊎ ((t.services.transfers.got_of ≡ Some a) ⊎ (t.services.transfers.put_of ≡ Some a))
+IsKept t a = (t.services.asked ≡ Some a)
+    ⊎ ((t.services.transfers.got_of ≡ Some a) ⊎ (t.services.transfers.put_of ≡ Some a))

@@ -1,4 +1,5 @@
--- What is told of a field: of a secret that it is one, of a string that may be one, of a block and of what is ciphered the length.
+-- The reported content of a field: of a secret that it is one, and of a string that may be one, of a block and of ciphered content
+-- the length.
 use Rattle.std.specs.Prelude.{◌≡◌, ℕ, ◌+◌, ◌*◌, ◌==◌, ◌||◌, not, min, if◌then◌else◌, Bool, true, false, List, [], ◌∷◌, length, drop, Option, Some, None}
 use Rattle.dlms_dissect.specs.Nodes.{length_at}
 use Rattle.dlms_dissect.specs.declared.fields.Field.{Field}
@@ -25,7 +26,7 @@ abbrev pub number_or : Option Length → ℕ
 number_or None = 0
 number_or (Some l) = l.number
 
--- the number of the length behind so many octets
+-- the number of the length after this many octets
 abbrev pub number_behind : ℕ → List ℕ → ℕ
 number_behind before octets = number_or (length_at (drop before octets))
 
@@ -54,22 +55,26 @@ ShowsValue known octets _ = ⊥
 abbrev pub of_four : ℕ → ℕ → ℕ → ℕ → ℕ
 of_four a b c d = ((a * 256 + b) * 256 + c) * 256 + d
 
--- a block, whose octets stand behind so many others
+-- a block whose octets come after this many others
 abbrev pub block_of : List ℕ → ℕ → Item
-block_of (last ∷ a ∷ b ∷ c ∷ d ∷ rest) before = item.Block (not (last == 0)) (of_four a b c d) (number_behind before (last ∷ a ∷ b ∷ c ∷ d ∷ rest))
+block_of (last ∷ a ∷ b ∷ c ∷ d ∷ rest) before =
+    item.Block (not (last == 0)) (of_four a b c d)
+    (number_behind before (last ∷ a ∷ b ∷ c ∷ d ∷ rest))
 block_of octets before = item.Length field.Block 0
 
 abbrev pub octets_or : Option Length → ℕ
 octets_or None = 0
 octets_or (Some l) = l.octets
 
--- behind a security header of five octets (IEC 62056-5-3, 9.2.7.2.4.1): the security control and the invocation counter
+-- after a security header of five octets (IEC 62056-5-3, 9.2.7.2.4.1): the security control and the invocation counter
 abbrev pub with_header : List ℕ → ℕ → Item
-with_header (control ∷ a ∷ b ∷ c ∷ d ∷ text) len = item.Ciphered control (of_four a b c d) (length text)
+with_header (control ∷ a ∷ b ∷ c ∷ d ∷ text) len =
+    item.Ciphered control (of_four a b c d) (length text)
 with_header _ len = item.Length field.Ciphered len
 
 abbrev pub Ciphers : List ℕ → Item → Type 0
-Ciphers octets told = told ≡ with_header (drop (min (octets_or (length_at octets)) (length octets)) octets) (number_behind 0 octets)
+Ciphers octets told = told ≡ with_header
+    (drop (min (octets_or (length_at octets)) (length octets)) octets) (number_behind 0 octets)
 
 abbrev pub has_block : List ℕ → Bool
 has_block (last ∷ a ∷ b ∷ c ∷ d ∷ choice ∷ rest) = choice == 0
@@ -91,13 +96,14 @@ abbrev pub IsFieldItem : Secrecy → Field → List ℕ → Item → Type 0
 IsFieldItem known field.Value octets told = ShowsValue known octets told
 IsFieldItem known field.Block octets told = told ≡ block_of octets 5
 IsFieldItem known field.BlockResult octets told = IsBlockOr (has_block octets) octets told
-IsFieldItem known field.Octets octets told = told ≡ item.Length field.Octets (number_behind 0 octets)
+IsFieldItem known field.Octets octets told =
+    told ≡ item.Length field.Octets (number_behind 0 octets)
 IsFieldItem known field.Key octets told = told ≡ item.Length field.Key (number_behind 3 octets)
 IsFieldItem known field.ShortData octets told = IsShortOr (tag_of octets == 2) octets told
 IsFieldItem known field.Ciphered octets told = Ciphers octets told
 IsFieldItem known f octets told = IsPlain f octets told
 
--- what is told of a field, where this is known of the values of its APDU
+-- the reported content of a field, given this secrecy of the values of its APDU
 abbrev pub IsItem : Secrecy → Event → Item → Type 0
 IsItem known (event.List f count) told = told ≡ item.List f count
 IsItem known (event.Field f octets) told = IsFieldItem known f octets.now told

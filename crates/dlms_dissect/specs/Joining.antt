@@ -1,4 +1,4 @@
--- What a block is among those before it, by the definitions of dlms_blocks.
+-- The position of a block among those before it, by the definitions of dlms_blocks.
 use Rattle.std.specs.Prelude.{ℕ, ◌+◌, ◌==◌, nat_lt, if◌then◌else◌, Bool, List, length, Option, None, Result, Ok, Err}
 use Rattle.dlms_blocks.specs.Coming.{nothing}
 use Rattle.dlms_blocks.specs.Joining.{Joining, empty, is_next, with_block}
@@ -19,8 +19,8 @@ none = record { got = empty; got_of = None; put = nothing; put_of = None }
 abbrev pub dropped : TwoTransfers → TwoTransfers
 dropped t = record t { got = empty; got_of = None }
 
--- What a block of a value that is read is of: the block of number 1 of what was asked for, and a further one of what the first
--- one is; and each has the invoke-id-and-priority of the request.
+-- The object of a block of a value that is read: the block with number 1 has the requested object, and a further one that of the
+-- first; and each has the invoke-id-and-priority of the request.
 abbrev pub read_of : TwoTransfers → Option Asked → ℕ → ℕ → Option Asked
 read_of t asked invoke number = of_invoke (if number == 1 then asked else t.got_of) invoke
 
@@ -45,7 +45,7 @@ got_after j last number raw =
     else if is_next j number then with_block j last number raw
     else j
 
--- of a value to set, what the meter answers: 17 where it is too long, and another result where the block is not the next one
+-- for a value to set, the meter's answer: 17 if it is too long, and another result if the block is not the next one
 abbrev pub put_answer : Result PutStep ℕ → Joined
 put_answer (Ok step.More) = More
 put_answer (Ok step.Whole) = Whole

@@ -1,5 +1,6 @@
--- Who sends a frame, and to whom: by the forms of its addresses, by the meter's management, and by what the frame says (IEC
--- 62056-46, 6.4.2, addresses, 6.4.3, control fields, and section 5, the LLC). Which of these comes first is this project's own.
+-- The sender and the receiver of a frame: by the forms of its addresses, by the meter's management address, and by the frame's
+-- content (IEC 62056-46, 6.4.2, addresses, 6.4.3, control fields, and section 5, the LLC). Which of these comes first is this
+-- project's own choice.
 use Rattle.std.specs.Prelude.{ℕ, ◌==◌, if◌then◌else◌, List, ◌∷◌, Option, Some, None}
 use Rattle.dlms_frame.specs.Frame.{Parts}
 use Rattle.dlms_frame.specs.declared.frame.Address.{Address}
@@ -52,7 +53,7 @@ side_by_control Dm = Some Meter
 side_by_control Frmr = Some Meter
 side_by_control _ = None
 
--- 0xE6 stands second in the client's LLC, 0xE7 in the meter's, and 0x00 behind it
+-- 0xE6 is second in the client's LLC, 0xE7 in the meter's, and 0x00 follows it
 abbrev pub side_by_llc : List ℕ → Option Side
 side_by_llc (x ∷ y ∷ z ∷ apdu) =
     if z == 0 then (if y == 0xE6 then Some Client else if y == 0xE7 then Some Meter else None)
@@ -70,12 +71,21 @@ side_by_content f = first_of (side_by_control (control_of f.control)) (side_by_l
 
 -- the side that the line says, or else the first that the frame tells
 abbrev pub side_of : Option Side → Parts → Option Side
-side_of said f = first_of (first_of (first_of said (side_by_form f)) (side_by_management f)) (side_by_content f)
+side_of said f = first_of (first_of (first_of said (side_by_form f)) (side_by_management f))
+    (side_by_content f)
 
 -- ---- the ends
 
 -- The sender is the client, the other end the meter; of a frame that the meter sends the other way round.
 abbrev pub parties_of : Option Side → Parts → Parties
-parties_of (Some Meter) f = record { client = upper f.dest; meter = upper f.src; lower = lower f.src }
-parties_of (Some Client) f = record { client = upper f.src; meter = upper f.dest; lower = lower f.dest }
+parties_of (Some Meter) f = record {
+  client = upper f.dest;
+  meter = upper f.src;
+  lower = lower f.src;
+}
+parties_of (Some Client) f = record {
+  client = upper f.src;
+  meter = upper f.dest;
+  lower = lower f.dest;
+}
 parties_of None f = record { client = upper f.src; meter = upper f.dest; lower = lower f.dest }

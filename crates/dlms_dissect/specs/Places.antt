@@ -19,7 +19,7 @@ use Rattle.dlms_dissect.specs.declared.places.Fault.{Fault}
 abbrev pub counted : ℕ → ℕ
 counted n = min n 18446744073709551615
 
--- The beginning of so many octets shows what is wrong, and the one with an octet fewer does not.
+-- The prefix of this many octets shows what is wrong, and the one with an octet fewer does not.
 pub record IsShown (Shows : List ℕ → Type 0) (octets : List ℕ) (n : ℕ) : Type 0 where
   pub within : n ≤ length octets
   pub shown : Shows (take n octets)
@@ -55,27 +55,32 @@ data_words Length = codes "no length begins so"
 data_words Depth = codes "more than eight levels"
 data_words Memory = codes "out of memory"
 
--- What is said of octets that are to be one value and are not, which stand behind so many octets: of a value at their front,
--- that others stand behind it; where they are cut short, that they end; and else what is wrong at the last octet of the
--- beginning that shows it.
+-- The message for octets that should be one value and are not, after this many octets: if there is a value at their front, that
+-- others follow it; if they are cut short, that they end; and otherwise what is wrong at the last octet of the prefix that shows
+-- it.
 abbrev pub IsValueFault : Option DataFault → List ℕ → ℕ → Fault → Type 0
 IsValueFault None octets before fault =
-    (fault.words.now ≡ codes "bytes stand behind the value")
-    × ((n : ℕ) × ((n ≤ length octets) × (behind (data_at 8 octets) ≡ Ok (drop n octets)) × (fault.octet ≡ counted (before + n + 1))))
-IsValueFault (Some Short) octets before fault = (fault.words.now ≡ data_words Short) × (fault.octet ≡ counted (before + length octets + 1))
+    (fault.words.now ≡ codes "bytes follow the value")
+    × ((n : ℕ) × ((n ≤ length octets) × (behind (data_at 8 octets) ≡ Ok (drop n octets))
+    × (fault.octet ≡ counted (before + n + 1))))
+IsValueFault (Some Short) octets before fault = (fault.words.now ≡ data_words Short)
+    × (fault.octet ≡ counted (before + length octets + 1))
 IsValueFault (Some e) octets before fault =
-    (fault.words.now ≡ data_words e) × ((n : ℕ) × (IsShown (ShowsValue e) octets n × (fault.octet ≡ counted (before + n))))
+    (fault.words.now ≡ data_words e)
+    × ((n : ℕ) × (IsShown (ShowsValue e) octets n × (fault.octet ≡ counted (before + n))))
 
--- so many values stand at the front, one behind another, and these octets behind them
+-- this many values are at the front, one after another, and these octets follow them
 abbrev pub IsBehind : ℕ → List ℕ → List ℕ → Type 0
 IsBehind zero octets rest = rest ≡ octets
-IsBehind (suc n) octets rest = (next : List ℕ) × ((behind (data_at 8 octets) ≡ Ok next) × IsBehind n next rest)
+IsBehind (suc n) octets rest = (next : List ℕ)
+    × ((behind (data_at 8 octets) ≡ Ok next) × IsBehind n next rest)
 
--- The same of values, one behind another: what is said is of the first of them that is none.
+-- The same for values, one after another: the message is that of the first invalid one.
 abbrev pub IsValuesFault : List ℕ → ℕ → Fault → Type 0
 IsValuesFault octets before fault =
     (values n : ℕ) × (e : DataFault)
-    × (IsBehind values octets (drop n octets) × (refused_value (drop n octets) ≡ Some e) × IsValueFault (Some e) (drop n octets) (counted (before + n)) fault)
+    × (IsBehind values octets (drop n octets) × (refused_value (drop n octets) ≡ Some e)
+    × IsValueFault (Some e) (drop n octets) (counted (before + n)) fault)
 
 -- ---- APDUs
 
@@ -88,7 +93,7 @@ abbrev pub refused : Side → List ℕ → Option ApduFault
 refused Client octets = fault_in (request_at octets)
 refused Meter octets = fault_in (response_at octets)
 
--- by what the reader told: want of memory is no reason
+-- by the reader's fault: out of memory is no reason
 abbrev pub reason_of : ApduFault → Option ApduFault
 reason_of apdu.Memory = None
 reason_of fault = Some fault
@@ -97,7 +102,7 @@ abbrev pub reason_in : {T : Type 0} → Result T ApduFault → Option ApduFault
 reason_in (Ok t) = None
 reason_in (Err e) = reason_of e
 
--- A beginning shows a fault where it is refused so. That octets stand behind the APDU, it shows where it is the APDU too.
+-- A prefix shows a fault if it is refused with it. It also shows that octets follow the APDU if it is the APDU.
 abbrev pub is_shown : ApduFault → Option ApduFault → Bool
 is_shown fault None = apdu_number fault == apdu_number apdu.Trailing
 is_shown fault (Some told) = apdu_number told == apdu_number fault
@@ -108,24 +113,31 @@ Shows side fault octets = is_shown fault (refused side octets) ≡ true
 abbrev pub acse_words : AcseFault → List ℕ
 acse_words acse.Short = codes "the bytes end too soon, or a field is missing"
 acse_words acse.Tag = codes "another APDU"
-acse_words acse.Length = codes "no length begins so, or bytes stand behind the whole"
-acse_words acse.Repeated = codes "a tag stands twice"
+acse_words acse.Length = codes "no length begins so, or bytes follow the end"
+acse_words acse.Repeated = codes "a tag occurs twice"
 
--- what is said of an association's APDU that is none
+-- the message for an association's APDU that is invalid
 abbrev pub IsAcseFault : {Y : Type 0} → Result Y AcseFault → Fault → Type 0
 IsAcseFault (Ok y) fault = ⊥
 IsAcseFault (Err e) fault = fault.words.now ≡ acse_words e
 
--- What is said of octets that are refused so, and where that stands: where they end; at the last octet of the beginning that
--- shows it, or behind it. Of a value that is none it is said what is wrong there.
+-- The message for octets that are refused with a fault, and its position: where they end; at the last octet of the prefix that
+-- shows it, or after it. For an invalid value the message states what is wrong there.
 abbrev pub IsApduFault : Side → ApduFault → List ℕ → Fault → Type 0
-IsApduFault side apdu.Short octets fault = (fault.words.now ≡ codes "the bytes end within the APDU") × (fault.octet ≡ counted (length octets + 1))
-IsApduFault side apdu.Choice octets fault = (fault.words.now ≡ codes "no form has this byte here") × IsShown (Shows side apdu.Choice) octets fault.octet
+IsApduFault side apdu.Short octets fault = (fault.words.now ≡ codes "the bytes end within the APDU")
+    × (fault.octet ≡ counted (length octets + 1))
+IsApduFault side apdu.Choice octets fault = (fault.words.now ≡ codes "no form has this byte here")
+    × IsShown (Shows side apdu.Choice) octets fault.octet
 IsApduFault side apdu.Trailing octets fault =
-    (fault.words.now ≡ codes "bytes stand behind the APDU") × ((n : ℕ) × (IsShown (Shows side apdu.Trailing) octets n × (fault.octet ≡ counted (n + 1))))
-IsApduFault side apdu.Data octets fault = (n : ℕ) × (IsShown (Shows side apdu.Data) octets n × IsValuesFault (drop n octets) n fault)
-IsApduFault side apdu.Memory octets fault = (fault.words.now ≡ codes "out of memory") × (fault.octet ≡ 0)
+    (fault.words.now ≡ codes "bytes follow the APDU")
+    × ((n : ℕ) × (IsShown (Shows side apdu.Trailing) octets n
+    × (fault.octet ≡ counted (n + 1))))
+IsApduFault side apdu.Data octets fault = (n : ℕ)
+    × (IsShown (Shows side apdu.Data) octets n × IsValuesFault (drop n octets) n fault)
+IsApduFault side apdu.Memory octets fault = (fault.words.now ≡ codes "out of memory")
+    × (fault.octet ≡ 0)
 
 -- The reader of one end's APDUs refuses the octets, and this is said of it.
 abbrev pub IsRefusal : Side → List ℕ → Fault → Type 0
-IsRefusal side octets fault = (e : ApduFault) × ((refused side octets ≡ Some e) × IsApduFault side e octets fault)
+IsRefusal side octets fault = (e : ApduFault)
+    × ((refused side octets ≡ Some e) × IsApduFault side e octets fault)

@@ -1,4 +1,4 @@
--- What is told of a request and of a response (IEC 62056-5-3): all but the octets of a secret and of blocks.
+-- The reported content of a request and of a response (IEC 62056-5-3): everything except the octets of a secret and of blocks.
 use Rattle.std.specs.Prelude.{◌≡◌, ℕ, Bool, true, false, codes, List, length, Option, Some, None, option_and_then}
 use Rattle.dlms_data.specs.declared.data.Data.{Data}
 use Rattle.dlms_data.specs.declared.descriptor.Descriptor.{Descriptor}
@@ -23,12 +23,12 @@ Shows Unknown value _ = ⊥
 Shows Open value (told.Value shown) = shown.now ≡ value
 Shows Open value _ = ⊥
 
--- the parameter of a method, where there is one
+-- the parameter of a method, if there is one
 abbrev pub ShowsParameter : {A : Type 0} → Secrecy → Option (Data A) → Content A → Type 0
 ShowsParameter known None content = content ≡ told.Nothing
 ShowsParameter known (Some value) content = Shows known value content
 
--- what is known of the value of an attribute, or of the parameter of a method, and how it is told
+-- the secrecy of an attribute's value, or of a method's parameter, and how it is reported
 abbrev pub known_of : Bool → Descriptor → Bool → Secrecy
 known_of raw d method = told_as raw (secrecy_at (record { descriptor = d; method = method }))
 
@@ -36,28 +36,37 @@ abbrev pub ShowsRequest : {A : Type 0} → Bool → Request A → Content A → 
 ShowsRequest raw (GetNormal invoke d s) content = content ≡ told.Nothing
 ShowsRequest raw (GetNext invoke n) content = content ≡ told.Next n
 ShowsRequest raw (SetNormal invoke d s v) content = Shows (known_of raw d false) v content
-ShowsRequest raw (SetFirst invoke d s last n octets) content = content ≡ told.Block last n (length octets.now)
-ShowsRequest raw (SetBlock invoke last n octets) content = content ≡ told.Block last n (length octets.now)
+ShowsRequest raw (SetFirst invoke d s last n octets) content =
+    content ≡ told.Block last n (length octets.now)
+ShowsRequest raw (SetBlock invoke last n octets) content =
+    content ≡ told.Block last n (length octets.now)
 ShowsRequest raw (ActionNormal invoke d p) content = ShowsParameter (known_of raw d true) p content
-ShowsRequest raw (ActionFirst invoke d last n octets) content = content ≡ told.Block last n (length octets.now)
-ShowsRequest raw (ActionBlock invoke last n octets) content = content ≡ told.Block last n (length octets.now)
+ShowsRequest raw (ActionFirst invoke d last n octets) content =
+    content ≡ told.Block last n (length octets.now)
+ShowsRequest raw (ActionBlock invoke last n octets) content =
+    content ≡ told.Block last n (length octets.now)
 
--- by what is known of the value that was asked for
+-- by the secrecy of the requested value
 abbrev pub ShowsResponse : {A : Type 0} → Secrecy → Response A → Content A → Type 0
 ShowsResponse known (answer.GetData invoke v) content = Shows known v content
 ShowsResponse known (answer.GetResult invoke r) content = content ≡ told.Access r
-ShowsResponse known (answer.GetBlock invoke last n raw) content = content ≡ told.Block last n (length raw.now)
+ShowsResponse known (answer.GetBlock invoke last n raw) content =
+    content ≡ told.Block last n (length raw.now)
 ShowsResponse known (answer.GetBlockResult invoke n r) content = content ≡ told.AccessOfBlock n r
 ShowsResponse known (answer.SetResult invoke r) content = content ≡ told.Access r
 ShowsResponse known (answer.SetBlock invoke n) content = content ≡ told.Taken n
 ShowsResponse known (answer.SetLast invoke r n) content = content ≡ told.AccessBehind n r
 ShowsResponse known (answer.ActionResult invoke r) content = content ≡ told.Action r
 ShowsResponse known (answer.ActionBlock invoke n) content = content ≡ told.Taken n
-ShowsResponse known (answer.Exception state service) content = content ≡ told.Exception state service
+ShowsResponse known (answer.Exception state service) content =
+    content ≡ told.Exception state service
 
 -- what a request names, and whether that is a method
 abbrev pub asks : ℕ → Descriptor → Bool → Option Asked
-asks invoke d method = Some (record { invoke = invoke; named = record { descriptor = d; method = method } })
+asks invoke d method = Some (record {
+  invoke = invoke;
+  named = record { descriptor = d; method = method };
+})
 
 abbrev pub asked_of : {A : Type 0} → Request A → Option Asked
 asked_of (GetNormal invoke d s) = asks invoke d false
@@ -103,7 +112,7 @@ request_selector (ActionNormal invoke d p) = None
 request_selector (ActionFirst invoke d last n raw) = None
 request_selector (ActionBlock invoke last n raw) = None
 
--- what the request of a response asked for: what was asked for, where the response has its invoke-id-and-priority
+-- the object that the request of a response asked for, if the response has its invoke-id-and-priority
 abbrev pub answered : {A : Type 0} → Option Asked → Response A → Option Asked
 answered asked r = option_and_then (of_invoke asked) (response_invoke r)
 

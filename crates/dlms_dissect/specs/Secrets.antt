@@ -1,4 +1,4 @@
--- What may be a secret (IEC 62056-6-2, the class Association LN), and how much of it is told.
+-- Which values may be secrets (IEC 62056-6-2, the class Association LN), and how much of them is reported.
 use Rattle.std.specs.Prelude.{ℕ, ◌==◌, ◌&&◌, ◌||◌, not, if◌then◌else◌, Bool, true, false, List, [], ◌∷◌, Option, Some, None}
 use Rattle.dlms_data.specs.declared.descriptor.Descriptor.{Descriptor}
 use Rattle.dlms_dissect.specs.declared.named.Named.{Named}
@@ -17,23 +17,25 @@ is_of_association d = (d.class == 15) || is_association d.name
 
 -- attribute 7, or as a method method 2, and method 1, whose parameter and answer are reckoned from it
 abbrev pub is_secret : Descriptor → Bool → Bool
-is_secret d method = is_of_association d && (if method then (d.id == 1) || (d.id == 2) else d.id == 7)
+is_secret d method = is_of_association d && (if method then (d.id == 1) || (d.id == 2)
+    else d.id == 7)
 
--- attribute 0 stands for all attributes
+-- attribute 0 means all attributes
 abbrev pub holds_secret : Descriptor → Bool → Bool
 holds_secret d method = is_of_association d && (not method && (d.id == 0))
 
 -- what is known of a value that is named so
 abbrev pub secrecy_at : Named → Secrecy
-secrecy_at n = if is_secret n.descriptor n.method then Secret else (if holds_secret n.descriptor n.method then Unknown else Open)
+secrecy_at n = if is_secret n.descriptor n.method then Secret
+    else (if holds_secret n.descriptor n.method then Unknown else Open)
 
--- The rule. Of an answer, or of a value in blocks, it is known what it is where its request is known. Of what is not known,
--- and of what holds a secret among others, each string is told by its length alone; of a secret nothing is told.
+-- The rule. The object of an answer, or of a value in blocks, is known if its request is known. Of an unknown value, and of one
+-- that contains a secret among others, each string is reported by its length alone; of a secret nothing is reported.
 abbrev pub secrecy_of : Option Asked → Secrecy
 secrecy_of None = Unknown
 secrecy_of (Some a) = secrecy_at a.named
 
--- where strings are asked for as they are, what is not known is told as it is
+-- if strings are wanted as they are, an unknown one is shown as it is
 abbrev pub told_as : Bool → Secrecy → Secrecy
 told_as true Unknown = Open
 told_as _ s = s

@@ -17,9 +17,10 @@ is_from (Some Client) octet = octet == 0xe6
 is_from (Some Meter) octet = octet == 0xe7
 is_from None octet = (octet == 0xe6) || (octet == 0xe7)
 
--- what stands behind it
+-- the octets after it
 abbrev pub behind_llc : Option Side → List ℕ → Option (List ℕ)
-behind_llc side (x ∷ y ∷ z ∷ apdu) = if (x == 0xe6) && (is_from side y && (z == 0)) then Some apdu else None
+behind_llc side (x ∷ y ∷ z ∷ apdu) = if (x == 0xe6) && (is_from side y && (z == 0)) then Some apdu
+    else None
 behind_llc side _ = None
 
 -- ---- the numbers
@@ -93,7 +94,7 @@ JoinsSegment progress.Good side f info = Joins f info
 JoinsSegment progress.TooLong side f info = ⊥
 JoinsSegment progress.BadStart side f info = ⊥
 
--- what is told behind the last segment
+-- the outcome after the last segment
 abbrev pub told : Progress → ℕ → Came
 told progress.Good count = came.Whole count
 told progress.TooLong count = came.TooLong
@@ -110,7 +111,11 @@ came_of f false = told f.progress (counted f)
 
 abbrev pub another : Following → ℕ → Bool → Following
 another f number true = record f { next = Some (after number); count = counted f }
-another f number false = record f { next = Some (after number); progress = progress.Fresh; count = 0 }
+another f number false = record f {
+  next = Some (after number);
+  progress = progress.Fresh;
+  count = 0;
+}
 
 -- what a frame is that is not taken
 abbrev pub passed : Option ℕ → Option Side → ℕ → Bool → List ℕ → Came
@@ -125,8 +130,8 @@ taken_on f side number follows info =
     let kept = with_segment f.progress side f info in
     (came_of kept follows, another kept number follows)
 
--- A frame that comes: one that came before is not taken again, and the next one is taken; another one begins anew where it
--- begins an APDU.
+-- A frame that arrives: one that came before is not taken again, and the next one is taken; another one starts over if it begins an
+-- APDU.
 abbrev pub taken : Following → Option Side → ℕ → Bool → List ℕ → Came × Following
 taken f side number follows info =
     if is_again f.next number then (came.Again, f)
@@ -134,9 +139,10 @@ taken f side number follows info =
     else if is_some (behind_llc side info) then taken_on (begun None) side number follows info
     else (came.OutOfTurn, f)
 
--- The frame is taken, and its octets are joined: to those before it, or where it is out of turn to none.
+-- The frame is taken, and its octets are joined: to those before it, or to none if it is out of turn.
 abbrev pub goes_on : Following → ℕ → Following
 goes_on f number = if is_next f.next number then f else begun None
 
 abbrev pub JoinsFrame : Following → Option Side → ℕ → List ℕ → Type 0
-JoinsFrame f side number info = (is_again f.next number ≡ false) × JoinsSegment (goes_on f number).progress side (goes_on f number) info
+JoinsFrame f side number info = (is_again f.next number ≡ false)
+    × JoinsSegment (goes_on f number).progress side (goes_on f number) info

@@ -1,4 +1,4 @@
--- What is kept of the services of a talk, from one APDU to the next.
+-- The state of the services of a session, from one APDU to the next.
 use Rattle.std.specs.Prelude.{◌≡◌, ◌<◌, length, Bool, true, false, Option, Some, None}
 use Rattle.dlms_blocks.specs.Coming.{first_answer, first_after, more_answer, more_after}
 use Rattle.dlms_blocks.specs.Joining.{is_next}
@@ -27,17 +27,31 @@ idle raw = record { transfers = none; asked = None; raw = raw }
 abbrev pub unasked : {A : Type 0} → Services A → Services A
 unasked s = record s { asked = None }
 
--- The transfers behind a request. A first block begins a value of what its request names, a further one goes on with it; a GET
--- of another value ends the one that is read in blocks, and neither a SET nor an ACTION does.
+-- The transfers after a request. A first block begins a value of the object that its request names, a further one continues it; a
+-- GET of another value ends the one that is read in blocks, and neither a SET nor an ACTION does.
 abbrev pub transfers_behind : {A : Type 0} → TwoTransfers → Request A → TwoTransfers
 transfers_behind t (GetNormal invoke d s) = dropped t
-transfers_behind t (SetFirst invoke d s last n raw) = record t { put = first_after last n raw.now; put_of = asks invoke d false }
-transfers_behind t (SetBlock invoke last n raw) = record t { put = more_after t.put.taken t.put last n raw.now; put_of = of_service t.put_of invoke false }
-transfers_behind t (ActionFirst invoke d last n raw) = record t { put = first_after last n raw.now; put_of = asks invoke d true }
-transfers_behind t (ActionBlock invoke last n raw) = record t { put = more_after t.put.taken t.put last n raw.now; put_of = of_service t.put_of invoke true }
+transfers_behind t (SetFirst invoke d s last n raw) = record t {
+  put = first_after last n raw.now;
+  put_of = asks invoke d false;
+}
+transfers_behind t (SetBlock invoke last n raw) =
+    record t {
+      put = more_after t.put.taken t.put last n raw.now;
+      put_of = of_service t.put_of invoke false;
+    }
+transfers_behind t (ActionFirst invoke d last n raw) = record t {
+  put = first_after last n raw.now;
+  put_of = asks invoke d true;
+}
+transfers_behind t (ActionBlock invoke last n raw) =
+    record t {
+      put = more_after t.put.taken t.put last n raw.now;
+      put_of = of_service t.put_of invoke true;
+    }
 transfers_behind t _ = t
 
--- what is awaited behind it: what it names, or what the value is of that it goes on with
+-- the object awaited after it: the one that it names, or that of the value which it continues
 abbrev pub awaited_behind : {A : Type 0} → TwoTransfers → Request A → Option Asked
 awaited_behind t (GetNext invoke n) = of_invoke t.got_of invoke
 awaited_behind t (SetBlock invoke last n raw) = of_service t.put_of invoke false
@@ -45,34 +59,43 @@ awaited_behind t (ActionBlock invoke last n raw) = of_service t.put_of invoke tr
 awaited_behind t request = asked_of request
 
 abbrev pub behind_request : {A : Type 0} → Services A → Request A → Services A
-behind_request s request = record s { transfers = transfers_behind s.transfers request; asked = awaited_behind s.transfers request }
+behind_request s request = record s {
+  transfers = transfers_behind s.transfers request;
+  asked = awaited_behind s.transfers request;
+}
 
 -- what a request's block is among those before it
 abbrev pub put_joined : {A : Type 0} → TwoTransfers → Request A → Option Joined
 put_joined t (SetFirst invoke d s last n raw) = Some (put_answer (first_answer last n raw.now))
-put_joined t (SetBlock invoke last n raw) = Some (put_answer (more_answer t.put.taken t.put.joined last n raw.now))
+put_joined t (SetBlock invoke last n raw) =
+    Some (put_answer (more_answer t.put.taken t.put.joined last n raw.now))
 put_joined t (ActionFirst invoke d last n raw) = Some (put_answer (first_answer last n raw.now))
-put_joined t (ActionBlock invoke last n raw) = Some (put_answer (more_answer t.put.taken t.put.joined last n raw.now))
+put_joined t (ActionBlock invoke last n raw) =
+    Some (put_answer (more_answer t.put.taken t.put.joined last n raw.now))
 put_joined t _ = None
 
--- Behind a response nothing is awaited. The block of number 1 begins a value of what was asked for.
-abbrev pub transfers_behind_response : {A : Type 0} → TwoTransfers → Option Asked → Response A → TwoTransfers
-transfers_behind_response t asked (answer.GetBlock invoke last n raw) = record t { got = got_after (begun t.got n) last n raw.now; got_of = read_of t asked invoke n }
+-- After a response nothing is awaited. The block with number 1 begins a value of the requested object.
+abbrev pub transfers_behind_response : {A : Type 0} → TwoTransfers → Option Asked → Response A
+    → TwoTransfers
+transfers_behind_response t asked (answer.GetBlock invoke last n raw) =
+    record t { got = got_after (begun t.got n) last n raw.now; got_of = read_of t asked invoke n }
 transfers_behind_response t asked _ = t
 
 abbrev pub behind_response : {A : Type 0} → Services A → Response A → Services A
-behind_response s response = record s { transfers = transfers_behind_response s.transfers s.asked response; asked = None }
+behind_response s response =
+    record s { transfers = transfers_behind_response s.transfers s.asked response; asked = None }
 
 -- a response is the next block of the value under way, and has octets to be joined
 abbrev pub JoinsBlock : {A : Type 0} → TwoTransfers → Response A → Type 0
-JoinsBlock t (answer.GetBlock invoke last n raw) = (is_next (begun t.got n) n ≡ true) × (0 < length raw.now)
+JoinsBlock t (answer.GetBlock invoke last n raw) = (is_next (begun t.got n) n ≡ true)
+    × (0 < length raw.now)
 JoinsBlock t _ = ⊥
 
 abbrev pub got_joined : {A : Type 0} → TwoTransfers → Response A → Option Joined
 got_joined t (answer.GetBlock invoke last n raw) = Some (got_answer (begun t.got n) last n raw.now)
 got_joined t _ = None
 
--- Behind a request of another form nothing goes on in blocks, and what it asks for is awaited; behind such a response nothing is.
+-- After a request of another form no transfer continues, and its object is awaited; after such a response nothing is.
 abbrev pub heard_as : {A : Type 0} → Role → Services A → Survey → Services A
 heard_as Asks s survey = record (idle s.raw) { asked = asked_by survey }
 heard_as Answers s survey = unasked s

@@ -1,4 +1,4 @@
--- What the fields of an APDU name.
+-- The objects that the fields of an APDU name.
 use Rattle.std.specs.Prelude.{◌≡◌, ◌⊎◌, ℕ, ◌+◌, ◌*◌, ◌==◌, nat_le, if◌then◌else◌, Bool, true, false, List, [], ◌∷◌, Option, Some, None}
 use Rattle.dlms_dissect.specs.Secrets.{secrecy_at}
 use Rattle.dlms_dissect.specs.Walk.{Spells, Told, is_field, is_list}
@@ -27,7 +27,14 @@ chief (Some one) other = if nat_le (rank other) (rank one) then Some one else So
 -- class-id, instance-id, attribute-id or method-id
 abbrev pub name_at : List ℕ → Bool → Option Named
 name_at (high ∷ low ∷ a ∷ b ∷ c ∷ d ∷ e ∷ f ∷ id ∷ rest) method =
-    Some (record { descriptor = record { class = high * 256 + low; name = a ∷ b ∷ c ∷ d ∷ e ∷ f ∷ []; id = id }; method = method })
+    Some (record {
+      descriptor = record {
+        class = high * 256 + low;
+        name = a ∷ b ∷ c ∷ d ∷ e ∷ f ∷ [];
+        id = id;
+      };
+      method = method;
+    })
 name_at _ method = None
 
 abbrev pub access_name_at : List ℕ → Option Named
@@ -78,8 +85,7 @@ abbrev pub Names : List Told → Named → Type 0
 Names [] n = ⊥
 Names (t ∷ ts) n = (named_by t ≡ Some n) ⊎ Names ts n
 
--- what is known of the values of an APDU, by the one of what it names of which most is kept secret; it names nothing: they may be
--- secrets
+-- the secrecy of the values of an APDU, by the most secret object that it names; if it names none, they may be secrets
 abbrev pub secrecy_of_named : Option Named → Secrecy
 secrecy_of_named None = Unknown
 secrecy_of_named (Some n) = secrecy_at n

@@ -1,4 +1,4 @@
--- What is told of a value that may be a secret, or hold one.
+-- The report of a value that may be a secret, or contain one.
 use Rattle.std.specs.Prelude.{◌≡◌, length}
 use Rattle.dlms_data.specs.Value.{count}
 use Rattle.dlms_data.specs.declared.data.Data.{Data}

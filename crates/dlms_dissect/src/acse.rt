@@ -1,4 +1,4 @@
-//! What the fields of an association's APDUs name beside what the meter's readers tell. No octet of a secret stands in it.
+//! The fields of an association's APDUs that the meter's readers do not return. They contain no octet of a secret.
 
 ghost use Rattle.std.specs.Prelude.{◌≡◌, ◌<◌, length, option_map, IfSome};
 ghost use Rattle.dlms_dissect.specs.Acse.{IsFound, counted_at, field_at, is_counted, object_number, requires_authentication, title_in};
@@ -12,7 +12,7 @@ pub struct Acse<'a> {
     pub context: Option<u8>,
     /// The number of the mechanism.
     pub mechanism: Option<u8>,
-    /// Whether authentication is required, where a requirement is named.
+    /// Whether authentication is required, if a requirement is named.
     pub requirement: Option<bool>,
     pub called_title: Option<&'a [u8]>,
     pub calling_title: Option<&'a [u8]>,
@@ -32,7 +32,7 @@ pub struct CipheredInitiate {
     pub len: usize,
 }
 
-/// What a length counts, and what stands behind that.
+/// The content of a length, and the bytes after that.
 fn counted_at(bytes: &[u8]) -> Option<(&[u8], &[u8])>
     ensures exact { option_map (λ r. (r.0.now, r.1.now)) result ≡ counted_at bytes.now }
     ensures shorter { IfSome result (λ r. length r.1.now < length bytes.now) }
@@ -49,7 +49,7 @@ fn counted_at(bytes: &[u8]) -> Option<(&[u8], &[u8])>
     Some((&rest[..number], &rest[number..]))
 }
 
-/// The field at the front: its tag, its value, and what stands behind it.
+/// The field at the front: its tag, its value, and the bytes after it.
 pub fn field_at(bytes: &[u8]) -> Option<(u8, &[u8], &[u8])>
     ensures exact { option_map (λ r. (r.0, r.1.now, r.2.now)) result ≡ field_at bytes.now }
     ensures shorter { IfSome result (λ r. length r.2.now < length bytes.now) }
@@ -59,7 +59,7 @@ pub fn field_at(bytes: &[u8]) -> Option<(u8, &[u8], &[u8])>
     Some((*tag, value, behind))
 }
 
-/// The value of the first field with this tag, where only fields stand before it.
+/// The value of the first field with this tag, if only fields come before it.
 fn find(fields: &[u8], tag: u8) -> Option<&[u8]>
     ensures { IsFound tag fields.now (option_map (λ value. value.now) result) }
 {
@@ -73,7 +73,7 @@ fn find(fields: &[u8], tag: u8) -> Option<&[u8]>
     None
 }
 
-/// Whether the length behind the tag counts all that stands behind it (BER: no APDU of an association is without).
+/// Whether the length after the tag counts all bytes after it (BER: every APDU of an association has one).
 pub fn is_counted(bytes: &[u8]) -> bool
     ensures { result ≡ is_counted bytes.now }
 {
@@ -83,7 +83,7 @@ pub fn is_counted(bytes: &[u8]) -> bool
     }
 }
 
-/// The last number of a name that begins as those of DLMS UA do, with this kind behind it.
+/// The last number of a name that begins like those of DLMS UA, followed by this kind.
 fn object_number(name: &[u8], kind: u8) -> Option<u8>
     ensures { result ≡ object_number name.now kind }
 {
@@ -114,7 +114,7 @@ fn requires_authentication(value: &[u8]) -> Option<bool>
     }
 }
 
-/// The security header of a ciphered initiate request (21) or response (28), and how many octets stand behind it.
+/// The security header of a ciphered initiate request (21) or response (28), and the number of octets after it.
 fn ciphered_in(user: &[u8]) -> Option<CipheredInitiate> {
     let apdu = title_in(user)?;
     let (tag, ciphered, _) = field_at(apdu)?;
@@ -136,7 +136,7 @@ fn outcome_in(value: &[u8]) -> Option<u8> {
     }
 }
 
-/// What the one field with this tag counts.
+/// The content of the one field with this tag.
 fn behind_tag(value: &[u8], tag: u8) -> Option<&[u8]> {
     match field_at(value) {
         Some((found, content, _)) if found == tag => Some(content),
@@ -144,7 +144,7 @@ fn behind_tag(value: &[u8], tag: u8) -> Option<&[u8]> {
     }
 }
 
-/// The application context that stands in the fields.
+/// The application context in the fields.
 fn context_of(fields: &[u8]) -> Option<u8> {
     object_number(behind_tag(find(fields, 0xa1)?, 0x06)?, 1)
 }
@@ -164,17 +164,17 @@ fn title_of(fields: &[u8], tag: u8) -> Option<&[u8]> {
     title_in(find(fields, tag)?)
 }
 
-/// The result that stands in the fields.
+/// The result in the fields.
 fn outcome_of(fields: &[u8]) -> Option<u8> {
     outcome_in(find(fields, 0xa2)?)
 }
 
-/// The ciphered initiate request or response that stands in the fields.
+/// The ciphered initiate request or response in the fields.
 fn ciphered_of(fields: &[u8]) -> Option<CipheredInitiate> {
     ciphered_in(find(fields, 0xbe)?)
 }
 
-/// What an association request or response names.
+/// The content of an association request or response.
 pub fn acse_of(bytes: &[u8]) -> Acse<'_> {
     let fields = match field_at(bytes) {
         Some((_, fields, _)) => fields,

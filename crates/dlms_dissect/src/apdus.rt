@@ -1,4 +1,4 @@
-//! What an APDU is.
+//! The kinds of APDUs.
 
 ghost use Rattle.std.specs.Prelude.{◌≡◌, ◌⊎◌, IfOk, IsErr, get_or};
 ghost use Rattle.dlms_dissect.specs.Acse.{is_counted};
@@ -68,12 +68,12 @@ fn reason(bytes: &[u8]) -> Option<u8>
     }
 }
 
-/// What is told of a release whose length does not count what stands behind it.
+/// The report of a release whose length does not count the bytes after it.
 fn uncounted<'a, A: Allocator>() -> Apdu<'a, A>
     ensures { IsUncounted result }
 {
     Apdu::Unreadable(Fault {
-        words: "no length counts what stands behind it",
+        words: "no length counts the bytes after it",
         octet: 2,
     })
 }
@@ -154,8 +154,8 @@ fn response<A: Allocator + Copy>(alloc: A, bytes: &[u8]) -> Result<Apdu<'_, A>, 
     }
 }
 
-/// Reads an APDU from this side. Its first octet says which reader is asked; an octet that names no APDU is refused by the
-/// reader of the side's services. Want of memory is told only of a request or a response that holds a value which needs some.
+/// Reads an APDU from this side. Its first octet selects the reader; an octet that names no APDU is refused by the reader of the
+/// side's services. Out of memory is reported only of a request or a response with a value that needs some.
 pub fn read_apdu<A: Allocator + Copy>(
     alloc: A,
     side: Option<Side>,

@@ -6,7 +6,7 @@ ghost use Rattle.dlms_dissect.specs.Association.{told_of};
 
 use dlms_acse::{Aarq, Initiate, Mechanism};
 
-/// What is told of an association request: all of it but its secret, of which it says only whether one is there.
+/// The reported content of an association request: everything except its secret, of which it only states whether there is one.
 #[derive(Clone, Copy)]
 pub struct Association {
     /// Whether the application context is the one with logical names and without ciphering.
@@ -15,11 +15,12 @@ pub struct Association {
     pub mechanism: Mechanism,
     /// Whether there is a secret that is readable.
     pub has_secret: bool,
-    /// The initiate request; none where it is absent or unreadable.
+    /// The initiate request; none if it is absent or unreadable.
     pub initiate: Option<Initiate>,
 }
 
-/// What is told of a request. Two that differ in their secrets alone are told alike (`laws::secrets_are_told_alike`).
+/// The reported content of a request. Two requests that differ only in their secrets have the same report
+/// (`laws::secrets_are_told_alike`).
 pub fn without_secret(request: &Aarq) -> Association
     ensures { result ≡ told_of (request_of request.now) }
 {

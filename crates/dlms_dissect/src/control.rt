@@ -4,7 +4,7 @@ ghost use Rattle.std.specs.Prelude.{◌≡◌};
 ghost use Rattle.dlms_dissect.specs.Control.{has_poll, control_of, unnumbered_of};
 ghost use Rattle.dlms_dissect.specs.Names.{control_name};
 
-/// What a control field says (IEC 62056-46, the control field): which frame it is, with its numbers, whether or not its poll
+/// The meaning of a control field (IEC 62056-46, the control field): the kind of frame, with its numbers, whether or not its poll
 /// bit is set.
 #[derive(Clone, Copy)]
 pub enum Control {

@@ -30,7 +30,7 @@ pub enum Field {
     Parameter,
     /// A value, or a Data-Access-Result.
     GetResult,
-    /// An Action-Result, and behind it what the method returns, if it does.
+    /// An Action-Result, followed by the method's return value, if it has one.
     Return,
     /// A Data-Access-Result.
     AccessResult,
@@ -48,9 +48,9 @@ pub enum Field {
     OptionalTime,
     /// A system title.
     Title,
-    /// Octets of which the length is told.
+    /// Octets whose length is reported.
     Octets,
-    /// What is ciphered, behind its security header.
+    /// Ciphered octets, after their security header.
     Ciphered,
     /// The information on a key, which may be absent.
     Key,
@@ -62,9 +62,9 @@ pub enum Field {
     AccessDone,
     /// A variable by its short name.
     ShortName,
-    /// What a read by short names gives.
+    /// The result of a read by short names.
     ShortData,
-    /// What a write by short names gives.
+    /// The result of a write by short names.
     ShortResult,
 }
 
@@ -122,7 +122,7 @@ fn result_at(bytes: &[u8]) -> Option<Front>
     }
 }
 
-/// A result, and 00, or 01 and what is returned.
+/// A result, and 00, or 01 and the return value.
 fn return_at(bytes: &[u8]) -> Option<Front>
     ensures { result ≡ return_at bytes.now }
 {
@@ -134,7 +134,7 @@ fn return_at(bytes: &[u8]) -> Option<Front>
     }
 }
 
-/// A state-error and a service-error, behind which an invocation counter stands where that is what is wrong.
+/// A state-error and a service-error, followed by an invocation counter if that is the error.
 fn exception_at(bytes: &[u8]) -> Option<Front>
     ensures { result ≡ exception_at bytes.now }
 {
@@ -166,7 +166,7 @@ fn optional_text(bytes: &[u8]) -> Option<Front>
     }
 }
 
-/// An agreed key: its parameters, and what is ciphered of it.
+/// An agreed key: its parameters, and its ciphered part.
 fn agreed_at(bytes: &[u8]) -> Option<Front>
     ensures { result ≡ agreed_at bytes.now }
 {
@@ -211,7 +211,7 @@ fn ciphered_at(bytes: &[u8]) -> Option<Front>
     text_behind(0, bytes)
 }
 
-/// What an access does and of what: 01 gets, 02 sets, 03 acts, 04 and 05 get and set with a selection.
+/// The kind of an access: 01 gets, 02 sets, 03 acts, 04 and 05 get and set with a selection.
 fn access_at(bytes: &[u8]) -> Option<Front>
     ensures { result ≡ access_at bytes.now }
 {
@@ -233,7 +233,7 @@ fn short_name_at(bytes: &[u8]) -> Option<Front>
     }
 }
 
-/// What is read: 00 and a value, 01 and an error, 02 and a block, 03 and the number of one.
+/// The result of a read: 00 and a value, 01 and an error, 02 and a block, 03 and the number of one.
 fn short_data_at(bytes: &[u8]) -> Option<Front>
     ensures { result ≡ short_data_at bytes.now }
 {
@@ -246,7 +246,7 @@ fn short_data_at(bytes: &[u8]) -> Option<Front>
     }
 }
 
-/// What is written: 00, 01 and an error, 02 and the number of a block.
+/// The result of a write: 00, 01 and an error, 02 and the number of a block.
 fn short_result_at(bytes: &[u8]) -> Option<Front>
     ensures { result ≡ short_result_at bytes.now }
 {
@@ -258,8 +258,8 @@ fn short_result_at(bytes: &[u8]) -> Option<Front>
     }
 }
 
-/// The field at the front: how many octets it has of its own, and how many values stand behind these in it. Whether so many
-/// octets are there is not asked.
+/// The field at the front: the number of its own octets, and the number of values after these in it. It is not checked whether
+/// there are that many octets.
 pub fn front_at(field: Field, bytes: &[u8]) -> Option<Front>
     ensures { result ≡ front_at field bytes.now }
 {

@@ -17,7 +17,7 @@ use crate::survey::{Survey, survey_of};
 use crate::walk::{Event, Walk};
 use arrayvec::ArrayVec;
 
-/// How many levels of values are told apart: what is deeper is told at the last one.
+/// The number of levels of values that are distinguished: deeper ones are reported at the last one.
 const MOST_LEVELS: usize = 64;
 
 /// Such an APDU.
@@ -29,7 +29,7 @@ pub struct Foreign<'a> {
     fields: &'a [u8],
 }
 
-/// What an APDU does in a talk.
+/// The role of an APDU in a session.
 #[derive(Clone, Copy)]
 pub enum Role {
     /// It asks for an answer.
@@ -42,7 +42,7 @@ pub enum Role {
     Says,
 }
 
-/// What an APDU with this tag does.
+/// The role of an APDU with this tag.
 fn role_of(tag: u8) -> Role
     ensures { result ≡ role_of tag }
 {
@@ -70,14 +70,14 @@ pub fn read_foreign(bytes: &[u8]) -> Option<Foreign<'_>>
 }
 
 impl<'a> Foreign<'a> {
-    /// What it does in a talk.
+    /// Its role in a session.
     pub fn role(self) -> Role
         ensures { result ≡ role_of self.entry.tag }
     {
         role_of(self.tag)
     }
 
-    /// What it asks for: of several the one of which most is kept secret.
+    /// The object that it asks for; if there are several, the most secret one.
     pub fn asked(self) -> Option<Asked>
         ensures { result ≡ asked_by self.entry.survey }
     {
@@ -87,15 +87,15 @@ impl<'a> Foreign<'a> {
         }
     }
 
-    /// How many of its octets stand from the first field on that is told by its length or not at all, where this is known of its
-    /// values. Those before may stand beside what is told of it (`laws::no_octet_beside_a_secret`).
+    /// The number of its octets from the first field on that is reported by its length or not at all, given this secrecy of its
+    /// values. Those before may be shown beside the report (`laws::no_octet_beside_a_secret`).
     pub fn closed(self, secrecy: Secrecy) -> usize
         ensures { Leaves secrecy self.entry.form.steps.now self.entry.fields.now result }
     {
         left_of(secrecy, Walk::new(self.form.steps, self.fields))
     }
 
-    /// Its fields, one after another, where this is known of its values.
+    /// Its fields, one after another, given this secrecy of its values.
     pub fn telling(self, secrecy: Secrecy) -> Telling<'a>
         ensures { result.secrecy ≡ secrecy }
     {
@@ -112,11 +112,11 @@ impl<'a> Foreign<'a> {
 pub struct Telling<'a> {
     walk: Walk<'a>,
     secrecy: Secrecy,
-    /// Of each value whose own ones are under way, how many others were to come behind it.
+    /// For each value whose inner values are being reported, the number of values still to come after it.
     levels: ArrayVec<usize, MOST_LEVELS>,
 }
 
-/// What is left behind the values that stand in one, where so many are to come behind it.
+/// The rest after the values inside one, if this many follow it.
 fn behind_values<'a>(walk: Walk<'a>, others: usize) -> Walk<'a> {
     let mut left = walk;
     'inner: while left.values > others && !left.is_done() {
@@ -144,7 +144,7 @@ fn has_level(event: Event<'_>) -> bool {
     )
 }
 
-/// Ends the levels whose values are all told, where so many values are to come.
+/// Ends the levels whose values are all reported, if this many values follow.
 fn close(levels: &mut ArrayVec<usize, MOST_LEVELS>, values: usize) {
     for _ in 0..MOST_LEVELS {
         match levels.last() {
@@ -156,7 +156,7 @@ fn close(levels: &mut ArrayVec<usize, MOST_LEVELS>, values: usize) {
 }
 
 impl<'a> Telling<'a> {
-    /// The next field, and in how many others it stands. Of a secret's own values none is told.
+    /// The next field, and its depth. The inner values of a secret are not reported.
     pub fn next(&mut self) -> Option<(usize, Item<'a>)>
         ensures shown { IfSome result (λ r. (event : Event) × IsItem self.old.secrecy event r.1) }
         ensures secrecy { self.new.secrecy ≡ self.old.secrecy }
@@ -181,9 +181,10 @@ impl<'a> Telling<'a> {
     }
 }
 
-/// At which octet, counted from 1, an APDU does not fit its form, where its first octets name one of the standard's.
+/// The octet, counted from 1, at which an APDU does not fit its form, if its first octets name one of the standard's.
 pub fn misfit(bytes: &[u8]) -> Option<(Form, usize)>
-    ensures { option_map (λ found. row_of found.0) result ≡ option_map (λ found. found.0) (form_at bytes.now) }
+    ensures { option_map (λ found. row_of found.0) result ≡ option_map (λ found. found.0)
+        (form_at bytes.now) }
 {
     let (form, fields) = form_at(bytes)?;
     let mut left = Walk::new(form.steps, fields);

@@ -127,7 +127,7 @@ fn chosen_form(number: u16) -> Option<Form>
     form_in(&CHOSEN, number)
 }
 
-/// The form of an APDU with this tag, where no choice follows it.
+/// The form of an APDU with this tag, if no choice follows it.
 fn plain_form(tag: u8) -> Option<Form>
     ensures { option_map row_of result ≡ form_in plain_forms tag }
 {

@@ -5,7 +5,7 @@ ghost use Rattle.dlms_dissect.specs.Heading.{heading_of};
 
 use dlms_frame::{Address, Frame};
 
-/// What is told of a frame beside its information.
+/// The reported content of a frame besides its information.
 #[derive(Clone, Copy)]
 pub struct Heading {
     pub segmented: bool,

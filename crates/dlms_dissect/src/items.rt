@@ -1,4 +1,4 @@
-//! What is told of a field: no octet of a secret, of a block or of what is ciphered stands in it.
+//! The reported content of a field: it has no octet of a secret, of a block or of ciphered content.
 
 ghost use Rattle.std.specs.Prelude.{◌≡◌, ◌≤◌, drop};
 ghost use Rattle.dlms_dissect.specs.Items.{Ciphers, IsItem, IsShown, block_of, has_block, is_string, number_behind, tag_of};
@@ -8,7 +8,7 @@ use crate::nodes::length_at;
 use crate::secrecy::Secrecy;
 use crate::walk::Event;
 
-/// What is told of a value, without the values that it holds.
+/// The reported content of a value, without its inner values.
 #[derive(Clone, Copy)]
 pub enum Shown<'a> {
     /// It is a secret.
@@ -19,12 +19,12 @@ pub enum Shown<'a> {
     Open(&'a [u8]),
 }
 
-/// What is told of a field.
+/// The reported content of a field.
 #[derive(Clone, Copy)]
 pub enum Item<'a> {
     /// Its octets.
     Plain(Field, &'a [u8]),
-    /// A list of so many.
+    /// A list of this many.
     List(Field, u32),
     /// A value.
     Value(Shown<'a>),
@@ -36,7 +36,7 @@ pub enum Item<'a> {
     },
     /// So many octets.
     Length(Field, u32),
-    /// What is ciphered: the security control, the invocation counter, and how many octets.
+    /// Ciphered content: the security control, the invocation counter, and the number of octets.
     Ciphered {
         control: u8,
         counter: u32,
@@ -61,7 +61,7 @@ pub fn is_string(tag: u8) -> bool
     matches!(tag, 4 | 9 | 10 | 12 | 19)
 }
 
-/// The number of the length behind so many octets; 0 where none stands there.
+/// The number of the length after this many octets; 0 if there is none.
 fn number_behind(before: usize, octets: &[u8]) -> u32
     ensures { result ≡ number_behind before octets.now }
 {
@@ -74,7 +74,7 @@ fn number_behind(before: usize, octets: &[u8]) -> u32
     }
 }
 
-/// What is shown of a value.
+/// The reported content of a value.
 fn show(secrecy: Secrecy, octets: &[u8]) -> Shown<'_>
     ensures { IsShown secrecy octets.now result }
 {
@@ -95,7 +95,7 @@ fn show(secrecy: Secrecy, octets: &[u8]) -> Shown<'_>
     }
 }
 
-/// A block, whose octets stand behind so many others.
+/// A block whose octets come after this many others.
 fn block_of<'a>(octets: &[u8], before: usize) -> Item<'a>
     ensures { result ≡ block_of octets.now before }
 {
@@ -110,7 +110,7 @@ fn block_of<'a>(octets: &[u8], before: usize) -> Item<'a>
     }
 }
 
-/// What is ciphered, behind its length and its security header.
+/// Ciphered content, after its length and its security header.
 fn ciphered<'a>(octets: &[u8]) -> Item<'a>
     ensures { Ciphers octets.now result }
 {
@@ -129,7 +129,7 @@ fn ciphered<'a>(octets: &[u8]) -> Item<'a>
     }
 }
 
-/// Whether a block stands in a field, and not a result.
+/// Whether a field contains a block, and not a result.
 pub fn has_block(octets: &[u8]) -> bool
     ensures { result ≡ has_block octets.now }
 {
@@ -139,7 +139,7 @@ pub fn has_block(octets: &[u8]) -> bool
     }
 }
 
-/// What is told of a field, where this is known of the values of its APDU.
+/// The reported content of a field, given this secrecy of the values of its APDU.
 pub fn item_of<'a>(secrecy: Secrecy, event: Event<'a>) -> Item<'a>
     ensures { IsItem secrecy event.entry result }
 {

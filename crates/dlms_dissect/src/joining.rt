@@ -18,7 +18,7 @@ use std::marker::Model;
 /// The most octets of a value that is read in blocks.
 pub const MOST_VALUE: usize = 65_536;
 
-/// What a block is among those before it.
+/// The position of a block among those before it.
 #[derive(Clone, Copy)]
 pub enum Joined {
     /// The next one; others are to follow.
@@ -31,7 +31,7 @@ pub enum Joined {
     TooLong,
 }
 
-/// The transfers of both directions, each with what it is of, from its first block on.
+/// The transfers of both directions, each with its object, from its first block on.
 #[derive(Drop)]
 pub struct Transfers<A: Allocator> {
     got: GetIn<A>,
@@ -48,7 +48,7 @@ impl<A: Allocator> Model for Transfers<A> {
     ghost view = { λ t. record { got = t.got; got_of = t.got_of; put = t.put; put_of = t.put_of } };
 }
 
-/// What a step of a value to set is.
+/// The position of a block by its step.
 fn joined_of(step: Result<PutStep, u8>) -> Joined
     ensures { result ≡ put_answer step }
 {
@@ -81,8 +81,8 @@ impl<A: Allocator + Copy> Transfers<A> {
         self.got_of = None;
     }
 
-    /// A block of a value that is read, in an APDU of this invoke-id-and-priority. The block of number 1 begins a value, which is
-    /// what was asked for, where that is known. Where memory is refused, the blocks before this one stay.
+    /// A block of a value that is read, in an APDU with this invoke-id-and-priority. The block with number 1 begins a value, of the
+    /// requested object, if that is known. If memory is refused, the blocks before this one stay.
     pub fn get(
         &mut self,
         alloc: A,
@@ -92,10 +92,19 @@ impl<A: Allocator + Copy> Transfers<A> {
         number: u32,
         raw: &[u8],
     ) -> Result<Joined, AllocError>
-        ensures answer { IfOk result (λ joined. joined ≡ got_answer (begun self.old.got number) last number raw.now) }
-        ensures after { IfOk result (λ joined. self.new ≡ record self.old { got = got_after (begun self.old.got number) last number raw.now; got_of = read_of self.old asked invoke number }) }
-        ensures err { OnErr result (self.new ≡ record self.old { got = begun self.old.got number; got_of = read_of self.old asked invoke number }) }
-        ensures memory { OnErr result ((is_next (begun self.old.got number) number ≡ true) × (0 < length raw.now)) }
+        ensures answer { IfOk result (λ joined. joined ≡ got_answer
+            (begun self.old.got number) last number raw.now) }
+        ensures after { IfOk result (λ joined. self.new ≡ record self.old {
+          got = got_after
+              (begun self.old.got number) last number raw.now;
+          got_of = read_of self.old asked invoke number;
+        }) }
+        ensures err { OnErr result (self.new ≡ record self.old {
+          got = begun self.old.got number;
+          got_of = read_of self.old asked invoke number;
+        }) }
+        ensures memory { OnErr result ((is_next (begun self.old.got number) number ≡ true)
+            × (0 < length raw.now)) }
     {
         if number == 1 {
             self.got = GetIn::new(alloc);
@@ -113,10 +122,13 @@ impl<A: Allocator + Copy> Transfers<A> {
         }
     }
 
-    /// The first block of a value to set or of a parameter, and what it is of.
+    /// The first block of a value to set or of a parameter, and its object.
     pub fn put_first(&mut self, asked: Option<Asked>, last: bool, number: u32, raw: &[u8]) -> Joined
         ensures answer { result ≡ put_answer (first_answer last number raw.now) }
-        ensures after { self.new ≡ record self.old { put = first_after last number raw.now; put_of = asked } }
+        ensures after { self.new ≡ record self.old {
+          put = first_after last number raw.now;
+          put_of = asked;
+        } }
     {
         self.put_of = asked;
         joined_of(self.put.first(last, number, raw))
@@ -131,21 +143,25 @@ impl<A: Allocator + Copy> Transfers<A> {
         number: u32,
         raw: &[u8],
     ) -> Joined
-        ensures answer { result ≡ put_answer (more_answer self.old.put.taken self.old.put.joined last number raw.now) }
-        ensures after { self.new ≡ record self.old { put = more_after self.old.put.taken self.old.put last number raw.now; put_of = of_service self.old.put_of invoke method } }
+        ensures answer { result ≡ put_answer
+            (more_answer self.old.put.taken self.old.put.joined last number raw.now) }
+        ensures after { self.new ≡ record self.old {
+          put = more_after self.old.put.taken self.old.put last number raw.now;
+          put_of = of_service self.old.put_of invoke method;
+        } }
     {
         self.put_of = of_service(self.put_of, invoke, method);
         joined_of(self.put.more(last, number, raw))
     }
 
-    /// What the value is of that is read in blocks, where an APDU of this invoke-id-and-priority goes on with it.
+    /// The object of the value that is read in blocks, if an APDU with this invoke-id-and-priority continues it.
     pub fn got_of(&self, invoke: u8) -> Option<Asked>
         ensures { result ≡ of_invoke self.now.got_of invoke }
     {
         of_invoke(self.got_of, invoke)
     }
 
-    /// What the value to set or the parameter is of, where a block in an APDU of this invoke-id-and-priority goes on with it.
+    /// The object of the value to set or of the parameter, if a block in an APDU with this invoke-id-and-priority continues it.
     pub fn put_of(&self, invoke: u8, method: bool) -> Option<Asked>
         ensures { result ≡ of_service self.now.put_of invoke method }
     {
@@ -166,11 +182,13 @@ impl<A: Allocator + Copy> Transfers<A> {
         self.put.bytes().len()
     }
 
-    /// What is told of a value that is read, where its last block came; where `raw` is set, strings that may be a secret are told
-    /// as they are.
+    /// The reported content of a value that was read, after its last block; with `raw`, strings that may be a secret are shown as
+    /// they are.
     pub fn got_whole(&self, alloc: A, raw: bool) -> Result<Whole<A>, AllocError>
-        ensures told { IfOk result (IsToldOfWhole (told_as raw (secrecy_of self.now.got_of)) self.now.got.joined) }
-        ensures memory { OnErr result (WantsMemory (told_as raw (secrecy_of self.now.got_of)) self.now.got.joined) }
+        ensures told { IfOk result (IsToldOfWhole
+            (told_as raw (secrecy_of self.now.got_of)) self.now.got.joined) }
+        ensures memory { OnErr result
+            (WantsMemory (told_as raw (secrecy_of self.now.got_of)) self.now.got.joined) }
     {
         whole_of(
             alloc,
@@ -181,8 +199,10 @@ impl<A: Allocator + Copy> Transfers<A> {
 
     /// The same of a value to set or of a parameter.
     pub fn put_whole(&self, alloc: A, raw: bool) -> Result<Whole<A>, AllocError>
-        ensures told { IfOk result (IsToldOfWhole (told_as raw (secrecy_of self.now.put_of)) self.now.put.joined) }
-        ensures memory { OnErr result (WantsMemory (told_as raw (secrecy_of self.now.put_of)) self.now.put.joined) }
+        ensures told { IfOk result (IsToldOfWhole
+            (told_as raw (secrecy_of self.now.put_of)) self.now.put.joined) }
+        ensures memory { OnErr result
+            (WantsMemory (told_as raw (secrecy_of self.now.put_of)) self.now.put.joined) }
     {
         whole_of(
             alloc,

@@ -1,5 +1,5 @@
-//! What the frames of a line say, as values: which end sends each, what came of its segments and blocks, and the APDU that its
-//! reader gives. What is told of an APDU has no octet of a secret.
+//! The meaning of the frames of a line, as values: the sender of each, the position of its segments and blocks, and the APDU as its
+//! reader returns it. The report of an APDU has no octet of a secret.
 #![tactic(auto)]
 
 mod acse;

@@ -1,4 +1,4 @@
-//! What a line holds.
+//! The content of a line.
 
 ghost use Rattle.std.specs.Prelude.{◌≡◌, ◌<◌, false, length, option_map, IfNone, IfSome};
 ghost use Rattle.std.specs.List.{list_all};
@@ -6,16 +6,16 @@ ghost use Rattle.dlms_dissect.specs.Lines.{IsHeld, IsHeldBehind, IsLogged, IsMar
 
 use crate::parties::Side;
 
-/// What a line holds.
+/// The content of a line.
 #[derive(Clone, Copy)]
 pub enum Line<'a> {
-    /// Pairs of hexadecimal digits, and which end's bytes they are, where the line says it.
+    /// Pairs of hexadecimal digits, and the sender of the bytes, if the line states it.
     Pairs(Option<Side>, &'a [u8]),
-    /// It says whose bytes stand there, and no pairs of hexadecimal digits follow.
+    /// The line states a sender, and no pairs of hexadecimal digits follow.
     NoPairs,
     /// A log's own words, as a time, then one that says whose bytes follow, then pairs of hexadecimal digits.
     Logged(&'a [u8], Side, &'a [u8]),
-    /// `I`: silence, behind which the client's bytes are a new stretch.
+    /// `I`: silence, after which the client's bytes are a new stretch.
     Silence,
     /// `O`: the meter stops and comes back, and knows of no link and no half frame.
     Stop,
@@ -43,7 +43,7 @@ fn is_parting(byte: u8) -> bool
     matches!(byte, b' ' | b'\t' | b'\r' | b':')
 }
 
-/// The byte that the first two digits spell, if two digits stand in front.
+/// The byte of the first two digits, if there are two at the front.
 fn pair(digits: &[u8]) -> Option<u8>
     ensures { result ≡ pair_of digits.now }
 {
@@ -53,7 +53,7 @@ fn pair(digits: &[u8]) -> Option<u8>
     }
 }
 
-/// The byte of the first pair, behind what may stand before it, and what stands behind the pair.
+/// The byte of the first pair, after what may precede it, and the rest after the pair.
 pub fn first_pair(digits: &[u8]) -> Option<(u8, &[u8])>
     ensures found { option_map (λ found. (found.0, found.1.now)) result ≡ first_pair digits.now }
     ensures shorter { IfSome result (λ found. length found.1.now < length digits.now) }
@@ -103,7 +103,7 @@ fn pairs_of(side: Side, digits: &[u8]) -> Line<'_>
     }
 }
 
-/// Whether a word stands in front, in letters of either case.
+/// Whether a word is at the front, in letters of either case.
 fn begins_with(words: &[u8], word: &[u8]) -> bool
     ensures { result ≡ begins_with words.now word.now }
 {
@@ -118,7 +118,7 @@ fn begins_with(words: &[u8], word: &[u8]) -> bool
     }
 }
 
-/// Whose bytes follow, by the word of a log that stands in front.
+/// The sender of the bytes that follow, by a log's word at the front.
 fn mark(words: &[u8]) -> Option<(Side, usize)>
     ensures { result ≡ mark_of_log words.now }
 {
@@ -141,7 +141,7 @@ fn mark(words: &[u8]) -> Option<(Side, usize)>
     }
 }
 
-/// Whose bytes follow, and their pairs, where a word of a log stands in front that says it.
+/// The sender and the pairs of the bytes that follow, if a log's word at the front states it.
 fn marked(words: &[u8]) -> Option<(Side, &[u8])>
     ensures some { IfSome result (λ found. IsMarked words.now found.0 found.1.now) }
     ensures none { IfNone result (is_marked words.now ≡ false) }
@@ -168,7 +168,7 @@ fn logged(line: &[u8]) -> Option<(&[u8], Side, &[u8])>
     None
 }
 
-/// What the line holds where it is no pairs, and no mark stands in front.
+/// The content of the line if it has no pairs and no mark at the front.
 fn worded(line: &[u8]) -> Line<'_>
     ensures { IsWorded line.now result }
 {
@@ -178,7 +178,7 @@ fn worded(line: &[u8]) -> Line<'_>
     }
 }
 
-/// What the line holds.
+/// The content of the line.
 pub fn line_of(line: &[u8]) -> Line<'_>
     ensures { IsHeld line.now result }
 {

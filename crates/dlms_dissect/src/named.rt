@@ -1,4 +1,4 @@
-//! What a service names, and whether that is a secret.
+//! The object that a service names, and whether it is a secret.
 
 ghost use Rattle.std.specs.Prelude.{◌≡◌};
 ghost use Rattle.dlms_dissect.specs.Secrets.{holds_secret, is_association, is_of_association, is_secret};
@@ -14,7 +14,7 @@ pub struct Named {
     pub method: bool,
 }
 
-/// What a request named, with its invoke-id-and-priority.
+/// The object that a request named, with its invoke-id-and-priority.
 #[derive(Clone, Copy)]
 pub struct Asked {
     pub invoke: u8,
@@ -58,7 +58,7 @@ impl Named {
         self.descriptor.class == ASSOCIATION || is_association(self.descriptor.name)
     }
 
-    /// Whether a secret stands there: the attribute or the methods of an Association LN.
+    /// Whether it is a secret: the attribute or the methods of an Association LN.
     pub fn is_secret(self) -> bool
         ensures { result ≡ is_secret self.descriptor self.method }
     {
@@ -71,7 +71,7 @@ impl Named {
         self.is_of_association() && secret
     }
 
-    /// Whether a secret stands there among others: all attributes of an Association LN.
+    /// Whether it contains a secret among others: all attributes of an Association LN.
     pub fn holds_secret(self) -> bool
         ensures { result ≡ holds_secret self.descriptor self.method }
     {
@@ -79,7 +79,7 @@ impl Named {
     }
 }
 
-/// What was asked for, where a further APDU of this invoke-id-and-priority goes on with it.
+/// The requested object, if a further APDU with this invoke-id-and-priority continues it.
 pub fn of_invoke(asked: Option<Asked>, invoke: u8) -> Option<Asked>
     ensures { result ≡ of_invoke asked invoke }
 {

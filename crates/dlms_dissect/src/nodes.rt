@@ -1,4 +1,4 @@
-//! What stands at the front of octets: a length, a value.
+//! The element at the front of octets: a length, a value.
 
 ghost use Rattle.std.specs.Prelude.{◌≡◌, ◌≤◌, ◌<◌, ◌^◌, IfSome};
 ghost use Rattle.std.specs.List.{list_all};
@@ -18,7 +18,7 @@ fn spells(number: u32, octets: usize) -> Option<Length>
     Some(Length { number, octets })
 }
 
-/// A length behind 0x81.
+/// A length after 0x81.
 fn of_one(bytes: &[u8]) -> Option<Length>
     ensures { result ≡ of_one bytes.now }
 {
@@ -28,7 +28,7 @@ fn of_one(bytes: &[u8]) -> Option<Length>
     }
 }
 
-/// A length behind 0x82.
+/// A length after 0x82.
 fn of_two(bytes: &[u8]) -> Option<Length>
     ensures { result ≡ of_two bytes.now }
 {
@@ -38,7 +38,7 @@ fn of_two(bytes: &[u8]) -> Option<Length>
     }
 }
 
-/// A length behind 0x83.
+/// A length after 0x83.
 fn of_three(bytes: &[u8]) -> Option<Length>
     ensures { result ≡ of_three bytes.now }
 {
@@ -51,7 +51,7 @@ fn of_three(bytes: &[u8]) -> Option<Length>
     }
 }
 
-/// A length behind 0x84.
+/// A length after 0x84.
 fn of_four(bytes: &[u8]) -> Option<Length>
     ensures { result ≡ of_four bytes.now }
 {
@@ -64,7 +64,7 @@ fn of_four(bytes: &[u8]) -> Option<Length>
     }
 }
 
-/// A length of more than one octet, behind its first one.
+/// A length of more than one octet, after its first one.
 fn long_length(first: u8, bytes: &[u8]) -> Option<Length>
     ensures { result ≡ long_length first bytes.now }
 {
@@ -77,7 +77,7 @@ fn long_length(first: u8, bytes: &[u8]) -> Option<Length>
     }
 }
 
-/// The length at the front (A-XDR, IEC 61334-6): an octet below 0x80, or 0x81 to 0x84 and so many octets.
+/// The length at the front (A-XDR, IEC 61334-6): an octet below 0x80, or 0x81 to 0x84 and that many octets.
 pub fn length_at(bytes: &[u8]) -> Option<Length>
     ensures exact { result ≡ length_at bytes.now }
     ensures few { IfSome result (λ l. l.octets ≤ 5) }
@@ -93,7 +93,7 @@ pub fn length_at(bytes: &[u8]) -> Option<Length>
     long_length(*first, rest)
 }
 
-/// What stands at the front: how many octets it has of its own, and how many values stand behind these in it.
+/// The element at the front: the number of its own octets, and the number of values after these in it.
 #[derive(Clone, Copy)]
 pub struct Front {
     pub own: usize,
@@ -107,7 +107,7 @@ fn alone(own: usize) -> Option<Front>
     Some(Front { own, values: 0 })
 }
 
-/// A text behind so many octets: a length, and so many octets.
+/// A text after this many octets: a length, and that many octets.
 pub fn text_behind(before: usize, bytes: &[u8]) -> Option<Front>
     requires { before ≤ 64 }
     ensures exact { result ≡ text_behind before bytes.now }
@@ -120,7 +120,7 @@ pub fn text_behind(before: usize, bytes: &[u8]) -> Option<Front>
     alone(before + length.octets + length.number as usize)
 }
 
-/// How many octets a value of this type has behind its tag, where it is always the same number.
+/// The number of octets that a value of this type has after its tag, if it is always the same.
 fn fixed_of(tag: u8) -> Option<usize>
     ensures exact { result ≡ fixed_of tag }
     ensures few { IfSome result (λ n. n ≤ 12) }
@@ -151,7 +151,7 @@ fn all_simple(tags: &[u8]) -> bool
     tags.iter().all(|tag| is_simple(*tag))
 }
 
-/// Whether the first so many octets are such types.
+/// Whether the first `count` octets are such types.
 fn are_simple(count: usize, bytes: &[u8]) -> bool
     ensures { result ≡ are_simple count bytes.now }
 {
@@ -201,7 +201,7 @@ fn type_at(bytes: &[u8]) -> Option<usize>
     }
 }
 
-/// A compact-array behind its tag: what describes it, and its contents.
+/// A compact-array after its tag: its description, and its contents.
 fn compact(bytes: &[u8]) -> Option<Front>
     ensures { result ≡ compact bytes.now }
 {
@@ -213,7 +213,7 @@ fn compact(bytes: &[u8]) -> Option<Front>
     alone(1 + described + length.octets + length.number as usize)
 }
 
-/// What has a length behind its tag.
+/// The element with a length after its tag.
 fn counted(tag: u8, length: Length) -> Front
     requires { length.octets ≤ 5 }
     ensures { result ≡ counted tag length }
@@ -235,7 +235,7 @@ fn counted(tag: u8, length: Length) -> Front
     }
 }
 
-/// A value at the front (the CHOICE Data of IEC 62056-5-3): its tag with what it has of its own, and how many values it holds.
+/// A value at the front (the CHOICE Data of IEC 62056-5-3): its tag with its own octets, and the number of its inner values.
 pub fn node_at(bytes: &[u8]) -> Option<Front>
     ensures { result ≡ node_at bytes.now }
 {

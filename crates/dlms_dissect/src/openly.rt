@@ -1,5 +1,5 @@
-//! Which octets of an APDU may stand beside what is told of it: those of its first fields, up to the one that is told by its length
-//! or not at all.
+//! The octets of an APDU that may be shown beside its report: those of its first fields, up to the one that is reported by its
+//! length or not at all.
 
 ghost use Rattle.std.specs.Prelude.{◌≡◌};
 ghost use Rattle.dlms_dissect.specs.Openly.{Leaves, LeavesFields, LeavesOfAcse, is_open, is_open_tag, is_open_value};
@@ -11,7 +11,7 @@ use crate::items::{has_block, is_string, tag_of};
 use crate::secrecy::Secrecy;
 use crate::walk::{Event, Walk};
 
-/// Whether a value is told as it is.
+/// Whether a value is shown as it is.
 fn is_open_value(secrecy: Secrecy, octets: &[u8]) -> bool
     ensures { result ≡ is_open_value secrecy octets.now }
 {
@@ -22,7 +22,7 @@ fn is_open_value(secrecy: Secrecy, octets: &[u8]) -> bool
     }
 }
 
-/// Whether a field is told as it is, and neither by its length nor not at all.
+/// Whether a field is shown as it is, and neither by its length nor hidden.
 fn is_open(secrecy: Secrecy, event: Event<'_>) -> bool
     ensures { result ≡ is_open secrecy (told_of event.entry) }
 {
@@ -53,7 +53,7 @@ pub fn left_of(secrecy: Secrecy, walk: Walk<'_>) -> usize
     left.rest.len()
 }
 
-/// Whether a field of an association with this tag is told as it is.
+/// Whether a field of an association with this tag is shown as it is.
 fn is_open_tag(tag: u8) -> bool
     ensures { result ≡ is_open_tag tag }
 {

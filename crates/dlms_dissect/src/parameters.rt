@@ -9,7 +9,7 @@ const FORMAT: u8 = 0x81;
 /// The group of these parameters.
 const GROUP: u8 = 0x80;
 
-/// What a group of parameters says of a link (IEC 62056-46, HDLC parameter negotiation); of one that stands twice, the last.
+/// The link parameters of a group (IEC 62056-46, HDLC parameter negotiation); if one occurs twice, the last.
 #[derive(Clone, Copy)]
 pub struct Parameters {
     /// 05: the most octets of information in a frame that the sender sends.
@@ -22,7 +22,7 @@ pub struct Parameters {
     pub window_received: Option<u32>,
     /// The identifier of the last one of these whose value has another length than one, two or four octets.
     pub wrong: Option<u8>,
-    /// How many octets stand behind the last parameter.
+    /// The number of octets after the last parameter.
     pub behind: usize,
 }
 
@@ -99,9 +99,10 @@ fn number_of(octets: &[u8]) -> u32
     }
 }
 
-/// The parameter at the front, as its identifier and its value, and the bytes behind it.
+/// The parameter at the front, as its identifier and its value, and the bytes after it.
 fn first_parameter(bytes: &[u8]) -> Option<(u8, &[u8], &[u8])>
-    ensures found { MatchOption result (BeginsNone bytes.now) (λ r. bytes.now ≡ r.0 ∷ length r.1.now ∷ (r.1.now ++ r.2.now)) }
+    ensures found { MatchOption result (BeginsNone bytes.now)
+        (λ r. bytes.now ≡ r.0 ∷ length r.1.now ∷ (r.1.now ++ r.2.now)) }
     ensures shorter { IfSome result (λ r. length r.2.now < length bytes.now) }
 {
     let (id, rest) = bytes.split_first()?;
@@ -114,7 +115,7 @@ fn first_parameter(bytes: &[u8]) -> Option<(u8, &[u8], &[u8])>
     }
 }
 
-/// What a group's parameters say, one after another, and how many octets stand behind them.
+/// The parameters of a group, one after another, and the number of octets after them.
 fn group(bytes: &[u8], surplus: usize) -> Parameters
     ensures { AreTold bytes.now surplus result }
 {
@@ -130,7 +131,7 @@ fn group(bytes: &[u8], surplus: usize) -> Parameters
     }
 }
 
-/// The octets of a group, and how many of the information stand behind it.
+/// The octets of a group, and the number of octets of the information after it.
 fn group_in(info: &[u8]) -> Option<(&[u8], usize)>
     ensures { option_map (λ found. (found.0.now, found.1)) result ≡ group_in info.now }
 {
@@ -143,7 +144,7 @@ fn group_in(info: &[u8]) -> Option<(&[u8], usize)>
     }
 }
 
-/// What the information of an SNRM or a UA says: nothing, or a group of parameters. One that is wrong hides no other.
+/// The parameters in the information of an SNRM or a UA: none, or a group of them. An invalid one hides no other.
 pub fn parameters_of(info: &[u8]) -> Option<Parameters>
     ensures { IsTold info.now result }
 {

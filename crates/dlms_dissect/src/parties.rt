@@ -1,4 +1,4 @@
-//! Who sends a frame, and to whom.
+//! The sender and the receiver of a frame.
 
 ghost use Rattle.std.specs.Prelude.{◌≡◌};
 ghost use Rattle.dlms_dissect.specs.Parties.{lower, parties_of, side_by_content, side_by_form, side_by_management, side_of, upper};
@@ -14,7 +14,7 @@ pub enum Side {
     Meter,
 }
 
-/// The two ends that talk, by the upper part of each one's address, and by the lower part of the meter's, where it has one.
+/// The two ends of a session, by the upper part of each one's address, and by the lower part of the meter's, if it has one.
 #[derive(Clone, Copy)]
 pub struct Parties {
     pub client: u16,
@@ -44,7 +44,7 @@ impl Parties {
 /// The service access point of the meter's management.
 const MANAGEMENT: u16 = 1;
 
-/// The second octet of what stands before a client's APDU (IEC 62056-46, the LLC sublayer).
+/// The second octet before a client's APDU (IEC 62056-46, the LLC sublayer).
 const FROM_CLIENT: u8 = 0xe6;
 
 /// The same of a meter's.
@@ -95,7 +95,7 @@ fn side_by_number(frame: &Frame<'_>) -> Option<Side>
     }
 }
 
-/// Who sends the frame, told by what it says.
+/// The sender of the frame, by its content.
 fn side_by_content(frame: &Frame<'_>) -> Option<Side>
     ensures { result ≡ side_by_content frame.now }
 {
@@ -120,7 +120,7 @@ pub fn side_of(said: Option<Side>, frame: &Frame<'_>) -> Option<Side>
         .or(side_by_content(frame))
 }
 
-/// The two ends of a frame that this side sends; where it is not known, it is taken as the client's.
+/// The two ends of a frame that this side sends; if it is not known, it is taken as the client's.
 pub fn parties_of(side: Option<Side>, frame: &Frame<'_>) -> Parties
     ensures { result ≡ parties_of side frame.now }
 {

@@ -1,4 +1,4 @@
-//! Where a fault stands in bytes that a reader refused.
+//! The position of a fault in bytes that a reader refused.
 
 ghost use Rattle.std.specs.Prelude.{◌≡◌, [], Some};
 ghost use Rattle.dlms_dissect.specs.Places.{IsApduFault, IsShown, IsValueFault, IsValuesFault, Shows, ShowsValue, acse_words, data_words, is_refused, is_shown, reason_in, reason_of, refused, refused_value};
@@ -16,7 +16,7 @@ pub struct Fault {
     pub octet: usize,
 }
 
-/// Why bytes are refused, by what their reader told: want of memory is no reason, as it is told only of what is an APDU.
+/// Why bytes are refused, by their reader: out of memory is no reason, because it is reported only of a valid APDU.
 fn reason_of(told: ApduFault) -> Option<ApduFault>
     ensures { result ≡ reason_of told }
 {
@@ -46,7 +46,7 @@ fn refused<A: Allocator + Copy>(alloc: A, side: Side, bytes: &[u8]) -> Option<Ap
     }
 }
 
-/// Whether bytes that are refused so show the fault already: by the fault, or, of bytes behind the APDU, by being the APDU.
+/// Whether refused bytes already show the fault: by the fault, or, if bytes follow the APDU, by being the APDU.
 fn is_shown(fault: ApduFault, told: Option<ApduFault>) -> bool
     ensures { result ≡ is_shown fault told }
 {
@@ -75,7 +75,7 @@ fn shortest<A: Allocator + Copy>(alloc: A, side: Side, fault: ApduFault, bytes: 
     high
 }
 
-/// What is said of a fault of a value.
+/// The message for a fault of a value.
 fn data_words(fault: DataFault) -> &'static str
     ensures { result.now ≡ data_words fault }
 {
@@ -117,7 +117,7 @@ fn shortest_value(fault: DataFault, bytes: &[u8]) -> usize
     high
 }
 
-/// What is said of bytes that the reader of values refuses so, behind so many octets.
+/// The message for bytes that the reader of values refuses, after this many octets.
 fn refused_value(fault: DataFault, bytes: &[u8], before: usize) -> Fault
     requires { ShowsValue fault bytes.now }
     ensures { IsValueFault (Some fault) bytes.now before result }
@@ -134,20 +134,20 @@ fn refused_value(fault: DataFault, bytes: &[u8], before: usize) -> Fault
     }
 }
 
-/// The fault of bytes that are to be one value and are not, behind so many octets.
+/// The fault of bytes that should be one value and are not, after this many octets.
 pub fn value_fault(bytes: &[u8], before: usize) -> Fault
     ensures { IsValueFault (refused_value bytes.now) bytes.now before result }
 {
     match span(bytes) {
         Ok(len) => Fault {
-            words: "bytes stand behind the value",
+            words: "bytes follow the value",
             octet: before.saturating_add(len).saturating_add(1),
         },
         Err(fault) => refused_value(fault, bytes, before),
     }
 }
 
-/// The fault of the first of the values, one behind another, that is none; the values begin behind so many octets.
+/// The fault of the first invalid one of the values, one after another; the values begin after this many octets.
 fn first_value_fault(bytes: &[u8], before: usize) -> Fault
     ensures { IsValuesFault bytes.now before result }
 {
@@ -160,7 +160,7 @@ fn first_value_fault(bytes: &[u8], before: usize) -> Fault
     value_fault(rest, place)
 }
 
-/// The fault that the reader of one end's APDUs told of these bytes, and where it stands.
+/// The fault that the reader of one end's APDUs reported for these bytes, and its position.
 pub fn apdu_fault<A: Allocator + Copy>(
     alloc: A,
     side: Side,
@@ -180,7 +180,7 @@ pub fn apdu_fault<A: Allocator + Copy>(
             octet: shortest(alloc, side, fault, bytes),
         },
         ApduFault::Trailing => Fault {
-            words: "bytes stand behind the APDU",
+            words: "bytes follow the APDU",
             octet: shortest(alloc, side, fault, bytes).saturating_add(1),
         },
         ApduFault::Data => {
@@ -194,19 +194,19 @@ pub fn apdu_fault<A: Allocator + Copy>(
     }
 }
 
-/// What is said of a fault of an association's APDU.
+/// The message for a fault of an association's APDU.
 fn acse_words(fault: AcseFault) -> &'static str
     ensures { result.now ≡ acse_words fault }
 {
     match fault {
         AcseFault::Short => "the bytes end too soon, or a field is missing",
         AcseFault::Tag => "another APDU",
-        AcseFault::Length => "no length begins so, or bytes stand behind the whole",
-        AcseFault::Repeated => "a tag stands twice",
+        AcseFault::Length => "no length begins so, or bytes follow the end",
+        AcseFault::Repeated => "a tag occurs twice",
     }
 }
 
-/// How many octets of fields stand before the one at which something is wrong, or before their end.
+/// The number of octets of fields before the one that has a fault, or before their end.
 fn octets_before(fields: &[u8]) -> usize {
     let mut seen = [false; 256];
     let mut rest = fields;

@@ -1,4 +1,4 @@
-//! What is told of a request and of a response. No octet of a secret or of a block stands in it.
+//! The reported content of a request and of a response. It has no octet of a secret or of a block.
 
 ghost use Rattle.std.specs.Prelude.{◌≡◌, true, false, length, Some, None, option_map};
 ghost use Rattle.dlms_dissect.specs.Secrets.{secrecy_of, told_as};
@@ -11,7 +11,7 @@ use dlms_apdu::{Request, Response};
 use dlms_data::{Data, Descriptor, Selector};
 use std::alloc::Allocator;
 
-/// What a request or a response says beside its form and what it names.
+/// The content of a request or a response besides its form and the object that it names.
 #[derive(Drop)]
 pub enum Content<'a, A: Allocator> {
     /// Nothing more.
@@ -24,7 +24,7 @@ pub enum Content<'a, A: Allocator> {
     Secret,
     /// A block of a value: whether it is the last one, its number, and how many octets it has.
     Block { last: bool, number: u32, len: usize },
-    /// The block behind this one is asked for.
+    /// The block after this one is requested.
     Next(u32),
     /// This block was taken.
     Taken(u32),
@@ -32,7 +32,7 @@ pub enum Content<'a, A: Allocator> {
     Access(u8),
     /// The same in place of a block.
     AccessOfBlock { number: u32, result: u8 },
-    /// The same behind the last block.
+    /// The same after the last block.
     AccessBehind { number: u32, result: u8 },
     /// An Action-Result.
     Action(u8),
@@ -40,21 +40,21 @@ pub enum Content<'a, A: Allocator> {
     Exception { state: u8, service: u8 },
 }
 
-/// What is told of a request or a response.
+/// The reported content of a request or a response.
 #[derive(Drop)]
 pub struct Said<'a, A: Allocator> {
     /// The name of its form (IEC 62056-5-3).
     pub form: &'static str,
     /// The invoke-id-and-priority, of all but an exception.
     pub invoke: Option<u8>,
-    /// What it names, or what the request that it answers named.
+    /// The object that it names, or that the answered request named.
     pub named: Option<Named>,
     /// Which part of the attribute is wanted, where not all of it is.
     pub selector: Option<&'a Selector<A>>,
     pub content: Content<'a, A>,
 }
 
-/// What is shown of a value.
+/// The reported content of a value.
 fn shown<'a, A: Allocator>(secrecy: Secrecy, value: &'a Data<A>) -> Content<'a, A>
     ensures { Shows secrecy value.now result }
 {
@@ -65,7 +65,7 @@ fn shown<'a, A: Allocator>(secrecy: Secrecy, value: &'a Data<A>) -> Content<'a, 
     }
 }
 
-/// What is known of the value of an attribute, or of the parameter of a method, and how it is told.
+/// The secrecy of an attribute's value, or of a method's parameter, and how it is reported.
 fn known_of(raw: bool, descriptor: Descriptor, method: bool) -> Secrecy
     ensures { result ≡ known_of raw descriptor method }
 {
@@ -92,7 +92,7 @@ fn method(descriptor: Descriptor) -> Named
     }
 }
 
-/// What a request names; none of one that goes on with a transfer.
+/// The object that a request names; none if it continues a transfer.
 pub fn asked_by<A: Allocator>(request: &Request<'_, A>) -> Option<Asked>
     ensures { result ≡ asked_of request.now }
 {
@@ -127,7 +127,7 @@ pub fn asked_by<A: Allocator>(request: &Request<'_, A>) -> Option<Asked>
     Some(Asked { invoke, named })
 }
 
-/// What is shown of a method's parameter.
+/// The reported content of a method's parameter.
 fn parameter_shown<'a, A: Allocator>(
     secrecy: Secrecy,
     parameter: &'a Option<Data<A>>,
@@ -140,7 +140,7 @@ fn parameter_shown<'a, A: Allocator>(
     }
 }
 
-/// What is told of a block.
+/// The reported content of a block.
 fn block<'a, A: Allocator>(last: bool, number: u32, raw: &[u8]) -> Content<'a, A>
     ensures { result ≡ Content.Block last number (length raw.now) }
 {
@@ -195,7 +195,7 @@ fn request_selector<'a, A: Allocator>(request: &'a Request<'_, A>) -> Option<&'a
     }
 }
 
-/// What a request says beside its form and what it names.
+/// The content of a request besides its form and the object that it names.
 fn request_content<'a, A: Allocator>(request: &'a Request<'_, A>, raw: bool) -> Content<'a, A>
     ensures { ShowsRequest raw request.now result }
 {
@@ -239,12 +239,13 @@ fn request_content<'a, A: Allocator>(request: &'a Request<'_, A>, raw: bool) -> 
     }
 }
 
-/// What is told of a request; where `raw` is set, strings that may be a secret as they are.
+/// The reported content of a request; with `raw`, strings that may be a secret are shown as they are.
 pub fn request_said<'a, A: Allocator>(request: &'a Request<'_, A>, raw: bool) -> Said<'a, A>
     ensures form { result.form.now ≡ request_form request.now }
     ensures invoke { result.invoke ≡ Some (request_invoke request.now) }
     ensures named { result.named ≡ option_map (λ asked. asked.named) (asked_of request.now) }
-    ensures selector { option_map (λ selector. selector.now) result.selector ≡ request_selector request.now }
+    ensures selector { option_map
+        (λ selector. selector.now) result.selector ≡ request_selector request.now }
     ensures content { ShowsRequest raw request.now result.content }
 {
     let asked = asked_by(request);
@@ -293,7 +294,7 @@ fn response_invoke<A: Allocator>(response: &Response<'_, A>) -> Option<u8>
     }
 }
 
-/// What a response says beside its form and what it answers.
+/// The content of a response besides its form and the object that it answers for.
 fn response_content<'a, A: Allocator>(
     response: &'a Response<'_, A>,
     secrecy: Secrecy,
@@ -328,7 +329,7 @@ fn response_content<'a, A: Allocator>(
     }
 }
 
-/// What the request of a response asked for: what was asked for, where the response has its invoke-id-and-priority.
+/// The object that the request of a response asked for, if the response has its invoke-id-and-priority.
 pub fn answered<A: Allocator>(asked: Option<Asked>, response: &Response<'_, A>) -> Option<Asked>
     ensures { result ≡ answered asked response.now }
 {
@@ -338,8 +339,8 @@ pub fn answered<A: Allocator>(asked: Option<Asked>, response: &Response<'_, A>) 
     }
 }
 
-/// What is told of a response. `asked` is what the client's APDU before it asked for, where that is known; where `raw` is set,
-/// strings that may be a secret are told as they are.
+/// The reported content of a response. `asked` is the object that the client's APDU before it asked for, if that is known; with
+/// `raw`, strings that may be a secret are shown as they are.
 pub fn response_said<'a, A: Allocator>(
     response: &'a Response<'_, A>,
     asked: Option<Asked>,
@@ -349,7 +350,8 @@ pub fn response_said<'a, A: Allocator>(
     ensures invoke { result.invoke ≡ response_invoke response.now }
     ensures named { result.named ≡ option_map (λ asked. asked.named) (answered asked response.now) }
     ensures selector { option_map (λ selector. selector.now) result.selector ≡ None }
-    ensures content { ShowsResponse (told_as raw (secrecy_of (answered asked response.now))) response.now result.content }
+    ensures content { ShowsResponse
+        (told_as raw (secrecy_of (answered asked response.now))) response.now result.content }
 {
     let of = answered(asked, response);
     Said {

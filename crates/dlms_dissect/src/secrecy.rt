@@ -1,4 +1,4 @@
-//! What is known of a value as to secrets, and so how much of it is told.
+//! The secrecy of a value, and so how much of it is reported.
 
 ghost use Rattle.std.specs.Prelude.{◌≡◌};
 ghost use Rattle.dlms_dissect.specs.Secrets.{secrecy_at, secrecy_of, told_as};
@@ -6,18 +6,18 @@ ghost use Rattle.dlms_dissect.specs.Survey.{secrecy_of_named};
 
 use crate::named::{Asked, Named};
 
-/// What is known of a value.
+/// The secrecy of a value.
 #[derive(Clone, Copy)]
 pub enum Secrecy {
-    /// It is no secret: it is told.
+    /// It is no secret: it is shown.
     Open,
-    /// It may be a secret or hold one: of its strings the lengths are told.
+    /// It may be a secret or contain one: the lengths of its strings are shown.
     Unknown,
-    /// It is a secret: nothing of it is told.
+    /// It is a secret: nothing of it is shown.
     Secret,
 }
 
-/// What is known of a value that is named so.
+/// The secrecy of a value with this name.
 pub fn secrecy_at(named: Named) -> Secrecy
     ensures { result ≡ secrecy_at named }
 {
@@ -30,7 +30,7 @@ pub fn secrecy_at(named: Named) -> Secrecy
     }
 }
 
-/// What is known of the answer to such a request, or of the value in blocks that it began; none is a request that is not known.
+/// The secrecy of the answer to such a request, or of the value in blocks that it began; none means an unknown request.
 pub fn secrecy_of(asked: Option<Asked>) -> Secrecy
     ensures { result ≡ secrecy_of asked }
 {
@@ -40,7 +40,7 @@ pub fn secrecy_of(asked: Option<Asked>) -> Secrecy
     }
 }
 
-/// How a value is told: where strings are asked for as they are, what is not known is told as it is.
+/// How a value is reported: if strings are wanted as they are, an unknown one is shown as it is.
 pub fn told_as(raw: bool, secrecy: Secrecy) -> Secrecy
     ensures { result ≡ told_as raw secrecy }
 {
@@ -50,7 +50,7 @@ pub fn told_as(raw: bool, secrecy: Secrecy) -> Secrecy
     }
 }
 
-/// What is known of the values of an APDU, by the one of what it names of which most is kept secret.
+/// The secrecy of the values of an APDU, by the most secret object that it names.
 pub fn secrecy_of_named(named: Option<Named>) -> Secrecy
     ensures { result ≡ secrecy_of_named named }
 {

@@ -10,7 +10,7 @@ use std::marker::Model;
 /// The most octets of an APDU: the size that two ends agree on is a number of two octets.
 pub const MOST_APDU: usize = 65_535;
 
-/// The first of the three octets before an APDU (IEC 62056-46, the LLC sublayer; so are the next three): for whom it is.
+/// The first of the three octets before an APDU (IEC 62056-46, the LLC sublayer; so are the next three): the destination.
 const DESTINATION: u8 = 0xe6;
 
 /// The second one, of the client.
@@ -27,7 +27,7 @@ const QUALITY: u8 = 0x00;
 pub enum Progress {
     /// No segment came.
     Fresh,
-    /// What came begins as it must, and is not too long.
+    /// The octets so far begin correctly and are not too many.
     Good,
     /// More than `MOST_APDU` octets came.
     TooLong,
@@ -35,7 +35,7 @@ pub enum Progress {
     BadStart,
 }
 
-/// What an information frame is among those before it.
+/// The position of an information frame among those before it.
 #[derive(Clone, Copy)]
 pub enum Came {
     /// It has the number of the frame before, and is not taken again.
@@ -48,7 +48,7 @@ pub enum Came {
     NoPoll,
     /// A segment, of which others follow, and how many came so far.
     Segment(u32),
-    /// The last segment of so many: the APDU is there.
+    /// The last segment of this many: the APDU is complete.
     Whole(u32),
     /// The last segment of an APDU that is too long.
     TooLong,
@@ -80,7 +80,7 @@ fn after(number: u8) -> u8
     (number % 8 + 1) % 8
 }
 
-/// Whether the second octet of the LLC is that of this side, or of either side where it is not known.
+/// Whether the second octet of the LLC is that of this side, or of either side if it is not known.
 fn is_from(side: Option<Side>, octet: u8) -> bool
     ensures { result ≡ is_from side octet }
 {
@@ -91,7 +91,7 @@ fn is_from(side: Option<Side>, octet: u8) -> bool
     }
 }
 
-/// The octets behind the LLC of this side, or of either side where it is not known; none where it does not stand in front.
+/// The octets after the LLC of this side, or of either side if it is not known; none if it is not at the front.
 pub fn behind_llc(side: Option<Side>, info: &[u8]) -> Option<&[u8]>
     ensures { option_map (λ apdu. apdu.now) result ≡ behind_llc side info.now }
 {
@@ -103,7 +103,7 @@ pub fn behind_llc(side: Option<Side>, info: &[u8]) -> Option<&[u8]>
     }
 }
 
-/// What is told behind the last segment.
+/// The outcome after the last segment.
 fn told(progress: Progress, count: u32) -> Came
     ensures { result ≡ told progress count }
 {
@@ -127,7 +127,7 @@ impl<A: Allocator> Segments<A> {
         }
     }
 
-    /// The next frame has this number, if it is known, and what was under way is let go.
+    /// The next frame has this number, if it is known, and the APDU in progress is dropped.
     fn begin(&mut self, next: Option<u8>)
         ensures { self.new ≡ begun next }
     {
@@ -144,7 +144,7 @@ impl<A: Allocator> Segments<A> {
         self.begin(None);
     }
 
-    /// The link is up: the next frame has the number 0, unless a frame stood before the answer that says so.
+    /// The link is up: the next frame has the number 0, unless a frame came before the answer that says so.
     pub fn open(&mut self)
         ensures { self.new ≡ opened self.old }
     {
@@ -200,7 +200,7 @@ impl<A: Allocator> Segments<A> {
         }
     }
 
-    /// The APDU, where the last frame was the last segment of one.
+    /// The APDU, if the last frame was the last segment of one.
     pub fn apdu(&self) -> &[u8]
         ensures { result.now ≡ self.now.apdu }
     {
@@ -239,7 +239,8 @@ impl<A: Allocator> Segments<A> {
 
     /// Keeps a segment, the first or a further one.
     fn keep_segment(&mut self, side: Option<Side>, info: &[u8]) -> Result<(), AllocError>
-        ensures kept { OnOk result (self.new ≡ with_segment self.old.progress side self.old info.now) }
+        ensures kept { OnOk result
+            (self.new ≡ with_segment self.old.progress side self.old info.now) }
         ensures memory { IsErr result → JoinsSegment self.old.progress side self.old info.now }
     {
         match self.progress {
@@ -249,7 +250,7 @@ impl<A: Allocator> Segments<A> {
         }
     }
 
-    /// What a frame is that is not taken; `follows` says that another segment does.
+    /// The position of a frame that is not taken; `follows` states that another segment comes.
     pub fn passed(&self, side: Option<Side>, number: u8, follows: bool, info: &[u8]) -> Came
         ensures { result ≡ passed self.now.next side number follows info.now }
     {
@@ -277,9 +278,8 @@ impl<A: Allocator> Segments<A> {
         came
     }
 
-    /// Takes a frame with this number. One out of turn that begins with the LLC begins an APDU anew, as frames before it may be
-    /// missing from what is explained. Memory is wanted only where octets are joined; where it is refused nothing is said of what
-    /// is kept.
+    /// Takes a frame with this number. A frame out of turn that begins with the LLC starts a new APDU, because frames before it may
+    /// be missing from the log. Memory is needed only if octets are joined; if it is refused, the state afterwards is unspecified.
     pub fn take(
         &mut self,
         side: Option<Side>,
@@ -287,8 +287,10 @@ impl<A: Allocator> Segments<A> {
         follows: bool,
         info: &[u8],
     ) -> Result<Came, AllocError>
-        ensures came { IfOk result (λ came. came ≡ (taken self.old side number follows info.now).0) }
-        ensures after { IfOk result (λ came. self.new ≡ (taken self.old side number follows info.now).1) }
+        ensures came { IfOk result
+            (λ came. came ≡ (taken self.old side number follows info.now).0) }
+        ensures after { IfOk result
+            (λ came. self.new ≡ (taken self.old side number follows info.now).1) }
         ensures memory { IsErr result → JoinsFrame self.old side number info.now }
     {
         if self.is_again(number) {

@@ -1,4 +1,4 @@
-//! What is kept of the services of a talk, from one APDU to the next.
+//! The state of the services of a session, from one APDU to the next.
 
 ghost use Rattle.std.specs.Prelude.{◌≡◌, Some, None, length, option_map, IfOk, OnErr};
 ghost use Rattle.dlms_dissect.specs.Foreign.{answered_by, of_answer, role_of, values_of};
@@ -16,7 +16,7 @@ use crate::whole::Whole;
 use dlms_apdu::{Request, Response};
 use std::alloc::{AllocError, Allocator};
 
-/// What an answer with this invoke-id-and-priority is of.
+/// The object of an answer with this invoke-id-and-priority.
 fn answered_by(asked: Option<Asked>, invoke: Option<u8>) -> Option<Asked>
     ensures { result ≡ answered_by asked invoke }
 {
@@ -26,17 +26,17 @@ fn answered_by(asked: Option<Asked>, invoke: Option<u8>) -> Option<Asked>
     }
 }
 
-/// What is kept of the services of a talk.
+/// The state of the services of a session.
 #[derive(Drop)]
 pub struct Services<A: Allocator> {
     transfers: Transfers<A>,
-    /// What the client's last APDU asked for, where that is known and no answer came yet.
+    /// The object that the client's last APDU asked for, if that is known and no answer has come yet.
     asked: Option<Asked>,
-    /// Whether strings that may be a secret are told as they are.
+    /// Whether strings that may be a secret are shown as they are.
     raw: bool,
 }
 
-/// What is told of an APDU, and what its block is among those before it, where it has one.
+/// The report of an APDU, and the position of its block among those before it, if it has one.
 #[derive(Drop)]
 pub struct Heard<'a, A: Allocator> {
     pub said: Said<'a, A>,
@@ -55,7 +55,7 @@ impl<A: Allocator + Copy> Services<A> {
         }
     }
 
-    /// Whether strings that may be a secret are told as they are.
+    /// Whether strings that may be a secret are shown as they are.
     pub fn is_raw(&self) -> bool
         ensures { result ≡ self.now.raw }
     {
@@ -69,7 +69,7 @@ impl<A: Allocator + Copy> Services<A> {
         self.asked = None;
     }
 
-    /// What the answer to this request will be of.
+    /// The object of the answer to this request.
     fn awaited(&self, request: &Request<'_, A>) -> Option<Asked>
         ensures { result ≡ awaited_behind self.now.transfers request.now }
     {
@@ -125,12 +125,14 @@ impl<A: Allocator + Copy> Services<A> {
         }
     }
 
-    /// Takes a request: what is told of it. Where its block is the last one of a value, `put_whole` tells that.
+    /// Takes a request and returns its report. If its block is the last one of a value, `put_whole` reports that.
     pub fn ask<'a>(&mut self, alloc: A, request: &'a Request<'_, A>) -> Heard<'a, A>
         ensures form { result.said.form.now ≡ request_form request.now }
         ensures invoke { result.said.invoke ≡ Some (request_invoke request.now) }
-        ensures named { result.said.named ≡ option_map (λ asked. asked.named) (asked_of request.now) }
-        ensures selector { option_map (λ selector. selector.now) result.said.selector ≡ request_selector request.now }
+        ensures named { result.said.named ≡ option_map (λ asked. asked.named)
+            (asked_of request.now) }
+        ensures selector { option_map
+            (λ selector. selector.now) result.said.selector ≡ request_selector request.now }
         ensures content { ShowsRequest self.old.raw request.now result.said.content }
         ensures joined { result.joined ≡ put_joined self.old.transfers request.now }
         ensures after { self.new ≡ behind_request self.old request.now }
@@ -143,8 +145,10 @@ impl<A: Allocator + Copy> Services<A> {
 
     /// Takes the block of a response.
     fn get(&mut self, alloc: A, response: &Response<'_, A>) -> Result<Option<Joined>, AllocError>
-        ensures joined { IfOk result (λ joined. joined ≡ got_joined self.old.transfers response.now) }
-        ensures after { IfOk result (λ joined. self.new ≡ record self.old { transfers = transfers_behind_response self.old.transfers self.old.asked response.now }) }
+        ensures joined { IfOk result
+            (λ joined. joined ≡ got_joined self.old.transfers response.now) }
+        ensures after { IfOk result
+            (λ joined. self.new ≡ record self.old { transfers = transfers_behind_response self.old.transfers self.old.asked response.now }) }
         ensures memory { OnErr result (JoinsBlock self.old.transfers response.now) }
     {
         let Response::GetBlock {
@@ -162,8 +166,8 @@ impl<A: Allocator + Copy> Services<A> {
         Ok(Some(joined))
     }
 
-    /// Takes a response: what is told of it, by what was asked for. Where its block is the last one of a value, `got_whole` tells
-    /// that. Where memory is refused nothing is said of what is kept.
+    /// Takes a response and returns its report, by the requested object. If its block is the last one of a value, `got_whole`
+    /// reports that. If memory is refused, the state afterwards is unspecified.
     pub fn answer<'a>(
         &mut self,
         alloc: A,
@@ -171,9 +175,14 @@ impl<A: Allocator + Copy> Services<A> {
     ) -> Result<Heard<'a, A>, AllocError>
         ensures form { IfOk result (λ heard. heard.said.form.now ≡ response_form response.now) }
         ensures invoke { IfOk result (λ heard. heard.said.invoke ≡ response_invoke response.now) }
-        ensures named { IfOk result (λ heard. heard.said.named ≡ option_map (λ asked. asked.named) (answered self.old.asked response.now)) }
-        ensures content { IfOk result (λ heard. ShowsResponse (told_as self.old.raw (secrecy_of (answered self.old.asked response.now))) response.now heard.said.content) }
-        ensures joined { IfOk result (λ heard. heard.joined ≡ got_joined self.old.transfers response.now) }
+        ensures named { IfOk result (λ heard. heard.said.named ≡ option_map (λ asked. asked.named)
+            (answered self.old.asked response.now)) }
+        ensures content { IfOk result
+            (λ heard. ShowsResponse (told_as self.old.raw
+            (secrecy_of
+            (answered self.old.asked response.now))) response.now heard.said.content) }
+        ensures joined { IfOk result
+            (λ heard. heard.joined ≡ got_joined self.old.transfers response.now) }
         ensures after { IfOk result (λ heard. self.new ≡ behind_response self.old response.now) }
         ensures memory { OnErr result (JoinsBlock self.old.transfers response.now) }
     {
@@ -190,9 +199,10 @@ impl<A: Allocator + Copy> Services<A> {
         *self = Services::new(alloc, self.raw);
     }
 
-    /// What such an APDU answers, where that is known.
+    /// The object that such an APDU answers for, if that is known.
     pub fn answered_with(&self, foreign: Foreign<'_>) -> Option<Named>
-        ensures { result ≡ option_map (λ asked. asked.named) (of_answer (role_of foreign.entry.tag) self.now.asked foreign.entry.survey) }
+        ensures { result ≡ option_map (λ asked. asked.named)
+            (of_answer (role_of foreign.entry.tag) self.now.asked foreign.entry.survey) }
     {
         match foreign.role() {
             Role::Answers => {
@@ -202,9 +212,10 @@ impl<A: Allocator + Copy> Services<A> {
         }
     }
 
-    /// How the values of an APDU are told that the reader of all forms gave, before it is taken.
+    /// How the values of an APDU from the reader of all forms are reported, before it is taken.
     pub fn values(&self, foreign: Foreign<'_>) -> Secrecy
-        ensures { result ≡ values_of (role_of foreign.entry.tag) self.now.raw self.now.asked foreign.entry.survey }
+        ensures { result ≡ values_of
+            (role_of foreign.entry.tag) self.now.raw self.now.asked foreign.entry.survey }
     {
         match foreign.role() {
             Role::Asks | Role::Says => { told_as(self.raw, secrecy_of_named(foreign.survey.chief)) }
@@ -216,9 +227,10 @@ impl<A: Allocator + Copy> Services<A> {
         }
     }
 
-    /// Takes an APDU that the reader of other forms gave: how its values are told.
+    /// Takes an APDU from the reader of other forms, and returns how its values are reported.
     pub fn hear(&mut self, alloc: A, foreign: Foreign<'_>) -> Secrecy
-        ensures values { result ≡ values_of (role_of foreign.entry.tag) self.old.raw self.old.asked foreign.entry.survey }
+        ensures values { result ≡ values_of
+            (role_of foreign.entry.tag) self.old.raw self.old.asked foreign.entry.survey }
         ensures after { self.new ≡ heard self.old foreign.entry }
     {
         match foreign.role() {
@@ -254,18 +266,26 @@ impl<A: Allocator + Copy> Services<A> {
         self.transfers.got_len()
     }
 
-    /// What is told of a value to set or of a parameter, where its last block came.
+    /// The reported content of a value to set or of a parameter, after its last block.
     pub fn put_whole(&self, alloc: A) -> Result<Whole<A>, AllocError>
-        ensures told { IfOk result (IsToldOfWhole (told_as self.now.raw (secrecy_of self.now.transfers.put_of)) self.now.transfers.put.joined) }
-        ensures memory { OnErr result (WantsMemory (told_as self.now.raw (secrecy_of self.now.transfers.put_of)) self.now.transfers.put.joined) }
+        ensures told { IfOk result (IsToldOfWhole
+            (told_as self.now.raw
+            (secrecy_of self.now.transfers.put_of)) self.now.transfers.put.joined) }
+        ensures memory { OnErr result
+            (WantsMemory (told_as self.now.raw
+            (secrecy_of self.now.transfers.put_of)) self.now.transfers.put.joined) }
     {
         self.transfers.put_whole(alloc, self.raw)
     }
 
-    /// What is told of a value that is read, where its last block came.
+    /// The reported content of a value that was read, after its last block.
     pub fn got_whole(&self, alloc: A) -> Result<Whole<A>, AllocError>
-        ensures told { IfOk result (IsToldOfWhole (told_as self.now.raw (secrecy_of self.now.transfers.got_of)) self.now.transfers.got.joined) }
-        ensures memory { OnErr result (WantsMemory (told_as self.now.raw (secrecy_of self.now.transfers.got_of)) self.now.transfers.got.joined) }
+        ensures told { IfOk result (IsToldOfWhole
+            (told_as self.now.raw
+            (secrecy_of self.now.transfers.got_of)) self.now.transfers.got.joined) }
+        ensures memory { OnErr result
+            (WantsMemory (told_as self.now.raw
+            (secrecy_of self.now.transfers.got_of)) self.now.transfers.got.joined) }
     {
         self.transfers.got_whole(alloc, self.raw)
     }

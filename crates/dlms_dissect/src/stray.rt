@@ -4,17 +4,17 @@ ghost use Rattle.std.specs.Prelude.{◌<◌, ◌≤◌, length, IfSome};
 
 use dlms_frame::check;
 
-/// The octet before and behind a frame.
+/// The octet before and after a frame.
 const FLAG: u8 = 0x7e;
 
-/// What is wrong with bytes that stand between flags as a frame does.
+/// What is wrong with bytes between flags, as in a frame.
 #[derive(Clone, Copy)]
 pub enum Damage {
     /// There is no information, and the check is another one.
     Check,
     /// There is information: whether the check of the header is right, and that of the frame.
     Checks { header: bool, frame: bool },
-    /// No addresses stand where they belong, or there is no room for what a frame has.
+    /// The addresses are not where they belong, or there is no space for a frame's parts.
     Form,
 }
 
@@ -22,7 +22,7 @@ pub enum Damage {
 #[derive(Clone, Copy)]
 pub struct Piece {
     pub len: usize,
-    /// What is wrong where it has a frame's flags and length.
+    /// What is wrong if it has a frame's flags and length.
     pub damage: Option<Damage>,
 }
 
@@ -46,7 +46,7 @@ fn address_len(bytes: &[u8]) -> Option<usize>
     }
 }
 
-/// How many bytes stand before the information and its check: the format, the addresses, the control field.
+/// The number of bytes before the information and its check: the format, the addresses, the control field.
 fn header_len(body: &[u8]) -> Option<usize>
     ensures { IfSome result (λ len. len ≤ 11) }
 {
@@ -96,7 +96,7 @@ fn framed_len(bytes: &[u8]) -> Option<usize>
     }
 }
 
-/// The first piece of bytes that are no frame: what has the form of one, or what stands before that.
+/// The first piece of bytes that are no frame: one with the form of a frame, or the bytes before that.
 pub fn first_piece(bytes: &[u8]) -> Piece
     ensures some { 0 < length bytes.now → 0 < result.len }
     ensures within { result.len ≤ length bytes.now }

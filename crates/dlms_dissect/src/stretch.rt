@@ -11,10 +11,10 @@ use std::alloc::{AllocError, Allocator};
 /// The most bytes that a frame has with its flags; older ones belong to none that is still to come.
 const MOST_FRAME: usize = 2049;
 
-/// How many bytes are kept before the oldest are told as no frame.
+/// The number of bytes that are kept before the oldest are reported as no frame.
 const MOST_KEPT: usize = 4096;
 
-/// A frame, and how many of the kept bytes stand before it.
+/// A frame, and the number of kept bytes before it.
 #[derive(Drop)]
 pub struct Found<'a> {
     pub frame: Frame<'a>,
@@ -59,15 +59,17 @@ impl<A: Allocator> Stretch<A> {
         self.told = 0;
     }
 
-    /// Takes bytes up to the closing flag of the next frame, or all of them, and says how many. Memory is wanted only where there
-    /// are bytes; where it is refused none of them is kept.
+    /// Takes bytes up to the closing flag of the next frame, or all of them, and returns how many. Memory is needed only if there
+    /// are bytes; if it is refused none of them is kept.
     pub fn feed(&mut self, bytes: &[u8]) -> Result<usize, AllocError>
         ensures some { IfOk result (λ fed. 0 < length bytes.now → 0 < fed) }
         ensures within { IfOk result (λ fed. fed ≤ length bytes.now) }
         // The frame is the next one of the stretch.
-        ensures takes { IfOk result (λ fed. Takes self.old.deframer.bytes (take fed bytes.now) self.new.deframer.frame self.new.deframer.bytes) }
+        ensures takes { IfOk result (λ fed. Takes self.old.deframer.bytes
+            (take fed bytes.now) self.new.deframer.frame self.new.deframer.bytes) }
         ensures all { IfOk result (λ fed. IfNone self.new.deframer.frame (fed ≡ length bytes.now)) }
-        ensures kept { IfOk result (λ fed. self.new.kept.items ≡ self.old.kept.items ++ take fed bytes.now) }
+        ensures kept { IfOk result (λ fed. self.new.kept.items ≡ self.old.kept.items
+            ++ take fed bytes.now) }
         ensures err { OnErr result (self.new.kept.items ≡ self.old.kept.items) }
         ensures memory { IsErr result → 0 < length bytes.now }
         ensures place { self.new.place ≡ self.old.place }
@@ -82,7 +84,8 @@ impl<A: Allocator> Stretch<A> {
     pub fn found(&self) -> Option<Found<'_>>
         ensures frame { option_map (λ found. found.frame) result ≡ self.now.deframer.frame }
         // A frame has its two flags besides.
-        ensures before { IfSome result (λ found. found.before ≡ length self.now.kept.items - frame_len found.frame - 2) }
+        ensures before { IfSome result
+            (λ found. found.before ≡ length self.now.kept.items - frame_len found.frame - 2) }
     {
         let frame = self.deframer.frame()?;
         let before = self
@@ -93,9 +96,10 @@ impl<A: Allocator> Stretch<A> {
         Some(Found { frame, before })
     }
 
-    /// The kept bytes before this many that were not told yet, and the place in the stretch where they begin.
+    /// The kept bytes before this many that were not reported yet, and the place in the stretch where they begin.
     pub fn stray(&self, before: usize) -> (u64, &[u8])
-        ensures place { result.0 ≡ place_behind self.now.place (min self.now.told (min before (length self.now.kept.items))) }
+        ensures place { result.0 ≡ place_behind self.now.place
+            (min self.now.told (min before (length self.now.kept.items))) }
         ensures bytes { result.1.now ≡ drop self.now.told (take before self.now.kept.items) }
     {
         let before = before.min(self.kept.len());
@@ -106,7 +110,7 @@ impl<A: Allocator> Stretch<A> {
         )
     }
 
-    /// The kept bytes behind this many.
+    /// The kept bytes after this many.
     pub fn behind(&self, before: usize) -> &[u8]
         ensures { result.now ≡ drop before self.now.kept.items }
     {
@@ -115,7 +119,8 @@ impl<A: Allocator> Stretch<A> {
 
     /// How many of the kept bytes are too old to belong to a frame that is still to come.
     pub fn old(&self) -> usize
-        ensures { result ≡ (if nat_lt MOST_KEPT (length self.now.kept.items) then length self.now.kept.items - MOST_FRAME else 0) }
+        ensures { result ≡ (if nat_lt MOST_KEPT (length self.now.kept.items)
+            then length self.now.kept.items - MOST_FRAME else 0) }
     {
         if self.kept.len() > MOST_KEPT {
             self.kept.len() - MOST_FRAME
@@ -131,11 +136,12 @@ impl<A: Allocator> Stretch<A> {
         self.kept.len()
     }
 
-    /// Lets go of the first bytes, which were told.
+    /// Drops the first bytes, which were reported.
     pub fn drop_front(&mut self, count: usize)
         ensures deframer { self.new.deframer ≡ self.old.deframer }
         ensures kept { self.new.kept.items ≡ drop count self.old.kept.items }
-        ensures place { self.new.place ≡ place_behind self.old.place (min count (length self.old.kept.items)) }
+        ensures place { self.new.place ≡ place_behind self.old.place
+            (min count (length self.old.kept.items)) }
         ensures told { self.new.told ≡ self.old.told - min count (length self.old.kept.items) }
     {
         let count = count.min(self.kept.len());
@@ -146,11 +152,13 @@ impl<A: Allocator> Stretch<A> {
         self.told = self.told.saturating_sub(count);
     }
 
-    /// Lets go of all bytes but the closing flag of a frame that was told.
+    /// Drops all bytes except the closing flag of a frame that was reported.
     pub fn pass_frame(&mut self)
         ensures deframer { self.new.deframer ≡ self.old.deframer }
-        ensures kept { self.new.kept.items ≡ drop (length self.old.kept.items - 1) self.old.kept.items }
-        ensures place { self.new.place ≡ place_behind self.old.place (length self.old.kept.items - 1) }
+        ensures kept { self.new.kept.items ≡ drop
+            (length self.old.kept.items - 1) self.old.kept.items }
+        ensures place { self.new.place ≡ place_behind self.old.place
+            (length self.old.kept.items - 1) }
         ensures told { self.new.told ≡ 1 }
     {
         let len = self.kept.len();

@@ -1,4 +1,4 @@
-//! What the fields of an APDU name.
+//! The objects that the fields of an APDU name.
 
 ghost use Rattle.std.specs.Prelude.{◌≡◌, MatchOption};
 ghost use Rattle.dlms_dissect.specs.Survey.{IsSurvey, chief, name_at, noted, nothing, rank, with_name};
@@ -10,14 +10,14 @@ use crate::secrecy::{Secrecy, secrecy_at};
 use crate::walk::{Event, Walk};
 use dlms_data::Descriptor;
 
-/// What an APDU says of itself: its invoke-id-and-priority, and of what it names the first one of which most is kept secret.
+/// Facts of an APDU: its invoke-id-and-priority, and the first most secret object that it names.
 #[derive(Clone, Copy)]
 pub struct Survey {
     pub invoke: Option<u8>,
     pub chief: Option<Named>,
 }
 
-/// How much is kept secret of what is named so.
+/// The rank of secrecy of an object.
 fn rank(named: Named) -> u8
     ensures { result ≡ rank named }
 {
@@ -38,7 +38,7 @@ fn chief(one: Option<Named>, other: Named) -> Option<Named>
     }
 }
 
-/// The attribute or method whose class, name and number stand at the front.
+/// The attribute or method whose class, name and number are at the front.
 pub fn name_at(octets: &[u8], method: bool) -> Option<Named>
     ensures { result ≡ name_at octets.now method }
 {
@@ -66,7 +66,7 @@ impl Survey {
         }
     }
 
-    /// The same with a name more, where one stands there.
+    /// The same with one more name, if there is one.
     fn with_name(self, named: Option<Named>) -> Survey
         ensures { result ≡ with_name self named }
     {
@@ -79,7 +79,7 @@ impl Survey {
         }
     }
 
-    /// The same behind a field more.
+    /// The same after one more field.
     fn with(self, event: Event<'_>) -> Survey
         ensures { result ≡ noted self (told_of event.entry) }
     {
@@ -100,9 +100,10 @@ impl Survey {
     }
 }
 
-/// What the fields of a walk say and name, where the octets spell them.
+/// The facts and names of the fields of a walk, if the octets spell them.
 pub fn survey_of(walk: Walk<'_>) -> Option<Survey>
-    ensures { MatchOption result (SpellsNothing (pending_of walk.entry) walk.entry.rest.now) (IsSurvey (pending_of walk.entry) walk.entry.rest.now) }
+    ensures { MatchOption result (SpellsNothing (pending_of walk.entry) walk.entry.rest.now)
+        (IsSurvey (pending_of walk.entry) walk.entry.rest.now) }
 {
     let mut survey = Survey::nothing();
     let mut left = walk;

@@ -64,7 +64,7 @@ impl<A: Allocator + Copy> Talk<A> {
         self.services = Services::new(alloc, raw);
     }
 
-    /// The link goes down, or is asked for: nothing of what was under way goes on.
+    /// The link goes down, or this is requested: nothing in progress continues.
     pub fn forget(&mut self, alloc: A)
         ensures { self.new ≡ forgotten self.old }
     {
@@ -162,9 +162,12 @@ impl<A: Allocator + Copy> Talk<A> {
         follows: bool,
         info: &[u8],
     ) -> Result<Came, AllocError>
-        ensures came { IfOk result (λ came. came ≡ (taken_next self.old numbers follows info.now).0) }
-        ensures after { IfOk result (λ came. self.new ≡ (taken_next self.old numbers follows info.now).1) }
-        ensures memory { IsErr result → JoinsFrame self.old.client (Some Side.Client) numbers.send info.now }
+        ensures came { IfOk result
+            (λ came. came ≡ (taken_next self.old numbers follows info.now).0) }
+        ensures after { IfOk result
+            (λ came. self.new ≡ (taken_next self.old numbers follows info.now).1) }
+        ensures memory { IsErr result
+            → JoinsFrame self.old.client (Some Side.Client) numbers.send info.now }
     {
         self.meter.expect(numbers.receive);
         if !follows {
@@ -182,8 +185,10 @@ impl<A: Allocator + Copy> Talk<A> {
         follows: bool,
         info: &[u8],
     ) -> Result<Came, AllocError>
-        ensures came { IfOk result (λ came. came ≡ (taken_of_client self.old numbers follows info.now).0) }
-        ensures after { IfOk result (λ came. self.new ≡ (taken_of_client self.old numbers follows info.now).1) }
+        ensures came { IfOk result
+            (λ came. came ≡ (taken_of_client self.old numbers follows info.now).0) }
+        ensures after { IfOk result
+            (λ came. self.new ≡ (taken_of_client self.old numbers follows info.now).1) }
         ensures memory { IsErr result → JoinsOfClient self.old numbers info.now }
     {
         let side = Some(Side::Client);
@@ -205,8 +210,10 @@ impl<A: Allocator + Copy> Talk<A> {
         follows: bool,
         info: &[u8],
     ) -> Result<Came, AllocError>
-        ensures came { IfOk result (λ came. came ≡ (taken_of self.old side numbers follows info.now).0) }
-        ensures after { IfOk result (λ came. self.new ≡ (taken_of self.old side numbers follows info.now).1) }
+        ensures came { IfOk result
+            (λ came. came ≡ (taken_of self.old side numbers follows info.now).0) }
+        ensures after { IfOk result
+            (λ came. self.new ≡ (taken_of self.old side numbers follows info.now).1) }
         ensures memory { IsErr result → JoinsOctets self.old side numbers info.now }
     {
         match side {
@@ -224,9 +231,9 @@ impl<A: Allocator + Copy> Talk<A> {
         }
     }
 
-    /// Takes an information frame of this side; `follows` says that another segment of its APDU does. Where frames are missing
-    /// before it, what was asked for is forgotten. Memory is wanted only where octets are joined; where it is refused nothing is
-    /// said of what is kept.
+    /// Takes an information frame of this side; `follows` states that another segment of its APDU comes. If frames are missing
+    /// before it, the requested object is forgotten. Memory is needed only if octets are joined; if it is refused, the state
+    /// afterwards is unspecified.
     pub fn take(
         &mut self,
         alloc: A,
@@ -235,8 +242,10 @@ impl<A: Allocator + Copy> Talk<A> {
         follows: bool,
         info: &[u8],
     ) -> Result<Came, AllocError>
-        ensures came { IfOk result (λ came. came ≡ (talk_behind self.old side numbers follows info.now).0) }
-        ensures after { IfOk result (λ came. self.new ≡ (talk_behind self.old side numbers follows info.now).1) }
+        ensures came { IfOk result
+            (λ came. came ≡ (talk_behind self.old side numbers follows info.now).0) }
+        ensures after { IfOk result
+            (λ came. self.new ≡ (talk_behind self.old side numbers follows info.now).1) }
         ensures memory { IsErr result → JoinsOctets self.old side numbers info.now }
     {
         if !self.is_certain(side, numbers, info) {
@@ -246,7 +255,7 @@ impl<A: Allocator + Copy> Talk<A> {
     }
 }
 
-/// Puts an item behind the others. Where there are too many, the first one is let go.
+/// Appends an item. If there are too many, the first one is dropped.
 fn put_last<T: Drop, A: Allocator>(items: &mut Vec<T, A>, item: T) -> Result<(), AllocError>
     ensures items { OnOk result (items.new.items ≡ with_last items.old.items item) }
     ensures err { OnErr result (items.new.items ≡ items.old.items) }
@@ -266,7 +275,7 @@ pub struct Talks<A: Allocator> {
 }
 
 impl<A: Allocator + Copy> Talks<A> {
-    /// None yet; where `raw` is set, strings that may be a secret are told as they are.
+    /// None yet; with `raw`, strings that may be a secret are shown as they are.
     pub fn new(alloc: A, raw: bool) -> Self
         ensures talks { result.talks.items ≡ [] }
         ensures raw { result.raw ≡ raw }
@@ -296,8 +305,12 @@ impl<A: Allocator + Copy> Talks<A> {
 
     /// Takes the talk of these ends out, or begins one. It is to be put back.
     pub fn take(&mut self, alloc: A, parties: Parties) -> Talk<A>
-        ensures talk { MatchOption (place_of self.old.talks.items parties) (result ≡ new_talk parties self.old.raw) (λ at. result ≡ slice_index_or self.old.talks.items at result) }
-        ensures others { MatchOption (place_of self.old.talks.items parties) (self.new.talks.items ≡ self.old.talks.items) (λ at. self.new.talks.items ≡ remove self.old.talks.items at) }
+        ensures talk { MatchOption (place_of self.old.talks.items parties)
+            (result ≡ new_talk parties self.old.raw)
+            (λ at. result ≡ slice_index_or self.old.talks.items at result) }
+        ensures others { MatchOption (place_of self.old.talks.items parties)
+            (self.new.talks.items ≡ self.old.talks.items)
+            (λ at. self.new.talks.items ≡ remove self.old.talks.items at) }
         ensures raw { self.new.raw ≡ self.old.raw }
     {
         match self.find(parties) {

@@ -1,4 +1,4 @@
-//! A value that may be a secret, or hold one: of its strings the lengths are told, and no octet.
+//! A value that may be a secret, or contain one: the lengths of its strings are reported, and no octet.
 
 ghost use Rattle.std.specs.Prelude.{◌≡◌};
 ghost use Rattle.dlms_dissect.specs.Veiled.{IsPart};
@@ -6,22 +6,22 @@ ghost use Rattle.dlms_dissect.specs.Veiled.{IsPart};
 use dlms_data::Data;
 use std::alloc::Allocator;
 
-/// What is told of such a value.
+/// The reported content of such a value.
 #[derive(Drop)]
 pub enum Part<'a, A: Allocator> {
     /// A value that is no string and holds no others.
     Plain(&'a Data<A>),
-    /// An octet-string of so many octets.
+    /// An octet-string of this many octets.
     OctetString(usize),
-    /// A visible-string of so many.
+    /// A visible-string of this many.
     VisibleString(usize),
-    /// A utf8-string of so many.
+    /// A utf8-string of this many.
     Utf8String(usize),
-    /// A bit-string of so many bits.
+    /// A bit-string of this many bits.
     BitString(usize),
-    /// An array of so many values.
+    /// An array of this many values.
     Array(usize),
-    /// A structure of so many.
+    /// A structure of this many.
     Structure(usize),
 }
 
@@ -32,14 +32,14 @@ pub struct Veiled<'a, A: Allocator> {
 }
 
 impl<'a, A: Allocator> Veiled<'a, A> {
-    /// Nothing but what is told of it may be had of this value any more.
+    /// Only the report of this value is accessible from now on.
     pub fn new(value: &'a Data<A>) -> Veiled<'a, A>
         ensures { result.value.now ≡ value.now }
     {
         Veiled { value }
     }
 
-    /// What is told of the value; of those in an array or a structure each is told by itself.
+    /// The reported content of the value; the inner values of an array or a structure are reported by themselves.
     pub fn part(&self) -> Part<'a, A>
         ensures { IsPart self.now.value.now result }
     {
@@ -72,14 +72,14 @@ pub struct Covered<A: Allocator> {
 }
 
 impl<A: Allocator> Covered<A> {
-    /// Nothing but what is told of it may be had of this value any more.
+    /// Only the report of this value is accessible from now on.
     pub fn new(value: Data<A>) -> Covered<A>
         ensures { result.value ≡ value }
     {
         Covered { value }
     }
 
-    /// What is told of it.
+    /// Its report.
     pub fn veiled(&self) -> Veiled<'_, A>
         ensures { result.value.now ≡ self.now.value }
     {

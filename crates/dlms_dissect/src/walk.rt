@@ -1,4 +1,4 @@
-//! The fields of an APDU, one behind another.
+//! The fields of an APDU, one after another.
 
 ghost use Rattle.std.specs.Prelude.{◌≡◌, ◌<◌, ◌∷◌, [], length, true, false, IfSome};
 ghost use Rattle.dlms_dissect.specs.Walk.{IsNext, pending_of};
@@ -6,12 +6,12 @@ ghost use Rattle.dlms_dissect.specs.Walk.{IsNext, pending_of};
 use crate::fields::{Field, front_at};
 use crate::nodes::length_at;
 
-/// What stands next in an APDU.
+/// The next element of an APDU.
 #[derive(Clone, Copy)]
 pub enum Step {
     /// A field.
     One(Field),
-    /// A list of such fields, behind their number.
+    /// A list of such fields, after their number.
     Many(Field),
 }
 
@@ -22,7 +22,7 @@ pub enum Event<'a> {
     List(Field, u32),
 }
 
-/// What is left to be read: so many values, then so many fields of a list, then these steps.
+/// The elements still to be read: some values, then some fields of a list, then these steps.
 #[derive(Clone, Copy)]
 pub struct Walk<'a> {
     pub values: usize,
@@ -32,7 +32,7 @@ pub struct Walk<'a> {
     pub rest: &'a [u8],
 }
 
-/// Reads a field, behind which this is left.
+/// Reads a field, which this rest follows.
 fn read_field<'a>(field: Field, behind: Walk<'a>) -> Option<(Event<'a>, Walk<'a>)>
     ensures next { IsNext (Step.One field ∷ pending_of behind.entry) behind.entry.rest.now result }
     ensures shorter { IfSome result (λ r. length r.1.rest.now < length behind.entry.rest.now) }
@@ -53,7 +53,7 @@ fn read_field<'a>(field: Field, behind: Walk<'a>) -> Option<(Event<'a>, Walk<'a>
     Some((Event::Field(field, own), walk))
 }
 
-/// Reads the number of a list's fields, behind which these steps are left.
+/// Reads the number of a list's fields, which these steps follow.
 fn read_list<'a>(
     field: Field,
     steps: &'static [Step],
@@ -76,7 +76,7 @@ fn read_list<'a>(
     Some((Event::List(field, length.number), walk))
 }
 
-/// Reads a step, behind which these are left.
+/// Reads a step, which these follow.
 fn read_step<'a>(
     step: Step,
     steps: &'static [Step],
@@ -114,7 +114,7 @@ impl<'a> Walk<'a> {
         self.values == 0 && self.items == 0 && self.steps.is_empty()
     }
 
-    /// The next field, and what is left behind it; none where what is left spells nothing.
+    /// The next field, and the rest after it; none if the rest spells nothing.
     pub fn next(self) -> Option<(Event<'a>, Walk<'a>)>
         requires { pending_of self ≡ [] → ⊥ }
         ensures next { IsNext (pending_of self.entry) self.entry.rest.now result }

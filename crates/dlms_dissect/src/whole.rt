@@ -9,7 +9,7 @@ use crate::veiled::Covered;
 use dlms_data::{Data, DataFault, read};
 use std::alloc::{AllocError, Allocator};
 
-/// What is told of the joined octets of all blocks.
+/// The report of the joined octets of all blocks.
 #[derive(Drop)]
 pub enum Whole<A: Allocator> {
     /// They are a secret.
@@ -22,7 +22,7 @@ pub enum Whole<A: Allocator> {
     Unreadable(Fault),
 }
 
-/// What is told of the joined octets: of a secret nothing but that it is one.
+/// The report of the joined octets: of a secret only that it is one.
 pub fn whole_of<A: Allocator + Copy>(
     alloc: A,
     secrecy: Secrecy,

@@ -23,11 +23,11 @@ use Rattle.dlms_ends.specs.Moments.Moment.{Came, Quiet, Unheard, Went, Broke}
 use Rattle.dlms_ends.specs.declared.end.Heard.{Heard as HeardAs}
 use Rattle.dlms_ends.specs.declared.end.Heard.TheVariants.{Bytes}
 use Rattle.dlms_ends.specs.declared.end.TheConstants.{PIECE, READS}
-use Rattle.dlms_ends.specs.declared.fault.LoopFault.{LoopFault}
-use Rattle.dlms_ends.specs.declared.fault.LoopFault.TheVariants.{Poll}
+use Rattle.dlms_ends.specs.declared.fault.RunFault.{RunFault}
+use Rattle.dlms_ends.specs.declared.fault.RunFault.TheVariants.{Poll}
 use Rattle.dlms_ends.specs.declared.head_end.HeadEnd.{HeadEnd}
-use Rattle.dlms_ends.specs.declared.head_end.Turn.{Turn}
-use Rattle.dlms_ends.specs.declared.head_end.Turn.TheVariants.{Sent, Done}
+use Rattle.dlms_ends.specs.declared.head_end.PollTurn.{PollTurn}
+use Rattle.dlms_ends.specs.declared.head_end.PollTurn.TheVariants.{Sent, Done}
 use Rattle.dlms_ends.proofs.EndLemmas.{nothing_left}
 use Rattle.dlms_ends.proofs.InflowLemmas.{brought, frame_taken, holds_as, idled, none_taken}
 use Rattle.dlms_ends.proofs.MomentLemmas.{adds_none, adds_more, adds_as, adds_still}
@@ -147,12 +147,12 @@ fed_none old now new start head head' bytes rest piece left kept frame cut so_fa
     heard_none old now new h head head' rest piece left kept frame given cut takes call same may (so_far h at taken) gives
 
 -- how the frames of a piece end a turn
-ends_so : {A : Type 0} (old now new : Option (List Moment)) (h : HeadWorld) (head head' : HeadEnd A) (rest : List ℕ) (result : Result Turn LoopFault)
+ends_so : {A : Type 0} (old now new : Option (List Moment)) (h : HeadWorld) (head head' : HeadEnd A) (rest : List ℕ) (result : Result PollTurn RunFault)
     → (s : Listening old now h head rest) → Ends 0 now new s.world head' result → Turned 0 old new h head' result
 ends_so old now new h head head' rest result s ends = record { front = s.acts; mid = s.world; now = now; listens = s.listens; pieces = sym s.pieces; did = s.did; ends = ends }
 
 -- one that is answered, or at which the poll is done
-heard_some : {A : Type 0} (old now new : Option (List Moment)) (h : HeadWorld) (head head' : HeadEnd A) (rest piece left kept : List ℕ) (frame : Parts) (given : Result PollStep PollFault) (turn : Turn)
+heard_some : {A : Type 0} (old now new : Option (List Moment)) (h : HeadWorld) (head head' : HeadEnd A) (rest piece left kept : List ℕ) (frame : Parts) (given : Result PollStep PollFault) (turn : PollTurn)
     → piece ++ left ≡ rest → TakesBytes head.deframer.bytes piece (Some frame) kept → IsCall head.poller (On frame given) head'.poller → Fits head'.deframer.bytes [] 0 → head'.left ≡ head.left
     → Listening old now h head rest → Gives now new given (Ok (Some turn)) head'.poller → Turned 0 old new h head' (Ok turn)
 heard_some old now new h head head' rest piece left kept frame (Ok step.Nothing) turn cut takes call idle may s (told, adds) = absurd (cc told)
@@ -181,7 +181,7 @@ heard_some old now new h head head' rest piece left kept frame (Ok step.Done) Do
     })
 heard_some old now new h head head' rest piece left kept frame (Err e) turn cut takes call idle may s (told, adds) = absurd (cc told)
 
-pub fed_some : {A : Type 0} (old now new : Option (List Moment)) (start head head' : HeadEnd A) (bytes rest piece left kept : List ℕ) (frame : Parts) (after : PollerValue) (turn : Turn)
+pub fed_some : {A : Type 0} (old now new : Option (List Moment)) (start head head' : HeadEnd A) (bytes rest piece left kept : List ℕ) (frame : Parts) (after : PollerValue) (turn : PollTurn)
     → piece ++ left ≡ rest → HeadFed old now start head bytes rest → TakesBytes head.deframer.bytes piece (Some frame) kept → TakesFrame now new head.poller frame (Ok (Some turn)) after → after ≡ head'.poller
     → Fits head'.deframer.bytes [] 0 → head'.left ≡ head.left → (h : HeadWorld) → IsAt start h → h.inflow.rest ≡ bytes → Turned 0 old new h head' (Ok turn)
 fed_some old now new start head head' bytes rest piece left kept frame after turn cut so_far takes frame_taken same idle may h at taken =
@@ -190,9 +190,9 @@ fed_some old now new start head head' bytes rest piece left kept frame after tur
 
 -- ---- faults
 
-fails_system : (count : ℕ) (old new : Option (List Moment)) (h : HeadWorld) (after : PollerValue) (fault : LoopFault) → IsOfSystem fault → LineBreaks old new h after → Fails count old new h after fault
-fails_system count old new h after fault (inl is) breaks = subst (λ (f : LoopFault). Fails count old new h after f) (sym is) breaks
-fails_system count old new h after fault (inr is) breaks = subst (λ (f : LoopFault). Fails count old new h after f) (sym is) breaks
+fails_system : (count : ℕ) (old new : Option (List Moment)) (h : HeadWorld) (after : PollerValue) (fault : RunFault) → IsOfSystem fault → LineBreaks old new h after → Fails count old new h after fault
+fails_system count old new h after fault (inl is) breaks = subst (λ (f : RunFault). Fails count old new h after f) (sym is) breaks
+fails_system count old new h after fault (inr is) breaks = subst (λ (f : RunFault). Fails count old new h after f) (sym is) breaks
 
 fails_told : (old new : Option (List Moment)) (h : HeadWorld) (after : PollerValue) (given : PollFault) → Refuses old new h after given → Fails 0 old new h after (told_by given after)
 fails_told old new h after (poll.Refused diagnostic) r = AtFrame (λ e. cc) r
@@ -202,7 +202,7 @@ fails_told old new h after poll.Protocol r = AtFrame (λ e. cc) r
 fails_told old new h after poll.Columns r = (r, refl)
 fails_told old new h after poll.Memory r = AtFrame (λ e. cc) r
 
-heard_err : {A : Type 0} (old now new : Option (List Moment)) (h : HeadWorld) (head head' : HeadEnd A) (rest piece left kept : List ℕ) (frame : Parts) (given : Result PollStep PollFault) (fault : LoopFault)
+heard_err : {A : Type 0} (old now new : Option (List Moment)) (h : HeadWorld) (head head' : HeadEnd A) (rest piece left kept : List ℕ) (frame : Parts) (given : Result PollStep PollFault) (fault : RunFault)
     → piece ++ left ≡ rest → TakesBytes head.deframer.bytes piece (Some frame) kept → IsCall head.poller (On frame given) head'.poller
     → Listening old now h head rest → Gives now new given (Err fault) head'.poller → Turned 0 old new h head' (Err fault)
 heard_err old now new h head head' rest piece left kept frame (Ok step.Nothing) fault cut takes call s (told, adds) = absurd (cc told)
@@ -233,9 +233,9 @@ heard_err old now new h head head' rest piece left kept frame (Err e) fault cut 
       poller = refl;
     } in
     let same : fault ≡ told_by e head'.poller = cc told in
-    ends_so old now new h head head' rest (Err fault) s (subst (λ (f : LoopFault). Fails 0 now new s.world head'.poller f) (sym same) (fails_told now new s.world head'.poller e refuses))
+    ends_so old now new h head head' rest (Err fault) s (subst (λ (f : RunFault). Fails 0 now new s.world head'.poller f) (sym same) (fails_told now new s.world head'.poller e refuses))
 
-pub fed_err : {A : Type 0} (old now new : Option (List Moment)) (start head head' : HeadEnd A) (bytes rest piece left kept : List ℕ) (frame : Parts) (fault : LoopFault)
+pub fed_err : {A : Type 0} (old now new : Option (List Moment)) (start head head' : HeadEnd A) (bytes rest piece left kept : List ℕ) (frame : Parts) (fault : RunFault)
     → piece ++ left ≡ rest → HeadFed old now start head bytes rest → TakesBytes head.deframer.bytes piece (Some frame) kept → TakesFrame now new head.poller frame (Err fault) head'.poller
     → (h : HeadWorld) → IsAt start h → h.inflow.rest ≡ bytes → Turned 0 old new h head' (Err fault)
 fed_err old now new start head head' bytes rest piece left kept frame fault cut so_far takes (given, call, gives) h at taken =
@@ -248,15 +248,15 @@ fed_all old now start head bytes rest none so_far h at taken =
 
 -- ---- nothing comes
 
--- the poller is told that nothing came
+-- the poller is told that nothing arrived
 waits : {A : Type 0} (head : HeadEnd A) (h : HeadWorld) (given : Result Parts PollFault) (after : PollerValue) → IsIn head h → IsCall head.poller (Timeout given) after
     → IsWaiting h given (record { inflow = cleared h.inflow; poller = after })
 waits head h given after stands call = record { taken = stands.taken; call = subst (λ (p : PollerValue). IsCall p (Timeout given) after) stands.at.poller call; after = refl }
 
-at_once : {A : Type 0} (old new : Option (List Moment)) (h : HeadWorld) (head' : HeadEnd A) (result : Result Turn LoopFault) → Ends 0 old new h head' result → Turned 0 old new h head' result
+at_once : {A : Type 0} (old new : Option (List Moment)) (h : HeadWorld) (head' : HeadEnd A) (result : Result PollTurn RunFault) → Ends 0 old new h head' result → Turned 0 old new h head' result
 at_once old new h head' result ends = record { front = []; mid = h; now = old; listens = tt; pieces = refl; did = did_none old h; ends = ends }
 
-waits_so : {A : Type 0} (old now new : Option (List Moment)) (head head' : HeadEnd A) (given : Result Parts PollFault) (result : Result Turn LoopFault) → Adds old now (Quiet ∷ []) → Fits head'.deframer.bytes [] 0 → head'.left ≡ head.left
+waits_so : {A : Type 0} (old now new : Option (List Moment)) (head head' : HeadEnd A) (given : Result Parts PollFault) (result : Result PollTurn RunFault) → Adds old now (Quiet ∷ []) → Fits head'.deframer.bytes [] 0 → head'.left ≡ head.left
     → IsCall head.poller (Timeout given) head'.poller → GivesAgain now new given result → (h : HeadWorld) → IsIn head h → Ends 0 old new h head' result
 waits_so old now new head head' (Ok frame) (Ok Sent) quiet idle may call (told, adds) h stands = record {
   act = Waits (Ok frame);
@@ -283,15 +283,15 @@ waits_so old now new head head' (Ok frame) (Err fault) quiet idle may call (is, 
     } in
     fails_system 0 old new h head'.poller fault is (Sending broken)
 waits_so old now new head head' (Err fault) result quiet idle may call (told, adds) h stands =
-    subst (λ (r : Result Turn LoopFault). Ends 0 old new h head' r) (sym told)
+    subst (λ (r : Result PollTurn RunFault). Ends 0 old new h head' r) (sym told)
     (AtSilence (record { inflow = cleared h.inflow; poller = head'.poller }) (waits head h (Err fault) head'.poller stands call) (adds_still old now new (Quiet ∷ []) quiet adds) refl)
 
-repeats_so : {A : Type 0} (old now new : Option (List Moment)) (head head' : HeadEnd A) (result : Result Turn LoopFault) → Adds old now (Quiet ∷ []) → Fits head'.deframer.bytes [] 0 → head'.left ≡ head.left
+repeats_so : {A : Type 0} (old now new : Option (List Moment)) (head head' : HeadEnd A) (result : Result PollTurn RunFault) → Adds old now (Quiet ∷ []) → Fits head'.deframer.bytes [] 0 → head'.left ≡ head.left
     → Repeats now new head.poller result head'.poller → (h : HeadWorld) → IsIn head h → Turned 0 old new h head' result
 repeats_so old now new head head' result quiet idle may (inl is) h stands =
     let none : CanTimeOut h.poller → ⊥ = subst (λ (p : PollerValue). CanTimeOut p → ⊥) stands.at.poller is.none in
     at_once old new h head' result
-    (subst (λ (r : Result Turn LoopFault). Ends 0 old new h head' r) (sym is.told) (NoneIsOut refl none (adds_still old now new (Quiet ∷ []) quiet is.quiet) (is.same ∙ stands.at.poller)))
+    (subst (λ (r : Result PollTurn RunFault). Ends 0 old new h head' r) (sym is.told) (NoneIsOut refl none (adds_still old now new (Quiet ∷ []) quiet is.quiet) (is.same ∙ stands.at.poller)))
 repeats_so old now new head head' result quiet idle may (inr (given, call, gives)) h stands = at_once old new h head' result (waits_so old now new head head' given result quiet idle may call gives h stands)
 
 -- ---- a turn
@@ -311,8 +311,8 @@ HeadSoFar old now start head count = (h : HeadWorld) → IsIn start h → TurnSo
 pub so_far_start : {A : Type 0} (past : Option (List Moment)) (head : HeadEnd A) → HeadSoFar past past head head 0
 so_far_start past head = λ h stands. record { front = []; mid = h; listens = tt; pieces = refl; did = did_none past h; stands = stands }
 
--- what ends a turn behind no piece ends it behind any number of them
-ends_behind : {A : Type 0} (count : ℕ) (old new : Option (List Moment)) (h : HeadWorld) (head : HeadEnd A) (result : Result Turn LoopFault) → Ends 0 old new h head result → Ends count old new h head result
+-- the end of a turn after no piece is its end after any number of them
+ends_behind : {A : Type 0} (count : ℕ) (old new : Option (List Moment)) (h : HeadWorld) (head : HeadEnd A) (result : Result PollTurn RunFault) → Ends 0 old new h head result → Ends count old new h head result
 ends_behind count old new h head (Ok Sent) ends = ends
 ends_behind count old new h head (Ok Done) ends = ends
 ends_behind count old new h head (Err (Poll f)) (AtFrame other refuses) = AtFrame other refuses
@@ -322,8 +322,8 @@ ends_behind count old new h head (Err (Poll f)) (NoneIsOut is none adds same) = 
 ends_behind count old new h head (Err (Poll f)) (Tires is all adds same) = absurd (omega (arith, all))
 ends_behind count old new h head (Err fault) ends = ends
 
--- a turn goes on behind what came, and ends
-turned_behind : {A : Type 0} (old now new : Option (List Moment)) (h m : HeadWorld) (head' : HeadEnd A) (result : Result Turn LoopFault) (front : List Act) → AreListening front → Did old now h front m
+-- a turn continues after what arrived, and ends
+turned_behind : {A : Type 0} (old now new : Option (List Moment)) (h m : HeadWorld) (head' : HeadEnd A) (result : Result PollTurn RunFault) (front : List Act) → AreListening front → Did old now h front m
     → Turned 0 now new m head' result → TakesTurn old new h head' result
 turned_behind old now new h m head' result front listens did t =
     let count = pieces_in (front ++ t.front) in (
@@ -340,7 +340,7 @@ turned_behind old now new h m head' result front listens did t =
     )
 
 -- nothing came
-pub turn_waits : {A : Type 0} (old now mid new : Option (List Moment)) (start head head' : HeadEnd A) (count : ℕ) (result : Result Turn LoopFault) → HeadSoFar old now start head count → Adds now mid (Quiet ∷ [])
+pub turn_waits : {A : Type 0} (old now mid new : Option (List Moment)) (start head head' : HeadEnd A) (count : ℕ) (result : Result PollTurn RunFault) → HeadSoFar old now start head count → Adds now mid (Quiet ∷ [])
     → Fits head'.deframer.bytes [] 0 → head'.left ≡ head.left → Repeats mid new head.poller result head'.poller → (h : HeadWorld) → IsIn start h → TakesTurn old new h head' result
 turn_waits old now mid new start head head' count result so_far quiet idle may again h stands =
     let s = so_far h stands in
@@ -361,7 +361,7 @@ gets head head' h bytes count stands long within counted =
     )
 
 -- and it ended the turn
-pub turn_ends : {A : Type 0} (old now mid new : Option (List Moment)) (start head head' head'' : HeadEnd A) (count room : ℕ) (bytes : List ℕ) (result : Result Turn LoopFault) → HeadSoFar old now start head count → Adds now mid (Came bytes ∷ [])
+pub turn_ends : {A : Type 0} (old now mid new : Option (List Moment)) (start head head' head'' : HeadEnd A) (count room : ℕ) (bytes : List ℕ) (result : Result PollTurn RunFault) → HeadSoFar old now start head count → Adds now mid (Came bytes ∷ [])
     → length bytes ≡ room → room ≤ head.left → head' ≡ record head { left = head.left - room } → ((h : HeadWorld) → IsAt head' h → h.inflow.rest ≡ bytes → Turned 0 mid new h head'' result)
     → (h : HeadWorld) → IsIn start h → TakesTurn old new h head'' result
 turn_ends old now mid new start head head' head'' count room bytes result so_far came long within counted ends h stands =
@@ -389,17 +389,17 @@ turn_on old now mid new start head head' head'' count room bytes so_far came lon
     }
 
 -- more bytes came than may
-pub turn_floods : {A : Type 0} (old now new : Option (List Moment)) (start head head' : HeadEnd A) (count room : ℕ) (bytes : List ℕ) (fault : LoopFault) → HeadSoFar old now start head count → Adds now new (Came bytes ∷ [])
+pub turn_floods : {A : Type 0} (old now new : Option (List Moment)) (start head head' : HeadEnd A) (count room : ℕ) (bytes : List ℕ) (fault : RunFault) → HeadSoFar old now start head count → Adds now new (Came bytes ∷ [])
     → length bytes ≡ room → head.left < room → fault ≡ Poll poll.Protocol → head' ≡ head → (h : HeadWorld) → IsIn start h → TakesTurn old new h head' (Err fault)
 turn_floods old now new start head head' count room bytes fault so_far came long more is same h stands =
     let s = so_far h stands in
     let many : s.mid.inflow.left < length bytes = omega (arith, long, more, s.stands.at.holds.may) in
     let fails : Fails count now new s.mid head'.poller fault =
-    subst (λ (f : LoopFault). Fails count now new s.mid head'.poller f) (sym is) (Floods refl bytes many came (ap (λ (e : HeadEnd _). e.poller) same ∙ s.stands.at.poller)) in
+    subst (λ (f : RunFault). Fails count now new s.mid head'.poller f) (sym is) (Floods refl bytes many came (ap (λ (e : HeadEnd _). e.poller) same ∙ s.stands.at.poller)) in
     (count, record { front = s.front; mid = s.mid; now = now; listens = s.listens; pieces = s.pieces; did = s.did; ends = fails })
 
 -- a read failed
-pub turn_unheard : {A : Type 0} (old now new : Option (List Moment)) (start head : HeadEnd A) (count : ℕ) (fault : LoopFault) (error : Error) → HeadSoFar old now start head count → Adds now new (Unheard error ∷ []) → IsOfSystem fault
+pub turn_unheard : {A : Type 0} (old now new : Option (List Moment)) (start head : HeadEnd A) (count : ℕ) (fault : RunFault) (error : Error) → HeadSoFar old now start head count → Adds now new (Unheard error ∷ []) → IsOfSystem fault
     → (h : HeadWorld) → IsIn start h → TakesTurn old new h head (Err fault)
 turn_unheard old now new start head count fault error so_far broke is h stands =
     let s = so_far h stands in
@@ -413,27 +413,27 @@ turn_tires old now start head count so_far all h stands =
 
 -- ---- results
 
-pub piece_err : {A : Type 0} (old new : Option (List Moment)) (h : HeadWorld) (head : HeadEnd A) (r : Result (Option Turn) LoopFault) (fault : LoopFault) → r ≡ Err fault → Turned 0 old new h head (Err fault) → TakesPiece old new h head r
-piece_err old new h head r fault is turned = subst (λ (x : Result (Option Turn) LoopFault). TakesPiece old new h head x) (sym is) turned
+pub piece_err : {A : Type 0} (old new : Option (List Moment)) (h : HeadWorld) (head : HeadEnd A) (r : Result (Option PollTurn) RunFault) (fault : RunFault) → r ≡ Err fault → Turned 0 old new h head (Err fault) → TakesPiece old new h head r
+piece_err old new h head r fault is turned = subst (λ (x : Result (Option PollTurn) RunFault). TakesPiece old new h head x) (sym is) turned
 
-pub frame_as : (old new : Option (List Moment)) (before after : PollerValue) (frame : Parts) (o p : Option Turn) → o ≡ p → TakesFrame old new before frame (Ok o) after → TakesFrame old new before frame (Ok p) after
-frame_as old new before after frame o p is h = subst (λ (x : Option Turn). TakesFrame old new before frame (Ok x) after) is h
+pub frame_as : (old new : Option (List Moment)) (before after : PollerValue) (frame : Parts) (o p : Option PollTurn) → o ≡ p → TakesFrame old new before frame (Ok o) after → TakesFrame old new before frame (Ok p) after
+frame_as old new before after frame o p is h = subst (λ (x : Option PollTurn). TakesFrame old new before frame (Ok x) after) is h
 
 pub found_as : (old taken new : List ℕ) (o p : Option Parts) → o ≡ p → TakesBytes old taken o new → TakesBytes old taken p new
 found_as old taken new o p is h = subst (λ (q : Option Parts). TakesBytes old taken q new) is h
 
-pub piece_as : {A : Type 0} (old new : Option (List Moment)) (h : HeadWorld) (head : HeadEnd A) (o p : Option Turn) → o ≡ p → TakesPiece old new h head (Ok o) → TakesPiece old new h head (Ok p)
-piece_as old new h head o p is takes = subst (λ (x : Option Turn). TakesPiece old new h head (Ok x)) is takes
+pub piece_as : {A : Type 0} (old new : Option (List Moment)) (h : HeadWorld) (head : HeadEnd A) (o p : Option PollTurn) → o ≡ p → TakesPiece old new h head (Ok o) → TakesPiece old new h head (Ok p)
+piece_as old new h head o p is takes = subst (λ (x : Option PollTurn). TakesPiece old new h head (Ok x)) is takes
 
-pub turn_err : {A : Type 0} (old new : Option (List Moment)) (h : HeadWorld) (head : HeadEnd A) (r : Result Turn LoopFault) (fault : LoopFault) → r ≡ Err fault → TakesTurn old new h head (Err fault) → TakesTurn old new h head r
-turn_err old new h head r fault is turned = subst (λ (x : Result Turn LoopFault). TakesTurn old new h head x) (sym is) turned
+pub turn_err : {A : Type 0} (old new : Option (List Moment)) (h : HeadWorld) (head : HeadEnd A) (r : Result PollTurn RunFault) (fault : RunFault) → r ≡ Err fault → TakesTurn old new h head (Err fault) → TakesTurn old new h head r
+turn_err old new h head r fault is turned = subst (λ (x : Result PollTurn RunFault). TakesTurn old new h head x) (sym is) turned
 
-pub err_is : {T : Type 0} (r : Result T LoopFault) (fault : LoopFault) → IsErrAnd r (λ given. given ≡ fault) → r ≡ Err fault
+pub err_is : {T : Type 0} (r : Result T RunFault) (fault : RunFault) → IsErrAnd r (λ given. given ≡ fault) → r ≡ Err fault
 err_is (Ok x) fault is = absurd is
-err_is (Err e) fault is = ap (λ (f : LoopFault). Err f) is
+err_is (Err e) fault is = ap (λ (f : RunFault). Err f) is
 
 -- an error of the system, as a fault
-pub system_err : {T : Type 0} (r : Result T LoopFault) (error : Error) → IsErrAnd r (TellsError error) → (fault : LoopFault) × (r ≡ Err fault) × IsOfSystem fault
+pub system_err : {T : Type 0} (r : Result T RunFault) (error : Error) → IsErrAnd r (TellsError error) → (fault : RunFault) × (r ≡ Err fault) × IsOfSystem fault
 system_err (Ok x) error is = absurd is
 system_err (Err f) error (inl told) = (f, refl, inl told.1)
 system_err (Err f) error (inr told) = (f, refl, inr told.1)

@@ -24,11 +24,11 @@ use Rattle.dlms_ends.specs.Calling.Act.{Gets, Skips, Hears, Waits}
 use Rattle.dlms_ends.specs.Faults.{IsOfSystem, TellsError}
 use Rattle.dlms_ends.specs.Moments.{Moment, Breaks}
 use Rattle.dlms_ends.specs.Serving.{Broken, Served, Turned as MeterTurned, Unturned, moments_of as moments_in, unanswered}
-use Rattle.dlms_ends.specs.declared.fault.LoopFault.{LoopFault}
-use Rattle.dlms_ends.specs.declared.fault.LoopFault.TheVariants.{Poll}
+use Rattle.dlms_ends.specs.declared.fault.RunFault.{RunFault}
+use Rattle.dlms_ends.specs.declared.fault.RunFault.TheVariants.{Poll}
 use Rattle.dlms_ends.specs.declared.head_end.HeadEnd.{HeadEnd}
-use Rattle.dlms_ends.specs.declared.head_end.Turn.{Turn}
-use Rattle.dlms_ends.specs.declared.head_end.Turn.TheVariants.{Sent, Done}
+use Rattle.dlms_ends.specs.declared.head_end.PollTurn.{PollTurn}
+use Rattle.dlms_ends.specs.declared.head_end.PollTurn.TheVariants.{Sent, Done}
 use Rattle.dlms_ends.specs.declared.polling.TheConstants.{TURNS}
 use Rattle.dlms_headend.specs.declared.poll_fault.PollFault.TheVariants as poll
 use Rattle.dlms_ends.proofs.CallingLemmas.{acts_more, did_one, frames_append, moments_append}
@@ -37,7 +37,7 @@ use Rattle.dlms_ends.proofs.ServingLemmas.{run_more, served_more, moments_append
 
 -- ---- the head end's side
 
--- so many frames went out behind the first one
+-- this many frames went out after the first one
 pub record HeadSide {A : Type 0} (old now : Option (List Moment)) (poller : PollerValue) (head : HeadEnd A) (count : ℕ) : Type 0 where
   pub acts : List Act
   pub world : HeadWorld
@@ -66,7 +66,7 @@ called_more old now new poller m h' xs ys c did =
       happened = adds_as old new ((first ++ moments_of xs) ++ moments_of ys) (first ++ moments_of (xs ++ ys)) parted (adds_more old now new (first ++ moments_of xs) (moments_of ys) c.happened did.happened);
     }
 
--- where nothing is answered no frame goes out
+-- if nothing is answered no frame goes out
 no_frames : (acts : List Act) → AreListening acts → frames_of acts ≡ []
 no_frames [] listens = refl
 no_frames (Gets bytes ∷ acts) (one, listens) = no_frames acts listens
@@ -112,7 +112,7 @@ side_done old now new poller done head head' count s (pieces, t) same =
     }
 
 -- one that failed
-pub side_fails : {A : Type 0} (old now new : Option (List Moment)) (poller : PollerValue) (head head' : HeadEnd A) (count : ℕ) (fault : LoopFault) → (s : HeadSide old now poller head count) → HeadTakes now new s.world head' (Err fault)
+pub side_fails : {A : Type 0} (old now new : Option (List Moment)) (poller : PollerValue) (head head' : HeadEnd A) (count : ℕ) (fault : RunFault) → (s : HeadSide old now poller head count) → HeadTakes now new s.world head' (Err fault)
     → CallFails old new poller fault
 side_fails old now new poller head head' count fault s (pieces, t) = record {
   front = s.acts;
@@ -128,18 +128,18 @@ side_fails old now new poller head head' count fault s (pieces, t) = record {
 -- ---- the meter's side
 
 abbrev pub MeterSide : {P A : Type 0} → {ghosts : Ghosts P} → Option (List Moment) → Option (List Moment) → Meter P A ghosts → Meter P A ghosts → Type 0
-MeterSide old now start meter = (w : MeterWorld) → Stands start w → (steps : List Step) × Served old now w steps meter
+MeterSide old now start meter = (w : MeterWorld) → Stands start w → (steps : List Step) × Served old now w steps start meter
 
 pub meter_begins : {P A : Type 0} {ghosts : Ghosts P} (past : Option (List Moment)) (meter : Meter P A ghosts) → MeterSide past past meter meter
-meter_begins past meter w stands = ([], record { world = w; run = refl; stands = stands; happened = adds_none past })
+meter_begins past meter w stands = ([], record { world = w; run = refl; stands = stands; fits = λ fits. fits; happened = adds_none past })
 
 pub meter_turns : {P A : Type 0} {ghosts : Ghosts P} (old now new : Option (List Moment)) (start meter meter' : Meter P A ghosts) → MeterSide old now start meter
-    → ((w : MeterWorld) → Stands meter w → MeterTurned now new w meter') → MeterSide old new start meter'
+    → ((w : MeterWorld) → Stands meter w → MeterTurned now new w meter meter') → MeterSide old new start meter'
 meter_turns old now new start meter meter' side takes w stands =
     let s = side w stands in
     let t = takes s.1.world s.1.stands in
     let more = unanswered t.pieces ++ t.last in
-    (s.0 ++ more, served_more old now new w s.1.world t.served.world s.0 more meter' s.1.run s.1.happened t.served.run t.served.happened t.served.stands)
+    (s.0 ++ more, served_more old now new w s.1.world t.served.world s.0 more start meter' s.1.run s.1.happened t.served.run t.served.happened t.served.stands (λ fits. t.served.fits (s.1.fits fits)))
 
 pub meter_breaks : {P A : Type 0} {ghosts : Ghosts P} (old now new : Option (List Moment)) (start meter meter' : Meter P A ghosts) → MeterSide old now start meter
     → ((w : MeterWorld) → Stands meter w → Unturned now new w meter') → (w : MeterWorld) → Stands start w → (steps : List Step) × Broken old new w steps meter'
@@ -189,17 +189,21 @@ run_done : (calls : List Call) (p now : PollOf) (frame : Parts) → PollRun p (c
 run_done [] p now frame (mid, leads, same) = ap (λ (x : PollOf). x.course) same ∙ came_done p.course p mid frame leads
 run_done (call ∷ calls) p now frame (mid, leads, rest) = run_done calls mid now frame rest
 
-pub done_poll : (old new : Option (List Moment)) (plan : PlanValue) (poller done : PollerValue) → poller ≡ fresh_poll plan → IsPolled old new poller done → IsDonePoll plan done
-done_poll old new plan poller done fresh is =
+-- the calls of the poller of a poll that is done
+pub polled_calls : (old new : Option (List Moment)) (plan : PlanValue) (done : PollerValue) (is : IsPolled old new (fresh_poll plan) done)
+    → Calls (fresh_poll plan) ((Next is.called.frame ∷ calls_of is.front) ++ On is.frame (Ok step.Done) ∷ []) done
+polled_calls old new plan done is =
     let c = is.called in
-    let calls = Next c.frame ∷ (calls_of is.front ++ On is.frame (Ok step.Done) ∷ []) in
     let made : Calls c.begun (calls_of (is.front ++ Hears is.bytes is.frame (Ok step.Done) ∷ [])) is.world.poller = acts_call _ is.world (is.front ++ Hears is.bytes is.frame (Ok step.Done) ∷ []) c.does in
     let made' : Calls c.begun (calls_of is.front ++ On is.frame (Ok step.Done) ∷ []) is.world.poller =
     subst (λ (xs : List Call). Calls c.begun xs is.world.poller) (calls_append is.front (Hears is.bytes is.frame (Ok step.Done) ∷ [])) made in
-    let first : IsCall (fresh_poll plan) (Next c.frame) c.begun = subst (λ (p : PollerValue). IsCall p (Next c.frame) c.begun) fresh c.call in
-    let all : Calls (fresh_poll plan) calls done = subst (λ (p : PollerValue). Calls (fresh_poll plan) calls p) (sym is.same) (c.begun, first, made') in
-    let run = calls_are_a_poll plan calls done all in
-    let over = run_done (Next c.frame ∷ calls_of is.front) (first_poll plan) run.0 is.frame run.1 in
+    subst (λ (p : PollerValue). Calls (fresh_poll plan) (Next c.frame ∷ (calls_of is.front ++ On is.frame (Ok step.Done) ∷ [])) p) (sym is.same) (c.begun, c.call, made')
+
+done_fresh : (old new : Option (List Moment)) (plan : PlanValue) (done : PollerValue) → IsPolled old new (fresh_poll plan) done → IsDonePoll plan done
+done_fresh old new plan done is =
+    let calls = (Next is.called.frame ∷ calls_of is.front) ++ On is.frame (Ok step.Done) ∷ [] in
+    let run = calls_are_a_poll plan calls done (polled_calls old new plan done is) in
+    let over = run_done (Next is.called.frame ∷ calls_of is.front) (first_poll plan) run.0 is.frame run.1 in
     record {
       calls = calls;
       poll = run.0;
@@ -209,32 +213,35 @@ done_poll old new plan poller done fresh is =
       told = subst (λ (rows : _). HasReleased plan.columns run.0.taken rows) (sym (run.2.rows over)) (done_is_told plan calls run.0 run.1 over);
     }
 
+pub done_poll : (old new : Option (List Moment)) (plan : PlanValue) (poller done : PollerValue) → poller ≡ fresh_poll plan → IsPolled old new poller done → IsDonePoll plan done
+done_poll old new plan poller done fresh is = done_fresh old new plan done (subst (λ (p : PollerValue). IsPolled old new p done) fresh is)
+
 -- ---- how a poll ends
 
-pub system_told : (fault : LoopFault) (error : Error) → TellsError error fault → IsOfSystem fault
+pub system_told : (fault : RunFault) (error : Error) → TellsError error fault → IsOfSystem fault
 system_told fault error (inl told) = inl told.1
 system_told fault error (inr told) = inr told.1
 
-pub poll_unbegun : {P A : Type 0} {ghosts : Ghosts P} (head_old head_new tail : Option (List Moment)) (poller : PollerValue) (w : MeterWorld) (meter : Meter P A ghosts) (r : Result PollerValue LoopFault) (error : Error)
-    → IsErrAnd r (TellsError error) → (frame : Parts) (begun : PollerValue) → IsCall poller (Next (Some frame)) begun → Breaks head_old head_new (spelling frame) → Stands meter w → Polls head_old head_new tail tail poller w meter r
+pub poll_unbegun : {P A : Type 0} {ghosts : Ghosts P} (head_old head_new tail : Option (List Moment)) (poller : PollerValue) (w : MeterWorld) (meter : Meter P A ghosts) (r : Result PollerValue RunFault) (error : Error)
+    → IsErrAnd r (TellsError error) → (frame : Parts) (begun : PollerValue) → IsCall poller (Next (Some frame)) begun → Breaks head_old head_new (spelling frame) → Stands meter w → Polls head_old head_new tail tail poller w meter meter r
 poll_unbegun head_old head_new tail poller w meter (Ok done) error told frame begun call broke stands = absurd told
 poll_unbegun head_old head_new tail poller w meter (Err fault) error told frame begun call broke stands =
-    Unbegun (system_told fault error told) frame begun call broke (record { world = w; run = refl; stands = stands; happened = adds_none tail })
+    Unbegun (system_told fault error told) frame begun call broke (record { world = w; run = refl; stands = stands; fits = λ fits. fits; happened = adds_none tail })
 
-pub poll_breaks : {P A B : Type 0} {ghosts : Ghosts P} (head_old head_new tail_old tail_new : Option (List Moment)) (poller : PollerValue) (w : MeterWorld) (meter : Meter P A ghosts) (head : HeadEnd B) (count : ℕ) (r : Result PollerValue LoopFault) (error : Error)
-    → IsErrAnd r (TellsError error) → HeadSide head_old head_new poller head count → ((steps : List Step) × Broken tail_old tail_new w steps meter) → Polls head_old head_new tail_old tail_new poller w meter r
-poll_breaks head_old head_new tail_old tail_new poller w meter head count (Ok done) error told side broken = absurd told
-poll_breaks head_old head_new tail_old tail_new poller w meter head count (Err fault) error told side (steps, broken) = MeterBreaks (system_told fault error told) side.acts side.world side.called steps broken
+pub poll_breaks : {P A B : Type 0} {ghosts : Ghosts P} (head_old head_new tail_old tail_new : Option (List Moment)) (poller : PollerValue) (w : MeterWorld) (was meter : Meter P A ghosts) (head : HeadEnd B) (count : ℕ) (r : Result PollerValue RunFault) (error : Error)
+    → IsErrAnd r (TellsError error) → HeadSide head_old head_new poller head count → ((steps : List Step) × Broken tail_old tail_new w steps meter) → Polls head_old head_new tail_old tail_new poller w was meter r
+poll_breaks head_old head_new tail_old tail_new poller w was meter head count (Ok done) error told side broken = absurd told
+poll_breaks head_old head_new tail_old tail_new poller w was meter head count (Err fault) error told side (steps, broken) = MeterBreaks (system_told fault error told) side.acts side.world side.called steps broken
 
-pub poll_fails : {P A : Type 0} {ghosts : Ghosts P} (head_old head_new tail_old tail_new : Option (List Moment)) (poller : PollerValue) (w : MeterWorld) (meter : Meter P A ghosts) (r : Result PollerValue LoopFault) (fault : LoopFault)
-    → IsErrAnd r (λ given. given ≡ fault) → CallFails head_old head_new poller fault → ((steps : List Step) × Served tail_old tail_new w steps meter) → Polls head_old head_new tail_old tail_new poller w meter r
-poll_fails head_old head_new tail_old tail_new poller w meter (Ok done) fault told fails served = absurd told
-poll_fails head_old head_new tail_old tail_new poller w meter (Err given) fault told fails (steps, served) =
-    subst (λ (f : LoopFault). PollFails head_old head_new tail_old tail_new poller w meter f) (sym told) (HeadFails fails steps served)
+pub poll_fails : {P A : Type 0} {ghosts : Ghosts P} (head_old head_new tail_old tail_new : Option (List Moment)) (poller : PollerValue) (w : MeterWorld) (was meter : Meter P A ghosts) (r : Result PollerValue RunFault) (fault : RunFault)
+    → IsErrAnd r (λ given. given ≡ fault) → CallFails head_old head_new poller fault → ((steps : List Step) × Served tail_old tail_new w steps was meter) → Polls head_old head_new tail_old tail_new poller w was meter r
+poll_fails head_old head_new tail_old tail_new poller w was meter (Ok done) fault told fails served = absurd told
+poll_fails head_old head_new tail_old tail_new poller w was meter (Err given) fault told fails (steps, served) =
+    subst (λ (f : RunFault). PollFails head_old head_new tail_old tail_new poller w was meter f) (sym told) (HeadFails fails steps served)
 
-pub poll_tires : {P A B : Type 0} {ghosts : Ghosts P} (head_old head_new tail_old tail_new : Option (List Moment)) (poller : PollerValue) (w : MeterWorld) (meter : Meter P A ghosts) (head : HeadEnd B) (count : ℕ)
-    → HeadSide head_old head_new poller head count → count ≡ TURNS → ((steps : List Step) × Served tail_old tail_new w steps meter) → PollFails head_old head_new tail_old tail_new poller w meter (Poll poll.Line)
-poll_tires head_old head_new tail_old tail_new poller w meter head count side all (steps, served) = Tires refl side.acts side.world side.called (side.sent ∙ all) steps served
+pub poll_tires : {P A B : Type 0} {ghosts : Ghosts P} (head_old head_new tail_old tail_new : Option (List Moment)) (poller : PollerValue) (w : MeterWorld) (was meter : Meter P A ghosts) (head : HeadEnd B) (count : ℕ)
+    → HeadSide head_old head_new poller head count → count ≡ TURNS → ((steps : List Step) × Served tail_old tail_new w steps was meter) → PollFails head_old head_new tail_old tail_new poller w was meter (Poll poll.Line)
+poll_tires head_old head_new tail_old tail_new poller w was meter head count side all (steps, served) = Tires refl side.acts side.world side.called (side.sent ∙ all) steps served
 
-pub takes_as : {A : Type 0} (old new : Option (List Moment)) (h : HeadWorld) (head : HeadEnd A) (t t' : Turn) → t ≡ t' → HeadTakes old new h head (Ok t) → HeadTakes old new h head (Ok t')
-takes_as old new h head t t' is takes = subst (λ (x : Turn). HeadTakes old new h head (Ok x)) is takes
+pub takes_as : {A : Type 0} (old new : Option (List Moment)) (h : HeadWorld) (head : HeadEnd A) (t t' : PollTurn) → t ≡ t' → HeadTakes old new h head (Ok t) → HeadTakes old new h head (Ok t')
+takes_as old new h head t t' is takes = subst (λ (x : PollTurn). HeadTakes old new h head (Ok x)) is takes

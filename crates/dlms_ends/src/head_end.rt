@@ -7,7 +7,7 @@ ghost use Rattle.dlms_ends.specs.Moments.{Puts};
 ghost use Rattle.dlms_ends.specs.Calling.{HeadWorld, IsAt, IsIn, Begins, Dials, Repeats, TakesFrame, TakesPiece, TakesTurn, first_world};
 
 use crate::end::{End, Heard, PIECE, READS, bytes_of};
-use crate::fault::LoopFault;
+use crate::fault::RunFault;
 use dlms_frame::{Deframer, Frame, SentFrame};
 use dlms_headend::{PollFault, PollStep, Poller, list_columns};
 use std::alloc::{Allocator, Global};
@@ -16,9 +16,9 @@ use std::io;
 /// The most bytes of a poll, those of some sixty thousand rows: more than a year of quarters of an hour.
 pub const MOST_BYTES: usize = 2_097_152;
 
-/// What the head end has come to in a turn.
+/// The outcome of a head end's turn.
 #[derive(Clone, Copy, Debug, PartialEq, Eq)]
-pub enum Turn {
+pub enum PollTurn {
     /// A frame is out.
     Sent,
     /// The poll is done.
@@ -46,18 +46,19 @@ fn take_frame<W: End, A: Allocator + Copy>(
     poller: &mut Poller<A>,
     end: &mut W,
     frame: Frame<'_>,
-) -> Result<Option<Turn>, LoopFault>
-    ensures { TakesFrame (W.past end.old) (W.past end.new) poller.old frame.entry result poller.new }
+) -> Result<Option<PollTurn>, RunFault>
+    ensures { TakesFrame (W.past end.old)
+        (W.past end.new) poller.old frame.entry result poller.new }
 {
     match poller.on(&frame) {
         Ok(PollStep::Nothing) => Ok(None),
         Ok(PollStep::Send(next)) => {
             send(end, &next)?;
-            Ok(Some(Turn::Sent))
+            Ok(Some(PollTurn::Sent))
         }
-        Ok(PollStep::Done) => Ok(Some(Turn::Done)),
-        Err(PollFault::Columns) => Err(LoopFault::Columns(list_columns(poller.answer()))),
-        Err(fault) => Err(LoopFault::Poll(fault)),
+        Ok(PollStep::Done) => Ok(Some(PollTurn::Done)),
+        Err(PollFault::Columns) => Err(RunFault::Columns(list_columns(poller.answer()))),
+        Err(fault) => Err(RunFault::Poll(fault)),
     }
 }
 
@@ -103,10 +104,11 @@ impl<A: Allocator + Copy> HeadEnd<A> {
         self.poller
     }
 
-    /// Takes the frames among the bytes, up to the one that is answered or ends the poll. What stands behind it came before
-    /// the question that is out now, and is dropped.
-    fn take<W: End>(&mut self, end: &mut W, bytes: &[u8]) -> Result<Option<Turn>, LoopFault>
-        ensures { (h : HeadWorld) → IsAt self.old h → h.inflow.rest ≡ bytes.now → TakesPiece (W.past end.old) (W.past end.new) h self.new result }
+    /// Takes the frames among the bytes, up to the one that is answered or ends the poll. Bytes after it arrived before the request
+    /// that is out now, and are dropped.
+    fn take<W: End>(&mut self, end: &mut W, bytes: &[u8]) -> Result<Option<PollTurn>, RunFault>
+        ensures { (h : HeadWorld) → IsAt self.old h → h.inflow.rest ≡ bytes.now
+            → TakesPiece (W.past end.old) (W.past end.new) h self.new result }
     {
         let mut rest = bytes;
         'frames: while !rest.is_empty() {
@@ -127,40 +129,44 @@ impl<A: Allocator + Copy> HeadEnd<A> {
     }
 
     /// So many bytes more have come. More than a poll may have are a fault.
-    fn count(&mut self, bytes: usize) -> Result<(), LoopFault>
+    fn count(&mut self, bytes: usize) -> Result<(), RunFault>
         ensures within { OnOk result (bytes ≤ self.old.left) }
-        ensures counted { OnOk result (self.new ≡ record self.old { left = self.old.left - bytes }) }
-        ensures more { IfErr result (λ fault. (fault ≡ LoopFault.Poll Protocol) × (self.old.left < bytes) × (self.new ≡ self.old)) }
+        ensures counted { OnOk result
+            (self.new ≡ record self.old { left = self.old.left - bytes }) }
+        ensures more { IfErr result (λ fault. (fault ≡ RunFault.Poll Protocol)
+            × (self.old.left < bytes) × (self.new ≡ self.old)) }
     {
         match self.left.checked_sub(bytes) {
             Some(left) => {
                 self.left = left;
                 Ok(())
             }
-            None => Err(LoopFault::Poll(PollFault::Protocol)),
+            None => Err(RunFault::Poll(PollFault::Protocol)),
         }
     }
 
     /// Nothing came: the frame that is out goes again, and the fourth time-out in a row is a fault.
-    fn repeat<W: End>(&mut self, end: &mut W) -> Result<Turn, LoopFault>
-        ensures again { Repeats (W.past end.old) (W.past end.new) self.old.poller result self.new.poller }
+    fn repeat<W: End>(&mut self, end: &mut W) -> Result<PollTurn, RunFault>
+        ensures again { Repeats (W.past end.old)
+            (W.past end.new) self.old.poller result self.new.poller }
         ensures idle { Fits self.new.deframer.bytes [] 0 }
         ensures left { self.new.left ≡ self.old.left }
     {
         self.deframer.idle();
         if !self.poller.is_waiting() {
-            return Err(LoopFault::Poll(PollFault::Line));
+            return Err(RunFault::Poll(PollFault::Line));
         }
         let frame = self.poller.timeout()?;
         send(end, &frame)?;
-        Ok(Turn::Sent)
+        Ok(PollTurn::Sent)
     }
 
     /// The head end takes what comes, until a frame of its own is out or the poll is done. What comes in more than so many pieces
     /// without one is a fault of the line.
     #[inline(never)]
-    pub fn turn<S: End>(&mut self, end: &mut S) -> Result<Turn, LoopFault>
-        ensures { (h : HeadWorld) → IsIn self.old h → TakesTurn (S.past end.old) (S.past end.new) h self.new result }
+    pub fn turn<S: End>(&mut self, end: &mut S) -> Result<PollTurn, RunFault>
+        ensures { (h : HeadWorld) → IsIn self.old h
+            → TakesTurn (S.past end.old) (S.past end.new) h self.new result }
     {
         let mut piece = [0u8; PIECE];
         'reads: for _read in 0..READS {
@@ -175,6 +181,6 @@ impl<A: Allocator + Copy> HeadEnd<A> {
                 }
             }
         }
-        Err(LoopFault::Poll(PollFault::Line))
+        Err(RunFault::Poll(PollFault::Line))
     }
 }

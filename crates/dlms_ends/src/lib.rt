@@ -4,11 +4,12 @@
 mod end;
 mod fault;
 mod head_end;
+pub mod laws;
 pub mod meter_end;
 mod polling;
 
 pub use end::{End, Heard, PIECE, bytes_of, put};
-pub use fault::LoopFault;
-pub use head_end::{HeadEnd, MOST_BYTES, Turn, dial};
+pub use fault::RunFault;
+pub use head_end::{HeadEnd, MOST_BYTES, PollTurn, dial};
 pub use meter_end::{Taken, answer};
 pub use polling::{TURNS, poll, poller};

@@ -8,7 +8,7 @@ use dlms_dissect::{Acse, Association, CipheredInitiate};
 use dlms_names::{diagnostic, initiate_error, release_request, release_response};
 use std::alloc::Allocator;
 
-/// What is said of a mechanism.
+/// The words for a mechanism.
 fn mechanism_words(number: u8) -> &'static str {
     match number {
         0 => "mechanism: lowest level security (0)",
@@ -23,7 +23,7 @@ fn mechanism_words(number: u8) -> &'static str {
     }
 }
 
-/// What is said of the mechanism that a request names.
+/// The words for the mechanism that a request names.
 fn requested_words(mechanism: Mechanism, number: Option<u8>) -> &'static str {
     match (mechanism, number) {
         (Mechanism::Absent, _) => "mechanism: none is named",
@@ -32,7 +32,7 @@ fn requested_words(mechanism: Mechanism, number: Option<u8>) -> &'static str {
     }
 }
 
-/// What is said of a request's authentication value.
+/// The words for a request's authentication value.
 fn secret_words(has_secret: bool) -> &'static str {
     if has_secret {
         "authentication value: (secret)"
@@ -41,7 +41,7 @@ fn secret_words(has_secret: bool) -> &'static str {
     }
 }
 
-/// What is said of an application context.
+/// The words for an application context.
 fn context_words(number: Option<u8>) -> &'static str {
     match number {
         Some(1) => "application context: logical names, no ciphering",
@@ -52,7 +52,7 @@ fn context_words(number: Option<u8>) -> &'static str {
     }
 }
 
-/// The line of a title, where there is one.
+/// The line of a title, if there is one.
 fn write_title<A: Allocator>(text: &mut Text<A>, label: &str, title: Option<&[u8]>) {
     let Some(title) = title else {
         return;
@@ -72,14 +72,14 @@ fn write_acse<A: Allocator>(text: &mut Text<A>, acse: Acse<'_>) {
     }
 }
 
-/// The line of a response's mechanism, where it names one.
+/// The line of a response's mechanism, if it names one.
 fn write_mechanism<A: Allocator>(text: &mut Text<A>, mechanism: Option<u8>) {
     if let Some(number) = mechanism {
         line(text, 2, mechanism_words(number));
     }
 }
 
-/// The lines of what a response names.
+/// The lines of the names in a response.
 fn write_response_names<A: Allocator>(text: &mut Text<A>, acse: Acse<'_>) {
     line(text, 2, context_words(acse.context));
     write_mechanism(text, acse.mechanism);
@@ -176,7 +176,7 @@ pub fn write_response<A: Allocator>(text: &mut Text<A>, response: Verdict, acse:
     }
 }
 
-/// The line of a release, with the name of its reason, where it gives one.
+/// The line of a release, with the name of its reason, if it gives one.
 fn write_release<A: Allocator>(text: &mut Text<A>, label: &str, name: Option<&str>, reason: u8) {
     named_line(text, 1, label, name, "reason", u64::from(reason));
 }

@@ -12,10 +12,10 @@ use std::alloc::{AllocError, Allocator};
 /// How many connections are followed at once; of more the one that was longest silent is let go.
 const MOST_CONNECTIONS: usize = 32;
 
-/// What is told where a capture goes on with what is none.
+/// The message if a capture continues with invalid data.
 const BROKEN: &str = "(what follows is no capture)";
 
-/// What is told where a capture ends within a packet.
+/// The message if a capture ends within a packet.
 const CUT: &str = "(the capture ends within a packet)";
 
 /// A capture that is explained as it comes.
@@ -46,7 +46,8 @@ fn connection_of<A: Allocator + Copy>(
     }
 }
 
-/// The connection that was silent longest is let go: what is told of what waits in it; how many segments are of other traffic.
+/// Drops the connection that was silent longest: explains the segments that wait in it, and returns how many segments are of other
+/// traffic.
 fn end_oldest<A: Allocator + Copy>(
     connections: &mut Vec<Box<Connection<A>, A>, A>,
     text: &mut Text<A>,
@@ -59,7 +60,7 @@ fn end_oldest<A: Allocator + Copy>(
     others
 }
 
-/// Keeps a connection behind the others; of how many segments it is known then that they are of other traffic.
+/// Appends a connection to the others; returns how many segments are then known to be of other traffic.
 fn keep<A: Allocator + Copy>(
     connections: &mut Vec<Box<Connection<A>, A>, A>,
     connection: Box<Connection<A>, A>,
@@ -75,7 +76,7 @@ fn keep<A: Allocator + Copy>(
     }
 }
 
-/// What is told of a segment, and how many are of other traffic.
+/// Explains a segment, and returns how many are of other traffic.
 fn explain_segment<A: Allocator + Copy>(
     alloc: A,
     form: Form,
@@ -93,7 +94,7 @@ fn explain_segment<A: Allocator + Copy>(
     others.saturating_add(let_go)
 }
 
-/// What is told of a packet, and how many are of other traffic.
+/// Explains a packet, and returns how many are of other traffic.
 fn explain_packet<A: Allocator + Copy>(
     alloc: A,
     form: Form,
@@ -132,7 +133,7 @@ impl<A: Allocator + Copy> Captured<A> {
         }
     }
 
-    /// What is told of the packets that are whole.
+    /// Explains the packets that are complete.
     fn tell(&mut self, text: &mut Text<A>) {
         for _ in 0..u64::MAX {
             match self.file.next() {
@@ -155,7 +156,7 @@ impl<A: Allocator + Copy> Captured<A> {
         }
     }
 
-    /// Takes octets of the capture, and appends what is told of the packets that are whole then.
+    /// Takes octets of the capture, and appends the explanation of the packets that are then complete.
     pub fn feed(&mut self, octets: &[u8], text: &mut Text<A>) {
         if self.is_broken {
             return;
@@ -167,7 +168,7 @@ impl<A: Allocator + Copy> Captured<A> {
         self.tell(text);
     }
 
-    /// The capture is at its end: what is told of octets that are no frame, and of other traffic.
+    /// The capture is at its end: explains octets that are no frame, and other traffic.
     pub fn end(&mut self, text: &mut Text<A>) {
         let mut others = self.others;
         for connection in self.connections.iter_mut() {

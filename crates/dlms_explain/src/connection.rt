@@ -15,8 +15,8 @@ const PORT: u16 = 4059;
 /// The flag of a frame.
 const FLAG: u8 = 0x7e;
 
-/// What a connection carries, told by the first octets of a segment: frames of HDLC, or APDUs in the wrapper. While nothing tells it,
-/// octets to or from the port of DLMS/COSEM are looked at as frames.
+/// The content of a connection, by the first octets of a segment: HDLC frames, or APDUs in the wrapper. While it is unknown, octets
+/// to or from the port of DLMS/COSEM are taken as frames.
 #[derive(Clone, Copy)]
 enum Carries {
     Nothing,
@@ -74,8 +74,8 @@ fn begins_head(octets: &[u8]) -> bool {
     }
 }
 
-/// What a connection carries whose first octets these are.
-fn carried(ends: Ends, octets: &[u8]) -> Carries {
+/// The content of a connection with these first octets.
+fn content_of(ends: Ends, octets: &[u8]) -> Carries {
     match octets {
         [FLAG, ..] => Carries::Frames,
         _ if begins_head(octets) => Carries::Wrapped,
@@ -151,7 +151,7 @@ impl<A: Allocator + Copy> Connection<A> {
         }
     }
 
-    /// From where to where the segments of one direction go.
+    /// The sender and receiver of the segments of one direction.
     fn ends_of(&self, side: Side) -> Ends {
         let Ends { from, to } = self.ends;
         match side {
@@ -160,10 +160,10 @@ impl<A: Allocator + Copy> Connection<A> {
         }
     }
 
-    /// Whether the connection carries what is told, by the octets that are next too.
+    /// Whether the connection's content is explained, judged also by the octets that are next.
     fn is_told(&mut self) -> bool {
         if matches!(self.carries, Carries::Nothing) {
-            self.carries = carried(self.ends, self.fresh.as_slice());
+            self.carries = content_of(self.ends, self.fresh.as_slice());
         }
         !matches!(self.carries, Carries::Other)
     }
@@ -181,7 +181,7 @@ impl<A: Allocator + Copy> Connection<A> {
         }
     }
 
-    /// What the octets that are next say.
+    /// Explains the octets that are next.
     fn tell(&mut self, side: Side, text: &mut Text<A>) {
         match self.carries {
             Carries::Frames | Carries::Nothing => {
@@ -192,7 +192,7 @@ impl<A: Allocator + Copy> Connection<A> {
         }
     }
 
-    /// What is told of the octets that are next, which came at this time, and of so many that are missing before them.
+    /// Explains the octets that are next, which came at this time, and reports how many are missing before them.
     fn tell_fresh(&mut self, side: Side, missing: u64, stamp: Option<Stamp>, text: &mut Text<A>) {
         if self.fresh.is_empty() {
             return;
@@ -208,7 +208,7 @@ impl<A: Allocator + Copy> Connection<A> {
         self.fresh.clear();
     }
 
-    /// What is told of the segments that waited and are due now that a segment has come.
+    /// Explains the segments that waited and are due now that a segment has come.
     fn tell_due(&mut self, side: Side, text: &mut Text<A>) {
         for _ in 0..MOST_WAITING {
             match self.give_due(side) {
@@ -225,7 +225,7 @@ impl<A: Allocator + Copy> Connection<A> {
         }
     }
 
-    /// What is told of the segments that waited and are due, each with its own time, and of so many octets that are missing before them.
+    /// Explains the segments that waited and are due, each with its own time, and reports how many octets are missing before them.
     fn tell_waited(&mut self, side: Side, missing: u64, text: &mut Text<A>) {
         let mut missing = missing;
         for _ in 0..MOST_WAITING {
@@ -243,13 +243,13 @@ impl<A: Allocator + Copy> Connection<A> {
         }
     }
 
-    /// One direction goes on without the octets in front of the first segment that waits: what is told of those that are due then.
+    /// One direction continues without the octets before the first segment that waits: explains those that are then due.
     fn tell_resumed(&mut self, side: Side, text: &mut Text<A>) {
         let missing = self.resume(side);
         self.tell_waited(side, missing, text);
     }
 
-    /// What is told of the segments of one direction that wait and that the other end has taken, which awaits the octet of this number.
+    /// Explains the segments of one direction that wait and that the other end has taken, which awaits the octet with this number.
     fn tell_awaited(&mut self, side: Side, number: u32, text: &mut Text<A>) {
         for _ in 0..MOST_WAITING {
             if !self.order(side).is_acknowledged(number) {
@@ -259,7 +259,7 @@ impl<A: Allocator + Copy> Connection<A> {
         }
     }
 
-    /// What is told of all segments of one direction that wait.
+    /// Explains all segments of one direction that wait.
     fn tell_rest(&mut self, side: Side, text: &mut Text<A>) {
         for _ in 0..MOST_WAITING {
             if !self.order(side).is_waiting() {
@@ -269,7 +269,7 @@ impl<A: Allocator + Copy> Connection<A> {
         }
     }
 
-    /// A segment opens a direction. Where it was open already, what waits is told before.
+    /// A segment opens a direction. If it was open already, the waiting segments are explained first.
     fn open(&mut self, side: Side, sequence: u32, text: &mut Text<A>) {
         if self.order(side).is_repeated(sequence) {
             return;
@@ -284,7 +284,7 @@ impl<A: Allocator + Copy> Connection<A> {
         self.tell_waited(side, 0, text);
     }
 
-    /// What is told of a segment of one direction.
+    /// Explains a segment of one direction.
     fn tell_segment(
         &mut self,
         side: Side,
@@ -308,7 +308,7 @@ impl<A: Allocator + Copy> Connection<A> {
         }
     }
 
-    /// What is told of the octets of a datagram.
+    /// Explains the octets of a datagram.
     fn tell_datagram(
         &mut self,
         side: Side,
@@ -330,7 +330,7 @@ impl<A: Allocator + Copy> Connection<A> {
         others
     }
 
-    /// What is told of a segment that came at this time, and of those that waited for it; how many of these are of other traffic.
+    /// Explains a segment that came at this time, and those that waited for it; returns how many of these are of other traffic.
     pub fn explain(
         &mut self,
         stamp: Option<Stamp>,
@@ -367,7 +367,8 @@ impl<A: Allocator + Copy> Connection<A> {
         self.count_others()
     }
 
-    /// No more segments come: what is told of those that wait and of octets that are no frame; how many segments are of other traffic.
+    /// No more segments come: explains those that wait and octets that are no frame; returns how many segments are of other
+    /// traffic.
     pub fn end(&mut self, text: &mut Text<A>) -> u64 {
         self.tell_rest(Side::Client, text);
         self.tell_rest(Side::Meter, text);

@@ -2,7 +2,7 @@
 
 use crate::date_text::{write_date, write_date_time, write_time};
 use crate::names_text::{is_quantity, write_name};
-use crate::words::{Text, begin, end, number, number_line, octets, signed};
+use crate::words::{Text, begin, end, number, number_line, octets, signed_number};
 use dlms_data::{Bits, Data};
 use dlms_dissect::{Part, Veiled, is_date_time};
 use dlms_names::code_name;
@@ -58,7 +58,7 @@ fn code_in(bytes: &[u8]) -> Option<[u8; 6]> {
     }
 }
 
-/// The octets, and behind them the date-time, the OBIS code or the text that they are.
+/// The octets, followed by their date-time, OBIS code or text.
 fn write_octets<A: Allocator>(text: &mut Text<A>, bytes: &[u8]) {
     octets(text, bytes);
     if let Some(octets) = date_time_in(bytes) {
@@ -77,7 +77,7 @@ fn write_octets<A: Allocator>(text: &mut Text<A>, bytes: &[u8]) {
     }
 }
 
-/// The date-time of an octet-string, or its octets where it is none.
+/// The date-time of an octet-string, or its octets if it is none.
 pub fn write_string_time<A: Allocator>(text: &mut Text<A>, bytes: &[u8]) {
     match date_time_in(bytes) {
         Some(octets) => write_date_time(text, octets),
@@ -110,7 +110,7 @@ fn write_unsigned<A: Allocator>(text: &mut Text<A>, kind: &str, value: u64) {
 /// A type with a number that may be below 0.
 fn write_signed<A: Allocator>(text: &mut Text<A>, kind: &str, value: i64) {
     text.push(kind);
-    signed(text, value);
+    signed_number(text, value);
 }
 
 /// The type and the number of a value that is never below 0.
@@ -136,7 +136,7 @@ fn signed_of<A: Allocator>(value: &Data<A>) -> Option<(&'static str, i64)> {
     }
 }
 
-/// The words of a value without a part that is told; nothing of the others.
+/// The words of a value without inner values; nothing for the others.
 fn words_of<A: Allocator>(value: &Data<A>) -> &'static str {
     match value {
         Data::Null => "null-data",
@@ -217,7 +217,7 @@ fn write_items<A: Allocator>(
     }
 }
 
-/// The lines of a value with so many levels.
+/// The lines of a value with this many levels.
 #[cycle(tree)]
 fn write_tree<A: Allocator>(text: &mut Text<A>, depth: u8, room: u8, value: &Data<A>) {
     match value {
@@ -231,12 +231,12 @@ fn write_tree<A: Allocator>(text: &mut Text<A>, depth: u8, room: u8, value: &Dat
     }
 }
 
-/// The lines of a value: the first one stands so deep, and what it holds a level deeper.
+/// The lines of a value: the first one at this depth, and its inner values a level deeper.
 pub fn write_levels<A: Allocator>(text: &mut Text<A>, depth: u8, value: &Data<A>) {
     write_tree(text, depth, MOST_LEVELS, value);
 }
 
-/// Appends to the text the lines of a value that was read: the first one stands so deep, and what it holds a level deeper.
+/// Appends to the text the lines of a value that was read: the first one at this depth, and its inner values a level deeper.
 pub fn write_value<A: Allocator + Copy>(
     words: &mut String<A>,
     depth: u8,
@@ -283,7 +283,7 @@ fn write_veiled_items<A: Allocator>(
     }
 }
 
-/// The lines of a value with so many levels that may be a secret, or hold one.
+/// The lines of a value with this many levels that may be a secret, or contain one.
 #[cycle(veiled)]
 fn write_veiled_tree<A: Allocator>(
     text: &mut Text<A>,

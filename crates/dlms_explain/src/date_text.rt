@@ -1,6 +1,6 @@
 //! Date-times, dates and times as text (the Blue Book, date and time notation).
 
-use crate::words::{Text, number, octet, signed, two_digits};
+use crate::words::{Text, number, octet, signed_number, two_digits};
 use std::alloc::Allocator;
 
 /// A field that is left open.
@@ -9,7 +9,7 @@ const OPEN: u8 = 0xff;
 /// A deviation that is left open.
 const NO_DEVIATION: u16 = 0x8000;
 
-/// A field of two digits; `*` where it is left open.
+/// A field of two digits; `*` if it is left open.
 fn write_field<A: Allocator>(text: &mut Text<A>, field: u8) {
     if field == OPEN {
         text.push("*");
@@ -18,7 +18,7 @@ fn write_field<A: Allocator>(text: &mut Text<A>, field: u8) {
     }
 }
 
-/// The year; `*` where it is left open.
+/// The year; `*` if it is left open.
 fn write_year<A: Allocator>(text: &mut Text<A>, high: u8, low: u8) {
     if high == OPEN && low == OPEN {
         text.push("*");
@@ -50,7 +50,7 @@ fn write_day<A: Allocator>(text: &mut Text<A>, fields: [u8; 4]) {
     }
 }
 
-/// Hour, minute and second, and hundredths where there are any.
+/// Hour, minute and second, and hundredths if there are any.
 fn write_hour<A: Allocator>(text: &mut Text<A>, fields: [u8; 4]) {
     let [hour, minute, second, hundredths] = fields;
     write_field(text, hour);
@@ -64,16 +64,16 @@ fn write_hour<A: Allocator>(text: &mut Text<A>, fields: [u8; 4]) {
     }
 }
 
-/// The minutes from UTC, where they say anything.
+/// The minutes from UTC, if they are specified.
 fn write_deviation<A: Allocator>(text: &mut Text<A>, deviation: [u8; 2]) {
     let number = u16::from_be_bytes(deviation);
     if number != NO_DEVIATION && number != 0 {
         text.push(", deviation ");
-        signed(text, i64::from(i16::from_be_bytes(deviation)));
+        signed_number(text, i64::from(i16::from_be_bytes(deviation)));
     }
 }
 
-/// The status of the clock, where it says anything.
+/// The status of the clock, if it is specified.
 fn write_status<A: Allocator>(text: &mut Text<A>, status: u8) {
     if status != 0 && status != OPEN {
         text.push(", status ");

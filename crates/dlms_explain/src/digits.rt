@@ -2,8 +2,7 @@
 
 ghost use Rattle.std.specs.Prelude.{◌<◌, IfSome};
 
-/// A word of hexadecimal digits: how many digits it has, and how many octets of the line with `0x` or `x` in front of them, or `h`
-/// behind.
+/// A word of hexadecimal digits: the number of its digits, and its octets in the line with `0x` or `x` before it, or `h` after it.
 #[derive(Clone, Copy)]
 pub struct Group {
     pub digits: usize,
@@ -26,7 +25,7 @@ pub struct Run {
 /// What may stand between the words of a run.
 #[derive(Clone, Copy, PartialEq, Eq)]
 pub enum Between {
-    /// What separates octets: blanks, `:`, `-`, `,`, `;`, `_`, `|`, quotes, backslashes, but no colon with a blank behind it.
+    /// The separators of octets: blanks, `:`, `-`, `,`, `;`, `_`, `|`, quotes, backslashes, but no colon followed by a blank.
     Separators,
     /// One to eight characters, none of them a letter or a digit.
     Anything,
@@ -117,7 +116,7 @@ fn group_of(word: &[u8]) -> Option<Group> {
     })
 }
 
-/// What is in front of the next word, if it may stand between two words of digits.
+/// The text before the next word, if it may be between two words of digits.
 fn gap(bytes: &[u8]) -> Option<&[u8]> {
     let front = bytes.get(..MOST_BETWEEN + 1).unwrap_or(bytes);
     let len = front.iter().position(|byte| byte.is_ascii_alphanumeric())?;
@@ -149,7 +148,7 @@ impl Run {
         }
     }
 
-    /// The run with a further word behind it.
+    /// The run, extended by one more word.
     fn with(self, between: usize, group: Group) -> Run {
         Run {
             len: self.len.saturating_add(between).saturating_add(group.len),
@@ -181,7 +180,7 @@ impl Run {
     }
 }
 
-/// The longest run of words of hexadecimal digits that begins in front, where a word begins.
+/// The longest run of words of hexadecimal digits at the front, where a word begins.
 pub fn run_of(kind: Between, bytes: &[u8]) -> Option<Run> {
     let mut run = Run::new(group_of(bytes)?);
     for _ in 0..bytes.len() {
@@ -198,7 +197,7 @@ fn octet_of(high: u8, low: u8) -> Option<u8> {
     Some(digit(high)? * 16 + digit(low)?)
 }
 
-/// The octet of the next two digits of a run of pairs, and what is behind them.
+/// The octet of the next two digits of a run of pairs, and the rest after them.
 pub fn next_pair(run: &[u8]) -> Option<(u8, &[u8])> {
     let mut rest = run;
     for _ in 0..run.len() {
@@ -228,7 +227,7 @@ pub fn digit(byte: u8) -> Option<u8>
     }
 }
 
-/// Whether this is in front: each digit of the shape stands for a decimal digit up to it, anything else for itself.
+/// Whether this shape is at the front: each digit of the shape matches a decimal digit up to it, anything else matches itself.
 fn has_shape(bytes: &[u8], shape: &[u8]) -> bool {
     let Some(front) = bytes.get(..shape.len()) else {
         return false;
@@ -261,8 +260,8 @@ fn fraction_len(bytes: &[u8]) -> usize {
     }
 }
 
-/// This length, if what is behind it belongs neither to a word nor to a run of octets.
-fn bounded(bytes: &[u8], len: usize) -> usize {
+/// This length, if the text after it belongs neither to a word nor to a run of octets.
+fn len_if_bounded(bytes: &[u8], len: usize) -> usize {
     match bytes.get(len..) {
         Some([b'Z' | b'z', behind @ ..]) if !begins_word(behind) => len,
         Some([b':' | b'-' | b'/' | b'.', ..]) => 0,
@@ -277,10 +276,10 @@ fn time_len(bytes: &[u8]) -> usize {
         return 0;
     }
     let behind = bytes.get(8..).unwrap_or(&[]);
-    bounded(bytes, fraction_len(behind).saturating_add(8))
+    len_if_bounded(bytes, fraction_len(behind).saturating_add(8))
 }
 
-/// How long a date in front is, with the time of day behind it.
+/// The length of a date at the front, with the time of day after it.
 fn date_len(bytes: &[u8]) -> usize {
     let is_date = has_shape(bytes, b"2999-19-39")
         || has_shape(bytes, b"2999/19/39")
@@ -293,11 +292,11 @@ fn date_len(bytes: &[u8]) -> usize {
         Some([b'T' | b't' | b' ' | b'_', behind @ ..]) if time_len(behind) > 0 => {
             time_len(behind).saturating_add(11)
         }
-        _ => bounded(bytes, 10),
+        _ => len_if_bounded(bytes, 10),
     }
 }
 
-/// How long a date or a time of day in front is; 0 where there is none.
+/// The length of a date or a time of day at the front; 0 if there is none.
 pub fn stamp_len(bytes: &[u8]) -> usize {
     match date_len(bytes) {
         0 => time_len(bytes),
@@ -305,7 +304,7 @@ pub fn stamp_len(bytes: &[u8]) -> usize {
     }
 }
 
-/// How long a part of an address of IP of version 4 in front is, with the point behind it.
+/// The length of a part of an IPv4 address at the front, with the point after it.
 fn part_len(bytes: &[u8]) -> usize {
     match decimals_len(bytes) {
         len @ 1..=3 => match bytes.get(len..) {
@@ -320,14 +319,14 @@ fn part_len(bytes: &[u8]) -> usize {
 fn port_len(bytes: &[u8]) -> usize {
     match bytes {
         [b':', behind @ ..] => match decimals_len(behind) {
-            len @ 1..=5 => bounded(bytes, len.saturating_add(1)),
+            len @ 1..=5 => len_if_bounded(bytes, len.saturating_add(1)),
             _ => 0,
         },
         _ => 0,
     }
 }
 
-/// How long an address of IP of version 4 in front is, with its port; 0 where there is none.
+/// The length of an IPv4 address at the front, with its port; 0 if there is none.
 fn address_len(bytes: &[u8]) -> usize {
     let mut len = 0usize;
     for _ in 0..3 {
@@ -342,12 +341,12 @@ fn address_len(bytes: &[u8]) -> usize {
         _ => return 0,
     }
     match port_len(bytes.get(len..).unwrap_or(&[])) {
-        0 => bounded(bytes, len),
+        0 => len_if_bounded(bytes, len),
         port => len.saturating_add(port),
     }
 }
 
-/// How long the seconds or milliseconds since 1970 at the front of a line are, or seconds with a fraction; 0 where there are none.
+/// The length of seconds or milliseconds since 1970 at the front of a line, or of seconds with a fraction; 0 if there are none.
 fn seconds_len(bytes: &[u8]) -> usize {
     let len = decimals_len(bytes);
     let fraction = match bytes.get(len..) {
@@ -357,14 +356,14 @@ fn seconds_len(bytes: &[u8]) -> usize {
     let is_time = fraction > 0 && matches!(len, 1..=13)
         || matches!(len, 10 | 13) && matches!(bytes, [b'1', ..]);
     if is_time {
-        bounded(bytes, len.saturating_add(fraction))
+        len_if_bounded(bytes, len.saturating_add(fraction))
     } else {
         0
     }
 }
 
-/// How long a time or an address at the beginning of a word is, behind this octet, and perhaps at the front of a line; 0 where there
-/// is none. Behind a colon or a point there is none: octets may end so.
+/// The length of a time or an address at the beginning of a word, after this octet, and perhaps at the front of a line; 0 if there
+/// is none. After a colon or a point there is none: octets may end so.
 pub fn plain_len(before: Option<u8>, is_front: bool, word: &[u8]) -> usize {
     if matches!(before, Some(b':' | b'.')) {
         return 0;

@@ -14,7 +14,7 @@ pub struct Offset {
 pub enum DumpLine<'a> {
     /// The words in front of its offset, the offset, and pairs of hexadecimal digits with blanks between them.
     Octets(&'a [u8], Offset, &'a [u8]),
-    /// The offset behind the last octet.
+    /// The offset after the last octet.
     End,
     /// `*`: lines as the one before are left out.
     LeftOut,
@@ -28,17 +28,17 @@ struct Begun<'a> {
     behind: &'a [u8],
 }
 
-/// How many digits an offset has at least and at most, and behind other words of a line at least.
+/// The least and the most digits of an offset, and the least after other words of a line.
 const LEAST_DIGITS: usize = 4;
 
 const MOST_DIGITS: usize = 16;
 
 const LEAST_BEHIND_WORDS: usize = 8;
 
-/// Of what an offset is a multiple where no dump is under way.
+/// An offset is a multiple of this if no dump is in progress.
 const MULTIPLE: u64 = 8;
 
-/// How many pairs are in front of a wider gap, and how long what is behind it is, if that is as many pairs again.
+/// The number of pairs before a wider gap, and the length of the rest, if that has as many pairs again.
 const HALF: usize = 8;
 
 const HALF_LEN: usize = 23;
@@ -87,8 +87,8 @@ fn blanks_len(bytes: &[u8]) -> usize {
         .unwrap_or(bytes.len())
 }
 
-/// Whether the octets of a line go on over so many blanks: behind them are `rest`, before them so many pairs, in front of which the
-/// offset had a colon.
+/// Whether the octets of a line continue after this many blanks: `rest` follows them, this many pairs come before them, and the
+/// offset before those had a colon.
 fn is_within(has_colon: bool, blanks: usize, pairs: usize, rest: &[u8]) -> bool {
     match blanks {
         0 => false,
@@ -98,7 +98,7 @@ fn is_within(has_colon: bool, blanks: usize, pairs: usize, rest: &[u8]) -> bool 
     }
 }
 
-/// How long the digits in front are, if they are octets: pairs in a row where there is a colon, else one pair.
+/// The length of the digits at the front, if they are octets: consecutive pairs after an offset with a colon, otherwise one pair.
 fn octets_len(has_colon: bool, bytes: &[u8]) -> Option<usize> {
     let digits = digits_len(bytes);
     let is_octets = if has_colon {
@@ -113,8 +113,8 @@ fn octets_len(has_colon: bool, bytes: &[u8]) -> Option<usize> {
     }
 }
 
-/// How many octets of a line behind its offset are the digits of octets, and the blanks before them: two at least behind an offset
-/// that may be octets itself.
+/// The number of characters of a line after its offset that are the digits of octets, with the blanks before them: at least two
+/// blanks after an offset that may be octets itself.
 fn area_len(has_colon: bool, is_even: bool, behind: &[u8]) -> usize {
     let mut len = 0usize;
     let mut pairs = 0usize;
@@ -139,7 +139,7 @@ fn area_len(has_colon: bool, is_even: bool, behind: &[u8]) -> usize {
     len
 }
 
-/// Whether this is behind the octets of a line: nothing, or letters behind two blanks at least, or behind a bar.
+/// Whether this may follow the octets of a line: nothing, or letters after at least two blanks, or after a bar.
 fn is_text(behind: &[u8]) -> bool {
     matches!(
         behind,
@@ -147,7 +147,7 @@ fn is_text(behind: &[u8]) -> bool {
     )
 }
 
-/// Whether an offset may be that of a line, where a dump has come so far.
+/// Whether an offset may be that of a line, if a dump has come this far.
 fn may_follow(open: Option<Offset>, offset: Offset) -> bool {
     let follows = match open {
         Some(open) => open.digits == offset.digits && open.value < offset.value,
@@ -176,7 +176,7 @@ fn octets_at(open: Option<Offset>, line: &[u8], at: usize) -> Option<DumpLine<'_
     Some(DumpLine::Octets(words, offset, behind.get(..len)?))
 }
 
-/// Whether this line is an offset alone, behind that of the line before.
+/// Whether this line is an offset alone, following that of the line before.
 fn is_end(open: Offset, line: &[u8]) -> bool {
     match offset_of(line.trim_ascii()) {
         Some(begun) => {
@@ -188,7 +188,7 @@ fn is_end(open: Offset, line: &[u8]) -> bool {
     }
 }
 
-/// What a line is of a dump, which has come so far, if it is one of it or begins one.
+/// The role of a line in a dump that has come this far, if it belongs to it or begins one.
 pub fn dump_line(open: Option<Offset>, line: &[u8]) -> Option<DumpLine<'_>> {
     if let Some(open) = open {
         if line.trim_ascii() == b"*".as_slice() {

@@ -7,19 +7,19 @@ use crate::json::write_quoted;
 use crate::words::{Text, hexadecimal, number};
 use std::alloc::Allocator;
 
-/// How many digits in a row are taken for octets, of which the letters may stand behind them.
+/// The number of consecutive digits that count as octets, whose letters may follow them.
 const LEAST_OCTETS: usize = 16;
 
 /// How the words of a line are written.
 #[derive(Clone, Copy)]
 pub struct Written {
-    /// Octets stand there too.
+    /// With octets, too.
     pub raw: bool,
     /// Within a string of JSON.
     pub json: bool,
 }
 
-/// What is in front of a line, from some place on.
+/// The element at the front of a line, from some place on.
 #[derive(Clone, Copy)]
 enum Step {
     /// So many octets that may be shown.
@@ -33,7 +33,7 @@ struct Hidden {
     from: usize,
     to: usize,
     digits: usize,
-    /// What is behind them is not shown either.
+    /// The rest is not shown either.
     is_last: bool,
 }
 
@@ -107,7 +107,7 @@ fn step_within(line: &[u8], at: usize, rest: &[u8]) -> Step {
     })
 }
 
-/// What is in front of a word that begins here.
+/// The element at the front of a word that begins here.
 fn step_of_word(line: &[u8], at: usize, before: Option<u8>, is_front: bool, rest: &[u8]) -> Step {
     let plain = plain_len(before, is_front, rest);
     if plain > 0 {
@@ -127,7 +127,7 @@ fn step_of_word(line: &[u8], at: usize, before: Option<u8>, is_front: bool, rest
     })
 }
 
-/// What is at this place of a line.
+/// The element at this place of a line.
 fn step_of(line: &[u8], at: usize, is_front: bool) -> Step {
     let rest = line.get(at..).unwrap_or(&[]);
     match rest {
@@ -168,8 +168,8 @@ fn write_hidden<A: Allocator>(text: &mut Text<A>, hidden: Hidden) {
     text.push(" digits)");
 }
 
-/// Words of a line without its octets: each run of six or more hexadecimal digits is told by how many they are. Behind one of
-/// several words or of sixteen digits nothing is shown, since the same octets may stand there as letters.
+/// The words of a line without its octets: each run of six or more hexadecimal digits is replaced by their number. After one of
+/// several words or of sixteen digits nothing is shown, because the same octets may be there as letters.
 fn write_masked<A: Allocator>(text: &mut Text<A>, written: Written, words: &str) {
     let mut at = 0;
     for _ in 0..words.len() {
@@ -197,7 +197,7 @@ fn is_state(words: &str) -> bool {
     }
 }
 
-/// Words of a line as they are told.
+/// The words of a line as they are shown.
 pub fn write_echo<A: Allocator>(text: &mut Text<A>, written: Written, words: &str) {
     if written.raw || is_state(words) {
         write_part(text, written, words);

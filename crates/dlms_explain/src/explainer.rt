@@ -46,10 +46,10 @@ pub struct Explainer<A: Allocator = Global> {
 /// The most bytes of a line that are looked at at once.
 const MOST_PIECE: usize = 256;
 
-/// How many octets stand before an APDU in a frame (IEC 62056-46, the LLC sublayer).
+/// The number of octets before an APDU in a frame (IEC 62056-46, the LLC sublayer).
 const LLC: usize = 3;
 
-/// How many octets stand behind the information of a frame: its check and its flag.
+/// The number of octets after the information of a frame: its check and its flag.
 const BEHIND: usize = 3;
 
 /// The lines of a value to set or of a parameter that is joined of all its blocks.
@@ -159,8 +159,8 @@ fn write_unreadable<A: Allocator>(text: &mut Text<A>, bytes: &[u8], fault: Fault
     }
 }
 
-/// How many octets of an APDU stand before the first field that is told by its length or not at all: those may stand beside what
-/// is told of it, before it is taken. Of what is not readable none do.
+/// The number of octets of an APDU before the first field that is reported by its length or not at all: those may be shown beside
+/// the report, before it is taken. None of an unreadable one may.
 fn open_len<A: Allocator + Copy>(
     services: &Services<A>,
     apdu: &Apdu<'_, A>,
@@ -177,7 +177,7 @@ fn open_len<A: Allocator + Copy>(
     bytes.len().saturating_sub(closed)
 }
 
-/// The lines of an APDU, and where `hex` is set, how many of its octets may stand beside.
+/// The lines of an APDU, and with `hex`, how many of its octets may be shown beside them.
 pub fn explain_apdu<A: Allocator + Copy>(
     text: &mut Text<A>,
     alloc: A,
@@ -252,7 +252,8 @@ fn explain_read<A: Allocator + Copy>(
     }
 }
 
-/// The lines of the APDU that the last information frame of this side was the end of, and how many of its octets may stand beside.
+/// The lines of the APDU that the last information frame of this side completed, and how many of its octets may be shown beside
+/// them.
 fn explain_whole<A: Allocator + Copy>(
     text: &mut Text<A>,
     alloc: A,
@@ -274,8 +275,7 @@ fn explain_whole<A: Allocator + Copy>(
     }
 }
 
-/// The lines of an APDU that stands by itself, as in a frame that is not taken: of what came before it nothing is known, and
-/// it changes nothing.
+/// The lines of an APDU by itself, as in a frame that is not taken: nothing is known of earlier ones, and it changes nothing.
 fn explain_alone<A: Allocator + Copy>(
     text: &mut Text<A>,
     alloc: A,
@@ -291,8 +291,8 @@ fn explain_alone<A: Allocator + Copy>(
     explain_apdu(text, alloc, hex, side, &mut Services::new(alloc, raw), apdu).saturating_add(LLC)
 }
 
-/// Appends the lines of an APDU that stands by itself, from this side or from either: of what came before it nothing is known. Of
-/// secrets, and of strings that may be one, the length alone is told. Where memory is refused the text may end within a line.
+/// Appends the lines of an APDU by itself, from this side or from either: nothing is known of earlier ones. Of secrets, and of
+/// strings that may be one, only the length is shown. If memory is refused the text may end within a line.
 pub fn write_apdu<A: Allocator + Copy>(
     words: &mut String<A>,
     alloc: A,
@@ -305,7 +305,7 @@ pub fn write_apdu<A: Allocator + Copy>(
     text.end(words)
 }
 
-/// The lines of an information frame, and how many octets of its information may stand beside: of an APDU in segments none.
+/// The lines of an information frame, and how many octets of its information may be shown beside them: none of an APDU in segments.
 fn explain_information<A: Allocator + Copy>(
     text: &mut Text<A>,
     alloc: A,
@@ -337,8 +337,8 @@ fn explain_information<A: Allocator + Copy>(
     }
 }
 
-/// The lines of the parameters of an SNRM or a UA, where it has any, and how many octets of these may stand beside: all but those
-/// behind the parameters, where each is readable.
+/// The lines of the parameters of an SNRM or a UA, if it has any, and how many octets of these may be shown beside them: all but
+/// those after the parameters, if each is readable.
 fn explain_parameters<A: Allocator>(text: &mut Text<A>, info: &[u8]) -> usize {
     if info.is_empty() {
         return 0;
@@ -353,7 +353,7 @@ fn explain_parameters<A: Allocator>(text: &mut Text<A>, info: &[u8]) -> usize {
     }
 }
 
-/// The lines of what a frame holds, and how many octets of its information may stand beside.
+/// The lines of a frame's content, and how many octets of its information may be shown beside them.
 fn explain_content<A: Allocator + Copy>(
     text: &mut Text<A>,
     alloc: A,
@@ -382,7 +382,7 @@ fn explain_content<A: Allocator + Copy>(
     }
 }
 
-/// The octets of a frame that stand beside, of whose information so many may: all, or its head with those.
+/// The octets of a frame to show beside it, of whose information this many may be: all, or its head with those.
 fn beside_of<'a>(octets: &'a [u8], info: usize, shown: usize) -> Beside<'a>
     ensures octets { result.octets.now ≡ beside octets.now info shown }
     ensures whole { result.is_whole ≡ nat_le info shown }
@@ -405,7 +405,7 @@ fn beside_of<'a>(octets: &'a [u8], info: usize, shown: usize) -> Beside<'a>
     }
 }
 
-/// What is told of a frame, whose octets are these and whose side is this, in its talk.
+/// Explains a frame with these octets, of this side, in its session.
 fn tell_frame<A: Allocator + Copy>(
     text: &mut Text<A>,
     view: &mut View<A>,
@@ -433,7 +433,7 @@ fn tell_frame<A: Allocator + Copy>(
     write_view(text, view, side, heading, beside);
 }
 
-/// What is told of a frame, whose octets are these.
+/// Explains a frame with these octets.
 fn explain_frame<A: Allocator + Copy>(
     text: &mut Text<A>,
     view: &mut View<A>,
@@ -501,16 +501,16 @@ fn explain_bytes<A: Allocator + Copy>(
     }
 }
 
-/// What is told in place of octets that are no text.
+/// Shown instead of octets that are no text.
 const NO_TEXT: &str = "(a line that is no text)";
 
-/// What is told in place of lines that a dump leaves out.
+/// Shown instead of lines that a dump leaves out.
 const LEFT_OUT: &str = "(lines that the dump leaves out)";
 
-/// What is told of a line whose mark no octets follow.
+/// Shown for a line whose mark no octets follow.
 const NO_PAIRS: &str = "(no pairs of hexadecimal digits)";
 
-/// A line that holds no bytes of a frame, without the octets that may stand in it.
+/// A line without bytes of a frame, except for octets that may be in it.
 fn pass<A: Allocator>(text: &mut Text<A>, form: Form, bytes: &[u8]) {
     let written = Written {
         raw: form.raw,
@@ -558,7 +558,7 @@ impl<A: Allocator + Copy> Explainer<A> {
         }
     }
 
-    /// The words that stand before octets, as their time: a line, or in front of each frame's.
+    /// The words before octets, as their time: in a line of their own, or before each frame's.
     pub(crate) fn stamp(&mut self, words: &str, text: &mut Text<A>) {
         if self.view.form.is_one_line() {
             self.view.stamp_with(words, text);
@@ -567,7 +567,7 @@ impl<A: Allocator + Copy> Explainer<A> {
         }
     }
 
-    /// A log's own words stand before octets, as their time.
+    /// A log's own words before octets, as their time.
     fn stamp_of_log(&mut self, bytes: &[u8], text: &mut Text<A>) {
         let written = Written {
             raw: self.view.form.raw,
@@ -600,7 +600,7 @@ impl<A: Allocator + Copy> Explainer<A> {
         self.take(said, bytes.as_slice(), text);
     }
 
-    /// What is left of the client's bytes is no frame, and a new stretch begins.
+    /// The rest of the client's bytes is no frame, and a new stretch begins.
     fn end_client(&mut self, text: &mut Text<A>) {
         let is_json = self.view.form.json;
         let said = Some(Side::Client);
@@ -608,7 +608,7 @@ impl<A: Allocator + Copy> Explainer<A> {
         self.client.reset();
     }
 
-    /// What is told of a line of a dump.
+    /// Explains a line of a dump.
     fn tell_dumped(&mut self, dumped: DumpLine<'_>, text: &mut Text<A>) {
         match dumped {
             DumpLine::Octets(words, offset, digits) => {
@@ -623,7 +623,7 @@ impl<A: Allocator + Copy> Explainer<A> {
         }
     }
 
-    /// What is told of a line of another program's log, or of one that has no octets.
+    /// Explains a line of another program's log, or one without octets.
     fn tell_logged(&mut self, line: &[u8], text: &mut Text<A>) -> bool {
         let Some(logged) = logged_of(line) else {
             return false;
@@ -633,7 +633,7 @@ impl<A: Allocator + Copy> Explainer<A> {
         true
     }
 
-    /// What is told of a line.
+    /// Explains a line.
     pub(crate) fn tell(&mut self, line: &[u8], text: &mut Text<A>) {
         if let Some(dumped) = dump_line(self.dump, line) {
             self.tell_dumped(dumped, text);
@@ -672,7 +672,7 @@ impl<A: Allocator + Copy> Explainer<A> {
         }
     }
 
-    /// What is told of the bytes behind the last frames.
+    /// Explains the bytes after the last frames.
     pub(crate) fn close(&mut self, text: &mut Text<A>) {
         let is_json = self.view.form.json;
         self.end_client(text);
@@ -688,7 +688,7 @@ impl<A: Allocator + Copy> Explainer<A> {
         self.bare.reset();
     }
 
-    /// Appends to the text what is told of bytes of this direction: the frames that end in them.
+    /// Appends to the text the explanation of bytes of this direction: of the frames that end in them.
     pub fn octets(
         &mut self,
         said: Option<Side>,
@@ -700,16 +700,16 @@ impl<A: Allocator + Copy> Explainer<A> {
         text.end(words)
     }
 
-    /// Appends to the text what is told of a line, which is given without its line feed: of bytes the frames that end in them,
-    /// with what stood before each and is none; before them the words of a log, as its time. A line without bytes is passed on as
-    /// it is. Where memory is refused the text may end within a line.
+    /// Appends to the text the explanation of a line, which is given without its line feed: for bytes, of the frames that end in
+    /// them, with the bytes before each that are none; before them the words of a log, as its time. A line without bytes is passed
+    /// on as it is. If memory is refused the text may end within a line.
     pub fn line(&mut self, line: &[u8], words: &mut String<A>) -> Result<(), AllocError> {
         let mut text = Text::behind(words);
         self.tell(line, &mut text);
         text.end(words)
     }
 
-    /// Appends to the text what is told of the bytes behind the last frames, which are none. New stretches begin.
+    /// Appends to the text the explanation of the bytes after the last frames, which are none. New stretches begin.
     pub fn end(&mut self, words: &mut String<A>) -> Result<(), AllocError> {
         let mut text = Text::behind(words);
         self.close(&mut text);

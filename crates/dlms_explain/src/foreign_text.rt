@@ -1,4 +1,4 @@
-//! The lines of APDUs of other forms than the meter's. No octet of a secret comes here, nor of a block or of what is ciphered.
+//! The lines of APDUs of other forms than the meter's. No octet of a secret, of a block or of ciphered content gets here.
 
 use crate::data_text::write_string_time;
 use crate::node_text::{behind_length, write_shown};
@@ -40,7 +40,7 @@ fn write_name<A: Allocator>(
     }
 }
 
-/// The line of a date-time, where there is one.
+/// The line of a date-time, if there is one.
 fn write_when<A: Allocator>(text: &mut Text<A>, bytes: &[u8]) {
     if bytes.is_empty() {
         return;
@@ -51,7 +51,7 @@ fn write_when<A: Allocator>(text: &mut Text<A>, bytes: &[u8]) {
     end(text);
 }
 
-/// What an access does.
+/// The kind of an access.
 fn access_label(choice: u8) -> &'static str {
     match choice {
         1 | 4 => "get ",
@@ -60,7 +60,7 @@ fn access_label(choice: u8) -> &'static str {
     }
 }
 
-/// The lines of what is named.
+/// The lines of the named objects.
 fn write_names<A: Allocator>(text: &mut Text<A>, field: Field, bytes: &[u8]) {
     match (field, bytes) {
         (Field::Attribute, [front @ .., 1, selector]) if front.len() == 9 => {
@@ -127,7 +127,7 @@ fn write_results<A: Allocator>(text: &mut Text<A>, field: Field, bytes: &[u8]) {
     }
 }
 
-/// The lines of a field that is told as it is.
+/// The lines of a field that is shown as it is.
 fn write_field<A: Allocator>(text: &mut Text<A>, field: Field, bytes: &[u8]) {
     match field {
         Field::LongInvoke => octets_line(text, 2, "long-invoke-id-and-priority ", bytes),
@@ -147,7 +147,7 @@ fn write_field<A: Allocator>(text: &mut Text<A>, field: Field, bytes: &[u8]) {
     }
 }
 
-/// The line of what is ciphered, with its security header (IEC 62056-5-3, 9.2.7.2.4.1).
+/// The line of ciphered content, with its security header (IEC 62056-5-3, 9.2.7.2.4.1).
 pub fn write_ciphered<A: Allocator>(text: &mut Text<A>, control: u8, counter: u32, len: usize) {
     begin(text, 2);
     text.push("security control ");
@@ -163,7 +163,7 @@ pub fn write_ciphered<A: Allocator>(text: &mut Text<A>, control: u8, counter: u3
     number_line(text, 2, "ciphered: ", len as u64, " octets");
 }
 
-/// What octets are that are told by their length.
+/// The kind of octets that are reported by their length.
 fn length_label(field: Field) -> &'static str {
     match field {
         Field::Key => "information on a key: ",
@@ -203,7 +203,7 @@ fn has_list(foreign: Foreign<'_>) -> bool {
         .any(|step| matches!(step, Step::Many(_)))
 }
 
-/// The lines of such an APDU, whose values are told as this is known of them; what it answers, where that is known.
+/// The lines of such an APDU, with this secrecy of its values, and the object that it answers for, if that is known.
 pub fn write_foreign<A: Allocator + Copy>(
     text: &mut Text<A>,
     alloc: A,

@@ -1,4 +1,4 @@
-//! The line of a frame, and the lines of what is no frame.
+//! The line of a frame, and the lines of bytes that are no frame.
 
 use crate::json::{begin_note, end_note};
 use crate::words::{Text, line, number, number_line};
@@ -8,7 +8,7 @@ use dlms_dissect::{
 use dlms_frame::{Address, Client};
 use std::alloc::Allocator;
 
-/// The sign of a side at the front of a line, as in a transcript; `-` where it is not known.
+/// The sign of a side at the front of a line, as in a transcript; `-` if it is not known.
 fn sign(side: Option<Side>) -> &'static str {
     match side {
         Some(Side::Client) => "> ",
@@ -45,7 +45,7 @@ fn write_end<A: Allocator>(text: &mut Text<A>, name: &str, address: Address) {
     }
 }
 
-/// Who sends the frame, and to whom.
+/// The sender and the receiver of the frame.
 fn write_ends<A: Allocator>(text: &mut Text<A>, side: Option<Side>, heading: Heading) {
     let (src, dest) = match side {
         Some(Side::Client) => (client_name(heading.src), "meter"),
@@ -78,7 +78,7 @@ fn write_control<A: Allocator>(text: &mut Text<A>, control: Control) {
     }
 }
 
-/// The poll bit, which is called the final bit where the meter sends it.
+/// The poll bit, which is called the final bit if the meter sends it.
 fn poll_words(side: Option<Side>, octet: u8) -> &'static str {
     match (has_poll(octet), side) {
         (false, _) => "",
@@ -112,7 +112,7 @@ fn write_parameter<A: Allocator>(text: &mut Text<A>, name: &str, value: Option<u
     }
 }
 
-/// The line of a parameter that is not readable, where there is one.
+/// The line of a parameter that is not readable, if there is one.
 fn write_wrong<A: Allocator>(text: &mut Text<A>, wrong: Option<u8>) {
     match wrong {
         Some(id) => number_line(text, 2, "not readable: parameter ", u64::from(id), ""),
@@ -120,12 +120,12 @@ fn write_wrong<A: Allocator>(text: &mut Text<A>, wrong: Option<u8>) {
     }
 }
 
-/// The line of octets behind the parameters, where there are some.
+/// The line of octets after the parameters, if there are some.
 fn write_behind<A: Allocator>(text: &mut Text<A>, count: usize) {
     if count == 0 {
         return;
     }
-    number_line(text, 2, "behind the parameters: ", count as u64, " octets");
+    number_line(text, 2, "after the parameters: ", count as u64, " octets");
 }
 
 /// The lines of a link's parameters.
@@ -155,12 +155,12 @@ pub fn write_information<A: Allocator>(text: &mut Text<A>, parameters: Option<Pa
     }
 }
 
-/// What is said of a check.
+/// The words for a check.
 fn check_words(right: bool) -> &'static str {
     if right { "right" } else { "wrong" }
 }
 
-/// What is wrong with bytes that have the form of a frame; nothing of others.
+/// What is wrong with bytes that have the form of a frame; nothing for others.
 fn write_damage<A: Allocator>(text: &mut Text<A>, damage: Option<Damage>) {
     match damage {
         None => {}
@@ -197,15 +197,15 @@ pub fn write_stray<A: Allocator>(
     end_note(text, is_json);
 }
 
-/// What is said of information without the LLC.
-const NO_LLC: &str = "not readable: no LLC stands in front of the APDU, at octet 1";
+/// Shown for information without the LLC.
+const NO_LLC: &str = "not readable: no LLC comes before the APDU, at octet 1";
 
 /// The line of information without the LLC.
 pub fn write_no_llc<A: Allocator>(text: &mut Text<A>) {
     line(text, 1, NO_LLC);
 }
 
-/// The line of how many segments an APDU came in, where they are several.
+/// The line of the number of segments of an APDU, if there are several.
 fn write_segments<A: Allocator>(text: &mut Text<A>, count: u32) {
     if count < 2 {
         return;
@@ -218,7 +218,7 @@ fn write_segment<A: Allocator>(text: &mut Text<A>, count: u32) {
     number_line(text, 1, "segment ", u64::from(count), "");
 }
 
-/// The line of what an information frame is among those before it; of an APDU in one frame none.
+/// The line of an information frame's position among those before it; none for an APDU in one frame.
 pub fn write_came<A: Allocator>(text: &mut Text<A>, came: Came) {
     match came {
         Came::Again => line(text, 1, "the number of the frame before: not taken again"),

@@ -1,4 +1,4 @@
-//! A frame as an object of JSON, in a line: made of what is told of it in full.
+//! A frame as a JSON object, in a line: made from its full explanation.
 
 use crate::echo_text::is_steering;
 use crate::short::{View, has_service, service};
@@ -29,23 +29,23 @@ pub fn write_quoted<A: Allocator>(text: &mut Text<A>, words: &str) {
 }
 
 /// Words as a string of JSON.
-fn quoted<A: Allocator>(text: &mut Text<A>, words: &str) {
+fn push_string<A: Allocator>(text: &mut Text<A>, words: &str) {
     text.push("\"");
     write_quoted(text, words);
     text.push("\"");
 }
 
-/// What is told of no frame begins: in JSON an object with its words alone. They have no letter that JSON writes otherwise.
+/// A note that is no frame begins: in JSON, an object with its words alone. They have no letter that JSON escapes.
 pub fn begin_note<A: Allocator>(text: &mut Text<A>, is_json: bool) {
     text.push_if(is_json, "{\"text\":\"");
 }
 
-/// What is told of no frame ends.
+/// A note that is no frame ends.
 pub fn end_note<A: Allocator>(text: &mut Text<A>, is_json: bool) {
     text.either(is_json, "\"}\n", "\n");
 }
 
-/// A line of what is told of no frame.
+/// A line of a note that is no frame.
 pub fn write_note<A: Allocator>(text: &mut Text<A>, is_json: bool, words: &str) {
     if is_json {
         write_string(text, "{\"text\":", words);
@@ -65,10 +65,10 @@ fn write_number<A: Allocator>(text: &mut Text<A>, name: &str, value: u64) {
 /// A member that is a string.
 fn write_string<A: Allocator>(text: &mut Text<A>, name: &str, words: &str) {
     text.push(name);
-    quoted(text, words);
+    push_string(text, words);
 }
 
-/// The time, where there is one.
+/// The time, if there is one.
 fn write_time<A: Allocator>(text: &mut Text<A>, stamp: &str) {
     if stamp.is_empty() {
         return;
@@ -105,7 +105,7 @@ fn object(line: &str) -> &str {
     words.strip_prefix("of ").unwrap_or(words)
 }
 
-/// Whether a line in full says what its frame is among others, and not what stands in it.
+/// Whether a line of the full explanation is about the frame's place among others, and not about its content.
 fn is_of_frame(line: &str) -> bool {
     line.starts_with("  segment ")
         || line.ends_with(" segments joined")
@@ -118,7 +118,7 @@ fn service_line(full: &str) -> Option<&str> {
     full.lines().find(|line| !is_of_frame(line))
 }
 
-/// What is told in full beside the service and the object, a string a line.
+/// The full explanation besides the service and the object, a string a line.
 fn write_told<A: Allocator>(text: &mut Text<A>, full: &str, has_service: bool) {
     let mut is_begun = false;
     let mut is_behind = !has_service;
@@ -133,13 +133,13 @@ fn write_told<A: Allocator>(text: &mut Text<A>, full: &str, has_service: bool) {
             continue;
         }
         text.either(is_begun, ",", ",\"told\":[");
-        quoted(text, line.trim_start());
+        push_string(text, line.trim_start());
         is_begun = true;
     }
     text.push_if(is_begun, "]");
 }
 
-/// The service that is told in full, where there is one.
+/// The service in the full explanation, if there is one.
 fn write_service<A: Allocator>(text: &mut Text<A>, full: &str) {
     match service_line(full) {
         Some(line) => write_string(text, ",\"service\":", service(line.trim_start())),
@@ -147,7 +147,7 @@ fn write_service<A: Allocator>(text: &mut Text<A>, full: &str) {
     }
 }
 
-/// The object that is told in full, where there is one.
+/// The object in the full explanation, if there is one.
 fn write_object<A: Allocator>(text: &mut Text<A>, full: &str) {
     match full.lines().find(|line| is_object(line)) {
         Some(line) => write_string(text, ",\"object\":", object(line)),
@@ -155,7 +155,7 @@ fn write_object<A: Allocator>(text: &mut Text<A>, full: &str) {
     }
 }
 
-/// The service, the object and what else is told in full.
+/// The service, the object and the rest of the full explanation.
 fn write_rest<A: Allocator>(text: &mut Text<A>, full: &str, has_service: bool) {
     if has_service {
         write_service(text, full);
@@ -164,7 +164,7 @@ fn write_rest<A: Allocator>(text: &mut Text<A>, full: &str, has_service: bool) {
     write_told(text, full, has_service);
 }
 
-/// The octets beside, where there are some, and the end of an object.
+/// The octets beside it, if there are some, and the end of an object.
 fn end_object<A: Allocator>(text: &mut Text<A>, beside: &[u8]) {
     if beside.is_empty() {
         text.push("}\n");
@@ -184,7 +184,7 @@ fn write_ends<A: Allocator>(text: &mut Text<A>, client: Address, meter: Address)
     }
 }
 
-/// A frame: its time, its ends, its control field, how many octets stand between its flags, and what is told of it in full.
+/// A frame: its time, its ends, its control field, the number of octets between its flags, and its full explanation.
 pub fn write_json<A: Allocator>(
     text: &mut Text<A>,
     view: &View<A>,
@@ -204,7 +204,7 @@ pub fn write_json<A: Allocator>(
     end_object(text, beside);
 }
 
-/// An APDU in the wrapper: its time, the client's port and the meter's, and what is told of it in full.
+/// An APDU in the wrapper: its time, the client's port and the meter's, and its full explanation.
 pub fn write_json_wrapped<A: Allocator>(
     text: &mut Text<A>,
     view: &View<A>,

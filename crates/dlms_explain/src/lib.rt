@@ -1,4 +1,4 @@
-//! What the frames of a line say, in the words of the standards.
+//! Explains the frames of a line in the words of the standards.
 #![tactic(auto)]
 
 mod association_text;

@@ -5,7 +5,7 @@ use crate::digits::{
 };
 use dlms_dissect::Side;
 
-/// The octets of a line, and what the line says of them.
+/// The octets of a line, and the line's statement about them.
 #[derive(Clone, Copy)]
 pub struct Logged<'a> {
     /// The line's own words in front, as a time.
@@ -34,7 +34,7 @@ struct Mark {
 /// The flag of a frame.
 const FLAG: u8 = 0x7e;
 
-/// The words of logs in front of what the client sends.
+/// The words of logs before octets of the client.
 const CLIENT: [&[u8]; 17] = [
     b"tx",
     b"txd",
@@ -55,7 +55,7 @@ const CLIENT: [&[u8]; 17] = [
     b"outgoing",
 ];
 
-/// The words of logs in front of what the meter sends.
+/// The words of logs before octets of the meter.
 const METER: [&[u8]; 16] = [
     b"rx",
     b"rxd",
@@ -80,7 +80,7 @@ fn is_among(words: &[&[u8]], word: &[u8]) -> bool {
     words.iter().any(|known| known.eq_ignore_ascii_case(word))
 }
 
-/// Whose octets a word says to follow.
+/// The sender of octets, by the word before them.
 fn side_of_word(word: &[u8]) -> Option<Side> {
     if is_among(&CLIENT, word) {
         Some(Side::Client)
@@ -248,8 +248,8 @@ fn without_end(words: &[u8]) -> &[u8] {
     rest
 }
 
-/// What is told of a line's words in front of its octets.
-fn told<'a>(line: &[u8], words: &'a [u8]) -> &'a [u8] {
+/// The statement of a line's words before its octets.
+fn statement_of<'a>(line: &[u8], words: &'a [u8]) -> &'a [u8] {
     if is_json(line) {
         first_stamp(words)
     } else {
@@ -285,7 +285,7 @@ pub fn logged_of(line: &[u8]) -> Option<Logged<'_>> {
         None => front,
     };
     Some(Logged {
-        words: told(line, words),
+        words: statement_of(line, words),
         side,
         run,
     })

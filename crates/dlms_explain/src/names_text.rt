@@ -7,7 +7,7 @@ use dlms_names::{
 };
 use std::alloc::{AllocError, Allocator};
 
-/// A number behind a label, where it is another one than this.
+/// A number after a label, unless it is this one.
 fn write_unless<A: Allocator>(text: &mut Text<A>, label: &str, value: u8, usual: u8) {
     if value == usual {
         return;
@@ -16,7 +16,7 @@ fn write_unless<A: Allocator>(text: &mut Text<A>, label: &str, value: u8, usual:
     number(text, u64::from(value));
 }
 
-/// A name behind a mark, where there is one.
+/// A name after a mark, if there is one.
 fn write_known<A: Allocator>(text: &mut Text<A>, mark: &str, name: Option<&str>) {
     if let Some(name) = name {
         text.push(mark);
@@ -24,10 +24,10 @@ fn write_known<A: Allocator>(text: &mut Text<A>, mark: &str, name: Option<&str>)
     }
 }
 
-/// The value group D of what is measured now, of which value group E names no rate.
+/// The value group D of a present value, for which value group E names no rate.
 const NOW: u8 = 7;
 
-/// What the value groups C, D and E of a code of electricity name.
+/// The names for the value groups C, D and E of a code of electricity.
 fn write_quantity<A: Allocator>(
     text: &mut Text<A>,
     quantity: &str,
@@ -44,8 +44,8 @@ fn write_quantity<A: Allocator>(
     }
 }
 
-/// What the value groups of a code name: the medium, the quantity with its phase, its processing and its rate, the billing period
-/// and the channel.
+/// The names for the value groups of a code: the medium, the quantity with its phase, its processing and its rate, the billing
+/// period and the channel.
 fn write_groups<A: Allocator>(text: &mut Text<A>, code: [u8; 6]) {
     let [a, b, c, d, e, f] = code;
     let Some(medium) = medium_name(a) else {
@@ -68,7 +68,7 @@ pub fn is_quantity(code: [u8; 6]) -> bool {
     a == 1 && quantity_name(c).is_some() && processing_name(d).is_some() && f == 0xff
 }
 
-/// A code as `1.0.1.8.0.255`, and behind it what it names, or what its value groups do.
+/// A code as `1.0.1.8.0.255`, followed by its name, or by those of its value groups.
 pub fn write_name<A: Allocator>(text: &mut Text<A>, code: [u8; 6]) {
     for (at, group) in code.iter().enumerate() {
         if at > 0 {
@@ -85,7 +85,7 @@ pub fn write_name<A: Allocator>(text: &mut Text<A>, code: [u8; 6]) {
     }
 }
 
-/// Appends to the text a code as `1.0.1.8.0.255`, and behind it what it names, or what its value groups do.
+/// Appends to the text a code as `1.0.1.8.0.255`, followed by its name, or by those of its value groups.
 pub fn write_code<A: Allocator + Copy>(
     words: &mut String<A>,
     code: [u8; 6],
@@ -98,7 +98,7 @@ pub fn write_code<A: Allocator + Copy>(
 /// The value of the first of the 24 bits of a conformance block.
 const FIRST_BIT: u32 = 0x80_0000;
 
-/// The name of the service that a bit stands for.
+/// The name of the service of a bit.
 fn write_service<A: Allocator>(text: &mut Text<A>, bit: u8) {
     match service_name(bit) {
         Some(name) => text.push(name),

@@ -1,14 +1,14 @@
 //! Values by their octets, a line each.
 
 use crate::data_text::write_plain;
-use crate::words::{Text, begin, end, line, number_line, octets, signed};
+use crate::words::{Text, begin, end, line, number_line, octets, signed_number};
 use dlms_data::read;
 use dlms_dissect::{Field, Shown, front_at, length_at};
 use ryu::Buffer;
 use std::alloc::Allocator;
 use std::num::{f32_from_bits_with_nan, f64_from_bits_with_nan};
 
-/// The name of a string's type, and of what it is counted in.
+/// The name of a string's type, and of its unit of length.
 fn string_name(tag: u8) -> (&'static str, &'static str) {
     match tag {
         4 => ("bit-string of ", " bits"),
@@ -19,7 +19,7 @@ fn string_name(tag: u8) -> (&'static str, &'static str) {
     }
 }
 
-/// A float of four octets; digits where it is no number.
+/// A float of four octets; digits if it is no number.
 fn write_float32<A: Allocator>(text: &mut Text<A>, fields: [u8; 4]) {
     text.push("float32 ");
     let value = f32_from_bits_with_nan(u32::from_be_bytes(fields));
@@ -30,7 +30,7 @@ fn write_float32<A: Allocator>(text: &mut Text<A>, fields: [u8; 4]) {
     }
 }
 
-/// A float of eight octets; digits where it is no number.
+/// A float of eight octets; digits if it is no number.
 fn write_float64<A: Allocator>(text: &mut Text<A>, fields: [u8; 8]) {
     text.push("float64 ");
     let value = f64_from_bits_with_nan(u64::from_be_bytes(fields));
@@ -54,11 +54,11 @@ fn delta_of(tag: u8, fields: &[u8]) -> Option<i64> {
     }
 }
 
-/// A difference to a value before it; digits of what is none.
+/// A difference to an earlier value; digits if it is none.
 fn write_delta<A: Allocator>(text: &mut Text<A>, tag: u8, fields: &[u8]) {
     text.push("delta ");
     match delta_of(tag, fields) {
-        Some(delta) => signed(text, delta),
+        Some(delta) => signed_number(text, delta),
         None => octets(text, fields),
     }
 }
@@ -71,7 +71,7 @@ fn count_in(bytes: &[u8]) -> usize {
     }
 }
 
-/// A value that the meter's reader gives; digits where it gives none.
+/// A value that the meter's reader returns; digits if it returns none.
 fn write_read<A: Allocator + Copy>(text: &mut Text<A>, alloc: A, bytes: &[u8]) {
     match read(alloc, bytes) {
         Ok((value, _)) => {
@@ -110,7 +110,7 @@ fn write_open<A: Allocator + Copy>(text: &mut Text<A>, alloc: A, depth: u8, byte
     }
 }
 
-/// The line of what is shown of a value.
+/// The line of a value's report.
 pub fn write_shown<A: Allocator + Copy>(text: &mut Text<A>, alloc: A, depth: u8, shown: Shown<'_>) {
     match shown {
         Shown::Secret => line(text, depth, "(secret)"),
@@ -123,7 +123,7 @@ pub fn write_shown<A: Allocator + Copy>(text: &mut Text<A>, alloc: A, depth: u8,
     }
 }
 
-/// The octets behind a length.
+/// The octets after a length.
 pub fn behind_length(bytes: &[u8]) -> &[u8] {
     match length_at(bytes) {
         Some(length) => &bytes[length.octets.min(bytes.len())..],

@@ -43,7 +43,7 @@ fn write_second<A: Allocator>(text: &mut Text<A>, second: u32)
     }
 }
 
-/// The seconds of a stamp; one before 2000 or behind 2099 as they are, since 1970.
+/// The seconds of a stamp; one before 2000 or after 2099 as seconds since 1970.
 fn write_seconds<A: Allocator>(text: &mut Text<A>, seconds: u64) {
     match seconds.checked_sub(FIRST_SECOND) {
         Some(second) if second <= u64::from(LAST_SECOND) => write_second(text, second as u32),
@@ -108,7 +108,7 @@ fn write_place<A: Allocator>(text: &mut Text<A>, place: Place) {
     number(text, u64::from(place.port));
 }
 
-/// When a segment came, in UTC, and from where to where; in one line with what it holds the time alone.
+/// When a segment came, in UTC, and its sender and receiver; in one line with its content the time alone.
 pub fn write_segment<A: Allocator>(
     text: &mut Text<A>,
     is_one_line: bool,
@@ -129,7 +129,7 @@ pub fn write_segment<A: Allocator>(
     write_place(text, ends.to);
 }
 
-/// A line of words and a number, where that is not 0.
+/// A line of words and a number, unless that is 0.
 fn write_counted<A: Allocator>(text: &mut Text<A>, is_json: bool, words: &str, count: u64) {
     if count == 0 {
         return;
@@ -141,7 +141,7 @@ fn write_counted<A: Allocator>(text: &mut Text<A>, is_json: bool, words: &str, c
     end_note(text, is_json);
 }
 
-/// The line of octets that a capture does not have, where there are some.
+/// The line of octets that a capture does not have, if there are some.
 pub fn write_missing<A: Allocator>(text: &mut Text<A>, is_json: bool, count: u64) {
     write_counted(
         text,
@@ -151,7 +151,7 @@ pub fn write_missing<A: Allocator>(text: &mut Text<A>, is_json: bool, count: u64
     );
 }
 
-/// The line of octets that come before the first ones of their direction and after these, where there are some.
+/// The line of octets that belong before the first ones of their direction and come after these, if there are some.
 pub fn write_late<A: Allocator>(text: &mut Text<A>, is_json: bool, count: u64) {
     write_counted(
         text,

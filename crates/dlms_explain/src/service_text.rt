@@ -2,7 +2,9 @@
 
 use crate::data_text::{write_inline, write_levels, write_veiled};
 use crate::names_text::write_name;
-use crate::words::{Text, begin, end, line, named, named_line, number, number_line, signed};
+use crate::words::{
+    Text, begin, end, line, name_and_number, named_line, number, number_line, signed_number,
+};
 use dlms_data::{Data, Selector};
 use dlms_dissect::{Content, Fault, Joined, Named, Said, Whole};
 use dlms_names::{access_result, action_result, class_of, service_error, state_error, unit_name};
@@ -32,7 +34,7 @@ fn class_name(number: u16) -> Option<&'static str> {
     Some(class_of(number)?.name)
 }
 
-/// The name of an attribute or a method, where its class is known and has it.
+/// The name of an attribute or a method, if its class is known and has it.
 fn member_name(named_one: Named) -> Option<&'static str> {
     let class = class_of(named_one.descriptor.class)?;
     if named_one.method {
@@ -46,13 +48,13 @@ fn member_name(named_one: Named) -> Option<&'static str> {
 fn write_member<A: Allocator>(text: &mut Text<A>, named_one: Named) {
     let Named { descriptor, method } = named_one;
     let kind = if method { "method" } else { "attribute" };
-    named(text, member_name(named_one), kind, u64::from(descriptor.id));
+    name_and_number(text, member_name(named_one), kind, u64::from(descriptor.id));
     text.push(", class ");
     let class = u64::from(descriptor.class);
-    named(text, class_name(descriptor.class), "number", class);
+    name_and_number(text, class_name(descriptor.class), "number", class);
 }
 
-/// The line of what a service names, as `1.0.1.8.0.255 active energy import, value`, with its numbers.
+/// The line of a service's object, as `1.0.1.8.0.255 active energy import, value`, with its numbers.
 pub fn write_named<A: Allocator>(text: &mut Text<A>, label: &str, named_one: Option<Named>) {
     let Some(named_one) = named_one else {
         return;
@@ -104,7 +106,7 @@ fn write_entries<A: Allocator>(text: &mut Text<A>, value: &Data<A>) {
     write_levels(text, 3, value);
 }
 
-/// The lines of a selector, where there is one.
+/// The lines of a selector, if there is one.
 fn write_selector<A: Allocator>(text: &mut Text<A>, selector: Option<&Selector<A>>) {
     let Some(selector) = selector else {
         return;
@@ -158,7 +160,7 @@ pub fn write_exception<A: Allocator>(text: &mut Text<A>, state: u8, service: u8)
     write_result(text, "service-error ", service_error(service), service);
 }
 
-/// The lines of what a request or a response says beside its form and what it names.
+/// The lines of a request's or a response's content besides its form and its object.
 fn write_content<A: Allocator>(text: &mut Text<A>, content: &Content<'_, A>) {
     match content {
         Content::Nothing => {}
@@ -166,7 +168,7 @@ fn write_content<A: Allocator>(text: &mut Text<A>, content: &Content<'_, A>) {
         Content::Unknown(veiled) => write_veiled(text, 2, veiled),
         Content::Secret => line(text, 2, "(secret)"),
         Content::Block { last, number, len } => write_block(text, *last, *number, *len),
-        Content::Next(number) => write_number(text, "next behind block ", *number),
+        Content::Next(number) => write_number(text, "next after block ", *number),
         Content::Taken(number) => write_number(text, "taken: block ", *number),
         Content::Access(code) => write_access(text, *code),
         Content::AccessOfBlock {
@@ -176,7 +178,7 @@ fn write_content<A: Allocator>(text: &mut Text<A>, content: &Content<'_, A>) {
         Content::AccessBehind {
             number,
             result: code,
-        } => { write_end(text, "behind block ", *number, *code) }
+        } => { write_end(text, "after block ", *number, *code) }
         Content::Action(code) => {
             write_result(text, "action-result ", action_result(*code), *code);
         }
@@ -192,7 +194,7 @@ fn is_scaler_unit(named_one: Option<Named>) -> bool {
     }
 }
 
-/// The line of what a scaler and a unit say, where the value is one.
+/// The line of a scaler and a unit, if the value is one.
 fn write_scaler_unit<A: Allocator>(text: &mut Text<A>, named_one: Option<Named>, value: &Data<A>) {
     if let Data::Structure(items) = value
         && let [Data::Integer(scaler), Data::Enum(unit)] = items.as_slice()
@@ -200,15 +202,15 @@ fn write_scaler_unit<A: Allocator>(text: &mut Text<A>, named_one: Option<Named>,
     {
         begin(text, 3);
         text.push("times 10^");
-        signed(text, i64::from(*scaler));
+        signed_number(text, i64::from(*scaler));
         text.push(", unit ");
-        named(text, unit_name(*unit), "number", u64::from(*unit));
+        name_and_number(text, unit_name(*unit), "number", u64::from(*unit));
         end(text);
         return;
     }
 }
 
-/// The lines of a request or a response, but for what its blocks join to; `label` stands before what it names.
+/// The lines of a request or a response, except for the value of its blocks; `label` comes before its object.
 pub fn write_said<A: Allocator>(text: &mut Text<A>, label: &str, said: &Said<'_, A>) {
     write_form(text, said.form, said.invoke);
     write_named(text, label, said.named);
@@ -248,7 +250,7 @@ fn write_no_value<A: Allocator>(text: &mut Text<A>, fault: Fault) {
     write_place(text, fault);
 }
 
-/// The lines of a value that is joined of all its blocks, of so many octets.
+/// The lines of a value that is joined from all its blocks, with this many octets.
 pub fn write_whole<A: Allocator>(text: &mut Text<A>, len: usize, whole: &Whole<A>) {
     number_line(text, 2, "all blocks joined, ", len as u64, " octets");
     match whole {
@@ -259,7 +261,7 @@ pub fn write_whole<A: Allocator>(text: &mut Text<A>, len: usize, whole: &Whole<A
     }
 }
 
-/// What is said of a block that is not joined; of another one nothing.
+/// The words for a block that is not joined; nothing for another one.
 pub fn write_joined<A: Allocator>(text: &mut Text<A>, joined: Joined) {
     match joined {
         Joined::More | Joined::Whole => {}

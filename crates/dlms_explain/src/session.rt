@@ -12,19 +12,19 @@ use memchr::memchr;
 use std::alloc::Allocator;
 use std::io::{ErrorKind, Read, Write};
 
-/// The most octets of a line that is looked at; of a longer one it is told that it is one.
+/// The most octets of a line that is read; a longer one is only reported to be too long.
 pub const MOST_LINE: usize = 65_536;
 
 /// How many octets are read at once.
 const ROOM: usize = 4096;
 
-/// By how many octets a capture is told from lines.
+/// The number of octets by which a capture is distinguished from lines.
 const FRONT: usize = 4;
 
-/// What is told of a line that is too long.
+/// Shown for a line that is too long.
 const TOO_LONG: &str = "(a line of more than 65536 octets)";
 
-/// Writes text, which is let go; where a growth was refused nothing of it.
+/// Writes text, which is dropped; if an allocation was refused nothing of it.
 fn write_text<A: Allocator, W: Write>(
     text: &mut Text<A>,
     output: &mut W,
@@ -40,13 +40,13 @@ fn write_text<A: Allocator, W: Write>(
 /// How an explanation is written.
 #[derive(Clone, Copy)]
 pub struct Form {
-    /// Strings that may be a secret are told as they are; of what is known to be one nothing is told.
+    /// Strings that may be a secret are shown as they are; of a known secret nothing is shown.
     pub raw: bool,
-    /// A frame is told in one line: its time, its ends, its service and what that says, but for the parts of a value.
+    /// A frame is explained in one line: its time, its ends, its service and its content, except for the parts of a value.
     pub short: bool,
-    /// A frame's octets stand beside, up to the first that is told by its length or not at all.
+    /// A frame's octets are shown beside it, up to the first that is reported by its length or not at all.
     pub hex: bool,
-    /// A frame is told as an object of JSON, in one line.
+    /// A frame is explained as a JSON object, in one line.
     pub json: bool,
 }
 
@@ -63,14 +63,14 @@ impl Form {
         }
     }
 
-    /// Whether what is told of a frame is written as it comes, and not put together behind it.
+    /// Whether the explanation of a frame is written at once, and not put together afterwards.
     pub fn is_at_once(self) -> bool
         ensures { result ≡ ((not self.short && not self.hex) && not self.json) }
     {
         !self.short && !self.hex && !self.json
     }
 
-    /// Whether a frame is told in one line, in which its time stands too.
+    /// Whether a frame is explained in one line, which also contains its time.
     pub fn is_one_line(self) -> bool
         ensures { result ≡ (self.short || self.json) }
     {
@@ -100,7 +100,7 @@ impl<A: Allocator + Copy> Session<A> {
         }
     }
 
-    /// Octets of a line. Of a line that is too long nothing is kept.
+    /// Octets of a line. Nothing is kept of a line that is too long.
     fn keep(&mut self, octets: &[u8]) {
         if self.is_long {
             return;
@@ -115,7 +115,7 @@ impl<A: Allocator + Copy> Session<A> {
         }
     }
 
-    /// A line is whole: what is told of it.
+    /// A line is complete: explains it.
     fn tell_line(&mut self) {
         if self.is_long {
             write_note(&mut self.text, self.is_json, TOO_LONG);
@@ -126,7 +126,7 @@ impl<A: Allocator + Copy> Session<A> {
         self.is_long = false;
     }
 
-    /// Takes octets of the input, and appends what is told of the lines that are whole then.
+    /// Takes octets of the input, and appends the explanation of the lines that are then complete.
     fn take(&mut self, octets: &[u8]) {
         let mut rest = octets;
         for _ in 0..octets.len() {
@@ -220,7 +220,7 @@ fn explain_capture<A: Allocator + Copy, R: Read, W: Write>(
     tell_capture(&mut captured, &mut text, front, input, output)
 }
 
-/// Explains lines, of which so many first octets stand in the room.
+/// Explains lines, whose first octets are already in the buffer.
 fn tell_lines<A: Allocator + Copy, R: Read, W: Write>(
     session: &mut Session<A>,
     room: &mut [u8; ROOM],
@@ -246,7 +246,7 @@ fn tell_lines<A: Allocator + Copy, R: Read, W: Write>(
     write_text(&mut session.text, output)
 }
 
-/// Explains lines, of which so many first octets stand in the room.
+/// Explains lines, whose first octets are already in the buffer.
 #[inline(never)]
 fn explain_lines<A: Allocator + Copy, R: Read, W: Write>(
     alloc: A,
@@ -263,8 +263,9 @@ fn explain_lines<A: Allocator + Copy, R: Read, W: Write>(
 }
 
 /// Explains the input: a capture of a network's traffic (pcap or pcapng, by its first octets), or lines, those of a transcript or
-/// of another log, or pairs of hexadecimal digits. What is told of a line is written before more input than holds its end is read, and at the
-/// end of the input what is told of its rest. A line may be of any length: of one of more than 65,536 octets it is told that it is one.
+/// of another log, or pairs of hexadecimal digits. The explanation of a line is written before more input is read than the piece
+/// that contains its end, and at the end of the input that of its rest. A line may have any length: one of more than 65,536 octets
+/// is only reported to be too long.
 ///
 /// The caller may give any two streams; the input is read by 4,096 octets. Where memory is refused, or the input or the output
 /// fails, what was written before stays.

@@ -1,4 +1,4 @@
-//! A frame in one line, or with its octets beside: made of what is told of it in full.
+//! A frame in one line, or with its octets beside it: made from its full explanation.
 
 ghost use Rattle.std.specs.Prelude.{◌≡◌};
 
@@ -15,13 +15,13 @@ const ENDS: usize = 14;
 
 const SERVICE: usize = 36;
 
-/// How an explanation is written, and what it keeps for that.
+/// How an explanation is written, and the state for that.
 #[derive(Drop)]
 pub struct View<A: Allocator> {
     pub form: Form,
     /// The time of the octets that come, as their log or capture has it.
     pub stamp: String<A>,
-    /// What is told of a frame in full.
+    /// The full explanation of a frame.
     pub full: Text<A>,
 }
 
@@ -90,12 +90,12 @@ fn write_control<A: Allocator>(text: &mut Text<A>, control: Control) {
     }
 }
 
-/// How many blanks stand in front of a line.
+/// The number of blanks at the front of a line.
 fn depth(line: &str) -> usize {
     line.len().saturating_sub(line.trim_start().len())
 }
 
-/// The words of a line up to what the column of the service leaves out.
+/// The words of a line up to the part that the column of the service leaves out.
 pub fn service(line: &str) -> &str {
     match line.split_once(", invoke-id") {
         Some((name, _)) => name,
@@ -103,7 +103,7 @@ pub fn service(line: &str) -> &str {
     }
 }
 
-/// The time of what is told in one line.
+/// The time of an explanation in one line.
 fn write_front<A: Allocator>(text: &mut Text<A>, view: &View<A>) {
     if view.stamp.is_empty() {
         return;
@@ -117,7 +117,7 @@ fn is_left_out(line: &str) -> bool {
     line.ends_with(" segments joined") || line.trim_start().starts_with("conformance: ")
 }
 
-/// The service and what stands below it in full, but for the parts of a value.
+/// The service and the lines below it in full, except for the parts of a value.
 fn write_rest<A: Allocator>(text: &mut Text<A>, view: &View<A>) {
     let from = text.len();
     let mut count: u64 = 0;
@@ -141,14 +141,14 @@ fn write_rest<A: Allocator>(text: &mut Text<A>, view: &View<A>) {
     }
 }
 
-/// Octets that stand beside; of what is not whole two points tell it.
+/// Octets shown beside; two points mark a part of them.
 #[derive(Clone, Copy)]
 pub struct Beside<'a> {
     pub octets: &'a [u8],
     pub is_whole: bool,
 }
 
-/// The octets beside, where there are some.
+/// The octets beside it, if there are some.
 pub fn write_beside<A: Allocator>(text: &mut Text<A>, beside: Beside<'_>) {
     if beside.octets.is_empty() {
         return;
@@ -158,12 +158,12 @@ pub fn write_beside<A: Allocator>(text: &mut Text<A>, beside: Beside<'_>) {
     text.push_if(!beside.is_whole, " ..");
 }
 
-/// Whether a frame with this control field holds what is told below it.
+/// Whether a frame with this control field has content to explain below it.
 pub fn has_service(control: Control) -> bool {
     matches!(control, Control::Information { .. } | Control::Ui)
 }
 
-/// The line of a frame: the time, the ends, and the service with what stands below it in full, or the control field.
+/// The line of a frame: the time, the ends, and the service with the lines below it in full, or the control field.
 fn write_short<A: Allocator>(
     text: &mut Text<A>,
     view: &View<A>,
@@ -183,7 +183,7 @@ fn write_short<A: Allocator>(
     end(text);
 }
 
-/// What is told of a frame, put together as the form asks for it.
+/// The explanation of a frame, put together in the requested form.
 pub fn write_view<A: Allocator>(
     text: &mut Text<A>,
     view: &View<A>,

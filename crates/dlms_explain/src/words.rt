@@ -11,7 +11,7 @@ const DIGITS: [&str; 16] = [
     "0", "1", "2", "3", "4", "5", "6", "7", "8", "9", "a", "b", "c", "d", "e", "f",
 ];
 
-/// A text that is put together. Once a growth was refused it takes no more words, and says so at its end.
+/// A text that is put together. Once a growth was refused it accepts no more words, and says so at its end.
 #[derive(Drop)]
 pub struct Text<A: Allocator> {
     words: String<A>,
@@ -19,7 +19,7 @@ pub struct Text<A: Allocator> {
 }
 
 impl<A: Allocator> Text<A> {
-    /// What comes is appended to these words.
+    /// New text is appended to these words.
     pub fn new(words: String<A>) -> Text<A>
         ensures { result.is_refused ≡ false }
     {
@@ -47,14 +47,14 @@ impl<A: Allocator> Text<A> {
         }
     }
 
-    /// Appends words where this is so.
+    /// Appends words if this is true.
     pub fn push_if(&mut self, is_so: bool, words: &str) {
         if is_so {
             self.push(words);
         }
     }
 
-    /// Appends the first words where this is so, else the others.
+    /// Appends the first words if this is true, otherwise the others.
     pub fn either(&mut self, is_so: bool, words: &str, others: &str) {
         if is_so {
             self.push(words);
@@ -63,7 +63,7 @@ impl<A: Allocator> Text<A> {
         }
     }
 
-    /// How many octets stand in it.
+    /// The number of its octets.
     pub fn len(&self) -> usize {
         self.words.len()
     }
@@ -102,7 +102,7 @@ impl<A: Allocator> Text<A> {
 }
 
 impl<A: Allocator + Copy> Text<A> {
-    /// What comes is appended to these words, which are taken out up to its end.
+    /// New text is appended to these words, which are taken out up to its end.
     pub fn behind(words: &mut String<A>) -> Text<A>
         ensures { result.is_refused ≡ false }
     {
@@ -146,7 +146,7 @@ pub fn number<A: Allocator>(text: &mut Text<A>, value: u64) {
     text.push(digits.format(value));
 }
 
-/// A line of a label, a number, and what stands behind it.
+/// A line of a label, a number, and the words after it.
 pub fn number_line<A: Allocator>(
     text: &mut Text<A>,
     depth: u8,
@@ -161,13 +161,13 @@ pub fn number_line<A: Allocator>(
     end(text);
 }
 
-/// A number with its sign, where it is below 0.
-pub fn signed<A: Allocator>(text: &mut Text<A>, value: i64) {
+/// A number with its sign, if it is below 0.
+pub fn signed_number<A: Allocator>(text: &mut Text<A>, value: i64) {
     let mut digits = Buffer::new();
     text.push(digits.format(value));
 }
 
-/// A number of two decimal digits, or more where it has them.
+/// A number of two decimal digits, or more if it has them.
 pub fn two_digits<A: Allocator>(text: &mut Text<A>, value: u8) {
     if value < 10 {
         text.push("0");
@@ -201,8 +201,13 @@ pub fn octets_line<A: Allocator>(text: &mut Text<A>, depth: u8, label: &str, val
     end(text);
 }
 
-/// A name and its number, as `object-undefined (4)`; a number that has no name stands with a word for what it is.
-pub fn named<A: Allocator>(text: &mut Text<A>, name: Option<&str>, kind: &str, value: u64) {
+/// A name and its number, as `object-undefined (4)`; a number without a name gets a word for its kind.
+pub fn name_and_number<A: Allocator>(
+    text: &mut Text<A>,
+    name: Option<&str>,
+    kind: &str,
+    value: u64,
+) {
     match name {
         Some(name) => {
             text.push(name);
@@ -229,6 +234,6 @@ pub fn named_line<A: Allocator>(
 ) {
     begin(text, depth);
     text.push(label);
-    named(text, name, kind, value);
+    name_and_number(text, name, kind, value);
     end(text);
 }

@@ -1,4 +1,4 @@
-//! APDUs in the wrapper of IEC 62056-47: behind a head of its version, the two ports and the length.
+//! APDUs in the wrapper of IEC 62056-47: after a head of its version, the two ports and the length.
 
 ghost use Rattle.std.specs.Prelude.{◌≡◌};
 
@@ -26,7 +26,7 @@ struct Head {
     len: usize,
 }
 
-/// What was asked for between two ports, and how it is told.
+/// The requested object between two ports, and how it is reported.
 #[derive(Drop)]
 struct Asked<A: Allocator> {
     alloc: A,
@@ -37,7 +37,7 @@ struct Asked<A: Allocator> {
     view: View<A>,
 }
 
-/// Both directions of a connection, and what was asked for.
+/// Both directions of a connection, and the requested objects.
 #[derive(Drop)]
 pub struct Wrapped<A: Allocator> {
     client: Vec<u8, A>,
@@ -69,10 +69,10 @@ fn write_head<A: Allocator>(text: &mut Text<A>, side: Side, head: Head) {
     number(text, head.len as u64);
 }
 
-/// What is told where no head stands.
+/// Shown if there is no head.
 const NO_WRAPPER: &str = "(octets that are of no wrapper)";
 
-/// What is told of an APDU that is not whole.
+/// Shown for an APDU that is not complete.
 const NOT_WHOLE: &str = "(the last APDU is not whole)";
 
 impl<A: Allocator + Copy> Asked<A> {
@@ -88,7 +88,7 @@ impl<A: Allocator + Copy> Asked<A> {
         }
     }
 
-    /// What is told of an APDU, behind its head, put together as the form asks for it.
+    /// Explains an APDU, after its head, put together in the requested form.
     fn tell_view(&mut self, side: Side, head: Head, whole: &[u8], text: &mut Text<A>) {
         let apdu = whole.get(HEAD..).unwrap_or(&[]);
         let hex = self.view.form.hex;
@@ -123,7 +123,7 @@ impl<A: Allocator + Copy> Asked<A> {
         text.push(self.view.full.as_str());
     }
 
-    /// What is told of an APDU, which stands behind its head.
+    /// Explains an APDU, which follows its head.
     fn tell(&mut self, side: Side, head: Head, whole: &[u8], text: &mut Text<A>) {
         self.follow(side, head);
         if self.view.form.is_at_once() {
@@ -140,7 +140,7 @@ impl<A: Allocator + Copy> Asked<A> {
         }
     }
 
-    /// The octets that one end has sent, with those of before, and how many of them are told.
+    /// The octets that one end has sent, with the earlier ones, and how many of them are explained.
     fn tell_all(&mut self, side: Side, octets: &[u8], text: &mut Text<A>) -> usize {
         let mut rest = octets;
         for _ in 0..octets.len() {
@@ -161,7 +161,7 @@ impl<A: Allocator + Copy> Asked<A> {
         octets.len().saturating_sub(rest.len())
     }
 
-    /// Octets of one end behind those of before that are kept, and what is told of the APDUs that are whole then.
+    /// Octets of one end after the earlier ones that are kept, and the explanation of the APDUs that are then complete.
     fn take(&mut self, kept: &mut Vec<u8, A>, side: Side, octets: &[u8], text: &mut Text<A>) {
         if kept.extend_from_slice(octets).is_err() {
             text.refuse();
@@ -205,7 +205,7 @@ impl<A: Allocator + Copy> Wrapped<A> {
         }
     }
 
-    /// Takes octets of one end, and appends what is told of the APDUs that are whole then.
+    /// Takes octets of one end, and appends the explanation of the APDUs that are then complete.
     pub fn octets(&mut self, side: Side, octets: &[u8], text: &mut Text<A>) {
         match side {
             Side::Client => self.asked.take(&mut self.client, side, octets, text),

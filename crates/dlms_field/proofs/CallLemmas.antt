@@ -2,7 +2,7 @@
 use Rattle.std.proofs.Common.{refl, sym, ◌≡◌, ℕ, zero, suc, arith, Bool, List, [], ◌∷◌, ◌++◌, Option, Some, Result, Ok, Err, subst}
 use Rattle.std.specs.Prelude.{MatchResult}
 use Rattle.dlms_ends.specs.Moments.{Moment as LineMoment}
-use Rattle.dlms_ends.specs.declared.fault.LoopFault.{LoopFault}
+use Rattle.dlms_ends.specs.declared.fault.RunFault.{RunFault}
 use Rattle.dlms_meter.specs.Steps.{Call, Calls, IsCall}
 use Rattle.dlms_meter.specs.Steps.Call.{Fed, Told}
 use Rattle.dlms_meter.specs.declared.meter.Meter.{Meter}
@@ -51,11 +51,11 @@ module _ {P A : Type 0} {ghosts : Ghosts P} where
   looked_made : (step now : ℕ) (a b : Meter P A ghosts) (ticks ticks' : Ticks) → Looked step a ticks now b ticks' → Made a b
   looked_made step now a b ticks ticks' look = each_second a b (Ok tt) look.outcome look.looks.1.seconds look.looks.1.each
 
-  failed_made : (step : ℕ) (a b : Meter P A ghosts) (ticks ticks' : Ticks) (fault : LoopFault) (sights : List Sight) → LookFails step a ticks fault sights b ticks' → Made a b
+  failed_made : (step : ℕ) (a b : Meter P A ghosts) (ticks ticks' : Ticks) (fault : RunFault) (sights : List Sight) → LookFails step a ticks fault sights b ticks' → Made a b
   failed_made step a b ticks ticks' fault sights (NoClock of_system) = ([], refl)
   failed_made step a b ticks ticks' fault sights (NoStore now due why m t is_due looks tells) = each_second a b (Ok tt) (Err why) looks.1.seconds looks.1.each
 
-  pub look_made : (step : ℕ) (seen seen' : Option (List Sight)) (a b : Meter P A ghosts) (ticks ticks' : Ticks) (result : Result ℕ LoopFault) → LooksOnce step seen seen' a ticks result b ticks' → Made a b
+  pub look_made : (step : ℕ) (seen seen' : Option (List Sight)) (a b : Meter P A ghosts) (ticks ticks' : Ticks) (result : Result ℕ RunFault) → LooksOnce step seen seen' a ticks result b ticks' → Made a b
   look_made step seen seen' a b ticks ticks' (Ok now) looks = looked_made step now a b ticks ticks' looks.1
   look_made step seen seen' a b ticks ticks' (Err fault) looks = failed_made step a b ticks ticks' fault looks.0 looks.2
 
@@ -78,7 +78,7 @@ module _ {P A : Type 0} {ghosts : Ghosts P} where
   arrives_made s given moments is_answered (ToRead left) = ([], refl)
   arrives_made s given moments is_answered (Behind reply g gives) = gives_made s given reply gives
 
-  ends_made : (rules : Rules) (s : At P A ghosts) (result : Result Ending LoopFault) (moments : List LineMoment) (sights : List Sight) (b : Meter P A ghosts) (ticks : Ticks) → Ends rules s result moments sights b ticks → Made s.meter b
+  ends_made : (rules : Rules) (s : At P A ghosts) (result : Result Ending RunFault) (moments : List LineMoment) (sights : List Sight) (b : Meter P A ghosts) (ticks : Ticks) → Ends rules s result moments sights b ticks → Made s.meter b
   ends_made rules s result moments sights b ticks (IsOver m is_answered given now more after why arrives checks tells) =
       joined s.meter given.meter b (arrives_made s given m is_answered arrives) (checks_made rules given after is_answered now more checks)
   ends_made rules s result moments sights b ticks (LookEnds m is_answered given fault more meter t arrives fails) =
@@ -87,12 +87,12 @@ module _ {P A : Type 0} {ghosts : Ghosts P} where
   ends_made rules s result moments sights b ticks (ReplyEnds reply part missing given error gives cut) = gives_made s given (Some reply) gives
   ends_made rules s result moments sights b ticks (Tires left all) = ([], refl)
 
-  pub connection_made : (rules : Rules) (p q : Option (List LineMoment)) (v w : Option (List Sight)) (a b : Meter P A ghosts) (ticks ticks' : Ticks) (result : Result Ending LoopFault) → Connection rules p q v w a ticks result b ticks' → Made a b
+  pub connection_made : (rules : Rules) (p q : Option (List LineMoment)) (v w : Option (List Sight)) (a b : Meter P A ghosts) (ticks ticks' : Ticks) (result : Result Ending RunFault) → Connection rules p q v w a ticks result b ticks' → Made a b
   connection_made rules p q v w a b ticks ticks' result (Unbegun fault sights m t fails adds sees) = failed_made rules.tick a b ticks ticks' fault sights fails
   connection_made rules p q v w a b ticks ticks' result (Begun first now mid after told ended r look sees ends) =
       joined a mid b (looked_made rules.tick first a mid ticks told look)
       (joined mid ends.last.meter b (doings_made rules _ ends.last ends.goes.moments ends.goes.sights ends.goes.does) (ends_made rules ends.last result ends.moments ends.sights b ticks' ends.ends))
 
-  pub visit_made : (rules : Rules) (v w : Option (List Sight)) (a b : Meter P A ghosts) (ticks ticks' : Ticks) (result : Result Ending LoopFault) → Visits rules v w a ticks result b ticks' → Made a b
+  pub visit_made : (rules : Rules) (v w : Option (List Sight)) (a b : Meter P A ghosts) (ticks ticks' : Ticks) (result : Result Ending RunFault) → Visits rules v w a ticks result b ticks' → Made a b
   visit_made rules v w a b ticks ticks' result (Unprepared error sees) = ([], refl)
   visit_made rules v w a b ticks ticks' result (Prepared now p q r m t sees connection) = connection_made rules p q now w a b ticks ticks' result connection

@@ -19,7 +19,7 @@ open_then true gate waiting is may = absurd cc
 open_then false true waiting is may = refl
 open_then false false waiting is may = absurd cc
 
--- who is served and has proved no secret is served behind the last refusal
+-- a client that is served and has proved no secret is served after the last refusal
 apart : (g : Guesses) (origin : Origin) (is_patient : Bool) (served before : ℕ) → may_try g origin is_patient served ≡ true → is_known g.proofs.items origin served ≡ false → g.last ≡ Some before → before + 1 ≤ served
 apart g origin is_patient served before may unknown last =
     let gate : is_open g.last served ≡ true = open_then (is_known g.proofs.items origin served) (is_open g.last served) (waits g.marks.items origin (most_wait (is_known g.proofs.items origin served) is_patient) served) unknown may in

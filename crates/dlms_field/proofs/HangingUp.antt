@@ -1,4 +1,4 @@
--- A DISC that is fed behind a silence is the one frame of its stretch, and ends its client's link.
+-- A DISC that is fed after a silence is the one frame of its stretch, and ends its client's link.
 use Rattle.std.proofs.Common.{◌≡◌, ◌≢◌, ℕ, ◌+◌, ◌-◌, ◌<◌, ◌≤◌, Bool, true, false, List, [], ◌∷◌, ◌++◌, length, refl, sym, ap, subst, ◌∙◌, inl, inr, arith, ◌⊎◌, if◌then◌else◌, Option, Some, None, take, drop}
 use Rattle.std.proofs.lemmas.Bool.{cases_lt}
 use Rattle.std.proofs.lemmas.List.{append-nil, length-drop, length-append, nil_from_length, length-take-le, take_all}
@@ -55,7 +55,7 @@ all_taken who w bytes count spelled none few ends =
       | inr more ↦ take_all count bytes more
     ]
 
--- the DISC stands in a stretch that is its octets
+-- the DISC is in a stretch that is its octets
 disc_stands : (who : Client) (bytes : List ℕ) → FrameSpelling bytes (disc_of who) → FrameAt bytes 0 8 (disc_of who)
 disc_stands who bytes spelled = record { fits = spelled.fits; after = []; text = spelled.text ∙ sym (append-nil (spelling (disc_of who))); ends = omega (arith, disc_room who) }
 
@@ -166,7 +166,7 @@ ends_all who w w' own records store =
       store = store;
     }
 
--- a call of feed that took the octets of a DISC behind a silence
+-- a call of feed that took the octets of a DISC after a silence
 pub disc_fed : (who : Client) (w w' : MeterWorld) (May : Choice → Type 0) (bytes : List ℕ) (count : ℕ) (reply : Option (List ℕ)) (steps : List StoreStep) → FrameSpelling bytes (disc_of who) → w.stretch ≡ [] → w.place ≡ 0 → AreOwn w
     → count ≤ length bytes → (count < length bytes → EndsFrame w (take count bytes)) → Fed May w (take count bytes) reply steps w' → HasEnded who w w'
 disc_fed who w w' May bytes count reply steps spelled none start own few ends fed =

@@ -13,3 +13,4 @@ pub mod PolledLemmas
 pub mod LineLemmas
 pub mod QueueLemmas
 pub mod GuessLemmas
+pub mod SecretLemmas

@@ -5,7 +5,7 @@ use Rattle.dlms_headend.specs.PollerValue.{PollerValue}
 use Rattle.dlms_headend.specs.Asking.{PlanValue}
 use Rattle.dlms_headend.specs.declared.row.Row.{Row}
 use Rattle.dlms_ends.specs.BothEnds.{IsDonePoll}
-use Rattle.dlms_filing.specs.Filing.{Asked}
+use Rattle.dlms_filing.specs.Filing.{PlaceCall}
 use Rattle.dlms_field.specs.Calling.{FailsCalled, HasDone, aim_of}
 use Rattle.dlms_field.specs.Clocks.{Takes}
 use Rattle.dlms_field.specs.Keeping.{FilesNone, FilesPolled}
@@ -21,7 +21,7 @@ pub not_called : (polling : Polling) (before after : Known) (secret : List ℕ) 
 not_called polling before after secret rows limit seen plan fault ready same fails none =
     NotCalled secret rows limit seen ready (subst (λ (p : PlanValue). FailsCalled (aim_of polling p) polling.strict limit before.past after.past seen after.seen fault) same fails) none
 
-pub polls_so : (polling : Polling) (before after : Known) (secret : List ℕ) (rows : List Row) (limit : Option Limit) (seen : Option (List Sight)) (asked : Option (List Asked)) (plan : PlanValue) (done : PollerValue)
+pub polls_so : (polling : Polling) (before after : Known) (secret : List ℕ) (rows : List Row) (limit : Option Limit) (seen : Option (List Sight)) (asked : Option (List PlaceCall)) (plan : PlanValue) (done : PollerValue)
     → IsReady polling before.seen seen before.asked asked secret rows limit → plan ≡ plan_behind polling.client secret rows
     → HasDone (aim_of polling plan) before.past after.past seen after.seen done → Takes polling.strict limit done.talk.rows → IsDonePoll (plan_behind polling.client secret rows) done
     → (r : Result (Unit {0}) FieldFault) → IfOk r (λ _. FilesPolled asked after.asked before.printed after.printed before.errors after.errors rows done.talk.rows)

@@ -12,8 +12,8 @@ use Rattle.dlms_ends.specs.BothEnds.{CallFails, IsPolled}
 use Rattle.dlms_ends.specs.Faults.{TellsError}
 use Rattle.dlms_ends.specs.Moments.{Moment, Breaks}
 use Rattle.dlms_filing.specs.Printing.{Printed, PrintsPart}
-use Rattle.dlms_ends.specs.declared.fault.LoopFault.{LoopFault}
-use Rattle.dlms_ends.specs.declared.fault.LoopFault.TheVariants.{Poll}
+use Rattle.dlms_ends.specs.declared.fault.RunFault.{RunFault}
+use Rattle.dlms_ends.specs.declared.fault.RunFault.TheVariants.{Poll}
 use Rattle.dlms_ends.specs.declared.head_end.HeadEnd.{HeadEnd}
 use Rattle.dlms_ends.specs.declared.polling.TheConstants.{TURNS}
 use Rattle.dlms_ends.proofs.MomentLemmas.{map_append}
@@ -59,12 +59,12 @@ pub record Under {A : Type 0} (seconds : ℕ) (old now : Option (List Moment)) (
   pub side : HeadSide old now poller head count
   pub looks : Looks seconds v w count []
 
-pub unbegun : (seconds : ℕ) (old new : Option (List Moment)) (v : Option (List Sight)) (poller : PollerValue) (error : Error) (r : Result (Option PollerValue) LoopFault) → IsErrAnd r (TellsError error)
+pub unbegun : (seconds : ℕ) (old new : Option (List Moment)) (v : Option (List Sight)) (poller : PollerValue) (error : Error) (r : Result (Option PollerValue) RunFault) → IsErrAnd r (TellsError error)
     → (frame : Parts) (begun : PollerValue) → IsCall poller (Next (Some frame)) begun → Breaks old new (spelling frame) → Does seconds old new v v poller r
 unbegun seconds old new v poller error (Ok found) told frame begun call broke = absurd told
 unbegun seconds old new v poller error (Err fault) told frame begun call broke = Unbegun (system_told fault error told) frame begun call broke (sees_nothing v)
 
-pub clock_fails : {A : Type 0} (seconds : ℕ) (old now : Option (List Moment)) (v w x : Option (List Sight)) (poller : PollerValue) (head : HeadEnd A) (count : ℕ) (error : Error) (r : Result (Option PollerValue) LoopFault)
+pub clock_fails : {A : Type 0} (seconds : ℕ) (old now : Option (List Moment)) (v w x : Option (List Sight)) (poller : PollerValue) (head : HeadEnd A) (count : ℕ) (error : Error) (r : Result (Option PollerValue) RunFault)
     → IsErrAnd r (TellsError error) → Under seconds old now v w poller head count → Sees w x (Second None ∷ []) → Does seconds old now v x poller r
 clock_fails seconds old now v w x poller head count error (Ok found) told under sees = absurd told
 clock_fails seconds old now v w x poller head count error (Err fault) told under sees =
@@ -82,11 +82,11 @@ is_late seconds old now v w x poller head count last under sees over = (
   subst (λ (n : ℕ). Looks seconds v x n (Second (Some last) ∷ [])) (sym under.side.sent) (looks_last seconds v w x count (Second (Some last) ∷ []) under.looks sees),
 )
 
-pub head_fails : (seconds : ℕ) (old new : Option (List Moment)) (v w x : Option (List Sight)) (poller : PollerValue) (count time : ℕ) (fault : LoopFault) (r : Result (Option PollerValue) LoopFault)
+pub head_fails : (seconds : ℕ) (old new : Option (List Moment)) (v w x : Option (List Sight)) (poller : PollerValue) (count time : ℕ) (fault : RunFault) (r : Result (Option PollerValue) RunFault)
     → IsErrAnd r (λ given. given ≡ fault) → Looks seconds v w count [] → Sees w x (Second (Some time) ∷ []) → (IsOver seconds time → ⊥) → CallFails old new poller fault → Does seconds old new v x poller r
 head_fails seconds old new v w x poller count time fault (Ok found) is looks sees not fails = absurd is
 head_fails seconds old new v w x poller count time fault (Err given) is looks sees not fails =
-    HeadFails (subst (λ (f : LoopFault). CallFails old new poller f) (sym is) fails) (count + 1) (omega arith) (looks_more seconds v w x count time looks sees not)
+    HeadFails (subst (λ (f : RunFault). CallFails old new poller f) (sym is) fails) (count + 1) (omega arith) (looks_more seconds v w x count time looks sees not)
 
 pub is_done : (seconds : ℕ) (old new : Option (List Moment)) (v w x : Option (List Sight)) (poller done : PollerValue) (count time : ℕ) → Looks seconds v w count [] → Sees w x (Second (Some time) ∷ [])
     → (IsOver seconds time → ⊥) → IsPolled old new poller done → Does seconds old new v x poller (Ok (Some done))
@@ -146,6 +146,6 @@ gives_none P (Other why) r gives = subst (λ (given : Result (Option PollerValue
 
 -- ---- a line of errors
 
-pub line_part : {T : Type 0} (errors errors' : Printed) (bytes : List ℕ) (r : Result T LoopFault) (error : Error) → IsErrAnd r (TellsError error) → PrintsPart errors errors' bytes → PrintsLine errors errors' r
-line_part errors errors' bytes (Ok done) error told part = absurd told
-line_part errors errors' bytes (Err fault) error told part = inr (system_told fault error told, bytes, part)
+pub line_part : {T : Type 0} (errors errors' : Printed) (line bytes : List ℕ) (r : Result T RunFault) (error : Error) → IsErrAnd r (TellsError error) → bytes ≡ line → PrintsPart errors errors' bytes → PrintsLine line errors errors' r
+line_part errors errors' line bytes (Ok done) error told is part = absurd told
+line_part errors errors' line bytes (Err fault) error told is part = inr (system_told fault error told, subst (λ (t : List ℕ). PrintsPart errors errors' t) is part)

@@ -13,7 +13,7 @@ abbrev pub index_of : Option Found → Option ℕ
 index_of None = None
 index_of (Some found) = Some found.index
 
--- of so many entries this is the first of the least, if one has a number
+-- among the first n entries this is the first of the least, if one has a number
 abbrev pub LeastSoFar : List (Option ℕ) → ℕ → Option Found → Type 0
 LeastSoFar ranks i None = (k rank : ℕ) → k < i → slice_get ranks k ≡ Some (Some rank) → ⊥
 LeastSoFar ranks i (Some found) = (slice_get ranks found.index ≡ Some (Some found.number)) × ((k rank : ℕ) → k < i → slice_get ranks k ≡ Some (Some rank) → (found.number ≤ rank) × (k < found.index → found.number < rank)) × (found.index < i)
@@ -78,7 +78,7 @@ least_found ranks n (Some found) all (at, least, within) =
 
 -- ---- the greatest
 
--- of so many numbers this is the last of the greatest, if there is one
+-- among the first n numbers this is the last of the greatest, if there is one
 abbrev pub MostSoFar : List ℕ → ℕ → Option Found → Type 0
 MostSoFar numbers i None = i ≡ 0
 MostSoFar numbers i (Some found) = (slice_get numbers found.index ≡ Some found.number) × ((k number : ℕ) → k < i → slice_get numbers k ≡ Some number → (number ≤ found.number) × (found.index < k → number < found.number)) × (found.index < i)

@@ -62,7 +62,7 @@ not_after row y (x ∷ xs) is after =
       | false ↦ λ less rest. not_below x.clock row.clock y.clock less parts.0
     ] refl is
 
--- a clock tells of each row whether it is later than all of these
+-- a clock decides for each row whether it is later than all of these
 abbrev pub IsLatest : Option ℕ → List Row → Type 0
 IsLatest latest xs = (y : Row) → is_later latest y ≡ is_after_all y xs
 

@@ -5,7 +5,7 @@ use Rattle.std.specs.declared.io.Error.{Error}
 use Rattle.std.specs.declared.net.socket_addr.SocketAddr.{SocketAddr}
 use Rattle.std.proofs.lemmas.Bool.{false≢true}
 use Rattle.dlms_ends.specs.Faults.{TellsError}
-use Rattle.dlms_ends.specs.declared.fault.LoopFault.{LoopFault}
+use Rattle.dlms_ends.specs.declared.fault.RunFault.{RunFault}
 use Rattle.dlms_ends.proofs.PollLemmas.{system_told}
 use Rattle.dlms_meter.specs.declared.meter.Meter.{Meter}
 use Rattle.dlms_pages.specs.declared.device.Pages.{Ghosts}
@@ -21,7 +21,7 @@ use Rattle.dlms_field.specs.declared.talking.Rules.{Rules}
 use Rattle.dlms_field.specs.declared.ticks.Ticks.{Ticks}
 use Rattle.dlms_field.proofs.TalkLemmas.{sees_more, sees_nothing}
 
-pub bans_in_vain : {T : Type 0} (address : SocketAddr) (seen seen' : Option (List Sight)) (error : Error) (r : Result T LoopFault) → IsErrAnd r (TellsError error) → Sees seen seen' (Second None ∷ []) → Bans address seen seen' r
+pub bans_in_vain : {T : Type 0} (address : SocketAddr) (seen seen' : Option (List Sight)) (error : Error) (r : Result T RunFault) → IsErrAnd r (TellsError error) → Sees seen seen' (Second None ∷ []) → Bans address seen seen' r
 bans_in_vain address seen seen' error (Ok done) told sees = absurd told
 bans_in_vain address seen seen' error (Err fault) told sees = (sees, system_told fault error told)
 
@@ -32,19 +32,19 @@ pub closes_banned : (address : SocketAddr) (v w x : Option (List Sight)) (ending
     → Closes {T = Unit {0}} address ending v x (Ok tt)
 closes_banned address v w x ending refused now is so looks bars = (λ refuses. (now, sees_more v w x (Second (Some now) ∷ []) (Bars address now ∷ []) looks bars), λ not. absurd (false≢true (sym not ∙ sym is ∙ so)))
 
-pub closes_in_vain : (address : SocketAddr) (v w : Option (List Sight)) (ending : Ending) (refused : Bool) (error : Error) (r : Result (Unit {0}) LoopFault) → refused ≡ is_refused ending → refused ≡ true → IsErrAnd r (TellsError error)
+pub closes_in_vain : (address : SocketAddr) (v w : Option (List Sight)) (ending : Ending) (refused : Bool) (error : Error) (r : Result (Unit {0}) RunFault) → refused ≡ is_refused ending → refused ≡ true → IsErrAnd r (TellsError error)
     → Sees v w (Second None ∷ []) → Closes address ending v w r
 closes_in_vain address v w ending refused error r is so told sees = (λ refuses. bans_in_vain address v w error r told sees, λ not. absurd (false≢true (sym not ∙ sym is ∙ so)))
 
 module _ {P A : Type 0} {ghosts : Ghosts P} where
-  pub served : (rules : Rules) (address : SocketAddr) (v w x : Option (List Sight)) (a begun ended after : Meter P A ghosts) (ticks ticks' ticks'' : Ticks) (ending : Ending) (result : Result (Unit {0}) LoopFault) → HangsUp a begun
+  pub served : (rules : Rules) (address : SocketAddr) (v w x : Option (List Sight)) (a begun ended after : Meter P A ghosts) (ticks ticks' ticks'' : Ticks) (ending : Ending) (result : Result (Unit {0}) RunFault) → HangsUp a begun
       → Visits rules v w begun ticks (Ok ending) ended ticks' → HangsUp ended after → Closes address ending w x result → ticks'' ≡ ticks' → ServesOne rules address v x a ticks result after ticks''
   served rules address v w x a begun ended after ticks ticks' ticks'' ending result first visits last closes same =
       subst (λ (t : Ticks). ServesOne rules address v x a ticks result after t) (sym same) (Served w begun ended after ticks' ending result first visits last closes)
 
   -- ---- the next one, behind a look at the clock
 
-  pub no_look : (rules : Rules) (v w : Option (List Sight)) (a b : Meter P A ghosts) (ticks ticks' : Ticks) (fault : LoopFault) (given : FieldFault) → IsOther given fault → LooksOnce rules.tick v w a ticks (Err fault) b ticks'
+  pub no_look : (rules : Rules) (v w : Option (List Sight)) (a b : Meter P A ghosts) (ticks ticks' : Ticks) (fault : RunFault) (given : FieldFault) → IsOther given fault → LooksOnce rules.tick v w a ticks (Err fault) b ticks'
       → ServesNext rules v w a ticks (Err given) b ticks'
   no_look rules v w a b ticks ticks' fault given is looks = NoLook fault given looks.0 b ticks' is looks.2 looks.1
 
@@ -53,7 +53,7 @@ module _ {P A : Type 0} {ghosts : Ghosts P} where
   none_came rules v w x a b ticks ticks' now came looks sees is =
       NoneCame now b ticks' looks.1 (sees_more v w x (Second (Some now) ∷ []) (Next now (Ok None) ∷ []) looks.0 (subst (λ (c : Option SocketAddr). Sees w x (Next now (Ok c) ∷ [])) is sees))
 
-  pub one_came : (rules : Rules) (v w x y : Option (List Sight)) (a b d : Meter P A ghosts) (ticks told ticks' : Ticks) (now : ℕ) (address : SocketAddr) (came : Option SocketAddr) (outcome : Result (Unit {0}) LoopFault) (result : Result (Unit {0}) FieldFault)
+  pub one_came : (rules : Rules) (v w x y : Option (List Sight)) (a b d : Meter P A ghosts) (ticks told ticks' : Ticks) (now : ℕ) (address : SocketAddr) (came : Option SocketAddr) (outcome : Result (Unit {0}) RunFault) (result : Result (Unit {0}) FieldFault)
       → LooksOnce rules.tick v w a ticks (Ok now) b told → Sees w x (Next now (Ok came) ∷ []) → came ≡ Some address → ServesOne rules address x y b told outcome d ticks' → TellsOther outcome result → ServesNext rules v y a ticks result d ticks'
   one_came rules v w x y a b d ticks told ticks' now address came outcome result looks sees is serves tells =
       OneCame now address x b d told ticks' outcome result looks.1 (sees_more v w x (Second (Some now) ∷ []) (Next now (Ok (Some address)) ∷ []) looks.0 (subst (λ (c : Option SocketAddr). Sees w x (Next now (Ok c) ∷ [])) is sees)) serves tells

@@ -6,7 +6,7 @@ use Rattle.std.proofs.lemmas.Bool.{false≢true}
 use Rattle.dlms_ends.specs.Faults.{TellsError}
 use Rattle.dlms_ends.specs.Moments.{Moment, Adds, Breaks}
 use Rattle.dlms_ends.specs.Moments.Moment.{Went}
-use Rattle.dlms_ends.specs.declared.fault.LoopFault.{LoopFault}
+use Rattle.dlms_ends.specs.declared.fault.RunFault.{RunFault}
 use Rattle.dlms_ends.specs.declared.meter_end.Taken.{Taken}
 use Rattle.dlms_ends.proofs.MomentLemmas.{adds_none}
 use Rattle.dlms_ends.proofs.PollLemmas.{system_told}
@@ -15,7 +15,7 @@ use Rattle.dlms_meter.specs.Steps.Call.{Fed}
 use Rattle.dlms_meter.specs.declared.meter.Meter.{Meter}
 use Rattle.dlms_pages.specs.declared.device.Pages.{Ghosts}
 use Rattle.dlms_store.specs.declared.fault.AddFault.{AddFault}
-use Rattle.dlms_field.specs.Connection.{Counts, GivesFrame, ChecksOnce, HasAssociation, noted, TellsStop, NoClock, NoStore, LooksOnce, Looked, IsDue, AsksFor, NotDue, Asks, AsksOnce, TellsOnce, behind_answer, behind_telling, told_of}
+use Rattle.dlms_field.specs.Connection.{Counts, GivesFrame, ChecksOnce, HasAssociation, turn_after_bytes, TellsStop, NoClock, NoStore, LooksOnce, Looked, IsDue, AsksFor, NotDue, Asks, AsksOnce, TellsOnce, behind_answer, behind_telling, told_of}
 use Rattle.dlms_field.specs.Pace.{AreDue}
 use Rattle.dlms_field.specs.Turns.{Tells}
 use Rattle.dlms_field.specs.declared.talking.Rules.{Rules}
@@ -23,7 +23,7 @@ use Rattle.dlms_field.specs.declared.turns.Over.{Over as Why}
 use Rattle.dlms_field.specs.Telling.{Looks}
 use Rattle.dlms_field.specs.Watching.{Sight, Sees}
 use Rattle.dlms_field.specs.Watching.Sight.{Second, Another, Trusts}
-use Rattle.dlms_field.specs.declared.talking.Stay.{Stay}
+use Rattle.dlms_field.specs.declared.talking.TurnState.{TurnState}
 use Rattle.dlms_field.specs.declared.ticks.Ticks.{Ticks}
 use Rattle.dlms_field.specs.declared.turns.Tries.{Tries}
 use Rattle.dlms_field.specs.declared.turns.Turn.{Turn}
@@ -46,41 +46,41 @@ is_false b is iff x = absurd (false≢true (sym is ∙ iff.1 x))
 pub is_true : {X : Type 0} (b : Bool) → b ≡ true → (IsTrue b ↔ X) → X
 is_true b is iff = iff.0 is
 
-pub not_due : (seen : Option (List Sight)) (stay : Stay) (now : ℕ) → (IsDue stay now → ⊥) → AsksOnce seen seen stay now (record stay { asked = Some now })
-not_due seen stay now not = ([], sees_nothing seen, NotDue not, refl)
+pub not_due : (seen : Option (List Sight)) (state : TurnState) (now : ℕ) → (IsDue state now → ⊥) → AsksOnce seen seen state now (record state { asked = Some now })
+not_due seen state now not = ([], sees_nothing seen, NotDue not, refl)
 
-pub is_asked : (seen seen' : Option (List Sight)) (stay : Stay) (now : ℕ) (waits : Bool) (turn : Turn) → IsDue stay now → Sees seen seen' (Another now waits ∷ []) → turn ≡ behind_answer stay.turn now waits
-    → AsksOnce seen seen' stay now (record { turn = turn; asked = Some now })
-is_asked seen seen' stay now waits turn due sees is = (Another now waits ∷ [], sees, subst (λ (t : Turn). AsksFor stay now (Another now waits ∷ []) t) (sym is) (Asks due waits), refl)
+pub is_asked : (seen seen' : Option (List Sight)) (state : TurnState) (now : ℕ) (waits : Bool) (turn : Turn) → IsDue state now → Sees seen seen' (Another now waits ∷ []) → turn ≡ behind_answer state.turn now waits
+    → AsksOnce seen seen' state now (record { turn = turn; asked = Some now })
+is_asked seen seen' state now waits turn due sees is = (Another now waits ∷ [], sees, subst (λ (t : Turn). AsksFor state now (Another now waits ∷ []) t) (sym is) (Asks due waits), refl)
 
-pub tells_none : (seen : Option (List Sight)) (stay : Stay) (now : ℕ) → stay.turn.tries.is_proved ≡ false → TellsOnce seen seen stay now stay
-tells_none seen stay now is =
-    (subst (λ (b : Bool). Sees seen seen (if b then (Trusts now ∷ []) else [])) (sym is) (sees_nothing seen), ap (λ (b : Bool). record stay { turn = record stay.turn { tries = record stay.turn.tries { is_proved = b } } }) is)
+pub tells_none : (seen : Option (List Sight)) (state : TurnState) (now : ℕ) → state.turn.tries.is_proved ≡ false → TellsOnce seen seen state now state
+tells_none seen state now is =
+    (subst (λ (b : Bool). Sees seen seen (if b then (Trusts now ∷ []) else [])) (sym is) (sees_nothing seen), ap (λ (b : Bool). record state { turn = record state.turn { tries = record state.turn.tries { is_proved = b } } }) is)
 
-pub tells_one : (seen seen' : Option (List Sight)) (stay : Stay) (now : ℕ) → stay.turn.tries.is_proved ≡ true → Sees seen seen' (Trusts now ∷ []) → TellsOnce seen seen' stay now (behind_telling stay)
-tells_one seen seen' stay now is sees = (subst (λ (b : Bool). Sees seen seen' (if b then (Trusts now ∷ []) else [])) (sym is) sees, refl)
+pub tells_one : (seen seen' : Option (List Sight)) (state : TurnState) (now : ℕ) → state.turn.tries.is_proved ≡ true → Sees seen seen' (Trusts now ∷ []) → TellsOnce seen seen' state now (behind_telling state)
+tells_one seen seen' state now is sees = (subst (λ (b : Bool). Sees seen seen' (if b then (Trusts now ∷ []) else [])) (sym is) sees, refl)
 
 -- ---- a look at the clock
 
 module _ {P A : Type 0} {ghosts : Ghosts P} where
-  pub no_clock : (step : ℕ) (seen seen' : Option (List Sight)) (meter : Meter P A ghosts) (ticks : Ticks) (error : Error) (r : Result ℕ LoopFault) → IsErrAnd r (TellsError error) → Sees seen seen' (Second None ∷ [])
+  pub no_clock : (step : ℕ) (seen seen' : Option (List Sight)) (meter : Meter P A ghosts) (ticks : Ticks) (error : Error) (r : Result ℕ RunFault) → IsErrAnd r (TellsError error) → Sees seen seen' (Second None ∷ [])
       → LooksOnce step seen seen' meter ticks r meter ticks
   no_clock step seen seen' meter ticks error (Ok now) told sees = absurd told
   no_clock step seen seen' meter ticks error (Err fault) told sees = (Second None ∷ [], sees, NoClock (system_told fault error told))
 
-  pub no_store : (step now due : ℕ) (seen seen' : Option (List Sight)) (meter meter' : Meter P A ghosts) (ticks ticks' : Ticks) (why named : AddFault) (fault : LoopFault) → why ≡ named → TellsStop named fault → Sees seen seen' (Second (Some now) ∷ [])
+  pub no_store : (step now due : ℕ) (seen seen' : Option (List Sight)) (meter meter' : Meter P A ghosts) (ticks ticks' : Ticks) (why named : AddFault) (fault : RunFault) → why ≡ named → TellsStop named fault → Sees seen seen' (Second (Some now) ∷ [])
       → AreDue (max step 1) now due → Looks due ticks meter (Err why) ticks' meter' → LooksOnce step seen seen' meter ticks (Err fault) meter' ticks'
   no_store step now due seen seen' meter meter' ticks ticks' why named fault is tells sees is_due looks =
       (Second (Some now) ∷ [], sees, NoStore now due named meter' ticks' is_due (subst (λ (w : AddFault). Looks due ticks meter (Err w) ticks' meter') is looks) tells)
 
-  -- a look, and what is told of the turn then
-  pub checks : (rules : Rules) (seen mid late seen' : Option (List Sight)) (meter meter' : Meter P A ghosts) (ticks ticks' : Ticks) (stay told stay' : Stay) (is_answered : Bool) (now : ℕ) (associated : Bool) (turn : Turn) (why : Option Why)
-      → Sees seen mid (Second (Some now) ∷ []) → Looked rules.tick meter ticks now meter' ticks' → IsTrue associated ↔ HasAssociation meter' → turn ≡ noted stay.turn is_answered now associated
-      → TellsOnce mid late (record stay { turn = turn }) now told → AsksOnce late seen' told now stay' → Tells rules stay'.turn now why
-      → (left : List ℕ) (reads : ℕ) → ChecksOnce rules seen seen' (record { meter = meter; ticks = ticks; left = left; stay = stay; reads = reads }) is_answered (Ok why)
-      (record { meter = meter'; ticks = ticks'; left = left; stay = stay'; reads = reads })
-  checks rules seen mid late seen' meter meter' ticks ticks' stay told stay' is_answered now associated turn why sees look has is (tells_so, behind) (sights, more, asks, asked) tells left reads =
-      let here = record stay { turn = turn } in (
+  -- a look, and the report on the turn then
+  pub checks : (rules : Rules) (seen mid late seen' : Option (List Sight)) (meter meter' : Meter P A ghosts) (ticks ticks' : Ticks) (state told state' : TurnState) (is_answered : Bool) (now : ℕ) (associated : Bool) (turn : Turn) (why : Option Why)
+      → Sees seen mid (Second (Some now) ∷ []) → Looked rules.tick meter ticks now meter' ticks' → IsTrue associated ↔ HasAssociation meter' → turn ≡ turn_after_bytes state.turn is_answered now associated
+      → TellsOnce mid late (record state { turn = turn }) now told → AsksOnce late seen' told now state' → Tells rules state'.turn now why
+      → (left : List ℕ) (reads : ℕ) → ChecksOnce rules seen seen' (record { meter = meter; ticks = ticks; left = left; state = state; reads = reads }) is_answered (Ok why)
+      (record { meter = meter'; ticks = ticks'; left = left; state = state'; reads = reads })
+  checks rules seen mid late seen' meter meter' ticks ticks' state told state' is_answered now associated turn why sees look has is (tells_so, behind) (sights, more, asks, asked) tells left reads =
+      let here = record state { turn = turn } in (
         now,
         told_of here now ++ sights,
         sees_more seen mid seen' (Second (Some now) ∷ []) (told_of here now ++ sights) sees (sees_more mid late seen' (told_of here now) sights tells_so more),
@@ -88,10 +88,10 @@ module _ {P A : Type 0} {ghosts : Ghosts P} where
           look = look;
           associated = associated;
           has = has;
-          stay = here;
-          noted = ap (λ (t : Turn). record stay { turn = t }) is;
+          state = here;
+          turn_after_bytes = ap (λ (t : Turn). record state { turn = t }) is;
           asked_for = sights;
-          asks = subst (λ (s : Stay). AsksFor s now sights stay'.turn) behind asks;
+          asks = subst (λ (s : TurnState). AsksFor s now sights state'.turn) behind asks;
           all = refl;
           asked = asked;
           left = refl;

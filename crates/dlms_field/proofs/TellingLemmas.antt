@@ -1,4 +1,4 @@
--- A meter is told of one second more.
+-- A meter gets one more second.
 use Rattle.std.proofs.Common.{ℕ, ◌+◌, List, [], ◌∷◌, ◌++◌, refl, subst, arith, length-append}
 use Rattle.std.specs.Prelude.{Result, Ok}
 use Rattle.dlms_field.specs.Ticks.{AreNext, IsNext}

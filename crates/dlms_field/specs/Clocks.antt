@@ -11,7 +11,7 @@ use Rattle.dlms_field.specs.declared.clocks.TheConstants.{YEAR_2000}
 abbrev pub IsEarlier : Row → Row → Type 0
 IsEarlier one other = one.clock < other.clock
 
--- of the first so many rows each is earlier than the next
+-- among the first n rows each is earlier than the next
 abbrev pub Rise : List Row → ℕ → Type 0
 Rise rows count = AllAdjacentBelow IsEarlier rows count
 
@@ -22,15 +22,17 @@ pub record IsFirstFallen (rows : List Row) (number : ℕ) : Type 0 where
   pub behind : 0 < place
   pub within : place < length rows
   pub rise : Rise rows place
-  pub falls : (other : Row) → (slice_index_or rows place other).clock ≤ (slice_index_or rows (place - 1) other).clock
+  pub falls : (other : Row) → (slice_index_or rows place other).clock ≤ (slice_index_or rows
+      (place - 1) other).clock
 
--- a second of the meter's clock is more than so many seconds past a second of the system's, which counts from 1970
+-- a second of the meter's clock is more than `margin` seconds past a second of the system's, which counts from 1970
 abbrev pub IsAhead : (now margin clock : ℕ) → Type 0
 IsAhead now margin clock = now + margin < clock + YEAR_2000
 
--- of the first so many rows none is ahead
+-- none of the first n rows is ahead
 abbrev pub AreInTime : (now margin : ℕ) → List Row → ℕ → Type 0
-AreInTime now margin rows count = (k : ℕ) (other : Row) → k < count → IsAhead now margin (slice_index_or rows k other).clock → ⊥
+AreInTime now margin rows count = (k : ℕ) (other : Row) → k < count
+    → IsAhead now margin (slice_index_or rows k other).clock → ⊥
 
 -- the row of this number, counted from 1, is the first that is ahead
 pub record IsFirstAhead (now margin : ℕ) (rows : List Row) (number : ℕ) : Type 0 where
@@ -56,7 +58,8 @@ IsOutOfOrder strict rows (Ahead number) = ⊥
 -- why the clocks are refused: there is a limit, and this row is the first past it
 abbrev pub IsBeyond : Option Limit → List Row → ClockFault → Type 0
 IsBeyond limit rows (Fallen number) = ⊥
-IsBeyond limit rows (Ahead number) = IfSome limit (λ l. IsFirstAhead l.now l.margin rows number) × IsSome limit
+IsBeyond limit rows (Ahead number) = IfSome limit (λ l. IsFirstAhead l.now l.margin rows number)
+    × IsSome limit
 
 -- Why rows are refused: first of all for their order; and for a clock only if the order is taken.
 abbrev pub Refuses : Bool → Option Limit → List Row → ClockFault → Type 0

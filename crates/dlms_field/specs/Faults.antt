@@ -1,7 +1,7 @@
 -- Where a call of the system failed.
 use Rattle.std.specs.Prelude.{◌≡◌, ℕ, List}
 use Rattle.std.specs.declared.io.Error.{Error}
-use Rattle.dlms_ends.specs.declared.fault.LoopFault.{LoopFault}
+use Rattle.dlms_ends.specs.declared.fault.RunFault.{RunFault}
 use Rattle.dlms_field.specs.declared.clocks.ClockFault.{ClockFault}
 use Rattle.dlms_field.specs.declared.fault.FieldFault.{FieldFault}
 use Rattle.dlms_field.specs.declared.fault.FieldFault.TheVariants.{System, Secret, Late, Clock, Other}
@@ -12,11 +12,11 @@ IsSystemAt place error (System at told) = (at.now ≡ place) × (told ≡ error)
 IsSystemAt place error _ = ⊥
 
 -- it is this other fault
-abbrev pub IsOther : FieldFault → LoopFault → Type 0
+abbrev pub IsOther : FieldFault → RunFault → Type 0
 IsOther (Other fault) given = fault ≡ given
 IsOther _ given = ⊥
 
--- the deadline of so many seconds was over at this address
+-- the deadline of this many seconds was over at this address
 abbrev pub IsLateAt : List ℕ → ℕ → FieldFault → Type 0
 IsLateAt place seconds (Late at deadline) = (at.now ≡ place) × (deadline ≡ seconds)
 IsLateAt place seconds _ = ⊥

@@ -14,7 +14,13 @@ use Rattle.dlms_field.specs.declared.hanging_up.TheConstants.{DISC, METER}
 
 -- the frame with which a client ends its link (IEC 62056-46, 6.4.3.3): DISC, from its service access point to the meter
 abbrev pub disc_of : Client → Parts
-disc_of who = record { segmented = false; dest = One METER; src = One (sap_of who); control = DISC; info = [] }
+disc_of who = record {
+  segmented = false;
+  dest = One METER;
+  src = One (sap_of who);
+  control = DISC;
+  info = [];
+}
 
 -- a client's link is down, with no association and no transfer
 pub record IsDown (own : ClientRecord) : Type 0 where
@@ -28,8 +34,10 @@ pub record HasEnded (who : Client) (w w' : MeterWorld) : Type 0 where
   pub own : AreOwn w'
   pub store : w'.store ≡ w.store
 
-abbrev pub EndsLink : {P A : Type 0} → {ghosts : Ghosts P} → Client → Meter P A ghosts → Meter P A ghosts → Type 0
-EndsLink who old new = (w : MeterWorld) → Stands old w → AreOwn w → (w' : MeterWorld) × Stands new w' × HasEnded who w w'
+abbrev pub EndsLink : {P A : Type 0} → {ghosts : Ghosts P} → Client → Meter P A ghosts
+    → Meter P A ghosts → Type 0
+EndsLink who old new = (w : MeterWorld) → Stands old w → AreOwn w
+    → (w' : MeterWorld) × Stands new w' × HasEnded who w w'
 
 -- every client's link has ended, nothing of a frame is left, and the store is as it was
 pub record AllEnded (w w' : MeterWorld) : Type 0 where
@@ -38,5 +46,7 @@ pub record AllEnded (w w' : MeterWorld) : Type 0 where
   pub store : w'.store ≡ w.store
   pub silent : w'.stretch ≡ []
 
-abbrev pub HangsUp : {P A : Type 0} → {ghosts : Ghosts P} → Meter P A ghosts → Meter P A ghosts → Type 0
-HangsUp old new = (w : MeterWorld) → Stands old w → AreOwn w → (w' : MeterWorld) × Stands new w' × AllEnded w w'
+abbrev pub HangsUp : {P A : Type 0} → {ghosts : Ghosts P} → Meter P A ghosts → Meter P A ghosts
+    → Type 0
+HangsUp old new = (w : MeterWorld) → Stands old w → AreOwn w
+    → (w' : MeterWorld) × Stands new w' × AllEnded w w'

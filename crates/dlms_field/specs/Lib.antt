@@ -1,9 +1,12 @@
 pub mod HangingUp
 pub mod Clocks
 pub mod Risers
+pub mod Steady
 pub mod Deadline
+pub mod Line
 pub mod Load
 pub mod Pace
+pub mod FirstBytes
 pub mod Secret
 pub mod Telling
 pub mod Ticks

@@ -22,7 +22,9 @@ is_last (Some last) row = same last row
 -- How many rows of an answer are left out of these readings: all rows, less those that are the last row of the readings, and less
 -- those that are filed.
 abbrev pub count_left_out : List Row → List Row → ℕ
-count_left_out before rows = length rows - length (filter (is_last (slice_get before (length before - 1))) rows) - length (added before (risers rows))
+count_left_out before rows = length rows - length
+    (filter (is_last (slice_get before (length before - 1))) rows) - length
+    (added before (risers rows))
 
 -- what is filed of an answer are some of its rows, in their order
 abbrev pub FilesSome : Type 0

@@ -1,4 +1,4 @@
--- A meter is told of seconds.
+-- A meter gets seconds.
 use Rattle.std.specs.Prelude.{◌≡◌, ◌⊎◌, ◌<◌, ◌≤◌, ◌+◌, ◌^◌, ℕ, List, [], ◌∷◌, length, Result, Ok, Err, MatchResult}
 use Rattle.dlms_field.specs.Ticks.{AreNext}
 use Rattle.dlms_field.specs.declared.telling.TheConstants.{CATCH_UP}
@@ -12,13 +12,16 @@ use Rattle.dlms_state.specs.declared.event.Event.TheVariants.{Pulses, Moment}
 use Rattle.dlms_store.specs.declared.fault.AddFault.{AddFault}
 use Rattle.dlms_store.specs.declared.fault.AddFault.TheVariants.{Refused}
 
--- The meter is told of the second's pulses on channel 0, and where they were taken of the second itself; where there are no
--- pulses, of the second alone.
-abbrev pub Tells : {P A : Type 0} → {ghosts : Ghosts P} → Meter P A ghosts → Second → Result (Unit {0}) AddFault → Meter P A ghosts → Type 0
+-- The meter gets the second's pulses on channel 0, and if they were accepted the second itself; if there are no pulses, only the
+-- second.
+abbrev pub Tells : {P A : Type 0} → {ghosts : Ghosts P} → Meter P A ghosts → Second
+    → Result (Unit {0}) AddFault → Meter P A ghosts → Type 0
 Tells {P} {A} {ghosts} old second outcome new =
     (second.pulses ≡ 0 → IsCall old (ToldOf (Moment second.moment) outcome) new)
-    × (0 < second.pulses → (counted : Result (Unit {0}) AddFault) × (between : Meter P A ghosts) × IsCall old (ToldOf (Pulses 0 second.pulses) counted) between
-    × MatchResult counted (λ _. IsCall between (ToldOf (Moment second.moment) outcome) new) (λ fault. (outcome ≡ Err fault) × (new ≡ between)))
+    × (0 < second.pulses → (counted : Result (Unit {0}) AddFault) × (between : Meter P A ghosts)
+    × IsCall old (ToldOf (Pulses 0 second.pulses) counted) between
+    × MatchResult counted (λ _. IsCall between (ToldOf (Moment second.moment) outcome) new)
+    (λ fault. (outcome ≡ Err fault) × (new ≡ between)))
 
 -- the store goes on: the last second was taken, or the table refused it
 abbrev pub GoesOn : Result (Unit {0}) AddFault → Type 0
@@ -26,26 +29,33 @@ GoesOn (Ok done) = Unit {0}
 GoesOn (Err (Refused cause)) = Unit {0}
 GoesOn (Err fault) = ⊥
 
--- The meter is told of these seconds, one after another, each of them where its store goes on behind what was said before. What is
--- said at last is the outcome: that of the last second, and where there is none what was said before.
-abbrev pub TellsEach : {P A : Type 0} → {ghosts : Ghosts P} → Meter P A ghosts → Result (Unit {0}) AddFault → List Second → Result (Unit {0}) AddFault → Meter P A ghosts → Type 0
+-- The meter gets these seconds, one after another, each of them if its store goes on after the previous outcome. The last outcome
+-- counts: that of the last second, or the previous one if there is no second.
+abbrev pub TellsEach : {P A : Type 0} → {ghosts : Ghosts P} → Meter P A ghosts
+    → Result (Unit {0}) AddFault → List Second → Result (Unit {0}) AddFault → Meter P A ghosts
+    → Type 0
 TellsEach old said [] outcome new = (new ≡ old) × (outcome ≡ said)
 TellsEach {P} {A} {ghosts} old said (second ∷ seconds) outcome new =
-    GoesOn said × (told : Result (Unit {0}) AddFault) × (between : Meter P A ghosts) × Tells old second told between × TellsEach between told seconds outcome new
+    GoesOn said × (told : Result (Unit {0}) AddFault) × (between : Meter P A ghosts)
+    × Tells old second told between × TellsEach between told seconds outcome new
 
--- so many seconds came next, and the meter was told of each
-pub record Told {P A : Type 0} {ghosts : Ghosts P} (count : ℕ) (before : Ticks) (old : Meter P A ghosts) (outcome : Result (Unit {0}) AddFault) (after : Ticks) (new : Meter P A ghosts) : Type 0 where
+-- these seconds came next, and the meter got each of them
+pub record Told {P A : Type 0} {ghosts : Ghosts P} (count : ℕ) (before : Ticks)
+    (old : Meter P A ghosts) (outcome : Result (Unit {0}) AddFault) (after : Ticks)
+    (new : Meter P A ghosts) : Type 0 where
   pub seconds : List Second
   pub counted : length seconds ≡ count
   pub next : AreNext before seconds after
   pub each : TellsEach old (Ok tt) seconds outcome new
 
--- the meter was told of every second that has gone by, or its running second is the last that there is
+-- the meter got every second that has passed, or its running second is the last that there is
 abbrev pub IsUpToDate : ℕ → Ticks → Type 0
 IsUpToDate elapsed ticks = (elapsed ≤ ticks.told) ⊎ (ticks.first + ticks.told + 1 ≡ 2 ^ 32)
 
--- A look at the clock: the meter is told of the next seconds, so many at most; of fewer only where it is up to date then, or its
--- store does not go on.
-abbrev pub Looks : {P A : Type 0} → {ghosts : Ghosts P} → ℕ → Ticks → Meter P A ghosts → Result (Unit {0}) AddFault → Ticks → Meter P A ghosts → Type 0
+-- A look at the clock: the meter gets the next seconds, at most this many; fewer only if it is up to date then, or its store does
+-- not go on.
+abbrev pub Looks : {P A : Type 0} → {ghosts : Ghosts P} → ℕ → Ticks → Meter P A ghosts
+    → Result (Unit {0}) AddFault → Ticks → Meter P A ghosts → Type 0
 Looks elapsed before old outcome after new =
-    (count : ℕ) × Told count before old outcome after new × (count ≤ CATCH_UP) × (GoesOn outcome → count < CATCH_UP → IsUpToDate elapsed after)
+    (count : ℕ) × Told count before old outcome after new × (count ≤ CATCH_UP)
+    × (GoesOn outcome → count < CATCH_UP → IsUpToDate elapsed after)

@@ -12,14 +12,14 @@ ghost use Rattle.dlms_field.specs.Calling.{Attempts, Calls, Does, GivesUp, IsOfC
 ghost use Rattle.dlms_field.specs.Deadline.{IsOver};
 
 use crate::deadline::{Timer, is_over};
-use crate::desk::Desk;
 use crate::fault::FieldFault;
-use crate::phone::Dialling;
+use crate::meter_line::Dialling;
+use crate::poll_inputs::PollInputs;
 use crate::polling::Polling;
 use arrayvec::ArrayVec;
 use dlms_call::CallFault;
 use dlms_client::Fault;
-use dlms_ends::{End, HeadEnd, LoopFault, TURNS, Turn, dial};
+use dlms_ends::{End, HeadEnd, PollTurn, RunFault, TURNS, dial};
 use dlms_frame::{Address, Client};
 use dlms_headend::{Plan, PollFault, Poller};
 use dlms_identity::first_other;
@@ -40,17 +40,19 @@ fn has_to_end(seconds: u32, time: u64) -> bool
     is_over(u64::from(seconds), time)
 }
 
-/// Does a poll over a line whose other end is the meter; none where the deadline, so many seconds, is over. The clock is looked at
+/// Does a poll over a line whose other end is the meter; `None` if the deadline, this many seconds, is over. The clock is looked at
 /// before each turn.
 #[inline(never)]
-fn done<T: Timer, S: End>(
+fn poll_within<T: Timer, S: End>(
     line: &mut S,
     timer: &mut T,
     seconds: u32,
     poller: Poller,
-) -> Result<Option<Poller>, LoopFault>
-    ensures does { Does seconds (S.past line.old) (S.past line.new) (T.seen timer.old) (T.seen timer.new) poller result }
-    ensures done { (plan : PlanValue) → poller ≡ fresh_poll plan → IfOk result (λ done. IfSome done (IsDonePoll plan)) }
+) -> Result<Option<Poller>, RunFault>
+    ensures does { Does seconds (S.past line.old) (S.past line.new) (T.seen timer.old)
+        (T.seen timer.new) poller result }
+    ensures done { (plan : PlanValue) → poller ≡ fresh_poll plan
+        → IfOk result (λ done. IfSome done (IsDonePoll plan)) }
 {
     let mut head_end = HeadEnd::of(poller);
     dial(&mut head_end.poller, line)?;
@@ -60,19 +62,19 @@ fn done<T: Timer, S: End>(
             return Ok(None);
         }
         match head_end.turn(line)? {
-            Turn::Done => return Ok(Some(head_end.poller)),
-            Turn::Sent => {}
+            PollTurn::Done => return Ok(Some(head_end.poller)),
+            PollTurn::Sent => {}
         }
     }
-    Err(LoopFault::Poll(PollFault::Line))
+    Err(RunFault::Poll(PollFault::Line))
 }
 
 /// The fault of a poll that failed: if the line did, with the system's error.
-fn line_fault<'a>(address: &'a str, fault: LoopFault, failure: Option<io::Error>) -> FieldFault<'a>
+fn line_fault<'a>(address: &'a str, fault: RunFault, failure: Option<io::Error>) -> FieldFault<'a>
     ensures { IsOfCall address.now fault result }
 {
     match (fault, failure) {
-        (LoopFault::Io, Some(error)) => FieldFault::System(address, error),
+        (RunFault::Io, Some(error)) => FieldFault::System(address, error),
         _ => FieldFault::Other(fault),
     }
 }
@@ -98,8 +100,8 @@ fn secret_by(client: Client, secret: &ArrayVec<u8, 16>) -> Option<ArrayVec<u8, 1
 {
     match client {
         Client::Public => None,
-        Client::Management => Some(copied(secret)),
-        Client::Reader => Some(copied(secret)),
+        Client::Management => Some(copy_of(secret)),
+        Client::Reader => Some(copy_of(secret)),
     }
 }
 
@@ -138,7 +140,8 @@ fn knows<'a, L: Dialling>(
     polling: &Polling<'a, '_>,
     plan: &Plan,
 ) -> Result<(), FieldFault<'a>>
-    ensures { Knows (aim_of polling.now (plan_of plan.now)) (L.past line.old) (L.past line.new) result }
+    ensures { Knows (aim_of polling.now (plan_of plan.now)) (L.past line.old)
+        (L.past line.new) result }
 {
     match first_other(alloc, line, &asker(plan), polling.expected) {
         Ok(None) => Ok(()),
@@ -148,9 +151,9 @@ fn knows<'a, L: Dialling>(
 }
 
 /// One attempt: the line is connected, within the seconds that are left, the expected texts are asked for, and the poll is done over it.
-fn attempt<'a, D: Desk, L: Dialling>(
+fn attempt<'a, D: PollInputs, L: Dialling>(
     alloc: Global,
-    desk: &mut D,
+    inputs: &mut D,
     line: &mut L,
     polling: &Polling<'a, '_>,
     plan: &Plan,
@@ -158,7 +161,8 @@ fn attempt<'a, D: Desk, L: Dialling>(
     connected: bool,
 ) -> Result<Option<Poller>, FieldFault<'a>>
     requires { IfSome plan.now.after (λ second. second ≤ LAST_SECOND) }
-    ensures attempts { Attempts connected (aim_of polling.now (plan_of plan.now)) (L.past line.old) (L.past line.new) (D.seen desk.old) (D.seen desk.new) result }
+    ensures attempts { Attempts connected (aim_of polling.now (plan_of plan.now)) (L.past line.old)
+        (L.past line.new) (D.seen inputs.old) (D.seen inputs.new) result }
     ensures done { IfOk result (λ done. IfSome done (IsDonePoll (plan_of plan.now))) }
 {
     match reach(line, polling.address, left, connected) {
@@ -170,7 +174,7 @@ fn attempt<'a, D: Desk, L: Dialling>(
         Ok(()) => {}
         Err(fault) => return Err(fault),
     }
-    match done(line, desk, polling.deadline, fresh(alloc, plan)) {
+    match poll_within(line, inputs, polling.deadline, fresh(alloc, plan)) {
         Ok(poller) => Ok(poller),
         Err(fault) => Err(line_fault(polling.address, fault, line.failure())),
     }
@@ -197,7 +201,7 @@ fn next_line(fault: &FieldFault<'_>) -> Option<bool>
     ensures { result ≡ next_line fault.now }
 {
     match fault {
-        FieldFault::Other(LoopFault::Poll(PollFault::Line)) => Some(true),
+        FieldFault::Other(RunFault::Poll(PollFault::Line)) => Some(true),
         FieldFault::Unasked(_, CallFault::Talk(Fault::Line)) => Some(true),
         FieldFault::System(_, error) => { if is_lost(*error) { Some(false) } else { None } }
         _ => None,
@@ -205,15 +209,15 @@ fn next_line(fault: &FieldFault<'_>) -> Option<bool>
 }
 
 /// Lets a second go by, and looks at the clock; none if the deadline is over then.
-fn wait<'a, D: Desk>(
-    desk: &mut D,
+fn wait<'a, D: PollInputs>(
+    inputs: &mut D,
     address: &'a str,
     seconds: u32,
 ) -> Result<Option<u64>, FieldFault<'a>>
-    ensures { Waits address.now seconds (D.seen desk.old) (D.seen desk.new) result }
+    ensures { Waits address.now seconds (D.seen inputs.old) (D.seen inputs.new) result }
 {
-    desk.pause();
-    match desk.seconds() {
+    inputs.pause();
+    match inputs.seconds() {
         Ok(time) => {
             if has_to_end(seconds, time) {
                 Ok(None)
@@ -225,8 +229,8 @@ fn wait<'a, D: Desk>(
     }
 }
 
-/// What is returned at the deadline after this fault: the fault, if the system has words for it.
-fn given_up<'a>(fault: FieldFault<'a>) -> Result<Option<Poller>, FieldFault<'a>>
+/// The outcome at the deadline after this fault: the fault itself, if the system has a message for it.
+fn outcome_at_deadline<'a>(fault: FieldFault<'a>) -> Result<Option<Poller>, FieldFault<'a>>
     ensures { GivesUp fault.entry result }
 {
     match fault {
@@ -241,7 +245,7 @@ fn left_of(seconds: u32, time: u64) -> u32 {
 }
 
 /// The same secret once more.
-fn copied(secret: &ArrayVec<u8, 16>) -> ArrayVec<u8, 16>
+fn copy_of(secret: &ArrayVec<u8, 16>) -> ArrayVec<u8, 16>
     ensures { result.items ≡ secret.now.items }
 {
     let mut copy = ArrayVec::new();
@@ -258,7 +262,7 @@ fn fresh(alloc: Global, plan: &Plan) -> Poller
         alloc,
         Plan {
             client: plan.client,
-            secret: copied(&plan.secret),
+            secret: copy_of(&plan.secret),
             after: plan.after,
             columns: plan.columns,
         },
@@ -268,37 +272,38 @@ fn fresh(alloc: Global, plan: &Plan) -> Poller
 /// Calls a meter, and polls it by this plan, once it has shown the expected texts. Returns the poll that is done, with its rows, and none
 /// if the seconds are over before. A connection that is refused or lost is made again, and a meter that does not answer is asked again
 /// over the same one, a second later, until then. If the line failed, the fault has the system's error.
-pub fn call<'a, D: Desk, L: Dialling>(
+pub fn call<'a, D: PollInputs, L: Dialling>(
     alloc: Global,
-    desk: &mut D,
+    inputs: &mut D,
     line: &mut L,
     polling: &Polling<'a, '_>,
     plan: &Plan,
 ) -> Result<Option<Poller>, FieldFault<'a>>
     requires { IfSome plan.now.after (λ second. second ≤ LAST_SECOND) }
-    ensures calls { Calls (aim_of polling.now (plan_of plan.now)) (L.past line.old) (L.past line.new) (D.seen desk.old) (D.seen desk.new) result }
+    ensures calls { Calls (aim_of polling.now (plan_of plan.now)) (L.past line.old)
+        (L.past line.new) (D.seen inputs.old) (D.seen inputs.new) result }
     ensures done { IfOk result (λ done. IfSome done (IsDonePoll (plan_of plan.now))) }
 {
-    match desk.start() {
+    match inputs.start() {
         Ok(()) => {}
         Err(error) => return Err(FieldFault::System(polling.address, error)),
     }
     let mut connected = false;
     let mut left = polling.deadline;
     'attempts: for _attempt in 0..ATTEMPTS {
-        let fault = match attempt(alloc, desk, line, polling, plan, left, connected) {
+        let fault = match attempt(alloc, inputs, line, polling, plan, left, connected) {
             Ok(found) => return Ok(found),
             Err(fault) => fault,
         };
         let Some(next) = next_line(&fault) else {
             return Err(fault);
         };
-        match wait(desk, polling.address, polling.deadline) {
+        match wait(inputs, polling.address, polling.deadline) {
             Ok(Some(time)) => left = left_of(polling.deadline, time),
-            Ok(None) => return given_up(fault),
+            Ok(None) => return outcome_at_deadline(fault),
             Err(fault) => return Err(fault),
         }
         connected = next;
     }
-    Err(FieldFault::Other(LoopFault::Poll(PollFault::Line)))
+    Err(FieldFault::Other(RunFault::Poll(PollFault::Line)))
 }

@@ -40,7 +40,7 @@ fn first_fallen(rows: &[Row]) -> Option<usize>
     None
 }
 
-/// Whether a second of the meter's clock is more than so many seconds past a second of the system's.
+/// Whether a second of the meter's clock is more than this many seconds past a second of the system's.
 fn is_ahead(now: u64, margin: u32, clock: u32) -> bool
     ensures { IsTrue result ↔ IsAhead now margin clock }
 {
@@ -50,7 +50,7 @@ fn is_ahead(now: u64, margin: u32, clock: u32) -> bool
     }
 }
 
-/// The number of the first row, counted from 1, that is more than so many seconds past a second of the system's clock.
+/// The number of the first row, counted from 1, that is more than this many seconds past a second of the system's clock.
 pub fn first_ahead(now: u64, margin: u32, rows: &[Row]) -> Option<usize>
     ensures some { IfSome result (IsFirstAhead now margin rows.now) }
     ensures none { IfNone result (AreInTime now margin rows.now (length rows.now)) }
@@ -92,7 +92,8 @@ fn judge_limit(rows: &[Row], limit: Option<Limit>) -> Result<(), ClockFault>
 /// Judges the clocks of an answer's rows: with `strict` each is later than the row before it, and none is past the limit, if there is
 /// one. The order is judged first.
 pub fn judge(rows: &[Row], limit: Option<Limit>, strict: bool) -> Result<(), ClockFault>
-    ensures { MatchResult result (λ _. Takes strict limit rows.now) (Refuses strict limit rows.now) }
+    ensures { MatchResult result (λ _. Takes strict limit rows.now)
+        (Refuses strict limit rows.now) }
 {
     match judge_order(rows, strict) {
         Ok(()) => judge_limit(rows, limit),

@@ -1,17 +1,18 @@
 //! The deadline of a poll.
 
-ghost use Rattle.std.specs.Prelude.{◌≡◌, ◌-◌, ◌↔◌, ℕ, IfOk, IsTrue, List, Option, None, [], ◌∷◌};
-ghost use Rattle.dlms_field.specs.Deadline.{IsOver};
+ghost use Rattle.std.specs.Prelude.{◌≡◌, ◌-◌, ◌↔◌, IsTrue, List, Option, None, [], ◌∷◌};
+ghost use Rattle.dlms_field.specs.Deadline.{IsOver, left_at};
 ghost use Rattle.dlms_field.specs.Watching.{Sight, Sees, ok_in};
 ghost use Rattle.dlms_field.specs.Watching.Sight.{Second};
 
+use crate::steady::seconds_between;
 use std::io;
-use std::time::{Clock, Instant};
+use std::time::Instant;
 
 /// A steady clock since a beginning.
 pub trait Timer {
-    /// The looks at it, in order, and what came of each, where that is known. Of the system's clock it is not; what code does that
-    /// takes any timer holds of those of which it is known too.
+    /// The looks at it, in order, each with its outcome, if these are known. For the system's clock they are not; a theorem about
+    /// code that takes any timer also holds for timers whose looks are known.
     ghost seen: { Self → Option (List Sight) } = { λ _. None };
 
     /// How many whole seconds have gone by since the beginning.
@@ -19,15 +20,14 @@ pub trait Timer {
         ensures { Sees (seen self.old) (seen self.new) (Second (ok_in result) ∷ []) };
 }
 
-/// Until when a poll may go on, by the system's steady clock.
-#[derive(Drop)]
-pub struct Deadline<'a, C: Clock> {
-    clock: &'a C,
+/// Until when a poll may go on.
+#[derive(Clone, Copy)]
+pub struct Deadline {
     start: Instant,
     seconds: u32,
 }
 
-/// Whether a poll that may take so many seconds has to end.
+/// Whether a poll that may take this many seconds must end.
 pub fn is_over(seconds: u64, elapsed: u64) -> bool
     ensures { IsTrue result ↔ IsOver seconds elapsed }
 {
@@ -41,27 +41,18 @@ pub fn left(seconds: u64, elapsed: u64) -> u64
     seconds.saturating_sub(elapsed)
 }
 
-impl<'a, C: Clock> Deadline<'a, C> {
-    /// So many seconds from now on.
-    pub fn new(clock: &'a C, seconds: u32) -> io::Result<Self>
-        ensures { IfOk result (λ deadline. deadline.seconds ≡ seconds) }
+impl Deadline {
+    /// This many seconds after a moment.
+    pub fn new(start: Instant, seconds: u32) -> Self
+        ensures { result ≡ record { start = start; seconds = seconds } }
     {
-        let start = Instant::now(clock)?;
-        Ok(Deadline {
-            clock,
-            start,
-            seconds,
-        })
+        Deadline { start, seconds }
     }
 
-    fn elapsed(&self) -> io::Result<u64> {
-        Ok(self.start.elapsed(self.clock)?.as_secs())
-    }
-
-    /// How many seconds are left; 0 where the poll has to end.
-    pub fn left(&self) -> io::Result<u64>
-        ensures { IfOk result (λ left. (elapsed : ℕ) × (left ≡ self.now.seconds - elapsed)) }
+    /// The number of seconds left at a moment; 0 if the poll must end.
+    pub fn left(self, now: Instant) -> u64
+        ensures { result ≡ left_at self now }
     {
-        Ok(left(u64::from(self.seconds), self.elapsed()?))
+        left(u64::from(self.seconds), seconds_between(self.start, now))
     }
 }

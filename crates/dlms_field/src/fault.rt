@@ -4,7 +4,7 @@ ghost use Rattle.dlms_field.specs.declared.fault.FieldFault.TheVariants.{Other a
 
 use crate::clocks::ClockFault;
 use dlms_call::CallFault;
-use dlms_ends::LoopFault;
+use dlms_ends::RunFault;
 use dlms_identity::Expected;
 use std::io;
 
@@ -15,22 +15,22 @@ pub enum FieldFault<'a> {
     System(&'a str, io::Error),
     /// The secret has more than 16 bytes.
     Secret,
-    /// The poll of this address was not done within so many seconds.
+    /// The poll of this address was not done within this many seconds.
     Late(&'a str, u32),
-    /// Of the rows from this address or file one is refused for its clock.
+    /// One of the rows from this address or file is refused for its clock.
     Clock(&'a str, ClockFault),
     /// The meter at this address does not show this text.
     Stranger(&'a str, Expected<'a>),
     /// The meter at this address could not be asked for a text.
     Unasked(&'a str, CallFault),
     /// Anything else.
-    Other(LoopFault),
+    Other(RunFault),
 }
 
-impl<'a> From<LoopFault> for FieldFault<'a> {
+impl<'a> From<RunFault> for FieldFault<'a> {
     ghost from_gives = { λ fault given. given ≡ OtherOf fault };
 
-    fn from(fault: LoopFault) -> FieldFault<'a> {
+    fn from(fault: RunFault) -> FieldFault<'a> {
         FieldFault::Other(fault)
     }
 }

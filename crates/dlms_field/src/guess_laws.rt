@@ -15,9 +15,9 @@ pub fn a_refusal_is_waited_for()
     ensures { RefusalIsWaitedFor }
 {}
 
-/// The numbers that clauses cite by name: the seconds for which an address waits, at first and at most, and where it has proved a secret;
-/// those behind which refusals, and proofs, no longer count, and behind which a connection is patient; and of how many addresses both are
-/// kept.
+/// The numbers that clauses cite by name: the seconds for which an address waits, after a first refusal, at most, and once it has
+/// proved a secret; the seconds after which refusals, and proofs, no longer count, and after which a connection is patient; and the
+/// number of addresses for which both are kept.
 pub fn the_numbers()
     ensures waits { (FIRST_WAIT ≡ 10) × (LONGEST_WAIT ≡ 900) × (KNOWN_WAIT ≡ 2) }
     ensures times { (FORGOTTEN_AFTER ≡ 14400) × (KNOWN_FOR ≡ 90000) × (PATIENCE ≡ 120) }

@@ -7,23 +7,24 @@ use crate::turns::have_passed;
 use std::alloc::{AllocError, Global};
 use std::net::IpAddr;
 
-/// Behind a refusal an address waits for so many seconds,
+/// After a refusal an address waits for this many seconds,
 pub const FIRST_WAIT: u32 = 10;
 
-/// behind each further one for twice as long as before, but for no more than so many.
+/// after each further one twice as long as before, but for no more than this many.
 pub const LONGEST_WAIT: u32 = 900;
 
-/// Behind so many seconds without a refusal the next one counts as the first. Whoever waits for that tries less often than once in
-/// `LONGEST_WAIT`.
+/// After this many seconds without a refusal the next one counts as the first. A client that waits for that tries less often than
+/// once in `LONGEST_WAIT`.
 pub const FORGOTTEN_AFTER: u32 = 14_400;
 
-/// An address that has proved a secret waits for so many seconds at most,
+/// An address that has proved a secret waits for this many seconds at most,
 pub const KNOWN_WAIT: u32 = 2;
 
-/// for so many seconds behind the proof.
+/// for this many seconds after the proof.
 pub const KNOWN_FOR: u32 = 90_000;
 
-/// One of several connections from an address that has itself waited for so many seconds waits no longer than behind a first refusal.
+/// One of several connections from an address that has itself waited for this many seconds waits no longer than after a first
+/// refusal.
 pub const PATIENCE: u32 = 120;
 
 /// How many addresses with refusals are kept. There are more than `LONGEST_WAIT`: all together are refused once a second at most, so
@@ -38,7 +39,7 @@ pub const MOST_PROOFS: usize = 32;
 pub enum Origin {
     /// An address of IPv4, also one that is mapped to IPv6.
     Four(u32),
-    /// The first half of an address of IPv6, since whoever has one has all of its other halves.
+    /// The first half of an address of IPv6, since one user has all the addresses with the same first half.
     Six(u16, u16, u16, u16),
     /// A serial line.
     Line,
@@ -82,7 +83,7 @@ impl Origin {
     }
 }
 
-/// The last refusal of an address, and for how many seconds it waits behind that.
+/// The last refusal of an address, and the seconds that it waits after that.
 #[derive(Clone, Copy, Debug)]
 pub struct Mark {
     pub origin: Origin,
@@ -97,7 +98,7 @@ pub struct Proof {
     pub last: u64,
 }
 
-/// For how many seconds an address waits behind a refusal at this second, where this is its mark.
+/// The seconds that an address waits after a refusal at this second, if this is its mark.
 fn next_wait(mark: Mark, now: u64) -> u32
     ensures { result ≡ next_wait mark now }
 {
@@ -122,7 +123,7 @@ pub fn most_wait(is_known: bool, is_patient: bool) -> u32
     }
 }
 
-/// Keeps one more behind the others, of which the first is let go where there are so many. Where memory is wanted it is not kept.
+/// Keeps one more after the others; the first of them is dropped if there are already this many. Without memory it is not kept.
 fn keep<T: Drop>(kept: &mut Vec<T>, item: T, most: usize) -> Result<(), AllocError>
     ensures { Keeps most kept.old.items item result kept.new.items }
 {
@@ -178,7 +179,7 @@ impl Guesses {
             && !have_passed(KNOWN_FOR, proof.last, now))
     }
 
-    /// Whether an address still waits at this second, where it waits for so many seconds at most.
+    /// Whether an address still waits at this second, if it waits for this many seconds at most.
     pub fn waits(&self, origin: Origin, most: u32, now: u64) -> bool
         ensures { result ≡ waits self.now.marks.items origin most now }
     {
@@ -205,7 +206,7 @@ impl Guesses {
         (is_known || self.is_open(now)) && !self.waits(origin, most_wait(is_known, is_patient), now)
     }
 
-    /// For how many seconds an address waits behind a refusal at this second.
+    /// The seconds that an address waits after a refusal at this second.
     pub fn wait_behind(&self, origin: Origin, now: u64) -> u32
         ensures { result ≡ wait_behind self.now.marks.items origin now }
     {

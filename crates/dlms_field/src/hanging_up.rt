@@ -28,7 +28,7 @@ fn disc(client: Client) -> SentFrame
     )
 }
 
-/// Ends a client's link: behind a silence the meter is given the DISC of that client. What it replies goes nowhere.
+/// Ends a client's link: after a silence the meter gets the DISC of that client. Its reply goes nowhere.
 fn end_link<P: Pages, A: Allocator + Copy>(meter: &mut Meter<P, A>, client: Client)
     ensures ends { EndsLink client meter.old meter.new }
     ensures calls { (calls : List Call) × Calls meter.old calls meter.new }
@@ -39,7 +39,7 @@ fn end_link<P: Pages, A: Allocator + Copy>(meter: &mut Meter<P, A>, client: Clie
 }
 
 /// Ends the links of all clients, and with them associations and transfers, by the frames that do so and a silence. To be called
-/// before a connection is served, so that it inherits nothing, and behind it, so that it leaves nothing.
+/// before a connection is served, so that it inherits nothing, and after it, so that it leaves nothing.
 pub fn hang_up<P: Pages, A: Allocator + Copy>(meter: &mut Meter<P, A>)
     ensures hangs_up { HangsUp meter.old meter.new }
     ensures calls { (calls : List Call) × Calls meter.old calls meter.new }

@@ -1,21 +1,22 @@
 //! The readings file of a poll.
 
-ghost use Rattle.std.specs.Prelude.{◌≡◌, option_map, IfErr, IfOk};
+ghost use Rattle.std.specs.Prelude.{◌≡◌, option_map, string_bytes, IfErr, IfOk};
 ghost use Rattle.dlms_headend.specs.Rows.{AreReadings};
-ghost use Rattle.dlms_field.specs.Keeping.{FilesNone, FilesPolled, HoldsFile, OpensFile, PrintsLine, ReportsCount, TellsFiling, TellsOpening, TellsPlace};
+ghost use Rattle.dlms_field.specs.Keeping.{FilesNone, FilesPolled, HoldsFile, OpensFile, PrintsLine, ReportsCount, left_out_line, TellsFiling, TellsOpening, TellsPlace};
 ghost use Rattle.dlms_field.specs.Risers.{risers};
 
 use crate::fault::FieldFault;
 use crate::rising::{first_left_out, left_out, risers};
-use dlms_ends::LoopFault;
+use dlms_ends::RunFault;
 use dlms_filing::{Filing, FilingFault, Holding, OpeningFault, Output, file_rows, open_rows};
 use dlms_headend::{Readings, Row};
-use std::alloc::Global;
+use std::alloc::{AllocError, Global};
 use std::io;
 
-/// Holds the file, where one is named. Nobody else has it then.
-pub fn held<'a, F: Holding>(place: &mut F, file: Option<&'a str>) -> Result<(), FieldFault<'a>>
-    ensures { HoldsFile (option_map (λ x. x.now) file.entry) (F.asked place.old) (F.asked place.new) result }
+/// Holds the file, if one is given. Nobody else has it then.
+pub fn hold_file<'a, F: Holding>(place: &mut F, file: Option<&'a str>) -> Result<(), FieldFault<'a>>
+    ensures { HoldsFile (option_map (λ x. x.now) file.entry) (F.asked place.old)
+        (F.asked place.new) result }
 {
     match file {
         Some(file) => match place.hold(file) {
@@ -26,33 +27,34 @@ pub fn held<'a, F: Holding>(place: &mut F, file: Option<&'a str>) -> Result<(), 
     }
 }
 
-/// What is told of an error of the place, where this file is named.
+/// The fault for an error of the place, if this file is given.
 fn fault_at<'a>(file: Option<&'a str>, error: io::Error) -> FieldFault<'a>
     ensures { TellsPlace (option_map (λ x. x.now) file.entry) error result }
 {
     match file {
         Some(file) => FieldFault::System(file, error),
-        None => FieldFault::Other(LoopFault::Io),
+        None => FieldFault::Other(RunFault::Io),
     }
 }
 
-/// Why the readings were not opened, where this file is named.
+/// Why the readings were not opened, if this file is given.
 fn opening_fault<'a>(file: Option<&'a str>, fault: OpeningFault) -> FieldFault<'a>
     ensures { TellsOpening (option_map (λ x. x.now) file.entry) fault result }
 {
     match fault {
         OpeningFault::Place(error) => fault_at(file, error),
-        OpeningFault::Readings(fault) => FieldFault::Other(LoopFault::Readings(fault)),
+        OpeningFault::Readings(fault) => FieldFault::Other(RunFault::Readings(fault)),
     }
 }
 
-/// The readings that stand there.
-pub fn opened<'a, F: Filing>(
+/// The readings in the file.
+pub fn open_readings<'a, F: Filing>(
     alloc: Global,
     file: Option<&'a str>,
     place: &mut F,
 ) -> Result<Readings, FieldFault<'a>>
-    ensures { OpensFile (option_map (λ x. x.now) file.entry) (F.asked place.old) (F.asked place.new) result }
+    ensures { OpensFile (option_map (λ x. x.now) file.entry) (F.asked place.old)
+        (F.asked place.new) result }
 {
     match open_rows(alloc, place) {
         Ok(readings) => Ok(readings),
@@ -60,15 +62,24 @@ pub fn opened<'a, F: Filing>(
     }
 }
 
-/// Why the rows were not filed, where this file is named.
+/// Why the rows were not filed, if this file is given.
 fn filing_fault<'a>(file: Option<&'a str>, fault: FilingFault) -> FieldFault<'a>
     ensures { TellsFiling (option_map (λ x. x.now) file.entry) fault result }
 {
     match fault {
         FilingFault::Place(error) => fault_at(file, error),
-        FilingFault::Memory => FieldFault::Other(LoopFault::Memory),
-        FilingFault::Output => FieldFault::Other(LoopFault::Io),
+        FilingFault::Memory => FieldFault::Other(RunFault::Memory),
+        FilingFault::Output => FieldFault::Other(RunFault::Io),
     }
+}
+
+/// The line that reports how many rows are left out, and the clock of the first of them.
+fn left_out_line(alloc: Global, count: usize, first: u32) -> Result<String, AllocError>
+    ensures { IfOk result (λ line. string_bytes line ≡ left_out_line count first) }
+{
+    format!(in alloc;
+        "left out {count}, the first with clock {first}: not later than the row filed before it\n"
+    )
 }
 
 /// Reports how many rows are left out, and the clock of the first of them.
@@ -77,12 +88,11 @@ fn report<E: Output>(
     errors: &mut E,
     count: usize,
     first: u32,
-) -> Result<(), LoopFault>
-    ensures { PrintsLine (E.printed errors.old) (E.printed errors.new) result }
+) -> Result<(), RunFault>
+    ensures { PrintsLine (left_out_line count first) (E.printed errors.old) (E.printed errors.new)
+        result }
 {
-    let line = format!(in alloc;
-        "left out {count}, the first with clock {first}: not later than the row filed before it\n"
-    )?;
+    let line = left_out_line(alloc, count, first)?;
     errors.print(line.as_bytes())?;
     Ok(())
 }
@@ -93,7 +103,7 @@ fn report_any<E: Output>(
     errors: &mut E,
     count: usize,
     first: Option<u32>,
-) -> Result<(), LoopFault>
+) -> Result<(), RunFault>
     ensures { ReportsCount count (E.printed errors.old) (E.printed errors.new) result }
 {
     if count == 0 {
@@ -116,9 +126,11 @@ fn file_kept<'a, F: Filing, O: Output, E: Output>(
 ) -> Result<(), FieldFault<'a>>
     requires are { AreReadings rows.now }
     requires kept { kept.now ≡ risers rows.now }
-    ensures files { IfOk result (λ _. FilesPolled (F.asked place.old) (F.asked place.new) (O.printed output.old) (O.printed output.new)
+    ensures files { IfOk result (λ _. FilesPolled (F.asked place.old) (F.asked place.new)
+        (O.printed output.old) (O.printed output.new)
         (E.printed errors.old) (E.printed errors.new) readings.old rows.now) }
-    ensures fails { IfErr result (FilesNone (option_map (λ x. x.now) file.entry) (F.asked place.old) (F.asked place.new) (O.printed output.old) (O.printed output.new)
+    ensures fails { IfErr result (FilesNone (option_map (λ x. x.now) file.entry) (F.asked place.old)
+        (F.asked place.new) (O.printed output.old) (O.printed output.new)
         (E.printed errors.old) (E.printed errors.new) readings.old rows.now) }
 {
     let count = left_out(readings.rows(), rows, kept);
@@ -136,7 +148,7 @@ fn file_kept<'a, F: Filing, O: Output, E: Output>(
 /// Files the rows of a poll that is done, in the file if one is named: each row that is later than the one filed before it, in their
 /// order. How many rows are left out is reported on the errors first.
 #[inline(never)]
-pub fn filed<'a, F: Filing, O: Output, E: Output>(
+pub fn file_readings<'a, F: Filing, O: Output, E: Output>(
     alloc: Global,
     place: &mut F,
     readings: &mut Readings,
@@ -146,13 +158,15 @@ pub fn filed<'a, F: Filing, O: Output, E: Output>(
     errors: &mut E,
 ) -> Result<(), FieldFault<'a>>
     requires { AreReadings rows.now }
-    ensures files { IfOk result (λ _. FilesPolled (F.asked place.old) (F.asked place.new) (O.printed output.old) (O.printed output.new)
+    ensures files { IfOk result (λ _. FilesPolled (F.asked place.old) (F.asked place.new)
+        (O.printed output.old) (O.printed output.new)
         (E.printed errors.old) (E.printed errors.new) readings.old rows.now) }
-    ensures fails { IfErr result (FilesNone (option_map (λ x. x.now) file.entry) (F.asked place.old) (F.asked place.new) (O.printed output.old) (O.printed output.new)
+    ensures fails { IfErr result (FilesNone (option_map (λ x. x.now) file.entry) (F.asked place.old)
+        (F.asked place.new) (O.printed output.old) (O.printed output.new)
         (E.printed errors.old) (E.printed errors.new) readings.old rows.now) }
 {
     let Ok(kept) = risers(alloc, rows) else {
-        return Err(FieldFault::Other(LoopFault::Memory));
+        return Err(FieldFault::Other(RunFault::Memory));
     };
     file_kept(
         alloc,

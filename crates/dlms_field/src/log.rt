@@ -20,7 +20,7 @@ struct Gauge<A: Allocator> {
 }
 
 impl<A: Allocator + Copy> Gauge<A> {
-    /// None where the system tells nothing of the descriptor, as of a file, which takes each line.
+    /// `None` if the system has no message about the descriptor, as for a file, which takes each line.
     fn new<R: Net>(rt: &R, alloc: A, descriptor: RawFd) -> Option<Self> {
         let poll = Poll::new(rt).ok()?;
         let events = Events::with_capacity(alloc, 1).ok()?;
@@ -61,7 +61,7 @@ pub struct Log<A: Allocator> {
 }
 
 impl<A: Allocator + Copy> Log<A> {
-    /// Lines for a writer that stands for this descriptor, if one is named.
+    /// Lines for a writer to this descriptor, if one is given.
     pub fn new<R: Net>(rt: &R, alloc: A, descriptor: Option<RawFd>) -> Self {
         let gauge = match descriptor {
             Some(descriptor) => Gauge::new(rt, alloc, descriptor),
@@ -83,8 +83,8 @@ impl<A: Allocator + Copy> Log<A> {
         }
     }
 
-    /// Whether the next line is to be written. One that would have to wait is dropped. How many were is told before the next one that
-    /// is not.
+    /// Whether the next line is to be written. A line that would have to wait is dropped. The number of dropped lines is reported
+    /// before the next line that is not.
     pub fn takes_line<E: Write>(&mut self, errors: &mut E) -> bool {
         if self.is_quiet {
             return false;

@@ -1,10 +1,10 @@
-//! At what pace a meter is told of the seconds of a clock.
+//! The pace at which a meter gets the seconds of a clock.
 
 ghost use Rattle.std.specs.Prelude.{max};
 ghost use Rattle.dlms_field.specs.Pace.{AreDue};
 
-/// Of the seconds that have gone by those that a meter is told of, where it is told of them in steps of so many: those of whole steps.
-/// A step of none is one of a second.
+/// The seconds that a meter gets of those that have passed, if it gets them in steps of this many: those of whole steps. A step of
+/// 0 counts as a step of one second.
 pub fn due(elapsed: u64, step: u32) -> u64
     ensures { AreDue (max step 1) elapsed result }
 {

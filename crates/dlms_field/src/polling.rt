@@ -9,14 +9,14 @@ ghost use Rattle.dlms_field.specs.Polled.{IsReady, IsUnready, JudgesFiled, Known
 
 use crate::calling::call;
 use crate::clocks::{ClockFault, Limit, first_ahead, judge};
-use crate::desk::{Desk, HostDesk};
 use crate::fault::FieldFault;
-use crate::keeping::{filed, held, opened};
-use crate::phone::{Dialling, Phone};
+use crate::keeping::{file_readings, hold_file, open_readings};
+use crate::meter_line::{Dialling, MeterLine};
+use crate::poll_inputs::{HostPollInputs, PollInputs};
 use crate::secret::secret_of;
 use arrayvec::ArrayVec;
 use dlms_data::LAST_SECOND;
-use dlms_ends::LoopFault;
+use dlms_ends::RunFault;
 use dlms_filing::{FilePlace, Holding, HostDisk, Output};
 use dlms_frame::Client;
 use dlms_headend::{Columns, Plan, Poller, Readings, Row};
@@ -26,16 +26,16 @@ use std::fs::{File, Files};
 use std::net::Net;
 use std::time::Clock;
 
-/// What is polled, into which file, and by whom.
+/// The meter to poll, the file, and the client that asks.
 #[derive(Clone, Copy, Debug)]
 pub struct Polling<'a, 'e> {
     /// The meter's address and port, or the device of its serial line.
     pub address: &'a str,
-    /// The file that the readings stand in.
+    /// The readings file.
     pub readings: Option<&'a str>,
-    /// The file of the client's secret; its first secret where there is none.
+    /// The file of the client's secret; its first secret if no file is given.
     pub secret_file: Option<&'a str>,
-    /// Who asks. Of a client without a secret no file is read.
+    /// The client that asks. For a client without a secret no file is read.
     pub client: Client,
     /// For how many seconds the meter is talked to at most.
     pub deadline: u32,
@@ -43,34 +43,34 @@ pub struct Polling<'a, 'e> {
     pub ahead: Option<u32>,
     /// Whether an answer is refused if one of its rows is not later than the row before it. Otherwise such rows are left out.
     pub strict: bool,
-    /// What the meter has to show before it is polled.
+    /// The texts that the meter must show before it is polled.
     pub expected: &'e [Expected<'a>],
 }
 
-/// What a head end polls with: what it asks of the world, the place of its readings, and its line.
+/// The parts of a head end for a poll: its questions to the world, the place of its readings, and its line.
 #[derive(Drop)]
-pub struct Office<D, F, L> {
-    pub desk: D,
+pub struct PollSetup<D, F, L> {
+    pub inputs: D,
     pub place: F,
     pub line: L,
 }
 
-impl<'r, R: Net + Files<File = File> + Clock> Office<
-    HostDesk<'r, R>,
+impl<'r, R: Net + Files<File = File> + Clock> PollSetup<
+    HostPollInputs<'r, R>,
     FilePlace<HostDisk<'r, R>>,
-    Phone<'r, R>,
+    MeterLine<'r, R>,
 > {
     /// The system's clocks and files, and a line that is not connected yet.
     pub fn of(rt: &'r R) -> Self {
-        Office {
-            desk: HostDesk::new(rt),
+        PollSetup {
+            inputs: HostPollInputs::new(rt),
             place: FilePlace::of(rt),
-            line: Phone::until(rt),
+            line: MeterLine::until(rt),
         }
     }
 }
 
-/// What is read before the meter is called.
+/// The secret and the readings, read before the meter is called.
 #[derive(Drop)]
 struct Ready {
     secret: ArrayVec<u8, 16>,
@@ -79,19 +79,19 @@ struct Ready {
 }
 
 /// How far a row may be past the clock of the day, which is looked at now.
-fn limit<D: Desk>(desk: &mut D, ahead: Option<u32>) -> Result<Option<Limit>, LoopFault>
-    ensures { Limits ahead (D.seen desk.old) (D.seen desk.new) result }
+fn limit<D: PollInputs>(inputs: &mut D, ahead: Option<u32>) -> Result<Option<Limit>, RunFault>
+    ensures { Limits ahead (D.seen inputs.old) (D.seen inputs.new) result }
 {
     match ahead {
-        Some(margin) => match desk.date() {
+        Some(margin) => match inputs.date() {
             Ok(now) => Ok(Some(Limit { now, margin })),
-            Err(error) => Err(LoopFault::from(error)),
+            Err(error) => Err(RunFault::from(error)),
         },
         None => Ok(None),
     }
 }
 
-/// Judges the rows of the file: behind one that is too far past the clock of the day nothing would be filed any more.
+/// Judges the rows of the file: after a row that is too far past the clock of the day nothing could be filed any more.
 fn judge_filed<'a>(
     file: Option<&'a str>,
     limit: Option<Limit>,
@@ -111,30 +111,32 @@ fn judge_filed<'a>(
     }
 }
 
-/// Reads the secret and the file, and judges the rows that stand there.
+/// Reads the secret and the file, and judges the rows in the file.
 #[inline(never)]
-fn prepared<'a, D: Desk, F: Holding>(
+fn prepare_poll<'a, D: PollInputs, F: Holding>(
     alloc: Global,
-    desk: &mut D,
+    inputs: &mut D,
     place: &mut F,
     polling: &Polling<'a, '_>,
 ) -> Result<Ready, FieldFault<'a>>
-    ensures ready { IfOk result (λ ready. IsReady polling.now (D.seen desk.old) (D.seen desk.new) (F.asked place.old) (F.asked place.new) ready.secret.items ready.readings ready.limit) }
-    ensures fails { IfErr result (IsUnready polling.now (D.seen desk.old) (D.seen desk.new) (F.asked place.old) (F.asked place.new)) }
+    ensures ready { IfOk result (λ ready. IsReady polling.now (D.seen inputs.old) (D.seen inputs.new)
+        (F.asked place.old) (F.asked place.new) ready.secret.items ready.readings ready.limit) }
+    ensures fails { IfErr result (IsUnready polling.now (D.seen inputs.old) (D.seen inputs.new)
+        (F.asked place.old) (F.asked place.new)) }
 {
-    let secret = match secret_of(desk, polling.client, polling.secret_file) {
+    let secret = match secret_of(inputs, polling.client, polling.secret_file) {
         Ok(secret) => secret,
         Err(fault) => return Err(fault),
     };
-    match held(place, polling.readings) {
+    match hold_file(place, polling.readings) {
         Ok(()) => {}
         Err(fault) => return Err(fault),
     }
-    let readings = match opened(alloc, polling.readings, place) {
+    let readings = match open_readings(alloc, polling.readings, place) {
         Ok(readings) => readings,
         Err(fault) => return Err(fault),
     };
-    let limit = match limit(desk, polling.ahead) {
+    let limit = match limit(inputs, polling.ahead) {
         Ok(limit) => limit,
         Err(fault) => return Err(FieldFault::Other(fault)),
     };
@@ -150,20 +152,24 @@ fn prepared<'a, D: Desk, F: Holding>(
 }
 
 /// Polls the meter, and judges the clocks of the rows that came.
-fn called<'a, D: Desk, L: Dialling>(
+fn call_meter<'a, D: PollInputs, L: Dialling>(
     alloc: Global,
-    desk: &mut D,
+    inputs: &mut D,
     line: &mut L,
     polling: &Polling<'a, '_>,
     plan: &Plan,
     limit: Option<Limit>,
 ) -> Result<Poller, FieldFault<'a>>
     requires { IfSome plan.now.after (λ second. second ≤ LAST_SECOND) }
-    ensures fails { IfErr result (FailsCalled (aim_of polling.now (plan_of plan.now)) polling.now.strict limit (L.past line.old) (L.past line.new) (D.seen desk.old) (D.seen desk.new)) }
-    ensures takes { IfOk result (λ done. HasDone (aim_of polling.now (plan_of plan.now)) (L.past line.old) (L.past line.new) (D.seen desk.old) (D.seen desk.new) done × Takes polling.now.strict limit done.talk.rows) }
+    ensures fails { IfErr result (FailsCalled
+        (aim_of polling.now (plan_of plan.now)) polling.now.strict limit (L.past line.old)
+        (L.past line.new) (D.seen inputs.old) (D.seen inputs.new)) }
+    ensures takes { IfOk result (λ done. HasDone (aim_of polling.now (plan_of plan.now))
+        (L.past line.old) (L.past line.new) (D.seen inputs.old) (D.seen inputs.new) done
+        × Takes polling.now.strict limit done.talk.rows) }
     ensures done { IfOk result (IsDonePoll (plan_of plan.now)) }
 {
-    let called = call(alloc, desk, line, polling, plan);
+    let called = call(alloc, inputs, line, polling, plan);
     let poller = match called {
         Ok(Some(poller)) => poller,
         Ok(None) => return Err(FieldFault::Late(polling.address, polling.deadline)),
@@ -175,22 +181,35 @@ fn called<'a, D: Desk, L: Dialling>(
     }
 }
 
-/// Polls the meter at an address once over a line, if it shows the expected texts, merges the rows into the file where one is named, and prints those that the
-/// file did not have. The secret and the file are read before the meter is called, and no other poll has the file until the end.
-/// Each row is filed that is later than the row filed before it; how many rows are left out is reported on the errors. Rows that are too
-/// far past the clock of the day are refused, and with `strict` rows that do not rise are too: nothing is filed then.
-pub fn poll<'a, D: Desk, F: Holding, L: Dialling, O: Output, E: Output>(
+/// Polls the meter at an address once over a line, if it shows the expected texts, merges the rows into the file if one is given,
+/// and prints the rows that the file did not have. The secret and the file are read before the meter is called, and no other poll
+/// has the file until the end. Each row that is later than the row filed before it is filed; the number of rows left out is
+/// reported on the errors. Rows that are too far past the clock of the day are refused, and with `strict` also rows that do not
+/// rise: nothing is filed then.
+pub fn poll<'a, D: PollInputs, F: Holding, L: Dialling, O: Output, E: Output>(
     alloc: Global,
-    office: &mut Office<D, F, L>,
+    setup: &mut PollSetup<D, F, L>,
     polling: &Polling<'a, '_>,
     output: &mut O,
     errors: &mut E,
 ) -> Result<(), FieldFault<'a>>
-    ensures { let before : Known = record { seen = D.seen office.old.desk; asked = F.asked office.old.place; past = L.past office.old.line; printed = O.printed output.old; errors = E.printed errors.old } in
-        let after : Known = record { seen = D.seen office.new.desk; asked = F.asked office.new.place; past = L.past office.new.line; printed = O.printed output.new; errors = E.printed errors.new } in
+    ensures { let before : Known = record {
+      seen = D.seen setup.old.inputs;
+      asked = F.asked setup.old.place;
+      past = L.past setup.old.line;
+      printed = O.printed output.old;
+      errors = E.printed errors.old;
+    } in
+        let after : Known = record {
+          seen = D.seen setup.new.inputs;
+          asked = F.asked setup.new.place;
+          past = L.past setup.new.line;
+          printed = O.printed output.new;
+          errors = E.printed errors.new;
+        } in
         Polls polling.now before after result }
 {
-    let ready = match prepared(alloc, &mut office.desk, &mut office.place, polling) {
+    let ready = match prepare_poll(alloc, &mut setup.inputs, &mut setup.place, polling) {
         Ok(ready) => ready,
         Err(fault) => return Err(fault),
     };
@@ -201,10 +220,10 @@ pub fn poll<'a, D: Desk, F: Holding, L: Dialling, O: Output, E: Output>(
         after: readings.last(),
         columns: Columns::Asked,
     };
-    let poller = match called(
+    let poller = match call_meter(
         alloc,
-        &mut office.desk,
-        &mut office.line,
+        &mut setup.inputs,
+        &mut setup.line,
         polling,
         &plan,
         ready.limit,
@@ -212,9 +231,9 @@ pub fn poll<'a, D: Desk, F: Holding, L: Dialling, O: Output, E: Output>(
         Ok(poller) => poller,
         Err(fault) => return Err(fault),
     };
-    filed(
+    file_readings(
         alloc,
-        &mut office.place,
+        &mut setup.place,
         &mut readings,
         poller.rows(),
         polling.readings,

@@ -29,7 +29,7 @@ pub fn crowd_of(places: &[Place], origin: Origin) -> usize
         .count()
 }
 
-/// The round of a connection that comes, where this one is served now: one later for each that waits from the same address.
+/// The round of a new connection, if this one is served now: one later for each that waits from the same address.
 pub fn round_of(places: &[Place], origin: Origin, served: u64) -> u64
     ensures { result ≡ min (served + crowd_of places.now origin) (2 ^ 64 - 1) }
 {
@@ -64,7 +64,7 @@ struct Found {
     number: u64,
 }
 
-/// Of the least so far and one behind it, which may have no number, the less; the one so far where both are the same.
+/// The lesser of the least number so far and one after it, which may have no number; the one so far if both are the same.
 fn lesser(least: Option<Found>, index: usize, number: Option<u64>) -> Option<Found>
     ensures { result ≡ lesser least index number }
 {
@@ -83,7 +83,7 @@ fn lesser(least: Option<Found>, index: usize, number: Option<u64>) -> Option<Fou
     }
 }
 
-/// Of the greatest so far and one behind it the greater; the one behind it where both are the same.
+/// The greater of the greatest number so far and one after it; the one after it if both are the same.
 fn greater(most: Option<Found>, index: usize, number: u64) -> Option<Found>
     ensures { result ≡ greater most index number }
 {
@@ -138,9 +138,9 @@ fn last_unknown(places: &[Place], guesses: &Guesses, now: u64) -> Option<usize>
     last
 }
 
-/// Which connection gives way where there is no room for one that comes, of this address and round: the one that would be served last,
-/// where that is at least two rounds later; else, where the address of the one that comes has proved a secret, the last one of an
-/// address that has not. None: the one that comes is not taken.
+/// Which connection gives way if there is no room for a new one, of this address and round: the one that would be served last, if
+/// that is at least two rounds later; otherwise, if the address of the new one has proved a secret, the last one of an address that
+/// has not. `None`: the new one is not admitted.
 pub fn giving_way(
     places: &[Place],
     origin: Origin,

@@ -1,4 +1,4 @@
-//! What a reply of the meter says of an association that was asked for.
+//! What a reply of the meter says about an association that was asked for.
 
 ghost use Rattle.std.specs.Prelude.{◌≡◌, ℕ, option_map};
 ghost use Rattle.dlms_field.specs.Refusals.{SaysFirst, is_guarded, outcome_of, result_of};
@@ -16,14 +16,14 @@ const FIELD: usize = 16;
 /// The field of the result: an integer of one octet, which follows.
 const RESULT: [u8; 4] = [0xa2, 0x03, 0x02, 0x01];
 
-/// What came of an association that was asked for.
+/// The outcome of an association that was asked for.
 #[derive(Clone, Copy, Debug, PartialEq, Eq)]
 pub enum Outcome {
     /// It is refused.
     Refused,
     /// It is open, and whose it is has to know a secret for that.
     Proved,
-    /// It is open to whoever asks.
+    /// It is open to anyone who asks.
     Opened,
 }
 
@@ -52,7 +52,7 @@ fn is_guarded(address: Address) -> bool
     }
 }
 
-/// What a result says to the client of this address.
+/// The outcome that a result has for the client of this address.
 fn outcome_of(number: u8, address: Address) -> Outcome
     ensures { result ≡ outcome_of number address }
 {
@@ -66,7 +66,7 @@ fn outcome_of(number: u8, address: Address) -> Outcome
     }
 }
 
-/// What a frame to this address says of an association, if it says so.
+/// The outcome of an association in a frame to this address, if it has one.
 fn said_by(info: &[u8], address: Address) -> Option<Outcome>
     ensures { result ≡ option_map (λ (number : ℕ). outcome_of number address) (result_of info.now) }
 {
@@ -76,9 +76,9 @@ fn said_by(info: &[u8], address: Address) -> Option<Outcome>
     }
 }
 
-/// What a reply of the meter says of an association that was asked for, if it says so: its first frame does.
+/// The outcome of an association in a reply of the meter, if it has one: its first frame does.
 #[inline(never)]
-pub fn said_of(reply: &[u8]) -> Option<Outcome>
+pub fn outcome_in(reply: &[u8]) -> Option<Outcome>
     ensures { SaysFirst reply.now result }
 {
     let mut deframer = Deframer::new();

@@ -1,10 +1,11 @@
 //! A client's secret, from a file.
 
 ghost use Rattle.std.specs.Prelude.{◌≡◌, ◌<◌, ℕ, List, [], Some, length, option_map, IfErr, IfOk, MatchOption};
+ghost use Rattle.dlms_field.specs.FirstBytes.{AreFirst, IsByte, ReadsByte};
 ghost use Rattle.dlms_field.specs.Secret.{Finds, FindsNone, FindsNoneIn, FindsNoSecret, FindsSecret, IsWithoutLineFeed, first_of};
 
-use crate::desk::Desk;
 use crate::fault::FieldFault;
+use crate::poll_inputs::PollInputs;
 use arrayvec::ArrayVec;
 use dlms_frame::Client;
 use dlms_state::{MOST_SECRET, SecretOf};
@@ -25,9 +26,10 @@ fn without_line_feed(bytes: &[u8]) -> &[u8]
     }
 }
 
-/// The secret in a file of these bytes: they, without one line feed at their end. None where it has more than 16 bytes.
+/// The secret in a file of these bytes: all of them, without one line feed at their end. `None` if it has more than 16 bytes.
 pub fn secret_in(bytes: &[u8]) -> Option<ArrayVec<u8, 16>>
-    ensures { (rest : List ℕ) → IsWithoutLineFeed bytes.now rest → MatchOption result (MOST_SECRET < length rest) (λ secret. secret.items ≡ rest) }
+    ensures { (rest : List ℕ) → IsWithoutLineFeed bytes.now rest
+        → MatchOption result (MOST_SECRET < length rest) (λ secret. secret.items ≡ rest) }
 {
     let rest = without_line_feed(bytes);
     if rest.len() > MOST_SECRET {
@@ -38,21 +40,49 @@ pub fn secret_in(bytes: &[u8]) -> Option<ArrayVec<u8, 16>>
     Some(secret)
 }
 
-/// The first bytes of a file, enough to tell its secret, or that it is too long.
-pub fn first_bytes<R: Files>(rt: &R, path: &str) -> io::Result<ArrayVec<u8, MOST_READ>> {
-    let mut file = fs::open(rt, path)?;
-    let mut bytes = ArrayVec::new();
+/// The byte of a read of one byte.
+fn byte_of(read: io::Result<usize>, byte: u8) -> io::Result<Option<u8>>
+    ensures { IsByte read byte result }
+{
+    match read {
+        Ok(0) => Ok(None),
+        Ok(_one) => Ok(Some(byte)),
+        Err(error) => Err(error),
+    }
+}
+
+/// The next byte of a reader, or none at its end.
+fn next_byte<R: Read>(file: &mut R) -> io::Result<Option<u8>>
+    ensures { ReadsByte (R.remaining file.old) (R.remaining file.new) result }
+{
     let mut byte = [0u8];
-    for _ in 0..MOST_READ {
-        if file.read(&mut byte)? == 0 {
-            break;
+    let read = file.read(&mut byte);
+    byte_of(read, byte[0])
+}
+
+/// The first bytes of a reader, or all if it has fewer.
+fn first_of<R: Read>(file: &mut R) -> io::Result<ArrayVec<u8, MOST_READ>>
+    ensures { IfOk result (λ bytes. AreFirst (R.remaining file.old) bytes.items) }
+{
+    let mut bytes = ArrayVec::new();
+    'bytes: for _ in 0..MOST_READ {
+        match next_byte(file) {
+            Ok(Some(byte)) => {
+                let _room = bytes.try_push(byte);
+            }
+            Ok(None) => return Ok(bytes),
+            Err(error) => return Err(error),
         }
-        let _room = bytes.try_push(byte[0]);
     }
     Ok(bytes)
 }
 
-/// The secret that a new meter knows of a client; none where it has none.
+/// The first bytes of a file, enough to tell its secret, or that it is too long.
+pub fn first_bytes<R: Files>(rt: &R, path: &str) -> io::Result<ArrayVec<u8, MOST_READ>> {
+    first_of(&mut fs::open(rt, path)?)
+}
+
+/// The secret that a new meter has for a client; empty for a client without one.
 fn first_secret(client: Client) -> &'static [u8]
     ensures { result.now ≡ first_of client }
 {
@@ -64,11 +94,15 @@ fn first_secret(client: Client) -> &'static [u8]
 }
 
 /// The secret in a file.
-fn found_in<'a, D: Desk>(desk: &mut D, file: &'a str) -> Result<ArrayVec<u8, 16>, FieldFault<'a>>
-    ensures found { IfOk result (λ secret. Finds [] (Some file.now) (D.seen desk.old) (D.seen desk.new) secret.items) }
-    ensures fails { IfErr result (FindsNoneIn file.now (D.seen desk.old) (D.seen desk.new)) }
+fn secret_in_file<'a, D: PollInputs>(
+    inputs: &mut D,
+    file: &'a str,
+) -> Result<ArrayVec<u8, 16>, FieldFault<'a>>
+    ensures found { IfOk result (λ secret. Finds [] (Some file.now) (D.seen inputs.old)
+        (D.seen inputs.new) secret.items) }
+    ensures fails { IfErr result (FindsNoneIn file.now (D.seen inputs.old) (D.seen inputs.new)) }
 {
-    match desk.secret(file) {
+    match inputs.secret(file) {
         Ok(bytes) => match secret_in(bytes.as_slice()) {
             Some(secret) => Ok(secret),
             None => Err(FieldFault::Secret),
@@ -77,17 +111,19 @@ fn found_in<'a, D: Desk>(desk: &mut D, file: &'a str) -> Result<ArrayVec<u8, 16>
     }
 }
 
-/// The secret in the file where one is named, else the first one of a client that has one.
-fn found<'a, D: Desk>(
-    desk: &mut D,
+/// The secret in the file if one is given, otherwise the first one of a client that has one.
+fn secret_or_first<'a, D: PollInputs>(
+    inputs: &mut D,
     client: Client,
     file: Option<&'a str>,
 ) -> Result<ArrayVec<u8, 16>, FieldFault<'a>>
-    ensures found { IfOk result (λ secret. Finds (first_of client) (option_map (λ x. x.now) file.entry) (D.seen desk.old) (D.seen desk.new) secret.items) }
-    ensures fails { IfErr result (FindsNone (option_map (λ x. x.now) file.entry) (D.seen desk.old) (D.seen desk.new)) }
+    ensures found { IfOk result (λ secret. Finds (first_of client)
+        (option_map (λ x. x.now) file.entry) (D.seen inputs.old) (D.seen inputs.new) secret.items) }
+    ensures fails { IfErr result (FindsNone (option_map (λ x. x.now) file.entry) (D.seen inputs.old)
+        (D.seen inputs.new)) }
 {
     match file {
-        Some(file) => found_in(desk, file),
+        Some(file) => secret_in_file(inputs, file),
         None => {
             let mut first = ArrayVec::new();
             let _fits = first.try_extend_from_slice(first_secret(client));
@@ -96,19 +132,21 @@ fn found<'a, D: Desk>(
     }
 }
 
-/// The secret that a client sends: the one in the file where one is named, else its first one. Of a client that has none no file
-/// is read.
-pub fn secret_of<'a, D: Desk>(
-    desk: &mut D,
+/// The secret that a client sends: the one in the file if one is given, otherwise its first one. For a client without a secret no
+/// file is read.
+pub fn secret_of<'a, D: PollInputs>(
+    inputs: &mut D,
     client: Client,
     file: Option<&'a str>,
 ) -> Result<ArrayVec<u8, 16>, FieldFault<'a>>
-    ensures found { IfOk result (λ secret. FindsSecret client (option_map (λ x. x.now) file.entry) (D.seen desk.old) (D.seen desk.new) secret.items) }
-    ensures fails { IfErr result (FindsNoSecret client (option_map (λ x. x.now) file.entry) (D.seen desk.old) (D.seen desk.new)) }
+    ensures found { IfOk result (λ secret. FindsSecret client (option_map (λ x. x.now) file.entry)
+        (D.seen inputs.old) (D.seen inputs.new) secret.items) }
+    ensures fails { IfErr result (FindsNoSecret client (option_map (λ x. x.now) file.entry)
+        (D.seen inputs.old) (D.seen inputs.new)) }
 {
     match client {
         Client::Public => Ok(ArrayVec::new()),
-        Client::Management => found(desk, client, file),
-        Client::Reader => found(desk, client, file),
+        Client::Management => secret_or_first(inputs, client, file),
+        Client::Reader => secret_or_first(inputs, client, file),
     }
 }

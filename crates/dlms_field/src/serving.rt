@@ -4,15 +4,15 @@ ghost use Rattle.std.specs.Prelude.{◌≡◌, ◌↔◌, IsTrue, List};
 ghost use Rattle.dlms_meter.specs.Steps.{Call, Calls};
 ghost use Rattle.dlms_field.specs.Serving.{Closes, Passes, Serves, ServesAll, ServesNext, ServesOne, Visits, is_refused};
 
-use crate::door::Door;
 use crate::fault::FieldFault;
 use crate::hanging_up::hang_up;
 use crate::log::Log;
-use crate::talking::{Ending, Rules, Site};
+use crate::port_watch::PortWatch;
+use crate::talking::{Ending, Rules, Server};
 use crate::ticks::Ticks;
 use crate::turns::{Over, PORT_REFUSALS, Times};
 use crate::watch::{Peer, Watch};
-use dlms_ends::LoopFault;
+use dlms_ends::RunFault;
 use dlms_meter::Meter;
 use dlms_pages::{Pages, refuse_standard};
 use std::alloc::Global;
@@ -31,21 +31,21 @@ const PASSING: [i32; 13] = [71, 92, 95, 100, 101, 64, 112, 113, 1, 23, 24, 105, 
 /// How a meter is served.
 #[derive(Clone, Copy, Debug)]
 pub struct Serving<'a> {
-    /// The address and port to listen on; of port 0 the system chooses one. Of a serial line its device.
+    /// The address and port to listen on; for port 0 the system chooses one. For a serial line its device.
     pub address: &'a str,
     /// The load in watts, which gives pulses on channel 0.
     pub load: u32,
-    /// The meter is told of the seconds of the clock in steps of so many.
+    /// The meter gets the seconds of the clock in steps of this many.
     pub tick: u32,
     /// After how many seconds a connection's turn is over.
     pub times: Times,
     /// Whether nothing is said of connections, of seconds that are refused, and of errors that pass.
     pub quiet: bool,
-    /// The descriptor behind the errors, if there is one: a line that it does not take at once is dropped.
+    /// The descriptor of the errors, if there is one: a line that it does not take at once is dropped.
     pub errors: Option<RawFd>,
 }
 
-/// Whether the port is asked again behind this error.
+/// Whether the port is asked again after this error.
 fn passes(error: io::Error) -> bool
     ensures { IsTrue result ↔ Passes error }
 {
@@ -61,8 +61,7 @@ fn passes(error: io::Error) -> bool
     }
 }
 
-/// Tells how a connection with what has an address, or a turn of a serial line, ended. That the line cannot be written is of no
-/// matter.
+/// Reports how a connection with an address, or a turn of a serial line, ended. It does not matter if the line cannot be written.
 pub fn tell_end<E: Write, D: Display + Drop>(
     errors: &mut E,
     address: D,
@@ -102,15 +101,16 @@ pub fn tell_end<E: Write, D: Display + Drop>(
 
 /// Makes a connection ready, and talks with its client.
 fn visit<W: Watch + Drop, P: Pages, E: Write>(
-    site: &mut Site<'_, W, E>,
+    server: &mut Server<'_, W, E>,
     rules: Rules,
     meter: &mut Meter<P>,
     stream: &mut W::Stream,
-) -> Result<Ending, LoopFault>
-    ensures { Visits rules (W.seen site.old.watch) (W.seen site.new.watch) meter.old site.old.ticks result meter.new site.new.ticks }
+) -> Result<Ending, RunFault>
+    ensures { Visits rules (W.seen server.old.watch)
+        (W.seen server.new.watch) meter.old server.old.ticks result meter.new server.new.ticks }
 {
-    match site.watch.prepare(stream) {
-        Ok(()) => site.talk(rules, meter, stream),
+    match server.watch.prepare(stream) {
+        Ok(()) => server.talk(rules, meter, stream),
         Err(error) => Ok(Ending::Failed(error)),
     }
 }
@@ -129,7 +129,7 @@ pub fn is_refused(ending: Ending) -> bool
 }
 
 /// Tells the watch whose association request was refused.
-fn ban<W: Watch>(watch: &mut W, address: SocketAddr, ending: Ending) -> Result<(), LoopFault>
+fn ban<W: Watch>(watch: &mut W, address: SocketAddr, ending: Ending) -> Result<(), RunFault>
     ensures { Closes address ending (W.seen watch.old) (W.seen watch.new) result }
 {
     if !is_refused(ending) {
@@ -142,57 +142,58 @@ fn ban<W: Watch>(watch: &mut W, address: SocketAddr, ending: Ending) -> Result<(
 
 /// Tells the watch whose association request was refused, and says how the connection ended.
 fn close<W: Watch + Drop, E: Write>(
-    site: &mut Site<'_, W, E>,
+    server: &mut Server<'_, W, E>,
     rules: Rules,
     address: SocketAddr,
     ending: Ending,
-) -> Result<(), LoopFault>
-    ensures closes { Closes address ending (W.seen site.old.watch) (W.seen site.new.watch) result }
-    ensures ticks { site.new.ticks ≡ site.old.ticks }
+) -> Result<(), RunFault>
+    ensures closes { Closes address ending (W.seen server.old.watch) (W.seen server.new.watch) result }
+    ensures ticks { server.new.ticks ≡ server.old.ticks }
 {
-    ban(&mut site.watch, address, ending)?;
-    if site.log.takes_line(site.errors) {
-        tell_end(site.errors, address, rules, ending);
+    ban(&mut server.watch, address, ending)?;
+    if server.log.takes_line(server.errors) {
+        tell_end(server.errors, address, rules, ending);
     }
     Ok(())
 }
 
-/// Serves one connection. No client's link is up when it begins, and none behind its end.
+/// Serves one connection. No client's link is up when it begins, and none after its end.
 fn serve_one<W: Watch + Drop, P: Pages, E: Write>(
-    site: &mut Site<'_, W, E>,
+    server: &mut Server<'_, W, E>,
     rules: Rules,
     meter: &mut Meter<P>,
     peer: Peer<W::Stream>,
-) -> Result<(), LoopFault>
-    ensures serves { ServesOne rules peer.address (W.seen site.old.watch) (W.seen site.new.watch) meter.old site.old.ticks result meter.new site.new.ticks }
+) -> Result<(), RunFault>
+    ensures serves { ServesOne rules peer.address (W.seen server.old.watch)
+        (W.seen server.new.watch) meter.old server.old.ticks result meter.new server.new.ticks }
     ensures calls { (calls : List Call) × Calls meter.old calls meter.new }
 {
     let Peer { stream, address } = peer;
     let mut stream = stream;
     hang_up(meter);
-    let ending = match visit(site, rules, meter, &mut stream) {
+    let ending = match visit(server, rules, meter, &mut stream) {
         Ok(ending) => ending,
         Err(fault) => return Err(fault),
     };
     hang_up(meter);
-    close(site, rules, address, ending)
+    close(server, rules, address, ending)
 }
 
 /// Tells of an error of the port that passes, once until a connection is taken again. That none waits is no error.
-fn stumble<W: Watch + Drop, E: Write>(site: &mut Site<'_, W, E>, error: io::Error)
-    ensures ticks { site.new.ticks ≡ site.old.ticks }
-    ensures watch { site.new.watch ≡ site.old.watch }
+fn stumble<W: Watch + Drop, E: Write>(server: &mut Server<'_, W, E>, error: io::Error)
+    ensures ticks { server.new.ticks ≡ server.old.ticks }
+    ensures watch { server.new.watch ≡ server.old.watch }
 {
-    if error.kind() == ErrorKind::WouldBlock || site.stumbled {
+    if error.kind() == ErrorKind::WouldBlock || server.stumbled {
         return;
     }
-    if site.log.takes_line(site.errors) {
-        let _said = writeln!(site.errors, "no connection: {error}");
+    if server.log.takes_line(server.errors) {
+        let _said = writeln!(server.errors, "no connection: {error}");
     }
-    site.stumbled = true;
+    server.stumbled = true;
 }
 
-/// Listens; whoever asks for a connection is not waited for.
+/// Listens; a client that asks for a connection is never waited for.
 #[inline(never)]
 fn listening<R: Net>(rt: &R, address: &str) -> io::Result<R::Listener> {
     let listener = TcpListener::bind(rt, address)?;
@@ -210,31 +211,32 @@ pub fn log_of<R: Net + AllocGlobal>(rt: &R, serving: &Serving<'_>) -> Log<Global
     }
 }
 
-/// Says where it listens.
+/// Prints the address where it listens.
 fn announce<L: OpenListener, W: Write>(listener: &L, output: &mut W) -> io::Result<()> {
     let place = listener.local_addr()?;
     writeln!(output, "listening on {place}")?;
     output.flush()
 }
 
-/// Looks at the clock, and serves a connection where there is one. While there is none, that takes a hundredth of a second.
+/// Looks at the clock, and serves a connection if there is one. While there is none, that takes a hundredth of a second.
 fn serve_next<'f, W: Watch + Drop, P: Pages, E: Write>(
-    site: &mut Site<'_, W, E>,
+    server: &mut Server<'_, W, E>,
     rules: Rules,
     meter: &mut Meter<P>,
     address: &'f str,
 ) -> Result<(), FieldFault<'f>>
-    ensures serves { ServesNext rules (W.seen site.old.watch) (W.seen site.new.watch) meter.old site.old.ticks result meter.new site.new.ticks }
+    ensures serves { ServesNext rules (W.seen server.old.watch)
+        (W.seen server.new.watch) meter.old server.old.ticks result meter.new server.new.ticks }
     ensures calls { (calls : List Call) × Calls meter.old calls meter.new }
 {
-    let now = match site.look(rules.tick, meter) {
+    let now = match server.look(rules.tick, meter) {
         Ok(now) => now,
         Err(fault) => return Err(FieldFault::Other(fault)),
     };
-    match site.watch.next(now) {
+    match server.watch.next(now) {
         Ok(Some(peer)) => {
-            site.stumbled = false;
-            match serve_one(site, rules, meter, peer) {
+            server.stumbled = false;
+            match serve_one(server, rules, meter, peer) {
                 Ok(()) => Ok(()),
                 Err(fault) => Err(FieldFault::Other(fault)),
             }
@@ -244,26 +246,27 @@ fn serve_next<'f, W: Watch + Drop, P: Pages, E: Write>(
             if !passes(error) {
                 return Err(FieldFault::System(address, error));
             }
-            stumble(site, error);
-            site.watch.pause();
+            stumble(server, error);
+            server.watch.pause();
             Ok(())
         }
     }
 }
 
-/// Serves one connection after another, which the watch of the site gives.
+/// Serves one connection after another, which the server's watch gives.
 #[inline(never)]
 pub fn serve_all<'f, W: Watch + Drop, P: Pages, E: Write>(
-    site: &mut Site<'_, W, E>,
+    server: &mut Server<'_, W, E>,
     rules: Rules,
     meter: &mut Meter<P>,
     address: &'f str,
 ) -> Result<(), FieldFault<'f>>
-    ensures serves { ServesAll rules (W.seen site.old.watch) (W.seen site.new.watch) meter.old site.old.ticks result meter.new site.new.ticks }
+    ensures serves { ServesAll rules (W.seen server.old.watch)
+        (W.seen server.new.watch) meter.old server.old.ticks result meter.new server.new.ticks }
     ensures calls { (calls : List Call) × Calls meter.old calls meter.new }
 {
     'connections: for _next in 0..u64::MAX {
-        match serve_next(site, rules, meter, address) {
+        match serve_next(server, rules, meter, address) {
             Ok(()) => {}
             Err(fault) => return Err(fault),
         }
@@ -271,11 +274,11 @@ pub fn serve_all<'f, W: Watch + Drop, P: Pages, E: Write>(
     Ok(())
 }
 
-/// Serves the meter on a TCP port, until a fault. Its running second goes on from the last one that it has, a second of it each
-/// second of the system's steady clock, and its load gives pulses. `listening on ADDRESS:PORT` is printed once the port is there;
-/// a line among the errors tells of each connection at its end, and of a moment that is refused. An error of those lines is of
-/// no matter. A store that is stopped is told as `Device`. Each connection has a turn (`Turn`), which is looked
-/// at behind each frame, and `hang_up` stands before it and behind it.
+/// Serves the meter on a TCP port, until a fault. Its running second goes on from its last one, by one second for each second of
+/// the system's steady clock, and its load makes pulses. `listening on ADDRESS:PORT` is printed once the port is open; a line on
+/// the errors reports the end of each connection, and a moment that is refused. An error in writing those lines does not matter. A
+/// store that is stopped gives `Device`. Each connection has a turn (`Turn`), which is checked after each frame, and `hang_up` is
+/// called before it and after it.
 pub fn serve<'a, R: Net + Clock + AllocGlobal, P: Pages, W: Write, E: Write>(
     rt: &R,
     meter: &mut Meter<P>,
@@ -283,19 +286,23 @@ pub fn serve<'a, R: Net + Clock + AllocGlobal, P: Pages, W: Write, E: Write>(
     output: &mut W,
     errors: &mut E,
 ) -> Result<(), FieldFault<'a>>
-    ensures serves { Serves (record { tick = serving.now.tick; times = serving.now.times; refusals = PORT_REFUSALS }) serving.now.load meter.old result meter.new }
+    ensures serves { Serves (record {
+      tick = serving.now.tick;
+      times = serving.now.times;
+      refusals = PORT_REFUSALS;
+    }) serving.now.load meter.old result meter.new }
     ensures calls { (calls : List Call) × Calls meter.old calls meter.new }
 {
     let start = match Instant::now(rt) {
         Ok(start) => start,
-        Err(error) => return Err(FieldFault::Other(LoopFault::from(error))),
+        Err(error) => return Err(FieldFault::Other(RunFault::from(error))),
     };
     let listener = match listening(rt, serving.address) {
         Ok(listener) => listener,
         Err(error) => return Err(FieldFault::System(serving.address, error)),
     };
     if let Err(error) = announce(&listener, output) {
-        return Err(FieldFault::Other(LoopFault::from(error)));
+        return Err(FieldFault::Other(RunFault::from(error)));
     }
     let ticks = Ticks::new(meter.state().last(), serving.load);
     let log = log_of(rt, serving);
@@ -304,11 +311,11 @@ pub fn serve<'a, R: Net + Clock + AllocGlobal, P: Pages, W: Write, E: Write>(
         times: serving.times,
         refusals: PORT_REFUSALS,
     };
-    let mut site = Site::new(
-        Door::new(rt, rt.alloc(), start, listener),
+    let mut server = Server::new(
+        PortWatch::new(rt, rt.alloc(), start, listener),
         ticks,
         log,
         errors,
     );
-    serve_all(&mut site, rules, meter, serving.address)
+    serve_all(&mut server, rules, meter, serving.address)
 }

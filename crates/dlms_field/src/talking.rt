@@ -1,16 +1,16 @@
 //! A meter that serves talks with a client, from a connection's beginning to its end.
 
 ghost use Rattle.std.specs.Prelude.{◌≡◌, ◌≤◌, ◌↔◌, ℕ, List, Some, None, false, IfOk, IsTrue};
-ghost use Rattle.dlms_field.specs.Connection.{AnswersEach, AsksOnce, At, ChecksOnce, Connection, Counts, GivesFrame, IsDue, IsOfRead, LooksOnce, ReadsPiece, TellsOnce, behind_answer, behind_outcome, broken, noted};
+ghost use Rattle.dlms_field.specs.Connection.{AnswersEach, AsksOnce, At, ChecksOnce, Connection, Counts, GivesFrame, IsDue, IsOfRead, LooksOnce, ReadsPiece, TellsOnce, behind_answer, behind_outcome, ending_at_reply, turn_after_bytes};
 
 use crate::log::Log;
 use crate::pace::due;
-use crate::refusals::{Outcome, said_of};
+use crate::refusals::{Outcome, outcome_in};
 use crate::telling;
 use crate::ticks::Ticks;
 use crate::turns::{Over, Times, Tries, Turn};
 use crate::watch::Watch;
-use dlms_ends::{End, Heard, LoopFault, PIECE, Taken, bytes_of};
+use dlms_ends::{End, Heard, PIECE, RunFault, Taken, bytes_of};
 use dlms_filing::bytes_behind;
 use dlms_meter::Meter;
 use dlms_pages::Pages;
@@ -22,7 +22,7 @@ use std::io::{ErrorKind, Write};
 /// By which rules a meter serves.
 #[derive(Clone, Copy, Debug)]
 pub struct Rules {
-    /// The meter is told of the seconds of the clock in steps of so many.
+    /// The meter gets the seconds of the clock in steps of this many.
     pub tick: u32,
     /// After how many seconds a connection's turn is over.
     pub times: Times,
@@ -43,14 +43,15 @@ pub enum Ending {
 
 /// A connection's turn, and the second in which it was asked last whether another connection waits.
 #[derive(Clone, Copy, Debug)]
-pub struct Stay {
+pub struct TurnState {
     turn: Turn,
     asked: Option<u64>,
 }
 
-/// Where a meter is at work: the world beside the line, what the meter was told of the clock, and where is said what happens.
+/// What a meter is served with: the world besides the line, the seconds of the clock that the meter got, and where events are
+/// reported.
 #[derive(Drop)]
-pub struct Site<'e, W: Watch + Drop, E: Write> {
+pub struct Server<'e, W: Watch + Drop, E: Write> {
     pub watch: W,
     pub ticks: Ticks,
     /// Whether the last second was refused.
@@ -61,7 +62,7 @@ pub struct Site<'e, W: Watch + Drop, E: Write> {
     pub errors: &'e mut E,
 }
 
-/// Reads once: how many bytes came, none where nothing came.
+/// Reads once: the number of bytes that came, or `None` if nothing came.
 fn read_piece<T: End>(stream: &mut T, piece: &mut [u8; PIECE]) -> io::Result<usize>
     ensures fits { IfOk result (λ count. count ≤ PIECE) }
     ensures reads { ReadsPiece (T.past stream.old) (T.past stream.new) result piece.new }
@@ -72,7 +73,7 @@ fn read_piece<T: End>(stream: &mut T, piece: &mut [u8; PIECE]) -> io::Result<usi
     }
 }
 
-/// The tries behind this outcome of an association that was asked for, if there was one.
+/// The tries after this outcome of an association that was asked for, if there was one.
 fn behind_outcome(outcome: Option<Outcome>, tries: Tries) -> Tries
     ensures { result ≡ behind_outcome outcome tries }
 {
@@ -90,10 +91,10 @@ fn behind_outcome(outcome: Option<Outcome>, tries: Tries) -> Tries
 }
 
 /// Counts what a reply says of an association that was asked for.
-fn counted(reply: &[u8], tries: Tries) -> Tries
+fn count_outcome(reply: &[u8], tries: Tries) -> Tries
     ensures { Counts (Some reply.now) tries result }
 {
-    behind_outcome(said_of(reply), tries)
+    behind_outcome(outcome_in(reply), tries)
 }
 
 /// Gives the meter bytes through one frame at most, counts what the reply says of an association, and puts it. Where that
@@ -104,12 +105,13 @@ fn answer<T: End, P: Pages>(
     bytes: &[u8],
     tries: &mut Tries,
 ) -> io::Result<Taken>
-    ensures { GivesFrame (T.past end.old) (T.past end.new) meter.old bytes.now tries.old tries.new result meter.new }
+    ensures { GivesFrame (T.past end.old)
+        (T.past end.new) meter.old bytes.now tries.old tries.new result meter.new }
 {
     let (count, reply) = meter.feed(bytes);
     match reply {
         Some(reply) => {
-            *tries = counted(reply.as_slice(), *tries);
+            *tries = count_outcome(reply.as_slice(), *tries);
             end.put(reply.as_slice())?;
             Ok(Taken {
                 count,
@@ -135,8 +137,8 @@ fn ending_of(error: io::Error) -> Ending
 }
 
 /// The end that an error at a reply is: whose association request is refused need not take the reply for that to count.
-fn broken(tries: Tries, error: io::Error) -> Ending
-    ensures { result ≡ broken tries error }
+fn ending_at_reply(tries: Tries, error: io::Error) -> Ending
+    ensures { result ≡ ending_at_reply tries error }
 {
     if tries.refusals > 0 {
         Ending::Over(Over::Refused)
@@ -145,12 +147,20 @@ fn broken(tries: Tries, error: io::Error) -> Ending
     }
 }
 
-impl Stay {
+impl TurnState {
     /// The turn of a connection that begins at this second.
-    fn begins(now: u64) -> Stay
-        ensures { result ≡ record { turn = record { answered = now; held = now; waited = None; tries = record { refusals = 0; is_proved = false } }; asked = None } }
+    fn begins(now: u64) -> TurnState
+        ensures { result ≡ record {
+          turn = record {
+            answered = now;
+            held = now;
+            waited = None;
+            tries = record { refusals = 0; is_proved = false };
+          };
+          asked = None;
+        } }
     {
-        Stay {
+        TurnState {
             turn: Turn::begins(now),
             asked: None,
         }
@@ -189,9 +199,9 @@ impl Stay {
     }
 }
 
-/// The turn behind bytes that were answered at this second, or were not, and whether an association was then open.
-fn noted(turn: Turn, is_answered: bool, now: u64, is_associated: bool) -> Turn
-    ensures { result ≡ noted turn is_answered now is_associated }
+/// The turn after bytes that were answered at this second, or were not, and whether an association was then open.
+fn turn_after_bytes(turn: Turn, is_answered: bool, now: u64, is_associated: bool) -> Turn
+    ensures { result ≡ turn_after_bytes turn is_answered now is_associated }
 {
     if is_answered {
         turn.answers(now, is_associated)
@@ -200,7 +210,7 @@ fn noted(turn: Turn, is_answered: bool, now: u64, is_associated: bool) -> Turn
     }
 }
 
-/// The turn behind the answer whether another connection waits.
+/// The turn after the answer whether another connection waits.
 fn behind_answer(turn: Turn, now: u64, waits: bool) -> Turn
     ensures { result ≡ behind_answer turn now waits }
 {
@@ -214,13 +224,13 @@ fn behind_answer(turn: Turn, now: u64, waits: bool) -> Turn
     }
 }
 
-impl<'e, W: Watch + Drop, E: Write> Site<'e, W, E> {
-    /// A meter that was told so much of the clock, and nothing was said.
+impl<'e, W: Watch + Drop, E: Write> Server<'e, W, E> {
+    /// A meter that got this much of the clock, before anything is reported.
     #[inline(never)]
     pub fn new(watch: W, ticks: Ticks, log: Log<Global>, errors: &'e mut E) -> Self
         ensures { result.ticks ≡ ticks }
     {
-        Site {
+        Server {
             watch,
             ticks,
             refused: false,
@@ -244,41 +254,56 @@ impl<'e, W: Watch + Drop, E: Write> Site<'e, W, E> {
 
     /// Looks at the clock, and tells the meter of the seconds that are due, so many at most. The seconds of the clock since the
     /// beginning come back. A moment that is refused is said once, until one is taken again.
-    pub fn look<P: Pages>(&mut self, step: u32, meter: &mut Meter<P>) -> Result<u64, LoopFault>
-        ensures { LooksOnce step (W.seen self.old.watch) (W.seen self.new.watch) meter.old self.old.ticks result meter.new self.new.ticks }
+    pub fn look<P: Pages>(&mut self, step: u32, meter: &mut Meter<P>) -> Result<u64, RunFault>
+        ensures { LooksOnce step (W.seen self.old.watch)
+            (W.seen self.new.watch) meter.old self.old.ticks result meter.new self.new.ticks }
     {
         let now = self.watch.seconds()?;
         let told = self.ticks.told;
         match telling::look(meter, &mut self.ticks, due(now, step)) {
             Ok(()) => self.refused = self.refused && self.ticks.told == told,
             Err(AddFault::Refused(cause)) => self.tell_refused(cause.number()),
-            Err(AddFault::Exhausted) => return Err(LoopFault::Add(AddFault::Exhausted)),
-            Err(AddFault::Device) => return Err(LoopFault::Add(AddFault::Device)),
-            Err(AddFault::Stopped) => return Err(LoopFault::Add(AddFault::Device)),
+            Err(AddFault::Exhausted) => return Err(RunFault::Add(AddFault::Exhausted)),
+            Err(AddFault::Device) => return Err(RunFault::Add(AddFault::Device)),
+            Err(AddFault::Stopped) => return Err(RunFault::Add(AddFault::Device)),
         }
         Ok(now)
     }
 
-    /// Looks at the clock, behind bytes that were answered or were not, and says whether the turn is over at that second, and why.
+    /// Looks at the clock, after bytes that were answered or were not, and returns whether the turn is over at that second, and
+    /// why.
     fn check<P: Pages>(
         &mut self,
         rules: Rules,
         meter: &mut Meter<P>,
-        stay: &mut Stay,
+        state: &mut TurnState,
         is_answered: bool,
-    ) -> Result<Option<Over>, LoopFault>
-        ensures { (left : List ℕ) (reads : ℕ) → ChecksOnce rules (W.seen self.old.watch) (W.seen self.new.watch)
-            (record { meter = meter.old; ticks = self.old.ticks; left = left; stay = stay.old; reads = reads }) is_answered result
-            (record { meter = meter.new; ticks = self.new.ticks; left = left; stay = stay.new; reads = reads }) }
+    ) -> Result<Option<Over>, RunFault>
+        ensures { (left : List ℕ) (reads : ℕ)
+            → ChecksOnce rules (W.seen self.old.watch) (W.seen self.new.watch)
+            (record {
+              meter = meter.old;
+              ticks = self.old.ticks;
+              left = left;
+              state = state.old;
+              reads = reads;
+            }) is_answered result
+            (record {
+              meter = meter.new;
+              ticks = self.new.ticks;
+              left = left;
+              state = state.new;
+              reads = reads;
+            }) }
     {
         let now = match self.look(rules.tick, meter) {
             Ok(now) => now,
             Err(fault) => return Err(fault),
         };
-        stay.turn = noted(stay.turn, is_answered, now, meter.is_associated());
-        stay.tells(&mut self.watch, now);
-        stay.asks(&mut self.watch, now);
-        Ok(stay.turn.over(rules, now))
+        state.turn = turn_after_bytes(state.turn, is_answered, now, meter.is_associated());
+        state.tells(&mut self.watch, now);
+        state.asks(&mut self.watch, now);
+        Ok(state.turn.over(rules, now))
     }
 
     /// Answers the frames among the bytes, one after another, as long as the turn is not over. Behind each it looks at the clock.
@@ -287,20 +312,27 @@ impl<'e, W: Watch + Drop, E: Write> Site<'e, W, E> {
         rules: Rules,
         meter: &mut Meter<P>,
         stream: &mut T,
-        stay: &mut Stay,
+        state: &mut TurnState,
         bytes: &[u8],
-    ) -> Result<Option<Ending>, LoopFault>
-        ensures { (reads : ℕ) → AnswersEach rules (T.past stream.old) (T.past stream.new) (W.seen self.old.watch) (W.seen self.new.watch)
-            (record { meter = meter.old; ticks = self.old.ticks; left = bytes.now; stay = stay.old; reads = reads }) result meter.new self.new.ticks stay.new }
+    ) -> Result<Option<Ending>, RunFault>
+        ensures { (reads : ℕ) → AnswersEach rules (T.past stream.old) (T.past stream.new)
+            (W.seen self.old.watch) (W.seen self.new.watch)
+            (record {
+              meter = meter.old;
+              ticks = self.old.ticks;
+              left = bytes.now;
+              state = state.old;
+              reads = reads;
+            }) result meter.new self.new.ticks state.new }
     {
         let mut rest = bytes;
         while !rest.is_empty() {
-            let taken = match answer(stream, meter, rest, &mut stay.turn.tries) {
+            let taken = match answer(stream, meter, rest, &mut state.turn.tries) {
                 Ok(taken) => taken,
-                Err(error) => return Ok(Some(broken(stay.turn.tries, error))),
+                Err(error) => return Ok(Some(ending_at_reply(state.turn.tries, error))),
             };
             rest = bytes_behind(rest, taken.count);
-            match self.check(rules, meter, stay, taken.is_answered) {
+            match self.check(rules, meter, state, taken.is_answered) {
                 Ok(None) => {}
                 Ok(Some(over)) => return Ok(Some(Ending::Over(over))),
                 Err(fault) => return Err(fault),
@@ -309,24 +341,25 @@ impl<'e, W: Watch + Drop, E: Write> Site<'e, W, E> {
         Ok(None)
     }
 
-    /// Answers a client until the connection ends. Before each read, which gives up after a second, and behind each frame it looks at
-    /// the clock, and once in each of its seconds whether another connection waits.
+    /// Answers a client until the connection ends. Before each read, which gives up after a second, and after each frame it looks
+    /// at the clock, and asks once in each of its seconds whether another connection waits.
     pub fn talk<T: End, P: Pages>(
         &mut self,
         rules: Rules,
         meter: &mut Meter<P>,
         stream: &mut T,
-    ) -> Result<Ending, LoopFault>
-        ensures { Connection rules (T.past stream.old) (T.past stream.new) (W.seen self.old.watch) (W.seen self.new.watch) meter.old self.old.ticks result meter.new self.new.ticks }
+    ) -> Result<Ending, RunFault>
+        ensures { Connection rules (T.past stream.old) (T.past stream.new) (W.seen self.old.watch)
+            (W.seen self.new.watch) meter.old self.old.ticks result meter.new self.new.ticks }
     {
         let mut piece = [0u8; PIECE];
         let first = match self.look(rules.tick, meter) {
             Ok(first) => first,
             Err(fault) => return Err(fault),
         };
-        let mut stay = Stay::begins(first);
+        let mut state = TurnState::begins(first);
         'rounds: for _round in 0..u64::MAX {
-            match self.check(rules, meter, &mut stay, false) {
+            match self.check(rules, meter, &mut state, false) {
                 Ok(None) => {}
                 Ok(Some(over)) => return Ok(Ending::Over(over)),
                 Err(fault) => return Err(fault),
@@ -336,12 +369,12 @@ impl<'e, W: Watch + Drop, E: Write> Site<'e, W, E> {
                 Err(error) => return Ok(ending_of(error)),
             };
             let bytes = bytes_of(&piece, count);
-            match self.answer_each(rules, meter, stream, &mut stay, bytes) {
+            match self.answer_each(rules, meter, stream, &mut state, bytes) {
                 Ok(None) => {}
                 Ok(Some(ending)) => return Ok(ending),
                 Err(fault) => return Err(fault),
             }
         }
-        Err(LoopFault::Io)
+        Err(RunFault::Io)
     }
 }

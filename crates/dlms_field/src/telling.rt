@@ -1,4 +1,4 @@
-//! A meter is told of the seconds of a clock.
+//! A meter gets the seconds of a clock.
 
 ghost use Rattle.std.specs.Prelude.{◌↔◌, IsTrue};
 ghost use Rattle.dlms_field.specs.Telling.{GoesOn, Looks, Tells};
@@ -9,14 +9,14 @@ use dlms_pages::Pages;
 use dlms_store::AddFault;
 use std::alloc::Allocator;
 
-/// The most seconds that a meter is told of in one look at the clock.
+/// The most seconds that a meter gets in one look at the clock.
 pub const CATCH_UP: u32 = 60;
 
 /// The channel that counts what is imported.
 const IMPORT: u8 = 0;
 
-/// Tells the meter of the pulses of a second, where there are any, and then of the second: so a row that the second captures has
-/// them. Where the pulses are not taken, the meter is not told of the second.
+/// Gives the meter the pulses of a second, if there are any, and then the second: so a row that the second captures has them. If
+/// the pulses are refused, the meter does not get the second.
 pub fn tell<P: Pages, A: Allocator + Copy>(
     meter: &mut Meter<P, A>,
     second: Second,
@@ -32,7 +32,7 @@ pub fn tell<P: Pages, A: Allocator + Copy>(
     }
 }
 
-/// Whether the store goes on: what it was told was taken, or the table refused it.
+/// Whether the store goes on: the event was accepted, or the table refused it.
 pub fn goes_on(outcome: Result<(), AddFault>) -> bool
     ensures { IsTrue result ↔ GoesOn outcome }
 {
@@ -42,8 +42,8 @@ pub fn goes_on(outcome: Result<(), AddFault>) -> bool
     }
 }
 
-/// Tells the meter of the seconds that have gone by and that it was not told of yet, one after another, `CATCH_UP` of them at
-/// most. The outcome is that of the last one; it goes on behind a second that is refused, and ends where the store does.
+/// Gives the meter the seconds that have passed and that it did not get yet, one after another, at most `CATCH_UP` of them. The
+/// outcome is that of the last one; it goes on after a second that is refused, and ends if the store does.
 pub fn look<P: Pages, A: Allocator + Copy>(
     meter: &mut Meter<P, A>,
     ticks: &mut Ticks,

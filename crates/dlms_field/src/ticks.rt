@@ -1,4 +1,4 @@
-//! The seconds that a meter is told of, and the pulses of its load.
+//! The seconds that a meter gets, and the pulses of its load.
 
 ghost use Rattle.std.specs.Prelude.{◌≡◌, ◌≤◌, ◌<◌, ◌+◌, ◌^◌, ◌↔◌, ◌⊎◌, IfSome, IsNone};
 ghost use Rattle.dlms_field.specs.Load.{pulses_after};
@@ -11,7 +11,7 @@ const HOUR: u64 = 3_600;
 pub struct Ticks {
     /// The running second at which the clock began.
     pub first: u32,
-    /// So many seconds of the clock the meter was told of.
+    /// The number of seconds of the clock that the meter got.
     pub told: u32,
     /// The load in watts.
     pub watts: u32,
@@ -28,7 +28,7 @@ pub struct Second {
     pub pulses: u32,
 }
 
-/// The pulses of a load in so many seconds, one a watt-hour.
+/// The pulses of a load in this many seconds, one for each watt-hour.
 fn pulses_after(watts: u32, seconds: u32) -> u64
     ensures { result ≡ pulses_after watts seconds }
 {
@@ -38,7 +38,7 @@ fn pulses_after(watts: u32, seconds: u32) -> u64
 impl Ticks {
     ghost use Rattle.dlms_field.specs.Ticks.{IsNext};
 
-    /// No second was told yet, of a meter whose last running second is this one.
+    /// No second was given yet to a meter whose last running second is this one.
     pub fn new(first: u32, watts: u32) -> Ticks
         ensures first { result.first ≡ first }
         ensures none { result.told ≡ 0 }
@@ -51,10 +51,11 @@ impl Ticks {
         }
     }
 
-    /// The next second, where so many whole seconds of the clock have gone by; none where the meter was told of them all, or
-    /// where its running second is the last that there is.
+    /// The next second, if this many whole seconds of the clock have passed; `None` if the meter got them all, or if its running
+    /// second is the last that there is.
     pub fn next(&mut self, elapsed: u64) -> Option<Second>
-        ensures none { IsNone result ↔ ((elapsed ≤ self.old.told) ⊎ (self.old.first + self.old.told + 1 ≡ 2 ^ 32)) }
+        ensures none { IsNone result ↔ ((elapsed ≤ self.old.told)
+            ⊎ (self.old.first + self.old.told + 1 ≡ 2 ^ 32)) }
         ensures stays { IsNone result → self.new ≡ self.old }
         ensures next { IfSome result (λ second. IsNext self.old second self.new) }
     {

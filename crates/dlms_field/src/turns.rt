@@ -14,33 +14,33 @@ pub const LINE_REFUSALS: u8 = 5;
 /// After how many seconds a turn is over.
 #[derive(Clone, Copy, Debug, PartialEq, Eq)]
 pub struct Times {
-    /// A connection on which no frame was answered for so many seconds is closed.
+    /// A connection on which no frame was answered for this many seconds is closed.
     pub inactivity: u32,
-    /// Where another connection waits, one on which no frame of an open association was answered for so many seconds is closed.
+    /// While another connection waits, one on which no frame of an open association was answered for this many seconds is closed.
     pub idle: u32,
-    /// Where another connection has waited for so many seconds of a turn, that turn is over in any case.
+    /// Once another connection has waited for this many seconds of a turn, that turn is over in any case.
     pub longest: u32,
 }
 
-/// What came of the associations that were asked for in a turn.
+/// The outcomes of the associations that were asked for in a turn.
 #[derive(Clone, Copy, Debug, PartialEq, Eq)]
 pub struct Tries {
     /// How many were refused.
     pub refusals: u8,
-    /// Whether a secret was proved since the watch was told of that.
+    /// Whether a secret was proved since the watch last heard of that.
     pub is_proved: bool,
 }
 
-/// What has happened in a connection's turn, in seconds of the clock.
+/// The events of a connection's turn, in seconds of the clock.
 #[derive(Clone, Copy, Debug, PartialEq, Eq)]
 pub struct Turn {
-    /// When a frame was answered last; at first when the turn began.
+    /// When a frame was last answered; initially when the turn began.
     pub answered: u64,
-    /// When a frame was answered last behind which an association was open; at first when the turn began.
+    /// When a frame was last answered after which an association was open; initially when the turn began.
     pub held: u64,
     /// Since when in this turn another connection waits, if one does.
     pub waited: Option<u64>,
-    /// What came of the associations that were asked for.
+    /// The outcomes of the associations that were asked for.
     pub tries: Tries,
 }
 
@@ -57,7 +57,7 @@ pub enum Over {
     Long,
 }
 
-/// Whether so many seconds have gone by since then.
+/// Whether this many seconds have passed since then.
 pub fn have_passed(seconds: u32, since: u64, now: u64) -> bool
     ensures { IsTrue result ↔ (since + seconds ≤ now) }
 {
@@ -70,7 +70,12 @@ pub fn have_passed(seconds: u32, since: u64, now: u64) -> bool
 impl Turn {
     /// A turn that begins at this second, while no other connection is known to wait.
     pub fn begins(now: u64) -> Turn
-        ensures { result ≡ record { answered = now; held = now; waited = None; tries = record { refusals = 0; is_proved = false } } }
+        ensures { result ≡ record {
+          answered = now;
+          held = now;
+          waited = None;
+          tries = record { refusals = 0; is_proved = false };
+        } }
     {
         Turn {
             answered: now,
@@ -83,9 +88,12 @@ impl Turn {
         }
     }
 
-    /// The same turn behind frames that were answered at this second, and whether an association was then open.
+    /// The same turn after frames that were answered at this second, and whether an association was then open.
     pub fn answers(self, now: u64, associated: bool) -> Turn
-        ensures { result ≡ record self { answered = now; held = if associated then now else self.held } }
+        ensures { result ≡ record self {
+          answered = now;
+          held = if associated then now else self.held;
+        } }
     {
         Turn {
             answered: now,

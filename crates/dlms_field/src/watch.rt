@@ -1,4 +1,4 @@
-//! What a meter that serves asks of the world beside the line.
+//! What a meter that serves asks of the world besides the line.
 
 ghost use Rattle.std.specs.Prelude.{List, Option, None, Ok, [], ◌∷◌};
 ghost use Rattle.dlms_field.specs.Watching.{Sight, Sees, came_in, error_in, ok_in};
@@ -20,8 +20,8 @@ pub trait Watch {
     /// A connection's end here.
     type Stream: End + Drop;
 
-    /// What was asked, in order, and what came of it, where that is known. Of the system it is not; what code does that takes any
-    /// watch holds of those of which it is known too.
+    /// The questions, in order, each with its outcome, if these are known. For the system they are not; a theorem about code that
+    /// takes any watch also holds for watches whose questions are known.
     ghost seen: { Self → Option (List Sight) } = { λ _. None };
 
     /// How many whole seconds have gone by since the beginning.
@@ -34,7 +34,8 @@ pub trait Watch {
 
     /// The next connection at this second: the one that has waited longest, if there is one.
     fn next(&mut self, now: u64) -> io::Result<Option<Peer<Self::Stream>>>
-        ensures { Sees (seen self.old) (seen self.new) (Next now (came_in result (λ peer. peer.address)) ∷ []) };
+        ensures { Sees (seen self.old) (seen self.new)
+            (Next now (came_in result (λ peer. peer.address)) ∷ []) };
 
     /// Makes a connection ready: no call on it waits for long.
     fn prepare(&mut self, stream: &mut Self::Stream) -> io::Result<()>
@@ -44,7 +45,7 @@ pub trait Watch {
     fn bar(&mut self, address: SocketAddr, now: u64)
         ensures { Sees (seen self.old) (seen self.new) (Bars address now ∷ []) };
 
-    /// Who is served has proved a secret at this second: it waits for a shorter while behind a refusal.
+    /// The client that is served has proved a secret at this second: it waits for a shorter time after a refusal.
     fn trust(&mut self, now: u64)
         ensures { Sees (seen self.old) (seen self.new) (Trusts now ∷ []) };
 

@@ -1,4 +1,4 @@
-//! What a line to a meter goes over.
+//! The wire under a line to a meter.
 
 use crate::serial::Serial;
 use std::io;

@@ -1,15 +1,15 @@
--- Calls of files that come one behind another.
-use Rattle.std.proofs.Common.{refl, ap, append_assoc, ◌∙◌, ◌≡◌, ℕ, List, [], ◌∷◌, ◌++◌, inl, inr}
+-- Calls of files, one after another.
+use Rattle.std.proofs.Common.{ap, append_assoc, ◌∙◌, ℕ, List, [], ◌∷◌, ◌++◌, inl, inr}
 use Rattle.std.specs.Prelude.{Option, Some, None, Ok, Err}
 use Rattle.std.specs.declared.io.Error.{Error}
 use Rattle.dlms_filing.specs.Disk.{FileCall, Called, Filled, Laid}
 use Rattle.dlms_filing.specs.Disk.FileCall.{Creates, Removes, Syncs, Writes}
 
-called_more : (a b c : Option (List FileCall)) (xs ys : List FileCall) → Called a b xs → Called b c ys → Called a c (xs ++ ys)
+pub called_more : {C : Type 0} (a b c : Option (List C)) (xs ys : List C) → Called a b xs → Called b c ys → Called a c (xs ++ ys)
 called_more None b c xs ys h k = tt
 called_more (Some us) None c xs ys h k = absurd h
 called_more (Some us) (Some bs) None xs ys h k = absurd k
-called_more (Some us) (Some bs) (Some cs) xs ys h k = k ∙ ap (λ (t : List FileCall). t ++ ys) h ∙ append_assoc us xs ys
+called_more {C} (Some us) (Some bs) (Some cs) xs ys h k = k ∙ ap (λ (t : List C). t ++ ys) h ∙ append_assoc us xs ys
 
 -- a file that was made is not filled, and taken away
 pub not_laid : (a b c d : Option (List FileCall)) (path text beside : List ℕ) (e : Error) → Called a b (Creates path (Ok beside) ∷ []) → Filled {T = Unit {0}} b c beside text (Err e) → Called c d (Removes beside ∷ [])

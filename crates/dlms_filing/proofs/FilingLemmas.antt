@@ -1,12 +1,15 @@
 -- The text of readings, and what a merge appends to it.
-use Rattle.std.proofs.Common.{refl, sym, ap, ◌∙◌, ◌≡◌, ℕ, List, [], ◌∷◌, ◌++◌, length, append_assoc, drop, slice_index, Option, subst}
-use Rattle.std.specs.Prelude.{Result, Ok, Err}
+use Rattle.std.proofs.Common.{refl, sym, ap, ◌∙◌, ◌≡◌, ℕ, List, [], ◌∷◌, ◌++◌, length, append_assoc, drop, slice_index, Option, subst, inl, inr}
+use Rattle.std.specs.Prelude.{Result, Ok, Err, Some, None}
 use Rattle.std.specs.Fmt.{decimal}
 use Rattle.std.proofs.Math.Seq.{drop-append_seam}
+use Rattle.std.proofs.lemmas.List.{append_cancel_left}
+use Rattle.std.specs.declared.io.Error.{Error}
 use Rattle.dlms_headend.specs.declared.row.Row.{Row}
 use Rattle.dlms_headend.specs.Lines.{field, line, lines, text_of, IsFile}
 use Rattle.dlms_headend.specs.Merged.{added, merged}
-use Rattle.dlms_filing.specs.Filing.{Asked, Gives, FilesRows}
+use Rattle.dlms_filing.specs.Filing.{PlaceCall, FilesRows, Gives, PutIsPrinted}
+use Rattle.dlms_filing.specs.Filing.PlaceCall.{Drops, Lays, Puts}
 use Rattle.dlms_filing.specs.Printing.{Printed}
 use Rattle.dlms_filing.specs.declared.filing.FilingFault.{FilingFault}
 use Rattle.dlms_filing.specs.declared.filing.FilingFault.TheVariants.{Memory, Output, Place}
@@ -36,13 +39,13 @@ lines-append (row ∷ rows) more rest = ap (line row) (lines-append rows more re
 pub text_of-append : (before new : List Row) → text_of (before ++ new) ≡ text_of before ++ text_of new
 text_of-append before new = lines-append before new [] ∙ sym (lines-followed before [] (text_of new))
 
--- what stands in the new text behind as many bytes as the old one had
+-- the part of the new text after as many bytes as the old one had
 pub news_are : (before rows : List Row) (first text : List ℕ) → IsFile first before → IsFile text (merged before rows) → drop (length first) text ≡ text_of (added before rows)
 news_are before rows first text old new =
     let whole : text ≡ text_of before ++ text_of (added before rows) = new.spelled ∙ text_of-append before (added before rows) in
     ap (drop (length first)) whole ∙ ap (λ t. drop (length t) (text_of before ++ text_of (added before rows))) old.spelled ∙ drop-append_seam (text_of before) (text_of (added before rows))
 
-pub files : {T : Type 0} (old new : Option (List Asked)) (printed printed' : Printed) (before rows after : List Row) (text news : List ℕ) (result : Result T FilingFault)
+pub files : {T : Type 0} (old new : Option (List PlaceCall)) (printed printed' : Printed) (before rows after : List Row) (text news : List ℕ) (result : Result T FilingFault)
     → after ≡ merged before rows → IsFile text after → news ≡ text_of (added before rows) → Gives old new printed printed' text news result → FilesRows old new printed printed' before rows result after
 files {T} old new printed printed' before rows after text news (Ok done) same is lines gives = (same, text, is, subst (λ n. Gives {T = T} old new printed printed' text n (Ok done)) lines gives)
 files {T} old new printed printed' before rows after text news (Err Memory) same is lines gives = absurd gives
@@ -50,3 +53,22 @@ files {T} old new printed printed' before rows after text news (Err Output) same
     (same, text, is, subst (λ n. Gives {T = T} old new printed printed' text n (Err Output)) lines gives)
 files {T} old new printed printed' before rows after text news (Err (Place e)) same is lines gives =
     (same, text, is, subst (λ n. Gives {T = T} old new printed printed' text n (Err (Place e))) lines gives)
+
+-- ---- what was put was printed
+
+-- the second of these calls was to put a text in its place
+abbrev PutsSecond : List PlaceCall → Type 0
+PutsSecond (first ∷ Puts failed ∷ rest) = Unit {0}
+PutsSecond _ = ⊥
+
+-- after the same calls others came, of which the second was such a one
+puts_second : (old new calls : List PlaceCall) (text : List ℕ) (failed : Option Error) → new ≡ old ++ calls → new ≡ old ++ Lays text None ∷ Puts failed ∷ [] → PutsSecond calls
+puts_second old new calls text failed were puts =
+    subst PutsSecond (append_cancel_left old (Lays text None ∷ Puts failed ∷ []) calls (sym puts ∙ were)) tt
+
+pub put_is_printed : PutIsPrinted
+put_is_printed old new printed printed' before rows after (Ok done) text failed (same, found, is, (asks, prints)) puts = prints
+put_is_printed old new printed printed' before rows after (Err Memory) text failed (asks, nothing, why) puts = absurd (puts_second old new [] text failed asks puts)
+put_is_printed old new printed printed' before rows after (Err Output) text failed (same, found, is, (asks, part)) puts = absurd (puts_second old new (Lays found None ∷ Drops ∷ []) text failed asks puts)
+put_is_printed old new printed printed' before rows after (Err (Place e)) text failed (same, found, is, inl (asks, nothing)) puts = absurd (puts_second old new (Lays found (Some e) ∷ []) text failed asks puts)
+put_is_printed old new printed printed' before rows after (Err (Place e)) text failed (same, found, is, inr (asks, prints)) puts = prints

@@ -1,2 +1,3 @@
 pub mod FilingLemmas
 pub mod DiskLemmas
+pub mod NameLemmas

@@ -1,3 +1,5 @@
 pub mod Printing
 pub mod Filing
 pub mod Disk
+pub mod System
+pub mod HostDisk

@@ -1,8 +1,9 @@
-//! The place where a readings file stands, and what is put there.
-ghost use Rattle.std.specs.Prelude.{◌≡◌, List, ℕ, Option, None, [], ◌∷◌, drop, string_bytes};
+//! The place of a readings file, and the texts that are put there.
+ghost use Rattle.std.specs.Prelude.{◌≡◌, ◌<◌, List, ℕ, Option, None, [], ◌∷◌, drop, length, string_bytes, OnErr, OnOk};
+ghost use Rattle.dlms_headend.specs.Merged.{added, merged};
 ghost use Rattle.dlms_headend.specs.Rows.{AreReadings};
-ghost use Rattle.dlms_filing.specs.Filing.{Asked, Asks, KeepsRows, FilesRows, MergesInto, OpensRows, Gives, IsPut, error_in, text_in};
-ghost use Rattle.dlms_filing.specs.Filing.Asked.{Holds, Opens, Lays, Puts, Drops};
+ghost use Rattle.dlms_filing.specs.Filing.{PlaceCall, Asks, KeepsRows, FilesRows, MergesInto, OpensRows, Gives, IsPut, error_in, text_in};
+ghost use Rattle.dlms_filing.specs.Filing.PlaceCall.{Holds, Opens, Lays, Puts, Drops};
 ghost use Rattle.dlms_filing.specs.declared.filing.FilingFault.TheVariants.{Memory as MemoryOf};
 
 use crate::output::Output;
@@ -15,7 +16,7 @@ use std::io;
 pub enum FilingFault {
     /// A growth was refused.
     Memory,
-    /// What is new could not be printed.
+    /// The new rows could not be printed.
     Output,
     /// A call of the place failed, for which the system has these words.
     Place(io::Error),
@@ -40,20 +41,20 @@ pub enum OpeningFault {
 
 /// Where a text of readings stands.
 pub trait Filing {
-    /// What was asked of it, in order, and what came of each call, where that is known. Of a file it is not; what code does that
-    /// takes any place holds of those of which it is known too.
-    ghost asked: { Self → Option (List Asked) } = { λ _. None };
+    /// The requests to it, in order, each with its outcome, if these are known. For a file they are not; a theorem about code that
+    /// takes any place also holds for places whose requests are known.
+    ghost asked: { Self → Option (List PlaceCall) } = { λ _. None };
 
-    /// The text that stands there. Where there is none it is empty.
+    /// The text in the place. Without one it is empty.
     fn text(&mut self, alloc: Global) -> io::Result<String>
         ensures { Asks (asked self.old) (asked self.new) (Opens (text_in result) ∷ []) };
 
-    /// Lays a new text beside the one that stands there, and makes it outlast a stop.
+    /// Lays a new text beside the present one, and makes it survive a power failure.
     fn lay(&mut self, text: &str) -> io::Result<()>
         ensures { Asks (asked self.old) (asked self.new) (Lays text.now (error_in result) ∷ []) };
 
-    /// Puts the text that was laid last in the place of the one that stands there, whole. Where that fails, or is stopped, either
-    /// stands there.
+    /// Puts the text that was laid last in the place of the present one, whole. If that fails, or is stopped, either of them is
+    /// there.
     fn put(&mut self) -> io::Result<()>
         ensures { Asks (asked self.old) (asked self.new) (Puts (error_in result) ∷ []) };
 
@@ -62,14 +63,15 @@ pub trait Filing {
         ensures { Asks (asked self.old) (asked self.new) (Drops ∷ []) };
 }
 
-/// A place that comes to be the file of a name. Until it holds one its text is empty, and what is put stands nowhere.
+/// A place that becomes the file of a name. Until it holds one its text is empty, and a text that is put goes nowhere.
 pub trait Holding: Filing {
     /// Holds the file that this name stands for, which nobody else has then.
     fn hold(&mut self, file: &str) -> io::Result<()>
-        ensures { Asks (Self.asked self.old) (Self.asked self.new) (Holds file.now (error_in result) ∷ []) };
+        ensures { Asks (Self.asked self.old) (Self.asked self.new)
+            (Holds file.now (error_in result) ∷ []) };
 }
 
-/// The readings that stand there.
+/// The readings in the place.
 pub fn open_rows<F: Filing>(alloc: Global, place: &mut F) -> Result<Readings, OpeningFault>
     ensures { OpensRows (F.asked place.old) (F.asked place.new) result }
 {
@@ -91,23 +93,34 @@ fn replace<F: Filing>(place: &mut F, text: &str) -> io::Result<()>
     place.put()
 }
 
-/// Merges the rows into the readings, and gives the text of the result. Where memory runs out the rows may have been merged.
+/// Merges rows that a readings file may hold.
+fn merge(readings: &mut Readings, rows: &[Row]) -> Result<usize, AllocError>
+    requires { AreReadings rows.now }
+    ensures ok { OnOk result (readings.new ≡ merged readings.old rows.now) }
+    ensures err { OnErr result (readings.new ≡ readings.old) }
+    ensures memory { OnErr result (0 < length (added readings.old rows.now)) }
+{
+    readings.merge(rows)
+}
+
+/// Merges the rows into the readings, and returns the text of the result. If memory runs out, the rows may have been merged.
 fn merged_text(readings: &mut Readings, rows: &[Row]) -> Result<String, FilingFault>
     requires { AreReadings rows.now }
     ensures { MergesInto readings.old rows.now result readings.new }
 {
-    let _added = readings.merge(rows)?;
+    let _added = merge(readings, rows)?;
     Ok(readings.text()?)
 }
 
-/// Merges the rows of a poll that is done into the readings, and puts their text in the place of the one that stands there.
+/// Merges the rows of a finished poll into the readings, and puts their text in the place of the present one.
 pub fn keep_rows<F: Filing>(
     place: &mut F,
     readings: &mut Readings,
     rows: &[Row],
 ) -> Result<(), FilingFault>
     requires { AreReadings rows.now }
-    ensures { KeepsRows (F.asked place.old) (F.asked place.new) readings.old rows.now result readings.new }
+    ensures { KeepsRows (F.asked place.old)
+        (F.asked place.new) readings.old rows.now result readings.new }
 {
     let text = merged_text(readings, rows)?;
     match replace(place, text.as_str()) {
@@ -123,7 +136,8 @@ fn give<F: Filing, O: Output>(
     news: &[u8],
     output: &mut O,
 ) -> Result<(), FilingFault>
-    ensures { Gives (F.asked place.old) (F.asked place.new) (O.printed output.old) (O.printed output.new) text.now news.now result }
+    ensures { Gives (F.asked place.old) (F.asked place.new) (O.printed output.old)
+        (O.printed output.new) text.now news.now result }
 {
     if let Err(error) = place.lay(text) {
         return Err(FilingFault::Place(error));
@@ -138,16 +152,16 @@ fn give<F: Filing, O: Output>(
     }
 }
 
-/// What stands behind so many bytes.
+/// The bytes after the first `count`.
 pub fn bytes_behind(bytes: &[u8], count: usize) -> &[u8]
     ensures { result.now ≡ drop count bytes.now }
 {
     bytes.get(count..).unwrap_or(&[])
 }
 
-/// Merges the rows of a poll that is done into the readings, prints the lines of those that are new, and puts the text in the
-/// place of the one that stands there. A row is printed before its text stands there: whoever stops in between, or fails, has
-/// printed each row that stands there, and one that was printed and does not stand there comes again.
+/// Merges the rows of a finished poll into the readings, prints the lines of the new ones, and puts the text in the place of the
+/// present one. A row is printed before its text is put there: after a stop or an error each row in the place has been printed, and
+/// a row that was printed and is not in the place comes again.
 pub fn file_rows<F: Filing, O: Output>(
     place: &mut F,
     readings: &mut Readings,
@@ -155,7 +169,8 @@ pub fn file_rows<F: Filing, O: Output>(
     output: &mut O,
 ) -> Result<(), FilingFault>
     requires { AreReadings rows.now }
-    ensures { FilesRows (F.asked place.old) (F.asked place.new) (O.printed output.old) (O.printed output.new) readings.old rows.now result readings.new }
+    ensures { FilesRows (F.asked place.old) (F.asked place.new) (O.printed output.old)
+        (O.printed output.new) readings.old rows.now result readings.new }
 {
     let before = readings.text()?.len();
     let text = merged_text(readings, rows)?;

@@ -1,16 +1,18 @@
-//! A readings file as the place of a text: one program at a time has it, and a whole text stands there, or none.
+//! A readings file as the place of a text: one program at a time has it, and it contains a whole text, or none.
 
 ghost use Rattle.std.specs.Prelude.{◌≡◌, None, string_bytes};
 ghost use Rattle.dlms_filing.specs.Disk.{ComesToHold, Filled, GivesText, Laid, LaysBeside, LaysHeld, Locked, Puts, PutsHeld, Replaced, Stands, TakesAway, Unlays, file_in, file_of, found_in};
 
-use crate::disk::{Disk, HostDisk};
+use crate::disk::Disk;
 use crate::filing::{Filing, Holding};
+use crate::host_disk::{HostDisk, SystemDisk};
+use crate::system::HostSystem;
 use std::alloc::Global;
 use std::io;
 
-/// A readings file, once it is held: the file that its name stands for at the end of all links, be it there or not. It is locked
-/// as long as this is there, also where the program is killed: the lock is of a file beside it, to its name and `.lock`, which
-/// is made, and stays.
+/// A readings file, once it is held: the file that its name stands for at the end of all links, whether it exists or not. It is
+/// locked as long as this value exists, also if the program is killed: the lock is on a file beside it, with its name and `.lock`,
+/// which is created, and stays.
 #[derive(Drop)]
 pub struct FilePlace<D> {
     disk: D,
@@ -38,7 +40,7 @@ fn hold<D: Disk>(disk: &mut D, name: &str) -> io::Result<String>
     }
 }
 
-/// The text of the file of this path. Where there is none it is empty.
+/// The text of the file of this path. If it does not exist, the text is empty.
 fn standing<D: Disk>(disk: &mut D, alloc: Global, path: &str) -> io::Result<String>
     ensures { Stands (D.made disk.old) (D.made disk.new) path.now (found_in result string_bytes) }
 {
@@ -59,9 +61,11 @@ fn fill<D: Disk>(disk: &mut D, path: &str, text: &str) -> io::Result<()>
     }
 }
 
-/// Lays a new text beside the file of this path: its path. The file stays as it is; where a call fails, nothing stands beside it.
+/// Lays a new text beside the file of this path, and returns its path. The file stays as it is; if a call fails, nothing is left
+/// beside it.
 fn lay<D: Disk>(disk: &mut D, path: &str, text: &str) -> io::Result<String>
-    ensures { Laid (D.made disk.old) (D.made disk.new) path.now text.now (found_in result string_bytes) }
+    ensures { Laid (D.made disk.old)
+        (D.made disk.new) path.now text.now (found_in result string_bytes) }
 {
     let beside = match disk.create(path) {
         Ok(beside) => beside,
@@ -76,7 +80,7 @@ fn lay<D: Disk>(disk: &mut D, path: &str, text: &str) -> io::Result<String>
     }
 }
 
-/// Puts a text that stands beside a file in its place, and makes that outlast a stop.
+/// Puts a text from beside a file in its place, and makes that survive a power failure.
 fn replace<D: Disk>(disk: &mut D, beside: &str, path: &str) -> io::Result<()>
     ensures { Replaced (D.made disk.old) (D.made disk.new) beside.now path.now result }
 {
@@ -99,9 +103,10 @@ fn take_away<D: Disk>(disk: &mut D, held: &mut Held)
     }
 }
 
-/// Lays a text beside the file, in place of what was laid before.
+/// Lays a text beside the file, instead of the one laid before.
 fn lay_beside<D: Disk>(disk: &mut D, held: &mut Held, text: &str) -> io::Result<()>
-    ensures { LaysBeside (D.made disk.old) (D.made disk.new) text.now (file_of held.old) result (file_of held.new) }
+    ensures { LaysBeside (D.made disk.old)
+        (D.made disk.new) text.now (file_of held.old) result (file_of held.new) }
 {
     take_away(disk, held);
     match lay(disk, held.path.as_str(), text) {
@@ -115,7 +120,8 @@ fn lay_beside<D: Disk>(disk: &mut D, held: &mut Held, text: &str) -> io::Result<
 
 /// Puts what was laid in the file's place.
 fn put_laid<D: Disk>(disk: &mut D, held: &mut Held) -> io::Result<()>
-    ensures puts { Puts (D.made disk.old) (D.made disk.new) (file_of held.old).path (file_of held.old).laid result }
+    ensures puts { Puts (D.made disk.old) (D.made disk.new)
+        (file_of held.old).path (file_of held.old).laid result }
     ensures held { file_of held.new ≡ record { path = (file_of held.old).path; laid = None } }
 {
     match held.laid.take() {
@@ -125,9 +131,9 @@ fn put_laid<D: Disk>(disk: &mut D, held: &mut Held) -> io::Result<()>
 }
 
 impl<'r, R> FilePlace<HostDisk<'r, R>> {
-    /// Of the system's files; none is held.
+    /// Over the system's files; none is held.
     pub fn of(rt: &'r R) -> Self {
-        FilePlace::new(HostDisk::new(rt))
+        FilePlace::new(SystemDisk::new(HostSystem::new(rt)))
     }
 }
 
@@ -149,7 +155,8 @@ impl<D> FilePlace<D> {
 
 impl<D: Disk> Holding for FilePlace<D> {
     fn hold(&mut self, file: &str) -> io::Result<()>
-        ensures { ComesToHold (D.made self.old.disk) (D.made self.new.disk) file.now (file_in self.old.held) result (file_in self.new.held) }
+        ensures { ComesToHold (D.made self.old.disk)
+            (D.made self.new.disk) file.now (file_in self.old.held) result (file_in self.new.held) }
     {
         match hold(&mut self.disk, file) {
             Ok(path) => {
@@ -164,7 +171,8 @@ impl<D: Disk> Holding for FilePlace<D> {
 impl<D: Disk> Filing for FilePlace<D> {
     fn text(&mut self, alloc: Global) -> io::Result<String>
         ensures held { self.new.held ≡ self.old.held }
-        ensures text { GivesText (D.made self.old.disk) (D.made self.new.disk) (file_in self.old.held) (found_in result string_bytes) }
+        ensures text { GivesText (D.made self.old.disk) (D.made self.new.disk)
+            (file_in self.old.held) (found_in result string_bytes) }
     {
         match &self.held {
             Some(held) => standing(&mut self.disk, alloc, held.path.as_str()),
@@ -172,9 +180,10 @@ impl<D: Disk> Filing for FilePlace<D> {
         }
     }
 
-    /// Where a call fails, nothing stands beside the file.
+    /// If a call fails, nothing is left beside the file.
     fn lay(&mut self, text: &str) -> io::Result<()>
-        ensures { LaysHeld (D.made self.old.disk) (D.made self.new.disk) text.now (file_in self.old.held) result (file_in self.new.held) }
+        ensures { LaysHeld (D.made self.old.disk)
+            (D.made self.new.disk) text.now (file_in self.old.held) result (file_in self.new.held) }
     {
         let Some(held) = self.held.take() else {
             return Ok(());
@@ -187,7 +196,8 @@ impl<D: Disk> Filing for FilePlace<D> {
 
     /// A stop at any moment leaves the old text or the new one, whole.
     fn put(&mut self) -> io::Result<()>
-        ensures { PutsHeld (D.made self.old.disk) (D.made self.new.disk) (file_in self.old.held) result (file_in self.new.held) }
+        ensures { PutsHeld (D.made self.old.disk) (D.made self.new.disk)
+            (file_in self.old.held) result (file_in self.new.held) }
     {
         let Some(held) = self.held.take() else {
             return Ok(());
@@ -199,7 +209,8 @@ impl<D: Disk> Filing for FilePlace<D> {
     }
 
     fn drop_laid(&mut self)
-        ensures { Unlays (D.made self.old.disk) (D.made self.new.disk) (file_in self.old.held) (file_in self.new.held) }
+        ensures { Unlays (D.made self.old.disk) (D.made self.new.disk) (file_in self.old.held)
+            (file_in self.new.held) }
     {
         let Some(held) = self.held.take() else {
             return;

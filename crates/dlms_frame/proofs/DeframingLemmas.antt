@@ -1,4 +1,4 @@
--- A frame at the end of a window, and what is kept of it.
+-- A frame at the end of a window, and the bytes that are kept of it.
 use Rattle.std.proofs.Common.{◌≡◌, ℕ, ◌+◌, ◌-◌, ◌≤◌, ◌/◌, ◌%◌, Bool, List, [], ◌∷◌, ◌++◌, length, take, drop, refl, sym, ap, subst, ◌∙◌, arith, Option, Some, None, option_map, append_assoc, length-append}
 use Rattle.std.proofs.Math.Seq.{drop-append_seam, take-append_seam}
 use Rattle.std.proofs.lemmas.List.{drop-drop, length-drop, append-nil}
@@ -13,13 +13,13 @@ use Rattle.dlms_frame.proofs.FrameLemmas.{length-checked}
 some_none : {A : Type 0} {x : A} → Some x ≡ None → ⊥
 some_none e = cc
 
--- where no frame has ended, the window is what is kept
+-- if no frame has ended, the window is kept
 pub opened : (w : List ℕ) (found : Option Found) (v : Kept) → record { bytes = left_of w found; frame = option_map (parts_in w) found } ≡ v → v.frame ≡ None → EndsIn w found
     → (w ≡ v.bytes) × (length w ≤ 2048) × (found ≡ None)
 opened w None v is none fits = (ap (λ (k : Kept). k.bytes) is, fits, refl)
 opened w (Some f) v is none fits = absurd (some_none (ap (λ (k : Kept). k.frame) is ∙ none))
 
--- the bytes of a frame with information, which stands before its check and a flag
+-- the bytes of a frame with information, which is followed by its check and a flag
 with_info : (front info : List ℕ) → 1 ≤ length info → (before : List ℕ) × (after : List ℕ) × (length after ≡ 3) × (126 ∷ (body_with front info ++ 126 ∷ []) ≡ before ++ (info ++ after))
 unfolding checked
 with_info front [] some = absurd (omega arith)

@@ -82,7 +82,7 @@ next_stays s more place i j f last next = record {
   longest = λ i' g after at. next.longest i' g after (frame_in_front s more i' j g at (omega arith));
 }
 
--- one call, and what the others give
+-- one call, and the results of the others
 one_more : (old mid s taken : List ℕ) (found : Option Parts) (place : ℕ) (calls : List Call) → Fits old s place → Takes old taken found mid
     → ((t : List ℕ) (q : ℕ) → Fits mid t q → FramesOf (t ++ bytes_of calls) q (frames_of calls))
     → FramesOf (s ++ (taken ++ bytes_of calls)) place (frames_of (record { taken = taken; found = found } ∷ calls))

@@ -107,7 +107,7 @@ none_between : (bytes : List ℕ) (to n place k : ℕ) (f : Parts) → to ≤ le
 none_between bytes to n place k f within is le lt h =
     omega (arith, latest_above bytes n (to - 1) k lt (frame_end bytes k to f within h))
 
--- a best from n on is one from an earlier place, where none stands between
+-- a best from n on is one from an earlier place, if none is between
 Best-earlier : (bytes : List ℕ) (from to m n : ℕ) (best : Option Parts) → m ≤ n → ((k : ℕ) (f : Parts) → from ≤ k → m ≤ k → k < n → FrameSpelling (drop k (take to bytes)) f → ⊥)
     → Best bytes from to n best → Best bytes from to m best
 Best-earlier bytes from to m n None le none b = λ k f after late h. elim (cases_lt k n) [ inl lt ↦ none k f after late lt h | inr ge ↦ b k f after ge h ]

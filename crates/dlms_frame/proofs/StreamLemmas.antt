@@ -15,7 +15,7 @@ same_front a b x y len e = (
   sym (drop_at a x (length b) len) ∙ ap (λ t. drop (length b) t) e ∙ drop_at b y (length b) refl,
 )
 
--- where a frame stands there is room for it
+-- if a frame is there, there is space for it
 pub frame_room : (s : List ℕ) (i j : ℕ) (f : Parts) → FrameAt s i j f → j < length s
 frame_room s i j f at =
     let len : length s - i ≡ length (spelling f) + length at.after = sym (length-drop i s) ∙ ap length at.text ∙ length-append (spelling f) at.after in
@@ -23,7 +23,7 @@ frame_room s i j f at =
     let e : i + length (spelling f) ≡ j + 1 = at.ends in
     omega arith
 
--- a frame that ends in the front stands in the front
+-- a frame that ends in the front is in the front
 pub frame_in_front : (s more : List ℕ) (i j : ℕ) (f : Parts) → FrameAt (s ++ more) i j f → j < length s → FrameAt s i j f
 frame_in_front s more i j f at within =
     let e : i + length (spelling f) ≡ j + 1 = at.ends in
@@ -59,7 +59,7 @@ frame_at_end s i j f at last =
 kept_push : (kept s : List ℕ) (place byte : ℕ) (fits : Fits kept s place) → kept ++ byte ∷ [] ≡ drop fits.gone (s ++ byte ∷ [])
 kept_push kept s place byte fits = ap (λ t. t ++ byte ∷ []) fits.bytes ∙ sym (drop-append-le fits.gone s (byte ∷ []) fits.within)
 
--- a frame that ends with the byte is an end of what is kept
+-- a frame that ends with the byte is a tail of the kept bytes
 pub seen_in_kept : (kept s : List ℕ) (place byte i : ℕ) (f : Parts) (fits : Fits kept s place) → fits.gone ≤ i
     → FrameAt (s ++ byte ∷ []) i (length s) f → FrameSpelling (drop (i - fits.gone) (kept ++ byte ∷ [])) f
 seen_in_kept kept s place byte i f fits le at =
@@ -197,7 +197,7 @@ spelling_front f after =
     let parts = body_parts f in
     (_, ap (λ t. 126 ∷ (t ++ 126 ∷ [] ++ after)) parts.1)
 
--- so many bytes as no frame has
+-- more bytes than a frame can have
 pub over_by_size : (bytes : List ℕ) → 2049 ≤ length bytes → IsOver bytes
 over_by_size bytes long f more after fits text =
     let short : frame_len f ≤ 2047 = fits.len in

@@ -18,7 +18,8 @@ pub record Parts : Type 0 where
 abbrev pub address_bytes : Address → List ℕ
 address_bytes (One part) = (2 * part + 1) ∷ []
 address_bytes (Two high low) = 2 * high ∷ (2 * low + 1) ∷ []
-address_bytes (Four high low) = 2 * (high / 128) ∷ 2 * (high % 128) ∷ 2 * (low / 128) ∷ (2 * (low % 128) + 1) ∷ []
+address_bytes (Four high low) = 2 * (high / 128) ∷ 2 * (high % 128) ∷ 2 * (low / 128)
+    ∷ (2 * (low % 128) + 1) ∷ []
 
 -- each part has its bits
 abbrev pub IsAddress : Address → Type 0
@@ -45,10 +46,17 @@ segment_bit true = 8
 
 -- 1010, the segmentation bit and 11 bits of length, the addresses and the control byte
 abbrev pub header_bytes : Header → List ℕ
-header_bytes h = (0xA0 + segment_bit h.segmented + h.len / 256) ∷ h.len % 256 ∷ (address_bytes h.dest ++ (address_bytes h.src ++ h.control ∷ []))
+header_bytes h = (0xA0 + segment_bit h.segmented + h.len / 256) ∷ h.len % 256
+    ∷ (address_bytes h.dest ++ (address_bytes h.src ++ h.control ∷ []))
 
 abbrev pub header_of : Parts → Header
-header_of f = record { segmented = f.segmented; len = frame_len f; dest = f.dest; src = f.src; control = f.control }
+header_of f = record {
+  segmented = f.segmented;
+  len = frame_len f;
+  dest = f.dest;
+  src = f.src;
+  control = f.control;
+}
 
 -- what a header keeps to
 pub record IsHeader (h : Header) : Type 0 where
@@ -56,11 +64,11 @@ pub record IsHeader (h : Header) : Type 0 where
   pub src : IsAddress h.src
   pub len : h.len ≤ 2047
 
--- the bytes, and behind them their check
+-- the bytes, followed by their check
 unfoldable pub checked : List ℕ → List ℕ
 checked bytes = bytes ++ (check_of bytes % 256 ∷ check_of bytes / 256 ∷ [])
 
--- the information, if any, stands behind the checked header, and a check behind it
+-- the information, if any, follows the checked header and is followed by a check
 abbrev pub body_with : List ℕ → List ℕ → List ℕ
 body_with front [] = checked front
 body_with front (x ∷ xs) = checked (checked front ++ x ∷ xs)

@@ -4,7 +4,7 @@ use Rattle.std.specs.Prelude.{◌≡◌, ℕ, ◌+◌, ◌≤◌, List, [], ◌�
 use Rattle.std.specs.List.{flat_map, filter_map}
 use Rattle.dlms_frame.specs.Frame.{Parts, IsFrame, FrameSpelling, spelling}
 
--- A frame stands in the stretch, its opening flag at i and its closing flag at j.
+-- A frame is in the stretch, with its opening flag at i and its closing flag at j.
 pub record FrameAt (stretch : List ℕ) (i j : ℕ) (f : Parts) : Type 0 where
   pub fits : IsFrame f
   pub after : List ℕ
@@ -22,31 +22,36 @@ pub record IsNext (stretch : List ℕ) (place i j : ℕ) (f : Parts) : Type 0 wh
 -- the frames of the stretch from the place on, each searched for from the closing flag of the one before
 abbrev pub FramesOf : List ℕ → ℕ → List Parts → Type 0
 FramesOf stretch place [] = (i j : ℕ) (f : Parts) → place ≤ i → FrameAt stretch i j f → ⊥
-FramesOf stretch place (f ∷ fs) = (i : ℕ) × (j : ℕ) × IsNext stretch place i j f × FramesOf stretch j fs
+FramesOf stretch place (f ∷ fs) = (i : ℕ) × (j : ℕ) × IsNext stretch place i j f
+    × FramesOf stretch j fs
 
--- What is kept fits a stretch that has come, and a place in it: however the stretch goes on, each frame from the place
--- on begins in the kept bytes or later, and has not ended.
+-- The kept bytes fit a stretch that has arrived, and a place in it: whatever bytes follow, each frame from the place on begins in
+-- the kept bytes or later, and has not ended.
 pub record Fits (kept stretch : List ℕ) (place : ℕ) : Type 0 where
   pub gone : ℕ
   pub behind : place ≤ gone
   pub within : gone ≤ length stretch
   pub bytes : kept ≡ drop gone stretch
-  pub awaited : (more : List ℕ) (i j : ℕ) (f : Parts) → place ≤ i → FrameAt (stretch ++ more) i j f → (gone ≤ i) × (length stretch ≤ j)
+  pub awaited : (more : List ℕ) (i j : ℕ) (f : Parts) → place ≤ i → FrameAt (stretch ++ more) i j f
+      → (gone ≤ i) × (length stretch ≤ j)
 
--- What a deframer keeps: the bytes in which frames may begin, and the frame that its last call ended, if it ended one.
+-- The state of a deframer: the bytes in which frames may begin, and the frame that its last call ended, if any.
 pub record Kept : Type 0 where
   pub bytes : List ℕ
   pub frame : Option Parts
 
--- What a call did with the bytes that it took, at every stretch that fits.
+-- What a call did with the bytes that it took, for every stretch that fits.
 abbrev pub Takes : List ℕ → List ℕ → Option Parts → List ℕ → Type 0
-Takes old taken None new = (stretch : List ℕ) (place : ℕ) → Fits old stretch place → Fits new (stretch ++ taken) place
+Takes old taken None new = (stretch : List ℕ) (place : ℕ) → Fits old stretch place
+    → Fits new (stretch ++ taken) place
 Takes old taken (Some f) new = (stretch : List ℕ) (place : ℕ) → Fits old stretch place
-    → (i : ℕ) × (j : ℕ) × (j + 1 ≡ length (stretch ++ taken)) × IsNext (stretch ++ taken) place i j f × Fits new (stretch ++ taken) j
+    → (i : ℕ) × (j : ℕ) × (j + 1 ≡ length (stretch ++ taken))
+    × IsNext (stretch ++ taken) place i j f × Fits new (stretch ++ taken) j
 
 -- Each frame that begins with these bytes, however it goes on, has ended within them.
 abbrev pub IsOver : List ℕ → Type 0
-IsOver bytes = (f : Parts) (more after : List ℕ) → IsFrame f → bytes ++ more ≡ spelling f ++ after → length (spelling f) ≤ length bytes
+IsOver bytes = (f : Parts) (more after : List ℕ) → IsFrame f → bytes ++ more ≡ spelling f ++ after
+    → length (spelling f) ≤ length bytes
 
 -- from k on the bytes are this frame, and from no earlier place any other
 pub record IsLongest (bytes : List ℕ) (k : ℕ) (f : Parts) : Type 0 where
@@ -62,10 +67,11 @@ pub record Call : Type 0 where
   pub taken : List ℕ
   pub found : Option Parts
 
--- These calls, one after another, may lead from what was kept before to what is kept after.
+-- These calls, one after another, may lead from the bytes kept before to those kept after.
 abbrev pub Feeds : List ℕ → List Call → List ℕ → Type 0
 Feeds old [] new = new ≡ old
-Feeds old (call ∷ calls) new = (mid : List ℕ) × Takes old call.taken call.found mid × Feeds mid calls new
+Feeds old (call ∷ calls) new = (mid : List ℕ) × Takes old call.taken call.found mid
+    × Feeds mid calls new
 
 -- the bytes of the calls, one after another
 abbrev pub bytes_of : List Call → List ℕ

@@ -1,4 +1,4 @@
-//! A buffer that knows where the frames that open in it would end.
+//! A buffer with the ends of the frames that open in it.
 ghost use Rattle.std.specs.Prelude.{◌≡◌, ◌+◌, ◌-◌, ◌<◌, ◌≤◌, List, ℕ, [], ◌∷◌, ◌++◌, length, take, drop, IfSome, IfNone};
 ghost use Rattle.dlms_frame.specs.Frame.{Parts, FrameSpelling};
 ghost use Rattle.dlms_frame.specs.Stream.{IsLongest};
@@ -18,7 +18,7 @@ struct Index {
     links: [u16; ROOM],
 }
 
-/// The place of the closing flag of a frame that opens at `start`; 0 where none can open.
+/// The place of the closing flag of a frame that opens at `start`; 0 if none can open there.
 fn end_at(bytes: &[u8; ROOM], start: usize) -> usize
     requires { start + 2 < 4096 }
     ensures { result ≡ end_of bytes.now start }
@@ -61,7 +61,8 @@ fn longest<'a>(bytes: &'a [u8; ROOM], index: &Index, from: usize, to: usize) -> 
     requires within { to ≤ 4096 }
     requires noted { IsIndex bytes.now index.now.heads index.now.links (to - 2) }
     ensures found { IfSome result (λ f. (k : ℕ) × IsLongest (drop from (take to bytes.now)) k f) }
-    ensures none { IfNone result ((k : ℕ) (f : Parts) → FrameSpelling (drop k (drop from (take to bytes.now))) f → ⊥) }
+    ensures none { IfNone result ((k : ℕ) (f : Parts)
+        → FrameSpelling (drop k (drop from (take to bytes.now))) f → ⊥) }
 {
     if to < 2 || bytes[to - 1] != FLAG {
         return None;
@@ -155,7 +156,8 @@ impl Buffer {
     pub(crate) fn last_frame(&self, from: usize) -> Option<Frame<'_>>
         requires { from ≤ length self.now }
         ensures found { IfSome result (λ f. (k : ℕ) × IsLongest (drop from self.now) k f) }
-        ensures none { IfNone result ((k : ℕ) (f : Parts) → FrameSpelling (drop k (drop from self.now)) f → ⊥) }
+        ensures none { IfNone result ((k : ℕ) (f : Parts)
+            → FrameSpelling (drop k (drop from self.now)) f → ⊥) }
     {
         longest(&self.bytes, &self.index, from, self.len)
     }

@@ -8,7 +8,7 @@ use crate::reading::FLAG;
 use crate::window::Window;
 use std::marker::Model;
 
-/// Drops the first byte where there are more bytes than a frame has: a frame that begins there has ended.
+/// Drops the first byte if there are more bytes than a frame can have: a frame that begins there has ended.
 fn shrink(window: &mut Window)
     requires { length window.old ≤ 2049 }
     ensures keeps { Keeps window.old window.new }
@@ -19,7 +19,8 @@ fn shrink(window: &mut Window)
     }
 }
 
-/// What stands before a frame's information, and how much information it has: it ends three bytes before the end of the window.
+/// The part of a frame before its information, and the length of the information, which ends three bytes before the end of the
+/// window.
 #[derive(Clone, Copy)]
 struct Found {
     segmented: bool,
@@ -31,9 +32,9 @@ struct Found {
 
 /// Finds the frames of a stream that comes in pieces.
 ///
-/// It looks for frames in at most the last 2,048 bytes, and keeps a table of where the frames that open among them would end: so
-/// no input costs more than a bounded work a byte. It is about 20 KB, on the stack. The frame that a call ended stands in it until
-/// the next call, and is lent from it.
+/// Looks for frames in at most the last 2,048 bytes, and keeps a table of the ends of the frames that open in them, so that the
+/// work per byte is bounded for every input. It takes about 20 KB on the stack. The frame that a call ended stays in it until the
+/// next call, and is borrowed from it.
 #[derive(Drop)]
 pub struct Deframer {
     window: Window,

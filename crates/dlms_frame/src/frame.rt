@@ -15,7 +15,7 @@ pub enum Address {
     Four(u16, u16),
 }
 
-/// What stands before the information.
+/// The part of a frame before the information.
 #[derive(Clone, Copy)]
 pub(crate) struct Header {
     pub(crate) segmented: bool,
@@ -104,7 +104,13 @@ impl<'a> Frame<'a> {
         requires dest { IsAddress dest }
         requires src { IsAddress src }
         requires short { length info.now ≤ 2032 }
-        ensures { result ≡ record { segmented = segmented; dest = dest; src = src; control = control; info = info.now } }
+        ensures { result ≡ record {
+          segmented = segmented;
+          dest = dest;
+          src = src;
+          control = control;
+          info = info.now;
+        } }
     {
         Frame {
             segmented,
@@ -127,7 +133,7 @@ impl<'a> Frame<'a> {
         3 + self.dest.len() + self.src.len() + tail
     }
 
-    /// The same frame with information of its own, where it is no more than a frame has that an end sends.
+    /// The same frame with its own copy of the information, if that is no more than an end sends in a frame.
     pub fn owned(&self) -> Option<SentFrame>
         ensures same { IfSome result (λ frame. frame ≡ self.now) }
         ensures none { IfNone result (MOST_SENT < length self.now.info) }
@@ -162,7 +168,13 @@ impl SentFrame {
         requires dest { IsAddress dest }
         requires src { IsAddress src }
         requires short { length info.now ≤ MOST_SENT }
-        ensures { result ≡ record { segmented = segmented; dest = dest; src = src; control = control; info = info.now } }
+        ensures { result ≡ record {
+          segmented = segmented;
+          dest = dest;
+          src = src;
+          control = control;
+          info = info.now;
+        } }
     {
         let mut own = ArrayVec::new();
         let _ = own.try_extend_from_slice(info);

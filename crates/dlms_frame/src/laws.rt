@@ -7,20 +7,24 @@ ghost use Rattle.dlms_frame.specs.declared.reading.TheConstants.{FLAG, FORMAT};
 
 /// The check is what the division by x^16 + x^12 + x^5 + 1 leaves, inverted.
 pub fn division()
-    ensures some { (bytes : List ℕ) → (left : List Bool) × IsRemainder (dividend_of (line_bits bytes)) left }
-    ensures check { (bytes : List ℕ) (left : List Bool) → IsRemainder (dividend_of (line_bits bytes)) left
+    ensures some { (bytes : List ℕ)
+        → (left : List Bool) × IsRemainder (dividend_of (line_bits bytes)) left }
+    ensures check { (bytes : List ℕ) (left : List Bool)
+        → IsRemainder (dividend_of (line_bits bytes)) left
         → check_of bytes ≡ from_bits (map not left) }
 {}
 
 /// Bytes are one frame at most, and a frame has one spelling.
 pub fn one_spelling()
-    ensures frame { (bytes : List ℕ) (f g : Parts) → FrameSpelling bytes f → FrameSpelling bytes g → f ≡ g }
+    ensures frame { (bytes : List ℕ) (f g : Parts) → FrameSpelling bytes f → FrameSpelling bytes g
+        → f ≡ g }
     ensures spelling { (a b : List ℕ) (f : Parts) → FrameSpelling a f → FrameSpelling b f → a ≡ b }
 {}
 
 /// A stretch has one list of frames.
 pub fn one_list()
-    ensures { (stretch : List ℕ) (place : ℕ) (fs gs : List Parts) → FramesOf stretch place fs → FramesOf stretch place gs → fs ≡ gs }
+    ensures { (stretch : List ℕ) (place : ℕ) (fs gs : List Parts) → FramesOf stretch place fs
+        → FramesOf stretch place gs → fs ≡ gs }
 {}
 
 /// However the stretch is cut, the calls give its frames.

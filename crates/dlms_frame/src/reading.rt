@@ -7,7 +7,7 @@ ghost use Rattle.dlms_frame.specs.Frame.{Parts, FrameSpelling, IsFrame, IsAddres
 use crate::division::check;
 use crate::frame::{Address, Frame, Header};
 
-/// The octet before and behind a frame (IEC 62056-46, the flag).
+/// The octet before and after a frame (IEC 62056-46, the flag).
 pub(crate) const FLAG: u8 = 0x7e;
 
 /// The format of every frame, the high half of its first octet (IEC 62056-46, the frame format field: type 3).
@@ -25,8 +25,10 @@ fn is_checked(bytes: &[u8]) -> bool
 
 /// The address at the front, and the bytes after it.
 fn read_address(bytes: &[u8]) -> Option<(Address, &[u8])>
-    ensures found { IfSome result (λ r. IsAddress r.0 × (bytes.now ≡ address_bytes r.0 ++ r.1.now)) }
-    ensures none { IfNone result ((address : AddressOf) (rest : List ℕ) → bytes.now ≡ address_bytes address ++ rest → ⊥) }
+    ensures found { IfSome result (λ r. IsAddress r.0
+        × (bytes.now ≡ address_bytes r.0 ++ r.1.now)) }
+    ensures none { IfNone result ((address : AddressOf) (rest : List ℕ)
+        → bytes.now ≡ address_bytes address ++ rest → ⊥) }
 {
     let (first, rest) = bytes.split_first()?;
     if *first % 2 == 1 {
@@ -49,7 +51,8 @@ fn read_address(bytes: &[u8]) -> Option<(Address, &[u8])>
 /// The header at the front, and the bytes after it.
 fn read_header(bytes: &[u8]) -> Option<(Header, &[u8])>
     ensures found { IfSome result (λ r. IsHeader r.0 × (bytes.now ≡ header_bytes r.0 ++ r.1.now)) }
-    ensures none { IfNone result ((header : HeaderOf) (rest : List ℕ) → IsHeader header → bytes.now ≡ header_bytes header ++ rest → ⊥) }
+    ensures none { IfNone result ((header : HeaderOf) (rest : List ℕ) → IsHeader header
+        → bytes.now ≡ header_bytes header ++ rest → ⊥) }
 {
     let (high, rest) = bytes.split_first()?;
     let (low, rest) = rest.split_first()?;
@@ -73,11 +76,12 @@ fn read_header(bytes: &[u8]) -> Option<(Header, &[u8])>
     ))
 }
 
-/// The information behind a header of `at` bytes.
+/// The information after a header of `at` bytes.
 fn info_of(bytes: &[u8], at: usize) -> Option<&[u8]>
     requires { at ≤ length bytes.now }
     ensures found { IfSome result (λ info. bytes.now ≡ body_with (take at bytes.now) info.now) }
-    ensures none { IfNone result ((info : List ℕ) → bytes.now ≡ body_with (take at bytes.now) info → ⊥) }
+    ensures none { IfNone result ((info : List ℕ) → bytes.now ≡ body_with (take at bytes.now) info
+        → ⊥) }
 {
     let n = bytes.len();
     let rest = n - at;

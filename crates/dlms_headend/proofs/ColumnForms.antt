@@ -154,7 +154,7 @@ whole_told v w vs b same told = subst (λ (u : Value). IsThis b u w) (sym same) 
 
 -- ---- an answer
 
--- what the bytes tell, where the answer is data
+-- the meaning of the bytes, if the answer is data
 told_form : (read : Result ResponseForm Refusal) (invoke : ℕ) (v : Value) (result : Result (Unit {0}) PollFault) → read ≡ Ok (get_data invoke v) → MatchResult result (λ _. v ≡ columns) (λ fault. (fault ≡ OtherColumns) × (v ≡ columns → ⊥))
     → MatchResult result (λ _. TellsBy read) (λ fault. MissesBy read fault)
 told_form read invoke v result e told = subst (λ (r : Result ResponseForm Refusal). MatchResult result (λ _. TellsBy r) (λ fault. MissesBy r fault)) (sym e) told

@@ -1,4 +1,4 @@
--- Numbers in plain decimal, and the separators behind them.
+-- Numbers in plain decimal, and the separators after them.
 use Rattle.std.proofs.Common.{arith, refl, sym, subst, ap, ◌∙◌, ◌≡◌, ◌≢◌, ◌<◌, ◌+◌, ◌^◌, ℕ, List, [], ◌∷◌, ◌++◌, length, get_or, take, zero, suc, length-append, true, Result, Ok, Err, Option, IfSome, IfNone, false}
 use Rattle.std.specs.Result.{result_ok}
 use Rattle.std.proofs.lemmas.Bool.Decides.{nat_tests}
@@ -72,7 +72,7 @@ lacks-append separator (b ∷ bytes) byte h k = (h.0, lacks-append separator byt
 pub lacks-more : (separator : ℕ) (bytes : List ℕ) (at : ℕ) → at < length bytes → Lacks separator (take at bytes) → get_or bytes at 0 ≢ separator → Lacks separator (take (at + 1) bytes)
 lacks-more separator bytes at within h k = subst (Lacks separator) (sym (take_more bytes at 0 within)) (lacks-append separator (take at bytes) (get_or bytes at 0) h k)
 
--- what stands before the first separator, and behind it
+-- the parts before and after the first separator
 pub same_parts : (separator : ℕ) (a b c d : List ℕ) → Lacks separator a → Lacks separator c → a ++ separator ∷ b ≡ c ++ separator ∷ d → (a ≡ c) × (b ≡ d)
 same_parts separator [] b [] d h k e = (refl, cc)
 same_parts separator [] b (x ∷ c) d h k e = absurd (k.0 (cc))

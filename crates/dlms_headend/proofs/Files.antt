@@ -1,9 +1,12 @@
 -- Lines and files.
 use Rattle.std.proofs.Common.{arith, refl, sym, ap, ◌∙◌, ◌≡◌, ◌<◌, ◌≤◌, ◌+◌, ◌^◌, ℕ, List, [], ◌∷◌, ◌++◌, length, append_assoc, All, length-append, slice_index, take, get_or, zero, suc, Bool, true, false, filter, if◌then◌else◌, subst, IfErr, OnErr, Result, Ok, Err, MatchResult}
-use Rattle.std.proofs.lemmas.List.Elements.{All-push, All-head, All-tail}
+use Rattle.std.proofs.lemmas.Bool.Decides.{nat_tests}
+use Rattle.std.proofs.lemmas.List.Elements.{All-cons, All-nil, All-push, All-head, All-tail}
+use Rattle.std.specs.Prelude.{Option}
 use Rattle.dlms_headend.specs.declared.row.Row.{Row}
 use Rattle.dlms_headend.proofs.Fields.{same_field, field_is_longer}
-use Rattle.dlms_headend.specs.Rows.{IsReading}
+use Rattle.dlms_headend.specs.Merged.{is_added, is_later, is_reading, readings_in}
+use Rattle.dlms_headend.specs.Rows.{AreReadings, HaveRegisters, IsReading}
 use Rattle.dlms_headend.specs.Lines.{field, line, lines, text_of, IsFile, BeginsWith, IsFirstFault, Refuses}
 use Rattle.dlms_headend.specs.declared.readings_fault.ReadingsFault.{ReadingsFault}
 use Rattle.dlms_headend.specs.declared.readings_fault.ReadingsFault.TheVariants.{Line, Memory}
@@ -46,7 +49,7 @@ first_parts bytes behind rest n row fits h e f = same_field n (slice_index row.r
 pub second_parts : (bytes behind rest : List ℕ) (n : ℕ) (row : Row) → n < 2 ^ 32 → IsReading row → bytes ≡ after_first row rest → bytes ≡ field n 44 behind → (n ≡ slice_index row.registers 1) × (behind ≡ after_second row rest)
 second_parts bytes behind rest n row fits h e f = same_field n (slice_index row.registers 1) 44 behind (after_second row rest) (omega arith) fits (register row h 1 (omega arith)) (sym f ∙ e)
 
--- where a field is missing the bytes begin with no line
+-- if a field is missing the bytes begin with no line
 pub no_clock : (bytes rest : List ℕ) (row : Row) → ((n : ℕ) (more : List ℕ) → n < 2 ^ 32 → bytes ≡ field n 44 more → ⊥) → BeginsWith bytes row rest → ⊥
 no_clock bytes rest row none h = none row.clock (after_clock row rest) (clock_fits row h.reading) h.spelled
 
@@ -99,7 +102,7 @@ read_all text (b ∷ rest) count h none = absurd (omega arith)
 pub read_fault : (text rest : List ℕ) (count : ℕ) → HasRead text count rest → 0 < length rest → ((row : Row) (behind : List ℕ) → BeginsWith rest row behind → ⊥) → IsFirstFault text (count + 1)
 read_fault text rest count h more none = record { rows = h.rows; rest = rest; spelled = h.spelled; readings = h.readings; counted = omega (arith, h.counted); more = more; no_line = none }
 
--- a row is told by its clock and its three registers
+-- its clock and its three registers determine a row
 same_registers : (xs ys : List ℕ) → length xs ≡ 3 → length ys ≡ 3 → slice_index xs 0 ≡ slice_index ys 0 → slice_index xs 1 ≡ slice_index ys 1 → slice_index xs 2 ≡ slice_index ys 2 → xs ≡ ys
 same_registers (a ∷ b ∷ c ∷ []) (d ∷ e ∷ f ∷ []) h k p q r = cc
 same_registers _ _ h k p q r = absurd (omega arith)
@@ -132,7 +135,7 @@ same_rows text (x ∷ xs) (y ∷ ys) h k =
     let rest : xs ≡ ys = same_rows (text_of xs) xs ys (record { spelled = refl; readings = All-tail IsReading x xs h.readings }) (record { spelled = same.1; readings = All-tail IsReading y ys k.readings }) in
     cc (same.0, rest)
 
--- where a line is missing there is no file
+-- if a line is missing there is no file
 no_file-at : (text : List ℕ) (xs ys : List Row) (rest : List ℕ) → text ≡ lines xs rest → All IsReading xs → 0 < length rest → ((row : Row) (behind : List ℕ) → BeginsWith rest row behind → ⊥) → IsFile text ys → ⊥
 no_file-at text [] [] rest e h more none k = let nothing : rest ≡ [] = sym e ∙ k.spelled in omega (arith, more, ap length nothing)
 no_file-at text [] (y ∷ ys) rest e h more none k = none y (text_of ys) (record { spelled = sym e ∙ k.spelled; reading = All-head IsReading y ys k.readings })
@@ -191,6 +194,38 @@ passes_some passes [] i d within is = absurd (omega arith)
 passes_some passes (row ∷ rows) zero d within is = rw is (omega arith)
 passes_some passes (row ∷ rows) (suc i) d within is =
     elim (passes row) as (λ (b : Bool). 0 < length (if b then row ∷ filter passes rows else filter passes rows)) [ true ↦ omega arith | false ↦ passes_some passes rows i d (omega arith) is ]
+
+-- the rows that are added are the later ones of the readings
+pub added_are : (last : Option ℕ) (rows : List Row) → filter (is_added last) rows ≡ filter (is_later last) (readings_in rows)
+added_are last [] = refl
+added_are last (row ∷ rows) = one (is_reading row) refl (added_are last rows)
+  where
+    one : (b : Bool) → is_reading row ≡ b → filter (is_added last) rows ≡ filter (is_later last) (readings_in rows) → filter (is_added last) (row ∷ rows) ≡ filter (is_later last) (readings_in (row ∷ rows))
+    one true e same = rw (e, same) refl
+    one false e same = rw (e, same) refl
+
+-- a row that passes the test is a reading
+reading_is : (row : Row) → is_reading row ≡ true → (length row.registers ≡ 3) × All (λ register. register < 2 ^ 32) row.registers → IsReading row
+reading_is row e h = record { clock = grind (arith, nat_tests, e); count = h.0; registers = h.1 }
+
+pub readings_are : (rows : List Row) → HaveRegisters rows → AreReadings (readings_in rows)
+readings_are [] h = All-nil IsReading
+readings_are (row ∷ rows) h = one (is_reading row) refl (readings_are rows (All-tail (λ (r : Row). (length r.registers ≡ 3) × All (λ register. register < 2 ^ 32) r.registers) row rows h))
+  where
+    first : (length row.registers ≡ 3) × All (λ register. register < 2 ^ 32) row.registers
+    first = All-head (λ (r : Row). (length r.registers ≡ 3) × All (λ register. register < 2 ^ 32) r.registers) row rows h
+
+    one : (b : Bool) → is_reading row ≡ b → AreReadings (readings_in rows) → AreReadings (readings_in (row ∷ rows))
+    one true e rest = rw e (All-cons IsReading row (readings_in rows) (reading_is row e first) rest)
+    one false e rest = rw e rest
+
+-- of readings each one is a reading
+pub all_readings : (rows : List Row) → AreReadings rows → readings_in rows ≡ rows
+all_readings [] h = refl
+all_readings (row ∷ rows) h =
+    let low : row.clock ≤ LAST_SECOND = (All-head IsReading row rows h).clock in
+    let first : is_reading row ≡ true = grind (arith, nat_tests, low) in
+    rw (first, all_readings rows (All-tail IsReading row rows h)) refl
 
 -- ---- what is read of a text
 

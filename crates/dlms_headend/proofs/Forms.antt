@@ -150,7 +150,7 @@ module _ (vs ws xs ys zs : Values) (a b c d : Value) where
   pub four_there : vs ≡ cons a ws → ws ≡ cons b xs → xs ≡ cons c ys → ys ≡ cons d zs → vs ≡ cons a (cons b (cons c (cons d zs)))
   four_there e f g h = e ∙ ap (cons a) (f ∙ ap (cons b) (g ∙ ap (cons c) h))
 
--- none stands in no byte, and some in some
+-- none is in no byte, and some in some
 pub none_stands : (vs : Values) (bytes : List ℕ) → StandIn bytes vs → bytes ≡ [] → vs ≡ none
 none_stands none bytes stand e = refl
 none_stands (cons v vs) bytes stand e =

@@ -45,7 +45,7 @@ due_goes-at plan apdus Leaving blocks rows link new frame h d = leaves rows h d.
 pub due_goes : (plan : PlanValue) (apdus : List (List ℕ)) (talk : TalkValue) (link new : ClientRecord) (frame : Parts) → FitsTalk plan.columns talk apdus → IsDue plan talk.stage link frame new → Goes plan apdus link frame new
 due_goes plan apdus talk link new frame h d = due_goes-at plan apdus talk.stage talk.blocks talk.rows link new frame h d
 
--- where the link stands then
+-- the link's phase then
 pub due_stands : (plan : PlanValue) (stage : Stage) (link new : ClientRecord) (frame : Parts) → IsIdle link → IsDue plan stage link frame new → StandsAt stage new.phase
 due_stands plan Associating link new frame idle d = inr (ap (λ (c : ClientRecord). c.phase) d.2 ∙ idle.0)
 due_stands plan Naming link new frame idle d = ap (λ (c : ClientRecord). c.phase) d.2 ∙ idle.0

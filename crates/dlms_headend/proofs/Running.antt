@@ -22,7 +22,7 @@ use Rattle.dlms_headend.specs.Polling.{Goes, WantsRequest, FitsIn, Fits, SendsOn
 use Rattle.dlms_headend.specs.PollRun.{Poll, first_poll, Call, Next, On, Timeout, failed, GoesOn, Takes, GoesDown, Hears, HearsEarly, ComesIn, StartsIn, RepeatsBy, RepeatsIn, Leads, PollRun, IsCall, Calls, IsAt, CallsAreAPoll, DoneIsTold}
 use Rattle.dlms_headend.proofs.Told.{stage_told}
 
--- a step, behind which the poller is at this poll
+-- a step after which the poller is at this poll
 abbrev Reaches : (Poll → Type 0) → PollerValue → Type 0
 Reaches Step new = (now : Poll) × Step now × IsAt new now
 
@@ -193,7 +193,7 @@ calls_are_a_poll plan calls new made = run_of calls (first_poll plan) _ new (rec
 -- ---- one that is done
 
 module _ (plan : PlanValue) where
-  -- its plan is the one that it began with, and where it is done its APDUs tell its rows
+  -- its plan is the one that it began with, and if it is done its rows are those of its APDUs
   abbrev Told : Poll → Type 0
   Told p = (p.plan ≡ plan) × (p.course ≡ Done → HasReleased plan.columns p.taken p.rows)
 

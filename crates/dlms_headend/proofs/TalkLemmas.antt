@@ -103,7 +103,7 @@ rows_taken Trusted apdus apdu taken old new old_rows rows h spelled =
     record { before = apdus ++ apdu ∷ []; names = []; are = sym (append-nil (apdus ++ apdu ∷ [])); polled = with_rows Trusted apdus apdu taken old old_rows rows h spelled; named = refl }
 rows_taken Asked apdus apdu taken old new old_rows rows h spelled = (refl, with_rows Asked apdus apdu taken old old_rows rows h spelled)
 
--- no GET is due behind them
+-- no GET is due after them
 pub none_getting : (columns : Columns) → IsGetting (behind_rows columns) → ⊥
 none_getting Trusted h = h
 none_getting Asked h = h

@@ -1,4 +1,4 @@
--- The APDUs that a poll took tell its rows, and where it is.
+-- The APDUs that a poll took determine its rows and its stage.
 use Rattle.std.proofs.Common.{arith, refl, sym, ap, subst, ◌∙◌, ◌≡◌, ◌+◌, ◌++◌, ℕ, List, [], ◌∷◌, length, length-append, append_assoc, append-nil, Option, Some, unwrap_or, pos, true, false, Result, Ok}
 use Rattle.dlms_apdu.specs.declared.fault.Refusal.{Refusal}
 use Rattle.dlms_apdu.specs.Forms.{ResponseForm, get_data, get_block}
@@ -142,13 +142,13 @@ rows_inside columns apdus before more t i rows h k e =
     let one = blocks_at 0 b.blocks more k.answer t i (subst (λ (l : List (List ℕ)). AreBlocks 0 l t i) same h.come) in
     more_not_spelled one.0 k.taken k.joined one.1 (response_at k.answer) rows one.2 k.spelled
 
--- nor rows before other APDUs where the last has the rows
+-- nor rows before other APDUs if the last has the rows
 pub rows_before : (columns : Columns) (apdus before more : List (List ℕ)) (last : List ℕ) (r s : List Row) → HasRows columns apdus r → HasRows columns before s → apdus ≡ before ++ (more ++ last ∷ []) → ⊥
 rows_before columns apdus before more last r s h k e =
     let parts = snoc h.before (before ++ more) h.answer last (sym h.are ∙ (e ∙ sym (append_assoc before more (last ∷ [])))) in
     rows_inside columns h.before before more h.taken h.joined s h.blocks k parts.0
 
--- the rows, and what came behind them
+-- the rows, and the APDUs after them
 released_are : (columns : Columns) (apdus : List (List ℕ)) (rows : List Row) (k : HasReleased columns apdus rows) → apdus ≡ k.polled.before ++ (k.polled.names ++ k.answer ∷ [])
 released_are columns apdus rows k = k.are ∙ (ap (λ (l : List (List ℕ)). l ++ k.answer ∷ []) k.polled.are ∙ append_assoc k.polled.before k.polled.names (k.answer ∷ []))
 

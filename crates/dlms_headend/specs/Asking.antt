@@ -1,6 +1,6 @@
--- What a poll asks of the meter, in the order of the requests: the association (IEC 62056-5-3, the establishment of an
--- application association), the columns of the load profile, where they are asked for, its buffer with selective access by range
--- (Blue Book 4.3.6, range_descriptor), further blocks, the columns again, and the release.
+-- The requests of a poll, in order: the association (IEC 62056-5-3, the establishment of an application association), the columns
+-- of the load profile, if the plan asks for them, its buffer with selective access by range (Blue Book 4.3.6, range_descriptor),
+-- further blocks, the columns again, and the release.
 use Rattle.std.specs.Prelude.{◌≡◌, ℕ, List, [], ◌∷◌, Option, Some, None, unwrap_or}
 use Rattle.dlms_frame.specs.declared.client.Client.{Client}
 use Rattle.dlms_data.specs.Building.{IsTime}
@@ -55,14 +55,17 @@ abbrev pub first_second : Option ℕ → ℕ
 first_second after = unwrap_or after 0
 
 abbrev pub buffer_bytes : Value → List ℕ
-buffer_bytes value = request_bytes (get_normal invoke buffer (Some (record { number = 1; value = value })))
+buffer_bytes value = request_bytes (get_normal invoke buffer (Some (record {
+  number = 1;
+  value = value;
+})))
 
--- a GET of the buffer with selector 1, from `after` (0 where there is none) to the clock's last second
+-- a GET of the buffer with selector 1, from `after` (0 if there is none) to the clock's last second
 pub record IsBufferRequest (after : Option ℕ) (apdu : List ℕ) : Type 0 where
   pub value : Value
   pub is : apdu ≡ buffer_bytes value
   pub wanted : IsRange (first_second after) value
 
--- a GET of the block behind the one with this number
+-- a GET of the block after the one with this number
 abbrev pub next_bytes : ℕ → List ℕ
 next_bytes number = request_bytes (get_next invoke number)

@@ -1,5 +1,5 @@
 -- The columns of the rows: the capture objects of class Profile generic (7) of IEC 62056-6-2 (Blue Book 4.3.6, capture_objects),
--- each a structure of class, logical name, attribute and data index. What an answer tells of them.
+-- each a structure of class, logical name, attribute and data index. How an answer lists them.
 use Rattle.std.specs.Prelude.{◌≡◌, ℕ, List, [], ◌∷◌, Result, Ok, pos}
 use Rattle.dlms_apdu.specs.declared.fault.Refusal.{Refusal}
 use Rattle.dlms_apdu.specs.Forms.{ResponseForm, get_data, get_result, get_block_result, exception}
@@ -11,7 +11,9 @@ use Rattle.dlms_headend.specs.declared.poll_fault.PollFault.TheVariants.{Result 
 
 -- attribute 2 of an object of this class and name, and data index 0: all of its value
 abbrev pub column : ℕ → List ℕ → Value
-column class name = structure (cons (long_unsigned class) (cons (octet_string name) (cons (integer (pos 2)) (cons (long_unsigned 0) none))))
+column class name = structure
+    (cons (long_unsigned class) (cons (octet_string name)
+    (cons (integer (pos 2)) (cons (long_unsigned 0) none))))
 
 -- the time of the clock 0.0.1.0.0.255 of class 8
 abbrev pub clock_column : Value
@@ -23,7 +25,8 @@ register_column energy = column 3 (1 ∷ 0 ∷ energy ∷ 8 ∷ 0 ∷ 255 ∷ []
 
 -- the four columns of a row of the readings: the clock, and its three registers in their order
 abbrev pub columns : Value
-columns = array (cons clock_column (cons (register_column 1) (cons (register_column 2) (cons (register_column 3) none))))
+columns = array (cons clock_column
+    (cons (register_column 1) (cons (register_column 2) (cons (register_column 3) none))))
 
 -- an answer to the GET of the columns tells these four, in one piece
 abbrev pub TellsBy : Result ResponseForm Refusal → Type 0

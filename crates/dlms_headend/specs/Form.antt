@@ -1,4 +1,4 @@
--- What of the buffer's encoding is told without memory.
+-- The part of the buffer's encoding that can be judged without memory.
 use Rattle.std.specs.Prelude.{◌≡◌, ℕ, ◌≤◌, ◌-◌, ◌==◌, Bool, false, nat_lt, if◌then◌else◌, List, [], ◌∷◌, drop, Some}
 use Rattle.dlms_data.specs.Value.{Value, Values, cons, values_depth}
 use Rattle.dlms_data.specs.Spelling.{IsSpelling, SpellAll}
@@ -9,7 +9,7 @@ abbrev pub begins : ℕ → List ℕ → Bool
 begins tag [] = false
 begins tag (b ∷ rest) = b == tag
 
--- what stands behind a tag and a length
+-- the content after a tag and a length
 abbrev pub body_of : List ℕ → List ℕ
 body_of (tag ∷ first ∷ rest) = if nat_lt first 0x80 then rest else drop (first - 0x80) rest
 body_of _ = []

@@ -1,4 +1,4 @@
--- What a poll makes of an answer to GET: a block, behind which others are to come, or the rows, or a fault.
+-- How a poll handles an answer to GET: a block with others to follow, or the rows, or a fault.
 use Rattle.std.specs.Prelude.{◌≡◌, ℕ, ◌+◌, false, List, ◌++◌, Result, Ok, Err}
 use Rattle.dlms_apdu.specs.declared.fault.Refusal.{Refusal}
 use Rattle.dlms_apdu.specs.Forms.{ResponseForm}
@@ -19,7 +19,7 @@ pub record HasTaken (old : Joining) (taken : ℕ) : Type 0 where
 abbrev pub joined_on : Joining → ℕ → List ℕ → Joining
 joined_on old taken bytes = record { joined = old.joined ++ bytes; taken = taken + 1; over = false }
 
--- memory was wanting, where it may be, or the poll fails
+-- out of memory, if it may be, or the poll fails
 abbrev pub FailsOrWants : ℕ → List ℕ → Result ResponseForm Refusal → PollFault → Type 0
 FailsOrWants taken joined read Memory = NeedsBy taken joined read
 FailsOrWants taken joined read (Refused diagnostic) = FailsBy taken joined read (Refused diagnostic)
@@ -40,10 +40,14 @@ LastHeard bytes (Ok (More number)) = ⊥
 LastHeard bytes (Ok (Rows rows)) = IsEncoded bytes rows.items
 LastHeard bytes (Err fault) = NoEncoding bytes fault
 
-abbrev pub HearsBy : {A : Type 0} → ℕ → Joining → Result ResponseForm Refusal → Result (GetAnswer A) PollFault → Joining → Type 0
-HearsBy taken old read (Ok (More number)) new = (number ≡ taken + 1) × ((bytes : List ℕ) × IsMoreBy taken read bytes × (new ≡ joined_on old taken bytes))
+abbrev pub HearsBy : {A : Type 0} → ℕ → Joining → Result ResponseForm Refusal
+    → Result (GetAnswer A) PollFault → Joining → Type 0
+HearsBy taken old read (Ok (More number)) new = (number ≡ taken + 1)
+    × ((bytes : List ℕ) × IsMoreBy taken read bytes × (new ≡ joined_on old taken bytes))
 HearsBy taken old read (Ok (Rows rows)) new = SpellsBy taken old.joined read rows.items
 HearsBy taken old read (Err fault) new = FailsOrWants taken old.joined read fault
 
-abbrev pub Hears : {A : Type 0} → ℕ → Joining → List ℕ → Result (GetAnswer A) PollFault → Joining → Type 0
-Hears taken old apdu result new = HasTaken old taken → HearsBy taken old (response_at apdu) result new
+abbrev pub Hears : {A : Type 0} → ℕ → Joining → List ℕ → Result (GetAnswer A) PollFault → Joining
+    → Type 0
+Hears taken old apdu result new = HasTaken old taken
+    → HearsBy taken old (response_at apdu) result new

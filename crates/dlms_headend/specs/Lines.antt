@@ -7,7 +7,7 @@ use Rattle.dlms_headend.specs.Rows.{IsReading}
 use Rattle.dlms_headend.specs.declared.readings_fault.ReadingsFault.{ReadingsFault}
 use Rattle.dlms_headend.specs.declared.readings_fault.ReadingsFault.TheVariants.{Line, Memory}
 
--- no sign stands in front (a plus is 0x2B), and no leading zero (0x30)
+-- there is no sign at the front (a plus is 0x2B), and no leading zero (0x30)
 abbrev pub is_plain : List ℕ → Bool
 is_plain [] = false
 is_plain (first ∷ []) = not (first == 0x2B)
@@ -25,7 +25,9 @@ field number separator rest = decimal number ++ separator ∷ rest
 -- a row's line, and what follows it; the comma is 0x2C and the line feed 0x0A
 abbrev pub line : Row → List ℕ → List ℕ
 line row rest =
-    field row.clock 0x2C (field (slice_index row.registers 0) 0x2C (field (slice_index row.registers 1) 0x2C (field (slice_index row.registers 2) 0x0A rest)))
+    field row.clock 0x2C (field (slice_index row.registers 0) 0x2C
+    (field (slice_index row.registers 1) 0x2C
+    (field (slice_index row.registers 2) 0x0A rest)))
 
 -- the lines of the rows, in their order, and what follows them
 abbrev pub lines : List Row → List ℕ → List ℕ
@@ -45,7 +47,7 @@ pub record BeginsWith (text : List ℕ) (row : Row) (rest : List ℕ) : Type 0 w
   pub spelled : text ≡ line row rest
   pub reading : IsReading row
 
--- behind the lines of some rows something stands that begins with no line: the first such line has this number
+-- after the lines of some rows comes text that does not begin with a line: the first such line has this number
 pub record IsFirstFault (text : List ℕ) (number : ℕ) : Type 0 where
   pub rows : List Row
   pub rest : List ℕ

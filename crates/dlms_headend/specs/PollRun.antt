@@ -1,4 +1,5 @@
--- A poll, call by call, whatever frames come and whichever are lost: what goes out, what is taken, why it fails, where it is done.
+-- A poll, call by call, whatever frames arrive and whichever are lost: what it sends, what it takes, why it fails, and when it is
+-- done.
 use Rattle.std.specs.Prelude.{◌≡◌, ◌⊎◌, ℕ, List, [], ◌∷◌, ◌++◌, Option, Some, None, Result, Ok, Err}
 use Rattle.dlms_frame.specs.Frame.{Parts}
 use Rattle.dlms_link.specs.Client.{ClientRecord, fresh_client, snrm_of, client_connect, client_step, client_timeout}
@@ -17,7 +18,7 @@ use Rattle.dlms_headend.specs.Talk.{Ends}
 use Rattle.dlms_headend.specs.PollerValue.{PollerValue}
 use Rattle.dlms_headend.specs.Polling.{fresh_poll, Goes, WantsRequest, Fits, Begins, Polls, TimesOut, CanTimeOut}
 
--- What is polled, the link, where the poll stands, the APDUs that it took since its link came up, and the rows of one that is done.
+-- The plan, the link, the course of the poll, the APDUs that it took since its link came up, and the rows of one that is done.
 pub record Poll : Type 0 where
   pub plan : PlanValue
   pub link : ClientRecord
@@ -26,9 +27,15 @@ pub record Poll : Type 0 where
   pub rows : List Row
 
 abbrev pub first_poll : PlanValue → Poll
-first_poll plan = record { plan = plan; link = fresh_client plan.client; course = Ready; taken = []; rows = [] }
+first_poll plan = record {
+  plan = plan;
+  link = fresh_client plan.client;
+  course = Ready;
+  taken = [];
+  rows = [];
+}
 
--- a call: for the first frame, with a frame that came, for a time-out; and what it answered
+-- a call: for the first frame, with a frame that arrived, for a timeout; and its answer
 pub data Call : Type 0 where
   Next : (frame : Option Parts) → Call
   On : (frame : Parts) → (result : Result PollStep PollFault) → Call
@@ -41,27 +48,33 @@ failed p link fault = record p { link = link; course = Failed fault }
 -- once it took these, on a link that awaits nothing: what it asks next goes out, or the link's end; or memory is wanting for a GET
 abbrev pub GoesOn : Poll → ClientRecord → List (List ℕ) → Result PollStep PollFault → Poll → Type 0
 GoesOn p link taken (Ok step.Nothing) now = ⊥
-GoesOn p link taken (Ok (step.Send frame)) now = (new : ClientRecord) × Goes p.plan taken link frame new × (now ≡ record p { link = new; taken = taken })
+GoesOn p link taken (Ok (step.Send frame)) now = (new : ClientRecord)
+    × Goes p.plan taken link frame new × (now ≡ record p { link = new; taken = taken })
 GoesOn p link taken (Ok step.Done) now = ⊥
-GoesOn p link taken (Err fault) now = (fault ≡ Memory) × WantsRequest p.plan.columns taken × (now ≡ failed p link fault)
+GoesOn p link taken (Err fault) now = (fault ≡ Memory) × WantsRequest p.plan.columns taken
+    × (now ≡ failed p link fault)
 
 -- the next APDU is taken, and the poll goes on; or that APDU ends it
 abbrev pub Takes : Poll → ClientRecord → Result PollStep PollFault → Poll → Type 0
 Takes p link result now =
     GoesOn p link (p.taken ++ link.apdu ∷ []) result now
-    ⊎ ((fault : PollFault) × Ends p.plan.columns p.taken link.apdu fault × (result ≡ Err fault) × (now ≡ failed p link fault))
+    ⊎ ((fault : PollFault) × Ends p.plan.columns p.taken link.apdu fault × (result ≡ Err fault)
+    × (now ≡ failed p link fault))
 
--- the link goes down: the poll is done exactly where the answer to the release came, and has the rows that its APDUs tell
+-- the link goes down: the poll is done exactly if the answer to the release came, and has the rows of its APDUs
 abbrev pub GoesDown : Poll → ClientRecord → Result PollStep PollFault → Poll → Type 0
 GoesDown p link result now =
-    ((rows : List Row) × HasReleased p.plan.columns p.taken rows × (result ≡ Ok step.Done) × (now ≡ record p { link = link; course = Done; rows = rows }))
-    ⊎ (((rows : List Row) → HasReleased p.plan.columns p.taken rows → ⊥) × (result ≡ Err Protocol) × (now ≡ failed p link Protocol))
+    ((rows : List Row) × HasReleased p.plan.columns p.taken rows × (result ≡ Ok step.Done)
+    × (now ≡ record p { link = link; course = Done; rows = rows }))
+    ⊎ (((rows : List Row) → HasReleased p.plan.columns p.taken rows → ⊥) × (result ≡ Err Protocol)
+    × (now ≡ failed p link Protocol))
 
--- a frame, by what the link makes of it
+-- a frame, by how the link handles it
 abbrev pub Hears : ClientOut → Poll → ClientRecord → Result PollStep PollFault → Poll → Type 0
 Hears out.Nothing p link result now = (result ≡ Ok step.Nothing) × (now ≡ p)
 Hears out.Up p link result now = GoesOn p link p.taken result now
-Hears (out.Send frame) p link result now = (result ≡ Ok (step.Send frame)) × (now ≡ record p { link = link })
+Hears (out.Send frame) p link result now = (result ≡ Ok (step.Send frame))
+    × (now ≡ record p { link = link })
 Hears out.Apdu p link result now = Takes p link result now
 Hears out.Down p link result now = GoesDown p link result now
 
@@ -69,19 +82,23 @@ Hears out.Down p link result now = GoesDown p link result now
 abbrev pub HearsEarly : ClientOut → Poll → ClientRecord → Result PollStep PollFault → Poll → Type 0
 HearsEarly out.Nothing p link result now = (result ≡ Ok step.Nothing) × (now ≡ p)
 HearsEarly out.Up p link result now = (result ≡ Err Protocol) × (now ≡ failed p link Protocol)
-HearsEarly (out.Send frame) p link result now = (result ≡ Err Protocol) × (now ≡ failed p link Protocol)
+HearsEarly (out.Send frame) p link result now = (result ≡ Err Protocol)
+    × (now ≡ failed p link Protocol)
 HearsEarly out.Apdu p link result now = (result ≡ Err Protocol) × (now ≡ failed p link Protocol)
 HearsEarly out.Down p link result now = (result ≡ Err Protocol) × (now ≡ failed p link Protocol)
 
 abbrev pub ComesIn : Course → Poll → Parts → Result PollStep PollFault → Poll → Type 0
-ComesIn Ready p frame result now = HearsEarly (client_step p.link frame).1 p (client_step p.link frame).0 result now
-ComesIn Running p frame result now = Hears (client_step p.link frame).1 p (client_step p.link frame).0 result now
+ComesIn Ready p frame result now =
+    HearsEarly (client_step p.link frame).1 p (client_step p.link frame).0 result now
+ComesIn Running p frame result now =
+    Hears (client_step p.link frame).1 p (client_step p.link frame).0 result now
 ComesIn Done p frame result now = (result ≡ Ok step.Nothing) × (now ≡ p)
 ComesIn (Failed fault) p frame result now = (result ≡ Err fault) × (now ≡ p)
 
 -- the first frame, once
 abbrev pub StartsIn : Course → Poll → Option Parts → Poll → Type 0
-StartsIn Ready p frame now = (frame ≡ Some (snrm_of p.link)) × (now ≡ record p { link = client_connect p.link; course = Running })
+StartsIn Ready p frame now = (frame ≡ Some (snrm_of p.link))
+    × (now ≡ record p { link = client_connect p.link; course = Running })
 StartsIn Running p frame now = (frame ≡ None) × (now ≡ p)
 StartsIn Done p frame now = (frame ≡ None) × (now ≡ p)
 StartsIn (Failed fault) p frame now = (frame ≡ None) × (now ≡ p)
@@ -111,9 +128,12 @@ PollRun p (call ∷ calls) now = (mid : Poll) × Leads p call mid × PollRun mid
 
 -- what a call's contract says of the poller before and after it
 abbrev pub IsCall : PollerValue → Call → PollerValue → Type 0
-IsCall old (Next frame) new = Begins old frame new × ((apdus : List (List ℕ)) → Fits old apdus → Fits new apdus)
-IsCall old (On frame result) new = (apdus : List (List ℕ)) → Fits old apdus → Polls apdus frame old result new
-IsCall old (Timeout result) new = CanTimeOut old × TimesOut old result new × ((apdus : List (List ℕ)) → Fits old apdus → Fits new apdus)
+IsCall old (Next frame) new = Begins old frame new
+    × ((apdus : List (List ℕ)) → Fits old apdus → Fits new apdus)
+IsCall old (On frame result) new = (apdus : List (List ℕ)) → Fits old apdus
+    → Polls apdus frame old result new
+IsCall old (Timeout result) new = CanTimeOut old × TimesOut old result new
+    × ((apdus : List (List ℕ)) → Fits old apdus → Fits new apdus)
 
 abbrev pub Calls : PollerValue → List Call → PollerValue → Type 0
 Calls old [] new = new ≡ old
@@ -129,9 +149,12 @@ pub record IsAt (v : PollerValue) (p : Poll) : Type 0 where
 
 -- The calls of a poller, from a new one on, are a poll.
 abbrev pub CallsAreAPoll : Type 0
-CallsAreAPoll = (plan : PlanValue) (calls : List Call) (new : PollerValue) → Calls (fresh_poll plan) calls new → (p : Poll) × PollRun (first_poll plan) calls p × IsAt new p
+CallsAreAPoll = (plan : PlanValue) (calls : List Call) (new : PollerValue)
+    → Calls (fresh_poll plan) calls new
+    → (p : Poll) × PollRun (first_poll plan) calls p × IsAt new p
 
--- And one that is done took an acceptance, answers that spell its rows, behind and before answers that tell the columns where its
--- plan asks for them, and the answer to the release.
+-- And one that is done took an acceptance, answers that spell its rows, before and after them answers with the columns if its plan
+-- asks for them, and the answer to the release.
 abbrev pub DoneIsTold : Type 0
-DoneIsTold = (plan : PlanValue) (calls : List Call) (p : Poll) → PollRun (first_poll plan) calls p → p.course ≡ Done → HasReleased plan.columns p.taken p.rows
+DoneIsTold = (plan : PlanValue) (calls : List Call) (p : Poll) → PollRun (first_poll plan) calls p
+    → p.course ≡ Done → HasReleased plan.columns p.taken p.rows

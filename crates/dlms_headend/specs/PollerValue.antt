@@ -1,4 +1,4 @@
--- What a contract sees of a poll.
+-- The contract's view of a poll.
 use Rattle.std.specs.Prelude.{◌≡◌, ◌≤◌, IfSome}
 use Rattle.dlms_link.specs.Client.{ClientRecord, IsDown}
 use Rattle.dlms_headend.specs.declared.plan.Plan.{Plan}
@@ -15,7 +15,12 @@ pub record PollerValue : Type 0 where
   pub talk : TalkValue
 
 abbrev pub plan_of : Plan → PlanValue
-plan_of plan = record { client = plan.client; secret = plan.secret.items; after = plan.after; columns = plan.columns }
+plan_of plan = record {
+  client = plan.client;
+  secret = plan.secret.items;
+  after = plan.after;
+  columns = plan.columns;
+}
 
 -- before the first frame the link is down; the plan's second is one of the clock
 pub record IsStanding (plan : Plan) (link : ClientRecord) (course : Course) : Type 0 where

@@ -25,35 +25,46 @@ use Rattle.dlms_link.specs.declared.kept.TheConstants.{MOST_APDU}
 
 -- a poll that begins
 abbrev pub fresh_poll : PlanValue → PollerValue
-fresh_poll plan = record { plan = plan; link = fresh_client plan.client; course = Ready; talk = fresh_talk }
+fresh_poll plan = record {
+  plan = plan;
+  link = fresh_client plan.client;
+  course = Ready;
+  talk = fresh_talk;
+}
 
 -- ---- what is sent
 
 -- the link is given this APDU, which has at most the bytes that a link takes
 abbrev pub Gives : ClientRecord → List ℕ → Parts → ClientRecord → Type 0
-Gives link apdu frame new = (length apdu ≤ MOST_APDU) × (frame ≡ (client_send link apdu).1) × (new ≡ (client_send link apdu).0)
+Gives link apdu frame new = (length apdu ≤ MOST_APDU) × (frame ≡ (client_send link apdu).1)
+    × (new ≡ (client_send link apdu).0)
 
--- the request for the next block; for the buffer, where none has come
+-- the request for the next block; for the buffer, if no block has come
 abbrev pub IsGet : PlanValue → ℕ → List ℕ → Type 0
-IsGet plan taken apdu = ((taken ≡ 0) × IsBufferRequest plan.after apdu) ⊎ ((0 < taken) × (apdu ≡ next_bytes taken))
+IsGet plan taken apdu = ((taken ≡ 0) × IsBufferRequest plan.after apdu)
+    ⊎ ((0 < taken) × (apdu ≡ next_bytes taken))
 
 -- what goes out at this stage
 abbrev pub IsDue : PlanValue → Stage → ClientRecord → Parts → ClientRecord → Type 0
 IsDue plan Associating link frame new = Gives link (association_bytes plan) frame new
 IsDue plan Naming link frame new = Gives link columns_bytes frame new
 IsDue plan Checking link frame new = Gives link columns_bytes frame new
-IsDue plan (Getting taken) link frame new = (apdu : List ℕ) × IsGet plan taken apdu × Gives link apdu frame new
+IsDue plan (Getting taken) link frame new = (apdu : List ℕ) × IsGet plan taken apdu
+    × Gives link apdu frame new
 IsDue plan Releasing link frame new = Gives link release_request frame new
 IsDue plan Leaving link frame new = (frame ≡ disc_of link) × (new ≡ client_disconnect link)
 
 -- what a poll sends once it took these APDUs: the APDU that it asks, or the link's end
-pub data Goes (plan : PlanValue) (apdus : List (List ℕ)) (link : ClientRecord) (frame : Parts) (new : ClientRecord) : Type 0 where
-  asks : (apdu : List ℕ) → Asks plan apdus apdu → Gives link apdu frame new → Goes plan apdus link frame new
-  leaves : (rows : List Row) → HasReleased plan.columns apdus rows → frame ≡ disc_of link → new ≡ client_disconnect link → Goes plan apdus link frame new
+pub data Goes (plan : PlanValue) (apdus : List (List ℕ)) (link : ClientRecord) (frame : Parts)
+    (new : ClientRecord) : Type 0 where
+  asks : (apdu : List ℕ) → Asks plan apdus apdu → Gives link apdu frame new
+      → Goes plan apdus link frame new
+  leaves : (rows : List Row) → HasReleased plan.columns apdus rows → frame ≡ disc_of link
+      → new ≡ client_disconnect link → Goes plan apdus link frame new
 
 -- ---- where a poll stands
 
--- where the link stands
+-- the link's phase
 abbrev pub StandsAt : Stage → Phase → Type 0
 StandsAt Associating phase = (phase ≡ Connecting) ⊎ (phase ≡ Open)
 StandsAt Naming phase = phase ≡ Open
@@ -75,7 +86,8 @@ Fits p apdus = FitsIn p.course p apdus
 -- ---- frames
 
 -- it fails for good: nothing else of it changes
-pub record HasFailed {X : Type 0} (at : PollerValue) (fault : PollFault) (result : Result X PollFault) (new : PollerValue) : Type 0 where
+pub record HasFailed {X : Type 0} (at : PollerValue) (fault : PollFault)
+    (result : Result X PollFault) (new : PollerValue) : Type 0 where
   pub answer : result ≡ Err fault
   pub after : new ≡ record at { course = Failed fault }
 
@@ -87,7 +99,8 @@ pub record IsFailed (at : PollerValue) (fault : PollFault) (new : PollerValue) :
   pub rows : new.talk.rows ≡ at.talk.rows
 
 -- what goes out after these APDUs, on a link that awaits nothing; the poll goes on
-pub record SendsOn (plan : PlanValue) (apdus : List (List ℕ)) (link : ClientRecord) (frame : Parts) (new : PollerValue) : Type 0 where
+pub record SendsOn (plan : PlanValue) (apdus : List (List ℕ)) (link : ClientRecord) (frame : Parts)
+    (new : PollerValue) : Type 0 where
   pub goes : Goes plan apdus link frame new.link
   pub runs : new.course ≡ Running
   pub keeps : new.plan ≡ plan
@@ -98,22 +111,28 @@ abbrev pub WantsRequest : Columns → List (List ℕ) → Type 0
 WantsRequest columns apdus = (taken : ℕ) × (joined : List ℕ) × HasBlocks columns apdus taken joined
 
 -- a poll goes on once it took these APDUs
-abbrev pub Continues : PollerValue → List (List ℕ) → Result PollStep PollFault → PollerValue → Type 0
+abbrev pub Continues : PollerValue → List (List ℕ) → Result PollStep PollFault → PollerValue
+    → Type 0
 Continues at apdus (Ok step.Nothing) new = ⊥
 Continues at apdus (Ok (step.Send frame)) new = SendsOn at.plan apdus at.link frame new
 Continues at apdus (Ok step.Done) new = ⊥
-Continues at apdus (Err fault) new = (fault ≡ Memory) × WantsRequest at.plan.columns apdus × (new ≡ record at { course = Failed fault })
+Continues at apdus (Err fault) new = (fault ≡ Memory) × WantsRequest at.plan.columns apdus
+    × (new ≡ record at { course = Failed fault })
 
 -- the link hands up the next APDU
 abbrev pub Answers : PollerValue → List (List ℕ) → Result PollStep PollFault → PollerValue → Type 0
 Answers at apdus (Ok step.Nothing) new = ⊥
-Answers at apdus (Ok (step.Send frame)) new = SendsOn at.plan (apdus ++ at.link.apdu ∷ []) at.link frame new
+Answers at apdus (Ok (step.Send frame)) new =
+    SendsOn at.plan (apdus ++ at.link.apdu ∷ []) at.link frame new
 Answers at apdus (Ok step.Done) new = ⊥
 Answers at apdus (Err fault) new =
-    (Ends at.plan.columns apdus at.link.apdu fault ⊎ ((fault ≡ Memory) × WantsRequest at.plan.columns (apdus ++ at.link.apdu ∷ []))) × IsFailed at fault new
+    (Ends at.plan.columns apdus at.link.apdu fault
+    ⊎ ((fault ≡ Memory) × WantsRequest at.plan.columns (apdus ++ at.link.apdu ∷ [])))
+    × IsFailed at fault new
 
 -- the link goes down: as the poll asked for, or against it
-pub record IsDone (at : PollerValue) (result : Result PollStep PollFault) (new : PollerValue) : Type 0 where
+pub record IsDone (at : PollerValue) (result : Result PollStep PollFault) (new : PollerValue)
+    : Type 0 where
   pub answer : result ≡ Ok step.Done
   pub after : new ≡ record at { course = Done }
 
@@ -129,29 +148,36 @@ GoesDown Leaving at result new = IsDone at result new
 abbrev pub with_link : PollerValue → ClientRecord → PollerValue
 with_link p link = record p { link = link }
 
--- a frame, while these APDUs were taken, by what the link makes of it
-abbrev pub PollsBy : ClientOut → ClientRecord → List (List ℕ) → PollerValue → Result PollStep PollFault → PollerValue → Type 0
+-- a frame, while these APDUs were taken, by how the link handles it
+abbrev pub PollsBy : ClientOut → ClientRecord → List (List ℕ) → PollerValue
+    → Result PollStep PollFault → PollerValue → Type 0
 PollsBy out.Nothing link apdus old result new = (result ≡ Ok step.Nothing) × (new ≡ old)
 PollsBy out.Up link apdus old result new = Continues (with_link old link) apdus result new
-PollsBy (out.Send frame) link apdus old result new = (result ≡ Ok (step.Send frame)) × (new ≡ with_link old link) × Fits new apdus
+PollsBy (out.Send frame) link apdus old result new = (result ≡ Ok (step.Send frame))
+    × (new ≡ with_link old link) × Fits new apdus
 PollsBy out.Apdu link apdus old result new = Answers (with_link old link) apdus result new
 PollsBy out.Down link apdus old result new = GoesDown old.talk.stage (with_link old link) result new
 
 -- a frame before the first one went out
-abbrev pub PollsEarly : ClientOut → ClientRecord → PollerValue → Result PollStep PollFault → PollerValue → Type 0
+abbrev pub PollsEarly : ClientOut → ClientRecord → PollerValue → Result PollStep PollFault
+    → PollerValue → Type 0
 PollsEarly out.Nothing link old result new = (result ≡ Ok step.Nothing) × (new ≡ old)
 PollsEarly out.Up link old result new = HasFailed (with_link old link) Protocol result new
 PollsEarly (out.Send frame) link old result new = HasFailed (with_link old link) Protocol result new
 PollsEarly out.Apdu link old result new = HasFailed (with_link old link) Protocol result new
 PollsEarly out.Down link old result new = HasFailed (with_link old link) Protocol result new
 
-abbrev pub PollsIn : Course → List (List ℕ) → Parts → PollerValue → Result PollStep PollFault → PollerValue → Type 0
-PollsIn Ready apdus frame old result new = PollsEarly (client_step old.link frame).1 (client_step old.link frame).0 old result new
-PollsIn Running apdus frame old result new = PollsBy (client_step old.link frame).1 (client_step old.link frame).0 apdus old result new
+abbrev pub PollsIn : Course → List (List ℕ) → Parts → PollerValue → Result PollStep PollFault
+    → PollerValue → Type 0
+PollsIn Ready apdus frame old result new =
+    PollsEarly (client_step old.link frame).1 (client_step old.link frame).0 old result new
+PollsIn Running apdus frame old result new =
+    PollsBy (client_step old.link frame).1 (client_step old.link frame).0 apdus old result new
 PollsIn Done apdus frame old result new = (result ≡ Ok step.Nothing) × (new ≡ old)
 PollsIn (Failed fault) apdus frame old result new = (result ≡ Err fault) × (new ≡ old)
 
-abbrev pub Polls : List (List ℕ) → Parts → PollerValue → Result PollStep PollFault → PollerValue → Type 0
+abbrev pub Polls : List (List ℕ) → Parts → PollerValue → Result PollStep PollFault → PollerValue
+    → Type 0
 Polls apdus frame old result new = PollsIn old.course apdus frame old result new
 
 -- By what the link makes of a frame: memory is wanting only for an APDU that the link hands up, an answer to a GET of the buffer
@@ -164,11 +190,13 @@ WantsBy out.Apdu link columns apdus = Needs columns apdus link.apdu
 WantsBy out.Down link columns apdus = ⊥
 
 abbrev pub WantsMemory : PollerValue → List (List ℕ) → Parts → Type 0
-WantsMemory old apdus frame = WantsBy (client_step old.link frame).1 (client_step old.link frame).0 old.plan.columns apdus
+WantsMemory old apdus frame =
+    WantsBy (client_step old.link frame).1 (client_step old.link frame).0 old.plan.columns apdus
 
 -- the first frame
 abbrev pub BeginsIn : Course → PollerValue → Option Parts → PollerValue → Type 0
-BeginsIn Ready old result new = (result ≡ Some (snrm_of old.link)) × (new ≡ record old { link = client_connect old.link; course = Running })
+BeginsIn Ready old result new = (result ≡ Some (snrm_of old.link))
+    × (new ≡ record old { link = client_connect old.link; course = Running })
 BeginsIn Running old result new = (result ≡ None) × (new ≡ old)
 BeginsIn Done old result new = (result ≡ None) × (new ≡ old)
 BeginsIn (Failed fault) old result new = (result ≡ None) × (new ≡ old)
@@ -177,7 +205,8 @@ abbrev pub Begins : PollerValue → Option Parts → PollerValue → Type 0
 Begins old result new = BeginsIn old.course old result new
 
 -- a time-out of the frame that is out
-abbrev pub TimesOutBy : ClientRecord × Option Parts → PollerValue → Result Parts PollFault → PollerValue → Type 0
+abbrev pub TimesOutBy : ClientRecord × Option Parts → PollerValue → Result Parts PollFault
+    → PollerValue → Type 0
 TimesOutBy (link, Some frame) old result new = (result ≡ Ok frame) × (new ≡ with_link old link)
 TimesOutBy (link, None) old result new = HasFailed (with_link old link) Line result new
 

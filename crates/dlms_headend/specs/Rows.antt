@@ -53,6 +53,11 @@ pub record IsReading (row : Row) : Type 0 where
 abbrev pub AreReadings : List Row → Type 0
 AreReadings rows = All IsReading rows
 
+-- each row has three registers of 32 bits
+abbrev pub HaveRegisters : List Row → Type 0
+HaveRegisters rows = All (λ row. (length row.registers ≡ 3)
+    × All (λ register. register < 2 ^ 32) row.registers) rows
+
 -- the values are those of the rows, in their order
 abbrev pub AreRows : Values → List Row → Type 0
 AreRows none [] = Unit {0}

@@ -1,4 +1,4 @@
--- Which APDUs have brought a poll where it is.
+-- Which APDUs have brought a poll to its stage.
 use Rattle.std.specs.Prelude.{◌≡◌, ℕ, List, [], ◌∷◌, ◌++◌, Result, Ok, Err}
 use Rattle.dlms_blocks.specs.Joining.{Joining, empty}
 use Rattle.dlms_headend.specs.declared.row.Row.{Row}
@@ -15,7 +15,7 @@ use Rattle.dlms_headend.specs.declared.plan.Columns.TheVariants.{Trusted, Asked}
 abbrev pub fresh_talk : TalkValue
 fresh_talk = record { stage = Associating; blocks = empty; rows = [] }
 
--- what is awaited behind the acceptance, and behind the rows
+-- the answers that are awaited after the acceptance, and after the rows
 abbrev pub behind_acceptance : Columns → Stage
 behind_acceptance Trusted = Getting 0
 behind_acceptance Asked = Naming
@@ -27,8 +27,10 @@ behind_rows Asked = Checking
 -- the poll waits for this after these APDUs
 abbrev pub FitsAt : Columns → Stage → Joining → List Row → List (List ℕ) → Type 0
 FitsAt columns Associating blocks rows apdus = (apdus ≡ []) × (blocks ≡ empty) × (rows ≡ [])
-FitsAt columns Naming blocks rows apdus = (columns ≡ Asked) × HasAccepted apdus × (blocks ≡ empty) × (rows ≡ [])
-FitsAt columns (Getting taken) blocks rows apdus = HasBlocks columns apdus taken blocks.joined × HasTaken blocks taken × (rows ≡ [])
+FitsAt columns Naming blocks rows apdus = (columns ≡ Asked) × HasAccepted apdus × (blocks ≡ empty)
+    × (rows ≡ [])
+FitsAt columns (Getting taken) blocks rows apdus = HasBlocks columns apdus taken blocks.joined
+    × HasTaken blocks taken × (rows ≡ [])
 FitsAt columns Checking blocks rows apdus = (columns ≡ Asked) × HasRows columns apdus rows
 FitsAt columns Releasing blocks rows apdus = HasNamed columns apdus rows
 FitsAt columns Leaving blocks rows apdus = HasReleased columns apdus rows
@@ -45,7 +47,7 @@ CanTake Checking = Unit {0}
 CanTake Releasing = Unit {0}
 CanTake Leaving = ⊥
 
--- memory was wanting, where it may be, or the APDU ends the poll
+-- out of memory, if it may be, or the APDU ends the poll
 abbrev pub Ends : Columns → List (List ℕ) → List ℕ → PollFault → Type 0
 Ends columns apdus apdu Memory = Needs columns apdus apdu
 Ends columns apdus apdu (Refused diagnostic) = Refuses columns apdus apdu (Refused diagnostic)
@@ -63,7 +65,9 @@ IsGetting (Getting taken) = Unit {0}
 IsGetting Releasing = ⊥
 IsGetting Leaving = ⊥
 
--- what becomes of a poll with the next APDU; where it ends the poll, and where a GET of the buffer is due, the rows stay
-abbrev pub Takes : Columns → TalkValue → List (List ℕ) → List ℕ → Result (Unit {0}) PollFault → TalkValue → Type 0
-Takes columns old apdus apdu (Ok u) new = FitsTalk columns new (apdus ++ apdu ∷ []) × (IsGetting new.stage → new.rows ≡ old.rows)
+-- how a poll changes with the next APDU; if it ends the poll, and if a GET of the buffer is due, the rows stay
+abbrev pub Takes : Columns → TalkValue → List (List ℕ) → List ℕ → Result (Unit {0}) PollFault
+    → TalkValue → Type 0
+Takes columns old apdus apdu (Ok u) new = FitsTalk columns new (apdus ++ apdu ∷ [])
+    × (IsGetting new.stage → new.rows ≡ old.rows)
 Takes columns old apdus apdu (Err fault) new = Ends columns apdus apdu fault × (new.rows ≡ old.rows)

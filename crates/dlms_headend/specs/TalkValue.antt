@@ -1,4 +1,4 @@
--- What a contract sees of the answers of a poll.
+-- The contract's view of the answers of a poll.
 use Rattle.std.specs.Prelude.{List}
 use Rattle.dlms_blocks.specs.Joining.{Joining}
 use Rattle.dlms_headend.specs.declared.row.Row.{Row}

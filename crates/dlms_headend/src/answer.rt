@@ -6,7 +6,7 @@ ghost use Rattle.dlms_headend.specs.Poll.{is_exception, is_release, other_fault,
 use crate::poll_fault::PollFault;
 use dlms_acse::{Verdict, read_aare};
 
-/// The result that stands for an exception.
+/// The result that represents an exception.
 pub const EXCEPTION: u8 = 250;
 
 /// Whether an APDU is an exception.
@@ -19,7 +19,7 @@ fn is_exception(apdu: &[u8]) -> bool
     }
 }
 
-/// What an APDU of another form than the awaited one is taken for.
+/// The fault for an APDU of another form than the awaited one.
 fn other_fault(apdu: &[u8]) -> PollFault
     ensures { result ≡ other_fault apdu.now }
 {
@@ -43,7 +43,8 @@ pub fn associated(apdu: &[u8]) -> Result<(), PollFault>
 
 /// The answer to the release.
 pub fn released(apdu: &[u8]) -> Result<(), PollFault>
-    ensures { MatchResult result (λ _. is_release apdu.now ≡ true) (λ fault. (is_release apdu.now ≡ false) × (fault ≡ other_fault apdu.now)) }
+    ensures { MatchResult result (λ _. is_release apdu.now ≡ true)
+        (λ fault. (is_release apdu.now ≡ false) × (fault ≡ other_fault apdu.now)) }
 {
     match apdu {
         [0x63, ..] => Ok(()),

@@ -1,4 +1,4 @@
-//! What a poll asks.
+//! The requests of a poll.
 
 ghost use Rattle.std.specs.Prelude.{◌≡◌, ◌≤◌, ◌<◌, ◌^◌, ◌+◌, ◌++◌, All, length, IfSome};
 ghost use Rattle.arrayvec.specs.ArrayVec.{array_vec_len};
@@ -52,7 +52,8 @@ fn append(request: &mut BufferRequest, octets: &[u8])
 fn append_time(request: &mut BufferRequest, second: u32)
     requires second { second ≤ LAST_SECOND }
     requires room { array_vec_len request.old + 14 ≤ MOST_OCTETS }
-    ensures time { (time : Value) × IsTime second time × (request.new.items ≡ request.old.items ++ canonical time) }
+    ensures time { (time : Value) × IsTime second time
+        × (request.new.items ≡ request.old.items ++ canonical time) }
     ensures len { array_vec_len request.new ≡ array_vec_len request.old + 14 }
 {
     let octets = octets(second);
@@ -60,7 +61,7 @@ fn append_time(request: &mut BufferRequest, second: u32)
     append(request, octets.as_slice());
 }
 
-/// The GET of the rows from that second on; from 0 where there is none. It takes no memory.
+/// The GET of the rows from that second on; from 0 if there is none. It takes no memory.
 #[tactic(auto, using(crate::proofs::Requests::request_is_short))]
 pub fn buffer_request(after: Option<u32>) -> BufferRequest
     requires { IfSome after (λ second. second ≤ LAST_SECOND) }
@@ -84,7 +85,7 @@ pub fn columns_request() -> [u8; 13]
     ]
 }
 
-/// The GET of the block behind the one with this number: C0 02, the invoke octet, the number. It takes no memory.
+/// The GET of the block after the one with this number: C0 02, the invoke octet, the number. It takes no memory.
 pub fn next_request(number: u32) -> BufferRequest
     ensures asks { result.items ≡ next_bytes number }
     ensures short { length result.items ≤ MOST_APDU }

@@ -16,7 +16,9 @@ use std::alloc::Allocator;
 /// The values of a structure of four.
 #[tactic(auto, using(crate::proofs::Values::four_in_others, crate::proofs::Values::four_in_parts))]
 fn four<A: Allocator>(value: &Data<A>) -> Option<(&Data<A>, &Data<A>, &Data<A>, &Data<A>)>
-    ensures { option_map (λ x. (value_of x.0.now, value_of x.1.now, value_of x.2.now, value_of x.3.now)) result ≡ four_in (value_of value.now) }
+    ensures { option_map
+        (λ x. (value_of x.0.now, value_of x.1.now, value_of x.2.now, value_of x.3.now)) result ≡ four_in
+        (value_of value.now) }
 {
     let Data::Structure(items) = value else {
         return None;
@@ -71,7 +73,9 @@ fn row<A: Allocator>(value: &Data<A>) -> Option<Row>
 
 /// Whether each value is a row's.
 fn are_rows<A: Allocator>(values: &[Data<A>]) -> bool
-    ensures { MatchBool result ((rows : List RowOf) × AreRows (values_of values.now) rows) ((rows : List RowOf) → AreRows (values_of values.now) rows → ⊥) }
+    ensures { MatchBool result ((rows : List RowOf)
+        × AreRows (values_of values.now) rows) ((rows : List RowOf)
+        → AreRows (values_of values.now) rows → ⊥) }
 {
     for value in values {
         let Some(_) = row(value) else {

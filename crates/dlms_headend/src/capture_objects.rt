@@ -15,7 +15,9 @@ use std::alloc::Allocator;
 
 /// The value, by its bytes.
 fn judged(bytes: &[u8]) -> Result<(), PollFault>
-    ensures { (v : Value) → IsSpelling bytes.now v → MatchResult result (λ _. v ≡ columns) (λ fault. (fault ≡ OtherColumns) × (v ≡ columns → ⊥)) }
+    ensures { (v : Value) → IsSpelling bytes.now v
+        → MatchResult result (λ _. v ≡ columns) (λ fault. (fault ≡ OtherColumns)
+        × (v ≡ columns → ⊥)) }
 {
     if are_columns(bytes) {
         Ok(())
@@ -24,7 +26,7 @@ fn judged(bytes: &[u8]) -> Result<(), PollFault>
     }
 }
 
-/// The answer to the GET of the columns. Its value is told by its bytes: where there is no memory to read it none is wanting.
+/// The answer to the GET of the columns. Its bytes determine its value, so out of memory is never reported.
 pub fn told<A: Allocator + Copy>(alloc: A, apdu: &[u8]) -> Result<(), PollFault>
     ensures { MatchResult result (λ _. TellsColumns apdu.now) (MissesColumns apdu.now) }
 {

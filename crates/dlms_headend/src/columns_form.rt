@@ -33,21 +33,24 @@ fn are_same(bytes: &[u8], others: &[u8]) -> bool
 
 /// Whether the bytes are those of this long-unsigned.
 fn is_long_unsigned(bytes: &[u8], number: u8) -> bool
-    ensures { (v : Value) → IsSpelling bytes.now v → MatchBool result (v ≡ long_unsigned number) (v ≡ long_unsigned number → ⊥) }
+    ensures { (v : Value) → IsSpelling bytes.now v
+        → MatchBool result (v ≡ long_unsigned number) (v ≡ long_unsigned number → ⊥) }
 {
     are_same(bytes, &[LONG_UNSIGNED, 0, number])
 }
 
 /// Whether the bytes are those of the integer 2, the attribute that holds a value.
 fn is_value_attribute(bytes: &[u8]) -> bool
-    ensures { (v : Value) → IsSpelling bytes.now v → MatchBool result (v ≡ integer (pos 2)) (v ≡ integer (pos 2) → ⊥) }
+    ensures { (v : Value) → IsSpelling bytes.now v
+        → MatchBool result (v ≡ integer (pos 2)) (v ≡ integer (pos 2) → ⊥) }
 {
     are_same(bytes, &[INTEGER, 2])
 }
 
 /// Whether the bytes are those of this logical name.
 fn is_name(bytes: &[u8], name: &[u8]) -> bool
-    ensures { (v : Value) → IsSpelling bytes.now v → MatchBool result (v ≡ octet_string name.now) (v ≡ octet_string name.now → ⊥) }
+    ensures { (v : Value) → IsSpelling bytes.now v
+        → MatchBool result (v ≡ octet_string name.now) (v ≡ octet_string name.now → ⊥) }
 {
     let Some(found) = octets(bytes) else {
         return false;
@@ -57,7 +60,8 @@ fn is_name(bytes: &[u8], name: &[u8]) -> bool
 
 /// Whether the bytes are those of the column of this class and logical name: attribute 2, data index 0.
 fn is_column(bytes: &[u8], class: u8, name: &[u8]) -> bool
-    ensures { (v : Value) → IsSpelling bytes.now v → MatchBool result (v ≡ column class name.now) (v ≡ column class name.now → ⊥) }
+    ensures { (v : Value) → IsSpelling bytes.now v
+        → MatchBool result (v ≡ column class name.now) (v ≡ column class name.now → ⊥) }
 {
     let Some((first, second, third, fourth)) = parts(bytes) else {
         return false;
@@ -76,7 +80,8 @@ fn is_column(bytes: &[u8], class: u8, name: &[u8]) -> bool
 
 /// Whether the values that stand here are the four columns.
 fn are_four(bytes: &[u8]) -> bool
-    ensures { (vs : Values) → StandIn bytes.now vs → MatchBool result (array vs ≡ columns) (array vs ≡ columns → ⊥) }
+    ensures { (vs : Values) → StandIn bytes.now vs
+        → MatchBool result (array vs ≡ columns) (array vs ≡ columns → ⊥) }
 {
     let Some((first, second, third, fourth)) = four(bytes) else {
         return false;
@@ -95,7 +100,8 @@ fn are_four(bytes: &[u8]) -> bool
 
 /// Whether the bytes are those of the four columns: the clock and the three registers.
 pub fn are_columns(bytes: &[u8]) -> bool
-    ensures { (v : Value) → IsSpelling bytes.now v → MatchBool result (v ≡ columns) (v ≡ columns → ⊥) }
+    ensures { (v : Value) → IsSpelling bytes.now v
+        → MatchBool result (v ≡ columns) (v ≡ columns → ⊥) }
 {
     if !begins(ARRAY, bytes) {
         return false;

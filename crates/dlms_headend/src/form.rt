@@ -27,7 +27,7 @@ pub fn begins(tag: u8, bytes: &[u8]) -> bool
     }
 }
 
-/// What stands behind a tag and a length.
+/// The content after a tag and a length.
 pub fn body(bytes: &[u8]) -> &[u8]
     ensures { result.now ≡ body_of bytes.now }
 {
@@ -47,7 +47,8 @@ pub fn body(bytes: &[u8]) -> &[u8]
 
 /// The bytes of the first of values that stand one after another, and those of the others.
 fn front(bytes: &[u8]) -> Option<(&[u8], &[u8])>
-    ensures first { (vs : Values) → StandIn bytes.now vs → MatchOption result (vs ≡ none) (λ x. IsFirst vs x.0.now x.1.now) }
+    ensures first { (vs : Values) → StandIn bytes.now vs
+        → MatchOption result (vs ≡ none) (λ x. IsFirst vs x.0.now x.1.now) }
     ensures shorter { IfSome result (λ x. length x.1.now < length bytes.now) }
 {
     match span(bytes) {
@@ -59,7 +60,8 @@ fn front(bytes: &[u8]) -> Option<(&[u8], &[u8])>
 /// The bytes of four values, which are all that stand here.
 pub fn four(bytes: &[u8]) -> Option<(&[u8], &[u8], &[u8], &[u8])>
     ensures { (vs : Values) → StandIn bytes.now vs
-        → MatchOption result (four_in (structure vs) ≡ None) (λ x. IsFour (structure vs) x.0.now x.1.now x.2.now x.3.now) }
+        → MatchOption result (four_in (structure vs) ≡ None)
+        (λ x. IsFour (structure vs) x.0.now x.1.now x.2.now x.3.now) }
 {
     let Some((first, rest)) = front(bytes) else {
         return None;
@@ -92,7 +94,8 @@ pub fn parts(bytes: &[u8]) -> Option<(&[u8], &[u8], &[u8], &[u8])>
 
 /// The octets of an octet-string.
 pub fn octets(bytes: &[u8]) -> Option<&[u8]>
-    ensures { (v : Value) → IsSpelling bytes.now v → option_map (λ octets. octets.now) result ≡ octets_in v }
+    ensures { (v : Value) → IsSpelling bytes.now v
+        → option_map (λ octets. octets.now) result ≡ octets_in v }
 {
     if !begins(OCTET_STRING, bytes) {
         return None;
@@ -102,15 +105,17 @@ pub fn octets(bytes: &[u8]) -> Option<&[u8]>
 
 /// Whether the bytes are those of a register.
 fn is_register(bytes: &[u8]) -> bool
-    ensures { (v : Value) → IsSpelling bytes.now v → MatchBool result ((n : ℕ) × (register_in v ≡ Some n)) (register_in v ≡ None) }
+    ensures { (v : Value) → IsSpelling bytes.now v
+        → MatchBool result ((n : ℕ) × (register_in v ≡ Some n)) (register_in v ≡ None) }
 {
     begins(DOUBLE_LONG_UNSIGNED, bytes)
 }
 
-/// The octets of a row's time, where the bytes are those of octets and three registers.
+/// The octets of a row's time, if the bytes are those of octets and three registers.
 fn time(bytes: &[u8]) -> Option<&[u8]>
     ensures { (v : Value) → IsSpelling bytes.now v
-        → MatchOption result (fields_in v ≡ None) (λ time. (registers : List ℕ) × (fields_in v ≡ Some (time.now, registers))) }
+        → MatchOption result (fields_in v ≡ None) (λ time. (registers : List ℕ)
+        × (fields_in v ≡ Some (time.now, registers))) }
 {
     let Some((time, first, second, third)) = parts(bytes) else {
         return None;
@@ -129,7 +134,8 @@ fn time(bytes: &[u8]) -> Option<&[u8]>
 
 /// Whether the bytes are those of a row.
 fn is_row(bytes: &[u8]) -> bool
-    ensures { (v : Value) → IsSpelling bytes.now v → MatchBool result ((row : RowOf) × IsRow v row) ((row : RowOf) → IsRow v row → ⊥) }
+    ensures { (v : Value) → IsSpelling bytes.now v
+        → MatchBool result ((row : RowOf) × IsRow v row) ((row : RowOf) → IsRow v row → ⊥) }
 {
     let Some(time) = time(bytes) else {
         return false;
@@ -142,7 +148,9 @@ fn is_row(bytes: &[u8]) -> bool
 
 /// Whether each of the values that stand here is a row's.
 fn are_rows(bytes: &[u8]) -> bool
-    ensures { (vs : Values) → StandIn bytes.now vs → MatchBool result ((rows : List RowOf) × AreRows vs rows) ((rows : List RowOf) → AreRows vs rows → ⊥) }
+    ensures { (vs : Values) → StandIn bytes.now vs
+        → MatchBool result ((rows : List RowOf) × AreRows vs rows) ((rows : List RowOf)
+        → AreRows vs rows → ⊥) }
 {
     let mut rest = bytes;
     while !rest.is_empty() {
@@ -159,7 +167,8 @@ fn are_rows(bytes: &[u8]) -> bool
 
 /// Whether the bytes are the encoding of an array of rows.
 pub fn is_profile(bytes: &[u8]) -> bool
-    ensures { MatchBool result ((rows : List RowOf) × IsEncoded bytes.now rows) ((rows : List RowOf) → IsEncoded bytes.now rows → ⊥) }
+    ensures { MatchBool result ((rows : List RowOf) × IsEncoded bytes.now rows) ((rows : List RowOf)
+        → IsEncoded bytes.now rows → ⊥) }
 {
     if !is_value(bytes) {
         return false;

@@ -9,12 +9,13 @@ ghost use Rattle.dlms_headend.specs.declared.answer.TheConstants.{EXCEPTION};
 
 /// The APDUs that a poll took tell its rows.
 pub fn rows_are_told()
-    ensures { (columns : Columns) (apdus : List (List ℕ)) (rows more : List Row) → HasReleased columns apdus rows → HasReleased columns apdus more → rows ≡ more }
+    ensures { (columns : Columns) (apdus : List (List ℕ)) (rows more : List Row)
+        → HasReleased columns apdus rows → HasReleased columns apdus more → rows ≡ more }
 {}
 
-/// The calls of a poller, from a new one on, in any order and with any frames, are a poll. One is done exactly where its link goes
-/// down behind an acceptance, answers that spell the rows, and the answer to the release; and it has those rows. Where its plan
-/// asks for the columns, an answer that tells them came before the rows, and another one behind them.
+/// The calls of a poller, from a new one on, in any order and with any frames, are a poll. It is done exactly if its link goes down
+/// after an acceptance, answers that spell the rows, and the answer to the release; and it has those rows. If its plan asks for the
+/// columns, an answer with them came before the rows, and another one after them.
 pub fn calls_are_a_poll()
     ensures run { CallsAreAPoll }
     ensures done { DoneIsTold }

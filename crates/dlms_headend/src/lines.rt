@@ -10,7 +10,7 @@ use dlms_data::LAST_SECOND;
 use std::alloc::{AllocError, Allocator};
 use std::str;
 
-/// Whether no sign stands in front, and no leading zero.
+/// Whether there is no sign at the front, and no leading zero.
 fn is_plain(digits: &[u8]) -> bool
     ensures { result ≡ is_plain digits.now }
 {
@@ -36,9 +36,10 @@ fn number(digits: &[u8]) -> Option<u32>
     text.parse::<u32>().ok()
 }
 
-/// What stands before the first separator, and what stands behind it.
+/// Splits the bytes at the first separator.
 fn parted(bytes: &[u8], separator: u8) -> Option<(&[u8], &[u8])>
-    ensures found { IfSome result (λ parts. (bytes.now ≡ parts.0.now ++ separator ∷ parts.1.now) × Lacks separator parts.0.now) }
+    ensures found { IfSome result (λ parts. (bytes.now ≡ parts.0.now ++ separator ∷ parts.1.now)
+        × Lacks separator parts.0.now) }
     ensures none { IfNone result (Lacks separator bytes.now) }
 {
     for (at, byte) in bytes.iter().enumerate() {
@@ -49,11 +50,12 @@ fn parted(bytes: &[u8], separator: u8) -> Option<(&[u8], &[u8])>
     None
 }
 
-/// The number in front of the first separator, and what stands behind that.
+/// The number before the first separator, and the bytes after that.
 fn number_before(bytes: &[u8], separator: u8) -> Option<(u32, &[u8])>
     requires { separator < 48 }
     ensures some { IfSome result (λ x. (bytes.now ≡ field x.0 separator x.1.now) × (x.0 < 2 ^ 32)) }
-    ensures none { IfNone result ((n : ℕ) (rest : List ℕ) → n < 2 ^ 32 → bytes.now ≡ field n separator rest → ⊥) }
+    ensures none { IfNone result ((n : ℕ) (rest : List ℕ) → n < 2 ^ 32
+        → bytes.now ≡ field n separator rest → ⊥) }
 {
     let (before, behind) = parted(bytes, separator)?;
     let value = number(before)?;
@@ -80,9 +82,10 @@ fn row(bytes: &[u8]) -> Option<(Row, &[u8])>
     Some((row, rest))
 }
 
-/// How many lines the text has, each the line of a row; where one is not, its fault.
+/// The number of lines of the text, each of which is the line of a row; if one is not, its fault.
 pub fn count(text: &[u8]) -> Result<usize, ReadingsFault>
-    ensures ok { IfOk result (λ count. (rows : List Row) × IsFile text.now rows × (count ≡ length rows)) }
+    ensures ok { IfOk result (λ count. (rows : List Row) × IsFile text.now rows
+        × (count ≡ length rows)) }
     ensures err { IfErr result (λ fault. Refuses text.now fault) }
 {
     let mut rest = text;
@@ -97,7 +100,7 @@ pub fn count(text: &[u8]) -> Result<usize, ReadingsFault>
     Ok(count)
 }
 
-/// The rows of a text with so many lines. Memory is asked for only where there are some.
+/// The rows of a text with this many lines. Memory is allocated only if there are some.
 pub fn rows<A: Allocator>(alloc: A, text: &[u8], count: usize) -> Result<Vec<Row, A>, ReadingsFault>
     requires { (rows : List Row) × IsFile text.now rows × (count ≡ length rows) }
     ensures ok { IfOk result (λ rows. IsFile text.now rows.items) }

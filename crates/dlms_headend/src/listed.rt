@@ -21,7 +21,7 @@ pub struct ListedColumn {
     pub index: u16,
 }
 
-/// The octet at a place, or 0 behind the end.
+/// The octet at a place, or 0 past the end.
 fn octet(answer: &[u8], place: usize) -> u8
     ensures { result ≡ get_or answer.now place 0 }
 {
@@ -66,7 +66,7 @@ fn is_listing(answer: &[u8]) -> bool
         && answer.len() == HEAD + COLUMN_SIZE * usize::from(octet(answer, 5))
 }
 
-/// How many columns an answer lists; none where it is no list of columns.
+/// The number of columns in an answer; none if it is no list of columns.
 fn columns_listed(answer: &[u8]) -> Option<usize>
     ensures { result ≡ columns_in answer.now }
 {
@@ -107,7 +107,7 @@ fn column_at(answer: &[u8], place: usize) -> Option<ListedColumn>
     })
 }
 
-/// The column of this number, counted from 0, that an answer lists; none where it lists fewer, or where that one has another form.
+/// The column of this number, counted from 0, in an answer; none if it lists fewer, or if that one has another form.
 fn listed_column(answer: &[u8], number: usize) -> Option<ListedColumn>
     ensures { result ≡ column_in answer.now number }
 {
@@ -117,15 +117,15 @@ fn listed_column(answer: &[u8], number: usize) -> Option<ListedColumn>
     }
 }
 
-/// What an answer lists in place of the columns: how many, and the first eight of them; none where it is no list of columns, and no
-/// column where one of another form stands.
+/// The columns that an answer lists instead of the expected ones: how many, and the first eight of them; none if it is no list of
+/// columns, and no column in place of one of another form.
 #[derive(Clone, Copy, Debug, PartialEq, Eq)]
 pub struct ColumnList {
     pub count: Option<usize>,
     pub columns: [Option<ListedColumn>; 8],
 }
 
-/// What an answer lists.
+/// The columns that an answer lists.
 pub fn list_columns(answer: &[u8]) -> ColumnList
     ensures { result ≡ columns_listed_in answer.now }
 {

@@ -1,4 +1,4 @@
-//! What is polled, and by whom.
+//! The plan of a poll: what to read, and as which client.
 
 use arrayvec::ArrayVec;
 use dlms_frame::Client;
@@ -6,20 +6,20 @@ use dlms_frame::Client;
 /// Whether a poll looks at what the columns of the buffer's rows are.
 #[derive(Clone, Copy, Debug, PartialEq, Eq)]
 pub enum Columns {
-    /// It asks for the buffer alone, and takes rows of a second and three registers for what the readings hold.
+    /// Asks for the buffer alone, and takes rows of a second and three registers for readings.
     Trusted,
-    /// It asks for the capture objects before the buffer and behind it, and goes on only where they are the clock and the three
-    /// registers, in their order.
+    /// Asks for the capture objects before and after the buffer, and continues only if they are the clock and the three registers,
+    /// in this order.
     Asked,
 }
 
-/// What is polled, and by whom.
+/// The plan of a poll: what to read, and as which client.
 #[derive(Drop)]
 pub struct Plan {
     pub client: Client,
     /// The client's secret. A client without one sends none.
     pub secret: ArrayVec<u8, 16>,
-    /// The first second of the clock that is asked for, counted from 2000-01-01 00:00:00; 0 where there is none.
+    /// The first second of the clock to read, counted from 2000-01-01 00:00:00; 0 if there is none.
     pub after: Option<u32>,
     /// Whether the columns are asked for.
     pub columns: Columns,

@@ -13,7 +13,7 @@ use thiserror::Error;
 pub enum PollFault {
     /// The association was refused, with this diagnostic of the service user.
     Refused(u8),
-    /// A request got this result in place of an answer; 250 stands for an exception too.
+    /// A request got this result instead of an answer; 250 represents an exception, too.
     Result(u8),
     /// Nobody answers: the fourth time-out in a row.
     Line,

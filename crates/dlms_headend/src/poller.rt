@@ -36,7 +36,7 @@ const PROPOSED: Conformance = Conformance(0x007e1f);
 /// The size in bytes of the largest APDU that the poller receives.
 const SIZE: u16 = 1200;
 
-/// A poll of the load profile: it connects, associates, reads the columns where its plan asks for them, the buffer, and the columns
+/// A poll of the load profile: it connects, associates, reads the columns if its plan asks for them, the buffer, and the columns
 /// again, releases and disconnects.
 #[derive(Drop)]
 pub struct Poller<A: Allocator = Global> {
@@ -121,27 +121,36 @@ impl<A: Allocator + Copy> Poller<A> {
         }
     }
 
-    /// What the poll makes of a frame. After a fault it is the same fault again; after the poll is done it is nothing.
+    /// How the poll handles a frame. After a fault it returns the same fault again; after the poll is done it returns `Nothing`.
     pub fn on(&mut self, frame: &Frame<'_>) -> Result<PollStep, PollFault>
         // Frame by frame, whatever APDUs were taken so far.
-        ensures polls { (apdus : List (List ℕ)) → Fits self.old apdus → Polls apdus frame.now self.old result self.new }
-        // It is done only where these were an acceptance, answers that spell the rows, and the answer to the release; and where the
-        // plan asks for the columns, an answer that tells them before the rows and one behind them.
-        ensures done { (apdus : List (List ℕ)) → Fits self.old apdus → result ≡ Ok Done → HasReleased self.old.plan.columns apdus self.new.talk.rows }
-        // And it is done where they are, once the link goes down.
-        ensures is_done { (apdus : List (List ℕ)) (rows : List RowOf) → Fits self.old apdus → self.old.course ≡ Running → HasReleased self.old.plan.columns apdus rows
-            → (client_step self.old.link frame.now).1 ≡ Down → IsDone (with_link self.old (client_step self.old.link frame.now).0) result self.new × (self.new.talk.rows ≡ rows) }
+        ensures polls { (apdus : List (List ℕ)) → Fits self.old apdus
+            → Polls apdus frame.now self.old result self.new }
+        // It is done only if these were an acceptance, answers that spell the rows, and the answer to the release; and if the plan
+        // asks for the columns, an answer with them before the rows and one after them.
+        ensures done { (apdus : List (List ℕ)) → Fits self.old apdus → result ≡ Ok Done
+            → HasReleased self.old.plan.columns apdus self.new.talk.rows }
+        // And it is done if they are, once the link goes down.
+        ensures is_done { (apdus : List (List ℕ)) (rows : List RowOf) → Fits self.old apdus
+            → self.old.course ≡ Running → HasReleased self.old.plan.columns apdus rows
+            → (client_step self.old.link frame.now).1 ≡ Down
+            → IsDone (with_link self.old (client_step self.old.link frame.now).0) result self.new
+            × (self.new.talk.rows ≡ rows) }
         // Memory is wanting only for an answer to a GET of the buffer that needs some; never for a request.
-        ensures memory { (apdus : List (List ℕ)) → Fits self.old apdus → self.old.course ≡ Running → result ≡ Err Memory → WantsMemory self.old apdus frame.now }
+        ensures memory { (apdus : List (List ℕ)) → Fits self.old apdus → self.old.course ≡ Running
+            → result ≡ Err Memory → WantsMemory self.old apdus frame.now }
     {
         self.turn(frame)
     }
 
     /// A frame, wherever the poll stands.
     fn turn(&mut self, frame: &Frame<'_>) -> Result<PollStep, PollFault>
-        ensures polls { (apdus : List (List ℕ)) → Fits self.old apdus → Polls apdus frame.now self.old result self.new }
-        ensures done { (apdus : List (List ℕ)) → Fits self.old apdus → result ≡ Ok Done → HasReleased self.old.plan.columns apdus self.new.talk.rows }
-        ensures memory { (apdus : List (List ℕ)) → Fits self.old apdus → self.old.course ≡ Running → result ≡ Err Memory → WantsMemory self.old apdus frame.now }
+        ensures polls { (apdus : List (List ℕ)) → Fits self.old apdus
+            → Polls apdus frame.now self.old result self.new }
+        ensures done { (apdus : List (List ℕ)) → Fits self.old apdus → result ≡ Ok Done
+            → HasReleased self.old.plan.columns apdus self.new.talk.rows }
+        ensures memory { (apdus : List (List ℕ)) → Fits self.old apdus → self.old.course ≡ Running
+            → result ≡ Err Memory → WantsMemory self.old apdus frame.now }
     {
         match self.course {
             Course::Failed(fault) => Err(fault),
@@ -162,7 +171,8 @@ impl<A: Allocator + Copy> Poller<A> {
     /// A frame before the first one went out.
     fn early(&mut self, frame: &Frame<'_>) -> Result<PollStep, PollFault>
         requires { self.old.course ≡ Ready }
-        ensures { PollsEarly (client_step self.old.link frame.now).1 (client_step self.old.link frame.now).0 self.old result self.new }
+        ensures { PollsEarly (client_step self.old.link frame.now).1
+            (client_step self.old.link frame.now).0 self.old result self.new }
     {
         match self.link.on(frame) {
             ClientOut::Nothing => Ok(PollStep::Nothing),
@@ -174,9 +184,12 @@ impl<A: Allocator + Copy> Poller<A> {
     fn running(&mut self, frame: &Frame<'_>) -> Result<PollStep, PollFault>
         requires { self.old.course ≡ Running }
         ensures polls { (apdus : List (List ℕ)) → FitsIn Running self.old apdus
-            → PollsBy (client_step self.old.link frame.now).1 (client_step self.old.link frame.now).0 apdus self.old result self.new }
-        ensures memory { (apdus : List (List ℕ)) → FitsIn Running self.old apdus → result ≡ Err Memory
-            → WantsBy (client_step self.old.link frame.now).1 (client_step self.old.link frame.now).0 self.old.plan.columns apdus }
+            → PollsBy (client_step self.old.link frame.now).1
+            (client_step self.old.link frame.now).0 apdus self.old result self.new }
+        ensures memory { (apdus : List (List ℕ)) → FitsIn Running self.old apdus
+            → result ≡ Err Memory
+            → WantsBy (client_step self.old.link frame.now).1
+            (client_step self.old.link frame.now).0 self.old.plan.columns apdus }
     {
         match self.link.on(frame) {
             ClientOut::Nothing => Ok(PollStep::Nothing),
@@ -187,11 +200,12 @@ impl<A: Allocator + Copy> Poller<A> {
         }
     }
 
-    /// What is due goes out. It takes no memory.
+    /// Sends the next request. It takes no memory.
     fn go_on(&mut self) -> SentFrame
         requires running { self.old.course ≡ Running }
         requires idle { IsIdle self.old.link }
-        ensures { (apdus : List (List ℕ)) → FitsTalk self.old.plan.columns self.old.talk apdus → Continues self.old apdus (Ok (PollStep.Send result)) self.new }
+        ensures { (apdus : List (List ℕ)) → FitsTalk self.old.plan.columns self.old.talk apdus
+            → Continues self.old apdus (Ok (PollStep.Send result)) self.new }
     {
         due(&self.plan, &mut self.link, self.talk.stage())
     }
@@ -200,9 +214,11 @@ impl<A: Allocator + Copy> Poller<A> {
     fn take(&mut self) -> Result<PollStep, PollFault>
         requires running { self.old.course ≡ Running }
         requires idle { IsIdle self.old.link }
-        ensures answers { (apdus : List (List ℕ)) → FitsTalk self.old.plan.columns self.old.talk apdus → CanTake self.old.talk.stage
+        ensures answers { (apdus : List (List ℕ))
+            → FitsTalk self.old.plan.columns self.old.talk apdus → CanTake self.old.talk.stage
             → Answers self.old apdus result self.new }
-        ensures ends { (apdus : List (List ℕ)) → FitsTalk self.old.plan.columns self.old.talk apdus → CanTake self.old.talk.stage
+        ensures ends { (apdus : List (List ℕ)) → FitsTalk self.old.plan.columns self.old.talk apdus
+            → CanTake self.old.talk.stage
             → IfErr result (Ends self.old.plan.columns apdus self.old.link.apdu) }
     {
         match self.talk.take(self.plan.columns, self.link.apdu()) {

@@ -22,7 +22,8 @@ use std::alloc::Allocator;
 
 /// The value in an answer to GET.
 fn data<A: Allocator>(alloc: A, taken: u32, value: &Data<A>) -> Result<GetAnswer<A>, PollFault>
-    ensures hears { (old new : Joining) (invoke : ℕ) → HearsBy taken old (Ok (get_data invoke (value_of value.now))) result new }
+    ensures hears { (old new : Joining) (invoke : ℕ)
+        → HearsBy taken old (Ok (get_data invoke (value_of value.now))) result new }
     ensures readings { BringsReadings result }
 {
     if taken != 0 {
@@ -53,7 +54,8 @@ fn block<A: Allocator + Copy>(
     number: u32,
     raw: &[u8],
 ) -> Result<GetAnswer<A>, PollFault>
-    ensures hears { (taken invoke : ℕ) → HasTaken blocks.old taken → HearsBy taken blocks.old (Ok (get_block invoke last number raw.now)) result blocks.new }
+    ensures hears { (taken invoke : ℕ) → HasTaken blocks.old taken
+        → HearsBy taken blocks.old (Ok (get_block invoke last number raw.now)) result blocks.new }
     ensures readings { BringsReadings result }
 {
     match blocks.more(last, number, raw) {
@@ -75,7 +77,7 @@ fn result_of(taken: u32, code: u8) -> PollFault
     }
 }
 
-/// What stands behind the first four bytes.
+/// The bytes after the first four.
 pub fn behind_head(apdu: &[u8]) -> &[u8]
     ensures { result.now ≡ drop 4 apdu.now }
 {
@@ -85,9 +87,10 @@ pub fn behind_head(apdu: &[u8]) -> &[u8]
     &apdu[4..]
 }
 
-/// There was no memory for data. Where blocks have come none is awaited; and where it is no array of rows, more memory is of no use.
+/// There was no memory for data. If blocks have come, none is awaited; and if it is no array of rows, more memory would not help.
 fn wanting(taken: u32, apdu: &[u8]) -> PollFault
-    ensures { (joined : List ℕ) (invoke : ℕ) (v : Value) → response_at apdu.now ≡ Ok (get_data invoke v) → NeedsMemory v
+    ensures { (joined : List ℕ) (invoke : ℕ) (v : Value)
+        → response_at apdu.now ≡ Ok (get_data invoke v) → NeedsMemory v
         → FailsOrWants taken joined (Ok (get_data invoke v)) result }
 {
     if taken != 0 {

@@ -8,8 +8,8 @@ use std::alloc::AllocError;
 use std::fmt;
 use thiserror::Error;
 
-/// Why a readings file could not be read. `Memory` stands behind the other. It is shown by its name in lower case, and by the
-/// number that it carries.
+/// Why a readings file could not be read. `Memory` comes only after the other. It is shown by its name in lower case, followed by
+/// its number, if it has one.
 #[derive(Clone, Copy, Debug, PartialEq, Eq, Error)]
 pub enum ReadingsFault {
     /// The line of this number, counted from 1, is the first that has not the form of a line.

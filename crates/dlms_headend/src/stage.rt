@@ -2,7 +2,7 @@
 
 use crate::poll_fault::PollFault;
 
-/// What a poll waits for, once its link is up.
+/// The answer that a poll awaits, once its link is up.
 #[derive(Clone, Copy, Debug, PartialEq, Eq)]
 pub enum Stage {
     /// The answer to the association request.

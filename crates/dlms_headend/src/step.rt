@@ -1,8 +1,8 @@
-//! What comes of a frame.
+//! The outcome of a frame.
 
 use dlms_frame::SentFrame;
 
-/// What a poll makes of a frame.
+/// How a poll handled a frame.
 #[derive(Drop)]
 pub enum PollStep {
     /// Nothing is to be done.

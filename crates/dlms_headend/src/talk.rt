@@ -1,4 +1,4 @@
-//! What the answers have brought.
+//! The content of the answers so far.
 
 ghost use Rattle.std.specs.Prelude.{◌≡◌, ◌++◌, ◌∷◌, [], List, ℕ};
 ghost use Rattle.dlms_headend.specs.declared.stage.Stage.TheVariants.{Associating, Naming, Getting, Checking};
@@ -17,7 +17,7 @@ use dlms_blocks::GetIn;
 use std::alloc::{Allocator, Global};
 use std::marker::Model;
 
-/// What the answers have brought.
+/// The content of the answers so far.
 #[derive(Drop)]
 pub struct Talk<A: Allocator = Global> {
     alloc: A,
@@ -37,7 +37,7 @@ impl<A: Allocator> Model for Talk<A> {
     ghost invariant = { λ t. AreReadings t.rows.items };
 }
 
-/// What is awaited behind the acceptance.
+/// The answer that is awaited after the acceptance.
 fn behind_acceptance(columns: Columns) -> Stage
     ensures { result ≡ behind_acceptance columns }
 {
@@ -47,7 +47,7 @@ fn behind_acceptance(columns: Columns) -> Stage
     }
 }
 
-/// What is awaited behind the rows.
+/// The answer that is awaited after the rows.
 fn behind_rows(columns: Columns) -> Stage
     ensures { result ≡ behind_rows columns }
 {
@@ -70,7 +70,7 @@ impl<A: Allocator + Copy> Talk<A> {
         }
     }
 
-    /// What is awaited.
+    /// The answer that is awaited.
     pub fn stage(&self) -> Stage
         ensures { result ≡ self.now.stage }
     {
@@ -87,7 +87,8 @@ impl<A: Allocator + Copy> Talk<A> {
 
     /// The answer to the association request.
     fn associate(&mut self, columns: Columns, apdu: &[u8]) -> Result<(), PollFault>
-        ensures { (apdus : List (List ℕ)) → FitsTalk columns self.old apdus → self.old.stage ≡ Associating → Takes columns self.old apdus apdu.now result self.new }
+        ensures { (apdus : List (List ℕ)) → FitsTalk columns self.old apdus
+            → self.old.stage ≡ Associating → Takes columns self.old apdus apdu.now result self.new }
     {
         match associated(apdu) {
             Ok(()) => {
@@ -100,7 +101,8 @@ impl<A: Allocator + Copy> Talk<A> {
 
     /// The answer to the first GET of the columns.
     fn name(&mut self, columns: Columns, apdu: &[u8]) -> Result<(), PollFault>
-        ensures { (apdus : List (List ℕ)) → FitsTalk columns self.old apdus → self.old.stage ≡ Naming → Takes columns self.old apdus apdu.now result self.new }
+        ensures { (apdus : List (List ℕ)) → FitsTalk columns self.old apdus
+            → self.old.stage ≡ Naming → Takes columns self.old apdus apdu.now result self.new }
     {
         match told(self.alloc, apdu) {
             Ok(()) => {
@@ -113,7 +115,8 @@ impl<A: Allocator + Copy> Talk<A> {
 
     /// The answer to the second one.
     fn check(&mut self, columns: Columns, apdu: &[u8]) -> Result<(), PollFault>
-        ensures { (apdus : List (List ℕ)) → FitsTalk columns self.old apdus → self.old.stage ≡ Checking → Takes columns self.old apdus apdu.now result self.new }
+        ensures { (apdus : List (List ℕ)) → FitsTalk columns self.old apdus
+            → self.old.stage ≡ Checking → Takes columns self.old apdus apdu.now result self.new }
     {
         match told(self.alloc, apdu) {
             Ok(()) => {
@@ -127,7 +130,9 @@ impl<A: Allocator + Copy> Talk<A> {
     /// An answer to a GET of the buffer, after so many blocks.
     #[tactic(auto, using(crate::proofs::TalkLemmas::block_taken, crate::proofs::TalkLemmas::rows_taken, crate::proofs::TalkLemmas::get_ends))]
     fn hear(&mut self, columns: Columns, taken: u32, apdu: &[u8]) -> Result<(), PollFault>
-        ensures { (apdus : List (List ℕ)) → FitsTalk columns self.old apdus → self.old.stage ≡ Getting taken → Takes columns self.old apdus apdu.now result self.new }
+        ensures { (apdus : List (List ℕ)) → FitsTalk columns self.old apdus
+            → self.old.stage ≡ Getting taken
+            → Takes columns self.old apdus apdu.now result self.new }
     {
         match heard(self.alloc, taken, &mut self.blocks, apdu) {
             Ok(GetAnswer::More(number)) => {
@@ -145,7 +150,8 @@ impl<A: Allocator + Copy> Talk<A> {
 
     /// The next APDU of a poll that asks for the columns or not.
     pub fn take(&mut self, columns: Columns, apdu: &[u8]) -> Result<(), PollFault>
-        ensures { (apdus : List (List ℕ)) → FitsTalk columns self.old apdus → CanTake self.old.stage → Takes columns self.old apdus apdu.now result self.new }
+        ensures { (apdus : List (List ℕ)) → FitsTalk columns self.old apdus → CanTake self.old.stage
+            → Takes columns self.old apdus apdu.now result self.new }
     {
         match self.stage {
             Stage::Associating => self.associate(columns, apdu),

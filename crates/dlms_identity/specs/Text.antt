@@ -10,9 +10,10 @@ text_of (visible_string octets) = Some octets
 text_of (utf8_string octets) = Some octets
 text_of _ = None
 
--- Whatever value the octets spell has this text, or none; and where there is a text, they spell a value.
+-- A value that the octets spell has this text, or none; and if there is a text, they spell a value.
 abbrev pub IsText : List ℕ → Option (List ℕ) → Type 0
-IsText octets text = ((v : Value) → IsSpelling octets v → text_of v ≡ text) × IfSome text (λ _. (v : Value) × IsSpelling octets v)
+IsText octets text = ((v : Value) → IsSpelling octets v → text_of v ≡ text)
+    × IfSome text (λ _. (v : Value) × IsSpelling octets v)
 
 -- the octets spell a string with this text
 abbrev pub SpellsText : List ℕ → List ℕ → Type 0

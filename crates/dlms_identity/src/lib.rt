@@ -4,5 +4,5 @@
 mod showing;
 mod text;
 
-pub use showing::{Expected, MOST, first_other, shown, shows};
+pub use showing::{Expected, MOST, first_other, shown_text, shows};
 pub use text::text_in;

@@ -1,4 +1,4 @@
-//! What the objects of a meter show, each asked for in an association of its own.
+//! The texts that a meter's objects show, each read in an association of its own.
 
 ghost use Rattle.std.specs.Prelude.{◌≡◌, ◌↔◌, IsTrue, Some};
 ghost use Rattle.dlms_call.specs.Talking.{Leads};
@@ -13,7 +13,7 @@ use dlms_data::{Bytes, Descriptor};
 use dlms_ends::End;
 use std::alloc::Global;
 
-/// The most octets of a value's encoding. Of a longer one the rest is not asked for, and it is the fault `TooLarge`.
+/// The most octets of a value's encoding. The rest of a longer one is not requested, and it is the fault `TooLarge`.
 pub const MOST: usize = 1_024;
 
 /// The class Data, and its attribute value (IEC 62056-6-2, Data, class 1).
@@ -42,7 +42,7 @@ fn value_at(name: [u8; 6]) -> Descriptor
 
 /// Asks for the value of an object, over an open association, and takes it as text.
 #[inline(never)]
-fn read<S: End>(
+fn ask_text<S: End>(
     alloc: Global,
     line: &mut S,
     head: &mut ClientEnd<Global>,
@@ -64,7 +64,7 @@ fn read<S: End>(
 /// The text that the object of class Data with this name shows: an association is opened by this plan, the object's value is asked for,
 /// and the link's end is asked for, whatever came. None if the meter does not give the value, or the value is no string.
 #[inline(never)]
-pub fn shown<S: End>(
+pub fn shown_text<S: End>(
     alloc: Global,
     line: &mut S,
     plan: Plan,
@@ -77,7 +77,7 @@ pub fn shown<S: End>(
         Ok(head) => head,
         Err(fault) => return Err(fault),
     };
-    let text = read(alloc, line, &mut head, name);
+    let text = ask_text(alloc, line, &mut head, name);
     let _ended = end(line, &mut head);
     drop(head);
     text
@@ -107,7 +107,7 @@ pub fn shows<S: End>(
     requires { IsPlan (plan_of plan) }
     ensures { Shows (S.past line.old) (S.past line.new) (plan_of plan) expected.now result }
 {
-    match shown(alloc, line, plan, expected.name) {
+    match shown_text(alloc, line, plan, expected.name) {
         Ok(told) => Ok(is_text(told, expected.text)),
         Err(fault) => Err(fault),
     }
@@ -141,7 +141,8 @@ pub fn first_other<'a, S: End>(
     expected: &[Expected<'a>],
 ) -> Result<Option<Expected<'a>>, CallFault>
     requires { IsPlan (plan_of plan.now) }
-    ensures { ShowsAllBut (S.past line.old) (S.past line.new) (plan_of plan.now) expected.now result }
+    ensures { ShowsAllBut (S.past line.old) (S.past line.new)
+        (plan_of plan.now) expected.now result }
 {
     for one in expected {
         match shows(alloc, line, again(plan), one) {

@@ -25,7 +25,7 @@ fn octets_of(value: Data<Global>) -> Option<Bytes<Global>>
 }
 
 /// The octets of the string that an encoding spells: an octet-string, a visible-string or a utf8-string (Blue Book, common data
-/// types). None if it spells another value, or no value. Memory is wanting only where it spells a value.
+/// types). None if it spells another value, or no value. Out of memory is reported only if it spells a value.
 pub fn text_in(alloc: Global, encoding: &[u8]) -> Result<Option<Bytes<Global>>, AllocError>
     ensures text { IfOk result (IsText encoding.now) }
     ensures lacks { OnErr result ((v : Value) × IsSpelling encoding.now v) }

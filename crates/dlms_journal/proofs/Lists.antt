@@ -29,7 +29,7 @@ unfolding event_at
 from_nothing zero = refl
 from_nothing (suc n) = refl
 
--- with enough steps, the events that stand there are read
+-- with enough steps, the events that are there are read
 read_all : (E : List Event) (n : ℕ) → length (flat_map record_of E) ≤ n → All FitsType E → events_from n (flat_map record_of E) ≡ E
 read_all [] n room fit = from_nothing n
 read_all (e ∷ E) zero room fit =
@@ -52,14 +52,14 @@ joined front back E F h g = record {
   fit = All-append FitsType E F h.fit g.fit;
 }
 
--- where bytes hold events, the first is read, and behind it the others stand
+-- if bytes hold events, the first is read, and the others follow it
 pub first_read : (bytes : List ℕ) (e : Event) (E : List Event) → Holds bytes (e ∷ E) → (event_at bytes ≡ Some (e, flat_map record_of E)) × Holds (flat_map record_of E) E
 first_read bytes e E h =
     (ap event_at h.text ∙ read_again e (flat_map record_of E) (first_fits e E h.fit), record { text = refl; fit = others_fit e E h.fit })
 
 -- ---- reading on and on
 
--- events were read, and these bytes stand behind them
+-- events were read, and these bytes follow them
 abbrev pub Behind : List ℕ → List ℕ → Type 0
 Behind bytes rest = (E : List Event) × (bytes ≡ flat_map record_of E ++ rest) × All FitsType E
 
@@ -81,7 +81,7 @@ one_more bytes rest behind e h r fit =
 pub all_read : (bytes : List ℕ) → Behind bytes [] → (E : List Event) × Holds bytes E
 all_read bytes h = (h.0, record { text = h.1 ∙ append-nil (flat_map record_of h.0); fit = h.2 })
 
--- what stands behind events that were read is that of the others
+-- what follows events that were read is that of the others
 others_stand : (E F : List Event) (rest : List ℕ) → All FitsType E → All FitsType F → flat_map record_of F ≡ flat_map record_of E ++ rest → (G : List Event) × Holds rest G
 others_stand [] F rest h g same = (F, record { text = sym same; fit = g })
 others_stand (e ∷ E) [] rest h g same =
@@ -91,7 +91,7 @@ others_stand (e ∷ E) (f ∷ F) rest h g same =
     (same ∙ append_assoc (record_of e) (flat_map record_of E) rest) in
     others_stand E F rest (others_fit e E h) (others_fit f F g) first.1
 
--- where no record stands in front of some bytes, no events stand there
+-- if no record is at the front of some bytes, no events are there
 pub never : (bytes rest : List ℕ) → Behind bytes rest → 1 ≤ length rest → event_at rest ≡ None → (F : List Event) → Holds bytes F → ⊥
 never bytes rest h some none F g = from (others_stand h.0 F rest h.2 g.fit (sym g.text ∙ h.1))
   where

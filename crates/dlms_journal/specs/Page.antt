@@ -43,12 +43,20 @@ head_of page = record {
   payload = big_from 12 2 page;
 }
 
--- the payload that a head counts, where it can stand behind the head
+-- the payload that a head counts, if it fits after the head
 abbrev pub payload_at : List ℕ → Option (List ℕ)
-payload_at page = if nat_le (head_of page).payload MOST_PAYLOAD then Some (take (head_of page).payload (drop 16 page)) else None
+payload_at page = if nat_le (head_of page).payload MOST_PAYLOAD
+    then Some (take (head_of page).payload (drop 16 page)) else None
 
--- A page as it is written: what its head says, zeros in the two bytes that mean nothing, the payload, and zeros behind it.
-pub record IsPage (page : List ℕ) (kind : PageKind) (index generation : ℕ) (payload : List ℕ) : Type 0 where
+-- A page as it is written: its head, zeros in the two unused bytes, the payload, and zeros after it.
+pub record IsPage (page : List ℕ) (kind : PageKind) (index generation : ℕ) (payload : List ℕ)
+    : Type 0 where
   pub bytes : length page ≡ 512
-  pub head : head_of page ≡ record { kind = number_of kind; version = VERSION; index = index; generation = generation; payload = length payload }
+  pub head : head_of page ≡ record {
+    kind = number_of kind;
+    version = VERSION;
+    index = index;
+    generation = generation;
+    payload = length payload;
+  }
   pub behind : drop 14 page ≡ 0 ∷ 0 ∷ (payload ++ replicate (MOST_PAYLOAD - length payload) 0)

@@ -1,4 +1,4 @@
--- What stands on the meter's medium of an event.
+-- The record of an event on the meter's medium.
 use Rattle.std.specs.Prelude.{◌≡◌, ℕ, List, [], ◌∷◌, length, All}
 use Rattle.std.specs.List.{flat_map}
 use Rattle.std.specs.Int.{cast_unsigned, w16}
@@ -14,9 +14,9 @@ abbrev pub owner_number : SecretOf → ℕ
 owner_number Management = 1
 owner_number Reader = 2
 
--- A record: a number for what happened, in the order of the table of events, and what the event carries. Numbers stand with
--- their highest byte first, a shift in two's complement; bytes and ids of columns stand behind their count, a secret also behind
--- the number of the client whose it is.
+-- A record: a number for the kind of event, in the order of the table of events, and the event's content. Numbers have their
+-- highest byte first, a shift is in two's complement; bytes and ids of columns follow their count, and a secret also follows the
+-- number of its client.
 abbrev pub record_of : Event → List ℕ
 record_of (Pulses channel count) = 1 ∷ channel ∷ big_bytes 4 count
 record_of (Moment second) = 2 ∷ big_bytes 4 second

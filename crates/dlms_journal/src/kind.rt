@@ -1,8 +1,8 @@
-//! What a page is for.
+//! The purpose of a page.
 ghost use Rattle.std.specs.Prelude.{◌≡◌};
 ghost use Rattle.dlms_journal.specs.Page.{number_of, kind_named};
 
-/// What a page is for. Its number is the first byte of the page.
+/// The purpose of a page. Its number is the first byte of the page.
 #[derive(Clone, Copy, Debug, PartialEq, Eq)]
 pub enum PageKind {
     /// Nothing was written here since the device was formatted.

@@ -7,9 +7,10 @@ ghost use Rattle.dlms_journal.specs.Page.{IsPage, head_of, kind_named, payload_a
 ghost use Rattle.dlms_journal.specs.Record.{Holds, record_of};
 ghost use Rattle.dlms_journal.specs.declared.page.TheConstants.{MOST_PAYLOAD, VERSION};
 
-/// No record is the beginning of another: an event and what stands behind its record are told by the bytes.
+/// No record is the beginning of another: the bytes determine an event and what follows its record.
 pub fn no_record_begins_another()
-    ensures { (e f : Event) (behind after : List ℕ) → FitsType e → FitsType f → record_of e ++ behind ≡ record_of f ++ after → (e ≡ f) × (behind ≡ after) }
+    ensures { (e f : Event) (behind after : List ℕ) → FitsType e → FitsType f
+        → record_of e ++ behind ≡ record_of f ++ after → (e ≡ f) × (behind ≡ after) }
 {}
 
 /// Bytes hold one list of events at most.
@@ -17,14 +18,16 @@ pub fn one_list()
     ensures { (bytes : List ℕ) (E F : List Event) → Holds bytes E → Holds bytes F → E ≡ F }
 {}
 
-/// Records behind records hold the events of both, in their order.
+/// Records after records contain the events of both, in order.
 pub fn records_join()
-    ensures { (front back : List ℕ) (E F : List Event) → Holds front E → Holds back F → Holds (front ++ back) (E ++ F) }
+    ensures { (front back : List ℕ) (E F : List Event) → Holds front E → Holds back F
+        → Holds (front ++ back) (E ++ F) }
 {}
 
-/// What is written of a page is read of it: its kind and its payload. The other fields are equations of `IsPage` itself.
+/// A written page is read as it was written: its kind and its payload. The other fields are equations of `IsPage` itself.
 pub fn pages_are_read()
-    ensures { (page : List ℕ) (kind : PageKind) (index generation : ℕ) (payload : List ℕ) → length payload ≤ MOST_PAYLOAD → IsPage page kind index generation payload
+    ensures { (page : List ℕ) (kind : PageKind) (index generation : ℕ) (payload : List ℕ)
+        → length payload ≤ MOST_PAYLOAD → IsPage page kind index generation payload
         → (kind_named (head_of page).kind ≡ Some kind) × (payload_at page ≡ Some payload) }
 {}
 

@@ -1,4 +1,4 @@
-//! What stands on the meter's medium: records of events, and the heads of pages.
+//! The contents of the meter's medium: records of events, and the heads of pages.
 #![tactic(auto)]
 
 mod kind;

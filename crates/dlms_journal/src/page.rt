@@ -21,7 +21,8 @@ pub const VERSION: u8 = 2;
 
 /// The head of a page.
 fn head_bytes(kind: PageKind, index: u16, generation: u64, payload: u16) -> [u8; HEAD_BYTES]
-    ensures { result ≡ number_of kind ∷ VERSION ∷ (big_bytes 2 index ++ (big_bytes 8 generation ++ (big_bytes 2 payload ++ 0 ∷ 0 ∷ []))) }
+    ensures { result ≡ number_of kind ∷ VERSION
+        ∷ (big_bytes 2 index ++ (big_bytes 8 generation ++ (big_bytes 2 payload ++ 0 ∷ 0 ∷ []))) }
 {
     let [i0, i1] = index.to_be_bytes();
     let [g0, g1, g2, g3, g4, g5, g6, g7] = generation.to_be_bytes();
@@ -46,10 +47,11 @@ fn head_bytes(kind: PageKind, index: u16, generation: u64, payload: u16) -> [u8;
     ]
 }
 
-/// A head and a payload, and zeros behind them.
+/// A head and a payload, followed by zeros.
 fn joined(head: &[u8; HEAD_BYTES], payload: &[u8]) -> [u8; PAGE_BYTES]
     requires { length payload.now ≤ MOST_PAYLOAD }
-    ensures { result ≡ head.now ++ (payload.now ++ replicate (MOST_PAYLOAD - length payload.now) 0) }
+    ensures { result ≡ head.now ++ (payload.now
+        ++ replicate (MOST_PAYLOAD - length payload.now) 0) }
 {
     let mut page = [0; PAGE_BYTES];
     let (front, behind) = page.split_at_mut(HEAD_BYTES);
@@ -69,7 +71,7 @@ pub fn page_of(kind: PageKind, index: u16, generation: u64, payload: &[u8]) -> [
     joined(&head, payload)
 }
 
-/// What a page is for; none where its number is unknown.
+/// The kind of a page; none if its number is unknown.
 pub fn kind_of(page: &[u8; PAGE_BYTES]) -> Option<PageKind>
     ensures { result ≡ kind_named (head_of page.now).kind }
 {
@@ -97,7 +99,7 @@ pub fn generation_of(page: &[u8; PAGE_BYTES]) -> u64
     BigEndian::read_u64(&page[4..])
 }
 
-/// A page's payload; none where its length says more than a page holds.
+/// A page's payload; none if its length exceeds a page.
 pub fn payload_of(page: &[u8; PAGE_BYTES]) -> Option<&[u8]>
     ensures { option_map (λ payload. payload.now) result ≡ payload_at page.now }
 {

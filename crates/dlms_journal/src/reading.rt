@@ -1,4 +1,4 @@
-//! The event that stands at the front of bytes.
+//! Reads the event at the front of bytes.
 ghost use Rattle.std.specs.Prelude.{◌≡◌, ◌≤◌, ◌∷◌, ◌++◌, ◌<◌, ◌^◌, length, All, IfSome, option_map};
 ghost use Rattle.std.specs.Int.{cast_signed, w16};
 ghost use Rattle.dlms_state.specs.declared.event.Event.TheVariants as EventOf;
@@ -10,7 +10,7 @@ use arrayvec::ArrayVec;
 use byteorder::{BigEndian, ByteOrder};
 use dlms_state::{Event, SecretOf};
 
-/// The first `n` bytes, and those behind them.
+/// The first `n` bytes, and those after them.
 #[tactic(auto, unfolding(crate::specs::Reading::taken_at))]
 fn taken(bytes: &[u8], n: usize) -> Option<(&[u8], &[u8])>
     ensures exact { option_map (λ x. (x.0.now, x.1.now)) result ≡ taken_at n bytes.now }
@@ -40,7 +40,7 @@ fn four(bytes: &[u8]) -> Option<(u32, &[u8])>
     Some((BigEndian::read_u32(front), rest))
 }
 
-/// A count of at most `MOST`, and so many bytes.
+/// A count of at most `MOST`, and that many bytes.
 #[tactic(auto, unfolding(crate::specs::Reading::counted_at))]
 fn counted<const MOST: usize>(bytes: &[u8]) -> Option<(ArrayVec<u8, MOST>, &[u8])>
     ensures { option_map (λ x. (x.0.items, x.1.now)) result ≡ counted_at MOST bytes.now }
@@ -103,7 +103,8 @@ fn register(bytes: &[u8]) -> Option<(Event, &[u8])>
 
 /// A moment of the meter's own running second.
 fn moment(bytes: &[u8]) -> Option<(Event, &[u8])>
-    ensures { option_map (λ x. (x.0, x.1.now)) result ≡ on_some (number_at 4 bytes.now) (as_event EventOf.Moment) }
+    ensures { option_map (λ x. (x.0, x.1.now)) result ≡ on_some (number_at 4 bytes.now)
+        (as_event EventOf.Moment) }
 {
     let (second, rest) = four(bytes)?;
     Some((Event::Moment(second), rest))
@@ -111,7 +112,8 @@ fn moment(bytes: &[u8]) -> Option<(Event, &[u8])>
 
 /// A time that was set.
 fn time(bytes: &[u8]) -> Option<(Event, &[u8])>
-    ensures { option_map (λ x. (x.0, x.1.now)) result ≡ on_some (number_at 4 bytes.now) (as_event EventOf.SetTime) }
+    ensures { option_map (λ x. (x.0, x.1.now)) result ≡ on_some (number_at 4 bytes.now)
+        (as_event EventOf.SetTime) }
 {
     let (second, rest) = four(bytes)?;
     Some((Event::SetTime(second), rest))
@@ -119,7 +121,8 @@ fn time(bytes: &[u8]) -> Option<(Event, &[u8])>
 
 /// A shift of the clock.
 fn shift(bytes: &[u8]) -> Option<(Event, &[u8])>
-    ensures { option_map (λ x. (x.0, x.1.now)) result ≡ on_some (number_at 2 bytes.now) (as_event (λ n. EventOf.Shift (cast_signed w16 n))) }
+    ensures { option_map (λ x. (x.0, x.1.now)) result ≡ on_some (number_at 2 bytes.now)
+        (as_event (λ n. EventOf.Shift (cast_signed w16 n))) }
 {
     let (by, rest) = two(bytes)?;
     Some((Event::Shift(by.cast_signed()), rest))
@@ -127,7 +130,8 @@ fn shift(bytes: &[u8]) -> Option<(Event, &[u8])>
 
 /// A capture period that was set.
 fn period(bytes: &[u8]) -> Option<(Event, &[u8])>
-    ensures { option_map (λ x. (x.0, x.1.now)) result ≡ on_some (number_at 4 bytes.now) (as_event EventOf.SetPeriod) }
+    ensures { option_map (λ x. (x.0, x.1.now)) result ≡ on_some (number_at 4 bytes.now)
+        (as_event EventOf.SetPeriod) }
 {
     let (seconds, rest) = four(bytes)?;
     Some((Event::SetPeriod(seconds), rest))
@@ -135,7 +139,8 @@ fn period(bytes: &[u8]) -> Option<(Event, &[u8])>
 
 /// A text that was set.
 fn text(bytes: &[u8]) -> Option<(Event, &[u8])>
-    ensures { option_map (λ x. (x.0, x.1.now)) result ≡ on_some (counted_at 240 bytes.now) (as_event (λ bytes. EventOf.SetText (record { items = bytes }))) }
+    ensures { option_map (λ x. (x.0, x.1.now)) result ≡ on_some (counted_at 240 bytes.now)
+        (as_event (λ bytes. EventOf.SetText (record { items = bytes }))) }
 {
     let (text, rest) = counted(bytes)?;
     Some((Event::SetText(text), rest))
@@ -143,13 +148,14 @@ fn text(bytes: &[u8]) -> Option<(Event, &[u8])>
 
 /// Columns that were set.
 fn columns(bytes: &[u8]) -> Option<(Event, &[u8])>
-    ensures { option_map (λ x. (x.0, x.1.now)) result ≡ on_some (counted_at 4 bytes.now) (as_event (λ ids. EventOf.SetColumns (record { items = ids }))) }
+    ensures { option_map (λ x. (x.0, x.1.now)) result ≡ on_some (counted_at 4 bytes.now)
+        (as_event (λ ids. EventOf.SetColumns (record { items = ids }))) }
 {
     let (ids, rest) = counted(bytes)?;
     Some((Event::SetColumns(ids), rest))
 }
 
-/// What a record of this kind holds.
+/// The content of a record of this kind.
 #[tactic(auto, unfolding(crate::specs::Reading::event_at))]
 fn held(kind: u8, rest: &[u8]) -> Option<(Event, &[u8])>
     ensures { option_map (λ x. (x.0, x.1.now)) result ≡ event_at (kind ∷ rest.now) }
@@ -171,7 +177,7 @@ fn held(kind: u8, rest: &[u8]) -> Option<(Event, &[u8])>
     }
 }
 
-/// What the first record holds, and the bytes behind it.
+/// The content of the first record, and the bytes after it.
 #[tactic(auto, unfolding(crate::specs::Reading::event_at))]
 fn first(bytes: &[u8]) -> Option<(Event, &[u8])>
     ensures exact { option_map (λ x. (x.0, x.1.now)) result ≡ event_at bytes.now }
@@ -183,7 +189,7 @@ fn first(bytes: &[u8]) -> Option<(Event, &[u8])>
     Some((event, rest))
 }
 
-/// The event that stands at the front, and the bytes behind it.
+/// The event at the front, and the bytes after it.
 pub(crate) fn event_at(bytes: &[u8]) -> Option<(Event, &[u8])>
     ensures exact { option_map (λ x. (x.0, x.1.now)) result ≡ event_at bytes.now }
     ensures fits { IfSome result (λ x. FitsType x.0) }

@@ -60,7 +60,7 @@ fn are_whole(bytes: &[u8]) -> bool
     true
 }
 
-/// The events of records that stand one after another; none where the bytes are not whole records. No bytes are no events.
+/// The events of consecutive records; none if the bytes are not whole records. No bytes are no events.
 pub fn records_of(bytes: &[u8]) -> Option<Records<'_>>
     ensures some { IfSome result (λ events. Holds bytes.now events) }
     ensures none { IfNone result ((events : List EventOf) → Holds bytes.now events → ⊥) }

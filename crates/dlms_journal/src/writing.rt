@@ -12,7 +12,7 @@ use dlms_state::{Event, SecretOf};
 /// The bytes of a record: at most those of a page's payload.
 pub type Record = ArrayVec<u8, MOST_PAYLOAD>;
 
-/// Puts bytes behind records.
+/// Appends bytes to records.
 fn put(records: &mut Record, bytes: &[u8])
     requires { length records.old.items + length bytes.now ≤ MOST_PAYLOAD }
     ensures { records.new.items ≡ records.old.items ++ bytes.now }
@@ -47,7 +47,7 @@ fn put_shift(records: &mut Record, by: i16)
     put(records, &[4, a, b]);
 }
 
-/// Puts a record of bytes behind their count.
+/// Appends a record of bytes after their count.
 fn put_counted(records: &mut Record, kind: u8, bytes: &[u8])
     requires count { length bytes.now < 256 }
     requires room { length records.old.items + (2 + length bytes.now) ≤ MOST_PAYLOAD }
@@ -71,7 +71,8 @@ fn owner_number(of: SecretOf) -> u8
 fn put_secret(records: &mut Record, of: SecretOf, secret: &[u8])
     requires count { length secret.now < 256 }
     requires room { length records.old.items + (3 + length secret.now) ≤ MOST_PAYLOAD }
-    ensures { records.new.items ≡ records.old.items ++ 8 ∷ owner_number of ∷ length secret.now ∷ secret.now }
+    ensures { records.new.items ≡ records.old.items ++ 8 ∷ owner_number of ∷ length secret.now
+        ∷ secret.now }
 {
     put(records, &[8, owner_number(of), secret.len() as u8]);
     put(records, secret);
@@ -94,7 +95,7 @@ pub fn record_length(event: &Event) -> usize
     }
 }
 
-/// Puts the record of an event, as `docs/FORMATS.md` lays it out, behind those that stand there.
+/// Appends the record of an event, in the layout of `docs/FORMATS.md`.
 pub fn append_record(records: &mut Record, event: &Event)
     requires { length records.old.items + length (record_of event.now) ≤ MOST_PAYLOAD }
     ensures { records.new.items ≡ records.old.items ++ record_of event.now }

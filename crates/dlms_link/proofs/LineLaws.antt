@@ -1,4 +1,4 @@
--- What may stand on the line, in each state that a run can reach.
+-- What may be on the line, in each state that a run can reach.
 use Rattle.std.proofs.Common.{◌≡◌, ◌+◌, ◌≤◌, arith, Bool, true, false, List, [], length, Option, None, Some, refl, subst}
 use Rattle.dlms_frame.specs.declared.client.Client.{Client}
 use Rattle.dlms_frame.specs.Frame.{Parts}

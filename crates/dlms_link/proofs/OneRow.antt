@@ -1,4 +1,4 @@
--- What is handed up and what answers it are one row.
+-- Handing up an APDU and answering it are one row of the table.
 use Rattle.std.proofs.Common.{◌≡◌, ℕ, List, refl, Some}
 use Rattle.dlms_frame.specs.Frame.{Parts}
 use Rattle.dlms_link.specs.declared.server_row.ServerRow.TheVariants.{HandsUp}

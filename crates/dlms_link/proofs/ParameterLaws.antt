@@ -1,4 +1,4 @@
--- Reading from left to right finds the parameters that stand there, and no others.
+-- Reading from left to right finds the parameters that are there, and no others.
 use Rattle.std.proofs.Common.{◌≡◌, ℕ, ◌≤◌, ◌==◌, ◌&&◌, inl, inr, if◌then◌else◌, refl, sym, ◌∙◌, arith, ap, Bool, true, false, List, [], ◌∷◌, ◌++◌, length, take, drop, Option, None, Some, zero, suc, nat_le, unwrap_or, All}
 use Rattle.std.proofs.lemmas.Bool.Decides.{nat_tests}
 use Rattle.std.proofs.lemmas.List.{take-append-drop, length-take-le}
@@ -10,7 +10,7 @@ use Rattle.dlms_link.proofs.Reading.{read_group-first}
 same : (n : ℕ) → (n == n) ≡ true
 same n = grind (arith, nat_tests)
 
--- behind an item the one before it doesn't count
+-- after an item the one before it doesn't count
 last_of_some : (x r s : ℕ) (xs : List ℕ) → unwrap_or (last_or (Some x) xs) r ≡ unwrap_or (last_or (Some x) xs) s
 last_of_some x r s [] = refl
 last_of_some x r s (y ∷ ys) = last_of_some y r s ys
@@ -48,14 +48,14 @@ size_of-information info ps (inl h) = rw (h.0, h.1) refl
 size_of-information info ps (inr h) =
     rw (h.0, same (length (group_of ps)), read_all ps (length (group_of ps)) 128 h.1 (omega arith)) refl
 
--- where reading ends well, parameters stand there
+-- if reading succeeds, parameters are there
 AreRead : List ℕ → Type 0
 AreRead group = (ps : List Parameter) × (group ≡ group_of ps) × All IsParameter ps
 
 none_is_some : {X : Type 0} {x : X} → None ≡ Some x → ⊥
 none_is_some e = cc
 
--- one parameter more in front of those that stand there
+-- one more parameter in front of those that are there
 in_front : (id len : ℕ) (rest : List ℕ) → has_lawful_length id len ≡ true → len ≤ length rest → AreRead (drop len rest) → AreRead (id ∷ len ∷ rest)
 unfolding AreRead
 in_front id len rest lawful fits found =

@@ -1,4 +1,4 @@
--- What a frame leaves as it is, at which nothing is taken and nothing sent, and what the client does by its way.
+-- What a frame leaves unchanged if nothing is taken and nothing sent, and what the client does for each row.
 use Rattle.std.proofs.Common.{◌≡◌, ◌<◌, ◌+◌, refl, sym, arith, Bool, true, false, [], nat_lt}
 use Rattle.std.proofs.lemmas.Bool.Decides.{nat_tests}
 use Rattle.dlms_frame.specs.Frame.{Parts}

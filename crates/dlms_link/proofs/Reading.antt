@@ -14,7 +14,7 @@ spelled zero received id value behind h l = absurd (omega arith)
 spelled (suc n) received id value behind h l =
     (n, omega arith, rw (h, fits value behind, take-append_seam value behind, drop-append_seam value behind) refl)
 
--- a parameter in front is read, and then what stands behind it
+-- a parameter at the front is read, and then what follows it
 pub read_group-first : (n received id : ℕ) (value behind octets : List ℕ) → IsFirst id value behind octets → length octets ≤ n →
     (m : ℕ) × (length behind ≤ m) × (read_group n received octets ≡ read_group m (if id == 6 then number_of value else received) behind)
 read_group-first n received id value behind octets h l =

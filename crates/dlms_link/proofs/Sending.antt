@@ -1,4 +1,4 @@
--- What goes out in segments is the LLC and the APDU.
+-- The segments sent are the LLC and the APDU.
 use Rattle.std.proofs.Common.{append_assoc, ◌≡◌, ℕ, ◌≤◌, ◌<◌, ◌==◌, ◌&&◌, ◌⊎◌, inl, inr, if◌then◌else◌, refl, sym, ◌∙◌, arith, ap, Bool, true, false, List, [], ◌∷◌, ◌++◌, length, take, drop, map, All, None, Some, Option, length-append, length-drop}
 use Rattle.std.proofs.lemmas.Bool.Decides.{nat_tests}
 use Rattle.std.proofs.lemmas.List.{take-append-drop, length-take}
@@ -60,7 +60,7 @@ begins size text f frames ei es (inr h) =
       ends = s.ends;
     }
 
--- the row of the next segment is met only where a segment is unsent
+-- the row of the next segment is met only if a segment is unsent
 snrm_sends_none : (o : Option ℕ) → row_of_snrm o ≡ SendsNext → ⊥
 snrm_sends_none None e = cc
 snrm_sends_none (Some size) e = cc
@@ -161,7 +161,7 @@ pub meter_sends : (r now : ServerRecord) (answer : List ℕ) (frames sent : List
     IsUnderWay r.size (llc from_meter ++ answer) ((server_send r answer).1 ∷ sent) now.unsent
 meter_sends r now answer frames sent taken h = one_more r.size (llc from_meter ++ answer) (server_send r answer).1 sent now.unsent refl refl (meter_goes h)
 
--- the way by which the client's next segment goes is taken only where one is unsent
+-- the client's next segment is sent only if one is unsent
 information_lets_none : (a b : Bool) → (if a then Takes else (if b then TakenBefore else Leaves)) ≡ LetsNext → ⊥
 information_lets_none true b e = cc
 information_lets_none false true e = cc
@@ -186,7 +186,7 @@ lets_more c Other e = cc
 is_sent : (f g : Parts) → Send f ≡ Send g → f ≡ g
 is_sent f g e = cc
 
--- what the client sends, and what is left of it where no segment was taken yet
+-- what the client sends, and the rest if no segment was taken yet
 record ClientIsOnWay (c now : ClientRecord) (taken : List (List ℕ)) (sent : List Parts) : Type 0 where
   rest : List ℕ
   on : IsOnWay 128 c.unsent sent rest

@@ -506,7 +506,7 @@ module _ (who : Client) where
   keeps [] sound = sound
   keeps (e ∷ es) sound = keeps es (keep e sound)
 
-  -- what is given up is a beginning of what was given
+  -- what is handed up is a prefix of what was given
   pub served_is : {w : LinkWorld} → Sound who w → IsBeginningOf w.served w.asked
   served_is (Away m x asked served answers taken ps pt) = ps
   served_is (Calling sent m t x) = none []

@@ -1,4 +1,4 @@
--- What is taken in segments is read as the segments one after another, and each list of frames is cut where something begins anew.
+-- Segments are read one after another, and each list of frames is cut where something new begins.
 use Rattle.std.proofs.Common.{◌≡◌, ℕ, ◌⊎◌, inl, inr, refl, sym, ◌∙◌, ap, Bool, true, false, List, [], ◌∷◌, ◌++◌}
 use Rattle.dlms_frame.specs.Frame.{Parts}
 use Rattle.dlms_link.specs.declared.out.LinkOut.TheVariants.{Reply}

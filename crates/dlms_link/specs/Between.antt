@@ -39,13 +39,22 @@ IsAnew SendsNext = ⊥
 IsAnew SaysReady = ⊥
 IsAnew Ignores = ⊥
 
--- These frames come to the meter's end, and at none of them does something new begin. These segments are taken meanwhile,
--- of an APDU that comes, and these are sent, of an answer that goes; and so the end stands behind them.
-pub data MeterGoes : ServerRecord → List Parts → List (List ℕ) → List Parts → ServerRecord → Type 0 where
+-- These frames arrive at the meter's end, and none of them starts anything new. Meanwhile these segments of an incoming APDU are
+-- taken, and these of an outgoing answer are sent; this is the end's state after them.
+pub data MeterGoes : ServerRecord → List Parts → List (List ℕ) → List Parts → ServerRecord
+    → Type 0 where
   NothingCame : (r : ServerRecord) → MeterGoes r [] [] [] r
-  MeterTakes : (r : ServerRecord) (f : Parts) (frames : List Parts) (taken : List (List ℕ)) (sent : List Parts) (now : ServerRecord) → row_of r f ≡ Keeps → MeterGoes (server_on r f).0 frames taken sent now → MeterGoes r (f ∷ frames) (f.info ∷ taken) sent now
-  MeterSends : (r : ServerRecord) (f segment : Parts) (frames : List Parts) (taken : List (List ℕ)) (sent : List Parts) (now : ServerRecord) → row_of r f ≡ SendsNext → (server_on r f).1 ≡ Reply segment → MeterGoes (server_on r f).0 frames taken sent now → MeterGoes r (f ∷ frames) taken (segment ∷ sent) now
-  MeterPasses : (r : ServerRecord) (f : Parts) (frames : List Parts) (taken : List (List ℕ)) (sent : List Parts) (now : ServerRecord) → IsPassed (row_of r f) → MeterGoes (server_on r f).0 frames taken sent now → MeterGoes r (f ∷ frames) taken sent now
+  MeterTakes : (r : ServerRecord) (f : Parts) (frames : List Parts) (taken : List (List ℕ))
+      (sent : List Parts) (now : ServerRecord) → row_of r f ≡ Keeps
+      → MeterGoes (server_on r f).0 frames taken sent now
+      → MeterGoes r (f ∷ frames) (f.info ∷ taken) sent now
+  MeterSends : (r : ServerRecord) (f segment : Parts) (frames : List Parts) (taken : List (List ℕ))
+      (sent : List Parts) (now : ServerRecord) → row_of r f ≡ SendsNext
+      → (server_on r f).1 ≡ Reply segment → MeterGoes (server_on r f).0 frames taken sent now
+      → MeterGoes r (f ∷ frames) taken (segment ∷ sent) now
+  MeterPasses : (r : ServerRecord) (f : Parts) (frames : List Parts) (taken : List (List ℕ))
+      (sent : List Parts) (now : ServerRecord) → IsPassed (row_of r f)
+      → MeterGoes (server_on r f).0 frames taken sent now → MeterGoes r (f ∷ frames) taken sent now
 
 -- at none of these frames does something new begin
 pub record GoesOn (r : ServerRecord) (frames : List Parts) : Type 0 where
@@ -76,15 +85,29 @@ pub data Heard : Type 0 where
 
 -- This comes to the client's end, and no APDU is whole, no link up or down, at any of it. These segments are taken meanwhile,
 -- and these are sent.
-pub data ClientGoes : ClientRecord → List Heard → List (List ℕ) → List Parts → ClientRecord → Type 0 where
+pub data ClientGoes : ClientRecord → List Heard → List (List ℕ) → List Parts → ClientRecord
+    → Type 0 where
   NothingHeard : (c : ClientRecord) → ClientGoes c [] [] [] c
-  ClientTakes : (c : ClientRecord) (f ready : Parts) (heard : List Heard) (taken : List (List ℕ)) (sent : List Parts) (now : ClientRecord) → IsByWay c f Takes → (client_step c f).1 ≡ Send ready → ClientGoes (client_step c f).0 heard taken sent now → ClientGoes c (Comes f ∷ heard) (f.info ∷ taken) sent now
-  ClientSends : (c : ClientRecord) (f segment : Parts) (heard : List Heard) (taken : List (List ℕ)) (sent : List Parts) (now : ClientRecord) → IsByWay c f LetsNext → (client_step c f).1 ≡ Send segment → ClientGoes (client_step c f).0 heard taken sent now → ClientGoes c (Comes f ∷ heard) taken (segment ∷ sent) now
-  ClientAnswersAgain : (c : ClientRecord) (f : Parts) (heard : List Heard) (taken : List (List ℕ)) (sent : List Parts) (now : ClientRecord) → IsByWay c f TakenBefore → ClientGoes (client_step c f).0 heard taken sent now → ClientGoes c (Comes f ∷ heard) taken sent now
-  ClientPasses : (c : ClientRecord) (f : Parts) (heard : List Heard) (taken : List (List ℕ)) (sent : List Parts) (now : ClientRecord) → client_step c f ≡ (c, Nothing) → ClientGoes c heard taken sent now → ClientGoes c (Comes f ∷ heard) taken sent now
-  ClientWaits : (c : ClientRecord) (heard : List Heard) (taken : List (List ℕ)) (sent : List Parts) (now : ClientRecord) → c.repeats < 3 → ClientGoes (client_timeout c).0 heard taken sent now → ClientGoes c (Silence ∷ heard) taken sent now
+  ClientTakes : (c : ClientRecord) (f ready : Parts) (heard : List Heard) (taken : List (List ℕ))
+      (sent : List Parts) (now : ClientRecord) → IsByWay c f Takes
+      → (client_step c f).1 ≡ Send ready → ClientGoes (client_step c f).0 heard taken sent now
+      → ClientGoes c (Comes f ∷ heard) (f.info ∷ taken) sent now
+  ClientSends : (c : ClientRecord) (f segment : Parts) (heard : List Heard) (taken : List (List ℕ))
+      (sent : List Parts) (now : ClientRecord) → IsByWay c f LetsNext
+      → (client_step c f).1 ≡ Send segment → ClientGoes (client_step c f).0 heard taken sent now
+      → ClientGoes c (Comes f ∷ heard) taken (segment ∷ sent) now
+  ClientAnswersAgain : (c : ClientRecord) (f : Parts) (heard : List Heard) (taken : List (List ℕ))
+      (sent : List Parts) (now : ClientRecord) → IsByWay c f TakenBefore
+      → ClientGoes (client_step c f).0 heard taken sent now
+      → ClientGoes c (Comes f ∷ heard) taken sent now
+  ClientPasses : (c : ClientRecord) (f : Parts) (heard : List Heard) (taken : List (List ℕ))
+      (sent : List Parts) (now : ClientRecord) → client_step c f ≡ (c, Nothing)
+      → ClientGoes c heard taken sent now → ClientGoes c (Comes f ∷ heard) taken sent now
+  ClientWaits : (c : ClientRecord) (heard : List Heard) (taken : List (List ℕ)) (sent : List Parts)
+      (now : ClientRecord) → c.repeats < 3 → ClientGoes (client_timeout c).0 heard taken sent now
+      → ClientGoes c (Silence ∷ heard) taken sent now
 
--- at this ends what stood between two APDUs: an APDU is whole, or the link is up or down
+-- this ends the time between two APDUs: an APDU is complete, or the link is up or down
 abbrev pub EndsIt : ClientOut → Type 0
 EndsIt Nothing = ⊥
 EndsIt Up = Unit {0}
@@ -92,7 +115,7 @@ EndsIt (Send f) = ⊥
 EndsIt Apdu = Unit {0}
 EndsIt Down = Unit {0}
 
--- what the client's end makes of what comes to it
+-- the client's end after what arrived
 abbrev pub client_hears : ClientRecord → Heard → ClientRecord
 client_hears c (Comes f) = (client_step c f).0
 client_hears c Silence = (client_timeout c).0

@@ -33,18 +33,50 @@ pub record ClientRecord : Type 0 where
   pub unsent : List ℕ
 
 abbrev pub fresh_client : Client → ClientRecord
-fresh_client who = record { client = who; phase = Closed; send_next = 0; receive_next = 0; waits = None; repeats = 0; kept = Fresh; apdu = []; unsent = [] }
+fresh_client who = record {
+  client = who;
+  phase = Closed;
+  send_next = 0;
+  receive_next = 0;
+  waits = None;
+  repeats = 0;
+  kept = Fresh;
+  apdu = [];
+  unsent = [];
+}
 
 -- a frame to the meter
 abbrev pub to_meter : Client → ℕ → Bool → List ℕ → Parts
-to_meter who octet segmented info = record { segmented = segmented; dest = One 1; src = One (sap_of who); control = octet; info = info }
+to_meter who octet segmented info = record {
+  segmented = segmented;
+  dest = One 1;
+  src = One (sap_of who);
+  control = octet;
+  info = info;
+}
 
 -- no link
 abbrev pub closed : ClientRecord → ClientRecord
-closed c = record c { phase = Closed; send_next = 0; receive_next = 0; waits = None; repeats = 0; kept = Fresh; unsent = [] }
+closed c = record c {
+  phase = Closed;
+  send_next = 0;
+  receive_next = 0;
+  waits = None;
+  repeats = 0;
+  kept = Fresh;
+  unsent = [];
+}
 
 abbrev pub connected : ClientRecord → ClientRecord
-connected c = record c { phase = Open; send_next = 0; receive_next = 0; waits = None; repeats = 0; kept = Fresh; unsent = [] }
+connected c = record c {
+  phase = Open;
+  send_next = 0;
+  receive_next = 0;
+  waits = None;
+  repeats = 0;
+  kept = Fresh;
+  unsent = [];
+}
 
 -- a frame goes out
 abbrev pub out : ClientRecord → Parts → ClientRecord
@@ -64,28 +96,45 @@ client_disconnect c = record (out c (disc_of c)) { phase = Closing }
 
 -- the next unsent segment as an I
 abbrev pub client_segment : ClientRecord → Parts
-client_segment c = to_meter c.client (information_octet c.send_next c.receive_next) (is_more (drop MOST_BYTES c.unsent)) (take MOST_BYTES c.unsent)
+client_segment c = to_meter c.client (information_octet c.send_next c.receive_next)
+    (is_more (drop MOST_BYTES c.unsent)) (take MOST_BYTES c.unsent)
 
 abbrev pub after_client_segment : ClientRecord → ClientRecord
-after_client_segment c = record (out c (client_segment c)) { send_next = next c.send_next; unsent = drop MOST_BYTES c.unsent }
+after_client_segment c = record (out c (client_segment c)) {
+  send_next = next c.send_next;
+  unsent = drop MOST_BYTES c.unsent;
+}
 
 abbrev pub client_giving : ClientRecord → List ℕ → ClientRecord
 client_giving c apdu = record c { kept = Fresh; unsent = llc from_client ++ apdu }
 
 abbrev pub client_send : ClientRecord → List ℕ → ClientRecord × Parts
-client_send c apdu = (after_client_segment (client_giving c apdu), client_segment (client_giving c apdu))
+client_send c apdu = (
+  after_client_segment (client_giving c apdu),
+  client_segment
+      (client_giving c apdu),
+)
 
 -- receive-ready, with the number that is expected
 abbrev pub client_ready : ClientRecord → Parts
 client_ready c = to_meter c.client (ready_octet c.receive_next) false []
 
--- an I that is taken: where it is a segment the client sends RR
+-- an I that is taken: if it is a segment, the client sends RR
 abbrev pub takes : ClientRecord → Bool → Kept → ClientRecord × ClientOut
 takes c true (Good bytes) =
     let d = record c { receive_next = next c.receive_next; kept = Good bytes; unsent = [] } in
     (out d (client_ready d), Send (client_ready d))
-takes c false (Good bytes) =
-    (record c { receive_next = next c.receive_next; kept = Fresh; apdu = bytes; waits = None; repeats = 0; unsent = [] }, Apdu)
+takes c false (Good bytes) = (
+  record c {
+    receive_next = next c.receive_next;
+    kept = Fresh;
+    apdu = bytes;
+    waits = None;
+    repeats = 0;
+    unsent = [];
+  },
+  Apdu,
+)
 takes c segmented Fresh = (closed c, Down)
 takes c segmented TooLong = (closed c, Down)
 takes c segmented BadStart = (closed c, Down)
@@ -159,7 +208,7 @@ IsDown c = (c.phase ≡ Closed) × (c.waits ≡ None)
 abbrev pub IsIdle : ClientRecord → Type 0
 IsIdle c = (c.phase ≡ Open) × (c.waits ≡ None)
 
--- where the link stands after what came out
+-- the link's state after this output
 abbrev pub StandsAfter : ClientRecord → ClientOut → ClientRecord → Type 0
 StandsAfter old Nothing new = new ≡ old
 StandsAfter old Up new = IsIdle new

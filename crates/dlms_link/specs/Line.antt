@@ -1,4 +1,4 @@
--- What may stand on the line in a run of both ends, and when an APDU is handed up.
+-- What may be on the line in a run of both ends, and when an APDU is handed up.
 use Rattle.std.specs.Prelude.{◌≡◌, ◌+◌, ◌≤◌, List, [], ◌∷◌, length, true, None}
 use Rattle.dlms_frame.specs.declared.client.Client.{Client}
 use Rattle.dlms_frame.specs.Frame.{Parts}
@@ -18,12 +18,15 @@ pub record AreUp (w : LinkWorld) : Type 0 where
 
 -- an APDU is handed up only where both ends are up
 abbrev pub ApdusComeUp : Type 0
-ApdusComeUp = (who : Client) (events : List LinkEvent) → let w = run events (start who) in HandsUpAt w.meter w.up_line → AreUp w
+ApdusComeUp = (who : Client) (events : List LinkEvent) → let w = run events (start who) in
+    HandsUpAt w.meter w.up_line → AreUp w
 
--- where the client awaits nothing, nothing is on the line
+-- if the client awaits nothing, nothing is on the line
 abbrev pub LineIsSilent : Type 0
-LineIsSilent = (who : Client) (events : List LinkEvent) → let w = run events (start who) in w.client.waits ≡ None → (w.up_line ≡ []) × (w.down_line ≡ [])
+LineIsSilent = (who : Client) (events : List LinkEvent) → let w = run events (start who) in
+    w.client.waits ≡ None → (w.up_line ≡ []) × (w.down_line ≡ [])
 
 -- at most one frame is on the line
 abbrev pub OneFrameAtMost : Type 0
-OneFrameAtMost = (who : Client) (events : List LinkEvent) → let w = run events (start who) in length w.up_line + length w.down_line ≤ 1
+OneFrameAtMost = (who : Client) (events : List LinkEvent) → let w = run events (start who) in
+    length w.up_line + length w.down_line ≤ 1

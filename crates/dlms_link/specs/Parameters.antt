@@ -31,9 +31,10 @@ group_of ps = flat_map parameter_bytes ps
 abbrev pub information_of : List Parameter → List ℕ
 information_of ps = 0x81 ∷ 0x80 ∷ length (group_of ps) ∷ group_of ps
 
--- An SNRM's information: nothing at all, which leaves every parameter as it is, or a group of parameters and nothing behind it.
+-- An SNRM's information: either empty, which leaves every parameter as it is, or a group of parameters and nothing after it.
 abbrev pub IsInformation : List ℕ → List Parameter → Type 0
-IsInformation info ps = ((info ≡ []) × (ps ≡ [])) ⊎ ((info ≡ information_of ps) × All IsParameter ps)
+IsInformation info ps = ((info ≡ []) × (ps ≡ []))
+    ⊎ ((info ≡ information_of ps) × All IsParameter ps)
 
 -- the number of these octets, the highest first
 abbrev pub number_of : List ℕ → ℕ
@@ -58,7 +59,7 @@ read_group (suc n) received (id ∷ len ∷ rest) =
     then read_group n (if id == 6 then number_of (take len rest) else received) (drop len rest)
     else None
 
--- A lawful parameter stands in front, and these octets behind it.
+-- A valid parameter is at the front, followed by these octets.
 pub record IsFirst (id : ℕ) (value behind octets : List ℕ) : Type 0 where
   pub lawful : IsTrue (has_lawful_length id (length value))
   pub text : octets ≡ id ∷ length value ∷ (value ++ behind)
@@ -74,11 +75,15 @@ size_read (Some received) = capped_size received
 unfoldable pub size_of : List ℕ → Option ℕ
 size_of [] = Some MOST_BYTES
 size_of (format ∷ group ∷ len ∷ rest) =
-    if (format == 0x81) && (group == 0x80) && (len == length rest) then size_read (read_group (length rest) MOST_BYTES rest) else None
+    if (format == 0x81) && (group == 0x80) && (len == length rest)
+    then size_read (read_group (length rest) MOST_BYTES rest) else None
 size_of _ = None
 
 -- the meter's own: it sends this much, receives 128, and its windows are 1
 abbrev pub own_parameters : ℕ → List Parameter
 own_parameters size =
     record { id = 5; value = size ∷ [] } ∷ record { id = 6; value = MOST_BYTES ∷ [] }
-    ∷ record { id = 7; value = 0 ∷ 0 ∷ 0 ∷ 1 ∷ [] } ∷ record { id = 8; value = 0 ∷ 0 ∷ 0 ∷ 1 ∷ [] } ∷ []
+    ∷ record { id = 7; value = 0 ∷ 0 ∷ 0 ∷ 1 ∷ [] } ∷ record {
+      id = 8;
+      value = 0 ∷ 0 ∷ 0 ∷ 1 ∷ [];
+    } ∷ []

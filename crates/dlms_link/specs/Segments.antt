@@ -15,7 +15,8 @@ kept_after_all side k (info ∷ infos) = kept_after_all side (kept_after side k 
 
 -- the whole information of an APDU's frames, read at once
 abbrev pub read_whole : ℕ → List ℕ → Kept
-read_whole side (x ∷ y ∷ z ∷ apdu) = if (x == DESTINATION) && (y == side) && (z == QUALITY) then capped apdu else BadStart
+read_whole side (x ∷ y ∷ z ∷ apdu) = if (x == DESTINATION) && (y == side) && (z == QUALITY)
+    then capped apdu else BadStart
 read_whole side _ = BadStart
 
 -- A text goes out in these frames: their information, joined, is the text; each but the last holds exactly as much as fits
@@ -30,9 +31,10 @@ pub record IsSegmented (size : ℕ) (text : List ℕ) (frames : List Parts) : Ty
   pub short : length last.info ≤ size
   pub ends : last.segmented ≡ false
 
--- Of a text these frames have gone out, and this rest has not: all of them are full and say that more follows, or nothing
--- is left and they are the text in segments.
-pub record IsUnderWay (size : ℕ) (text : List ℕ) (frames : List Parts) (rest : List ℕ) : Type 0 where
+-- These frames of a text have gone out, and this rest has not: all of them are full and announce more, or nothing is left and they
+-- are the text in segments.
+pub record IsUnderWay (size : ℕ) (text : List ℕ) (frames : List Parts) (rest : List ℕ)
+    : Type 0 where
   pub together : joined (map (λ f. f.info) frames) ++ rest ≡ text
   pub full : is_more rest ≡ true → All (λ f. length f.info ≡ size) frames
   pub go_on : is_more rest ≡ true → All (λ f. f.segmented ≡ true) frames

@@ -36,11 +36,23 @@ pub record ServerRecord : Type 0 where
   pub unsent : List ℕ
   -- the most information of a frame sent
   pub size : ℕ
-  -- where the answer goes that is waited for
+  -- the address that an awaited answer goes to
   pub waits : Option Address
 
 abbrev pub fresh_server : Client → ServerRecord
-fresh_server who = record { client = who; up = false; send_next = 0; receive_next = 0; last = NoAnswer; took_information = false; kept = Fresh; apdu = []; unsent = []; size = MOST_BYTES; waits = None }
+fresh_server who = record {
+  client = who;
+  up = false;
+  send_next = 0;
+  receive_next = 0;
+  last = NoAnswer;
+  took_information = false;
+  kept = Fresh;
+  apdu = [];
+  unsent = [];
+  size = MOST_BYTES;
+  waits = None;
+}
 
 -- the meter's address is 1, with 17 or nothing as its lower part (IEC 62056-46: the management logical device, and a physical one)
 abbrev pub is_meter : Address → Bool
@@ -55,9 +67,15 @@ is_client who (Four upper lower) = false
 
 -- a frame to the client, from the address that it spoke to
 abbrev pub to_client : Client → Address → ℕ → Bool → List ℕ → Parts
-to_client who from octet segmented info = record { segmented = segmented; dest = One (sap_of who); src = from; control = octet; info = info }
+to_client who from octet segmented info = record {
+  segmented = segmented;
+  dest = One (sap_of who);
+  src = from;
+  control = octet;
+  info = info;
+}
 
--- an SNRM brings the link up, where its parameters are read
+-- an SNRM brings the link up if its parameters can be read
 abbrev pub row_of_snrm : Option ℕ → ServerRow
 row_of_snrm (Some size) = Connects size
 row_of_snrm None = Refuses
@@ -85,7 +103,8 @@ abbrev pub row_while_up : ServerRecord → Bool → List ℕ → Control → Ser
 row_while_up r segmented info Snrm = row_of_snrm (size_of info)
 row_while_up r segmented info Disc = Disconnects
 row_while_up r segmented info (Information send receive) =
-    if (send == r.receive_next) && (receive == r.send_next) then (if segmented then Keeps else HandsUp)
+    if (send == r.receive_next) && (receive == r.send_next)
+    then (if segmented then Keeps else HandsUp)
     else (if (send == before r.receive_next) && r.took_information then Repeats
     else Ignores)
 row_while_up r segmented info (Ready receive) =
@@ -112,7 +131,8 @@ row_while_down info Other = Ignores
 unfoldable pub row_of : ServerRecord → Parts → ServerRow
 row_of r f =
     if is_meter f.dest && is_client r.client f.src
-    then (if r.up then row_while_up r f.segmented f.info (control_of f.control) else row_while_down f.info (control_of f.control))
+    then (if r.up then row_while_up r f.segmented f.info (control_of f.control)
+    else row_while_down f.info (control_of f.control))
     else Ignores
 
 -- L again
@@ -121,7 +141,7 @@ again NoAnswer = Nothing
 again (WasReady f) = Reply f
 again (WasInformation f) = Reply f
 
--- what is told of the whole APDU
+-- the outcome of the whole APDU
 abbrev pub told : Kept → LinkOut
 told Fresh = BadLlc
 told (Good apdu) = Apdu
@@ -130,10 +150,15 @@ told BadStart = BadLlc
 
 -- the next unsent segment as an I
 abbrev pub segment_of : ServerRecord → Address → Parts
-segment_of r from = to_client r.client from (information_octet r.send_next r.receive_next) (is_more (drop r.size r.unsent)) (take r.size r.unsent)
+segment_of r from = to_client r.client from (information_octet r.send_next r.receive_next)
+    (is_more (drop r.size r.unsent)) (take r.size r.unsent)
 
 abbrev pub after_segment : ServerRecord → Address → ServerRecord
-after_segment r from = record r { send_next = next r.send_next; last = WasInformation (segment_of r from); unsent = drop r.size r.unsent }
+after_segment r from = record r {
+  send_next = next r.send_next;
+  last = WasInformation (segment_of r from);
+  unsent = drop r.size r.unsent;
+}
 
 -- an RR with the number that is expected
 abbrev pub ready_frame : ServerRecord → Address → Parts
@@ -142,21 +167,58 @@ ready_frame r from = to_client r.client from (ready_octet r.receive_next) false 
 -- each row: what comes out, and the record after it
 abbrev pub by_row : ServerRecord → Parts → ServerRow → ServerRecord × LinkOut
 by_row r f (Connects size) = (
-  record { client = r.client; up = true; send_next = 0; receive_next = 0; last = NoAnswer; took_information = false; kept = Fresh; apdu = []; unsent = []; size = size; waits = None },
+  record {
+    client = r.client;
+    up = true;
+    send_next = 0;
+    receive_next = 0;
+    last = NoAnswer;
+    took_information = false;
+    kept = Fresh;
+    apdu = [];
+    unsent = [];
+    size = size;
+    waits = None;
+  },
   Up (to_client r.client f.dest UA false (information_of (own_parameters size))),
 )
 by_row r f Refuses = (record r { up = false }, Down (to_client r.client f.dest DM false []))
 by_row r f Disconnects = (record r { up = false }, Down (to_client r.client f.dest UA false []))
 by_row r f Keeps =
-    let ready = to_client r.client f.dest (ready_octet (next r.receive_next)) false [] in
-    (record r { receive_next = next r.receive_next; last = WasReady ready; took_information = true; kept = kept_after from_client r.kept f.info }, Reply ready)
+    let ready = to_client r.client f.dest (ready_octet (next r.receive_next)) false [] in (
+      record r {
+        receive_next = next r.receive_next;
+        last = WasReady ready;
+        took_information = true;
+        kept = kept_after from_client r.kept f.info;
+      },
+      Reply ready,
+    )
 by_row r f HandsUp =
-    let whole = kept_after from_client r.kept f.info in
-    (record r { receive_next = next r.receive_next; took_information = true; kept = Fresh; apdu = apdu_of whole; unsent = []; waits = Some f.dest }, told whole)
+    let whole = kept_after from_client r.kept f.info in (
+      record r {
+        receive_next = next r.receive_next;
+        took_information = true;
+        kept = Fresh;
+        apdu = apdu_of whole;
+        unsent = [];
+        waits = Some f.dest;
+      },
+      told whole,
+    )
 by_row r f Repeats = (r, again r.last)
-by_row r f SendsNext = (record (after_segment r f.dest) { took_information = false }, Reply (segment_of r f.dest))
-by_row r f SaysReady =
-    (record r { last = WasReady (ready_frame r f.dest); took_information = false }, Reply (ready_frame r f.dest))
+by_row r f SendsNext = (
+  record (after_segment r f.dest) { took_information = false },
+  Reply
+      (segment_of r f.dest),
+)
+by_row r f SaysReady = (
+  record r {
+    last = WasReady (ready_frame r f.dest);
+    took_information = false;
+  },
+  Reply (ready_frame r f.dest),
+)
 by_row r f Ignores = (r, Nothing)
 
 -- a frame comes
@@ -178,9 +240,13 @@ awaits (Up f) = false
 awaits (Down f) = false
 
 abbrev pub server_send : ServerRecord → List ℕ → ServerRecord × Parts
-server_send r answer = (after_segment (answering r answer) (unwrap_or r.waits (One 1)), segment_of (answering r answer) (unwrap_or r.waits (One 1)))
+server_send r answer = (
+  after_segment (answering r answer)
+      (unwrap_or r.waits (One 1)),
+  segment_of (answering r answer) (unwrap_or r.waits (One 1)),
+)
 
--- a whole row of the table: what goes out, with this answer where one is waited for, and the record after it
+-- a whole row of the table: the output, with this answer if one is awaited, and the record after it
 abbrev pub row_done : ServerRecord → List ℕ → LinkOut → ServerRecord × Option Parts
 row_done r answer Nothing = (r, None)
 row_done r answer (Reply f) = (r, Some f)
@@ -195,7 +261,9 @@ link_step r f answer = row_done (server_on r f).0 answer (server_on r f).1
 
 -- the row of a whole APDU and its answer: the answer's first segment goes as an I, what is unsent of an older answer is dropped
 abbrev pub first_segment : ServerRecord → Parts → List ℕ → Parts
-first_segment r f text = to_client r.client f.dest (information_octet r.send_next (next r.receive_next)) (is_more (drop r.size text)) (take r.size text)
+first_segment r f text = to_client r.client f.dest
+    (information_octet r.send_next (next r.receive_next)) (is_more (drop r.size text))
+    (take r.size text)
 
 abbrev pub answered : ServerRecord → Parts → List ℕ → ServerRecord × Option Parts
 answered r f answer =

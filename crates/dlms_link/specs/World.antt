@@ -30,7 +30,7 @@ pub data LinkEvent : Type 0 where
   Connect : LinkEvent
   Give : (apdu : List ℕ) → length apdu ≤ MOST_APDU → LinkEvent
   Disconnect : LinkEvent
-  -- the oldest frame reaches the meter, which is given this answer where it waits for one
+  -- the oldest frame reaches the meter, which is given this answer if it awaits one
   ReachesMeter : (answer : List ℕ) → length answer ≤ MOST_APDU → LinkEvent
   ReachesClient : LinkEvent
   LostUp : LinkEvent
@@ -44,21 +44,35 @@ pub data LinkEvent : Type 0 where
   TakesOver : LinkEvent
 
 abbrev pub connects : LinkWorld → Phase → LinkWorld
-connects w Closed = record w { client = client_connect w.client; up_line = w.up_line ++ snrm_of w.client ∷ []; asked = []; served = []; answers = []; taken = [] }
+connects w Closed = record w {
+  client = client_connect w.client;
+  up_line = w.up_line ++ snrm_of w.client ∷ [];
+  asked = [];
+  served = [];
+  answers = [];
+  taken = [];
+}
 connects w Connecting = w
 connects w Open = w
 connects w Closing = w
 
 -- `send` and `disconnect` ask for an up link that awaits nothing
 abbrev pub gives : LinkWorld → List ℕ → Phase → Option Parts → LinkWorld
-gives w apdu Open None = record w { client = (client_send w.client apdu).0; up_line = w.up_line ++ (client_send w.client apdu).1 ∷ []; asked = w.asked ++ apdu ∷ [] }
+gives w apdu Open None = record w {
+  client = (client_send w.client apdu).0;
+  up_line = w.up_line ++ (client_send w.client apdu).1 ∷ [];
+  asked = w.asked ++ apdu ∷ [];
+}
 gives w apdu Open (Some f) = w
 gives w apdu Closed waits = w
 gives w apdu Connecting waits = w
 gives w apdu Closing waits = w
 
 abbrev pub disconnects : LinkWorld → Phase → Option Parts → LinkWorld
-disconnects w Open None = record w { client = client_disconnect w.client; up_line = w.up_line ++ disc_of w.client ∷ [] }
+disconnects w Open None = record w {
+  client = client_disconnect w.client;
+  up_line = w.up_line ++ disc_of w.client ∷ [];
+}
 disconnects w Open (Some f) = w
 disconnects w Closed waits = w
 disconnects w Connecting waits = w
@@ -66,7 +80,11 @@ disconnects w Closing waits = w
 
 -- the meter sends its answer
 abbrev pub replies : LinkWorld → List ℕ → LinkWorld
-replies w answer = record w { meter = (server_send w.meter answer).0; down_line = w.down_line ++ (server_send w.meter answer).1 ∷ []; answers = w.answers ++ answer ∷ [] }
+replies w answer = record w {
+  meter = (server_send w.meter answer).0;
+  down_line = w.down_line ++ (server_send w.meter answer).1 ∷ [];
+  answers = w.answers ++ answer ∷ [];
+}
 
 abbrev pub meter_does : LinkWorld → List ℕ → LinkOut → LinkWorld
 meter_does w answer Nothing = w
@@ -79,7 +97,8 @@ meter_does w answer BadLlc = replies w answer
 
 abbrev pub reaches_meter : LinkWorld → List ℕ → List Parts → LinkWorld
 reaches_meter w answer [] = w
-reaches_meter w answer (f ∷ rest) = let done = server_on w.meter f in meter_does (record w { meter = done.0; up_line = rest }) answer done.1
+reaches_meter w answer (f ∷ rest) = let done = server_on w.meter f in
+    meter_does (record w { meter = done.0; up_line = rest }) answer done.1
 
 abbrev pub client_does : LinkWorld → ClientOut → LinkWorld
 client_does w NothingTaken = w
@@ -90,13 +109,14 @@ client_does w IsDown = w
 
 abbrev pub reaches_client : LinkWorld → List Parts → LinkWorld
 reaches_client w [] = w
-reaches_client w (f ∷ rest) = let done = client_step w.client f in client_does (record w { client = done.0; down_line = rest }) done.1
+reaches_client w (f ∷ rest) = let done = client_step w.client f in
+    client_does (record w { client = done.0; down_line = rest }) done.1
 
 abbrev pub without_first : List Parts → List Parts
 without_first [] = []
 without_first (f ∷ rest) = rest
 
--- a time-out comes only where a frame is out and nothing is on the line
+-- a timeout comes only if a frame is out and nothing is on the line
 abbrev pub resent : Option Parts → List Parts
 resent None = []
 resent (Some f) = f ∷ []
@@ -119,7 +139,7 @@ settled r answer Apdu = (server_send r answer).0
 settled r answer Oversize = (server_send r answer).0
 settled r answer BadLlc = (server_send r answer).0
 
--- the meter's link after a frame and, where it waits for one, its answer
+-- the meter's link after a frame and, if it awaits one, its answer
 abbrev pub after_both : ServerRecord × LinkOut → List ℕ → ServerRecord
 after_both done answer = settled done.0 answer done.1
 
@@ -153,7 +173,16 @@ run [] w = w
 run (e ∷ es) w = run es (happens w e)
 
 abbrev pub start : Client → LinkWorld
-start who = record { meter = fresh_server who; client = fresh_client who; up_line = []; down_line = []; asked = []; served = []; answers = []; taken = [] }
+start who = record {
+  meter = fresh_server who;
+  client = fresh_client who;
+  up_line = [];
+  down_line = [];
+  asked = [];
+  served = [];
+  answers = [];
+  taken = [];
+}
 
 -- xs is a beginning of ys
 abbrev pub IsBeginningOf : List (List ℕ) → List (List ℕ) → Type 0

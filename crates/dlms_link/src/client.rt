@@ -148,7 +148,8 @@ impl ClientLink {
     /// A time-out of the frame that is out: it goes again, and the fourth in a row ends the link.
     pub fn timeout(&mut self) -> Result<SentFrame, LineFault>
         requires { IsSome self.old.waits }
-        ensures frame { MatchResult result (λ f. (client_timeout self.old).1 ≡ Some f) (λ _. (client_timeout self.old).1 ≡ None) }
+        ensures frame { MatchResult result (λ f. (client_timeout self.old).1 ≡ Some f)
+            (λ _. (client_timeout self.old).1 ≡ None) }
         ensures after { self.new ≡ (client_timeout self.old).0 }
         ensures counts { IsOk result ↔ (self.old.repeats < 3) }
         ensures again { IfOk result (λ f. self.old.waits ≡ Some f) }
@@ -166,7 +167,7 @@ impl ClientLink {
         Err(LineFault)
     }
 
-    /// What the link makes of a frame.
+    /// How the link handles a frame.
     pub fn on(&mut self, frame: &Frame<'_>) -> ClientOut
         ensures out { result ≡ (client_step self.old frame.now).1 }
         ensures after { self.new ≡ (client_step self.old frame.now).0 }
@@ -206,7 +207,7 @@ impl ClientLink {
         is_client(self.client, frame.dest) && is_server(frame.src)
     }
 
-    /// What an open link does with an I or an RR.
+    /// How an open link handles an I or an RR.
     #[tactic(auto, unfolding(crate::specs::Client::way_of))]
     fn way(&self, control: Control) -> ClientRow
         ensures { result ≡ way_of self.now control }
@@ -273,7 +274,7 @@ impl ClientLink {
         }
     }
 
-    /// The next segment of what is sent.
+    /// The next segment of the APDU that is being sent.
     fn segment(&mut self) -> SentFrame
         ensures frame { result ≡ client_segment self.old }
         ensures after { self.new ≡ after_client_segment self.old }

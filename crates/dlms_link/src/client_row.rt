@@ -1,6 +1,6 @@
-//! What an open client's link does with an I or an RR.
+//! How an open client's link handles an I or an RR.
 
-/// What an open client's link does with an I or an RR.
+/// How an open client's link handles an I or an RR.
 #[derive(Clone, Copy, Debug, PartialEq, Eq)]
 pub enum ClientRow {
     /// The next segment of the answer is taken.

@@ -1,4 +1,4 @@
-//! What the meter answered last, to be given again.
+//! The meter's last answer, kept for repetition.
 
 use dlms_frame::SentFrame;
 

@@ -17,17 +17,19 @@ ghost use Rattle.dlms_link.specs.declared.segments.TheConstants.{MOST_BYTES};
 ghost use Rattle.dlms_link.specs.declared.kept.TheConstants.{DESTINATION, FROM_CLIENT, FROM_METER, QUALITY, MOST_APDU};
 ghost use Rattle.dlms_link.specs.declared.control.TheConstants.{SNRM, DISC, UA, DM};
 
-/// Over a line that loses any frames, and in which a time-out comes only where nothing is on the
-/// line, what each end gives up during a connection is a beginning of what the other was given to
-/// send, each APDU once and in order.
+/// Over a line that loses any frames, with timeouts only while nothing is on the line, each end hands up a prefix of the APDUs that
+/// the other was given to send in a connection, each once and in order.
 pub fn in_order()
-    ensures to_meter { (who : Client) (events : List LinkEvent) → IsBeginningOf (run events (start who)).served (run events (start who)).asked }
-    ensures to_client { (who : Client) (events : List LinkEvent) → IsBeginningOf (run events (start who)).taken (run events (start who)).answers }
-    ensures in_step { (who : Client) (events : List LinkEvent) → length (run events (start who)).served ≡ length (run events (start who)).answers }
+    ensures to_meter { (who : Client) (events : List LinkEvent)
+        → IsBeginningOf (run events (start who)).served (run events (start who)).asked }
+    ensures to_client { (who : Client) (events : List LinkEvent)
+        → IsBeginningOf (run events (start who)).taken (run events (start who)).answers }
+    ensures in_step { (who : Client) (events : List LinkEvent)
+        → length (run events (start who)).served ≡ length (run events (start who)).answers }
 {}
 
-/// In every such run an APDU is handed up only where the meter's end is up and the client's link is open; where the client
-/// awaits nothing, nothing is on the line; and at most one frame is on the line at any time.
+/// In every such run an APDU is handed up only if the meter's end is up and the client's link is open; if the client awaits
+/// nothing, nothing is on the line; and at most one frame is on the line at any time.
 pub fn the_line()
     ensures comes_up { ApdusComeUp }
     ensures silent { LineIsSilent }
@@ -36,53 +38,74 @@ pub fn the_line()
 
 /// An APDU that is handed up and the answer that is sent for it are one row of the meter's table.
 pub fn apdu_and_answer_are_one_row()
-    ensures { (r : ServerRecord) (f : Parts) (answer : List ℕ) → row_of r f ≡ HandsUp → link_step r f answer ≡ answered r f answer }
+    ensures { (r : ServerRecord) (f : Parts) (answer : List ℕ) → row_of r f ≡ HandsUp
+        → link_step r f answer ≡ answered r f answer }
 {}
 
-/// Segments that are taken one by one are read as what they are joined, where the first one holds the whole LLC. A first one
-/// that doesn't is a bad start, whatever follows.
+/// Segments read one by one give the same as when joined, if the first one contains the whole LLC. If it does not, it is a bad
+/// start, whatever follows.
 pub fn segments_are_joined()
-    ensures bad_start { (side : ℕ) (first : List ℕ) (infos : List (List ℕ)) → length first < 3 → kept_after_all side Fresh (first ∷ infos) ≡ BadStart }
-    ensures whole { (side : ℕ) (first : List ℕ) (infos : List (List ℕ)) → 3 ≤ length first → kept_after_all side Fresh (first ∷ infos) ≡ read_whole side (joined (first ∷ infos)) }
+    ensures bad_start { (side : ℕ) (first : List ℕ) (infos : List (List ℕ)) → length first < 3
+        → kept_after_all side Fresh (first ∷ infos) ≡ BadStart }
+    ensures whole { (side : ℕ) (first : List ℕ) (infos : List (List ℕ)) → 3 ≤ length first
+        → kept_after_all side Fresh (first ∷ infos) ≡ read_whole side (joined (first ∷ infos)) }
 {}
 
 /// An SNRM's parameters are read exactly: information that spells parameters is read as what they say, and nothing else is.
 pub fn parameters_are_read()
-    ensures read { (info : List ℕ) (ps : List Parameter) → IsInformation info ps → size_of info ≡ capped_size (greatest_received ps) }
-    ensures found { (info : List ℕ) (size : ℕ) → size_of info ≡ Some size → (ps : List Parameter) × IsInformation info ps }
+    ensures read { (info : List ℕ) (ps : List Parameter) → IsInformation info ps
+        → size_of info ≡ capped_size (greatest_received ps) }
+    ensures found { (info : List ℕ) (size : ℕ) → size_of info ≡ Some size
+        → (ps : List Parameter) × IsInformation info ps }
 {}
 
-/// Whatever comes to an end between two APDUs: what it tells of the second is what the segments taken of it, joined, are.
-/// Frames that are ignored, answers that are asked for again, segments of an answer and time-outs may stand between.
-/// Each list of frames, and each of frames and silences at the client's end, goes on so to its end, or is cut where the link
-/// comes up or, at the client's end, down, or an APDU is whole; there nothing is kept.
+/// Whatever arrives at an end between two APDUs, the outcome of the second is that of its segments, joined. Ignored frames, answers
+/// that are requested again, segments of an answer, and timeouts may come in between. Each list of frames (at the client's end, of
+/// frames and silences) continues like this to its end, or is cut when the link comes up (at the client's end, or goes down) or an
+/// APDU is complete; nothing is kept at that point.
 pub fn segments_are_taken()
-    ensures meter { (r now : ServerRecord) (frames sent : List Parts) (taken : List (List ℕ)) (f : Parts) → MeterGoes r frames taken sent now → r.kept ≡ Fresh → row_of now f ≡ HandsUp
-        → ((server_on now f).1 ≡ told (kept_after_all from_client Fresh (taken ++ f.info ∷ []))) × ((server_on now f).0.apdu ≡ apdu_of (kept_after_all from_client Fresh (taken ++ f.info ∷ []))) }
-    ensures client { (c now : ClientRecord) (heard : List Heard) (taken : List (List ℕ)) (sent : List Parts) (f : Parts) → ClientGoes c heard taken sent now → c.kept ≡ Fresh → IsByWay now f Takes
-        → client_step now f ≡ takes now f.segmented (kept_after_all from_meter Fresh (taken ++ f.info ∷ [])) }
+    ensures meter { (r now : ServerRecord) (frames sent : List Parts) (taken : List (List ℕ))
+        (f : Parts) → MeterGoes r frames taken sent now → r.kept ≡ Fresh → row_of now f ≡ HandsUp
+        → ((server_on now f).1 ≡ told (kept_after_all from_client Fresh (taken ++ f.info ∷ [])))
+        × ((server_on now f).0.apdu ≡ apdu_of
+        (kept_after_all from_client Fresh (taken ++ f.info ∷ []))) }
+    ensures client { (c now : ClientRecord) (heard : List Heard) (taken : List (List ℕ))
+        (sent : List Parts) (f : Parts) → ClientGoes c heard taken sent now → c.kept ≡ Fresh
+        → IsByWay now f Takes
+        → client_step now f ≡ takes now f.segmented
+        (kept_after_all from_meter Fresh (taken ++ f.info ∷ [])) }
     ensures cut { (r : ServerRecord) (frames : List Parts) → GoesOn r frames ⊎ BeginsAnew r frames }
-    ensures anew { (r : ServerRecord) (f : Parts) → IsAnew (row_of r f) → (server_on r f).0.kept ≡ Fresh }
-    ensures client_cut { (c : ClientRecord) (heard : List Heard) → ClientGoesOn c heard ⊎ ClientBeginsAnew c heard }
-    ensures client_anew { (c : ClientRecord) (h : Heard) → IsAnewForClient c h → (client_hears c h).kept ≡ Fresh }
-    ensures answered { (r : ServerRecord) (answer : List ℕ) → (server_send r answer).0.kept ≡ r.kept }
+    ensures anew { (r : ServerRecord) (f : Parts) → IsAnew (row_of r f)
+        → (server_on r f).0.kept ≡ Fresh }
+    ensures client_cut { (c : ClientRecord) (heard : List Heard)
+        → ClientGoesOn c heard ⊎ ClientBeginsAnew c heard }
+    ensures client_anew { (c : ClientRecord) (h : Heard) → IsAnewForClient c h
+        → (client_hears c h).kept ≡ Fresh }
+    ensures answered { (r : ServerRecord) (answer : List ℕ)
+        → (server_send r answer).0.kept ≡ r.kept }
 {}
 
 /// An APDU goes out in segments: their information, joined, is the LLC and the APDU, all but the last have exactly the size
 /// of the link, and the last alone says that nothing follows. So far as they have gone out they are its beginning, whatever
 /// came meanwhile. Read by the other end, they are the APDU again.
 pub fn segments_are_sent()
-    ensures meter { (r now : ServerRecord) (answer : List ℕ) (frames sent : List Parts) (taken : List (List ℕ)) → MeterGoes (server_send r answer).0 frames taken sent now
-        → IsUnderWay r.size (llc from_meter ++ answer) ((server_send r answer).1 ∷ sent) now.unsent }
-    ensures client { (c now : ClientRecord) (apdu : List ℕ) (heard : List Heard) (sent : List Parts) (taken : List (List ℕ)) → ClientGoes (client_send c apdu).0 heard taken sent now
-        → (rest : List ℕ) × IsUnderWay MOST_BYTES (llc from_client ++ apdu) ((client_send c apdu).1 ∷ sent) rest × (taken ≡ [] → now.unsent ≡ rest) }
-    ensures read_again { (side size : ℕ) (apdu : List ℕ) (frames : List Parts) → 3 ≤ size → IsSegmented size (llc side ++ apdu) frames
+    ensures meter { (r now : ServerRecord) (answer : List ℕ) (frames sent : List Parts)
+        (taken : List (List ℕ)) → MeterGoes (server_send r answer).0 frames taken sent now
+        → IsUnderWay r.size (llc from_meter ++ answer)
+        ((server_send r answer).1 ∷ sent) now.unsent }
+    ensures client { (c now : ClientRecord) (apdu : List ℕ) (heard : List Heard) (sent : List Parts)
+        (taken : List (List ℕ)) → ClientGoes (client_send c apdu).0 heard taken sent now
+        → (rest : List ℕ) × IsUnderWay MOST_BYTES (llc from_client ++ apdu)
+        ((client_send c apdu).1 ∷ sent) rest × (taken ≡ [] → now.unsent ≡ rest) }
+    ensures read_again { (side size : ℕ) (apdu : List ℕ) (frames : List Parts) → 3 ≤ size
+        → IsSegmented size (llc side ++ apdu) frames
         → kept_after_all side Fresh (map (λ f. f.info) frames) ≡ capped apdu }
 {}
 
 /// The numbers that clauses and definitions cite by name: control octets, the LLC's octets, and most bytes.
 pub fn the_numbers()
     ensures control { (SNRM ≡ 0x93) × (DISC ≡ 0x53) × (UA ≡ 0x73) × (DM ≡ 0x1F) }
-    ensures llc { (DESTINATION ≡ 0xE6) × (FROM_CLIENT ≡ 0xE6) × (FROM_METER ≡ 0xE7) × (QUALITY ≡ 0) }
+    ensures llc { (DESTINATION ≡ 0xE6) × (FROM_CLIENT ≡ 0xE6) × (FROM_METER ≡ 0xE7)
+        × (QUALITY ≡ 0) }
     ensures most { (MOST_BYTES ≡ 128) × (MOST_APDU ≡ 1024) }
 {}

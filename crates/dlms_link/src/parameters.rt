@@ -1,4 +1,4 @@
-//! The parameters of a link: what an SNRM proposes, and what the UA answers.
+//! The parameters of a link: the proposal in an SNRM, and the answer in the UA.
 
 ghost use Rattle.std.specs.Prelude.{◌≡◌, ◌≤◌, ◌<◌, ℕ, IfSome, IfNone, IsTrue, length, None};
 ghost use Rattle.dlms_link.specs.Parameters.{IsFirst, has_lawful_length, number_of, read_group, size_of, information_of, own_parameters};
@@ -31,7 +31,7 @@ fn number_of(octets: &[u8]) -> u32
     }
 }
 
-/// The parameter at the front, as its identifier and its value, and the bytes behind it.
+/// The parameter at the front, as its identifier and its value, and the bytes after it.
 fn first_parameter(bytes: &[u8]) -> Option<(u8, &[u8], &[u8])>
     requires { 0 < length bytes.now }
     ensures found { IfSome result (λ r. IsFirst r.0 r.1.now r.2.now bytes.now) }

@@ -75,7 +75,7 @@ fn to_client(client: Client, from: Address, control: u8, segmented: bool, bytes:
     SentFrame::new(segmented, Address::One(client.sap()), from, control, bytes)
 }
 
-/// An equal answer as what comes out.
+/// The same answer, as the output.
 fn again(last: &Answer) -> LinkOut
     ensures { result ≡ again last.now }
 {
@@ -224,7 +224,7 @@ impl ServerLink {
         self.segment(from)
     }
 
-    /// What the link makes of a frame.
+    /// How the link handles a frame.
     pub fn on(&mut self, frame: &Frame<'_>) -> LinkOut
         requires { self.old.waits ≡ None }
         ensures out { result ≡ (server_on self.old frame.now).1 }
@@ -324,7 +324,10 @@ impl ServerLink {
     fn ready(&mut self, from: Address) -> SentFrame
         requires { IsAddress from }
         ensures frame { result ≡ ready_frame self.old from }
-        ensures after { self.new ≡ record self.old { last = Answer.WasReady (ready_frame self.old from) } }
+        ensures after { self.new ≡ record self.old {
+          last = Answer.WasReady
+              (ready_frame self.old from);
+        } }
     {
         let frame = to_client(
             self.client,

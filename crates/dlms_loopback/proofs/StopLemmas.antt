@@ -21,8 +21,8 @@ use Rattle.dlms_store.specs.World.StoreStep.{Closes, ClosesInDoubt, Stops}
 use Rattle.dlms_store.specs.World.StoreWorld.{InDoubt, Rests, Runs}
 use Rattle.dlms_store.specs.Writing.{Leaves}
 use Rattle.dlms_store.specs.declared.fault.AddFault.{AddFault}
-use Rattle.dlms_ends.specs.declared.fault.LoopFault.{LoopFault}
-use Rattle.dlms_ends.specs.declared.fault.LoopFault.TheVariants.{Add, Memory as OutOfMemory}
+use Rattle.dlms_ends.specs.declared.fault.RunFault.{RunFault}
+use Rattle.dlms_ends.specs.declared.fault.RunFault.TheVariants.{Add, Memory as OutOfMemory}
 use Rattle.dlms_loopback.specs.Stops.{Finds, IsBegun, LosesUnsynced, MakesNone, Takes, TakesAll, Took}
 use Rattle.dlms_loopback.specs.Stops.MakesNone.{NoPages}
 
@@ -44,7 +44,7 @@ took_more old mid new events event takes judges w stands =
     }
 
 -- after these events were accepted the next one failed
-pub takes_part : {P A T : Type 0} {ghosts : Ghosts P} (old mid new : Meter P A ghosts) (front : List Event) (event : Event) (rest : List Event) (why : AddFault) (r : Result T LoopFault)
+pub takes_part : {P A T : Type 0} {ghosts : Ghosts P} (old mid new : Meter P A ghosts) (front : List Event) (event : Event) (rest : List Event) (why : AddFault) (r : Result T RunFault)
     → IsErrAnd r (λ given. given ≡ Add why) → Takes old mid front → Judges mid event (Err why) new → TakesAll old new (front ++ event ∷ rest) r
 takes_part old mid new front event rest why (Ok done) is takes judges = absurd is
 takes_part old mid new front event rest why (Err fault) is takes judges =
@@ -52,7 +52,7 @@ takes_part old mid new front event rest why (Err fault) is takes judges =
 
 -- ---- a new meter
 
-pub no_pages : {P A : Type 0} (ghosts : Ghosts P) (alloc : A) (r : Result (Meter P A ghosts) LoopFault) → IsErrAnd r (λ given. given ≡ OutOfMemory) → MatchResult r IsBegun (MakesNone ghosts alloc)
+pub no_pages : {P A : Type 0} (ghosts : Ghosts P) (alloc : A) (r : Result (Meter P A ghosts) RunFault) → IsErrAnd r (λ given. given ≡ OutOfMemory) → MatchResult r IsBegun (MakesNone ghosts alloc)
 no_pages ghosts alloc (Ok meter) is = absurd is
 no_pages ghosts alloc (Err fault) is = NoPages is
 
@@ -62,14 +62,14 @@ same_either : {X : Type 0} (b : Bool) (x : X) → (if b then x else x) ≡ x
 same_either true x = refl
 same_either false x = refl
 
--- where the old content is picked, a page holds what it held at the last sync
+-- if the old content is picked, a page holds its content at the last sync
 pub left_old : (disk : Disk) (k : ℕ) → page_left disk Old k ≡ page_at disk.stable k
 left_old disk k = same_either (was_written disk.since k) (page_at disk.stable k)
 
 pub loses_unsynced : (old new : Memory) → length new.first ≡ length old.first → ((k : ℕ) → k < length old.first → page_at new.first k ≡ page_left (disk_of old) Old k) → new.calls ≡ [] → LosesUnsynced old new
 loses_unsynced old new count pages calls = record { count = count; page = λ k below. pages k below ∙ left_old (disk_of old) k; calls = calls }
 
--- without a call since, reads give what the pages held at first
+-- without a call since, reads return the pages' initial content
 pub seen_first : (first : Image) (calls : List Call) → calls ≡ [] → (disk_after (at_first first) calls).seen ≡ first
 seen_first first calls none = ap (λ (cs : List Call). (disk_after (at_first first) cs).seen) none
 
@@ -91,7 +91,7 @@ module _ {P A : Type 0} {ghosts : Ghosts P} where
         fits = fits;
       }
 
-  -- what was settled when the device was given back, and a beginning of what was not, is found
+  -- the events that were settled when the device was returned, and a prefix of the others, are found
   pub found_by : (old back : Meter P A ghosts) (was given left : View) (image : Image) (before : StoreWorld) → StoreFits old.store before → GivesUp Closes before was given ⊎ GivesUp ClosesInDoubt before was given
       → given.may_leave image → IsFixed left image → ((at : StoreWorld) → DeviceFits left at → OpensAs at left back.store)
       → ((found : List Event) → Remembers found [] back.store → Stands back (recovered found)) → Finds before back

@@ -3,14 +3,15 @@
 ghost use Rattle.std.specs.Prelude.{◌≡◌, ◌≤◌, ◌+◌, Some, IfErr, IfOk, IfSome, MatchResult, option_map};
 ghost use Rattle.dlms_headend.specs.Merged.{last_clock};
 ghost use Rattle.dlms_headend.specs.Polling.{fresh_poll};
+ghost use Rattle.dlms_meter.specs.Run.{MeterWorld};
 ghost use Rattle.dlms_ends.specs.Faults.{TellsError};
-ghost use Rattle.dlms_loopback.specs.Rounds.{HasPolled, HoldsFile, JoinsEnds, LoopFails, Loops, OpensReadings, PrintsText, ReadsRows, Rounds, Seen, TellsKept, Unlooped, plan_from};
+ghost use Rattle.dlms_loopback.specs.Rounds.{HasPolled, HoldsFile, IsInWorld, JoinsEnds, LoopFails, Loops, OpensReadings, PrintsText, ReadsRows, Rounds, Seen, TellsKept, Unlooped, plan_from};
 ghost use Rattle.dlms_loopback.specs.Stops.{ComesBack, IsBegun, IsUnopened, MakesNone, Restarts, TakesAll, events_after, first_events};
 
 use crate::socket::{Joining, Line};
 use arrayvec::ArrayVec;
 use dlms_data::LAST_SECOND;
-use dlms_ends::{End, LoopFault, poll, poller};
+use dlms_ends::{End, RunFault, poll, poller};
 use dlms_filing::{Filing, FilingFault, Holding, OpeningFault, Output, keep_rows, open_rows};
 use dlms_frame::Client;
 use dlms_headend::{Poller, Readings};
@@ -31,51 +32,55 @@ const PERIOD: u32 = 900;
 type MemoryMeter = Meter<MemoryPages<Global>, Global>;
 
 /// Keeps what the system says of the file.
-fn tell(told: &mut Option<io::Error>, error: io::Error) -> LoopFault
+fn tell(told: &mut Option<io::Error>, error: io::Error) -> RunFault
     ensures fault { TellsError error result }
     ensures told { told.new ≡ Some error }
 {
     *told = Some(error);
-    LoopFault::from(error)
+    RunFault::from(error)
 }
 
-/// Whether rows were filed, and what the system says where they were not.
+/// Whether rows were filed, and the system's error if they were not.
 #[inline(never)]
-fn filed(told: &mut Option<io::Error>, outcome: Result<(), FilingFault>) -> Result<(), LoopFault>
+fn filing_result(
+    told: &mut Option<io::Error>,
+    outcome: Result<(), FilingFault>,
+) -> Result<(), RunFault>
     ensures { TellsKept told.old told.new outcome result }
 {
     match outcome {
         Ok(()) => Ok(()),
         Err(FilingFault::Place(error)) => Err(tell(told, error)),
-        Err(FilingFault::Memory) => Err(LoopFault::Memory),
-        Err(FilingFault::Output) => Err(LoopFault::Io),
+        Err(FilingFault::Memory) => Err(RunFault::Memory),
+        Err(FilingFault::Output) => Err(RunFault::Io),
     }
 }
 
-/// The readings that stand at a place.
+/// The readings at a place.
 #[inline(never)]
-fn opened<F: Filing>(
+fn open_readings<F: Filing>(
     alloc: Global,
     place: &mut F,
     told: &mut Option<io::Error>,
-) -> Result<Readings, LoopFault>
+) -> Result<Readings, RunFault>
     ensures { OpensReadings (F.asked place.old) (F.asked place.new) told.old told.new result }
 {
     match open_rows(alloc, place) {
         Ok(readings) => Ok(readings),
         Err(OpeningFault::Place(error)) => Err(tell(told, error)),
-        Err(OpeningFault::Readings(fault)) => Err(LoopFault::from(fault)),
+        Err(OpeningFault::Readings(fault)) => Err(RunFault::from(fault)),
     }
 }
 
-/// Holds the file, where one is named.
+/// Holds the file, if one is given.
 #[inline(never)]
-fn held<F: Holding>(
+fn hold_file<F: Holding>(
     place: &mut F,
     file: Option<&str>,
     told: &mut Option<io::Error>,
-) -> Result<(), LoopFault>
-    ensures { HoldsFile (option_map (λ x. x.now) file.entry) (F.asked place.old) (F.asked place.new) told.old told.new result }
+) -> Result<(), RunFault>
+    ensures { HoldsFile (option_map (λ x. x.now) file.entry) (F.asked place.old)
+        (F.asked place.new) told.old told.new result }
 {
     match file {
         Some(file) => match place.hold(file) {
@@ -87,18 +92,19 @@ fn held<F: Holding>(
 }
 
 /// Joins the two ends of the line.
-fn joined<S: Joining>(line: &mut Line<S>) -> Result<(), LoopFault>
-    ensures { JoinsEnds (S.past line.old.head) (S.past line.new.head) (S.past line.old.tail) (S.past line.new.tail) result }
+fn join_ends<S: Joining>(line: &mut Line<S>) -> Result<(), RunFault>
+    ensures { JoinsEnds (S.past line.old.head) (S.past line.new.head) (S.past line.old.tail)
+        (S.past line.new.tail) result }
 {
     match S::join(&mut line.head, &mut line.tail) {
         Ok(()) => Ok(()),
-        Err(error) => Err(LoopFault::from(error)),
+        Err(error) => Err(RunFault::from(error)),
     }
 }
 
 /// Prints the readings.
 #[inline(never)]
-fn print<O: Output>(readings: &Readings, output: &mut O) -> Result<(), LoopFault>
+fn print<O: Output>(readings: &Readings, output: &mut O) -> Result<(), RunFault>
     ensures { PrintsText (O.printed output.old) (O.printed output.new) readings.now result }
 {
     let text = readings.text()?;
@@ -107,7 +113,7 @@ fn print<O: Output>(readings: &Readings, output: &mut O) -> Result<(), LoopFault
 }
 
 /// Counts 42 pulses on channel 0, and captures twice.
-fn start(meter: &mut MemoryMeter) -> Result<(), LoopFault>
+fn start(meter: &mut MemoryMeter) -> Result<(), RunFault>
     ensures { TakesAll meter.old meter.new first_events result }
 {
     meter.pulses(0, 42)?;
@@ -118,7 +124,7 @@ fn start(meter: &mut MemoryMeter) -> Result<(), LoopFault>
 
 /// A new meter with 42 pulses on channel 0 and two captures.
 #[inline(never)]
-fn new_meter(alloc: Global) -> Result<MemoryMeter, LoopFault>
+fn new_meter(alloc: Global) -> Result<MemoryMeter, RunFault>
     ensures { MatchResult result IsBegun (MakesNone ⟦<MemoryPages<Global> as Pages>⟧ alloc) }
 {
     let pages = MemoryPages::new(alloc, PAGES)?;
@@ -126,7 +132,7 @@ fn new_meter(alloc: Global) -> Result<MemoryMeter, LoopFault>
         Ok(meter) => meter,
         Err((pages, fault)) => {
             drop(pages);
-            return Err(LoopFault::Open(fault));
+            return Err(RunFault::Open(fault));
         }
     };
     match start(&mut meter) {
@@ -139,7 +145,7 @@ fn new_meter(alloc: Global) -> Result<MemoryMeter, LoopFault>
 }
 
 /// Counts one more pulse, and captures once more.
-fn go_on(meter: &mut MemoryMeter, round: u8) -> Result<(), LoopFault>
+fn go_on(meter: &mut MemoryMeter, round: u8) -> Result<(), RunFault>
     ensures { TakesAll meter.old meter.new (events_after round) result }
 {
     meter.pulses(0, 1)?;
@@ -149,21 +155,21 @@ fn go_on(meter: &mut MemoryMeter, round: u8) -> Result<(), LoopFault>
 
 /// The meter as it comes back from a stop of the power: what its device had not synced is lost, and its links are down.
 #[inline(never)]
-fn come_back(alloc: Global, meter: MemoryMeter) -> Result<MemoryMeter, LoopFault>
+fn come_back(alloc: Global, meter: MemoryMeter) -> Result<MemoryMeter, RunFault>
     ensures { MatchResult result (ComesBack meter) (IsUnopened meter) }
 {
     match Meter::recover(alloc, meter.close().cut(Pick::AllOld)) {
         Ok(meter) => Ok(meter),
         Err((pages, fault)) => {
             drop(pages);
-            Err(LoopFault::Open(fault))
+            Err(RunFault::Open(fault))
         }
     }
 }
 
 /// The meter as it comes back from a stop of the power, with one more pulse and one more capture.
 #[inline(never)]
-fn stopped(alloc: Global, meter: MemoryMeter, round: u8) -> Result<MemoryMeter, LoopFault>
+fn restart(alloc: Global, meter: MemoryMeter, round: u8) -> Result<MemoryMeter, RunFault>
     ensures { Restarts meter round result }
 {
     let mut meter = match come_back(alloc, meter) {
@@ -190,26 +196,35 @@ fn managements_poller(alloc: Global, after: Option<u32>) -> Poller
 }
 
 /// Polls once, from the last row's second on, merges what came, and keeps it.
-fn read<F: Filing, S: End>(
+fn poll_once<F: Filing, S: End>(
     alloc: Global,
     place: &mut F,
     readings: &mut Readings,
     told: &mut Option<io::Error>,
     line: &mut Line<S>,
     meter: &mut MemoryMeter,
-) -> Result<(), LoopFault>
-    ensures { let before : Seen = record { head = S.past line.old.head; tail = S.past line.old.tail; asked = F.asked place.old } in
-        let after : Seen = record { head = S.past line.new.head; tail = S.past line.new.tail; asked = F.asked place.new } in
-        ReadsRows (plan_from SECRET.now (last_clock readings.old)) before after meter.old meter.new told.old told.new readings.old result readings.new }
+) -> Result<(), RunFault>
+    ensures { let before : Seen = record {
+      head = S.past line.old.head;
+      tail = S.past line.old.tail;
+      asked = F.asked place.old;
+    } in
+        let after : Seen = record {
+          head = S.past line.new.head;
+          tail = S.past line.new.tail;
+          asked = F.asked place.new;
+        } in
+        ReadsRows (plan_from SECRET.now
+        (last_clock readings.old)) before after meter.old meter.new told.old told.new readings.old result readings.new }
 {
     let poller = managements_poller(alloc, readings.last());
     match poll(&mut line.head, &mut line.tail, meter, poller) {
-        Ok(done) => filed(told, keep_rows(place, readings, done.rows())),
+        Ok(done) => filing_result(told, keep_rows(place, readings, done.rows())),
         Err(fault) => Err(fault),
     }
 }
 
-/// Polls the meter, and so many times then stops it and polls it again. What came of each poll that is done is kept.
+/// Polls the meter, then stops it and polls it again `stops` times. The rows of each poll that is done are kept.
 fn rounds<F: Filing, S: End>(
     alloc: Global,
     place: &mut F,
@@ -218,44 +233,71 @@ fn rounds<F: Filing, S: End>(
     line: &mut Line<S>,
     meter: MemoryMeter,
     stops: u8,
-) -> Result<(), LoopFault>
-    ensures { let before : Seen = record { head = S.past line.old.head; tail = S.past line.old.tail; asked = F.asked place.old } in
-        let after : Seen = record { head = S.past line.new.head; tail = S.past line.new.tail; asked = F.asked place.new } in
-        Rounds meter SECRET.now stops before after told.old told.new readings.old result readings.new }
+) -> Result<(), RunFault>
+    ensures { let before : Seen = record {
+      head = S.past line.old.head;
+      tail = S.past line.old.tail;
+      asked = F.asked place.old;
+    } in
+        let after : Seen = record {
+          head = S.past line.new.head;
+          tail = S.past line.new.tail;
+          asked = F.asked place.new;
+        } in
+        (w : MeterWorld) → IsInWorld meter w
+        → Rounds meter SECRET.now stops before after told.old told.new readings.old result readings.new }
 {
     let mut meter = meter;
-    read(alloc, place, readings, told, line, &mut meter)?;
+    poll_once(alloc, place, readings, told, line, &mut meter)?;
     'stops: for round in 0..stops {
-        meter = stopped(alloc, meter, round + 1)?;
-        read(alloc, place, readings, told, line, &mut meter)?;
+        meter = restart(alloc, meter, round + 1)?;
+        poll_once(alloc, place, readings, told, line, &mut meter)?;
     }
     Ok(())
 }
 
-/// The readings of a file, and what a new meter in memory was polled for over the line. The file is read before anything else is
-/// done.
-fn polled<F: Holding, S: Joining>(
+/// The readings of a file, with those of a new meter in memory that was polled over the line. The file is read before anything else
+/// is done.
+fn poll_readings<F: Holding, S: Joining>(
     alloc: Global,
     place: &mut F,
     line: &mut Line<S>,
     file: Option<&str>,
     stops: u8,
     told: &mut Option<io::Error>,
-) -> Result<Readings, LoopFault>
-    ensures polled { let before : Seen = record { head = S.past line.old.head; tail = S.past line.old.tail; asked = F.asked place.old } in
-        let after : Seen = record { head = S.past line.new.head; tail = S.past line.new.tail; asked = F.asked place.new } in
+) -> Result<Readings, RunFault>
+    ensures polled { let before : Seen = record {
+      head = S.past line.old.head;
+      tail = S.past line.old.tail;
+      asked = F.asked place.old;
+    } in
+        let after : Seen = record {
+          head = S.past line.new.head;
+          tail = S.past line.new.tail;
+          asked = F.asked place.new;
+        } in
         let name = option_map (λ x. x.now) file.entry in
-        IfOk result (HasPolled ⟦<MemoryPages<Global> as Pages>⟧ alloc name SECRET.now stops before after told.old told.new) }
-    ensures fails { let before : Seen = record { head = S.past line.old.head; tail = S.past line.old.tail; asked = F.asked place.old } in
-        let after : Seen = record { head = S.past line.new.head; tail = S.past line.new.tail; asked = F.asked place.new } in
+        IfOk result
+        (HasPolled ⟦<MemoryPages<Global> as Pages>⟧ alloc name SECRET.now stops before after told.old told.new) }
+    ensures fails { let before : Seen = record {
+      head = S.past line.old.head;
+      tail = S.past line.old.tail;
+      asked = F.asked place.old;
+    } in
+        let after : Seen = record {
+          head = S.past line.new.head;
+          tail = S.past line.new.tail;
+          asked = F.asked place.new;
+        } in
         let name = option_map (λ x. x.now) file.entry in
-        IfErr result (LoopFails ⟦<MemoryPages<Global> as Pages>⟧ alloc name SECRET.now stops before after told.old told.new) }
+        IfErr result
+        (LoopFails ⟦<MemoryPages<Global> as Pages>⟧ alloc name SECRET.now stops before after told.old told.new) }
 {
-    match held(place, file, told) {
+    match hold_file(place, file, told) {
         Ok(()) => {}
         Err(fault) => return Err(fault),
     }
-    let mut readings = match opened(alloc, place, told) {
+    let mut readings = match open_readings(alloc, place, told) {
         Ok(readings) => readings,
         Err(fault) => return Err(fault),
     };
@@ -263,7 +305,7 @@ fn polled<F: Holding, S: Joining>(
         Ok(meter) => meter,
         Err(fault) => return Err(fault),
     };
-    match joined(line) {
+    match join_ends(line) {
         Ok(()) => {}
         Err(fault) => return Err(fault),
     }
@@ -274,10 +316,10 @@ fn polled<F: Holding, S: Joining>(
 }
 
 /// Polls a new meter in memory over a line, and prints the readings. The meter has 42 pulses on channel 0 and captures at 900 and
-/// 1800 seconds. Where a file is named its readings come first, and they and what is new stand in it after each poll that is
-/// done; nobody else has the file meanwhile. So many times then the meter is stopped, what it has not synced is lost, it comes
-/// back, gets one more pulse and one more capture, and is polled again. The file is read before anything else is done. Where the
-/// file is what failed, `told` gets what the system says of it.
+/// 1800 seconds. If a file is given, its readings come first, and after each finished poll it contains them and the new ones; no
+/// other program has the file meanwhile. Then, `stops` times, the meter is stopped, loses what it has not synced, comes back, gets
+/// one more pulse and one more capture, and is polled again. The file is read before anything else is done. If the file is what
+/// failed, `told` gets the system's error.
 pub fn loopback<F: Holding, S: Joining, O: Output>(
     alloc: Global,
     place: &mut F,
@@ -286,19 +328,37 @@ pub fn loopback<F: Holding, S: Joining, O: Output>(
     stops: u8,
     output: &mut O,
     told: &mut Option<io::Error>,
-) -> Result<(), LoopFault>
-    ensures loops { let before : Seen = record { head = S.past line.old.head; tail = S.past line.old.tail; asked = F.asked place.old } in
-        let after : Seen = record { head = S.past line.new.head; tail = S.past line.new.tail; asked = F.asked place.new } in
+) -> Result<(), RunFault>
+    ensures loops { let before : Seen = record {
+      head = S.past line.old.head;
+      tail = S.past line.old.tail;
+      asked = F.asked place.old;
+    } in
+        let after : Seen = record {
+          head = S.past line.new.head;
+          tail = S.past line.new.tail;
+          asked = F.asked place.new;
+        } in
         let name = option_map (λ x. x.now) file.entry in
-        IfOk result (λ _. Loops ⟦<MemoryPages<Global> as Pages>⟧ alloc name SECRET.now stops before after told.old told.new
+        IfOk result
+        (λ _. Loops ⟦<MemoryPages<Global> as Pages>⟧ alloc name SECRET.now stops before after told.old told.new
         (O.printed output.old) (O.printed output.new)) }
-    ensures fails { let before : Seen = record { head = S.past line.old.head; tail = S.past line.old.tail; asked = F.asked place.old } in
-        let after : Seen = record { head = S.past line.new.head; tail = S.past line.new.tail; asked = F.asked place.new } in
+    ensures fails { let before : Seen = record {
+      head = S.past line.old.head;
+      tail = S.past line.old.tail;
+      asked = F.asked place.old;
+    } in
+        let after : Seen = record {
+          head = S.past line.new.head;
+          tail = S.past line.new.tail;
+          asked = F.asked place.new;
+        } in
         let name = option_map (λ x. x.now) file.entry in
-        IfErr result (Unlooped ⟦<MemoryPages<Global> as Pages>⟧ alloc name SECRET.now stops before after told.old told.new
+        IfErr result
+        (Unlooped ⟦<MemoryPages<Global> as Pages>⟧ alloc name SECRET.now stops before after told.old told.new
         (O.printed output.old) (O.printed output.new)) }
 {
-    match polled(alloc, place, line, file, stops, told) {
+    match poll_readings(alloc, place, line, file, stops, told) {
         Ok(readings) => print(&readings, output),
         Err(why) => Err(why),
     }

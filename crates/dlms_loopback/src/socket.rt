@@ -38,8 +38,10 @@ pub struct Line<S> {
 pub trait Joining: End {
     /// Joins two ends to one line. Before that nothing comes at them, and nothing goes out.
     fn join(head: &mut Self, tail: &mut Self) -> io::Result<()>
-        ensures head { Adds (Self.past head.old) (Self.past head.new) (Joins (error_in result) ∷ []) }
-        ensures tail { Adds (Self.past tail.old) (Self.past tail.new) (Joins (error_in result) ∷ []) };
+        ensures head { Adds (Self.past head.old) (Self.past head.new)
+            (Joins (error_in result) ∷ []) }
+        ensures tail { Adds (Self.past tail.old) (Self.past tail.new)
+            (Joins (error_in result) ∷ []) };
 }
 
 /// An end of a TCP connection of this program with itself, once it is joined to the other one.
@@ -93,7 +95,8 @@ impl<R: Net> Joining for Socket<'_, R> {
 
 /// The end that was accepted, if it is the one whose own address this is. Any other connection is closed.
 fn own_end<S: Drop>(accepted: (S, SocketAddr), own: SocketAddr) -> Option<S>
-    ensures { MatchOption result (accepted.1 ≢ own) (λ tail. (accepted.1 ≡ own) × (tail ≡ accepted.0)) }
+    ensures { MatchOption result (accepted.1 ≢ own) (λ tail. (accepted.1 ≡ own)
+        × (tail ≡ accepted.0)) }
 {
     let (tail, peer) = accepted;
     if peer == own { Some(tail) } else { None }

@@ -1,4 +1,4 @@
--- What was answered stands in whatever a store is found to hold later.
+-- An answer stays in whatever a store is later found to contain.
 use Rattle.std.proofs.Common.{◌≡◌, ⊎_elim, inl, inr, sym, ap, subst, ◌∙◌, append_assoc, append-nil, ℕ, List, [], ◌∷◌, ◌++◌, take, Bool, true, Option, Some, None}
 use Rattle.std.specs.Prelude.{IfSome}
 use Rattle.dlms_frame.specs.declared.client.Client.{Client}
@@ -77,7 +77,7 @@ none_pending events (Runs s p) none is = ([], append-nil events ∙ sym is ∙ a
 none_pending events (InDoubt s p) none is = ([], append-nil events ∙ sym is ∙ ap (λ (l : List Event). s ++ l) none ∙ append-nil s)
 none_pending events (Rests e) none is = ([], append-nil events ∙ sym is)
 
--- a device that failed is told by no answer of success
+-- no answer of success reports a device that failed
 never_said : (kept : Bool) (wanted : List Event) (w : MeterWorld) (turn : Turn) (who : Option Client) → Takes (events_of w) w.records turn who → turn.choice ≡ DeviceFails kept wanted → IsUnsaid turn.answer
 never_said kept wanted w turn None takes failed = subst (λ (a : Option (List ℕ)). IsUnsaid a) (sym takes.2) tt
 never_said kept wanted w turn (Some who) (own, handles, same) failed =

@@ -93,7 +93,7 @@ promised_by own f reply w old new own' h =
     (λ kept wanted e. unsaid kept wanted (events_of w) (server_on own.link f).0 own.session (server_on own.link f).1 made (subst (λ (c : Choice). Handles c (events_of w) own f made) e h.handles))
     h.stored h.goes.run
 
--- each client's record, where one of them changed
+-- each client's record, if one of them changed
 own_records : {P A : Type 0} {ghosts : Ghosts P} (who : Client) (w : MeterWorld) (old new : Meter P A ghosts) → Stands old w → ((other : Client) → other ≢ who → record_for new other ≡ record_for old other)
     → (c : Client) → with_record w.records who (record_for new who) c ≡ record_for new c
 own_records who w old new stands others c = by_test (is_same who c) refl

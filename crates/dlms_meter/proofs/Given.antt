@@ -258,7 +258,7 @@ moved x s does = moved_by x.choice x.before s x.apdu x.outcome does
 
 -- ---- blocks, one after another
 
--- the blocks given so far, and where the transfer stands, if it still stands
+-- the blocks returned so far, and the transfer's position, if it is still open
 record SoFar (text : List ℕ) (size : ℕ) (getting : Option Going) (blocks : List Block) : Type 0 where
   bytes : joined blocks ≡ blocks_up_to text size (length blocks)
   final : has_last blocks ≡ true → is_last text size (length blocks) ≡ true
@@ -286,7 +286,7 @@ length_more blocks b = omega (arith, length-append blocks (b ∷ []))
 not_both : {X : Type 0} {b : Bool} → b ≡ false → b ≡ true → X
 not_both e h = absurd cc
 
--- where none was the last before, it is the last now
+-- if none was the last before, it is the last now
 only_now : (before now : Bool) → (before ≡ true → now ≡ true) → (before || now) ≡ true → now ≡ true
 only_now true now was h = was refl
 only_now false now was h = h

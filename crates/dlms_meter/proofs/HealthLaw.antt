@@ -24,7 +24,7 @@ served old new (DeviceFails kept wanted) healthy (inr (inl stopped)) = healthy.r
 served old new (DeviceFails kept wanted) healthy (inr (inr (inl commit))) = healthy.settles commit
 served old new (DeviceFails kept wanted) healthy (inr (inr (inr (event, is, exhausted)))) = healthy.takes event (inr exhausted)
 
--- a call of feed, with its frame where it ended one
+-- a call of feed, with its frame if it ended one
 fed : {P A : Type 0} {ghosts : Ghosts P} (old new : Meter P A ghosts) (steps : List StoreStep) (w : MeterWorld) (taken : List ℕ) (reply : Option (List ℕ)) (w' : MeterWorld) → IsHealthy old.store new.store
     → Fed (MayChoose old.store new.store) w taken reply steps w' → Stands new w' → (comes : Comes w taken (listed reply) w') × AreServed comes.turns
 fed old new steps w taken reply w' healthy (inl (free, none, no_steps, is)) stands = (record { turns = []; answers = (free, ap listed none, is) }, tt)

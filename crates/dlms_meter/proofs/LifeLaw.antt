@@ -1,4 +1,4 @@
--- What the store did in a life of the meter is a run of the store.
+-- The store's steps in a life of the meter are a run of the store.
 use Rattle.std.proofs.Common.{◌≡◌, refl, sym, ap, subst, ◌∙◌, append_assoc, List, [], ◌∷◌, ◌++◌}
 use Rattle.dlms_state.specs.declared.event.Event.{Event}
 use Rattle.dlms_store.specs.World.{StoreWorld, StoreStep, Next, StoreRun}

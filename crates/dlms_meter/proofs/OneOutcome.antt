@@ -1,4 +1,4 @@
--- A piece of bytes has one outcome, where memory is found.
+-- A piece of bytes has one outcome if memory is found.
 use Rattle.std.proofs.Common.{◌≡◌, ◌∙◌, ℕ, sym, ap, subst, List, [], ◌∷◌, ◌++◌, Option, Some, None}
 use Rattle.dlms_frame.specs.declared.client.Client.{Client}
 use Rattle.dlms_frame.specs.Frame.{Parts}

@@ -36,7 +36,7 @@ by_link : {A : Type 0} {x y : A} (choice : Choice) → ByLink choice (x ≡ y) �
 by_link (Served memory) is = is
 by_link (DeviceFails kept wanted) is = absurd is
 
--- what is made of what the link gives keeps it too
+-- the answer to what the link hands up keeps it too
 answered_keeps : (choice : Choice) (E : List Event) (r : ServerRecord) (s : SessionValue) (out : LinkOut) (h : Handled) → Answered choice E r s out h → h.own.link.client ≡ r.client
 answered_keeps choice E r s Nothing h is = ap (λ (x : Handled). x.own.link.client) (by_link choice is)
 answered_keeps choice E r s (Reply frame) h is = ap (λ (x : Handled). x.own.link.client) (by_link choice is)
@@ -66,7 +66,7 @@ first_own = λ who. refl
 pub recovered_own : (events : List Event) → AreOwn (recovered events)
 recovered_own events = λ who. refl
 
--- behind a recovery all is as it is at first
+-- after a recovery all is as it was initially
 life_own : (w w' : MeterWorld) (legs : List Leg) → Lives w legs w' → AreOwn w → AreOwn w'
 life_own w w' [] lives own = subst AreOwn (sym lives) own
 life_own w w' (leg ∷ legs) (is, lives) own = life_own (recovered leg.found) w' legs lives (recovered_own leg.found)

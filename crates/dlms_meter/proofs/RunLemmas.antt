@@ -99,7 +99,7 @@ uncalled b accepted is nothing = subst (λ (x : Bool). StoredFor x accepted []) 
 pub settling : (b : Bool) (accepted : List Event) (steps : List StoreStep) → b ≡ true → IsSettling accepted steps → StoredFor b accepted steps
 settling b accepted steps is settles = subst (λ (x : Bool). StoredFor x accepted steps) (sym is) settles
 
--- the event that is accepted where the device failed behind it is the one that the answer would have had
+-- the event that is accepted if the device failed after it is the one that the answer would have had
 pub wants : (kept : Bool) (E : List Event) (s own : SessionValue) (apdu : List ℕ) (stake : Stake) (events : List Event) → Fails true E s apdu (failing true own stake events)
     → Does (DeviceFails kept events) E s apdu (failing kept own stake events)
 wants kept E s own apdu stake events (form, read, would, leads, success, same) =

@@ -1,4 +1,4 @@
--- What is made of an answer before it goes out.
+-- How an answer is settled before it goes out.
 use Rattle.std.proofs.Common.{arith, ◌≡◌, ◌≤◌, ◌∙◌, ◌⊎◌, sym, subst, inl, inr, ℕ, None, Bool, true, false, List, [], ◌∷◌, refl, if◌then◌else◌, is_ok, Result, Ok, Err}
 use Rattle.dlms_pages.specs.declared.device.Pages.{Ghosts}
 use Rattle.dlms_pages.specs.Device.{Rose}
@@ -30,7 +30,7 @@ add_may_fail (add.Refused cause) event old new passes is = absurd (cc (sym passe
 rose_later : (a b c : ℕ) → a ≤ b → Rose b c → Rose a c
 rose_later a b c le rose = omega (arith, le, rose)
 
--- where the calls before it met no fault
+-- if the calls before it met no fault
 pub commit_may_fail : {P A : Type 0} {ghosts : Ghosts P} (wanted : List Event) (fault : StoreFault) (old mid new : Store P A ghosts) → (view_of old).faults ≤ (view_of mid).faults → (IsStopped mid → IsStopped old) → Committed (Err fault) mid new
     → MayFail wanted old new
 commit_may_fail wanted commit.Device old mid new before stopped is = inl (rose_later _ _ _ before (is.device refl).cause)

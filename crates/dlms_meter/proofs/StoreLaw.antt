@@ -1,4 +1,4 @@
--- What the store did in a run of the meter is a run of the store.
+-- The store's steps in a run of the meter are a run of the store.
 use Rattle.std.proofs.Common.{◌≡◌, ◌⊎◌, inl, inr, refl, sym, ap, subst, ℕ, List, [], ◌∷◌, ◌++◌, Result, Ok, Err}
 use Rattle.dlms_state.specs.declared.event.Event.{Event}
 use Rattle.dlms_store.specs.World.{StoreWorld, StoreStep, Next, StoreRun}

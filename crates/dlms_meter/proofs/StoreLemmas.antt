@@ -1,4 +1,4 @@
--- What a refusal of the store carries on.
+-- The consequences of a refusal by the store.
 use Rattle.std.proofs.Common.{◌≡◌, sym, subst, Result, Ok, Err, MatchResult}
 use Rattle.std.specs.Prelude.{IsErrAnd}
 

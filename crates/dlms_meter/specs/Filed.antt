@@ -23,18 +23,22 @@ pub record IsBetween (old new at : Slots) : Type 0 where
   pub since : length old.calls ≤ length at.calls
 
 -- The machine stopped when the file was so, and these pages were opened over what that left of its slots.
-pub record IsOpenedBehind {F : Type 0} (slots : F → Slots) (count : ℕ) (at : Slots) (pages : FileValue F) : Type 0 where
+pub record IsOpenedBehind {F : Type 0} (slots : F
+    → Slots) (count : ℕ) (at : Slots) (pages : FileValue F) : Type 0 where
   pub left : ℕ → Slot
   pub leaves : LeavesSlots count at.first at.calls left
   pub opened : IsOpenedOver slots count left pages
 
 -- a store is what `open` makes of a device, whatever world the device fits
-abbrev pub IsOpenOf : {F P A : Type 0} → {ghosts : Ghosts P} → (F → Slots) → FileValue F → Store P A ghosts → Type 0
-IsOpenOf slots pages store = (before : StoreWorld) → DeviceFits (file_view slots pages) before → OpensAs before (file_view slots pages) store
+abbrev pub IsOpenOf : {F P A : Type 0} → {ghosts : Ghosts P} → (F → Slots) → FileValue F
+    → Store P A ghosts → Type 0
+IsOpenOf slots pages store = (before : StoreWorld) → DeviceFits (file_view slots pages) before
+    → OpensAs before (file_view slots pages) store
 
 -- what is found there: a beginning of the accepted events, with every event that was settled before an answer, and at most one
 -- page of records less
-pub record FindsInFile {P A : Type 0} {ghosts : Ghosts P} (w : MeterWorld) (steps : List Step) (run : Run first_world steps w) (store : Store P A ghosts) : Type 0 where
+pub record FindsInFile {P A : Type 0} {ghosts : Ghosts P} (w : MeterWorld) (steps : List Step)
+    (run : Run first_world steps w) (store : Store P A ghosts) : Type 0 where
   pub found : List Event
   pub recovered : IsRecovered (store_steps first_world steps w run ++ Stops ∷ []) found
   pub fits : StoreFits store (Runs found [])

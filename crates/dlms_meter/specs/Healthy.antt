@@ -19,9 +19,12 @@ pub record IsHealthy {P A : Type 0} {ghosts : Ghosts P} (old new : Store P A gho
   pub takes : (event : Event) → AddIsExhausted old event ⊎ AddIsExhausted new event → ⊥
 
 -- so did each of these calls
-abbrev pub AreHealthy : {P A : Type 0} → {ghosts : Ghosts P} → (old : Meter P A ghosts) (calls : List Call) (new : Meter P A ghosts) → Calls old calls new → Type 0
+abbrev pub AreHealthy : {P A : Type 0} → {ghosts : Ghosts P}
+    → (old : Meter P A ghosts) (calls : List Call) (new : Meter P A ghosts) → Calls old calls new
+    → Type 0
 AreHealthy old [] new is = Unit {0}
-AreHealthy old (call ∷ calls) new (mid, is, rest) = IsHealthy old.store mid.store × AreHealthy mid calls new rest
+AreHealthy old (call ∷ calls) new (mid, is, rest) = IsHealthy old.store mid.store
+    × AreHealthy mid calls new rest
 
 -- the frame is answered as the service has it, want of memory being the one free choice
 abbrev pub IsServed : Choice → Type 0
@@ -40,14 +43,20 @@ IsDecided (Err (Refused cause)) = Unit {0}
 IsDecided (Err _) = ⊥
 
 -- no frame of this run is answered with the device's fault, and no event meets one
-abbrev pub GoesWell : (w : MeterWorld) (steps : List Step) (w' : MeterWorld) → Run w steps w' → Type 0
+abbrev pub GoesWell : (w : MeterWorld) (steps : List Step) (w' : MeterWorld) → Run w steps w'
+    → Type 0
 GoesWell w [] w' run = Unit {0}
-GoesWell w (Piece bytes replies ∷ steps) w' (mid, leads, rest) = AreServed leads.turns × GoesWell mid steps w' rest
+GoesWell w (Piece bytes replies ∷ steps) w' (mid, leads, rest) = AreServed leads.turns
+    × GoesWell mid steps w' rest
 GoesWell w (Silence ∷ steps) w' (mid, leads, rest) = GoesWell mid steps w' rest
-GoesWell w (Happens event outcome ∷ steps) w' (mid, leads, rest) = IsDecided outcome × GoesWell mid steps w' rest
+GoesWell w (Happens event outcome ∷ steps) w' (mid, leads, rest) = IsDecided outcome
+    × GoesWell mid steps w' rest
 
 -- calls of which each met no fault are such a run
-abbrev pub HealthyCallsGoWell : {P A : Type 0} → {ghosts : Ghosts P} → Meter P A ghosts → Meter P A ghosts → Type 0
+abbrev pub HealthyCallsGoWell : {P A : Type 0} → {ghosts : Ghosts P} → Meter P A ghosts
+    → Meter P A ghosts → Type 0
 HealthyCallsGoWell old new =
-    (calls : List Call) (w : MeterWorld) (is : Calls old calls new) → AreHealthy old calls new is → Stands old w
-    → (w' : MeterWorld) × (run : Run w (map step_of calls) w') × GoesWell w (map step_of calls) w' run × Stands new w'
+    (calls : List Call) (w : MeterWorld) (is : Calls old calls new) → AreHealthy old calls new is
+    → Stands old w
+    → (w' : MeterWorld) × (run : Run w (map step_of calls) w')
+    × GoesWell w (map step_of calls) w' run × Stands new w'

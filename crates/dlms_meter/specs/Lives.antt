@@ -8,8 +8,8 @@ use Rattle.dlms_meter.specs.Run.{MeterWorld, first_world, recovered}
 use Rattle.dlms_meter.specs.Steps.{Step, Leads, Run}
 use Rattle.dlms_meter.specs.Storing.{steps_in, store_steps}
 
--- A run of whole calls; how far the store came in the call that was cut off behind them, if there was one; the stops, closes and
--- recoveries that failed after it; and the events that a recovery found at last.
+-- A run of whole calls; how far the store came in the call that was cut off after them, if any; the stops, closes and failed
+-- recoveries after it; and the events that a recovery finally found.
 pub record Leg : Type 0 where
   pub steps : List Step
   pub cut : List StoreStep
@@ -18,7 +18,8 @@ pub record Leg : Type 0 where
 
 -- these are the first of the store's steps in a call from here
 abbrev pub IsCutOff : MeterWorld → List StoreStep → Type 0
-IsCutOff w cut = (step : Step) × (mid : MeterWorld) × (leads : Leads w step mid) × (count : ℕ) × (cut ≡ take count (steps_in w step mid leads))
+IsCutOff w cut = (step : Step) × (mid : MeterWorld) × (leads : Leads w step mid) × (count : ℕ)
+    × (cut ≡ take count (steps_in w step mid leads))
 
 pub record IsLeg (w : MeterWorld) (leg : Leg) : Type 0 where
   pub last : MeterWorld
@@ -38,18 +39,23 @@ abbrev pub before_recovery : (w : MeterWorld) (leg : Leg) → IsLeg w leg → Li
 before_recovery w leg is = store_steps w leg.steps is.last is.run ++ leg.cut ++ leg.quiet
 
 -- and in all legs
-abbrev pub life_steps : (w : MeterWorld) (legs : List Leg) (w' : MeterWorld) → Lives w legs w' → List StoreStep
+abbrev pub life_steps : (w : MeterWorld) (legs : List Leg) (w' : MeterWorld) → Lives w legs w'
+    → List StoreStep
 life_steps w [] w' lives = []
-life_steps w (leg ∷ legs) w' (is, lives) = (before_recovery w leg is ++ Opens leg.found ∷ []) ++ life_steps (recovered leg.found) legs w' lives
+life_steps w (leg ∷ legs) w' (is, lives) = (before_recovery w leg is ++ Opens leg.found ∷ [])
+    ++ life_steps (recovered leg.found) legs w' lives
 
 -- Whatever came to a formatted meter, wherever the power stopped, also in a recovery: a recovery finds a beginning of the accepted
 -- events, with every event that was settled before an answer, and at most one page of records less.
 abbrev pub RecoversInLives : Type 0
-RecoversInLives = (w : MeterWorld) (legs : List Leg) (lives : Lives first_world legs w) (leg : Leg) (is : IsLeg w leg)
+RecoversInLives = (w : MeterWorld) (legs : List Leg) (lives : Lives first_world legs w) (leg : Leg)
+    (is : IsLeg w leg)
     → IsRecovered (life_steps first_world legs w lives ++ before_recovery w leg is) leg.found
 
 -- The first stop fixes what every later recovery finds, whatever stops, closes and faults come between.
 abbrev pub NoFurtherStopInLives : Type 0
-NoFurtherStopInLives = (w last : MeterWorld) (legs : List Leg) (steps : List Step) (cut quiet : List StoreStep) (at_stop now : StoreWorld) (found : List Event)
-    → Lives first_world legs w → Run w steps last → IsCutOff last cut → StoreRun last.store (cut ++ Stops ∷ []) at_stop
+NoFurtherStopInLives = (w last : MeterWorld) (legs : List Leg) (steps : List Step)
+    (cut quiet : List StoreStep) (at_stop now : StoreWorld) (found : List Event)
+    → Lives first_world legs w → Run w steps last → IsCutOff last cut
+    → StoreRun last.store (cut ++ Stops ∷ []) at_stop
     → IsQuiet quiet → StoreRun at_stop (quiet ++ Opens found ∷ []) now → at_stop ≡ Rests found

@@ -1,4 +1,4 @@
-//! What is large in a meter, kept on the heap.
+//! The large parts of a meter, kept on the heap.
 
 ghost use Rattle.std.specs.Prelude.{◌≡◌, ◌≤◌, ◌<◌, ◌↔◌, IsTrue, [], None, length, take, IfNone, IfOk, IsSome, option_map};
 ghost use Rattle.dlms_frame.specs.Stream.{Fits, Takes};
@@ -32,7 +32,7 @@ impl<A: Allocator> Model for KeptDeframer<A> {
 }
 
 impl<A: Allocator> KeptDeframer<A> {
-    /// At the start of a stretch. It stands by itself, so that the deframer is on the stack in no other call.
+    /// The state at the start of a stretch. It is a function of its own, so that the deframer is on the stack in no other call.
     #[inline(never)]
     pub fn new(alloc: A) -> Result<Self, AllocError>
         ensures { IfOk result (λ kept. Fits kept.bytes [] 0) }
@@ -82,7 +82,8 @@ impl<A: Allocator> Model for KeptConnection<A> {
 }
 
 impl<A: Allocator + Copy> KeptConnection<A> {
-    /// No link, no association and no transfer. It stands by itself, so that the connection is on the stack in no other call.
+    /// No link, no association and no transfer. It is a function of its own, so that the connection is on the stack in no other
+    /// call.
     #[inline(never)]
     pub fn new(alloc: A, client: Client) -> Result<Self, AllocError>
         ensures { IfOk result (λ kept. kept ≡ fresh_record client) }
@@ -106,7 +107,8 @@ impl<A: Allocator + Copy> KeptConnection<A> {
         frame: &Frame<'_>,
     ) -> Option<Reply>
         ensures handled { (before : StoreWorld) → Knows store.old before
-            → Handling self.old frame.now (option_map (λ reply. reply.items) result) self.new before store.old store.new }
+            → Handling self.old frame.now
+            (option_map (λ reply. reply.items) result) self.new before store.old store.new }
         ensures spares { SparesSlots store.old store.new }
         ensures later { IsLater store.old store.new }
     {
@@ -129,7 +131,8 @@ impl<A: Allocator + Copy> Lines<A> {
     pub fn new(alloc: A) -> Result<Self, AllocError>
         ensures line { IfOk result (λ lines. Fits lines.deframer.bytes [] 0) }
         ensures public { IfOk result (λ lines. lines.public ≡ fresh_record ClientOf.Public) }
-        ensures management { IfOk result (λ lines. lines.management ≡ fresh_record ClientOf.Management) }
+        ensures management { IfOk result
+            (λ lines. lines.management ≡ fresh_record ClientOf.Management) }
         ensures reader { IfOk result (λ lines. lines.reader ≡ fresh_record ClientOf.Reader) }
     {
         let deframer = KeptDeframer::new(alloc)?;

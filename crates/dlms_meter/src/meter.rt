@@ -56,14 +56,20 @@ impl<P: Pages, A: Allocator + Copy> Meter<P, A> {
     /// A meter in which nothing has happened, on a device that is made empty.
     pub fn format(alloc: A, device: P) -> Result<Self, (P, OpenFault)>
         ensures stands { IfOk result (λ meter. Stands meter first_world) }
-        ensures fits { (P.view device).honest ≡ true → IfOk result (λ meter. StoreFits meter.store first_world.store) }
-        ensures formatted { (P.view device).honest ≡ true → IfOk result (λ meter. Leaves (view_of meter.store) IsFormatted) }
+        ensures fits { (P.view device).honest ≡ true
+            → IfOk result (λ meter. StoreFits meter.store first_world.store) }
+        ensures formatted { (P.view device).honest ≡ true
+            → IfOk result (λ meter. Leaves (view_of meter.store) IsFormatted) }
         ensures size { IfErr result (λ e. (e.1 ≡ OpenFault.Size) ↔ IsTooSmall (P.view device)) }
         ensures small { IfErr result (λ e. e.1 ≡ OpenFault.Size → e.0 ≡ device) }
-        ensures device { IfErr result (λ e. e.1 ≡ OpenFault.Device → Rose (P.view device).faults (P.view e.0).faults) }
-        ensures later { MatchResult result (λ meter. GoesOn (P.view device) (view_of meter.store)) (λ e. GoesOn (P.view device) (P.view e.0)) }
-        ensures faults { IfErr result (λ e. (e.1 ≢ OpenFault.NoCheckpoint) × ((page : ℕ) → e.1 ≢ OpenFault.Corrupt page) × (e.1 ≢ OpenFault.Exhausted)) }
-        ensures memory { (P.view device).honest ≡ true → IfErr result (λ e. e.1 ≡ OpenFault.Memory → Leaves (P.view e.0) IsClear) }
+        ensures device { IfErr result (λ e. e.1 ≡ OpenFault.Device
+            → Rose (P.view device).faults (P.view e.0).faults) }
+        ensures later { MatchResult result (λ meter. GoesOn (P.view device) (view_of meter.store))
+            (λ e. GoesOn (P.view device) (P.view e.0)) }
+        ensures faults { IfErr result (λ e. (e.1 ≢ OpenFault.NoCheckpoint)
+            × ((page : ℕ) → e.1 ≢ OpenFault.Corrupt page) × (e.1 ≢ OpenFault.Exhausted)) }
+        ensures memory { (P.view device).honest ≡ true
+            → IfErr result (λ e. e.1 ≡ OpenFault.Memory → Leaves (P.view e.0) IsClear) }
     {
         let Ok(lines) = Lines::new(alloc) else {
             return Err(Store::<P, A>::unformatted(device));
@@ -74,23 +80,40 @@ impl<P: Pages, A: Allocator + Copy> Meter<P, A> {
 
     /// A meter with every event that its device held, its links down.
     pub fn recover(alloc: A, device: P) -> Result<Self, (P, OpenFault)>
-        ensures opens { (before : StoreWorld) → DeviceFits (P.view device) before → IfOk result (λ meter. OpensAs before (P.view device) meter.store) }
-        ensures opened { IfOk result (λ meter. (events : List Event) × Remembers events [] meter.store) }
-        ensures stands { IfOk result (λ meter. (events : List Event) → Remembers events [] meter.store → Stands meter (recovered events)) }
-        ensures gives_back { (before : StoreWorld) → DeviceFits (P.view device) before → IfErr result (λ e. GivesBack before (P.view device) (P.view e.0) e.1) }
-        ensures exact { (P.view device).honest ≡ true → MatchResult result (λ meter. IsOpened (P.view device).seen meter.store) (λ e. IsCause e.1 (P.view device).seen) }
-        ensures spared { (P.view device).honest ≡ true → IfErr result (λ e. IsSpared (P.view device) (P.view e.0) e.1) }
+        ensures opens { (before : StoreWorld) → DeviceFits (P.view device) before
+            → IfOk result (λ meter. OpensAs before (P.view device) meter.store) }
+        ensures opened { IfOk result (λ meter. (events : List Event)
+            × Remembers events [] meter.store) }
+        ensures stands { IfOk result (λ meter. (events : List Event)
+            → Remembers events [] meter.store → Stands meter (recovered events)) }
+        ensures gives_back { (before : StoreWorld) → DeviceFits (P.view device) before
+            → IfErr result (λ e. GivesBack before (P.view device) (P.view e.0) e.1) }
+        ensures exact { (P.view device).honest ≡ true
+            → MatchResult result (λ meter. IsOpened (P.view device).seen meter.store)
+            (λ e. IsCause e.1 (P.view device).seen) }
+        ensures spared { (P.view device).honest ≡ true
+            → IfErr result (λ e. IsSpared (P.view device) (P.view e.0) e.1) }
         ensures size { IfErr result (λ e. (e.1 ≡ OpenFault.Size) ↔ IsTooSmall (P.view device)) }
         ensures small { IfErr result (λ e. e.1 ≡ OpenFault.Size → e.0 ≡ device) }
-        ensures device { IfErr result (λ e. e.1 ≡ OpenFault.Device → Rose (P.view device).faults (P.view e.0).faults) }
-        ensures later { MatchResult result (λ meter. GoesOn (P.view device) (view_of meter.store)) (λ e. GoesOn (P.view device) (P.view e.0)) }
-        // Whatever a stop leaves while the meter is recovered stands for the events for which every image of the device stood before.
-        ensures steady { (events : List Event) → (P.view device).honest ≡ true → ((image : Image) → (P.view device).may_leave image → StandsFor events image)
-            → MatchResult result (λ meter. Steady events (P.view device) (view_of meter.store)) (λ e. Steady events (P.view device) (P.view e.0)) }
-        ensures fixes { (settled pending : List Event) → (P.view device).honest ≡ true → ((image : Image) → (P.view device).may_leave image → StandsBetween settled pending image)
-            → MatchResult result (λ meter. Fixes settled pending (P.view device) (view_of meter.store))
-            (λ e. Fixes settled pending (P.view device) (P.view e.0) ⊎ ((e.1 ≡ OpenFault.Device) × FixesNothing settled pending (P.view device) (P.view e.0))) }
-        ensures finds { (events : List Event) → (P.view device).honest ≡ true → StandsFor events (P.view device).seen
+        ensures device { IfErr result (λ e. e.1 ≡ OpenFault.Device
+            → Rose (P.view device).faults (P.view e.0).faults) }
+        ensures later { MatchResult result (λ meter. GoesOn (P.view device) (view_of meter.store))
+            (λ e. GoesOn (P.view device) (P.view e.0)) }
+        // At any stop while the meter is recovered, the device represents the events that every image of it represented before.
+        ensures steady { (events : List Event) → (P.view device).honest ≡ true
+            → ((image : Image) → (P.view device).may_leave image → StandsFor events image)
+            → MatchResult result (λ meter. Steady events (P.view device) (view_of meter.store))
+            (λ e. Steady events (P.view device) (P.view e.0)) }
+        ensures fixes { (settled pending : List Event) → (P.view device).honest ≡ true
+            → ((image : Image) → (P.view device).may_leave image
+            → StandsBetween settled pending image)
+            → MatchResult result (λ meter. Fixes settled pending (P.view device)
+            (view_of meter.store))
+            (λ e. Fixes settled pending (P.view device) (P.view e.0)
+            ⊎ ((e.1 ≡ OpenFault.Device) × FixesNothing settled pending (P.view device)
+            (P.view e.0))) }
+        ensures finds { (events : List Event) → (P.view device).honest ≡ true
+            → StandsFor events (P.view device).seen
             → MatchResult result (λ meter. Remembers events [] meter.store) (λ e. IsRefusal e.1) }
     {
         let Ok(lines) = Lines::new(alloc) else {
@@ -146,14 +169,15 @@ impl<P: Pages, A: Allocator + Copy> Meter<P, A> {
 
     /// Whether any client has an association.
     pub fn is_associated(&self) -> bool
-        ensures { IsTrue result ↔ ((who : Client) × IsSome (record_for self.now who).session.opened) }
+        ensures { IsTrue result ↔ ((who : Client)
+            × IsSome (record_for self.now who).session.opened) }
     {
         self.public.is_associated()
             || self.management.is_associated()
             || self.reader.is_associated()
     }
 
-    /// What the accepted events have left.
+    /// The state after the accepted events.
     pub fn state(&self) -> &State<A>
         ensures { (w : MeterWorld) → Stands self.now w → IsStateOf (events_of w) result.now }
     {
@@ -162,12 +186,20 @@ impl<P: Pages, A: Allocator + Copy> Meter<P, A> {
 
     /// Settles what is pending, and gives the device back. Where that fails, what was pending is in doubt.
     pub fn close(self) -> P
-        ensures run { (before : StoreWorld) → StoreFits self.store before → GivesUp Closes before (view_of self.store) (P.view result) ⊎ GivesUp ClosesInDoubt before (view_of self.store) (P.view result) }
-        ensures settles { (IsStopped self.store → ⊥) → (Rose (view_of self.store).faults (P.view result).faults → ⊥) → (CommitIsExhausted self.store → ⊥)
-            → (before : StoreWorld) → StoreFits self.store before → GivesUp Closes before (view_of self.store) (P.view result) }
-        ensures nothing { IsRunning self.store → records_in self.store ≡ [] → result ≡ self.store.device }
+        ensures run { (before : StoreWorld) → StoreFits self.store before
+            → GivesUp Closes before (view_of self.store) (P.view result)
+            ⊎ GivesUp ClosesInDoubt before (view_of self.store) (P.view result) }
+        ensures settles { (IsStopped self.store → ⊥)
+            → (Rose (view_of self.store).faults (P.view result).faults → ⊥)
+            → (CommitIsExhausted self.store → ⊥)
+            → (before : StoreWorld) → StoreFits self.store before
+            → GivesUp Closes before (view_of self.store) (P.view result) }
+        ensures nothing { IsRunning self.store → records_in self.store ≡ []
+            → result ≡ self.store.device }
         ensures later { GoesOn (view_of self.store) (P.view result) }
-        ensures from { IsRunning self.store → (Rose (view_of self.store).faults (P.view result).faults → ⊥) → (before : StoreWorld) → StoreFits self.store before → LeavesNoEarlier self.store (P.view result) }
+        ensures from { IsRunning self.store
+            → (Rose (view_of self.store).faults (P.view result).faults → ⊥) → (before : StoreWorld)
+            → StoreFits self.store before → LeavesNoEarlier self.store (P.view result) }
     {
         self.store.close()
     }
@@ -177,9 +209,11 @@ impl<P: Pages, A: Allocator + Copy> Meter<P, A> {
     pub fn feed(&mut self, bytes: &[u8]) -> (usize, Option<Reply>)
         ensures len { result.0 ≤ length bytes.now }
         ensures some { 0 < length bytes.now → 0 < result.0 }
-        // It leaves bytes only where a frame ends with the last one that it took.
-        ensures all { (w : MeterWorld) → Stands self.old w → result.0 < length bytes.now → EndsFrame w (take result.0 bytes.now) }
-        ensures feeds { Feeds self.old (take result.0 bytes.now) (option_map (λ reply. reply.items) result.1) self.new }
+        // It leaves bytes only if a frame ends with the last one that it took.
+        ensures all { (w : MeterWorld) → Stands self.old w → result.0 < length bytes.now
+            → EndsFrame w (take result.0 bytes.now) }
+        ensures feeds { Feeds self.old (take result.0 bytes.now)
+            (option_map (λ reply. reply.items) result.1) self.new }
         ensures spares { SparesSlots self.old.store self.new.store }
         ensures later { IsLater self.old.store self.new.store }
     {

@@ -67,13 +67,16 @@ powers =
 abbrev pub quantity : ℕ → ℕ → Option (List ℕ)
 quantity c d = if d == 8 then name_in energies c else (if d == 7 then name_in powers c else None)
 
--- one where there is one, else the other
+-- the first if there is one, otherwise the second
 abbrev pub or_else : Option (List ℕ) → Option (List ℕ) → Option (List ℕ)
 or_else (Some name) other = Some name
 or_else None other = other
 
--- What a code names: of electricity, in any channel, for all tariffs and with no billing period, its quantity; else the object.
+-- The name of a code: for electricity, in any channel, for all tariffs and without a billing period, its quantity; otherwise the
+-- object.
 abbrev pub code_name : List ℕ → Option (List ℕ)
 code_name (a ∷ b ∷ c ∷ d ∷ e ∷ f ∷ []) =
-    if (a == 1) && ((e == 0) && (f == 255)) then or_else (quantity c d) (name_in objects (code a b c d e f)) else name_in objects (code a b c d e f)
+    if (a == 1) && ((e == 0) && (f == 255))
+    then or_else (quantity c d) (name_in objects (code a b c d e f))
+    else name_in objects (code a b c d e f)
 code_name _ = None

@@ -90,4 +90,5 @@ other_units =
 
 -- unit, the second element of a scaler_unit
 abbrev pub unit : ℕ → Option (List ℕ)
-unit number = or_else (or_else (name_in mechanic_units number) (name_in electric_units number)) (name_in other_units number)
+unit number = or_else (or_else (name_in mechanic_units number) (name_in electric_units number))
+    (name_in other_units number)

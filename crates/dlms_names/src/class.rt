@@ -24,14 +24,14 @@ fn numbered(names: &'static [&'static str], number: u8) -> Option<&'static str>
 }
 
 impl Class {
-    /// The name of the attribute with this number; none where the class has no such attribute.
+    /// The name of the attribute with this number; none if the class has no such attribute.
     pub fn attribute(self, number: u8) -> Option<&'static str>
         ensures { option_copied result ≡ numbered (names_of self).attributes number }
     {
         numbered(self.attributes, number)
     }
 
-    /// The name of the method with this number; none where the class has no such method.
+    /// The name of the method with this number; none if the class has no such method.
     pub fn method(self, number: u8) -> Option<&'static str>
         ensures { option_copied result ≡ numbered (names_of self).methods number }
     {

@@ -8,7 +8,7 @@ ghost use Rattle.dlms_names.specs.Codes.{code, code_name, energies, objects, pow
 /// The value group A of electricity.
 const ELECTRICITY: u8 = 1;
 
-/// The value group F of what is of no billing period.
+/// The value group F of a code without a billing period.
 const NO_PERIOD: u8 = 0xff;
 
 /// The name of a quantity of electricity that is summed over time.
@@ -49,7 +49,7 @@ fn power(number: u8) -> Option<&'static str>
     }
 }
 
-/// What the quantity of this value group C is called under this value group D.
+/// The name of the quantity with this value group C under this value group D.
 fn quantity_name(group_c: u8, group_d: u8) -> Option<&'static str>
     ensures { option_copied result ≡ quantity group_c group_d }
 {
@@ -99,7 +99,7 @@ fn number_of(a: u8, b: u8, c: u8, d: u8, e: u8, f: u8) -> u64
     ((front * 256 + u64::from(d)) * 256 + u64::from(e)) * 256 + u64::from(f)
 }
 
-/// What a code names, if it is known here.
+/// The name of a code, if it is known here.
 pub fn code_name(code: [u8; 6]) -> Option<&'static str>
     ensures { option_copied result ≡ code_name code }
 {

@@ -1,11 +1,11 @@
-//! The names of numbers that tell what became of a request or of an association (IEC 62056-5-3).
+//! The names of the numbers that report the outcome of a request or of an association (IEC 62056-5-3).
 
 ghost use Rattle.std.specs.Prelude.{◌≡◌};
 ghost use Rattle.std.specs.Option.{option_copied};
 ghost use Rattle.dlms_names.specs.Rows.{name_in};
 ghost use Rattle.dlms_names.specs.Results.{access_results, action_results, state_errors, service_errors, diagnostics, initiate_errors, release_requests, release_responses};
 
-/// The name of a Data-Access-Result, what becomes of a GET or a SET; none where the number has no name there.
+/// The name of a Data-Access-Result, the outcome of a GET or a SET; none if the number has no name there.
 pub fn access_result(number: u8) -> Option<&'static str>
     ensures { option_copied result ≡ name_in access_results number }
 {

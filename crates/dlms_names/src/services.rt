@@ -5,7 +5,7 @@ ghost use Rattle.std.specs.Option.{option_copied};
 ghost use Rattle.dlms_names.specs.Rows.{name_in};
 ghost use Rattle.dlms_names.specs.Services.{apdus, services};
 
-/// The name of the service that a bit of the conformance block stands for. Bit 0 is the first one of its 24 bits.
+/// The name of the service of a bit of the conformance block. Bit 0 is the first one of its 24 bits.
 pub fn service_name(number: u8) -> Option<&'static str>
     ensures { option_copied result ≡ name_in services number }
 {

@@ -12,7 +12,7 @@ use Rattle.std.specs.Result.{IsErr}
 pub nothing : (a : Slots) → Asks a a []
 nothing a = refl
 
--- calls behind calls
+-- calls after calls
 pub joined_calls : (xs ys : List Asked) (a : List Asked) → reverse ys ++ (reverse xs ++ a) ≡ reverse (xs ++ ys) ++ a
 joined_calls xs ys a = sym (append_assoc (reverse ys) (reverse xs) a) ∙ ap (λ (l : List Asked). l ++ a) (sym (reverse-append xs ys))
 

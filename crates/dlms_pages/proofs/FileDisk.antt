@@ -1,4 +1,4 @@
--- What a call of a file of slots does to its pages.
+-- How a call of a file of slots changes its pages.
 use Rattle.std.proofs.Common.{◌≡◌, ◌≢◌, ◌<◌, ◌≤◌, ◌+◌, ◌⊎◌, inl, inr, ⊎_elim, ℕ, Bool, true, false, zero, suc, List, [], ◌∷◌, ◌++◌, length, get_or, set, take, drop, Some, refl, sym, ◌∙◌, ap, subst, arith, append_assoc}
 use Rattle.std.proofs.lemmas.List.{length-append, length-set, get_or-set_other, get_or-set_same, ext_get_or, drop_at, drop_all, drop-append-le, length-take-le, take_at}
 use Rattle.std.proofs.lemmas.Bool.{cases_Bool, cases_eq, cases_lt, eq-eqb, eqb-true, and_parts, and_from}

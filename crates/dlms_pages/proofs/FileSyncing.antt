@@ -1,4 +1,4 @@
--- A sync of pages in a file: what is pending is written again where a call had failed, and the file is synced.
+-- A sync of pages in a file: pending content is written again if a call had failed, then the file is synced.
 use Rattle.std.proofs.Common.{◌≡◌, ◌≢◌, ◌<◌, ◌≤◌, ◌+◌, ◌⊎◌, inl, inr, ⊎_elim, ℕ, Bool, true, false, zero, suc, List, [], ◌∷◌, ◌++◌, length, get_or, drop, replicate, Option, Some, None, refl, sym, ◌∙◌, ap, subst, arith, append_assoc, Result, Ok, Err}
 use Rattle.std.proofs.lemmas.List.{length-replicate, get_or-replicate, reverse-append}
 use Rattle.std.proofs.lemmas.Bool.{cases_eq, true≢false}
@@ -261,7 +261,7 @@ failed_quiet pages (WritesSlot index slot passed) is = is
 failed_quiet pages (SyncsFile true) is = absurd is
 failed_quiet pages (SyncsFile false) is = tt
 
--- a fault among quiet calls, or of the sync behind them
+-- a fault among quiet calls, or of the sync after them
 fault_quiet : (pages : List (Option (List ℕ))) (ws front : List Asked) (call : Asked) (rest : List Asked) → AreQuiet pages ws → ws ++ SyncsFile true ∷ [] ≡ front ++ call ∷ rest → AreQuiet pages (front ++ failed call ∷ [])
 fault_quiet pages [] [] call rest quiet split = (subst (λ c. IsQuiet pages (failed c)) (head_is split) tt, tt)
 fault_quiet pages [] (x ∷ []) call rest quiet split = absurd (cc split)

@@ -1,4 +1,4 @@
--- A file that is opened again behind a stop of the machine.
+-- A file that is opened again after a stop of the machine.
 use Rattle.std.proofs.Common.{◌≡◌, ◌≢◌, ◌<◌, ⊎_elim, ℕ, true, false, List, [], ◌∷◌, ◌++◌, length, None, sym, ◌∙◌, ap, subst, arith}
 use Rattle.std.proofs.lemmas.List.{ext_get_or, length-replicate}
 use Rattle.std.proofs.lemmas.Bool.{cases_eq, true≢false}
@@ -29,7 +29,7 @@ synced_page first (Writes index bytes passed ∷ calls) k page synced left = ⊎
 synced_page first (Syncs true ∷ calls) k page synced left = take_sure (standing calls k).sure _ _ synced left
 synced_page first (Syncs false ∷ calls) k page synced left = synced_page first calls k page synced left
 
--- so many pages are these where each of them is
+-- the pages are these if each of them is
 pages_are : (count : ℕ) (page : ℕ → PageRead) (image : Image) → length image ≡ count → ((k : ℕ) → k < count → page_at image k ≡ page k) → image ≡ pages_from page 0 count
 pages_are count page image size each =
     ext_get_or Damaged image (pages_from page 0 count) (size ∙ sym (count_of page 0 count)) (λ k small.

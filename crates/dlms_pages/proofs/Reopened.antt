@@ -29,7 +29,7 @@ newest_hit first index k bytes passed calls same = ap (λ (b : Bool). if b then 
 pub newest_missed : (first : List Slot) (index k : ℕ) (bytes : List ℕ) (passed : Bool) (calls : List Asked) → k ≢ index → newest first (Writes index bytes passed ∷ calls) k ≡ newest first calls k
 newest_missed first index k bytes passed calls apart = ap (λ (b : Bool). if b then Some bytes else newest first calls k) (missed index k apart)
 
--- what was written last is one of what a stop may leave
+-- the last write is one of those that a stop may leave
 written : (first : List Slot) (index : ℕ) (bytes : List ℕ) (calls : List Asked) (k : ℕ) (b : Bool) → nat_eq index k ≡ b
     → Leaves first calls k (newest first calls k) → Leaves first (Writes index bytes true ∷ calls) k (if b then Some bytes else newest first calls k)
 written first index bytes calls k true same before = inr (eqb-true index k same, inl refl)
@@ -79,7 +79,7 @@ module _ (old now : Slots) (index : ℕ) (opened : IsOpenedTo index old now) whe
   here : IsToCome old now index
   here = opened.to_come index (omega arith)
 
-  -- it was read, and written again as it stood
+  -- it was read, and written again unchanged
   module _ (bytes : List ℕ) (gives : old.keeps ≡ true → Gives now index (Octets bytes)) where
     abbrev after_write : List Asked
     after_write = Writes index bytes true ∷ Reads index (Octets bytes) ∷ now.calls

@@ -7,7 +7,7 @@ use borrow.Rule.Slice.PartMut.{put_mid, mid_of}
 use Rattle.sha2.proofs.Facts256.{length-sha256}
 use Rattle.dlms_pages.specs.Seal.{seal_of, slot_of}
 
--- the seal written behind the content
+-- the seal written after the content
 pub seal_behind : (front rest back content seal : List ℕ) → front ≡ content → back ≡ seal → length front ≡ 512 → length rest ≡ 32 → put_mid 512 32 (front ++ rest) back ≡ content ++ seal
 seal_behind front rest back content seal is_content is_seal n m =
     rw (take_at front rest 512 n, drop_at front rest 512 n, drop_all 32 rest (omega (arith, m)), is_content, is_seal) (search rules)
@@ -19,7 +19,7 @@ content_of_slot index content slot n e =
     let size : length content ≡ 512 = omega (arith, n, joined, length-sha256 (to_be_bytes w16 index ++ content)) in
     (rw e (take_at content _ 512 size), rw e (drop_at content _ 512 size))
 
--- what stands behind the content is all the rest
+-- everything after the content is the rest
 pub behind_content : (slot : List ℕ) → length slot ≡ 544 → mid_of 512 32 slot ≡ drop 512 slot
 behind_content slot n = let k : length (drop 512 slot) ≤ 32 = rw (length-drop 512 slot) (omega (arith, n)) in take_all 32 (drop 512 slot) k
 
@@ -27,7 +27,7 @@ pub slot_is : (index : ℕ) (content slot : List ℕ) → length slot ≡ 544 �
 slot_is index content slot n is_content is_seal =
     sym (take-append-drop 512 slot) ∙ ap₂ (λ a b. a ++ b) (sym is_content) (sym (behind_content slot n) ∙ is_seal)
 
--- a slot of some content has that content's seal behind its first 512 bytes
+-- a slot of some content has that content's seal after its first 512 bytes
 pub seal_is : (index : ℕ) (content first slot : List ℕ) → length slot ≡ 544 → first ≡ take 512 slot → slot ≡ slot_of index content → mid_of 512 32 slot ≡ seal_of index first
 seal_is index content first slot n is_first e =
     let parts = content_of_slot index content slot n e in

@@ -1,4 +1,4 @@
--- What is asked of a file of slots.
+-- The calls of a file of slots.
 use Rattle.std.specs.Prelude.{◌≡◌, ◌+◌, ◌≤◌, ℕ, Bool, true, false, List, [], ◌∷◌, ◌++◌, reverse, length, Option, Some, None, Result, Ok, Err, if◌then◌else◌}
 use Rattle.dlms_pages.specs.Seal.{slot_of}
 use Rattle.dlms_pages.specs.Slots.{Slot, Slots, Gives, Leaves, LeavesPage, newest, page_in, standing}
@@ -18,7 +18,7 @@ abbrev pub passed : {T E : Type 0} → Result T E → Bool
 passed (Ok x) = true
 passed (Err e) = false
 
--- these calls came behind those of before, and what stood there first, and whether the file keeps the rules, is the same
+-- these calls came after those of before; the initial content, and whether the file keeps the rules, are the same
 abbrev pub Asks : Slots → Slots → List Asked → Type 0
 Asks old new calls = new ≡ record old { calls = reverse calls ++ old.calls }
 
@@ -41,7 +41,7 @@ abbrev pub AsksAll : {T E : Type 0} → Slots → Slots → List Asked → Resul
 AsksAll old new calls (Ok x) = Asks old new calls
 AsksAll old new calls (Err e) = AsksUntilFault old new calls
 
--- what a page reads as where the file was asked for its slot
+-- the content of a page, by the file's answer to the read of its slot
 abbrev pub ReadsAs : ℕ → Came → Result PageRead DeviceFault → Type 0
 ReadsAs index (Octets bytes) result = result ≡ Ok (page_in index (Some bytes))
 ReadsAs index Short result = result ≡ Ok (page_in index None)
@@ -52,16 +52,17 @@ ReadsAs index Failed (Err fault) = Unit {0}
 abbrev pub written_again : ℕ → List (Option (List ℕ)) → List Asked
 written_again from [] = []
 written_again from (None ∷ pages) = written_again (from + 1) pages
-written_again from (Some bytes ∷ pages) = Writes from (slot_of from bytes) true ∷ written_again (from + 1) pages
+written_again from (Some bytes ∷ pages) = Writes from (slot_of from bytes) true
+    ∷ written_again (from + 1) pages
 
--- What a sync asks for: where a write or a sync has failed since the last one that passed, all that was written since is
--- written again first.
+-- The calls of a sync: if a write or a sync has failed since the last successful one, everything written since is written again
+-- first.
 abbrev pub sync_calls : Bool → List (Option (List ℕ)) → List Asked
 sync_calls behind pages = (if behind then written_again 0 pages else []) ++ Syncs true ∷ []
 
 -- ---- a file that is opened
 
--- a slot is read, and written again as it stands where the file has all of it
+-- a slot is read, and written again unchanged if the file has all of it
 abbrev pub renewal_of : ℕ → Came → List Asked
 renewal_of index (Octets bytes) = Reads index (Octets bytes) ∷ Writes index bytes true ∷ []
 renewal_of index Short = Reads index Short ∷ []
@@ -82,29 +83,30 @@ abbrev pub AreThere : List Came → Type 0
 AreThere [] = Unit {0}
 AreThere (came ∷ cames) = IsThere came × AreThere cames
 
--- the slot was read and written again as it stood, and this passed
+-- the slot was read and written again unchanged, and both calls succeeded
 pub record IsSlotRenewed (index : ℕ) (old new : Slots) : Type 0 where
   pub came : Came
   pub there : IsThere came
   pub gives : old.keeps ≡ true → Gives old index came
   pub calls : Asks old new (renewal_of index came)
 
--- each of so many slots was read and written again as it stood, and then the file was synced, and all of this passed
+-- each of these slots was read and written again unchanged, then the file was synced, and all calls succeeded
 pub record IsRenewed (count : ℕ) (old new : Slots) : Type 0 where
   pub cames : List Came
   pub counted : length cames ≡ count
   pub there : AreThere cames
   pub calls : Asks old new (renewals 0 cames ++ Syncs true ∷ [])
 
--- What the opening makes of a slot of a file that keeps the rules. It is synced, and what stands there now is one of the slots
--- that a stop might have left before; it is what stood there where that was sure.
+-- What the opening does to a slot of a file that keeps the rules. The slot is synced, and its content is one of those that a stop
+-- might have left before; if the content was sure, it is that one.
 pub record Reopens (old new : Slots) (k : ℕ) : Type 0 where
   pub synced : (standing new.calls k).synced ≡ true
   pub sure : (standing new.calls k).sure ≡ true
   pub left : Leaves old.first old.calls k (newest new.first new.calls k)
-  pub same : (standing old.calls k).sure ≡ true → newest new.first new.calls k ≡ newest old.first old.calls k
+  pub same : (standing old.calls k).sure ≡ true
+      → newest new.first new.calls k ≡ newest old.first old.calls k
 
--- a slot is read and, where the file has all of it, written as it stands; the write may fail
+-- a slot is read and, if the file has all of it, written unchanged; the write may fail
 abbrev pub touch_of : ℕ → Came → Bool → List Asked
 touch_of index (Octets bytes) passed = Reads index (Octets bytes) ∷ Writes index bytes passed ∷ []
 touch_of index Short passed = Reads index Short ∷ []
@@ -120,4 +122,6 @@ pub record IsSlotTouched (index : ℕ) (old new : Slots) : Type 0 where
 -- Whatever a stop leaves of slot k at any moment of the calls that lead from the one to the other: it reads as a page that a stop
 -- before them might have left.
 abbrev pub SparesSlot : Slots → Slots → ℕ → Type 0
-SparesSlot old new k = (later earlier : List Asked) → new.calls ≡ later ++ earlier → length old.calls ≤ length earlier → (slot : Slot) → Leaves new.first earlier k slot → LeavesPage old.first old.calls k (page_in k slot)
+SparesSlot old new k = (later earlier : List Asked) → new.calls ≡ later ++ earlier
+    → length old.calls ≤ length earlier → (slot : Slot) → Leaves new.first earlier k slot
+    → LeavesPage old.first old.calls k (page_in k slot)

@@ -1,4 +1,4 @@
--- What is known of a device of pages, and what each call does to it: the disk rules.
+-- The facts known about a device of pages, and how each call changes them: the disk rules.
 --
 -- Between two syncs that succeed, each page that was written, after a stop, holds what it held at the first of them, or
 -- the content of any write since, or is damaged; other pages stay. A write that failed counts as a write or did
@@ -35,7 +35,8 @@ pub record View : Type 1 where
 abbrev pub Rose : ℕ → ℕ → Type 0
 Rose before now = min (before + 1) (2 ^ 64 - 1) ≤ now
 
--- of any device: it stays as honest as it was, its pages stay as many, and a fault is answered only where one has come
+-- of any device: it stays as honest as it was, the number of its pages stays the same, and a fault is answered only if one has
+-- happened
 pub record Goes {T : Type 0} (old new : View) (result : Result T DeviceFault) : Type 0 where
   pub honest : new.honest ≡ old.honest
   pub count : length new.seen ≡ length old.seen
@@ -45,10 +46,11 @@ pub record Goes {T : Type 0} (old new : View) (result : Result T DeviceFault) : 
 -- Time goes on: a stop since t might have left what it might have left before, or what it may leave now.
 pub record Elapses (old new : View) : Type 0 where
   pub later : old.moment ≤ new.moment
-  pub nothing_else : (t : ℕ) (c : Image) → t ≤ old.moment → new.left_since t c → old.left_since t c ⊎ new.may_leave c
+  pub nothing_else : (t : ℕ) (c : Image) → t ≤ old.moment → new.left_since t c
+      → old.left_since t c ⊎ new.may_leave c
   pub keeps : (t : ℕ) (c : Image) → t ≤ old.moment → old.left_since t c → new.left_since t c
 
--- A read gives the page and changes nothing, also where it fails.
+-- A read returns the page and changes nothing, even if it fails.
 pub record Reads (index : ℕ) (old new : View) (result : Result PageRead DeviceFault) : Type 0 where
   pub page : IfOk result (λ page. page ≡ page_at old.seen index)
   pub same : new.seen ≡ old.seen
@@ -62,7 +64,8 @@ pub data Outcome (index : ℕ) (bytes : List ℕ) (old : Image → Type 0) (c : 
   Torn : (d : Image) → old d → c ≡ slice_set d index Damaged → Outcome index bytes old c
 
 -- A write gives its content to reads. Where it fails, the other pages stay, and a stop may still leave its content.
-pub record Writes {T : Type 0} (index : ℕ) (bytes : List ℕ) (old new : View) (result : Result T DeviceFault) : Type 0 where
+pub record Writes {T : Type 0} (index : ℕ) (bytes : List ℕ) (old new : View)
+    (result : Result T DeviceFault) : Type 0 where
   pub written : OnOk result (new.seen ≡ slice_set old.seen index (Content bytes))
   pub others : OnErr result ((k : ℕ) → k ≢ index → page_at new.seen k ≡ page_at old.seen k)
   pub crash : (c : Image) → new.may_leave c → Outcome index bytes old.may_leave c

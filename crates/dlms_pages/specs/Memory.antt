@@ -1,4 +1,4 @@
--- What is known of pages in memory.
+-- The facts known about pages in memory.
 use Rattle.std.specs.Prelude.{◌≡◌, ◌<◌, ◌≤◌, ◌+◌, ◌-◌, ◌^◌, min, ℕ, Bool, true, false, nat_eq, nat_le, List, [], length, replicate, take}
 use Rattle.dlms_pages.specs.declared.device.PageRead.TheVariants.{Content}
 use Rattle.dlms_pages.specs.Device.{View, Image}
@@ -8,7 +8,7 @@ use Rattle.dlms_pages.specs.declared.plan.Plan.{Plan}
 use Rattle.dlms_pages.specs.declared.plan.Plan.TheVariants.{Never, From, Once}
 
 pub record Memory : Type 0 where
-  -- what each page held at first, or after the last stop
+  -- the content of each page initially, or after the last stop
   pub first : Image
   -- the writes and syncs that succeeded since, the oldest first
   pub calls : List Call
@@ -60,16 +60,17 @@ pub record Fails (old new : Memory) : Type 0 where
   pub faults : new.faults ≡ min (old.faults + 1) (2 ^ 64 - 1)
   pub later : old.faults ≤ new.faults
 
--- What is kept of all calls: what each page held at the last sync, and the calls since. They lead to the same disk, and the
--- pages are those that they left.
-pub record IsKept (first : Image) (calls : List Call) (synced : Image) (since : List Call) (pages : Image) : Type 0 where
+-- What is kept of all calls: the content of each page at the last sync, and the calls since. They lead to the same disk, and the
+-- pages are as they left them.
+pub record IsKept (first : Image) (calls : List Call) (synced : Image) (since : List Call)
+    (pages : Image) : Type 0 where
   pub rest : disk_after (at_first first) calls ≡ disk_after (at_first synced) since
   pub same : pages ≡ (disk_after (at_first synced) since).seen
   pub count : length synced ≡ length pages
   pub as_many : length first ≡ length pages
   pub small : length pages < 2 ^ 16
 
--- so many pages of zeros, and no call yet
+-- this many pages of zeros, and no call yet
 pub record IsNew (count : ℕ) (memory : Memory) : Type 0 where
   pub first : memory.first ≡ replicate count (Content (replicate 512 0))
   pub calls : memory.calls ≡ []

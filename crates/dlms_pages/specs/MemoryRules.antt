@@ -10,7 +10,8 @@ use Rattle.dlms_pages.specs.Memory.{Memory, view_of}
 use Rattle.dlms_pages.specs.Device.{Image, Rules}
 
 -- what a reader sees is one of the images
-seen_after_write : (disk : Disk) (index : ℕ) (bytes : List ℕ) → IsImage disk disk.seen → IsImage (after disk (Write index bytes)) (after disk (Write index bytes)).seen
+seen_after_write : (disk : Disk) (index : ℕ) (bytes : List ℕ) → IsImage disk disk.seen
+    → IsImage (after disk (Write index bytes)) (after disk (Write index bytes)).seen
 seen_after_write disk index bytes is =
     let page = Content bytes in
     let new = set disk.seen index page in
@@ -18,8 +19,18 @@ seen_after_write disk index bytes is =
       count = refl;
       page = λ k. ⊎_elim
           (λ (same : k ≡ index). ⊎_elim
-          (λ (there : index < length disk.seen). inr (inl (sym same, inl (ap (λ (j : ℕ). get_or new j Damaged) same ∙ get_or-set_same disk.seen index page Damaged there))))
-          (λ (past : length disk.seen ≤ index). inr (inl (sym same, inr (get_or_past new k Damaged (omega (arith, length-set disk.seen index page))))))
+          (λ (there : index < length disk.seen). inr
+          (inl (
+            sym same,
+            inl
+                (ap (λ (j : ℕ). get_or new j Damaged) same ∙ get_or-set_same disk.seen index page Damaged there),
+          )))
+          (λ (past : length disk.seen ≤ index). inr
+          (inl (
+            sym same,
+            inr (get_or_past new k Damaged
+                (omega (arith, length-set disk.seen index page))),
+          )))
           (cases_lt index (length disk.seen)))
           (λ (apart : k ≢ index).
           let other = get_or-set_other disk.seen index k page Damaged apart in
@@ -30,18 +41,34 @@ seen_after_write disk index bytes is =
           (cases_eq k index);
     }
 
-pub seen_after : (disk : Disk) (calls : List Call) → IsImage disk disk.seen → IsImage (disk_after disk calls) (disk_after disk calls).seen
+pub seen_after : (disk : Disk) (calls : List Call) → IsImage disk disk.seen
+    → IsImage (disk_after disk calls) (disk_after disk calls).seen
 seen_after disk [] is = is
-seen_after disk (Write index bytes ∷ calls) is = seen_after (after disk (Write index bytes)) calls (seen_after_write disk index bytes is)
-seen_after disk (Sync ∷ calls) is = seen_after (after disk Sync) calls (record { count = refl; page = λ k. inl refl })
+seen_after disk (Write index bytes ∷ calls) is =
+    seen_after (after disk (Write index bytes)) calls (seen_after_write disk index bytes is)
+seen_after disk (Sync ∷ calls) is = seen_after (after disk Sync) calls (record {
+  count = refl;
+  page = λ k. inl refl;
+})
 
-pub seen_is_image : (first : Image) (calls : List Call) → IsImage (disk_after (at_first first) calls) (disk_after (at_first first) calls).seen
-seen_is_image first calls = seen_after (at_first first) calls (record { count = refl; page = λ k. inl refl })
+pub seen_is_image : (first : Image) (calls : List Call)
+    → IsImage (disk_after (at_first first) calls) (disk_after (at_first first) calls).seen
+seen_is_image first calls = seen_after (at_first first) calls (record {
+  count = refl;
+  page = λ k. inl refl;
+})
 
 pub memory_rules : (memory : Memory) → Rules (view_of memory)
 memory_rules memory = record {
   seen = seen_is_image memory.first memory.calls;
   count = λ c image. image.count;
-  counts_now = λ t c le now. record { number = length memory.calls; since = le; passed = omega arith; left = subst (λ l. IsImage (disk_after (at_first memory.first) l) c) (sym (take_all (length memory.calls) memory.calls (omega arith))) now };
-  only_now = λ c left. subst (λ l. IsImage (disk_after (at_first memory.first) l) c) (take_all left.number memory.calls left.since) left.left;
+  counts_now = λ t c le now. record {
+    number = length memory.calls;
+    since = le;
+    passed = omega arith;
+    left = subst (λ l. IsImage (disk_after (at_first memory.first) l) c)
+        (sym (take_all (length memory.calls) memory.calls (omega arith))) now;
+  };
+  only_now = λ c left. subst (λ l. IsImage (disk_after (at_first memory.first) l) c)
+      (take_all left.number memory.calls left.since) left.left;
 }

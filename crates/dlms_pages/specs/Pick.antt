@@ -22,6 +22,7 @@ chosen Old stable newest = stable
 chosen New stable newest = newest
 chosen Torn stable newest = Damaged
 
--- what a stop leaves of page k: where it was written since the last sync, what is chosen; else what it was
+-- what a stop leaves of page k: the choice if it was written since the last sync, otherwise its content
 abbrev pub page_left : Disk → Choice → ℕ → PageRead
-page_left disk choice k = if was_written disk.since k then chosen choice (page_at disk.stable k) (page_at disk.seen k) else page_at disk.stable k
+page_left disk choice k = if was_written disk.since k
+    then chosen choice (page_at disk.stable k) (page_at disk.seen k) else page_at disk.stable k

@@ -12,7 +12,8 @@ abbrev pub LeavesSlots : ℕ → List Slot → List Asked → (ℕ → Slot) →
 LeavesSlots count first calls left = (k : ℕ) → k < count → Leaves first calls k (left k)
 
 -- These slots were left, and pages were opened over a file that holds them and keeps the rules: what `over` then says of them.
-pub record IsOpenedOver {F : Type 0} (slots : F → Slots) (count : ℕ) (left : ℕ → Slot) (pages : FileValue F) : Type 0 where
+pub record IsOpenedOver {F : Type 0} (slots : F → Slots) (count : ℕ) (left : ℕ
+    → Slot) (pages : FileValue F) : Type 0 where
   pub file : Slots
   pub keeps : file.keeps ≡ true
   pub starts : file.calls ≡ []
@@ -23,11 +24,16 @@ pub record IsOpenedOver {F : Type 0} (slots : F → Slots) (count : ℕ) (left :
   pub spared : (k : ℕ) → SparesSlot file (slots pages.file) k
 
 -- The pages are an image that a stop might have left, and from now on a stop leaves no other. Nor did one while they were opened.
-pub record IsAsLeft {F : Type 0} (slots : F → Slots) (count : ℕ) (before : Slots) (pages : FileValue F) : Type 0 where
+pub record IsAsLeft {F : Type 0} (slots : F
+    → Slots) (count : ℕ) (before : Slots) (pages : FileValue F) : Type 0 where
   pub image : Image
   pub left : LeavesImage count before.first before.calls image
   pub fixed : IsFixed (file_view slots pages) image
-  pub inside : (later earlier : List Asked) → (slots pages.file).calls ≡ later ++ earlier → (left : ℕ → Slot) → LeavesSlots count (slots pages.file).first earlier left → pages_from (λ k. page_in k (left k)) 0 count ≡ image
+  pub inside : (later earlier : List Asked) → (slots pages.file).calls ≡ later ++ earlier
+      → (left : ℕ → Slot) → LeavesSlots count (slots pages.file).first earlier left
+      → pages_from (λ k. page_in k (left k)) 0 count ≡ image
 
 abbrev pub OpensWhatWasLeft : {F : Type 0} → (F → Slots) → Type 0
-OpensWhatWasLeft {F} slots = (count : ℕ) (before : Slots) (left : ℕ → Slot) (pages : FileValue F) → LeavesSlots count before.first before.calls left → IsOpenedOver slots count left pages → IsAsLeft slots count before pages
+OpensWhatWasLeft {F} slots = (count : ℕ) (before : Slots) (left : ℕ → Slot) (pages : FileValue F)
+    → LeavesSlots count before.first before.calls left → IsOpenedOver slots count left pages
+    → IsAsLeft slots count before pages

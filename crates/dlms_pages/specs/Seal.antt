@@ -1,4 +1,4 @@
--- What stands in a file for a page: 512 bytes of content and 32 of seal. Page i stands at byte 544 * i.
+-- The bytes of a page in a file: 512 bytes of content and 32 of seal. Page i begins at byte 544 * i.
 use Rattle.std.specs.Prelude.{◌≡◌, ℕ, List, ◌++◌}
 use Rattle.std.specs.Int.{to_be_bytes, w16}
 use Rattle.sha2.specs.Sha256.{sha256}
@@ -13,7 +13,7 @@ seal_of index content = sha256 (to_be_bytes w16 index ++ content)
 abbrev pub slot_of : ℕ → List ℕ → List ℕ
 slot_of index content = content ++ seal_of index content
 
--- A slot reads as the content that it was made of, or as damaged where it was made of none.
+-- A slot reads as the content that it was made of, or as damaged if it was made of none.
 abbrev pub ReadsSlot : ℕ → List ℕ → PageRead → Type 0
 ReadsSlot index slot (Content content) = slot ≡ slot_of index content
 ReadsSlot index slot Damaged = (content : List ℕ) → slot ≡ slot_of index content → ⊥

@@ -14,7 +14,7 @@ pub record IsFixed (v : View) (image : Image) : Type 0 where
   pub honest : v.honest ≡ true
   pub only : (c : Image) → v.may_leave c → c ≡ image
 
--- calls that only look, where there is one image: it is the same at every moment
+-- calls that only read, if there is one image: it is the same at every moment
 pub record Looks (old new : View) (image : Image) : Type 0 where
   pub fixed : IsFixed new image
   pub any_moment : LeavesOnly old new (λ c. c ≡ image)

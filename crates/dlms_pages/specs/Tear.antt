@@ -12,4 +12,5 @@ tear_at (Each tears) k = slice_index_or tears.now k Old
 
 -- a slot of which all octets came is the new one
 abbrev pub AreWhole : Tears → (news slots : List (List ℕ)) → Type 0
-AreWhole tears news slots = (k : ℕ) → k < length slots → tear_at tears k ≡ New → slice_index_or slots k [] ≡ slice_index_or news k []
+AreWhole tears news slots = (k : ℕ) → k < length slots → tear_at tears k ≡ New
+    → slice_index_or slots k [] ≡ slice_index_or news k []

@@ -1,7 +1,7 @@
-//! What is asked of a file of slots.
+//! The calls of a file of slots.
 use crate::seal::SLOT_BYTES;
 
-/// What comes of a read.
+/// The outcome of a read.
 #[derive(Clone, Copy)]
 pub enum Came {
     /// The slot's octets.
@@ -12,7 +12,7 @@ pub enum Came {
     Failed,
 }
 
-/// A call of a file of slots, and what came of it; of a write and a sync, whether it passed.
+/// A call of a file of slots and its outcome; for a write and a sync, whether it succeeded.
 #[derive(Clone, Copy)]
 pub enum Asked {
     /// The slot of this index was read.

@@ -1,4 +1,4 @@
-//! A device of pages: what reads of it give, and what a stop may leave.
+//! A device of pages: what reads return, and what a stop may leave.
 ghost use Rattle.std.specs.Prelude.{◌≡◌, ◌<◌, true, length};
 ghost use Rattle.dlms_pages.specs.Device.{View, Goes, Reads, Writes, Syncs, Rules};
 
@@ -7,12 +7,12 @@ use thiserror::Error;
 /// The bytes of a page.
 pub const PAGE_BYTES: usize = 512;
 
-/// What a page reads as.
+/// The result of reading a page.
 #[derive(Clone, Copy, Debug, PartialEq, Eq)]
 pub enum PageRead {
     /// The 512 bytes that were written there.
     Content([u8; PAGE_BYTES]),
-    /// What stands there was never written: a write was torn, or nothing was written yet.
+    /// The page was never written as a whole: a write was torn, or nothing has been written yet.
     Damaged,
 }
 
@@ -23,10 +23,10 @@ pub struct DeviceFault;
 
 /// A device of pages of 512 bytes.
 ///
-/// What reads give and what a stop may leave is said of an honest device alone, one that keeps the disk rules.
-/// Everything else is said of every device.
+/// What reads return and what a stop may leave is stated only for an honest device, one that keeps the disk rules. Everything else
+/// is stated for every device.
 pub trait Pages {
-    /// What is known of the device at this moment.
+    /// The facts known about the device at this moment.
     ghost view: { Self → View };
 
     /// How many pages it has. That never changes.

@@ -17,12 +17,11 @@ use std::os::unix::fs::OpenOptionsExt;
 /// The permissions of a file that is made: its owner alone reads and writes it, since it holds secrets.
 const OWNER_ALONE: u32 = 0o600;
 
-/// Pages in a file. Page `i` stands at byte `544 * i`: its 512 bytes, and the SHA-256 of `i` (two bytes, the high one
-/// first) and of those 512. A part that the file lacks, or that does not match, reads as damaged.
+/// Pages in a file. Page `i` begins at byte `544 * i`: its 512 bytes, then the SHA-256 of `i` (two bytes, the high one first) and
+/// those 512. A part that the file lacks, or whose seal does not match, reads as damaged.
 ///
-/// What was written since the last sync that succeeded is kept in memory too: a read gives it from there, and where a
-/// write or a sync has failed since, the next sync writes all of it again before it may succeed. The room for it is
-/// made by `create` and `open`, and no other call asks for memory.
+/// Content written since the last successful sync is also kept in memory: reads return it from there, and if a write or a sync has
+/// failed since, the next sync first writes all of it again. `create` and `open` allocate this memory; no other call allocates any.
 ///
 /// The file's exclusive advisory lock is held as long as these pages are there, so no second program that asks for it
 /// reads or writes them at the same time.
@@ -55,9 +54,9 @@ impl<F: SlotFile, A: Allocator> Model for FilePages<F, A> {
 impl<F: Read + Write + Seek + OpenFile + LockFile + Drop, A: Allocator> FilePages<FileSlots<F>, A> {
     ghost use Rattle.dlms_pages.specs.File.{IsFresh};
 
-    /// Makes the file, with so many pages that all read as damaged, in place of one that is there; its length and its
-    /// name outlast a stop. A new file is its owner's alone to read and write; one that is there keeps its permissions.
-    /// The fault is the system's. A file that is in use stays as it is.
+    /// Creates the file, or replaces the content of an existing one, with `count` pages that all read as damaged; its length and
+    /// its name survive a stop. Only the owner may read and write a new file; an existing one keeps its permissions. The error is
+    /// the system's. A file that is in use stays as it is.
     pub fn create<R: Files<File = F> + Alloc<A = A>>(
         rt: &R,
         path: &str,
@@ -72,7 +71,7 @@ impl<F: Read + Write + Seek + OpenFile + LockFile + Drop, A: Allocator> FilePage
             .create(true)
             .mode(OWNER_ALONE)
             .open(rt, path)?;
-        // What stands there is thrown away behind the lock alone.
+        // The old content is discarded only once the lock is held.
         file.lock_alone()?;
         file.set_len(0)?;
         file.set_len(u64::from(count) * SLOT_BYTES as u64)?;
@@ -98,13 +97,14 @@ impl<F: Read + Write + Seek + OpenFile + LockFile + Drop, A: Allocator> FilePage
 impl<F: SlotFile + Drop, A: Allocator> FilePages<F, A> {
     ghost use Rattle.dlms_pages.specs.File.{faults_after, GivesPage, IsFresh, IsKeptBeside, KeepsPage, Settles};
 
-    /// So many pages over a file of slots that is there. An earlier process may have written what stands in it, and may have
-    /// seen its sync fail; a system may then drop that, and call the next sync a success. So each slot that the file has is
-    /// read, written again as it stands, octet for octet, and the file synced, before a page is read. The fault is the file's,
-    /// or want of memory; the file is given back with it.
+    /// `count` pages over an existing file of slots. An earlier process may have written its content and seen the sync fail; a
+    /// system may then drop the content and report the next sync as a success. So each slot of the file is read and written again,
+    /// octet for octet, and the file is synced, before a page is read. The error is the file's, or out of memory; the file is
+    /// returned with it.
     pub fn over(alloc: A, file: F, count: u16) -> Result<FilePages<F, A>, (F, io::Error)>
         ensures fresh { IfOk result (IsFresh count) }
-        ensures renewed { IfOk result (λ pages. IsRenewed count (F.slots file) (F.slots pages.file)) }
+        ensures renewed { IfOk result
+            (λ pages. IsRenewed count (F.slots file) (F.slots pages.file)) }
         ensures reopened { IfOk result (λ pages. (F.slots file).keeps ≡ true
             → (k : ℕ) → k < count → Reopens (F.slots file) (F.slots pages.file) k) }
         ensures spared { (F.slots file).keeps ≡ true → (k : ℕ) → MatchResult result
@@ -117,7 +117,7 @@ impl<F: SlotFile + Drop, A: Allocator> FilePages<F, A> {
         }
     }
 
-    /// The file of slots. What was written and not synced stands in it as it was written.
+    /// The file of slots. Content that was written and not synced is in it as it was written.
     pub fn into_slots(self) -> F
         ensures { result ≡ self.file }
     {
@@ -130,7 +130,7 @@ impl<F: SlotFile + Drop, A: Allocator> FilePages<F, A> {
         file
     }
 
-    // So many pages, with this room for what is written, over a file whose slots are written again.
+    // `count` pages, with this memory for unsynced content, over a file whose slots are written again.
     fn renewed(
         file: F,
         unsynced: Vec<Option<[u8; PAGE_BYTES]>, A>,
@@ -138,7 +138,8 @@ impl<F: SlotFile + Drop, A: Allocator> FilePages<F, A> {
     ) -> Result<FilePages<F, A>, (F, io::Error)>
         requires { unsynced.items ≡ replicate count None }
         ensures fresh { IfOk result (IsFresh count) }
-        ensures renewed { IfOk result (λ pages. IsRenewed count (F.slots file) (F.slots pages.file)) }
+        ensures renewed { IfOk result
+            (λ pages. IsRenewed count (F.slots file) (F.slots pages.file)) }
         ensures reopened { IfOk result (λ pages. (F.slots file).keeps ≡ true
             → (k : ℕ) → k < count → Reopens (F.slots file) (F.slots pages.file) k) }
         ensures spared { (F.slots file).keeps ≡ true → (k : ℕ) → MatchResult result
@@ -179,7 +180,7 @@ impl<F: SlotFile + Drop, A: Allocator> FilePages<F, A> {
         DeviceFault
     }
 
-    // What a page reads as.
+    // The content of a page.
     fn read_page(&mut self, index: u16) -> Result<PageRead, DeviceFault>
         requires { index < length self.old.unsynced }
         ensures file { GivesPage F.slots index self.old self.new result }
@@ -261,7 +262,8 @@ impl<F: SlotFile + Drop, A: Allocator> Pages for FilePages<F, A> {
         requires { index < length (file_view F.slots self.old).seen }
         ensures goes { Goes (file_view F.slots self.old) (file_view F.slots self.new) result }
         ensures written { (file_view F.slots self.old).honest ≡ true
-            → Writes index bytes.now (file_view F.slots self.old) (file_view F.slots self.new) result }
+            → Writes index bytes.now (file_view F.slots self.old)
+            (file_view F.slots self.new) result }
         ensures file { KeepsPage F.slots index bytes.now self.old self.new result }
     {
         self.write_page(index, bytes)
@@ -286,14 +288,14 @@ fn alone<F: SlotFile + Drop, A: Allocator>(
     pages.map_err(|(_, fault)| fault)
 }
 
-/// The room for what is written between two syncs.
+/// Memory for the content that is written between two syncs.
 fn room<A: Allocator>(alloc: A, count: u16) -> Result<Vec<Option<[u8; PAGE_BYTES]>, A>, AllocError>
     ensures { IfOk result (λ pages. pages.items ≡ replicate count None) }
 {
     vec![in alloc; None; count as usize]
 }
 
-/// Writes each slot that the file has again, as it stands there, and syncs the file.
+/// Writes each slot of the file again, unchanged, and syncs the file.
 fn renew<F: SlotFile>(file: &mut F, count: u16) -> io::Result<()>
     ensures asks { IfOk result (λ _. IsRenewed count (F.slots file.old) (F.slots file.new)) }
     ensures reopens { IfOk result (λ _. (F.slots file.old).keeps ≡ true
@@ -307,7 +309,7 @@ fn renew<F: SlotFile>(file: &mut F, count: u16) -> io::Result<()>
     file.sync()
 }
 
-/// Writes a slot again, as it stands, where the file has all of it.
+/// Writes a slot again, unchanged, if the file has all of it.
 fn renew_slot<F: SlotFile>(file: &mut F, index: u16) -> io::Result<()>
     ensures renewed { IfOk result (λ _. IsSlotRenewed index (F.slots file.old) (F.slots file.new)) }
     ensures touched { IsSlotTouched index (F.slots file.old) (F.slots file.new) }

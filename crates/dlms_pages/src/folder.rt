@@ -3,8 +3,8 @@ use std::fs::{Files, OpenFile, OpenOptions};
 use std::io;
 use std::path::Path;
 
-/// Makes the name of a file outlast a stop: the folder that it stands in is synced, for a plain name the one where the program
-/// runs. A folder that cannot be opened for reading, or synced, is a fault.
+/// Makes the name of a file survive a stop: syncs its folder, or the current folder for a plain name. A folder that cannot be
+/// opened for reading, or synced, is an error.
 pub fn sync_folder<R: Files>(rt: &R, path: &str) -> io::Result<()> {
     let folder = match Path::new(path).parent() {
         Some(folder) if !folder.as_str().is_empty() => folder,

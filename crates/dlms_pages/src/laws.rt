@@ -30,14 +30,14 @@ pub fn each_outcome_may_be_left_and_no_other()
         → LeavesEachOutcome memory index old new }
 {}
 
-/// Where a stop leaves slots as the rules of a file of slots have it, the pages that stand in them are as the rules of a disk
-/// have it. So pages in a file that keeps its rules are a device that keeps the disk's.
+/// If a stop leaves slots as the rules of a file of slots say, it leaves the pages in them as the disk rules say. So pages in a
+/// file that keeps its rules are a device that keeps the disk rules.
 pub fn stops_of_a_file_are_stops_of_its_pages()
     ensures { StopsAreOfPages }
 {}
 
-/// Where the machine stopped, and pages are opened again over what was left of a file that keeps its rules: they are what the stop
-/// left of the pages before, and no other image is left from then on, nor was one by a stop while they were opened.
+/// After a stop of the machine, pages are opened again over what is left of a file that keeps its rules: they are what the stop
+/// left of the earlier pages, and no other image is left from then on, nor was one by a stop during the opening.
 pub fn a_file_opened_again_has_what_a_stop_left<F: SlotFile>()
     ensures { OpensWhatWasLeft F.slots }
 {}

@@ -1,4 +1,4 @@
-//! Devices of pages of 512 bytes, and what a stop of the power may leave of them.
+//! Devices of pages of 512 bytes, and what a power failure may leave of them.
 #![tactic(auto)]
 
 mod asking;

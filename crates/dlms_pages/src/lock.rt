@@ -7,10 +7,10 @@ use std::os::fd::AsRawFd;
 
 /// A file that one opening at a time can have for itself.
 pub trait LockFile {
-    /// Takes the file's exclusive advisory lock, and does not wait for it: where another opening holds it, of this
-    /// program or of another, the fault's kind is `WouldBlock`, and its text says that the file is in use. The lock is
-    /// held until the file is closed, also if the program is killed. A file that was given the descriptor of a closed standard
-    /// stream is refused, since what the program prints would be written into it.
+    /// Takes the file's exclusive advisory lock without waiting: if another opening holds it, of this program or of another, the
+    /// error's kind is `WouldBlock`, and its text says that the file is in use. The lock is held until the file is closed, also if
+    /// the program is killed. A file that got the descriptor of a closed standard stream is refused, because printed text would be
+    /// written to it.
     fn lock_alone(&self) -> io::Result<()>;
 }
 

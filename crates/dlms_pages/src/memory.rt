@@ -24,9 +24,9 @@ pub enum Call {
     Sync,
 }
 
-/// A device in memory that keeps the disk rules, and that can be made to fail or to lose power. It keeps a record of
-/// each write until the next sync that succeeds, which asks for memory where it grows; a write that finds none for it is
-/// a fault. However many calls there were, it holds no more than the most that were ever written between two syncs.
+/// A device in memory that keeps the disk rules, and that can be made to fail or to lose power. It records each write until the
+/// next successful sync, which allocates memory if the record grows; a write without memory fails. It never holds more than the
+/// largest number of writes between two syncs.
 #[derive(Drop)]
 pub struct MemoryPages<A: Allocator = Global> {
     synced: Vec<PageRead, A>,
@@ -34,7 +34,7 @@ pub struct MemoryPages<A: Allocator = Global> {
     pages: Vec<PageRead, A>,
     plan: Plan,
     faults: u64,
-    // What each page held at first, and every write and sync that succeeded: no memory stands behind these two.
+    // The initial content of each page, and every successful write and sync. Neither takes memory.
     first: Snapshot<Vec<PageRead, A>>,
     past: Past<Call>,
 }
@@ -79,7 +79,7 @@ impl<A: Allocator + Copy> MemoryPages<A> {
         })
     }
 
-    /// Lets so many calls pass, and fails every later one.
+    /// Lets this many calls succeed, and fails every later one.
     pub fn fuse(&mut self, calls: u64)
         ensures fails { (k : ℕ) → fails_at self.new.plan k ≡ nat_le calls k }
         ensures rest { self.new ≡ record self.old { plan = self.new.plan } }
@@ -87,7 +87,7 @@ impl<A: Allocator + Copy> MemoryPages<A> {
         self.plan = Plan::From(calls);
     }
 
-    /// Lets so many calls pass, fails the next, and lets all later ones pass.
+    /// Lets this many calls succeed, fails the next one, and lets all later ones succeed.
     pub fn fail_once(&mut self, calls: u64)
         ensures fails { (k : ℕ) → fails_at self.new.plan k ≡ nat_eq k calls }
         ensures rest { self.new ≡ record self.old { plan = self.new.plan } }
@@ -104,7 +104,7 @@ impl<A: Allocator + Copy> MemoryPages<A> {
         ensures plan { (k : ℕ) → fails_at result.plan k ≡ false }
         ensures faults { result.faults ≡ self.faults }
 
-        // What the power leaves is one of the images that a stop may leave, and afterwards the only one.
+        // The power failure leaves one of the images that a stop may leave; afterwards it is the only one.
         ensures left { (view_of self).may_leave result.first }
         ensures fixed { IsFixed (view_of result) result.first }
     {
@@ -145,7 +145,7 @@ impl<A: Allocator + Copy> MemoryPages<A> {
         DeviceFault
     }
 
-    // Passes one more call, or fails it where that was asked for.
+    // Lets one more call succeed, or fails it if that was requested.
     fn pass(&mut self) -> Result<(), DeviceFault>
         ensures due { IsErr result ↔ (fails_at self.old.plan 0 ≡ true) }
         ensures passed { OnOk result (Passes self.old self.new self.old.calls) }
@@ -215,7 +215,7 @@ fn settle(pages: &mut [PageRead], calls: &[Call])
     }
 }
 
-// What a stop leaves of one page.
+// The content that a stop leaves in one page.
 fn left(history: History, choice: Choice) -> PageRead
     ensures { (disk : Disk) (k : ℕ) → IsHistory disk k history → result ≡ page_left disk choice k }
 {
@@ -233,7 +233,8 @@ fn choose(first: &[PageRead], calls: &[Call], pages: &mut [PageRead], pick: Pick
     requires same { length first.now ≡ length pages.old }
     requires small { length pages.old < 2 ^ 16 }
     ensures { (k : ℕ) → k < length pages.new
-        → page_at pages.new k ≡ page_left (disk_after (at_first first.now) calls.now) (choice_at pick.entry k) k }
+        → page_at pages.new k ≡ page_left (disk_after (at_first first.now) calls.now)
+        (choice_at pick.entry k) k }
 {
     for index in 0..pages.len() {
         let history = history_of(first[index], calls, index as u16);

@@ -24,12 +24,12 @@ use std::snapshot::Snapshot;
 pub struct MemorySlots<A: Allocator = Global> {
     // What reads give.
     slots: Vec<[u8; SLOT_BYTES], A>,
-    // What each slot was when it was last made to outlast a stop, and what was written to it last.
+    // Each slot when it last became durable, and what was last written to it.
     kept: Vec<[u8; SLOT_BYTES], A>,
     last: Vec<[u8; SLOT_BYTES], A>,
     plan: Plan,
     tear: Tear,
-    // What stood there at first, and what was asked since: no memory stands behind these two.
+    // The initial content and the calls since. Neither takes memory.
     first: Snapshot<Vec<[u8; SLOT_BYTES], A>>,
     past: Past<Asked>,
 }
@@ -72,14 +72,14 @@ impl<A: Allocator + Copy> MemorySlots<A> {
         })
     }
 
-    /// Lets so many calls pass, and fails every later one.
+    /// Lets this many calls succeed, and fails every later one.
     pub fn fuse(&mut self, calls: u64)
         ensures { self.new ≡ self.old }
     {
         self.plan = Plan::From(calls);
     }
 
-    /// Lets so many calls pass, fails the next, and lets all later ones pass.
+    /// Lets this many calls succeed, fails the next one, and lets all later ones succeed.
     pub fn fail_once(&mut self, calls: u64)
         ensures { self.new ≡ self.old }
     {
@@ -93,8 +93,7 @@ impl<A: Allocator + Copy> MemorySlots<A> {
         self.tear = tear;
     }
 
-    /// Stops the power. Each slot is left torn as was asked for, where it was written and not made to outlast a stop; no call is
-    /// to fail.
+    /// Stops the power. Each slot that was written and not made durable is left torn as requested; no call is set to fail.
     pub fn cut(self, tears: Tears<'_>) -> Self
         ensures keeps { result.keeps ≡ true }
         ensures calls { result.calls ≡ [] }
@@ -156,7 +155,7 @@ fn copied<A: Allocator>(
     Ok(all)
 }
 
-// What a call that is to fail answers.
+// The error of a call that is set to fail.
 fn refused() -> io::Error {
     io::Error::from(ErrorKind::Other)
 }

@@ -4,7 +4,7 @@ ghost use Rattle.std.specs.Borrow.{ftrue};
 
 use std::marker::{Model, PhantomData};
 
-/// What came so far, the oldest first. It takes no memory, and its methods do nothing at run time.
+/// The past of a value, the oldest entry first. It takes no memory, and its methods do nothing at run time.
 #[derive(Drop)]
 pub struct Past<C> {
     of: PhantomData<C>,

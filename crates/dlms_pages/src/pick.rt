@@ -5,7 +5,7 @@ ghost use Rattle.dlms_pages.specs.Pick.{choice_at};
 /// What a stop leaves of a page that was written since the last sync.
 #[derive(Clone, Copy, Debug, PartialEq, Eq)]
 pub enum Choice {
-    /// What it held at the last sync.
+    /// Its content at the last sync.
     Old,
     /// What was written to it last.
     New,

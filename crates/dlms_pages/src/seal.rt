@@ -1,4 +1,4 @@
-//! What stands in a file for a page.
+//! The bytes of a page in a file.
 ghost use Rattle.std.specs.Prelude.{◌≡◌, ◌↔◌, IsTrue};
 ghost use Rattle.dlms_pages.specs.Seal.{seal_of, slot_of, ReadsSlot};
 
@@ -24,7 +24,7 @@ fn has_seal(index: u16, content: &[u8; PAGE_BYTES], bytes: &[u8]) -> bool
     bytes == seal.as_slice()
 }
 
-/// What stands in the file for a page.
+/// The bytes of a page in the file.
 pub fn sealed(index: u16, content: &[u8; PAGE_BYTES]) -> [u8; SLOT_BYTES]
     ensures { result ≡ slot_of index content.now }
 {
@@ -35,7 +35,7 @@ pub fn sealed(index: u16, content: &[u8; PAGE_BYTES]) -> [u8; SLOT_BYTES]
     slot
 }
 
-/// What a slot of the file says.
+/// The content of a slot of the file.
 pub fn opened(index: u16, slot: &[u8; SLOT_BYTES]) -> PageRead
     ensures { ReadsSlot index slot.now result }
 {

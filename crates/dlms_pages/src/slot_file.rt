@@ -14,25 +14,27 @@ use std::marker::Model;
 
 /// A file in which slots of 544 bytes stand one after another: slot `i` from byte `544 * i` on.
 pub trait SlotFile {
-    /// What is known of it: what was asked of it, and whether it keeps the rules of `Slots`.
+    /// The facts known about the file: the calls made, and whether it keeps the rules of `Slots`.
     ghost slots: { Self → Slots };
 
     /// Reads a slot, and says whether the file has all of it.
     fn read_slot(&mut self, index: u16, slot: &mut [u8; SLOT_BYTES]) -> io::Result<bool>
-        ensures asked { Asks (slots self.old) (slots self.new) (Reads index (came_of result slot.new) ∷ []) }
+        ensures asked { Asks (slots self.old) (slots self.new)
+            (Reads index (came_of result slot.new) ∷ []) }
         ensures gives { (slots self.old).keeps ≡ true
             → Gives (slots self.old) index (came_of result slot.new) };
 
     /// Writes a slot.
     fn write_slot(&mut self, index: u16, slot: &[u8; SLOT_BYTES]) -> io::Result<()>
-        ensures { Asks (slots self.old) (slots self.new) (Writes index slot.now (passed result) ∷ []) };
+        ensures { Asks (slots self.old) (slots self.new)
+            (Writes index slot.now (passed result) ∷ []) };
 
     /// Asks the system to make what was written outlast a stop.
     fn sync(&mut self) -> io::Result<()>
         ensures { Asks (slots self.old) (slots self.new) (Syncs (passed result) ∷ []) };
 }
 
-/// A file of the system's, as slots. Whether it keeps the rules cannot be told from outside, one way or the other.
+/// A file of the system as slots. Whether it keeps the rules cannot be seen from outside.
 #[derive(Drop)]
 pub struct FileSlots<F> {
     file: F,
@@ -63,7 +65,7 @@ impl<F> FileSlots<F> {
 }
 
 impl<F: Read + Write + Seek + OpenFile> FileSlots<F> {
-    // Reads what stands at the slot's place.
+    // Reads the octets at the slot's place.
     fn get(&mut self, index: u16, slot: &mut [u8; SLOT_BYTES]) -> io::Result<bool>
         ensures { self.new ≡ self.old }
     {

@@ -8,7 +8,7 @@ use crate::device::PageRead;
 use crate::seal::{SLOT_BYTES, opened};
 use std::alloc::Allocator;
 
-/// Which octets of a slot are the new ones; the others are those that stood there before.
+/// Which octets of a slot are the new ones; the others are the old ones.
 #[derive(Clone, Copy, Debug, PartialEq, Eq)]
 pub enum Tear {
     /// None.
@@ -57,7 +57,7 @@ impl Tears<'_> {
     }
 }
 
-// The old octets, and the new ones where the tear takes them.
+// The old octets, with the new ones where the tear says so.
 fn mixed(old: &[u8; SLOT_BYTES], new: &[u8; SLOT_BYTES], tear: Tear) -> [u8; SLOT_BYTES]
     ensures { IsMix old.now new.now result }
 {
@@ -70,8 +70,8 @@ fn mixed(old: &[u8; SLOT_BYTES], new: &[u8; SLOT_BYTES], tear: Tear) -> [u8; SLO
     mix
 }
 
-/// What is left of a slot that a write with these octets was to replace. Where the mix of both would be the slot of another
-/// content, which a seal makes as good as impossible, it is the old slot.
+/// The slot that is left if a write of these octets is torn. If the mix of both were the slot of some other content, which the seal
+/// makes practically impossible, it is the old slot.
 pub fn torn(
     index: u16,
     old: &[u8; SLOT_BYTES],

@@ -14,4 +14,8 @@ goes_on before after = nat_lt before.clock after.clock && nat_le before.value af
 -- the period from one capture to the other
 abbrev pub period_of : Sample → Sample → Option Period
 period_of before after =
-    if goes_on before after then Some (record { from = before.clock; to = after.clock; power = power_of before after }) else None
+    if goes_on before after then Some (record {
+      from = before.clock;
+      to = after.clock;
+      power = power_of before after;
+    }) else None

@@ -1,4 +1,4 @@
--- What a register counts.
+-- The quantity that a register counts.
 use Rattle.std.specs.Prelude.{ℕ, [], ◌∷◌, List, Option}
 use Rattle.std.specs.List.{slice_get}
 use Rattle.dlms_plot.specs.declared.quantity.Quantity.{Quantity}

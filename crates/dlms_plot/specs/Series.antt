@@ -7,9 +7,10 @@ use Rattle.dlms_plot.specs.declared.captures.Sample.{Sample}
 use Rattle.dlms_plot.specs.declared.captures.Period.{Period}
 use Rattle.dlms_plot.specs.declared.captures.Gap.{Gap}
 
--- the period from one capture to the next one, where they stand no further apart than this
+-- the period from one capture to the next one, if they are no further apart than this
 abbrev pub period_within : ℕ → Sample × Sample → Option Period
-period_within usual (before, after) = if nat_le (after.clock - before.clock) usual then period_of before after else None
+period_within usual (before, after) = if nat_le (after.clock - before.clock) usual
+    then period_of before after else None
 
 abbrev pub periods_of : ℕ → List Sample → List Period
 periods_of usual samples = filter_map (period_within usual) (neighbors samples)
@@ -17,7 +18,8 @@ periods_of usual samples = filter_map (period_within usual) (neighbors samples)
 -- Captures are missing from one to the next one: the clock went on, and there is no period between them.
 abbrev pub gap_between : ℕ → Sample × Sample → Option Gap
 gap_between usual (before, after) =
-    if nat_lt before.clock after.clock && not (is_some (period_within usual (before, after))) then Some (record { from = before.clock; to = after.clock }) else None
+    if nat_lt before.clock after.clock && not (is_some (period_within usual (before, after)))
+    then Some (record { from = before.clock; to = after.clock }) else None
 
 abbrev pub gaps_of : ℕ → List Sample → List Gap
 gaps_of usual samples = filter_map (gap_between usual) (neighbors samples)

@@ -7,9 +7,10 @@ use Rattle.dlms_plot.specs.declared.captures.Sample.{Sample}
 abbrev pub neighbors : {X : Type 0} → List X → List (X × X)
 neighbors xs = zip xs (drop 1 xs)
 
--- by how much the clock went on from one capture to the next one, where it did
+-- how far the clock advanced from one capture to the next one, if it did
 abbrev pub step_of : Sample × Sample → Option ℕ
-step_of (before, after) = if nat_lt before.clock after.clock then Some (after.clock - before.clock) else None
+step_of (before, after) = if nat_lt before.clock after.clock then Some (after.clock - before.clock)
+    else None
 
 abbrev pub steps_of : List Sample → List ℕ
 steps_of samples = filter_map step_of (neighbors samples)

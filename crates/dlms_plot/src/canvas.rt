@@ -39,7 +39,7 @@ impl Canvas {
         self.marks[begin..begin + COLUMNS].trim_ascii_end()
     }
 
-    /// Draws the curve at a column, from the level before it, where there is one, to its own.
+    /// Draws the curve at a column, from the level before it, if there is one, to its own.
     pub fn step(&mut self, column: usize, before: Option<usize>, level: usize) {
         match before {
             Some(before) if before != level => {

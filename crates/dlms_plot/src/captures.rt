@@ -2,7 +2,7 @@
 ghost use Rattle.std.specs.Prelude.{◌≡◌};
 ghost use Rattle.dlms_plot.specs.Power.{period_of};
 
-/// What a register showed at a second of the clock.
+/// The value of a register at a second of the clock.
 #[derive(Clone, Copy, Debug, PartialEq, Eq)]
 pub struct Sample {
     pub clock: u32,
@@ -14,7 +14,7 @@ pub struct Sample {
 pub struct Period {
     pub from: u32,
     pub to: u32,
-    /// What the register counted, an hour.
+    /// The register's increase per hour.
     pub power: u64,
 }
 
@@ -25,8 +25,8 @@ pub struct Gap {
     pub to: u32,
 }
 
-/// The power between two captures: what the register counted between them over the hours between them. None where the clock
-/// did not go on, or the register went back.
+/// The power between two captures: the register's increase over the hours between them. None if the clock did not advance, or the
+/// register went back.
 pub fn power(before: Sample, after: Sample) -> Option<Period>
     ensures { result ≡ period_of before after }
 {

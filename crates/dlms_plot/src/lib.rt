@@ -1,4 +1,4 @@
-//! The load profile as a curve of steps: in the terminal, and as an SVG that stands alone.
+//! The load profile as a step curve: in the terminal, and as a self-contained SVG.
 #![tactic(auto)]
 
 mod canvas;

@@ -1,10 +1,10 @@
-//! What is plotted, and numbers of thousandths.
+//! The plotted quantity, and numbers of thousandths.
 ghost use Rattle.std.specs.Prelude.{◌≡◌};
 ghost use Rattle.dlms_plot.specs.Quantity.{quantity_at};
 
 use std::fmt;
 
-/// What a register counts.
+/// The quantity that a register counts.
 #[derive(Clone, Copy, Debug, PartialEq, Eq)]
 pub enum Quantity {
     /// Active energy that the meter's owner took, in watt-hours.
@@ -16,7 +16,7 @@ pub enum Quantity {
 }
 
 impl Quantity {
-    /// What the register of this channel counts: 0 for import, 1 for export, 2 for reactive energy. None of another one.
+    /// The quantity of this channel's register: 0 for import, 1 for export, 2 for reactive energy. None for another one.
     pub fn of_channel(channel: usize) -> Option<Quantity>
         ensures { result ≡ quantity_at channel }
     {
@@ -37,7 +37,7 @@ impl Quantity {
         }
     }
 
-    /// The unit of a thousand of what is counted.
+    /// The unit of a thousand of the quantity.
     pub fn energy_unit(self) -> &'static str {
         match self {
             Quantity::Import | Quantity::Export => "kWh",
@@ -45,7 +45,7 @@ impl Quantity {
         }
     }
 
-    /// The unit of a thousand of what is counted, an hour.
+    /// The unit of a thousand of the quantity per hour.
     pub fn power_unit(self) -> &'static str {
         match self {
             Quantity::Import | Quantity::Export => "kW",

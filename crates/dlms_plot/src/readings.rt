@@ -25,7 +25,7 @@ pub enum Form {
     Svg,
 }
 
-/// What a register showed in a row.
+/// The value of a register in a row.
 fn value_of(row: &Row, quantity: Quantity) -> u32
     ensures { result ≡ value_in quantity row.now }
 {
@@ -63,7 +63,7 @@ fn is_counting(rows: &[Row], quantity: Quantity) -> bool
     }
 }
 
-/// The first register of which the first row and the last one say different values; that of the import where none is.
+/// The first register with different values in the first row and the last one; that of the import if there is none.
 fn counted(rows: &[Row]) -> Quantity
     ensures { result ≡ counted_of rows.now }
 {
@@ -78,7 +78,7 @@ fn counted(rows: &[Row]) -> Quantity
     }
 }
 
-/// What is plotted: a register, and the periods of its captures.
+/// The plotted curve: a register, and the periods of its captures.
 #[derive(Drop)]
 pub struct Curve<A: Allocator> {
     /// The register.
@@ -88,8 +88,8 @@ pub struct Curve<A: Allocator> {
 }
 
 impl<A: Allocator + Copy> Curve<A> {
-    /// The curve of these rows: of the first register of which the first row and the last one say different values, or of the
-    /// import. None where there is no period between two captures. No rows take no memory.
+    /// The curve of these rows: of the first register with different values in the first row and the last one, or of the import.
+    /// None if there is no period between two captures. No rows take no memory.
     fn of_rows(alloc: A, rows: &[Row]) -> Result<Option<Curve<A>>, AllocError>
         ensures found { IfOk result (IsPlotOf rows.now) }
         ensures memory { OnErr result (0 < length rows.now) }
@@ -105,10 +105,11 @@ impl<A: Allocator + Copy> Curve<A> {
         }
     }
 
-    /// The curve of all rows of a readings file, whose text this is; the fault of a text that is none. Want of memory is told only
-    /// of a readings file's text.
+    /// The curve of all rows of a readings file with this text; the fault of a text that is none. Out of memory is reported only of
+    /// a readings file's text.
     pub fn of(alloc: A, text: &str) -> Result<Option<Curve<A>>, ReadingsFault>
-        ensures found { IfOk result (λ found. (rows : List RowOf) × IsFile text.now rows × IsPlotOf rows found) }
+        ensures found { IfOk result (λ found. (rows : List RowOf) × IsFile text.now rows
+            × IsPlotOf rows found) }
         ensures fault { IfErr result (Refuses text.now) }
     {
         let readings = Readings::open(alloc, text)?;
@@ -119,7 +120,7 @@ impl<A: Allocator + Copy> Curve<A> {
     }
 }
 
-/// Writes a curve, or words that there is none.
+/// Writes a curve, or a message that there is none.
 fn write_curve<A: Allocator + Copy, W: Write>(
     curve: &Option<Curve<A>>,
     form: Form,
@@ -135,9 +136,9 @@ fn write_curve<A: Allocator + Copy, W: Write>(
     }
 }
 
-/// Writes the curve of the text of a readings file, that of its first register of which the first row and the last one say
-/// different values, or of the import; where there is no period between two captures, words that say so. The fault
-/// of a text that is none of readings is told before anything is written.
+/// Writes the curve of the text of a readings file, for its first register with different values in the first row and the last one,
+/// or for the import; if there is no period between two captures, a message that says so. The fault of a text without readings is
+/// reported before anything is written.
 pub fn plot_readings<A: Allocator + Copy, W: Write>(
     alloc: A,
     text: &str,

@@ -50,7 +50,7 @@ pub fn power_step(most: u64) -> u64
     most
 }
 
-/// How many steps reach this power: one at least, and five at most where the step is that of `power_step`.
+/// The number of steps up to this power: at least one, and at most five if the step is that of `power_step`.
 pub fn power_ticks(most: u64, step: u64) -> u64
     ensures some { 1 ≤ result }
     ensures few { result ≤ MOST_POWER_TICKS }

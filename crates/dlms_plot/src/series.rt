@@ -9,8 +9,8 @@ use crate::usual::usual_step;
 use std::alloc::{AllocError, Allocator};
 use std::marker::Model;
 
-/// The periods of a register's captures, and the gaps. A period that is longer than the usual one is none of them: captures are
-/// missing there.
+/// The periods of a register's captures, and the gaps. An interval longer than the usual one is not a period: captures are missing
+/// there.
 #[derive(Drop)]
 pub struct Series<A: Allocator> {
     periods: Vec<Period, A>,
@@ -29,10 +29,11 @@ impl<A: Allocator> Model for Series<A> {
 }
 
 impl<A: Allocator + Copy> Series<A> {
-    /// The periods between captures. None where there is no period. Want of memory is told only where the clock goes on from some
+    /// The periods between captures. None if there is no period. Out of memory is reported only if the clock advances from some
     /// capture to the next one.
     pub fn of(alloc: A, samples: &[Sample]) -> Result<Option<Series<A>>, AllocError>
-        ensures found { IfOk result (λ found. MatchOption found (HasNoSeries samples.now) (IsSeriesOf samples.now)) }
+        ensures found { IfOk result (λ found. MatchOption found (HasNoSeries samples.now)
+            (IsSeriesOf samples.now)) }
         ensures memory { IsErr result → steps_of samples.now ≢ [] }
     {
         let Some(usual) = usual_step(alloc, samples)? else {

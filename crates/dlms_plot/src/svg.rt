@@ -1,4 +1,4 @@
-//! The curve as an SVG that stands alone: no script, no font from elsewhere, light or dark as the reader has it.
+//! The curve as a self-contained SVG: no script, no external font, light or dark as the reader prefers.
 ghost use Rattle.std.specs.Prelude.{◌≡◌, ◌≤◌, ◌+◌, ◌-◌, ◌*◌};
 ghost use Rattle.dlms_plot.specs.Scale.{place_of};
 
@@ -72,7 +72,8 @@ struct Plane {
 impl Plane {
     /// Where a second stands from the left.
     fn across(self, second: u32) -> Tenths
-        ensures place { result.0 ≡ 10 * LEFT + place_of (second - self.begin) self.span (10 * (RIGHT - LEFT)) }
+        ensures place { result.0 ≡ 10 * LEFT + place_of (second - self.begin) self.span
+            (10 * (RIGHT - LEFT)) }
         ensures left { 10 * LEFT ≤ result.0 }
         ensures right { result.0 ≤ 10 * RIGHT }
     {
@@ -214,7 +215,7 @@ fn write_curve<W: Write>(plane: Plane, periods: &[Period], output: &mut W) -> io
     output.write_all(b"\"/>\n")
 }
 
-/// Writes the axes, and what the axis of powers counts.
+/// Writes the axes, and the unit of the axis of powers.
 fn write_axes<W: Write>(quantity: Quantity, output: &mut W) -> io::Result<()> {
     let unit = quantity.power_unit();
     writeln!(

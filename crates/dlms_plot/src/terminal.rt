@@ -18,10 +18,10 @@ const ROWS_A_TICK: u64 = 4;
 /// The most ticks of the clock, so that their labels stand apart.
 const MOST_TIME_TICKS: u32 = 4;
 
-/// The columns behind the labels of powers, to the hundredth.
+/// The columns after the labels of powers, to the hundredth.
 const ROOM: usize = 82;
 
-/// The greatest power within each column, where there is one.
+/// The greatest power within each column, if there is one.
 type Peaks = [Option<u64>; COLUMNS];
 
 /// Takes a period's power into the columns in which it stands.
@@ -49,7 +49,7 @@ fn peaks_of<A: Allocator + Copy>(series: &Series<A>) -> Peaks {
     peaks
 }
 
-/// Draws the peaks, of which one of `top` stands so many rows high.
+/// Draws the peaks, scaled so that `top` is this many rows high.
 fn drawn(peaks: &Peaks, top: u64, rows: u64) -> Canvas {
     let mut canvas = Canvas::blank();
     let mut before = None;
@@ -76,7 +76,7 @@ fn write_rows<W: Write>(canvas: &Canvas, step: u64, ticks: u64, output: &mut W) 
     Ok(())
 }
 
-/// Writes a row of a canvas, with its power where it has a tick.
+/// Writes a row of a canvas, with its power if it has a tick.
 fn write_row<W: Write>(canvas: &Canvas, row: u64, step: u64, output: &mut W) -> io::Result<()> {
     if row % ROWS_A_TICK == 0 {
         write_power(step.saturating_mul(row / ROWS_A_TICK), output)?;

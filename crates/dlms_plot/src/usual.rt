@@ -6,7 +6,7 @@ ghost use Rattle.dlms_plot.specs.Steps.{step_of, steps_of, IsUsual};
 use crate::captures::Sample;
 use std::alloc::{AllocError, Allocator};
 
-/// By how much the clock went on from one capture to the next one, where it did.
+/// How far the clock advanced from one capture to the next one, if it did.
 fn step(before: Sample, after: Sample) -> Option<u32>
     ensures { result ≡ step_of (before, after) }
 {
@@ -28,7 +28,7 @@ fn count_steps(samples: &[Sample]) -> usize
         .count()
 }
 
-/// By how much the clock went on from each capture to the next one, where it did.
+/// How far the clock advanced from each capture to the next one, if it did.
 fn steps<A: Allocator>(alloc: A, samples: &[Sample]) -> Result<Vec<u32, A>, AllocError>
     ensures { IfOk result (λ steps. steps.items ≡ steps_of samples.now) }
 {
@@ -70,10 +70,11 @@ fn most_often(sorted: &[u32]) -> Option<u32>
     }
 }
 
-/// The usual period: the step of the clock that stands most often between two captures; of several the least. None where the
-/// clock never goes on; want of memory is told only where it does.
+/// The usual period: the most frequent step of the clock between two captures; of several the least. None if the clock never
+/// advances; out of memory is reported only if it does.
 pub fn usual_step<A: Allocator>(alloc: A, samples: &[Sample]) -> Result<Option<u32>, AllocError>
-    ensures usual { IfOk result (λ found. MatchOption found (steps_of samples.now ≡ []) (IsUsual (steps_of samples.now))) }
+    ensures usual { IfOk result (λ found. MatchOption found (steps_of samples.now ≡ [])
+        (IsUsual (steps_of samples.now))) }
     ensures memory { IsErr result → steps_of samples.now ≢ [] }
 {
     if count_steps(samples) == 0 {

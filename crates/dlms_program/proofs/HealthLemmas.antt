@@ -38,7 +38,7 @@ joined a b c first (Further mid new second leads) = Further mid new (joined a b 
 pub at_once : {P A : Type 0} {ghosts : Ghosts P} (old new : Option (Meter P A ghosts)) → Leads old new → Reaches old new
 at_once old new leads = Further old new Here leads
 
--- it was gone in what came behind
+-- it was gone in a later line
 abbrev pub gone_behind : {P A : Type 0} → {ghosts : Ghosts P} → (a b : Option (Meter P A ghosts)) (fault : OpenFault) → Reaches a b → IsGone b fault → IsGone a fault
 gone_behind a b fault first gone = record { old = gone.old; reaches = joined a b (Some gone.old) first gone.reaches; device = gone.device; closed = gone.closed; back = gone.back; refused = gone.refused }
 

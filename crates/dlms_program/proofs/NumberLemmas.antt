@@ -19,7 +19,7 @@ pub digits_no_space : (digits : List ℕ) → AllDigits 10 digits → HasNoSpace
 digits_no_space [] h = tt
 digits_no_space (c ∷ cs) h = ((λ e. let bad : digit_value 32 < 10 = subst (λ (b : ℕ). digit_value b < 10) e h.0 in absurd (omega arith)), digits_no_space cs h.1)
 
--- what stands before the first space, and behind it
+-- the parts before and after the first space
 pub same_parts : (a b c d : List ℕ) → HasNoSpace a → HasNoSpace c → a ++ 32 ∷ b ≡ c ++ 32 ∷ d → (a ≡ c) × (b ≡ d)
 same_parts [] b [] d h k e = (refl, cc)
 same_parts [] b (x ∷ c) d h k e = absurd (k.0 (cc))

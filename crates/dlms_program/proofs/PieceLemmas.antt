@@ -1,4 +1,4 @@
--- What a piece of a line takes from a reader's known bytes.
+-- The bytes that a piece of a line takes from a reader's known bytes.
 use Rattle.std.proofs.Common.{arith, refl, sym, ap, subst, append_assoc, eq-eqb, length-append, length-take-le, ◌∙◌, ◌≡◌, ◌≢◌, ◌<◌, ◌≤◌, ℕ, zero, suc, List, [], ◌∷◌, ◌++◌, length, take}
 use Rattle.std.specs.Prelude.{Option, Some, None, Result, Ok, Err, IfOk}
 use Rattle.std.specs.Io.KnownBytes.{Consumes, IsAtEnd, Keeps}

@@ -1,4 +1,4 @@
--- What is known of a writer's bytes while bytes are written.
+-- A writer's bytes, if known, while bytes are written.
 use Rattle.std.proofs.Common.{arith, refl, sym, ap, subst, append-nil, append_assoc, ◌∙◌, ◌≡◌, ◌-◌, ◌<◌, ℕ, List, [], ◌∷◌, ◌++◌, length, take, drop, length-drop, length-append, IsErr}
 use Rattle.std.proofs.lemmas.List.{take_all, take-append-drop}
 use Rattle.std.specs.Prelude.{Option, Some, None, Result, Ok, Err, MatchResult}
@@ -32,13 +32,13 @@ either_way old new bytes (Err e) writes all part = part writes
 
 -- ---- one write after another
 
--- what a call took, and what it left
+-- the bytes that a call took, and the rest
 pub taken_and_left : (n : ℕ) (xs : List ℕ) → take n xs ++ take (length xs - n) (drop n xs) ≡ xs
 taken_and_left n xs =
     let all : take (length xs - n) (drop n xs) ≡ drop n xs = take_all (length xs - n) (drop n xs) (omega (arith, length-drop n xs)) in
     ap (λ (t : List ℕ). take n xs ++ t) all ∙ take-append-drop n xs
 
--- what has been written of these bytes, where this rest is left
+-- the part of these bytes that has been written, if this rest is left
 abbrev pub PutSoFar : Option (List ℕ) → Option (List ℕ) → List ℕ → List ℕ → Type 0
 PutSoFar old now bytes rest = (front : List ℕ) × (front ++ rest ≡ bytes) × Appends old now front
 

@@ -60,7 +60,7 @@ lines-append : (a b : List (List ℕ)) → reply_lines (a ++ b) ≡ reply_lines 
 lines-append [] b = refl
 lines-append (x ∷ a) b = ap (λ (t : List ℕ). reply_line x ++ t) (lines-append a b) ∙ sym (append_assoc (reply_line x) (reply_lines a) (reply_lines b))
 
--- what a call keeps of what a meter stands for
+-- how a call keeps the world that a meter stands for
 pub at_of : {P A : Type 0} {ghosts : Ghosts P} (honest : Bool) (meter meter' : Meter P A ghosts) (w w' : MeterWorld)
     → IsAt honest meter w → Stands meter' w' → (StoreFits meter.store w.store → StoreFits meter'.store w'.store) → IsAt honest meter' w'
 at_of true meter meter' w w' at stands fits = (stands, fits at.1)
@@ -114,7 +114,7 @@ turn_or Before After meter meter' m taken turns turn stands further ill is may (
     well_or (λ (s : IsServed turn.choice). (one_more turns turn are s, turn_runs (grown m taken) turn is s runs)) ill (served meter.store meter'.store turn.choice (not_stopped meter.store m.store stands.store runs) may)
 turn_or Before After meter meter' m taken turns turn stands further ill is may (inr fault) = inr (further fault)
 
--- one call more takes these bytes behind those before
+-- one more call takes these bytes after those before
 goes_further : {P A : Type 0} {ghosts : Ghosts P} (Before After : Type 0) (start meter meter' : Meter P A ghosts) (w m m' : MeterWorld) (front taken : List ℕ) (replies : List (List ℕ)) (reply : Option (List ℕ)) (steps : List StoreStep) → Stands meter m
     → IsCall meter (FedCall taken reply) meter' → (Before → After) → (ServesIll meter.store meter'.store → After) → GoesOr Before start meter w front m replies → Fed (MayChoose meter.store meter'.store) m taken reply steps m'
     → GoesOr After start meter' w (front ++ taken) m' (replies ++ listed reply)
@@ -161,7 +161,7 @@ comes_all Fault start meter w front m replies kept (turns, on, well, fed) fits =
       fed,
     )
 
--- what has been fed so far, for every world that the meter stood for when it began
+-- the bytes fed so far, for every world that the meter stood for when it began
 abbrev pub FedSoFar : {P A : Type 0} → {ghosts : Ghosts P} → Option (List ℕ) → Option (List ℕ) → Meter P A ghosts → Meter P A ghosts → List ℕ → List ℕ → Type 0
 FedSoFar old now start meter bytes rest = Reaches (Some start) (Some meter) × ((honest : Bool) (w : MeterWorld) → IsAt honest start w → (m : MeterWorld) × (replies : List (List ℕ)) × IsAt honest meter m
     × Appends old now (reply_lines replies) × (front : List ℕ) × (front ++ rest ≡ bytes) × GoesOr (MeetsFault (Some start) (Some meter)) start meter w front m replies)
@@ -325,7 +325,7 @@ moment_did meter meter' bytes second outcome judges honest w at =
 
 -- ---- silence, and lines that leave the meter as it is
 
--- the state that is told is that of the meter's events
+-- the printed state is that of the meter's events
 pub told_state : {P A : Type 0} {ghosts : Ghosts P} (honest : Bool) (meter : Meter P A ghosts) (w : MeterWorld) (s : StateValue) → ((w : MeterWorld) → Stands meter w → IsStateOf (events_of w) s) → IsAt honest meter w → state_line s ≡ state_line (state_of (events_of w))
 told_state honest meter w s is at = ap (λ (t : StateValue). state_line t) (is w (stands_at honest meter w at)).value
 
@@ -360,13 +360,13 @@ opened_runs (Runs s p) now found h = absurd h
 opened_runs (InDoubt s p) now found h = h.1
 opened_runs (Rests events) now found h = h.1
 
--- What a meter stands for that was closed and recovered: of a device that keeps the rules, what its store's world says. From a
--- running store it is all, or this is so.
+-- The world of a meter that was closed and recovered: on a device that keeps the rules, its store's world. From a running store it
+-- has all events, or this is true.
 abbrev pub IsFound : {P A : Type 0} → {ghosts : Ghosts P} → Type 0 → Bool → MeterWorld → Meter P A ghosts → Type 0
 IsFound Fault honest w meter = (found : List Event) × Finds honest w.store found × (IsRunningIn w.store → FindsAll honest w found ⊎ Fault) × IsAt honest meter (recovered found)
 
 module _ {P A : Type 0} {ghosts : Ghosts P} (start : Meter P A ghosts) (device : P) where
-  -- where the device gives no fault, what was pending is settled
+  -- if the device returns no fault, the pending events are settled
   abbrev pub IsSettled : Type 0
   IsSettled = (IsStopped start.store → ⊥) → (Rose (view_of start.store).faults (ghosts.view device).faults → ⊥) → (CommitIsExhausted start.store → ⊥)
       → (before : StoreWorld) → StoreFits start.store before → GivesUp Closes before (view_of start.store) (ghosts.view device)
@@ -492,7 +492,7 @@ cut_line (Some text) None c done line cut loses = absurd cut
 cut_line (Some text) (Some rest) None done line cut loses = absurd loses
 cut_line (Some text) (Some rest) (Some left) done line cut loses = cut ∙ ap (λ (ls : List (List ℕ)). done ++ ls) loses ∙ sym (append_assoc done (line ∷ []) (lines_of left))
 
--- where a meter is there, it is this one
+-- if there is a meter, it is this one
 there : {P A : Type 0} {ghosts : Ghosts P} (honest : Bool) (meter : Option (Meter P A ghosts)) (w : MeterWorld) → IsLeft honest meter (Some w) → (is : Meter P A ghosts) × (meter ≡ Some is)
 there honest None w left = absurd left
 there honest (Some meter) w left = (meter, refl)
@@ -506,7 +506,7 @@ both_there Is (Some x) (Some y) h = (x, y, refl, refl, h)
 same_meter : {M : Type 0} {x y : M} → Some x ≡ Some y → x ≡ y
 same_meter e = cc
 
--- such a replay, which goes well where this holds
+-- such a replay, which goes well if this is true
 abbrev ReplaysFor : {P A : Type 0} → {ghosts : Ghosts P} → Type 0 → Bool → MeterWorld → ℕ → List (List ℕ) → List ℕ → End → Option MeterWorld → (start : Meter P A ghosts) (finish : Option (Meter P A ghosts)) → Type 0
 ReplaysFor H honest w number lines written end last start finish =
     (replays : Replays honest w number lines written end last) × (H → GoesWell honest w number lines written end last replays) × ReplayCalls honest w number lines written end last replays start finish
@@ -522,7 +522,7 @@ line_first H honest w w' number line bytes first order lines rest end last start
 numbered : (number : ℕ) (line : List ℕ) (lines : List (List ℕ)) → number + length (line ∷ lines) ≡ number + 1 + length lines
 numbered number line lines = omega arith
 
--- lines that were done, and those behind them
+-- lines that were done, and those after them
 run_on : {P A : Type 0} {ghosts : Ghosts P} (H : Type 0) (honest : Bool) (done lines : List (List ℕ)) (w m : MeterWorld) (number : ℕ) (written more : List ℕ) (end : End) (last : Option MeterWorld) (a b : Meter P A ghosts) (finish : Option (Meter P A ghosts))
     → ReplaysFor H honest w number done written Whole (Some m) a (Some b) → ReplaysFor H honest m (number + length done) lines more end last b finish
     → ReplaysFor H honest w number (done ++ lines) (written ++ more) end last a finish
@@ -561,7 +561,7 @@ both_or : (H X Y A B C : Type 0) → (X → Y → H) → (A → C) → (B → C)
 both_or H X Y A B C both first last (inl x) second = well_or (both x) last (second x)
 both_or H X Y A B C both first last (inr a) second = inr (first a)
 
--- lines that were done, and those behind them, on one meter
+-- lines that were done, and those after them, on one meter
 done_then : {P A : Type 0} {ghosts : Ghosts P} (start meter meter' : Option (Meter P A ghosts)) (honest : Bool) (done lines : List (List ℕ)) (w m : MeterWorld) (number : ℕ) (written more : List ℕ) (end : End) (last : Option MeterWorld)
     → Reaches start meter → Reaches meter meter' → length done + 1 ≡ number
     → ReplaysOn honest w 1 done written Whole (Some m) start meter → ReplaysOn honest m number lines more end last meter meter'
@@ -642,7 +642,7 @@ replay_end old now start meter text rest number so_far at_end honest w at =
     ([], no_line honest here.0 number meter here.3)
     (λ known is. subst (λ (r : List ℕ). ReplaysOn honest here.0 number (lines_of r) [] Whole (Some here.0) meter meter) (sym (known_end rest known at_end is)) (no_line honest here.0 number meter here.3))
 
--- the first line of a reader's known bytes is bad, or there is a bad line where they are not known
+-- the first line of a reader's known bytes is bad, or there is a bad line if they are not known
 abbrev pub BeginsBad : Option (List ℕ) → Type 0
 BeginsBad None = (line : List ℕ) × IsBad line
 BeginsBad (Some rest) = (line : List ℕ) × (more : List (List ℕ)) × (lines_of rest ≡ line ∷ more) × IsBad line

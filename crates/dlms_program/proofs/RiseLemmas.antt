@@ -148,7 +148,7 @@ same_rows E F s t first second same =
     ap (λ (x : StateValue). x.rows.next) first.value ∙ ap (λ (G : List Event). (state_of G).rows.next) same ∙ sym (ap (λ (x : StateValue). x.rows.next) second.value)
 
 module _ {P A : Type 0} {ghosts : Ghosts P} (rules : (device : P) → (ghosts.view device).honest ≡ true → Rules (ghosts.view device)) where
-  -- its store runs, and what the device holds stands for its world
+  -- its store runs, and the device's contents represent its world
   abbrev Serves : Meter P A ghosts → Type 0
   Serves meter = (w : MeterWorld) × IsAt true meter w × IsRunningIn w.store
 
@@ -170,7 +170,7 @@ module _ {P A : Type 0} {ghosts : Ghosts P} (rules : (device : P) → (ghosts.vi
             ]
       ]
 
-  -- where a call led to this world
+  -- if a call led to this world
   call_led : (old new : Meter P A ghosts) (w w' : MeterWorld) → IsAt true old w → IsRunningIn w.store → IsLater old.store new.store → Stands new w' → StoreFits new.store w'.store
       → Rose (view_of old.store).faults (view_of new.store).faults ⊎ (Serves new × (IsSpent old.store → IsSpent new.store))
   call_led old new w w' at runs later stands fits =

@@ -1,4 +1,4 @@
--- What a line of a transcript says.
+-- The meaning of a line of a transcript.
 use Rattle.std.specs.Prelude.{◌≡◌, ◌≢◌, ◌⊎◌, ◌<◌, ◌^◌, ℕ, List, [], ◌∷◌, ◌++◌, codes}
 use Rattle.dlms_words.specs.Numbers.{IsNumberOf}
 use Rattle.dlms_program.specs.Pairs.{ArePairs}

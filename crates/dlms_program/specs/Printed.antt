@@ -1,4 +1,4 @@
--- What a replay writes.
+-- The output of a replay.
 use Rattle.std.specs.Prelude.{ℕ, List, ◌++◌, length, slice_index, codes}
 use Rattle.std.specs.List.{flat_map}
 use Rattle.std.specs.Fmt.{decimal}
@@ -49,12 +49,14 @@ open_fault_line fault = codes "fault open " ++ decimal (open_fault_number fault)
 -- the three registers
 abbrev pub registers_text : List ℕ → List ℕ
 registers_text registers =
-    codes "state " ++ decimal (slice_index registers 0) ++ codes " " ++ decimal (slice_index registers 1) ++ codes " " ++ decimal (slice_index registers 2)
+    codes "state " ++ decimal (slice_index registers 0) ++ codes " "
+    ++ decimal (slice_index registers 1) ++ codes " " ++ decimal (slice_index registers 2)
 
 -- the clock and the count of rows
 abbrev pub clock_text : ℕ → ℕ → List ℕ
 clock_text clock rows = codes " " ++ decimal clock ++ codes " " ++ decimal rows ++ codes "\n"
 
--- what is told of a state
+-- the printed line of a state
 abbrev pub state_line : StateValue → List ℕ
-state_line s = registers_text s.registers ++ clock_text (clock_at s.last s.offset) (length s.rows.items)
+state_line s = registers_text s.registers
+    ++ clock_text (clock_at s.last s.offset) (length s.rows.items)

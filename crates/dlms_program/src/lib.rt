@@ -1,4 +1,4 @@
-//! What the program does above the meter: the replay of a transcript, and, from `dlms_words`, what its words ask for.
+//! The program above the meter: the replay of a transcript and, from `dlms_words`, the job of its arguments.
 #![tactic(auto)]
 
 mod fault;

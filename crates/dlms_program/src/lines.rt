@@ -9,7 +9,7 @@ use crate::pieces::{MOST_BYTES, Piece};
 use crate::streams::{Source, is_interrupted};
 use arrayvec::ArrayVec;
 
-/// What the source had.
+/// The outcome of reading a line.
 #[derive(Clone, Copy, Debug, PartialEq, Eq)]
 pub enum Taken {
     /// No byte was left.
@@ -25,7 +25,8 @@ fn next_piece<S: Source>(
     source: &mut S,
     line: &mut ArrayVec<u8, MOST_BYTES>,
 ) -> Result<Piece, ReplayFault>
-    ensures piece { IfOk result (TakesPiece (S.remaining source.old) (S.remaining source.new) line.old.items line.new.items) }
+    ensures piece { IfOk result (TakesPiece (S.remaining source.old)
+        (S.remaining source.new) line.old.items line.new.items) }
     ensures none { OnErr result (Keeps (S.remaining source.old) (S.remaining source.new)) }
     ensures kept { OnErr result (line.new.items ≡ line.old.items) }
     ensures fault { IfErr result (λ e. e ≡ ReplayFault.Io) }
@@ -46,8 +47,10 @@ pub fn take_line<S: Source>(
     source: &mut S,
     line: &mut ArrayVec<u8, MOST_BYTES>,
 ) -> Result<Taken, ReplayFault>
-    ensures line { IfOk result (TakesLine (S.remaining source.old) (S.remaining source.new) line.new.items MOST_BYTES) }
-    ensures part { OnErr result (LosesPart (S.remaining source.old) (S.remaining source.new) line.new.items) }
+    ensures line { IfOk result (TakesLine (S.remaining source.old)
+        (S.remaining source.new) line.new.items MOST_BYTES) }
+    ensures part { OnErr result (LosesPart (S.remaining source.old)
+        (S.remaining source.new) line.new.items) }
     ensures fault { IfErr result (λ e. e ≡ ReplayFault.Io) }
     ensures calls { Called 1 (S.calls source.old) (S.calls source.new) result }
 {

@@ -1,4 +1,4 @@
-//! What a line of a transcript says.
+//! The meaning of a line of a transcript.
 ghost use Rattle.std.specs.Prelude.{◌≡◌, ◌≤◌, ℕ, List, ◌++◌, ◌∷◌, [], length, codes, IfSome, IfNone};
 ghost use Rattle.dlms_program.specs.declared.orders.Order.{Order as OrderOf};
 ghost use Rattle.dlms_program.specs.Orders.{HasNoSpace, Spells, SpellsPulses};
@@ -6,7 +6,7 @@ ghost use Rattle.dlms_program.specs.Orders.{HasNoSpace, Spells, SpellsPulses};
 use crate::pairs::Pairs;
 use dlms_words::number;
 
-/// What a line asks for.
+/// The order of a line.
 #[derive(Clone, Copy, Debug, PartialEq, Eq)]
 pub enum Order {
     /// An empty line or a comment.
@@ -25,9 +25,10 @@ pub enum Order {
     Show,
 }
 
-/// What stands before the first space, and what stands behind it.
+/// Splits the fields at the first space.
 fn parted(fields: &[u8]) -> Option<(&[u8], &[u8])>
-    ensures found { IfSome result (λ parts. (fields.now ≡ parts.0.now ++ 32 ∷ parts.1.now) × HasNoSpace parts.0.now) }
+    ensures found { IfSome result (λ parts. (fields.now ≡ parts.0.now ++ 32 ∷ parts.1.now)
+        × HasNoSpace parts.0.now) }
     ensures none { IfNone result (HasNoSpace fields.now) }
 {
     for (at, byte) in fields.iter().enumerate() {
@@ -41,7 +42,8 @@ fn parted(fields: &[u8]) -> Option<(&[u8], &[u8])>
 /// The order of a channel and a count, parted by one space.
 fn pulses_of(fields: &[u8]) -> Option<Order>
     ensures some { IfSome result (Spells (codes "P " ++ fields.now) []) }
-    ensures none { IfNone result ((channel count : ℕ) → SpellsPulses (codes "P " ++ fields.now) channel count → ⊥) }
+    ensures none { IfNone result ((channel count : ℕ)
+        → SpellsPulses (codes "P " ++ fields.now) channel count → ⊥) }
 {
     let (before, behind) = parted(fields)?;
     let channel = number(before)?;
@@ -55,11 +57,12 @@ fn pulses_of(fields: &[u8]) -> Option<Order>
     })
 }
 
-/// What the line says, if anything; bytes that it brings are left in `bytes`.
+/// The order of a line, if it has one; its bytes are left in `bytes`.
 pub fn order_of(line: &[u8], bytes: &mut Pairs) -> Option<Order>
     requires { length line.now ≤ 8192 }
     ensures some { IfSome result (Spells line.now bytes.new) }
-    ensures none { IfNone result ((brought : List ℕ) (order : OrderOf) → Spells line.now brought order → ⊥) }
+    ensures none { IfNone result ((brought : List ℕ) (order : OrderOf)
+        → Spells line.now brought order → ⊥) }
 {
     match line {
         [] | [b'#', ..] => Some(Order::Skip),

@@ -46,7 +46,8 @@ impl Pairs {
     /// Takes the bytes that one or more pairs of hexadecimal digits of either case spell, and says whether they do.
     pub fn take(&mut self, digits: &[u8]) -> bool
         requires { length digits.now ≤ 8190 }
-        ensures { MatchBool result (ArePairs digits.now self.new) ((bytes : List ℕ) → ArePairs digits.now bytes → ⊥) }
+        ensures { MatchBool result (ArePairs digits.now self.new) ((bytes : List ℕ)
+            → ArePairs digits.now bytes → ⊥) }
     {
         let count = digits.len() / 2;
         if count == 0 || hex::decode_to_slice(digits, &mut self.room[..count]).is_err() {

@@ -8,7 +8,7 @@ use memchr::memchr;
 /// The most bytes of a line, without its line feed.
 pub const MOST_BYTES: usize = 8192;
 
-/// What came of a piece of a line.
+/// The outcome of reading a piece of a line.
 #[derive(Clone, Copy, Debug, PartialEq, Eq)]
 pub enum Piece {
     /// No byte was left.
@@ -21,7 +21,7 @@ pub enum Piece {
     Full,
 }
 
-/// How many bytes stand before the first line feed.
+/// The number of bytes before the first line feed.
 fn before_feed(bytes: &[u8]) -> usize
     ensures within { result ≤ length bytes.now }
     ensures none { HasNoFeed (take result bytes.now) }

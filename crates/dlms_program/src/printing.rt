@@ -1,4 +1,4 @@
-//! What a replay writes.
+//! The output of a replay.
 ghost use Rattle.std.specs.Prelude.{◌≡◌, ◌≤◌, ◌+◌, ◌*◌, ◌++◌, length, option_map};
 ghost use Rattle.std.specs.Fmt.{decimal};
 ghost use Rattle.arrayvec.specs.ArrayString.{array_string_len};
@@ -56,7 +56,8 @@ pub fn put<W: Sink>(bytes: &[u8], writer: &mut W) -> io::Result<()>
 fn write_digits<const ROOM: usize, W: Sink>(bytes: &[u8], writer: &mut W) -> io::Result<()>
     requires fits { 2 * length bytes.now ≤ ROOM }
     requires small { ROOM ≤ 320 }
-    ensures bytes { Writes (W.contents writer.old) (W.contents writer.new) (reply_line bytes.now) result }
+    ensures bytes { Writes (W.contents writer.old) (W.contents writer.new)
+        (reply_line bytes.now) result }
     ensures calls { Called 0 (W.calls writer.old) (W.calls writer.new) result }
 {
     let mut room = [0u8; ROOM];
@@ -69,7 +70,8 @@ fn write_digits<const ROOM: usize, W: Sink>(bytes: &[u8], writer: &mut W) -> io:
 
 /// Writes a reply frame.
 fn write_reply<W: Sink>(reply: &Reply, writer: &mut W) -> io::Result<()>
-    ensures bytes { Writes (W.contents writer.old) (W.contents writer.new) (reply_line reply.now.items) result }
+    ensures bytes { Writes (W.contents writer.old) (W.contents writer.new)
+        (reply_line reply.now.items) result }
     ensures calls { Called 0 (W.calls writer.old) (W.calls writer.new) result }
 {
     let bytes = reply.as_slice();
@@ -78,7 +80,8 @@ fn write_reply<W: Sink>(reply: &Reply, writer: &mut W) -> io::Result<()>
 
 /// Writes the reply, if there is one.
 pub fn write_answer<W: Sink>(reply: &Option<Reply>, writer: &mut W) -> io::Result<()>
-    ensures bytes { Writes (W.contents writer.old) (W.contents writer.new) (reply_lines (listed (option_map (λ reply. reply.items) reply.now))) result }
+    ensures bytes { Writes (W.contents writer.old) (W.contents writer.new)
+        (reply_lines (listed (option_map (λ reply. reply.items) reply.now))) result }
     ensures calls { Called 0 (W.calls writer.old) (W.calls writer.new) result }
 {
     match reply {

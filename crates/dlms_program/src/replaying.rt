@@ -22,13 +22,15 @@ use dlms_store::{AddFault, OpenFault};
 use std::alloc::Allocator;
 use std::io;
 
-/// Feeds bytes, and writes each reply. Where a reply cannot be written, the bytes behind its frame are not fed.
+/// Feeds bytes, and writes each reply. If a reply cannot be written, the bytes after its frame are not fed.
 fn feed<W: Sink, P: Pages, A: Allocator + Copy>(
     meter: &mut Meter<P, A>,
     bytes: &[u8],
     writer: &mut W,
 ) -> io::Result<()>
-    ensures lines { (honest : Bool) (w : MeterWorld) → IsAt honest meter.old w → Obeyed honest (W.contents writer.old) (W.contents writer.new) w bytes.now Order.Feed result (Some meter.old) (Some meter.new) }
+    ensures lines { (honest : Bool) (w : MeterWorld) → IsAt honest meter.old w
+        → Obeyed honest (W.contents writer.old)
+        (W.contents writer.new) w bytes.now Order.Feed result (Some meter.old) (Some meter.new) }
     ensures calls { Called 0 (W.calls writer.old) (W.calls writer.new) result }
 {
     let mut rest = bytes;
@@ -62,7 +64,8 @@ fn tell<W: Sink>(line: &Line, writer: &mut W) -> io::Result<()>
 
 /// Writes the refusal or the number of the fault, if there is one.
 fn answer<W: Sink>(outcome: Result<(), AddFault>, writer: &mut W) -> io::Result<()>
-    ensures bytes { Writes (W.contents writer.old) (W.contents writer.new) (outcome_line outcome) result }
+    ensures bytes { Writes (W.contents writer.old) (W.contents writer.new)
+        (outcome_line outcome) result }
     ensures calls { Called 0 (W.calls writer.old) (W.calls writer.new) result }
 {
     match outcome {
@@ -80,7 +83,10 @@ fn reopen<W: Sink, P: Pages + Drop, A: Allocator + Copy>(
 ) -> Result<(), ReplayFault>
     requires { is_some meter.old ≡ true }
     ensures there { OnOk result (is_some meter.new ≡ true) }
-    ensures lines { (honest : Bool) (w : MeterWorld) (bytes : List ℕ) → IsLeft honest meter.old (Some w) → Followed honest (W.contents writer.old) (W.contents writer.new) w bytes Order.Open result meter.old meter.new }
+    ensures lines { (honest : Bool) (w : MeterWorld) (bytes : List ℕ)
+        → IsLeft honest meter.old (Some w)
+        → Followed honest (W.contents writer.old)
+        (W.contents writer.new) w bytes Order.Open result meter.old meter.new }
     ensures calls { Told (W.calls writer.old) (W.calls writer.new) result }
 {
     let Some(running) = meter.take() else {
@@ -107,7 +113,9 @@ fn obey<W: Sink, P: Pages, A: Allocator + Copy>(
     writer: &mut W,
 ) -> io::Result<()>
     requires { order ≢ Order.Open }
-    ensures lines { (honest : Bool) (w : MeterWorld) → IsAt honest meter.old w → Obeyed honest (W.contents writer.old) (W.contents writer.new) w bytes.now order result (Some meter.old) (Some meter.new) }
+    ensures lines { (honest : Bool) (w : MeterWorld) → IsAt honest meter.old w
+        → Obeyed honest (W.contents writer.old)
+        (W.contents writer.new) w bytes.now order result (Some meter.old) (Some meter.new) }
     ensures calls { Called 0 (W.calls writer.old) (W.calls writer.new) result }
 {
     match order {
@@ -134,7 +142,9 @@ fn follow<W: Sink, P: Pages + Drop, A: Allocator + Copy>(
 ) -> Result<(), ReplayFault>
     requires { is_some meter.old ≡ true }
     ensures there { OnOk result (is_some meter.new ≡ true) }
-    ensures lines { (honest : Bool) (w : MeterWorld) → IsLeft honest meter.old (Some w) → Followed honest (W.contents writer.old) (W.contents writer.new) w bytes.now order result meter.old meter.new }
+    ensures lines { (honest : Bool) (w : MeterWorld) → IsLeft honest meter.old (Some w)
+        → Followed honest (W.contents writer.old)
+        (W.contents writer.new) w bytes.now order result meter.old meter.new }
     ensures calls { Told (W.calls writer.old) (W.calls writer.new) result }
 {
     if order == Order::Open {
@@ -150,10 +160,10 @@ fn follow<W: Sink, P: Pages + Drop, A: Allocator + Copy>(
 /// known form or too long. The meter is there when it is called, and afterwards but for one case: a line `O` closes it and
 /// cannot recover it. Then that is written, the answer is `ReplayFault::Recovery`, and the meter is gone.
 ///
-/// It ends with `ReplayFault::Io` where the reader's or the writer's last call failed, and after 2^32 - 1 lines: then the
-/// meter has done what the lines before that ask for, and of a line whose answer could not be written, that line too, up
-/// to that answer. A call that a signal interrupts is made again, up to 2^64 - 1 times. A `Read` is a `Source`, and a
-/// `Write` a `Sink`; of a `BufRead` in `Buffered` whole lines are taken.
+/// It ends with `ReplayFault::Io` if the reader's or the writer's last call failed, and after 2^32 - 1 lines: then the meter has
+/// carried out the lines before that, and a line whose answer could not be written, up to that answer. A call that a signal
+/// interrupts is repeated, up to 2^64 - 1 times. A `Read` is a `Source`, and a `Write` is a `Sink`; a `BufRead` in `Buffered` is
+/// read in whole lines.
 ///
 /// Where the store runs and no call of the meter meets a fault of its device, and no checkpoint is wanting, no line is a fault
 /// 2 to 4 and no frame is answered with the device's result; a line `O` finds every accepted event, and ends the replay for
@@ -165,7 +175,11 @@ pub fn replay<R: Source, W: Sink, P: Pages + Drop, A: Allocator + Copy>(
     meter: &mut Option<Meter<P, A>>,
 ) -> Result<(), ReplayFault>
     requires { is_some meter.old ≡ true }
-    ensures { (honest : Bool) (w : MeterWorld) → IsLeft honest meter.old (Some w) → WroteReplay honest (R.calls reader.old) (R.calls reader.new) (W.calls writer.old) (W.calls writer.new) (W.contents writer.old) (W.contents writer.new) w (R.remaining reader.old) (R.remaining reader.new) result meter.old meter.new }
+    ensures { (honest : Bool) (w : MeterWorld) → IsLeft honest meter.old (Some w)
+        → WroteReplay honest (R.calls reader.old) (R.calls reader.new) (W.calls writer.old)
+        (W.calls writer.new) (W.contents writer.old)
+        (W.contents writer.new) w (R.remaining reader.old)
+        (R.remaining reader.new) result meter.old meter.new }
 {
     let mut line = ArrayVec::new();
     let mut bytes = Pairs::new();

@@ -13,17 +13,18 @@ use std::io::{BufRead, ErrorKind, Read, Write};
 
 /// What gives bytes, a piece of a line at each call.
 pub trait Source {
-    /// The bytes that it will give from here on, where they are known.
+    /// The bytes that it will return from here on, if they are known.
     ghost remaining: { Self → Option (List ℕ) } = { λ _. None };
 
-    /// What its calls came to, in order, where that is known. Of a `Read` it is not; what code does that takes any source
-    /// holds of those of which it is known too.
+    /// The outcomes of its calls, in order, if they are known. They are not known for a `Read`; clauses for code over any source
+    /// apply to those that do know them.
     ghost calls: { Self → Option Calls } = { λ _. None };
 
     /// Takes bytes that are at hand up to the next line feed, and it too, and adds those before it to the line; without a line
     /// feed, as many as the line has room for. An error of the kind `Interrupted` asks for the call to be made again.
     fn take_piece(&mut self, line: &mut ArrayVec<u8, MOST_BYTES>) -> io::Result<Piece>
-        ensures piece { IfOk result (TakesPiece (remaining self.old) (remaining self.new) line.old.items line.new.items) }
+        ensures piece { IfOk result (TakesPiece (remaining self.old)
+            (remaining self.new) line.old.items line.new.items) }
         ensures none { OnErr result (Keeps (remaining self.old) (remaining self.new)) }
         ensures kept { OnErr result (line.new.items ≡ line.old.items) }
         ensures call { Adds (calls self.old) (calls self.new) (fault_of result ∷ []) };
@@ -60,11 +61,11 @@ impl<R: BufRead + Drop> Source for Buffered<R> {
 
 /// What takes bytes.
 pub trait Sink {
-    /// The bytes that it holds, where they are known.
+    /// The bytes that it holds, if they are known.
     ghost contents: { Self → Option (List ℕ) } = { λ _. None };
 
-    /// What its calls came to, in order, where that is known. Of a `Write` it is not; what code does that takes any sink
-    /// holds of those of which it is known too.
+    /// The outcomes of its calls, in order, if they are known. They are not known for a `Write`; clauses for code over any sink
+    /// apply to those that do know them.
     ghost calls: { Self → Option Calls } = { λ _. None };
 
     /// Takes the first of these bytes, at least one, and says how many. There must be one. An error of the kind

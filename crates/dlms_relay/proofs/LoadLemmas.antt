@@ -1,4 +1,4 @@
--- Pages that are written one after another, and what is chosen of each.
+-- Pages that are written one after another, and the choice for each.
 use Rattle.std.proofs.Common.{◌≡◌, ◌≢◌, ◌<◌, ◌≤◌, ◌+◌, ◌∙◌, ⊎_elim, ap, sym, subst, arith, set, get_or, ℕ, Bool, true, false, ◌||◌, cond, nat_eq, length, List, [], ◌∷◌, ◌++◌, refl}
 use Rattle.std.proofs.lemmas.List.{get_or-set_same, get_or-set_other, length-set}
 use Rattle.std.proofs.lemmas.Bool.{cases_eq, eqb-true, eq-eqb}

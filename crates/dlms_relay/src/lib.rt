@@ -1,4 +1,4 @@
-//! Pages in memory, each of whose writes and syncs is queued for another program to do.
+//! Pages in memory, each of whose writes and syncs is queued for another program to carry out.
 #![tactic(auto)]
 
 mod loading;

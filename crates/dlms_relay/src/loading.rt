@@ -1,4 +1,4 @@
-//! The pages that stand in slots.
+//! The pages in slots.
 ghost use Rattle.std.specs.Prelude.{◌≡◌, ◌<◌, ◌≤◌, ◌+◌, ◌*◌, [], ℕ, IfOk, length};
 ghost use Rattle.dlms_pages.specs.Memory.{view_of};
 ghost use Rattle.dlms_pages.specs.Pick.{chosen};
@@ -11,7 +11,7 @@ ghost use Rattle.dlms_relay.specs.Loaded.{IsLoaded, slot_in};
 use dlms_pages::{Choice, MemoryPages, PAGE_BYTES, PageRead, Pages, Pick, SLOT_BYTES, opened};
 use std::alloc::{AllocError, Allocator};
 
-/// What the slot of a page says.
+/// The content of the slot of a page.
 fn page_of(octets: &[u8], index: u16) -> PageRead
     requires { 544 * index + 544 ≤ length octets.now }
     ensures { ReadsSlot index (slot_in octets.now index) result }
@@ -22,7 +22,7 @@ fn page_of(octets: &[u8], index: u16) -> PageRead
     opened(index, &slot)
 }
 
-/// What is written so that a stop leaves the page, and what is chosen then.
+/// The content to write so that a stop leaves the page, and the choice at that stop.
 fn written_as(page: PageRead) -> ([u8; PAGE_BYTES], Choice)
     ensures { (stable : PageReadOf) → chosen result.1 stable (Content result.0) ≡ page }
 {
@@ -32,7 +32,7 @@ fn written_as(page: PageRead) -> ([u8; PAGE_BYTES], Choice)
     }
 }
 
-/// So many pages as they stand in these octets, as after a sync.
+/// These pages as they are in these octets, as after a sync.
 pub(crate) fn loaded<A: Allocator + Copy>(
     alloc: A,
     octets: &[u8],

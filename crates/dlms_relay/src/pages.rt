@@ -16,11 +16,11 @@ use std::alloc::{AllocError, Allocator, Global};
 /// The end from which the writes and syncs of `RelayedPages` are taken, each once, in the order in which they were made.
 pub type Relay<A = Global> = Consumer<Call, A>;
 
-/// A device in memory whose writes and syncs are to be done once more by another program, on a device of its own. One that
-/// passes stands in the queue as well. Where the queue is full the call fails, and so does every later one.
+/// A device in memory whose writes and syncs another program repeats on its own device. Each successful one is also in the queue.
+/// If the queue is full the call fails, and so does every later one.
 ///
-/// It keeps the disk rules: what reads give is what was written here. What a stop leaves is what those rules say of the calls
-/// that the other program has done, where its device keeps them, and it does the calls in their order.
+/// It keeps the disk rules: reads return what was written here. A stop leaves what those rules say about the calls that the other
+/// program has carried out, if its device keeps them, and it carries out the calls in order.
 #[derive(Drop)]
 pub struct RelayedPages<A: Allocator + Copy = Global> {
     pages: MemoryPages<A>,
@@ -40,9 +40,9 @@ impl<A: Allocator + Copy> RelayedPages<A> {
         Ok((RelayedPages { pages, queue }, relay))
     }
 
-    /// The pages that stand in these octets, 544 for each: its 512, and the seal under which `FilePages` keep it. One whose seal
-    /// does not fit reads as damaged. Nothing else may be left of them by a stop, so whoever reads them from a file has written
-    /// them there again and synced it.
+    /// The pages in these octets, 544 for each: its 512, and the seal that `FilePages` uses. A page whose seal does not match reads
+    /// as damaged. A stop may leave nothing else of them, so a caller that reads them from a file must have written them there
+    /// again and synced it.
     pub fn over(
         alloc: A,
         octets: &[u8],
@@ -72,10 +72,11 @@ impl<A: Allocator + Copy> RelayedPages<A> {
         relay.slots_beside(&mut self.queue)
     }
 
-    // Lets this call and every later one fail where the queue is full.
+    // Makes this call and every later one fail if the queue is full.
     fn check_room(&mut self)
         ensures pages { self.new.pages ≡ record self.old.pages { plan = self.new.pages.plan } }
-        ensures queue { SameProducer self.old.queue self.new.queue × (sent self.new.queue ≡ sent self.old.queue) }
+        ensures queue { SameProducer self.old.queue self.new.queue
+            × (sent self.new.queue ≡ sent self.old.queue) }
         ensures full { known_free self.new.queue ≡ 0 → fails_at self.new.pages.plan 0 ≡ true }
     {
         if self.queue.is_full() {
@@ -113,7 +114,8 @@ impl<A: Allocator + Copy> Pages for RelayedPages<A> {
         ensures written { (view_of self.old.pages).honest ≡ true
             → Writes index bytes.now (view_of self.old.pages) (view_of self.new.pages) result }
         ensures ring { SameProducer self.old.queue self.new.queue }
-        ensures queued { OnOk result (sent self.new.queue ≡ sent self.old.queue ++ Call.Write index bytes.now ∷ []) }
+        ensures queued { OnOk result (sent self.new.queue ≡ sent self.old.queue
+            ++ Call.Write index bytes.now ∷ []) }
         ensures failed { OnErr result (sent self.new.queue ≡ sent self.old.queue) }
     {
         self.check_room();

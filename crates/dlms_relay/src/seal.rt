@@ -1,11 +1,11 @@
-//! What a page takes in a file.
+//! The size of a page in a file.
 ghost use Rattle.std.specs.Prelude.{◌≡◌};
 ghost use Rattle.dlms_pages.specs.Seal.{slot_of};
 
 use dlms_pages::{PAGE_BYTES, SLOT_BYTES};
 use sha2::{Digest, Sha256};
 
-/// The octets that stand in a file for a page: its content, and the SHA-256 of its index and of its content.
+/// The octets of a page in a file: its content, and the SHA-256 of its index and of its content.
 pub fn sealed(index: u16, content: &[u8; PAGE_BYTES]) -> [u8; SLOT_BYTES]
     ensures { result ≡ slot_of index content.now }
 {

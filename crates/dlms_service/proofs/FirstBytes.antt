@@ -11,7 +11,7 @@ spelled_by : (x y : ℕ) (bytes f r g q : List ℕ) → bytes ≡ f ++ r → f �
 spelled_by x y bytes f r g q e one e' two = e ∙ ap (λ (l : List ℕ). l ++ r) one ∙ ap (λ (l : List ℕ). x ∷ l) (e' ∙ ap (λ (l : List ℕ). l ++ q) two)
 
 module _ (a : Association) (bytes : List ℕ) where
-  -- what the bytes tell, where they begin so
+  -- the meaning of the bytes, if they begin so
   abbrev told : Bool
   told = permits_form a (get_or bytes 0 0) (get_or bytes 1 0)
 

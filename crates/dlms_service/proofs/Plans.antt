@@ -1,4 +1,4 @@
--- What a null tells of an attribute: why it can't be set, or that its type does not match.
+-- What a null shows of an attribute: why it can't be set, or that its type does not match.
 use Rattle.std.proofs.Common.{◌≡◌, refl, sym, ◌∙◌, ap, arith, Bool, true, false, if◌then◌else◌, Option, Some, None, ok_or, Result, Ok, Err, ◌==◌}
 use Rattle.std.specs.Prelude.{◌&&◌, not, is_ok}
 use Rattle.dlms_data.specs.Value.{Value, null}
@@ -61,7 +61,7 @@ writable_matched client d =
     (λ o. or_refused (numbered d.id o.attributes)))
     (λ a. of_right (may_write (rights_of client a)) a)
 
--- What the plan of a null tells: the first refusal before the value, or that the type does not match.
+-- What the plan of a null shows: the first refusal before the value, or that the type does not match.
 null_told : (client : Client) (w : Result Attribute AccessResult) (plan : Result Event AccessResult) → IsPlan (w >>= λ a. setting_of client a.content null) plan → plan ≡ (w >>= λ a. Err TypeUnmatched)
 null_told client (Ok a) plan h = of_content a.content plan h
   where

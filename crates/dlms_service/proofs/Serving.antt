@@ -110,7 +110,7 @@ pub there : {A B : Type 0} (f : A → B) (o : Option A) → is_some o ≡ is_som
 there f None = refl
 there f (Some x) = refl
 
--- a selector behind a reference is the selector
+-- a selector after a reference is the selector
 pub seen_through : {A : Type 0} (r : Option (Bor (Selector A))) (o : Option (Selector A)) → option_copied r ≡ o → option_map (λ s. selection_of s.now) r ≡ option_map selection_of o
 seen_through None o e = ap (option_map selection_of) e
 seen_through (Some v) o e = ap (option_map selection_of) e

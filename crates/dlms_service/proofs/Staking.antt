@@ -1,4 +1,4 @@
--- What is at stake with an answer.
+-- The stake of an answer.
 use Rattle.std.proofs.Common.{◌≡◌, inl, inr, refl, sym, ◌∙◌, ap, subst, ℕ, Bool, true, false, List, [], ◌∷◌, Option, Some, None, is_some, Result, Ok, Err, if◌then◌else◌, nat_le, length, ◌+◌}
 use Rattle.std.specs.Prelude.{◌==◌}
 use Rattle.std.proofs.lemmas.Bool.{cases_eq, ne_eqb}
@@ -87,7 +87,7 @@ IsSilent o = is_success o.answer ≡ false → o.accepted ≡ []
 silent : (o p : Outcome) → o ≡ p → p.accepted ≡ [] → IsSilent o
 silent o p is none unsaid = ap (λ (x : Outcome). x.accepted) is ∙ none
 
--- the forms of a result say success where it is 0
+-- the forms of a result report success if it is 0
 done_by : (s : SessionValue) (form : ℕ → ResponseForm) (e : Event) (cause : Option Refusal) (o : Outcome) → is_success (response_bytes (form 0)) ≡ true
     → o ≡ record { own = without_put s; answer = response_bytes (form (result_by cause)); accepted = accepted_by cause e } → IsSilent o
 done_by s form e None o told is unsaid = absurd (cc (sym told ∙ sym (ap (λ (x : Outcome). is_success x.answer) is) ∙ unsaid))

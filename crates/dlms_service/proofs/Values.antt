@@ -22,7 +22,7 @@ read_whole bytes w n spelled only =
     let e : spelled.0 ≡ w = ap value_at (only spelled.0 bytes [] spelled.1 (sym (append-nil bytes))) in
     rw (sym e) spelled.1
 
--- a value behind a reference is the value
+-- a value after a reference is the value
 pub behind_reference : {A : Type 0} (r : Option (Bor (Data A))) (o : Option (Data A)) → option_copied r ≡ o → option_map (λ v. value_of v.now) r ≡ option_map value_of o
 behind_reference None o e = ap (option_map value_of) e
 behind_reference (Some v) o e = ap (option_map value_of) e

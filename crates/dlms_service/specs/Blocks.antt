@@ -33,21 +33,28 @@ abbrev pub code_for : Service → ℕ → ℕ
 code_for Set code = code
 code_for Action code = if code == NO_LONG_SET then NO_LONG_ACTION else LONG_ACTION_ABORTED
 
--- the whole value came, for this target: the transfer ends, and what is asked for is done
+-- the whole value for this target has arrived: the transfer ends, and the request is carried out
 abbrev pub Completes : List Event → SessionValue → ℕ → ℕ → Target → List ℕ → Outcome → Type 0
 Completes E s invoke number t joined o =
-    (value : Option Value) × (plan : Result Event AccessResult) × IsValue joined value × IsPlanFor t.service s.client t value plan
+    (value : Option Value) × (plan : Result Event AccessResult) × IsValue joined value
+    × IsPlanFor t.service s.client t value plan
     × IsTyped plan × (o ≡ done E (without_put s) (ended_form t.service invoke number) plan)
 
 -- what a block makes of a transfer: it ends, goes on, or is whole
-abbrev pub Steps : List Event → SessionValue → ℕ → ℕ → Target → Coming → Result PutStep ℕ → Outcome → Type 0
-Steps E s invoke number t coming (Err code) o = o ≡ says (without_put s) (ended_form t.service invoke number (code_for t.service code))
-Steps E s invoke number t coming (Ok More) o = o ≡ says (record s { target = Some t; coming = coming }) (taken_form t.service invoke number)
+abbrev pub Steps : List Event → SessionValue → ℕ → ℕ → Target → Coming → Result PutStep ℕ → Outcome
+    → Type 0
+Steps E s invoke number t coming (Err code) o =
+    o ≡ says (without_put s) (ended_form t.service invoke number (code_for t.service code))
+Steps E s invoke number t coming (Ok More) o = o ≡ says (record s {
+  target = Some t;
+  coming = coming;
+}) (taken_form t.service invoke number)
 Steps E s invoke number t coming (Ok Whole) o = Completes E s invoke number t coming.joined o
 
 -- a first block, which drops what came before
 abbrev pub Begins : List Event → SessionValue → ℕ → Target → BlockForm → Outcome → Type 0
-Begins E s invoke t b o = Steps E s invoke b.number t (first_after b.last b.number b.raw) (first_answer b.last b.number b.raw) o
+Begins E s invoke t b o = Steps E s invoke b.number t (first_after b.last b.number b.raw)
+    (first_answer b.last b.number b.raw) o
 
 -- the two services are the same
 abbrev pub same_service : Service → Service → Bool
@@ -61,10 +68,13 @@ abbrev pub open_for : Service → Option Target → Option Target
 open_for service None = None
 open_for service (Some t) = if same_service service t.service then Some t else None
 
-abbrev pub ContinuesFor : List Event → SessionValue → Service → ℕ → BlockForm → Option Target → Outcome → Type 0
-ContinuesFor E s service invoke b None o = o ≡ says (without_put s) (ended_form service invoke b.number (code_for service NO_LONG_SET))
+abbrev pub ContinuesFor : List Event → SessionValue → Service → ℕ → BlockForm → Option Target
+    → Outcome → Type 0
+ContinuesFor E s service invoke b None o =
+    o ≡ says (without_put s) (ended_form service invoke b.number (code_for service NO_LONG_SET))
 ContinuesFor E s service invoke b (Some t) o =
-    Steps E s invoke b.number t (more_after s.coming.taken s.coming b.last b.number b.raw) (more_answer s.coming.taken s.coming.joined b.last b.number b.raw) o
+    Steps E s invoke b.number t (more_after s.coming.taken s.coming b.last b.number b.raw)
+    (more_answer s.coming.taken s.coming.joined b.last b.number b.raw) o
 
 -- a further block; without a transfer of its service it finds none, and ends one of the other service
 abbrev pub Continues : List Event → SessionValue → Service → ℕ → BlockForm → Outcome → Type 0
@@ -76,16 +86,19 @@ Continues E s service invoke b o = ContinuesFor E s service invoke b (open_for s
 abbrev pub Brings : Client → Target → Coming → Result PutStep ℕ → Type 0
 Brings client t coming (Err code) = ⊥
 Brings client t coming (Ok More) = ⊥
-Brings client t coming (Ok Whole) = IsTrue (reaches client t) × ((v : Value) × IsSpelling coming.joined v)
+Brings client t coming (Ok Whole) = IsTrue (reaches client t)
+    × ((v : Value) × IsSpelling coming.joined v)
 
 -- a first block that is the only one
 abbrev pub BringsAlone : Client → Target → BlockForm → Type 0
-BringsAlone client t b = Brings client t (first_after b.last b.number b.raw) (first_answer b.last b.number b.raw)
+BringsAlone client t b = Brings client t (first_after b.last b.number b.raw)
+    (first_answer b.last b.number b.raw)
 
 abbrev pub BringsFor : SessionValue → BlockForm → Option Target → Type 0
 BringsFor s b None = ⊥
 BringsFor s b (Some t) =
-    Brings s.client t (more_after s.coming.taken s.coming b.last b.number b.raw) (more_answer s.coming.taken s.coming.joined b.last b.number b.raw)
+    Brings s.client t (more_after s.coming.taken s.coming b.last b.number b.raw)
+    (more_answer s.coming.taken s.coming.joined b.last b.number b.raw)
 
 -- the last block of an open transfer of this service
 abbrev pub BringsLast : SessionValue → Service → BlockForm → Type 0

@@ -6,4 +6,5 @@ use Rattle.dlms_service.specs.Serves.{Choice, Serves}
 
 -- what an APDU leads to is fixed by the accepted events, what is kept of the client, and the choice
 abbrev pub HasOneOutcome : Type 0
-HasOneOutcome = (choice : Choice) (E : List Event) (s : SessionValue) (apdu : List ℕ) (o p : Outcome) → Serves choice E s apdu o → Serves choice E s apdu p → o ≡ p
+HasOneOutcome = (choice : Choice) (E : List Event) (s : SessionValue) (apdu : List ℕ)
+    (o p : Outcome) → Serves choice E s apdu o → Serves choice E s apdu p → o ≡ p

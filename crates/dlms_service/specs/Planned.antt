@@ -21,21 +21,22 @@ use Rattle.dlms_service.specs.declared.target.Service.{Service}
 use Rattle.dlms_service.specs.declared.target.Service.TheVariants.{Set, Action}
 use Rattle.dlms_service.specs.Session.{SessionValue, Outcome}
 
--- the bytes are one value and nothing else, or there is none whose spelling they are
+-- the bytes are one value and nothing else, or no value has them as a spelling
 abbrev pub IsValue : List ℕ → Option Value → Type 0
 IsValue bytes (Some v) = IsSpelling bytes v
 IsValue bytes None = (v : Value) → ¬ (IsSpelling bytes v)
 
--- what a value is to set; where the bytes were no value, the type does not match
+-- the setting for a value; if the bytes were no value, the type does not match
 abbrev pub setting_from : Client → Content → Option Value → Result Setting AccessResult
 setting_from client content None = Err TypeUnmatched
 setting_from client content (Some v) = setting_of client content v
 
 -- what SET asks for: no attribute that can be set takes a selector
 abbrev pub set_asked : Client → Descriptor → Bool → Option Value → Result Setting AccessResult
-set_asked client d selected value = writable client d >>= λ a. (if selected then Err ScopeOfAccessViolated else setting_from client a.content value)
+set_asked client d selected value = writable client d >>= λ a. (if selected
+    then Err ScopeOfAccessViolated else setting_from client a.content value)
 
--- what ACTION asks for whose parameter came in blocks
+-- the call for an ACTION whose parameter came in blocks
 abbrev pub call_asked : Client → Descriptor → Option Value → Result Event AccessResult
 call_asked client d None = callable client d >>= λ method. Err TypeUnmatched
 call_asked client d (Some v) = callable client d >>= λ method. event_of method (Some v)
@@ -76,12 +77,19 @@ result_of E (Ok e) = result_by (refusal_after E e)
 result_of E (Err r) = number_of r
 
 -- the outcome of a plan, in the answer of this form
-abbrev pub done : List Event → SessionValue → (ℕ → ResponseForm) → Result Event AccessResult → Outcome
-done E s form plan = record { own = s; answer = response_bytes (form (result_of E plan)); accepted = accepted E plan }
+abbrev pub done : List Event → SessionValue → (ℕ → ResponseForm) → Result Event AccessResult
+    → Outcome
+done E s form plan = record {
+  own = s;
+  answer = response_bytes (form (result_of E plan));
+  accepted = accepted E plan;
+}
 
 -- a plan of this kind is done
-abbrev pub IsDone : List Event → SessionValue → (ℕ → ResponseForm) → (Result Event AccessResult → Type 0) → Outcome → Type 0
-IsDone E s form IsPlanned o = (plan : Result Event AccessResult) × IsPlanned plan × IsTyped plan × (o ≡ done E s form plan)
+abbrev pub IsDone : List Event → SessionValue → (ℕ → ResponseForm)
+    → (Result Event AccessResult → Type 0) → Outcome → Type 0
+IsDone E s form IsPlanned o = (plan : Result Event AccessResult) × IsPlanned plan × IsTyped plan
+    × (o ≡ done E s form plan)
 
 -- the event, if there is one, may come next in this state
 abbrev pub Passes : StateValue → Option Event → Type 0

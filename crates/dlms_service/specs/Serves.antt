@@ -1,5 +1,5 @@
--- What an APDU of a client leads to, after the accepted events (IEC 62056-5-3: COSEM-OPEN, COSEM-RELEASE, GET, SET, ACTION,
--- Exception-Response; which result and which exception answer which case is the meter's own).
+-- The outcome of a client's APDU after the accepted events (IEC 62056-5-3: COSEM-OPEN, COSEM-RELEASE, GET, SET, ACTION,
+-- Exception-Response; which result and which exception answer which case is the meter's own choice).
 use Rattle.std.specs.Prelude.{◌≡◌, ◌⊎◌, ℕ, ◌==◌, ◌&&◌, if◌then◌else◌, Bool, true, false, List, [], ◌∷◌, Option, Some, None, IsTrue, IsOk, is_some, Result, Ok, Err}
 use Rattle.dlms_acse.specs.Reading.{aarq_at}
 use Rattle.dlms_acse.specs.Verdict.{Request, verdict}
@@ -34,7 +34,11 @@ opened_by (Accepted conformance size) = Some (record { conformance = conformance
 opened_by (Refused diagnostic initiate) = None
 
 abbrev pub judged : SessionValue → Verdict → Outcome
-judged s v = record { own = record s { opened = opened_by v }; answer = aare_bytes v; accepted = [] }
+judged s v = record {
+  own = record s { opened = opened_by v };
+  answer = aare_bytes v;
+  accepted = [];
+}
 
 -- An association request first drops what there was of this client; one that can't be read is of an unknown service.
 abbrev pub associated : SessionValue → List ℕ → Result Request AcseFault → Outcome
@@ -76,16 +80,39 @@ abbrev pub Asks : List Event → SessionValue → Association → RequestForm �
 Asks E s a (get_normal invoke d selector) o = Gets E s a invoke d selector o
 Asks E s a (get_next invoke number) o = o ≡ goes_on s invoke number
 Asks E s a (set_normal invoke d selector v) o =
-    (plan : Result Event AccessResult) × IsPlanFor Set s.client (record { service = Set; descriptor = d; selected = is_some selector }) (Some v) plan
+    (plan : Result Event AccessResult)
+    × IsPlanFor Set s.client (record {
+      service = Set;
+      descriptor = d;
+      selected = is_some selector;
+    }) (Some v) plan
     × IsTyped plan × (o ≡ done E (without_put s) (set_result invoke) plan)
 Asks E s a (set_first invoke d selector last number raw) o =
-    Begins E s invoke (record { service = Set; descriptor = d; selected = is_some selector }) (record { last = last; number = number; raw = raw }) o
-Asks E s a (set_block invoke last number raw) o = Continues E s Set invoke (record { last = last; number = number; raw = raw }) o
+    Begins E s invoke (record {
+      service = Set;
+      descriptor = d;
+      selected = is_some selector;
+    }) (record {
+      last = last;
+      number = number;
+      raw = raw;
+    }) o
+Asks E s a (set_block invoke last number raw) o = Continues E s Set invoke (record {
+  last = last;
+  number = number;
+  raw = raw;
+}) o
 Asks E s a (action_normal invoke d parameter) o =
-    (plan : Result Event AccessResult) × (plan ≡ event_asked s.client d parameter) × IsTyped plan × (o ≡ done E (without_put s) (action_result invoke) plan)
+    (plan : Result Event AccessResult) × (plan ≡ event_asked s.client d parameter) × IsTyped plan
+    × (o ≡ done E (without_put s) (action_result invoke) plan)
 Asks E s a (action_first invoke d last number raw) o =
-    Begins E s invoke (record { service = Action; descriptor = d; selected = false }) (record { last = last; number = number; raw = raw }) o
-Asks E s a (action_block invoke last number raw) o = Continues E s Action invoke (record { last = last; number = number; raw = raw }) o
+    Begins E s invoke (record {
+      service = Action;
+      descriptor = d;
+      selected = false;
+    }) (record { last = last; number = number; raw = raw }) o
+Asks E s a (action_block invoke last number raw) o =
+    Continues E s Action invoke (record { last = last; number = number; raw = raw }) o
 
 -- What no list of events determines: whether memory is found, for the values of a request and for its answer.
 pub data Choice : Type 0 where
@@ -96,11 +123,27 @@ pub data Choice : Type 0 where
 -- the blocks of a request bring a value that is looked at
 abbrev pub BringsValue : SessionValue → RequestForm → Type 0
 BringsValue s (set_first invoke d selector last number raw) =
-    BringsAlone s.client (record { service = Set; descriptor = d; selected = is_some selector }) (record { last = last; number = number; raw = raw })
-BringsValue s (set_block invoke last number raw) = BringsLast s Set (record { last = last; number = number; raw = raw })
+    BringsAlone s.client (record {
+      service = Set;
+      descriptor = d;
+      selected = is_some selector;
+    }) (record { last = last; number = number; raw = raw })
+BringsValue s (set_block invoke last number raw) = BringsLast s Set (record {
+  last = last;
+  number = number;
+  raw = raw;
+})
 BringsValue s (action_first invoke d last number raw) =
-    BringsAlone s.client (record { service = Action; descriptor = d; selected = false }) (record { last = last; number = number; raw = raw })
-BringsValue s (action_block invoke last number raw) = BringsLast s Action (record { last = last; number = number; raw = raw })
+    BringsAlone s.client (record {
+      service = Action;
+      descriptor = d;
+      selected = false;
+    }) (record { last = last; number = number; raw = raw })
+BringsValue s (action_block invoke last number raw) = BringsLast s Action (record {
+  last = last;
+  number = number;
+  raw = raw;
+})
 BringsValue s _ = ⊥
 
 -- Want of memory for a value that the request holds, or that its blocks brought.
@@ -110,25 +153,31 @@ LacksToRead s form o = (HoldsValue form ⊎ BringsValue s form) × (o ≡ not_po
 -- Want of memory for the answer: in place of what GET would show, and of the next block.
 abbrev pub LacksToAnswer : List Event → SessionValue → Association → RequestForm → Outcome → Type 0
 LacksToAnswer E s a (get_normal invoke d selector) o =
-    IsGranted (columns_after E) (asked s.client a d selector) × (o ≡ says (without_get s) (get_result invoke (number_of TemporaryFailure)))
-LacksToAnswer E s a (get_next invoke number) o = IsOk (next_answer s.getting number) × (o ≡ not_possible s)
+    IsGranted (columns_after E) (asked s.client a d selector)
+    × (o ≡ says (without_get s) (get_result invoke (number_of TemporaryFailure)))
+LacksToAnswer E s a (get_next invoke number) o = IsOk (next_answer s.getting number)
+    × (o ≡ not_possible s)
 LacksToAnswer E s a _ o = ⊥
 
-abbrev pub Permitted : List Event → SessionValue → Association → RequestForm → Bool → Outcome → Type 0
+abbrev pub Permitted : List Event → SessionValue → Association → RequestForm → Bool → Outcome
+    → Type 0
 Permitted E s a form true o = Asks E s a form o
 Permitted E s a form false o = o ≡ not_supported s
 
--- Want of memory stands behind every refusal that can be told without it: of a service that is not permitted, too.
-abbrev pub Requested : Choice → List Event → SessionValue → Association → RequestForm → Outcome → Type 0
+-- Out of memory comes after every refusal that needs no memory, also after that of a service that is not permitted.
+abbrev pub Requested : Choice → List Event → SessionValue → Association → RequestForm → Outcome
+    → Type 0
 Requested FindsMemory E s a form o = Permitted E s a form (permits a form) o
 Requested LacksMemoryToRead E s a form o = IsTrue (permits a form) × LacksToRead s form o
 Requested LacksMemoryToAnswer E s a form o = IsTrue (permits a form) × LacksToAnswer E s a form o
 
-abbrev pub Read : Choice → List Event → SessionValue → Association → Result RequestForm Refusal → Outcome → Type 0
+abbrev pub Read : Choice → List Event → SessionValue → Association → Result RequestForm Refusal
+    → Outcome → Type 0
 Read choice E s a (Ok form) o = Requested choice E s a form o
 Read choice E s a (Err refusal) o = o ≡ unknown_service s
 
-abbrev pub Within : Choice → List Event → SessionValue → List ℕ → Option Association → Outcome → Type 0
+abbrev pub Within : Choice → List Event → SessionValue → List ℕ → Option Association → Outcome
+    → Type 0
 Within choice E s apdu None o = o ≡ not_associated s
 Within choice E s apdu (Some a) o = Read choice E s a (request_at apdu) o
 

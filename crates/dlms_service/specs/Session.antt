@@ -1,6 +1,5 @@
--- What the meter keeps of one client above the link: its association, and its transfers of long values (IEC 62056-5-3:
--- the association is that of COSEM-OPEN and COSEM-RELEASE, the transfers are those of GET, SET and ACTION with
--- datablocks).
+-- The state that the meter keeps of one client above the link: its association, and its transfers of long values (IEC 62056-5-3:
+-- the association is that of COSEM-OPEN and COSEM-RELEASE, the transfers are those of GET, SET and ACTION with datablocks).
 use Rattle.std.specs.Prelude.{ℕ, ◌≤◌, ◌==◌, not, Bool, bit_and, List, [], ◌∷◌, Option, Some, None}
 use Rattle.dlms_blocks.specs.Coming.{Coming, nothing}
 use Rattle.dlms_blocks.specs.Going.{Going}
@@ -24,7 +23,13 @@ pub record SessionValue : Type 0 where
 
 -- no association, and no transfer
 abbrev pub fresh : Client → SessionValue
-fresh client = record { client = client; opened = None; getting = None; target = None; coming = nothing }
+fresh client = record {
+  client = client;
+  opened = None;
+  getting = None;
+  target = None;
+  coming = nothing;
+}
 
 -- without the value that goes out
 abbrev pub without_get : SessionValue → SessionValue
@@ -65,7 +70,7 @@ abbrev pub HasSize : Option Association → Type 0
 HasSize None = Unit {0}
 HasSize (Some a) = (LEAST_SIZE ≤ a.size) × (a.size ≤ MOST_SIZE)
 
--- What an APDU leads to: what is kept of the client, the APDU that answers it, and the event that is accepted, if any.
+-- The outcome of an APDU: the state kept of the client, the answering APDU, and the accepted event, if any.
 pub record Outcome : Type 0 where
   pub own : SessionValue
   pub answer : List ℕ
@@ -83,7 +88,7 @@ outcome_of own answer event = record { own = own; answer = answer; accepted = li
 abbrev pub says : SessionValue → ResponseForm → Outcome
 says s form = record { own = s; answer = response_bytes form; accepted = [] }
 
--- the service is not possible where no association is open
+-- the service is not possible without an association
 abbrev pub not_associated : SessionValue → Outcome
 not_associated s = says s (exception 1 1)
 

@@ -29,10 +29,12 @@ abbrev pub no_selection : Selection
 no_selection = record { number = 0; value = null }
 
 abbrev pub seen : Association → Option apdu.Selection → Option Selection
-seen a selector = if has a selective_access then option_map selection selector else option_map (λ s. no_selection) selector
+seen a selector = if has a selective_access then option_map selection selector
+    else option_map (λ s. no_selection) selector
 
 -- what a GET asks for, or the first refusal that fits
-abbrev pub asked : Client → Association → Descriptor → Option apdu.Selection → Result Wanted AccessResult
+abbrev pub asked : Client → Association → Descriptor → Option apdu.Selection
+    → Result Wanted AccessResult
 asked client a d selector = wanted client d (seen a selector)
 
 -- a block in an answer, or the result that ends the transfer
@@ -53,7 +55,7 @@ sent s a invoke v =
     else if has a blocks_with_get then in_blocks s a invoke (canonical v)
     else says s (get_result invoke (number_of OtherReason))
 
--- What is shown has a spelling, no longer than that of the full buffer, and is sent.
+-- The value has a spelling, no longer than that of the full buffer, and is sent.
 abbrev pub Sends : SessionValue → Association → ℕ → Value → Outcome → Type 0
 Sends s a invoke v o = IsSendable v × (o ≡ sent s a invoke v)
 
@@ -62,12 +64,14 @@ Gives s a invoke (Err r) o = o ≡ says s (get_result invoke (number_of r))
 Gives s a invoke (Ok v) o = Sends s a invoke v o
 
 -- GET of an attribute after these events. It drops the value that goes out, whatever it is answered.
-abbrev pub Gets : List Event → SessionValue → Association → ℕ → Descriptor → Option apdu.Selection → Outcome → Type 0
+abbrev pub Gets : List Event → SessionValue → Association → ℕ → Descriptor → Option apdu.Selection
+    → Outcome → Type 0
 Gets E s a invoke d selector o =
-    (result : Result Value AccessResult) × IsShown (state_of E) s.client d (asked s.client a d selector) result
+    (result : Result Value AccessResult)
+    × IsShown (state_of E) s.client d (asked s.client a d selector) result
     × Gives (without_get s) a invoke result o
 
--- GET of the next block; where no value goes out, the result for a get that is not in progress
+-- GET of the next block; if no value is going out, the result for a get that is not in progress
 abbrev pub next_answer : Option Going → ℕ → Result BlockValue ℕ
 next_answer None number = Err NO_LONG_GET
 next_answer (Some g) number = answer g number
@@ -77,4 +81,5 @@ next_after None number = None
 next_after (Some g) number = Some (after g number)
 
 abbrev pub goes_on : SessionValue → ℕ → ℕ → Outcome
-goes_on s invoke number = says (record s { getting = next_after s.getting number }) (block_form invoke number (next_answer s.getting number))
+goes_on s invoke number = says (record s { getting = next_after s.getting number })
+    (block_form invoke number (next_answer s.getting number))

@@ -13,7 +13,7 @@ use dlms_blocks::NO_LONG_SET;
 /// The result of ACTION that ends for any cause but the next (long-action-aborted).
 pub const LONG_ACTION_ABORTED: u8 = 15;
 
-/// The result of a further block where no long action is in progress (no-long-action-in-progress).
+/// The result of a further block if no long action is in progress (no-long-action-in-progress).
 pub const NO_LONG_ACTION: u8 = 16;
 
 /// No block, but the result that ends the transfer.

@@ -17,10 +17,13 @@ pub fn has_one_outcome()
 /// Where 42 pulses came on channel 0, management sets the columns to register 0 alone, captures a row, and reads the buffer: a row
 /// of one number, which is 42.
 pub fn a_register_may_be_the_only_column()
-    ensures set { Serves FindsMemory (pulses ∷ []) session set_bytes (answered (0xC5 ∷ 0x01 ∷ 0xC1 ∷ 0x00 ∷ []) (one_column ∷ [])) }
-    ensures capture { Serves FindsMemory (pulses ∷ one_column ∷ []) session capture_bytes (answered (0xC7 ∷ 0x01 ∷ 0xC1 ∷ 0x00 ∷ 0x00 ∷ []) (Event.Capture ∷ [])) }
+    ensures set { Serves FindsMemory (pulses ∷ []) session set_bytes
+        (answered (0xC5 ∷ 0x01 ∷ 0xC1 ∷ 0x00 ∷ []) (one_column ∷ [])) }
+    ensures capture { Serves FindsMemory (pulses ∷ one_column ∷ []) session capture_bytes
+        (answered (0xC7 ∷ 0x01 ∷ 0xC1 ∷ 0x00 ∷ 0x00 ∷ []) (Event.Capture ∷ [])) }
     ensures read { Serves FindsMemory (pulses ∷ one_column ∷ Event.Capture ∷ []) session get_bytes
-        (answered (0xC4 ∷ 0x01 ∷ 0xC1 ∷ 0x00 ∷ 0x01 ∷ 0x01 ∷ 0x02 ∷ 0x01 ∷ 0x06 ∷ 0x00 ∷ 0x00 ∷ 0x00 ∷ 0x2A ∷ []) []) }
+        (answered (0xC4 ∷ 0x01 ∷ 0xC1 ∷ 0x00 ∷ 0x01 ∷ 0x01 ∷ 0x02 ∷ 0x01 ∷ 0x06 ∷ 0x00 ∷ 0x00 ∷ 0x00
+        ∷ 0x2A ∷ []) []) }
 {}
 
 /// The numbers that clauses and definitions cite by name: most bytes of a value in blocks, and action results.

@@ -29,7 +29,8 @@ fn permits_form(association: Association, service: u8, form: u8) -> bool
 /// Whether both ends have what a request is of, whose bytes these are. No memory is needed to tell.
 #[tactic(auto, using(crate::proofs::FirstBytes::permitted))]
 pub fn permits(association: Association, request: &[u8]) -> bool
-    ensures { (form : RequestForm) → request_at request.now ≡ Ok form → result ≡ permits association form }
+    ensures { (form : RequestForm) → request_at request.now ≡ Ok form
+        → result ≡ permits association form }
 {
     let service = byte_at(request, 0, 0);
     let form = byte_at(request, 1, 0);

@@ -20,7 +20,7 @@ use std::alloc::{AllocError, Allocator};
 /// The result in an answer of success.
 const SUCCESS: u8 = 0;
 
-/// The value that bytes are, if they are one and nothing else. Want of memory stands only where they are one.
+/// The value that the bytes spell, if they spell one and nothing follows it. Out of memory is reported only if they do.
 pub fn value_in<A: Allocator + Copy>(alloc: A, bytes: &[u8]) -> Result<Option<Data<A>>, AllocError>
     ensures found { IfOk result (λ value. IsValue bytes.now (option_map value_of value)) }
     ensures lacks { OnErr result ((v : Value) × IsSpelling bytes.now v) }
@@ -34,15 +34,16 @@ pub fn value_in<A: Allocator + Copy>(alloc: A, bytes: &[u8]) -> Result<Option<Da
     }
 }
 
-/// The event that SET of a value asks for. A selector is refused where the attribute could be set, and so is what is no
-/// value: a null stands for either, since nothing is set to null.
+/// The event for a SET of a value. A selector is refused if the attribute could otherwise be set, and so is an invalid value: a
+/// null represents either, because nothing is set to null.
 pub fn set_event<A: Allocator + Copy>(
     client: Client,
     descriptor: Descriptor,
     selected: bool,
     value: Option<&Data<A>>,
 ) -> Result<Event, AccessResult>
-    ensures { IsPlan (set_asked client descriptor selected (option_map (λ v. value_of v.now) value.entry)) result }
+    ensures { IsPlan (set_asked client descriptor selected
+        (option_map (λ v. value_of v.now) value.entry)) result }
 {
     match value {
         Some(value) if !selected => plan_set(client, descriptor, value),
@@ -51,7 +52,7 @@ pub fn set_event<A: Allocator + Copy>(
     }
 }
 
-/// Why nothing is set: what comes before the value, then the selector or the type. A null stands for the value, since
+/// Why nothing is set: first the causes before the value, then the selector or the type. A null represents the value, because
 /// nothing is set to null.
 #[tactic(auto, using(crate::proofs::Plans::unset))]
 fn unset(client: Client, descriptor: Descriptor, selected: bool) -> AccessResult
@@ -73,7 +74,8 @@ pub fn call_event<A: Allocator + Copy>(
     descriptor: Descriptor,
     parameter: Option<&Data<A>>,
 ) -> Result<Event, AccessResult>
-    ensures { result ≡ call_asked client descriptor (option_map (λ v. value_of v.now) parameter.entry) }
+    ensures { result ≡ call_asked client descriptor
+        (option_map (λ v. value_of v.now) parameter.entry) }
 {
     match parameter {
         Some(value) => plan_action(client, descriptor, Some(value)),
@@ -81,7 +83,7 @@ pub fn call_event<A: Allocator + Copy>(
     }
 }
 
-/// Why nothing is called, where the bytes were no value.
+/// Why nothing is called if the bytes were no value.
 #[tactic(auto, using(crate::proofs::Plans::call_unmatched))]
 fn uncalled(client: Client, descriptor: Descriptor) -> AccessResult
     ensures { call_asked client descriptor None ≡ Err result }
@@ -99,7 +101,8 @@ pub fn plan<A: Allocator + Copy>(
     target: Target,
     value: Option<&Data<A>>,
 ) -> Result<Event, AccessResult>
-    ensures { IsPlanFor target.service client target (option_map (λ v. value_of v.now) value.entry) result }
+    ensures { IsPlanFor target.service client target
+        (option_map (λ v. value_of v.now) value.entry) result }
 {
     match target.service {
         Service::Set => set_event(client, target.descriptor, target.selected, value),
@@ -119,7 +122,7 @@ pub fn reaches(client: Client, target: Target) -> bool
     )
 }
 
-/// What comes of a plan: the result, 0 or why it is refused, and the event that is to be accepted.
+/// The outcome of a plan: the result (0, or why it is refused) and the event to be accepted.
 pub fn decide<A: Allocator + Copy>(
     state: &State<A>,
     plan: Result<Event, AccessResult>,

@@ -44,8 +44,14 @@ pub fn shown<A: Allocator + Copy>(
     descriptor: Descriptor,
     selector: Option<&Selector<A>>,
 ) -> Result<Vec<u8, A>, AccessResult>
-    ensures encoding { (E : List Event) → IsStateOf E state.now → IfOk result (λ out. Encodes (state_of E) client descriptor (asked client association descriptor (option_map (λ s. selection_of s.now) selector.entry)) out.items) }
-    ensures refusal { (E : List Event) → IsStateOf E state.now → IfErr result (IsRefused (state_of E) client descriptor (asked client association descriptor (option_map (λ s. selection_of s.now) selector.entry))) }
+    ensures encoding { (E : List Event) → IsStateOf E state.now
+        → IfOk result (λ out. Encodes (state_of E) client descriptor
+        (asked client association descriptor
+        (option_map (λ s. selection_of s.now) selector.entry)) out.items) }
+    ensures refusal { (E : List Event) → IsStateOf E state.now
+        → IfErr result (IsRefused (state_of E) client descriptor
+        (asked client association descriptor
+        (option_map (λ s. selection_of s.now) selector.entry))) }
     ensures short { IfOk result (λ out. length out.items ≤ most_bytes) }
 {
     if association.has(Conformance::SELECTIVE_ACCESS) || selector.is_none() {
@@ -63,8 +69,13 @@ fn seen<A: Allocator + Copy>(
     descriptor: Descriptor,
     selector: Option<&Selector<A>>,
 ) -> Result<Vec<u8, A>, AccessResult>
-    ensures encoding { (E : List Event) → IsStateOf E state.now → IfOk result (λ out. Encodes (state_of E) client descriptor (wanted client descriptor (option_map (λ s. classes.selection_of s.now) selector.entry)) out.items) }
-    ensures refusal { (E : List Event) → IsStateOf E state.now → IfErr result (IsRefused (state_of E) client descriptor (wanted client descriptor (option_map (λ s. classes.selection_of s.now) selector.entry))) }
+    ensures encoding { (E : List Event) → IsStateOf E state.now
+        → IfOk result (λ out. Encodes (state_of E) client descriptor
+        (wanted client descriptor (option_map
+        (λ s. classes.selection_of s.now) selector.entry)) out.items) }
+    ensures refusal { (E : List Event) → IsStateOf E state.now
+        → IfErr result (IsRefused (state_of E) client descriptor
+        (wanted client descriptor (option_map (λ s. classes.selection_of s.now) selector.entry))) }
     ensures short { IfOk result (λ out. length out.items ≤ most_bytes) }
 {
     get_encoded(alloc, state, client, descriptor, selector)
@@ -77,8 +88,12 @@ fn barred<A: Allocator + Copy>(
     client: Client,
     descriptor: Descriptor,
 ) -> Result<Vec<u8, A>, AccessResult>
-    ensures encoding { (E : List Event) → IsStateOf E state.now → IfOk result (λ out. Encodes (state_of E) client descriptor (wanted client descriptor (Some no_selection)) out.items) }
-    ensures refusal { (E : List Event) → IsStateOf E state.now → IfErr result (IsRefused (state_of E) client descriptor (wanted client descriptor (Some no_selection))) }
+    ensures encoding { (E : List Event) → IsStateOf E state.now
+        → IfOk result (λ out. Encodes (state_of E) client descriptor
+        (wanted client descriptor (Some no_selection)) out.items) }
+    ensures refusal { (E : List Event) → IsStateOf E state.now
+        → IfErr result (IsRefused (state_of E) client descriptor
+        (wanted client descriptor (Some no_selection))) }
     ensures short { IfOk result (λ out. length out.items ≤ most_bytes) }
 {
     let unknown = Selector {

@@ -1,4 +1,4 @@
-//! What a value that comes in blocks is for.
+//! The purpose of a value that comes in blocks.
 
 ghost use Rattle.std.specs.Prelude.{◌≡◌};
 ghost use Rattle.dlms_service.specs.Blocks.{same_service};
@@ -14,7 +14,7 @@ pub enum Service {
     Action,
 }
 
-/// What a value is for: the attribute that it sets, or the method whose parameter it is.
+/// The purpose of a value: the attribute that it sets, or the method whose parameter it is.
 #[derive(Clone, Copy, Debug, PartialEq, Eq)]
 pub struct Target {
     pub service: Service,

@@ -41,7 +41,8 @@ pub fn short(answer: &mut Answer, response: &Response<'_>)
 /// The value of an attribute, whose encoding this is.
 pub fn whole(answer: &mut Answer, invoke: u8, encoding: &[u8])
     requires { length encoding.now ≤ 1020 }
-    ensures { (v : Value) → encoding.now ≡ canonical v → answer.new.items ≡ response_bytes (get_data invoke v) }
+    ensures { (v : Value) → encoding.now ≡ canonical v
+        → answer.new.items ≡ response_bytes (get_data invoke v) }
 {
     write_answer(answer, &[0xc4, 0x01, invoke, 0x00]);
     let _fits = answer.try_extend_from_slice(encoding);
@@ -54,7 +55,8 @@ pub fn block<A: Allocator + Copy>(
     invoke: u8,
     block: &Block,
 ) -> Result<(), AllocError>
-    ensures block { OnOk result (answer.new.items ≡ response_bytes (block_form invoke block.now.number (Ok (view_of block.now)))) }
+    ensures block { OnOk result (answer.new.items ≡ response_bytes
+        (block_form invoke block.now.number (Ok (view_of block.now)))) }
     ensures none { OnErr result (answer.new ≡ answer.old) }
 {
     let response: Response<'_, A> = Response::GetBlock {
@@ -72,7 +74,7 @@ pub fn block<A: Allocator + Copy>(
     }
 }
 
-/// No service is possible where no association is open.
+/// No service is possible without an association.
 pub fn not_associated(answer: &mut Answer)
     ensures { answer.new.items ≡ response_bytes (exception 1 1) }
 {

@@ -4,7 +4,7 @@ use std::alloc::AllocError;
 use std::io;
 use thiserror::Error;
 
-/// Why a file was not told. What stands in it is never a fault.
+/// Why a file was not shown. Its contents are never a fault.
 #[derive(Clone, Copy, Debug, Error)]
 pub enum ShowFault {
     /// The file could not be opened or read, for which the system has this error.

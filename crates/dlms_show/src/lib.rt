@@ -1,5 +1,5 @@
-//! What a store's file holds, told: its pages, the slot that counts, the journal's events, what a recovery would do, the state, and
-//! the rows of the load profile.
+//! Shows the contents of a store's file: its pages, the slot that counts, the journal's events, what a recovery would do, the
+//! state, and the rows of the load profile.
 #![tactic(auto)]
 
 mod fault;

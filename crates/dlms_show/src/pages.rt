@@ -7,7 +7,7 @@ use std::alloc::Allocator;
 use std::io;
 use std::io::Write;
 
-/// Writes a line of what a page is and whether it serves: its number, its place, what its head says, and the verdict.
+/// Writes a line about a page: its number, its place, the content of its head, and the verdict.
 fn write_page<A: Allocator + Copy, W: Write>(
     image: &Image<A>,
     judge: &Judge<A>,
@@ -36,7 +36,7 @@ fn write_page<A: Allocator + Copy, W: Write>(
     )
 }
 
-/// The part of a file that a page is in, where that has many pages.
+/// The part of a file that a page is in, if that part has many pages.
 fn part_of(page: u16) -> Option<&'static str> {
     match place_of(page) {
         Place::Journal(_) => Some("journal"),
@@ -55,7 +55,7 @@ fn empty_until<A: Allocator + Copy>(judge: &Judge<A>, page: u16, part: &str) -> 
     PAGES
 }
 
-/// Writes a line for each page, and one for several that are empty, one behind the other in one part of the file.
+/// Writes a line for each page, and one for several consecutive empty ones in one part of the file.
 pub fn write_pages<A: Allocator + Copy, W: Write>(
     image: &Image<A>,
     judge: &Judge<A>,

@@ -69,7 +69,7 @@ fn place_of(columns: &[u8], id: u8) -> Option<usize> {
     None
 }
 
-/// What is plotted of these columns: the first register that stands among them, with its place and the clock's.
+/// The plotted columns: the first register among them, with its place and the clock's.
 pub fn plotted(columns: &[u8]) -> Option<(Quantity, usize, usize)> {
     let clock = place_of(columns, 0)?;
     for channel in 0..3u8 {

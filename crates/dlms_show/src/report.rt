@@ -1,4 +1,4 @@
-//! All that is told of a file.
+//! The whole report on a file.
 
 use crate::fault::ShowFault;
 use crate::file::MOST_BYTES;
@@ -20,7 +20,7 @@ use std::io::Write;
 pub enum Curve {
     /// It is not.
     None,
-    /// In the terminal, behind all else.
+    /// In the terminal, after everything else.
     Text,
 }
 
@@ -40,11 +40,11 @@ fn write_length<W: Write>(length: u64, output: &mut W) -> io::Result<()> {
     }
     writeln!(
         output,
-        "file: {length} bytes, of which {behind} behind the pages are not looked at"
+        "file: {length} bytes, of which {behind} after the pages are ignored"
     )
 }
 
-/// Writes which slot counts, and what the other gate is.
+/// Writes which slot counts, and the state of the other gate.
 fn write_slot<W: Write>(
     slot: Slot,
     edition: Edition,
@@ -83,7 +83,7 @@ fn write_active<A: Allocator + Copy, W: Write>(
     }
 }
 
-/// Why a checkpoint is due of what was found.
+/// Why a checkpoint is due.
 fn why_due<A: Allocator + Copy>(survey: &Survey<A>) -> &'static str {
     match &survey.found {
         Ok(Found { journal, .. }) if journal.pages > 0 => "the journal holds records",
@@ -125,7 +125,7 @@ fn write_recovery<A: Allocator + Copy, W: Write>(
     output: &mut W,
 ) -> io::Result<()> {
     match survey.recovery() {
-        Recovery::Nothing => output.write_all(b"recovery: the store opens as it stands\n"),
+        Recovery::Nothing => output.write_all(b"recovery: the store opens without changes\n"),
         Recovery::Checkpoint(slot, generation) => {
             let slot = slot.index();
             let why = why_due(survey);
@@ -172,7 +172,7 @@ fn write_curve<A: Allocator + Copy, W: Write>(
     written
 }
 
-/// Writes what a recovery finds: the state and its rows, and the curve where it is asked for.
+/// Writes what a recovery finds: the state and its rows, and the curve if it is requested.
 fn write_found<A: Allocator + Copy, W: Write>(
     alloc: A,
     state: &State<A>,
@@ -222,7 +222,7 @@ fn write_file<A: Allocator + Copy, W: Write>(
     write_pages(image, judge, output)
 }
 
-/// Writes all that is told of an image by its survey.
+/// Writes the whole report on an image, by its survey.
 fn write_survey<A: Allocator + Copy, W: Write>(
     alloc: A,
     image: &Image<A>,
@@ -240,8 +240,8 @@ fn write_survey<A: Allocator + Copy, W: Write>(
     }
 }
 
-/// Writes all that is told of an image, of a file that has so many bytes: its pages, which slot counts, the journal's events,
-/// what a recovery would do, and where it would open the store, the state and the rows.
+/// Writes the whole report on an image, of a file with this many bytes: its pages, which slot counts, the journal's events, what a
+/// recovery would do, and if it would open the store, the state and the rows.
 pub fn write_report<A: Allocator + Copy, W: Write>(
     alloc: A,
     image: &mut Image<A>,

@@ -8,8 +8,7 @@ use std::fs::File;
 use std::io::Write;
 use std::rt::Files;
 
-/// Writes all that is told of a file. The file is opened for reading alone, under its shared lock. What stands in
-/// it is never a fault.
+/// Writes the whole report on a file. The file is opened for reading alone, under its shared lock. Its contents are never a fault.
 pub fn show_file<R: Files<File = File> + AllocGlobal, W: Write>(
     rt: &R,
     path: &str,

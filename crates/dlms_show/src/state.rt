@@ -41,7 +41,7 @@ fn write_clock<A: Allocator + Copy, W: Write>(state: &State<A>, output: &mut W) 
     writeln!(output, "  clock           {clock}")?;
     writeln!(
         output,
-        "  last moment     {last}, the clock stands {offset} s from it"
+        "  last moment     {last}, the clock is {offset} s from it"
     )?;
     writeln!(output, "  capture period  {period} s")
 }

@@ -4,7 +4,7 @@ use dlms_plot::{Date, Quantity};
 use dlms_state::{Event, SecretOf};
 use std::fmt;
 
-/// A text in quotes: bytes that are no plain characters stand by their hexadecimal digits, as `\x0a`.
+/// A text in quotes: bytes that are no plain characters are written as hexadecimal digits, as in `\x0a`.
 #[derive(Clone, Copy, Debug)]
 pub struct Quoted<'a>(pub &'a [u8]);
 
@@ -12,7 +12,7 @@ pub struct Quoted<'a>(pub &'a [u8]);
 #[derive(Clone, Copy, Debug)]
 pub struct Columns<'a>(pub &'a [u8]);
 
-/// An event as words. Of a secret nothing is said but whose it is.
+/// An event as words. Of a secret only its client is shown.
 #[derive(Clone, Copy, Debug)]
 pub struct Words<'a>(pub &'a Event);
 
@@ -24,7 +24,7 @@ pub fn column_name(id: u8) -> &'static str {
     }
 }
 
-/// What the register of a channel counts.
+/// The name of a channel's quantity.
 fn channel_name(channel: u8) -> &'static str {
     match Quantity::of_channel(usize::from(channel)) {
         Some(quantity) => quantity.name(),
@@ -32,7 +32,7 @@ fn channel_name(channel: u8) -> &'static str {
     }
 }
 
-/// Whose secret it is.
+/// The name of a secret's client.
 fn owner_name(of: SecretOf) -> &'static str {
     match of {
         SecretOf::Management => "management",

@@ -11,7 +11,7 @@ use Rattle.dlms_state.specs.Events.{captures, captures_by, ends_in_capture, ends
 use Rattle.dlms_state.proofs.Lists.{latest-more, beginnings-more}
 use Rattle.dlms_profile.specs.declared.rows.TheConstants.{CAPACITY}
 
--- what is kept of the end of a list is the end of what is kept of the list
+-- the tail of the kept elements is what is kept of the list's tail
 end_of_kept : {X Y : Type 0} (n k : ℕ) (f : X → Y) (keeps : X → Bool) (xs : List X) → (older : List Y) × (map f (filter keeps xs) ≡ older ++ drop k (map f (filter keeps (drop n xs))))
 end_of_kept {X} {Y} n k f keeps xs =
     let early : List Y = map f (filter keeps (take n xs)) in

@@ -47,7 +47,7 @@ IsRow-captured columns clock registers few low fit = record {
 
 -- ---- a row's values given back
 
--- the value that stands at the place of a column, and 0 where the column is not there
+-- the value at the place of a column, and 0 if the column is not there
 abbrev pub looked_up : List ℕ → List ℕ → ℕ → ℕ
 looked_up [] values id = 0
 looked_up (column ∷ columns) [] id = 0
@@ -67,7 +67,7 @@ not_true : (b : Bool) → not b ≡ true → b ≡ false
 not_true true h = cc
 not_true false h = refl
 
--- where an id does not stand among others, its value is not theirs
+-- if an id is not among others, its value is not theirs
 passed_over : (column value : ℕ) (columns values ids : List ℕ) → list_any (nat_eq column) ids ≡ false → map (looked_up (column ∷ columns) (value ∷ values)) ids ≡ map (looked_up columns values) ids
 passed_over column value columns values [] none = refl
 passed_over column value columns values (id ∷ ids) none =
@@ -119,7 +119,7 @@ looked_up-lt (column ∷ columns) (value ∷ values) id fit =
 is_same : (n m : ℕ) → nat_eq n m ≡ true → n ≡ m
 is_same n m h = grind (arith, nat_tests)
 
--- the clock's value is in its range, where the clock is a column; else it is 0
+-- the clock's value is in its range if the clock is a column; otherwise it is 0
 pub looked_up-clock : (columns values : List ℕ) → ((k : ℕ) → k < length columns → slice_index columns k ≡ 0 → slice_index values k ≤ LAST_SECOND) → looked_up columns values 0 ≤ LAST_SECOND
 looked_up-clock [] values high = lit≤ tt
 looked_up-clock (column ∷ columns) [] high = lit≤ tt

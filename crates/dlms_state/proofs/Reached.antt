@@ -42,7 +42,7 @@ first_is = refl
 HasEvents-first : HasEvents (first_state 0)
 HasEvents-first = record { events = []; state = record { legal = IsLegal-none; value = first_is } }
 
--- so many rows captured, and none kept
+-- this many rows captured, and none kept
 HasEvents-numbered : (next : ℕ) → HasEvents (first_state next)
 HasEvents-numbered zero = HasEvents-first
 HasEvents-numbered (suc n) =
@@ -93,7 +93,7 @@ record Settings : Type 0 where
   reader_secret : List ℕ
   columns : List ℕ
 
--- a state with no row, its registers at 0, its clock where the moments leave it
+-- a state without rows, its registers at 0, its clock as the moments leave it
 abbrev settled : ℕ → ℕ → Settings → StateValue
 settled next last set = record { registers = 0 ∷ 0 ∷ 0 ∷ []; last = last; offset = pos 0 -ℤ pos (stop_at last); period = set.period; text = set.text; secret = set.secret; reader_secret = set.reader_secret; columns = set.columns; rows = none_before next }
 

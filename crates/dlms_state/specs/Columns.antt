@@ -35,4 +35,5 @@ row_of_columns columns clock registers = row_of_values (map (value_of clock regi
 -- A row of these columns: a value a column, and the clock's in its range.
 pub record IsRowOf (columns : List ℕ) (row : Row) : Type 0 where
   pub count : length row.values.items ≡ length columns
-  pub clock : (k : ℕ) → k < length columns → slice_index columns k ≡ 0 → slice_index row.values.items k ≤ LAST_SECOND
+  pub clock : (k : ℕ) → k < length columns → slice_index columns k ≡ 0
+      → slice_index row.values.items k ≤ LAST_SECOND

@@ -1,10 +1,11 @@
--- What the types of the events admit: numbers of 8, 16 and 32 bits, a text of at most 240 bytes, a secret of at most 16, at most four columns.
+-- The values that the types of the events allow: numbers of 8, 16 and 32 bits, a text of at most 240 bytes, a secret of at most 16,
+-- at most four columns.
 use Rattle.std.specs.Prelude.{ℕ, ◌<◌, ◌≤◌, ◌^◌, pos, negsuc, ◌≤ℤ◌, List, All, length, ⊤}
 use Rattle.dlms_state.specs.declared.event.Event.{Event}
 use Rattle.dlms_state.specs.declared.event.Event.TheVariants.{Pulses, Moment, SetTime, Shift, AdjustMinute, SetPeriod, SetText, SetSecret, ResetRegister, ResetProfile, Capture, SetColumns}
 use Rattle.dlms_state.specs.declared.event.TheConstants.{MOST_COLUMNS, MOST_SECRET, MOST_TEXT}
 
--- bytes, at most so many
+-- bytes, at most this many
 pub record AreBytes (longest : ℕ) (bytes : List ℕ) : Type 0 where
   pub count : length bytes ≤ longest
   pub each : All (λ byte. byte < 2 ^ 8) bytes

@@ -1,4 +1,4 @@
-//! The clock of a state and of an outlook: the last moment, and what is added to it.
+//! The clock of a state and of an outlook: the last moment, and the offset added to it.
 ghost use Rattle.std.specs.Prelude.{◌≡◌, None};
 ghost use Rattle.dlms_state.specs.Clock.{IsInRange, clock_step};
 ghost use Rattle.dlms_state.specs.Events.{clock_at, passes};
@@ -6,7 +6,7 @@ ghost use Rattle.dlms_state.specs.Refusal.{refusal};
 
 use crate::event;
 
-/// The last moment, and what is added to it to make the second that the clock shows.
+/// The last moment, and the offset that makes it the second that the clock shows.
 #[derive(Clone, Copy)]
 pub(crate) struct Clock {
     pub(crate) last: u32,
@@ -48,7 +48,7 @@ impl Clock {
         }
     }
 
-    /// Moved by so many seconds.
+    /// The clock moved by this many seconds.
     pub(crate) fn shifted(self, by: i16) -> Clock
         requires range { IsInRange self.last self.offset }
         requires passes { refusal self.last self.offset (Event.Shift by) ≡ None }

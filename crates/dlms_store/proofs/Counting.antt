@@ -50,7 +50,7 @@ count_more E e s is = ap (λ (t : StateValue). t.rows.next) (state_of-more E e) 
 pub counted : (E : List Event) (s : StateValue) → IsStateOf E s → s.rows.next ≡ length (captures E)
 counted E s is = ap (λ (t : StateValue). t.rows.next) is.value
 
--- a count of the rows of one event tells whether it captures one
+-- the number of rows that one event captures shows whether it captures one
 pub tells_a_row : (b : Bool) (n m k rows : ℕ) → n ≡ k → m ≡ k + cond b 1 0 → rows ≡ min (m - n) 4294967295 → nat_lt 0 rows ≡ b
 tells_a_row true n m k rows same more is = (let some : 0 < rows = omega (arith, same, more, is) in grind (arith, nat_tests))
 tells_a_row false n m k rows same more is = (let none : rows ≡ 0 = omega (arith, same, more, is) in grind (arith, nat_tests))

@@ -88,7 +88,7 @@ pub record AreFresh (E F : List Event) (from to : ℕ) : Type 0 where
   pub to_is : to ≡ length (captures (E ++ F)) / RING_ROWS
   pub within : IsWithinRing E F
 
--- so they are where they are counted from a state and from how many rows were captured before
+-- this is also true if they are counted from a state and from the number of rows captured before
 pub made_fresh : (E F : List Event) (s : StateValue) (n from to : ℕ) → s ≡ state_of (E ++ F) → n ≡ length (captures E) → from ≡ max (first_number s.rows) n / RING_ROWS → to ≡ s.rows.next / RING_ROWS → s.rows.next ≤ n + MOST_CAPTURED → s.rows.next ≤ 2 ^ 64
     → AreFresh E F from to
 made_fresh E F s n from to is counted first behind few numbers =
@@ -99,7 +99,7 @@ made_fresh E F s n from to is counted first behind few numbers =
       within = record { few = omega (arith, few, next, counted); numbers = omega (arith, numbers, next) };
     }
 
--- no ring page that the state of these events names stands where one of those does
+-- no ring page that the state of these events names is at the place of one of those
 abbrev pub IsApart : List Event → (from to : ℕ) → Type 0
 IsApart E from to = (k j : ℕ) → IsNamed (state_of E).rows k → from ≤ j → j < to → ring_place k ≢ ring_place j
 
@@ -111,7 +111,7 @@ module _ (E F : List Event) (from to : ℕ) (fresh : AreFresh E F from to) where
         fresh = λ other. omega (arith, other.filled, low, fresh.from_is);
       })
 
-  -- where a row of before is kept, the columns are the same
+  -- if a row of before is kept, the columns are the same
   same_columns : (k : ℕ) → RING_ROWS * (k + 1) ≤ length (captures E) → IsNamed (state_of (E ++ F)).rows k → (state_of (E ++ F)).columns ≡ (state_of E).columns
   same_columns k filled named = elim (keeps_columns E F) [ inl same ↦ same | inr far ↦ (let some : first_number (state_of (E ++ F)).rows < RING_ROWS * (k + 1) = named.some in absurd (omega (arith, far, filled, some))) ]
 
@@ -137,7 +137,7 @@ module _ (E F : List Event) (from to : ℕ) (fresh : AreFresh E F from to) where
             });
       }
 
-  -- what the active slot names and what was written spell the state after more events
+  -- the pages that the active slot names and those that were written encode the state after more events
   pub fresh_rings : (slot other : Slot) (g : Edition) (h : ℕ) (image : Image) (bytes : List ℕ) → AreRings slot g (state_of E) image → AreBytes (state_of (E ++ F)) bytes → Spells (gate_of other) (present h) bytes image
       → IsEachRingPage from to (λ k. IsRingPage Columns (state_of (E ++ F)) k (page_at image (ring_place k))) → AreRings other (present h) (state_of (E ++ F)) image
   fresh_rings slot other g h image bytes rings are spells written = record {

@@ -96,7 +96,7 @@ opened_from generation image store from opened =
           absurd (omega (arith, less, as_is.1, of, from.from))
     ]
 
--- where a store is opened over what `close` left
+-- if a store is opened on what `close` left
 pub reopened : {P A : Type 0} {ghosts : Ghosts P} (old new : Store P A ghosts) (device : View) → (device.honest ≡ true → Rules device) → LeavesNoEarlier old device → IsOpened device.seen new → old.generation ≤ new.generation
 reopened old new device rules leaves opened = opened_from old.generation device.seen new (leaves.each device.seen (rules leaves.honest).seen) opened
 
@@ -132,7 +132,7 @@ spent_by_add store event (inr (joins, full, last)) = inl (last_still LAST_GENERA
 pub last_over_close : {P A : Type 0} {ghosts : Ghosts P} (old new : Store P A ghosts) (device : View) → (device.honest ≡ true → Rules device) → LeavesNoEarlier old device → IsOpened device.seen new → IsLast old → IsSpent new
 last_over_close old new device rules leaves opened last = inl (last_still LAST_GENERATION old.generation new.generation last (reopened old new device rules leaves opened))
 
--- where the next row has the same number
+-- if the next row has the same number
 pub spent_over_close : {P A : Type 0} {ghosts : Ghosts P} (old new : Store P A ghosts) (device : View) → (device.honest ≡ true → Rules device) → LeavesNoEarlier old device → IsOpened device.seen new
     → (state_in old).rows.next ≡ (state_in new).rows.next → IsSpent old → IsSpent new
 spent_over_close old new device rules leaves opened same (inl last) = inl (most_still LAST_GENERATION old.generation new.generation last (reopened old new device rules leaves opened))

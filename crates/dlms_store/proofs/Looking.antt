@@ -1,4 +1,4 @@
--- What a page that was read is of the one image, and what bytes of a state await.
+-- A page that was read is one of the single image; and what bytes of a state await.
 use Rattle.std.proofs.Common.{◌≡◌, ◌∙◌, ◌*◌, ℕ, List, [], ◌++◌, length, drop, ap, sym, subst, arith, refl, Some, Result, Ok, Err, OnOk, IsOk, is_err, true, false, IsErr, IsErrAnd, MatchResult, Option, None, MatchOption}
 use Rattle.std.proofs.lemmas.List.{length-take, length-drop, append-nil}
 use Rattle.dlms_pages.specs.Device.{View, Image, Rules, Goes, Reads, page_at}
@@ -63,7 +63,7 @@ pub not_ok : {T E : Type 0} (r : Result T E) → true ≡ is_err r → IsOk r �
 not_ok (Ok x) some ok = absurd cc
 not_ok (Err e) some ok = absurd cc
 
--- behind all bytes of a state none is awaited
+-- after all bytes of a state no body is awaited
 pub none_awaited : (version : Version) (bytes : List ℕ) (s : StateValue) → IsCheckpointOf version s bytes → awaited (as_present version bytes) ≡ 0
 none_awaited version bytes s is =
     let few = (some_bodies version bytes s is).1 in
@@ -77,7 +77,7 @@ carried (Err f) e Q P (is, same) p = subst P (sym same) p
 
 -- ---- the state of a legal list
 
--- events behind which others stand within the ring
+-- events that others may follow within the ring
 pub base_within : (base events : List Event) → IsWithinRing base events → IsWithinRing base []
 base_within base events within =
     let same : length (captures (base ++ [])) ≡ length (captures base) = ap (λ (E : List Event). length (captures E)) (append-nil base) in

@@ -1,4 +1,4 @@
--- The checkpoint that a recovery makes, and the store behind it.
+-- The checkpoint that a recovery makes, and the store after it.
 use Rattle.std.proofs.Common.{◌≡◌, ◌<◌, ◌≤◌, ◌+◌, ◌⊎◌, ⊎_elim, inl, inr, Result, ℕ, true, false, arith, sym, List, [], ◌++◌, length, replicate, refl, ◌∙◌, ap, subst}
 use Rattle.std.proofs.lemmas.List.{append-nil, get_or-set_same}
 use Rattle.std.proofs.lemmas.Bool.{cases_lt}
@@ -196,6 +196,6 @@ stands_fresh image base pages found is fresh quiet c same = record {
   quiet = subst (Quiet found.edition.generation 0) (sym same) (subst (λ (n : ℕ). Quiet found.edition.generation n image) (sym is.read.count ∙ nothing_read found fresh) quiet);
 }
 
--- where what a recovery left reads give what it read
+-- if reads return what they returned before from what a recovery left
 pub left_seen : {A : Type 0} (v : View) (image : Image) (base : List Event) (pages : List (List Event)) (found : Found A) → IsFixed v image → Rules v → IsFound image base pages found → Quiet found.edition.generation (length pages) image → IsLeftFor (base ++ all_of pages) v.seen
 left_seen v image base pages found fixed rules is quiet = subst (IsLeftFor (base ++ all_of pages)) (sym (seen_is v image fixed rules)) (found_left image base pages found is quiet)

@@ -25,11 +25,11 @@ pub may_follow_next : (before done left rest all : List Event) (event : Event) �
 may_follow_next before done left rest all event so_far next legal =
     legal.each (before ++ done) event rest (ap (λ (l : List Event). before ++ l) (sym so_far ∙ ap (λ (l : List Event). done ++ l) next) ∙ sym (append_assoc before done (event ∷ rest)))
 
--- what was taken, with one event more and those behind it, is the whole
+-- the events applied, one more, and those after it are the whole
 pub more_behind : (before done left rest all : List Event) (event : Event) → done ++ left ≡ all → left ≡ event ∷ rest → ((before ++ done) ++ event ∷ []) ++ rest ≡ before ++ all
 more_behind before done left rest all event so_far next =
     ap (λ (l : List Event). l ++ rest) (append_assoc before done (event ∷ [])) ∙ append_assoc before (done ++ event ∷ []) rest ∙ ap (λ (l : List Event). before ++ l) (one_more_of done left rest all event so_far next)
 
--- where none is left, all were taken
+-- if none is left, all were applied
 pub all_of_them : (done left all : List Event) → done ++ left ≡ all → left ≡ [] → done ≡ all
 all_of_them done left all so_far none = sym (append-nil done) ∙ ap (λ (l : List Event). done ++ l) (sym none) ∙ so_far

@@ -24,7 +24,7 @@ Good (Runs s p) acc ans = Kept s p acc ans
 Good (InDoubt s p) acc ans = Kept s p acc ans
 Good (Rests e) acc ans = Found e acc ans
 
--- the records of what is left have no more bytes
+-- the records of the remaining events have no more bytes
 dropped : (n : ℕ) (p : List Event) → record_bytes (drop n p) ≤ record_bytes p
 dropped zero p = omega arith
 dropped (suc n) [] = omega arith

@@ -1,4 +1,4 @@
--- What a device holds that is not opened.
+-- The contents of a device that is not opened.
 use Rattle.std.proofs.Common.{◌≡◌, ◌⊎◌, ⊎_elim, inl, inr, Result, Ok, Err, refl, subst, sym, List, ◌++◌}
 use Rattle.std.specs.Prelude.{IfErr, MatchResult}
 use Rattle.dlms_pages.specs.Device.{View, Image, Elapses, Rules}
@@ -27,7 +27,7 @@ spared_look old synced mid rules first looks = record {
   each = λ c left. subst old.may_leave (sym (looks.fixed.only c left)) rules.seen;
 }
 
--- a refusal behind which nothing was written
+-- a refusal after which nothing was written
 pub refused : (old new : View) (fault : OpenFault) → Spares old new → new.seen ≡ old.seen → IsSpared old new fault
 refused old new Device spares same = inl spares
 refused old new NoCheckpoint spares same = (spares, same)

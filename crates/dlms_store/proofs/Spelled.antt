@@ -60,13 +60,13 @@ short_head version = omega (arith, whole_head version)
 
 -- ---- bytes cut into bodies
 
--- the bodies before this place stay where more bytes come behind them
+-- the bodies before this place stay the same if more bytes follow
 body_stays : (bytes more : List ℕ) (k : ℕ) → 496 * (k + 1) ≤ length bytes → body_at k (bytes ++ more) ≡ body_at k bytes
 body_stays bytes more k long =
     ap (λ (l : List ℕ). take 496 l) (drop-append-le (496 * k) bytes more (omega arith))
     ∙ take-append-le 496 (drop (496 * k) bytes) more (omega (arith, long, length-drop (496 * k) bytes))
 
--- the body behind bytes that fill so many
+-- the body after bytes that fill this many
 body_behind : (bytes body : List ℕ) (k : ℕ) → length bytes ≡ 496 * k → length body ≤ 496 → body_at k (bytes ++ body) ≡ body
 body_behind bytes body k long few =
     ap (λ (n : ℕ). take 496 (drop n (bytes ++ body))) (sym long) ∙ ap (λ (l : List ℕ). take 496 l) (drop-append_seam bytes body) ∙ take_all 496 body few
@@ -85,7 +85,7 @@ module _ (gate : ℕ) (g : Edition) (image : Image) (k : ℕ) (some : 0 < k) (by
   abbrev v : Version
   v = g.version
 
-  -- bytes behind which a body is awaited fill their pages
+  -- bytes after which a body is awaited fill their pages
   pub filled : awaited (as_present v bytes) ≢ 0 → length bytes ≡ 496 * k
   filled more = omega (arith, fit.long, more, present_long v bytes)
 
@@ -95,7 +95,7 @@ module _ (gate : ℕ) (g : Edition) (image : Image) (k : ℕ) (some : 0 < k) (by
   head_there : head_length v ≤ length bytes
   head_there = (let of = first_of.long in omega (arith, of, length-take 496 bytes))
 
-  -- none is awaited behind the last page
+  -- no body is awaited after the last page
   pub none_behind_all : k ≡ 2 → awaited (as_present v bytes) ≡ 0
   none_behind_all all =
       let few = few_bytes v (body_at 0 bytes) (fit.first some) in
@@ -147,7 +147,7 @@ module _ (gate : ℕ) (g : Edition) (image : Image) (s : StateValue) (bytes : Li
   some : 0 < body_count bytes
   some = (some_bodies own bytes s is).0
 
-  -- so many of them fit
+  -- this many of them fit
   pub fits_up_to : (k : ℕ) → k ≤ body_count bytes → Fit gate g image k (take (496 * k) bytes)
   fits_up_to k few =
       let front : (j : ℕ) → j < k → body_at j (take (496 * k) bytes) ≡ body_at j bytes = λ j small. body_front j k bytes small in
@@ -167,7 +167,7 @@ module _ (gate : ℕ) (g : Edition) (image : Image) (s : StateValue) (bytes : Li
       long zero = omega (arith, length-take (496 * 0) bytes)
       long (suc k) = omega (arith, length-take (496 * suc k) bytes, whole_is, whole_front own (496 * suc k) bytes (omega (arith, short_head own)) enough)
 
-  -- where so many others fit, the bodies that both have are the same
+  -- if this many others fit, the bodies that both have are the same
   same_body : (count : ℕ) (others : List ℕ) → Fit gate g image count others → (j : ℕ) → j < count → j < body_count bytes → body_at j others ≡ body_at j bytes
   same_body count others fit j small few = one_payload Body j g g (body_at j others) (body_at j bytes) (page_at image (gate + 1 + j)) (fit.each j small) (spells.each j few)
 
@@ -278,7 +278,7 @@ some_width s bytes is =
 
 -- ---- an image spells one state
 
--- so many pages of w bytes each from that one on, one behind another, each of which holds the rows of both
+-- this many consecutive pages of w bytes from that one on, each of which holds the rows of both
 record Gathered (w : ℕ) (s t : StateValue) (from count : ℕ) (ring : List ℕ) : Type 0 where
   long : length ring ≡ w * count
   left : (k : ℕ) → from ≤ k → k < from + count → HoldsRows s.columns s.rows (30 * k) 30 (take w (drop (w * (k - from)) ring))

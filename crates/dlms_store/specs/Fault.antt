@@ -1,4 +1,4 @@
--- How a fault of a commit is told by the call that made the commit.
+-- How a call that commits reports a fault of the commit.
 use Rattle.dlms_store.specs.declared.fault.StoreFault.{StoreFault}
 use Rattle.dlms_store.specs.declared.fault.StoreFault.TheVariants as commit
 use Rattle.dlms_store.specs.declared.fault.AddFault.{AddFault}

@@ -17,8 +17,8 @@ pub record GoesOn (old new : View) : Type 0 where
   pub count : length new.seen ≡ length old.seen
   pub faults : old.faults ≤ new.faults
 
--- A store goes on, and its device with it. The generation of its checkpoint does not fall, nor does the number of the next row, and
--- it becomes stopped only where a fault has come.
+-- A store continues, and its device with it. The generation of its checkpoint and the number of the next row do not fall, and it
+-- stops only after a fault.
 pub record IsLater {P A : Type 0} {ghosts : Ghosts P} (old new : Store P A ghosts) : Type 0 where
   pub device : GoesOn (view_of old) (view_of new)
   pub generation : old.generation ≤ new.generation

@@ -1,5 +1,5 @@
--- Where everything stands on a device: two slots, each of a gate and its bodies, then the journal pages and the ring pages. No
--- clause of a store's own calls says so.
+-- The layout of a device: two slots, each with a gate and its bodies, then the journal pages and the ring pages. No clause of a
+-- store's own calls states it.
 use Rattle.std.specs.Prelude.{ℕ, ◌+◌, ◌%◌}
 use Rattle.dlms_store.specs.declared.layout.Slot.{Slot}
 use Rattle.dlms_store.specs.declared.layout.Slot.TheVariants.{First, Second}
@@ -18,6 +18,6 @@ abbrev pub other_of : Slot → Slot
 other_of First = Second
 other_of Second = First
 
--- the page where the k-th ring page stands
+-- the place of the k-th ring page
 abbrev pub ring_place : ℕ → ℕ
 ring_place k = RING + k % RING_PAGES

@@ -1,4 +1,4 @@
--- What stands in a page, whatever its unused bytes are. An edition is the version by which a page was written, and the checkpoint
+-- The contents of a page, whatever its unused bytes are. An edition is the version by which a page was written, and the checkpoint
 -- that it belongs to.
 use Rattle.std.specs.Prelude.{◌≡◌, ◌+◌, ℕ, List, Some}
 use Rattle.dlms_journal.specs.declared.kind.PageKind.{PageKind}
@@ -15,11 +15,11 @@ use Rattle.dlms_pages.specs.declared.device.PageRead.TheVariants.{Content, Damag
 abbrev pub present : ℕ → Edition
 present generation = record { version = Columns; generation = generation }
 
--- what the checkpoint behind this one is of
+-- the edition of the checkpoint after this one
 abbrev pub next_of : Edition → Edition
 next_of edition = present (edition.generation + 1)
 
--- a page of a version, in a place where the checkpoint's generation is not said
+-- a page of a version, in a place that does not record the checkpoint's generation
 abbrev pub of_version : Version → ℕ → Edition
 of_version version generation = record { version = version; generation = generation }
 
@@ -28,7 +28,8 @@ abbrev pub IsNot : Type 0 → Type 0
 IsNot P = P → ⊥
 
 -- the bytes are a page of this edition, kind and index, with this payload
-pub record IsWhole (kind : PageKind) (index : ℕ) (edition : Edition) (payload bytes : List ℕ) : Type 0 where
+pub record IsWhole (kind : PageKind) (index : ℕ) (edition : Edition) (payload bytes : List ℕ)
+    : Type 0 where
   pub kind_is : kind_named (head_of bytes).kind ≡ Some kind
   pub version_is : (head_of bytes).version ≡ number_of edition.version
   pub index_is : (head_of bytes).index ≡ index
@@ -40,7 +41,8 @@ HasPage kind index edition payload Damaged = ⊥
 HasPage kind index edition payload (Content bytes) = IsWhole kind index edition payload bytes
 
 -- the bytes are a page of this edition, kind and index, whatever its payload is
-pub record IsHeaded (kind : PageKind) (index : ℕ) (edition : Edition) (bytes : List ℕ) : Type 0 where
+pub record IsHeaded (kind : PageKind) (index : ℕ) (edition : Edition) (bytes : List ℕ)
+    : Type 0 where
   pub kind_is : kind_named (head_of bytes).kind ≡ Some kind
   pub version_is : (head_of bytes).version ≡ number_of edition.version
   pub index_is : (head_of bytes).index ≡ index

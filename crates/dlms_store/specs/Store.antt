@@ -36,7 +36,7 @@ IsRunning store = store.stopped ≡ false
 abbrev pub IsTooSmall : View → Type 0
 IsTooSmall device = length device.seen < PAGES
 
--- a commit of what is pending makes a checkpoint
+-- a commit of the pending events makes a checkpoint
 abbrev pub IsFull : {P A : Type 0} → {ghosts : Ghosts P} → Store P A ghosts → Type 0
 IsFull store = store.next ≡ JOURNAL_PAGES
 
@@ -45,19 +45,20 @@ abbrev pub IsLast : {P A : Type 0} → {ghosts : Ghosts P} → Store P A ghosts 
 IsLast store = store.generation ≡ LAST_GENERATION
 
 -- why the event may not come next, or None
-abbrev pub refusal_in : {P A : Type 0} → {ghosts : Ghosts P} → Store P A ghosts → Event → Option Refused
+abbrev pub refusal_in : {P A : Type 0} → {ghosts : Ghosts P} → Store P A ghosts → Event
+    → Option Refused
 refusal_in store event = refusal store.state.last store.state.offset event
 
 -- the ring takes no further row before the next checkpoint
 abbrev pub IsRingFull : {P A : Type 0} → {ghosts : Ghosts P} → Store P A ghosts → Type 0
 IsRingFull store = store.captured ≡ MOST_CAPTURED
 
--- the event's record fits behind those that are pending
+-- the event's record fits after the pending ones
 abbrev pub HasRoom : {P A : Type 0} → {ghosts : Ghosts P} → Store P A ghosts → Event → Type 0
 HasRoom store event = length store.pending.items + length (record_of event) ≤ MOST_PAYLOAD
 
--- `add` puts the event behind those that are pending; else these are settled first, and it stands alone. Where
--- the ring is full, any event asks for a checkpoint.
+-- `add` appends the event to the pending ones; otherwise those are settled first, and it is the only pending one. If the ring is
+-- full, every event needs a checkpoint.
 abbrev pub JoinsPending : {P A : Type 0} → {ghosts : Ghosts P} → Store P A ghosts → Event → Type 0
 JoinsPending store event = HasRoom store event × (store.captured < MOST_CAPTURED)
 
@@ -70,33 +71,44 @@ abbrev pub CommitIsExhausted : {P A : Type 0} → {ghosts : Ghosts P} → Store 
 CommitIsExhausted store = (records_in store ≢ []) × IsExhausted store
 
 -- the event's `add` needs a checkpoint that can no longer be made
-abbrev pub RoomIsExhausted : {P A : Type 0} → {ghosts : Ghosts P} → Store P A ghosts → Event → Type 0
-RoomIsExhausted store event = (JoinsPending store event → ⊥) × (IsRingFull store ⊎ IsFull store) × IsLast store
+abbrev pub RoomIsExhausted : {P A : Type 0} → {ghosts : Ghosts P} → Store P A ghosts → Event
+    → Type 0
+RoomIsExhausted store event = (JoinsPending store event → ⊥) × (IsRingFull store ⊎ IsFull store)
+    × IsLast store
 
 -- the event captures a row whose number would be past 64 bits, or its `add` needs a checkpoint that can no longer be made
 abbrev pub AddIsExhausted : {P A : Type 0} → {ghosts : Ghosts P} → Store P A ghosts → Event → Type 0
 AddIsExhausted store event = (HasNumberFor (state_in store) event → ⊥) ⊎ RoomIsExhausted store event
 
 -- These events are settled, and those are pending: the store has the state of them all, and the records of the pending ones.
-pub record Remembers {P A : Type 0} {ghosts : Ghosts P} (settled pending : List Event) (store : Store P A ghosts) : Type 0 where
+pub record Remembers {P A : Type 0} {ghosts : Ghosts P} (settled pending : List Event)
+    (store : Store P A ghosts) : Type 0 where
   pub state : IsStateOf (settled ++ pending) (state_in store)
   pub records : Holds (records_in store) pending
 
 -- what was settled and pending is so still
-abbrev pub Keeps : {P A : Type 0} → {ghosts : Ghosts P} → Store P A ghosts → Store P A ghosts → Type 0
-Keeps old new = (settled pending : List Event) → Remembers settled pending old → Remembers settled pending new
+abbrev pub Keeps : {P A : Type 0} → {ghosts : Ghosts P} → Store P A ghosts → Store P A ghosts
+    → Type 0
+Keeps old new = (settled pending : List Event) → Remembers settled pending old
+    → Remembers settled pending new
 
 -- what was pending is settled
-abbrev pub Settles : {P A : Type 0} → {ghosts : Ghosts P} → Store P A ghosts → Store P A ghosts → Type 0
-Settles old new = (settled pending : List Event) → Remembers settled pending old → Remembers (settled ++ pending) [] new
+abbrev pub Settles : {P A : Type 0} → {ghosts : Ghosts P} → Store P A ghosts → Store P A ghosts
+    → Type 0
+Settles old new = (settled pending : List Event) → Remembers settled pending old
+    → Remembers (settled ++ pending) [] new
 
 -- the event joined those that are pending
-abbrev pub Joins : {P A : Type 0} → {ghosts : Ghosts P} → Event → Store P A ghosts → Store P A ghosts → Type 0
-Joins event old new = (settled pending : List Event) → Remembers settled pending old → Remembers settled (pending ++ event ∷ []) new
+abbrev pub Joins : {P A : Type 0} → {ghosts : Ghosts P} → Event → Store P A ghosts
+    → Store P A ghosts → Type 0
+Joins event old new = (settled pending : List Event) → Remembers settled pending old
+    → Remembers settled (pending ++ event ∷ []) new
 
 -- what was pending is settled, and the event alone is pending
-abbrev pub JoinsAlone : {P A : Type 0} → {ghosts : Ghosts P} → Event → Store P A ghosts → Store P A ghosts → Type 0
-JoinsAlone event old new = (settled pending : List Event) → Remembers settled pending old → Remembers (settled ++ pending) (event ∷ []) new
+abbrev pub JoinsAlone : {P A : Type 0} → {ghosts : Ghosts P} → Event → Store P A ghosts
+    → Store P A ghosts → Type 0
+JoinsAlone event old new = (settled pending : List Event) → Remembers settled pending old
+    → Remembers (settled ++ pending) (event ∷ []) new
 
 -- The device failed in this call: the store is stopped, and it knows of the events what it knew.
 pub record Fails {P A : Type 0} {ghosts : Ghosts P} (old new : Store P A ghosts) : Type 0 where
@@ -105,7 +117,8 @@ pub record Fails {P A : Type 0} {ghosts : Ghosts P} (old new : Store P A ghosts)
   pub keeps : Keeps old new
 
 -- The call changed nothing but what is held of events in memory, and how many rows they captured.
-pub record IsElsewhereSame {P A : Type 0} {ghosts : Ghosts P} (old new : Store P A ghosts) : Type 0 where
+pub record IsElsewhereSame {P A : Type 0} {ghosts : Ghosts P} (old new : Store P A ghosts)
+    : Type 0 where
   pub device : new.device ≡ old.device
   pub slot : new.slot ≡ old.slot
   pub generation : new.generation ≡ old.generation
@@ -126,7 +139,8 @@ pub record TakesPage {P A : Type 0} {ghosts : Ghosts P} (old new : Store P A gho
   pub next : new.next ≡ old.next + 1
 
 -- A checkpoint was made: the other slot is active, of the next generation, and the journal begins again.
-pub record MakesCheckpoint {P A : Type 0} {ghosts : Ghosts P} (old new : Store P A ghosts) : Type 0 where
+pub record MakesCheckpoint {P A : Type 0} {ghosts : Ghosts P} (old new : Store P A ghosts)
+    : Type 0 where
   pub slot : new.slot ≡ other_of old.slot
   pub generation : new.generation ≡ old.generation + 1
   pub next : new.next ≡ 0

@@ -10,11 +10,11 @@ abbrev pub record_bytes : List Event → ℕ
 record_bytes events = length (flat_map record_of events)
 
 pub data StoreWorld : Type 0 where
-  -- a running store: each image stands for the settled events; the pending ones stand in memory
+  -- a running store: each image represents the settled events; the pending ones are in memory
   Runs : (settled pending : List Event) → StoreWorld
-  -- a stopped store, or the device that it gave back: each image stands for the settled events and a beginning of the others
+  -- a stopped store, or the device that it returned: each image represents the settled events and a prefix of the others
   InDoubt : (settled pending : List Event) → StoreWorld
-  -- a device after a stop, or one that recovery has synced: each image stands for these
+  -- a device after a stop, or one that recovery has synced: each image represents these
   Rests : (events : List Event) → StoreWorld
 
 pub data StoreStep : Type 0 where
@@ -45,8 +45,10 @@ IsBetween settled pending events = (n : ℕ) × (events ≡ settled ++ take n pe
 
 -- From before, this step may lead to now.
 abbrev pub Next : StoreWorld → StoreStep → StoreWorld → Type 0
-Next (Runs s p) (Adds e) now = (now ≡ Runs s (p ++ e ∷ [])) × (record_bytes (p ++ e ∷ []) ≤ MOST_PAYLOAD)
-Next (Runs s p) (AddsBehind e) now = (now ≡ Runs (s ++ p) (e ∷ [])) × (record_bytes (e ∷ []) ≤ MOST_PAYLOAD)
+Next (Runs s p) (Adds e) now = (now ≡ Runs s (p ++ e ∷ []))
+    × (record_bytes (p ++ e ∷ []) ≤ MOST_PAYLOAD)
+Next (Runs s p) (AddsBehind e) now = (now ≡ Runs (s ++ p) (e ∷ []))
+    × (record_bytes (e ∷ []) ≤ MOST_PAYLOAD)
 Next (Runs s p) Settles now = now ≡ Runs (s ++ p) []
 Next (Runs s p) Refuses now = now ≡ Runs s p
 Next (Runs s p) Fails now = now ≡ InDoubt s p
@@ -58,7 +60,8 @@ Next (InDoubt s p) ClosesInDoubt now = now ≡ InDoubt s p
 Next (InDoubt s p) Stops now = (events : List Event) × IsBetween s p events × (now ≡ Rests events)
 -- the first sync that succeeds fixes what it finds
 Next (InDoubt s p) (Opens events) now = IsBetween s p events × (now ≡ Runs events [])
-Next (InDoubt s p) OpenFails now = (now ≡ InDoubt s p) ⊎ ((events : List Event) × IsBetween s p events × (now ≡ Rests events))
+Next (InDoubt s p) OpenFails now = (now ≡ InDoubt s p)
+    ⊎ ((events : List Event) × IsBetween s p events × (now ≡ Rests events))
 Next (Rests events) Stops now = now ≡ Rests events
 Next (Rests events) (Opens found) now = (found ≡ events) × (now ≡ Runs found [])
 Next (Rests events) OpenFails now = now ≡ Rests events
@@ -80,7 +83,8 @@ Next (Rests events) ClosesInDoubt now = ⊥
 
 abbrev pub StoreRun : StoreWorld → List StoreStep → StoreWorld → Type 0
 StoreRun before [] now = now ≡ before
-StoreRun before (step ∷ steps) now = (mid : StoreWorld) × Next before step mid × StoreRun mid steps now
+StoreRun before (step ∷ steps) now = (mid : StoreWorld) × Next before step mid
+    × StoreRun mid steps now
 
 -- the events that are accepted: those whose `add` answered Ok since format, and after a recovery those that it found
 abbrev pub accept : List Event → StoreStep → List Event
@@ -103,7 +107,8 @@ accepted_after events (step ∷ steps) = accepted_after (accept events step) ste
 
 abbrev pub answered_after : List Event → List Event → List StoreStep → List Event
 answered_after answered events [] = answered
-answered_after answered events (step ∷ steps) = answered_after (answer answered events step) (accept events step) steps
+answered_after answered events (step ∷ steps) =
+    answered_after (answer answered events step) (accept events step) steps
 
 abbrev pub accepted : List StoreStep → List Event
 accepted steps = accepted_after [] steps
@@ -114,8 +119,8 @@ answered steps = answered_after [] [] steps
 abbrev pub IsBeginning : List Event → List Event → Type 0
 IsBeginning xs ys = (rest : List Event) × (xs ++ rest ≡ ys)
 
--- What a recovery after these steps finds: a beginning of the accepted events, with every event that was answered, and
--- at most one page of records less.
+-- What a recovery after these steps finds: a prefix of the accepted events, with every event that was answered, lacking at most one
+-- page of records.
 pub record IsRecovered (steps : List StoreStep) (found : List Event) : Type 0 where
   pub missing : List Event
   pub beginning : found ++ missing ≡ accepted steps
@@ -135,16 +140,24 @@ RunsTo steps now = StoreRun (Runs [] []) steps now
 
 -- the run law
 abbrev pub RecoversABeginning : Type 0
-RecoversABeginning = (steps : List StoreStep) (found : List Event) (now : StoreWorld) → RunsTo (steps ++ Opens found ∷ []) now → IsRecovered steps found
+RecoversABeginning = (steps : List StoreStep) (found : List Event) (now : StoreWorld)
+    → RunsTo (steps ++ Opens found ∷ []) now → IsRecovered steps found
 
 -- The first stop fixes what every later recovery finds, until an event is added.
 abbrev pub NoFurtherStopMatters : Type 0
-NoFurtherStopMatters = (steps quiet : List StoreStep) (at_stop now : StoreWorld) (found : List Event) → RunsTo (steps ++ Stops ∷ []) at_stop → IsQuiet quiet → StoreRun at_stop (quiet ++ Opens found ∷ []) now → at_stop ≡ Rests found
+NoFurtherStopMatters = (steps quiet : List StoreStep) (at_stop now : StoreWorld)
+    (found : List Event) → RunsTo (steps ++ Stops ∷ []) at_stop → IsQuiet quiet
+    → StoreRun at_stop (quiet ++ Opens found ∷ []) now → at_stop ≡ Rests found
 
 -- So does the first sync of a recovery, which succeeded in a recovery that answered Ok: what it found is found again.
 abbrev pub NoFurtherRecoveryMatters : Type 0
-NoFurtherRecoveryMatters = (before mid now : StoreWorld) (quiet : List StoreStep) (first found : List Event) → Next before (Opens first) mid → IsQuiet quiet → StoreRun mid (quiet ++ Opens found ∷ []) now → first ≡ found
+NoFurtherRecoveryMatters = (before mid now : StoreWorld) (quiet : List StoreStep)
+    (first found : List Event) → Next before (Opens first) mid → IsQuiet quiet
+    → StoreRun mid (quiet ++ Opens found ∷ []) now → first ≡ found
 
--- It does so too where that recovery answered a fault behind it.
+-- The same is true if that recovery failed afterwards.
 abbrev pub NoFurtherRecoveryMattersAfterAFault : Type 0
-NoFurtherRecoveryMattersAfterAFault = (before now : StoreWorld) (quiet : List StoreStep) (events found : List Event) → Next before OpenFails (Rests events) → IsQuiet quiet → StoreRun (Rests events) (quiet ++ Opens found ∷ []) now → events ≡ found
+NoFurtherRecoveryMattersAfterAFault =
+    (before now : StoreWorld) (quiet : List StoreStep) (events found : List Event)
+    → Next before OpenFails (Rests events) → IsQuiet quiet
+    → StoreRun (Rests events) (quiet ++ Opens found ∷ []) now → events ≡ found

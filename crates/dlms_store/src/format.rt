@@ -23,7 +23,8 @@ use dlms_pages::{DeviceFault, PAGE_BYTES, Pages};
 /// Writes zeros to every page, and syncs.
 pub(crate) fn clear<P: Pages>(device: &mut P) -> Result<(), DeviceFault>
     ensures goes { Goes (P.view device.old) (P.view device.new) result }
-    ensures clear { (P.view device.old).honest ≡ true → OnOk result (Leaves (P.view device.new) IsClear) }
+    ensures clear { (P.view device.old).honest ≡ true
+        → OnOk result (Leaves (P.view device.new) IsClear) }
 {
     for index in 0..device.count() {
         device.write(index, &[0; PAGE_BYTES])?;
@@ -34,10 +35,12 @@ pub(crate) fn clear<P: Pages>(device: &mut P) -> Result<(), DeviceFault>
 /// Clears a device that has pages enough for a store.
 pub(crate) fn make_clear<P: Pages>(device: &mut P) -> Result<(), OpenFault>
     ensures room { OnOk result (PAGES ≤ length (P.view device.new).seen) }
-    ensures clear { (P.view device.old).honest ≡ true → OnOk result (Leaves (P.view device.new) IsClear) }
+    ensures clear { (P.view device.old).honest ≡ true
+        → OnOk result (Leaves (P.view device.new) IsClear) }
     ensures size { (result ≡ Err OpenFault.Size) ↔ IsTooSmall (P.view device.old) }
     ensures small { result ≡ Err OpenFault.Size → device.new ≡ device.old }
-    ensures device { result ≡ Err OpenFault.Device → Rose (P.view device.old).faults (P.view device.new).faults }
+    ensures device { result ≡ Err OpenFault.Device
+        → Rose (P.view device.old).faults (P.view device.new).faults }
     ensures later { GoesOn (P.view device.old) (P.view device.new) }
     ensures faults { IfErr result (λ fault. (fault ≡ OpenFault.Size) ⊎ (fault ≡ OpenFault.Device)) }
 {
@@ -56,8 +59,10 @@ pub(crate) fn begin<P: Pages>(device: &mut P, bytes: &Checkpoint) -> Result<(), 
     requires room { PAGES ≤ length (P.view device.old).seen }
     requires few { body_count bytes.now ≤ BODIES }
     ensures goes { Goes (P.view device.old) (P.view device.new) result }
-    ensures formatted { Leaves (P.view device.old) IsClear → OnOk result (Leaves (P.view device.new) IsFormatted) }
-    ensures starts { bytes.now ≡ checkpoint_bytes (state_of []) → Leaves (P.view device.old) IsClear → OnOk result (Leaves (P.view device.new) (Stands SlotOf.First (present 1) [] [])) }
+    ensures formatted { Leaves (P.view device.old) IsClear
+        → OnOk result (Leaves (P.view device.new) IsFormatted) }
+    ensures starts { bytes.now ≡ checkpoint_bytes (state_of []) → Leaves (P.view device.old) IsClear
+        → OnOk result (Leaves (P.view device.new) (Stands SlotOf.First (present 1) [] [])) }
 {
     let gate = Slot::First.gate();
     put_bodies(device, gate, 1, bytes)?;

@@ -68,7 +68,7 @@ impl Slot {
         }
     }
 
-    /// The slot that the next checkpoint is written into, where this one counts.
+    /// The slot that the next checkpoint is written to if this one is active.
     pub fn other(self) -> Slot
         ensures { result ≡ other_of self }
     {

@@ -30,11 +30,12 @@ pub(crate) fn has_number_for<A: Allocator + Copy>(state: &State<A>, event: &Even
     state.next_number() < NUMBERS_END || !has_row(state, event)
 }
 
-/// Goes on by an event that passes and whose row has a number, and tells how many rows it captured: one or none.
+/// Applies an event that passes and whose row has a number. Returns how many rows it captured: one or none.
 pub(crate) fn apply_counted<A: Allocator + Copy>(state: &mut State<A>, event: Event) -> u16
     requires passes { refusal state.old.last state.old.offset event ≡ None }
     requires number { HasNumberFor state.old event }
-    ensures state { (E : List EventOf) → IsStateOf E state.old → IsStateOf (E ++ event ∷ []) state.new }
+    ensures state { (E : List EventOf) → IsStateOf E state.old
+        → IsStateOf (E ++ event ∷ []) state.new }
     ensures rows { state.old.rows.next + result ≡ state.new.rows.next }
     ensures few { result ≤ 1 }
 {

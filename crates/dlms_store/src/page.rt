@@ -1,4 +1,4 @@
-//! What stands in a page, and by which layout it was written.
+//! The contents of a page, and the layout by which it was written.
 ghost use Rattle.std.specs.Prelude.{◌≡◌, ◌≤◌, List, ℕ, length, MatchOption, IsTrue, ◌↔◌};
 ghost use Rattle.dlms_pages.specs.declared.device.PageRead.TheVariants.{Damaged};
 ghost use Rattle.dlms_checkpoint.specs.declared.version.Version.{Version as VersionOf};
@@ -41,7 +41,8 @@ pub(crate) fn present(generation: u64) -> Edition
 
 /// The edition of a page that is a whole, open gate of a known version. Its index and payload are not looked at.
 pub fn open_edition(page: &PageRead) -> Option<Edition>
-    ensures { MatchOption result ((e : EditionOf) → IsNot (IsOpen e page.now)) (λ e. IsOpen e page.now) }
+    ensures { MatchOption result ((e : EditionOf)
+        → IsNot (IsOpen e page.now)) (λ e. IsOpen e page.now) }
 {
     let PageRead::Content(bytes) = page else {
         return None;
@@ -76,7 +77,9 @@ pub(crate) fn payload_in(
     index: u16,
     edition: Edition,
 ) -> Option<&[u8]>
-    ensures { MatchOption result ((payload : List ℕ) → IsNot (HasPage kind index edition payload page.now)) (λ payload. HasPage kind index edition payload.now page.now) }
+    ensures { MatchOption result ((payload : List ℕ)
+        → IsNot (HasPage kind index edition payload page.now))
+        (λ payload. HasPage kind index edition payload.now page.now) }
 {
     let PageRead::Content(bytes) = page else {
         return None;
@@ -92,7 +95,10 @@ pub(crate) fn payload_in(
 
 /// The payload of the ring page of this number and of version 2, which serves a checkpoint of version 2.
 fn present_rows(page: &PageRead, version: Version, index: u16, number: u64) -> Option<&[u8]>
-    ensures { MatchOption result ((payload : List ℕ) → version ≡ Columns → IsNot (HasPage Ring index (of_version Columns number) payload page.now)) (λ payload. (version ≡ Columns) × HasPage Ring index (of_version Columns number) payload.now page.now) }
+    ensures { MatchOption result ((payload : List ℕ) → version ≡ Columns
+        → IsNot (HasPage Ring index (of_version Columns number) payload page.now))
+        (λ payload. (version ≡ Columns)
+        × HasPage Ring index (of_version Columns number) payload.now page.now) }
 {
     match version {
         Version::Columns => payload_in(page, PageKind::Ring, index, present(number)),
@@ -100,9 +106,12 @@ fn present_rows(page: &PageRead, version: Version, index: u16, number: u64) -> O
     }
 }
 
-/// The payload of the ring page of this number and of version 1, which serves where the columns are the first ones.
+/// The payload of the ring page of this number and of version 1. It can be used if the columns are the initial ones.
 fn older_rows(page: &PageRead, serves: bool, index: u16, number: u64) -> Option<&[u8]>
-    ensures { MatchOption result ((payload : List ℕ) → IsTrue serves → IsNot (HasPage Ring index (of_version Rings number) payload page.now)) (λ payload. IsTrue serves × HasPage Ring index (of_version Rings number) payload.now page.now) }
+    ensures { MatchOption result ((payload : List ℕ) → IsTrue serves
+        → IsNot (HasPage Ring index (of_version Rings number) payload page.now))
+        (λ payload. IsTrue serves × HasPage Ring index
+        (of_version Rings number) payload.now page.now) }
 {
     if !serves {
         return None;
@@ -122,8 +131,11 @@ pub(crate) fn ring_payload(
     index: u16,
     number: u64,
 ) -> Option<&[u8]>
-    ensures { (columns : List ℕ) → (IsTrue has_first_columns ↔ (columns ≡ first_columns)) → MatchOption result ((own : VersionOf) (payload : List ℕ) → Serves version columns own → IsNot (HasPage Ring index (of_version own number) payload page.now))
-        (λ payload. (own : VersionOf) × Serves version columns own × HasPage Ring index (of_version own number) payload.now page.now) }
+    ensures { (columns : List ℕ) → (IsTrue has_first_columns ↔ (columns ≡ first_columns))
+        → MatchOption result ((own : VersionOf) (payload : List ℕ) → Serves version columns own
+        → IsNot (HasPage Ring index (of_version own number) payload page.now))
+        (λ payload. (own : VersionOf) × Serves version columns own
+        × HasPage Ring index (of_version own number) payload.now page.now) }
 {
     match present_rows(page, version, index, number) {
         Some(payload) => Some(payload),

@@ -13,7 +13,8 @@ pub(crate) fn put<P: Pages>(
 ) -> Result<(), DeviceFault>
     requires { index < length (P.view device.old).seen }
     ensures goes { Goes (P.view device.old) (P.view device.new) result }
-    ensures puts { (P.view device.old).honest ≡ true → Puts index bytes.now (P.view device.old) (P.view device.new) result }
+    ensures puts { (P.view device.old).honest ≡ true
+        → Puts index bytes.now (P.view device.old) (P.view device.new) result }
 {
     device.write(index, bytes)?;
     device.sync()

@@ -1,4 +1,4 @@
-//! The checkpoint that a recovery makes: behind records, behind a damaged page, or in the place of one of an older version.
+//! The checkpoint that a recovery makes: after records, after a damaged page, or in place of one of an older version.
 ghost use Rattle.std.specs.Prelude.{◌≡◌, ◌<◌, ◌≤◌, ◌⊎◌, ◌++◌, ◌↔◌, [], List, length, IsTrue, Err, IfErr, OnOk};
 ghost use Rattle.dlms_pages.specs.Device.{Goes, Rose, Image};
 ghost use Rattle.dlms_pages.specs.Stops.{IsFixed};
@@ -30,11 +30,13 @@ impl<A: Allocator + Copy> Found<A> {
     }
 }
 
-/// Writes zeros over the journal's first page where that is one of this edition, which is to come.
+/// Writes zeros over the journal's first page if that page has the edition that comes next.
 fn blank_first_page<P: Pages>(device: &mut P, next: Edition) -> Result<(), DeviceFault>
     requires room { PAGES ≤ length (P.view device.old).seen }
     ensures goes { Goes (P.view device.old) (P.view device.new) result }
-    ensures blanks { (image : Image) → IsFixed (P.view device.old) image → Brings (IsBlanked next image) (IsBlank next image) (P.view device.old) (P.view device.new) result }
+    ensures blanks { (image : Image) → IsFixed (P.view device.old) image
+        → Brings (IsBlanked next image) (IsBlank next image) (P.view device.old)
+        (P.view device.new) result }
 {
     let page = device.read(JOURNAL)?;
     if !is_of(&page, PageKind::Journal, 0, next) {
@@ -43,13 +45,15 @@ fn blank_first_page<P: Pages>(device: &mut P, next: Edition) -> Result<(), Devic
     put(device, JOURNAL, &[0; PAGE_BYTES])
 }
 
-/// Sees to it that the journal's first page is none of the edition behind this one, which would count it. Of version 2 it is
-/// none, since a checkpoint is due only where that page is of this edition or damaged.
+/// Makes sure that the journal's first page does not have the next edition, which would count it. A page of version 2 never does,
+/// because a checkpoint is due only if that page has this edition or is damaged.
 fn clear_alien<P: Pages>(device: &mut P, edition: Edition) -> Result<(), DeviceFault>
     requires room { PAGES ≤ length (P.view device.old).seen }
     requires last { edition.generation < LAST_GENERATION }
     ensures goes { Goes (P.view device.old) (P.view device.new) result }
-    ensures clears { (image : Image) → IsFixed (P.view device.old) image → Brings (IsCleared edition image) (IsClearOf edition image) (P.view device.old) (P.view device.new) result }
+    ensures clears { (image : Image) → IsFixed (P.view device.old) image
+        → Brings (IsCleared edition image) (IsClearOf edition image) (P.view device.old)
+        (P.view device.new) result }
 {
     match edition.version {
         Version::Columns => Ok(()),
@@ -68,15 +72,25 @@ pub(crate) fn renew<P: Pages, A: Allocator + Copy>(
     ensures honest { (P.view device.new).honest ≡ (P.view device.old).honest }
     ensures count { length (P.view device.new).seen ≡ length (P.view device.old).seen }
     ensures later { (P.view device.old).faults ≤ (P.view device.new).faults }
-    ensures device { result ≡ Err OpenFault.Device → Rose (P.view device.old).faults (P.view device.new).faults }
-    ensures exhausted { result ≡ Err OpenFault.Exhausted → found.now.edition.generation ≡ LAST_GENERATION }
+    ensures device { result ≡ Err OpenFault.Device
+        → Rose (P.view device.old).faults (P.view device.new).faults }
+    ensures exhausted { result ≡ Err OpenFault.Exhausted
+        → found.now.edition.generation ≡ LAST_GENERATION }
     ensures spares { result ≡ Err OpenFault.Exhausted → device.new ≡ device.old }
     ensures room { OnOk result (found.now.edition.generation < LAST_GENERATION) }
-    ensures faults { IfErr result (λ fault. (fault ≡ OpenFault.Device) ⊎ (fault ≡ OpenFault.Exhausted)) }
-    ensures renews { (image : Image) (base : List EventOf) (pages : List (List EventOf)) → IsFixed (P.view device.old) image → IsFound image base pages found.now → IsStale found.now
-        → Brings (StandsFor (base ++ all_of pages)) (Reads (other_of found.now.slot) (next_of found.now.edition) (base ++ all_of pages) []) (P.view device.old) (P.view device.new) result }
-    ensures settles { (image : Image) (base : List EventOf) (pages : List (List EventOf)) → IsFixed (P.view device.old) image → IsFound image base pages found.now → Quiet found.now.edition.generation (length pages) image
-        → Brings (IsLeftFor (base ++ all_of pages)) (Stands (other_of found.now.slot) (next_of found.now.edition) (base ++ all_of pages) []) (P.view device.old) (P.view device.new) result }
+    ensures faults { IfErr result (λ fault. (fault ≡ OpenFault.Device)
+        ⊎ (fault ≡ OpenFault.Exhausted)) }
+    ensures renews { (image : Image) (base : List EventOf) (pages : List (List EventOf))
+        → IsFixed (P.view device.old) image → IsFound image base pages found.now → IsStale found.now
+        → Brings (StandsFor (base ++ all_of pages))
+        (Reads (other_of found.now.slot) (next_of found.now.edition) (base ++ all_of pages) [])
+        (P.view device.old) (P.view device.new) result }
+    ensures settles { (image : Image) (base : List EventOf) (pages : List (List EventOf))
+        → IsFixed (P.view device.old) image → IsFound image base pages found.now
+        → Quiet found.now.edition.generation (length pages) image
+        → Brings (IsLeftFor (base ++ all_of pages))
+        (Stands (other_of found.now.slot) (next_of found.now.edition) (base ++ all_of pages) [])
+        (P.view device.old) (P.view device.new) result }
 {
     let Edition { generation, .. } = found.edition;
     if generation == LAST_GENERATION {

@@ -14,8 +14,8 @@ use dlms_pages::{DeviceFault, Pages};
 use dlms_state::State;
 use std::alloc::Allocator;
 
-/// The ring pages that a state's checkpoint names and an earlier one, before which so many rows were captured, does not: the first of
-/// them, and the first behind them.
+/// The ring pages that a state's checkpoint names and an earlier one, before which this many rows were captured, does not: the
+/// first of them, and the first after them.
 pub(crate) fn fresh_pages<A: Allocator + Copy>(state: &State<A>, checkpointed: u128) -> (u64, u64)
     requires { checkpointed ≤ state.now.rows.next }
     ensures first { result.0 ≡ max (first_number state.now.rows) checkpointed / RING_ROWS }
@@ -29,7 +29,7 @@ pub(crate) fn fresh_pages<A: Allocator + Copy>(state: &State<A>, checkpointed: u
     (first as u64, behind as u64)
 }
 
-/// Writes these ring pages of a state one after another, and syncs. Where there are none it does nothing.
+/// Writes these ring pages of a state one after another, then syncs. Does nothing if there are none.
 pub(crate) fn put_rings<P: Pages, A: Allocator + Copy>(
     device: &mut P,
     state: &State<A>,
@@ -39,7 +39,8 @@ pub(crate) fn put_rings<P: Pages, A: Allocator + Copy>(
     requires room { PAGES ≤ length (P.view device.old).seen }
     requires named { IsEachRingPage first behind (IsNamed state.now.rows) }
     ensures goes { Goes (P.view device.old) (P.view device.new) result }
-    ensures puts { (P.view device.old).honest ≡ true → PutsRing first behind state.now (P.view device.old) (P.view device.new) result }
+    ensures puts { (P.view device.old).honest ≡ true
+        → PutsRing first behind state.now (P.view device.old) (P.view device.new) result }
 {
     if first >= behind {
         return Ok(());

@@ -25,8 +25,8 @@ use dlms_pages::{DeviceFault, Pages};
 use dlms_state::{Event, State};
 use std::alloc::{Allocator, Global};
 
-/// Events on a device of pages. Those that are committed outlast a stop; the others stand in memory until a page is full.
-/// Only `format` and `open` take memory.
+/// Events on a device of pages. Committed events survive a power failure; the others are kept in memory until a page is full. Only
+/// `format` and `open` allocate memory.
 #[derive(Drop)]
 pub struct Store<P: Pages, A: Allocator = Global> {
     device: P,
@@ -62,16 +62,22 @@ impl<P: Pages, A: Allocator + Copy> Store<P, A> {
 
     /// Makes a device empty: every page zeros, and the checkpoint of no events in the first slot.
     pub fn format(alloc: A, device: P) -> Result<Self, (P, OpenFault)>
-        ensures fits { (P.view device).honest ≡ true → IfOk result (λ store. StoreFits store (Runs [] [])) }
+        ensures fits { (P.view device).honest ≡ true
+            → IfOk result (λ store. StoreFits store (Runs [] [])) }
         ensures empty { IfOk result (Remembers [] []) }
         ensures runs { IfOk result (λ store. IsStopped store → ⊥) }
-        ensures formatted { (P.view device).honest ≡ true → IfOk result (λ store. Leaves (view_of store) IsFormatted) }
+        ensures formatted { (P.view device).honest ≡ true
+            → IfOk result (λ store. Leaves (view_of store) IsFormatted) }
         ensures size { IfErr result (λ e. (e.1 ≡ OpenFault.Size) ↔ IsTooSmall (P.view device)) }
         ensures small { IfErr result (λ e. e.1 ≡ OpenFault.Size → e.0 ≡ device) }
-        ensures later { MatchResult result (λ store. GoesOn (P.view device) (view_of store)) (λ e. GoesOn (P.view device) (P.view e.0)) }
-        ensures device { IfErr result (λ e. e.1 ≡ OpenFault.Device → Rose (P.view device).faults (P.view e.0).faults) }
-        ensures faults { IfErr result (λ e. (e.1 ≢ OpenFault.NoCheckpoint) × ((page : ℕ) → e.1 ≢ OpenFault.Corrupt page) × (e.1 ≢ OpenFault.Exhausted)) }
-        ensures memory { (P.view device).honest ≡ true → IfErr result (λ e. e.1 ≡ OpenFault.Memory → Leaves (P.view e.0) IsClear) }
+        ensures later { MatchResult result (λ store. GoesOn (P.view device) (view_of store))
+            (λ e. GoesOn (P.view device) (P.view e.0)) }
+        ensures device { IfErr result (λ e. e.1 ≡ OpenFault.Device
+            → Rose (P.view device).faults (P.view e.0).faults) }
+        ensures faults { IfErr result (λ e. (e.1 ≢ OpenFault.NoCheckpoint)
+            × ((page : ℕ) → e.1 ≢ OpenFault.Corrupt page) × (e.1 ≢ OpenFault.Exhausted)) }
+        ensures memory { (P.view device).honest ≡ true
+            → IfErr result (λ e. e.1 ≡ OpenFault.Memory → Leaves (P.view e.0) IsClear) }
     {
         let mut device = device;
         if let Err(fault) = make_clear(&mut device) {
@@ -95,26 +101,40 @@ impl<P: Pages, A: Allocator + Copy> Store<P, A> {
         })
     }
 
-    /// Opens a device: syncs it, finds the newest checkpoint, and takes the journal's records up to the first page that
-    /// does not fit. Where there were records, where that page is damaged, or where the pages are of an
-    /// older version, a checkpoint is made.
+    /// Opens a device: syncs it, finds the newest checkpoint, and reads the journal's records up to the first page that does not
+    /// fit. It makes a checkpoint if there were records, if that page is damaged, or if the pages have an older version.
     pub fn open(alloc: A, device: P) -> Result<Self, (P, OpenFault)>
         ensures opens { (before : StoreWorld) → DeviceFits (P.view device) before
-            → MatchResult result (OpensAs before (P.view device)) (λ e. GivesBack before (P.view device) (P.view e.0) e.1) }
-        ensures opened { IfOk result (λ store. (events : List EventOf) × Remembers events [] store) }
+            → MatchResult result (OpensAs before (P.view device))
+            (λ e. GivesBack before (P.view device) (P.view e.0) e.1) }
+        ensures opened { IfOk result (λ store. (events : List EventOf)
+            × Remembers events [] store) }
         ensures runs { IfOk result (λ store. IsStopped store → ⊥) }
         ensures size { IfErr result (λ e. (e.1 ≡ OpenFault.Size) ↔ IsTooSmall (P.view device)) }
-        ensures device { IfErr result (λ e. e.1 ≡ OpenFault.Device → Rose (P.view device).faults (P.view e.0).faults) }
+        ensures device { IfErr result (λ e. e.1 ≡ OpenFault.Device
+            → Rose (P.view device).faults (P.view e.0).faults) }
         ensures small { IfErr result (λ e. e.1 ≡ OpenFault.Size → e.0 ≡ device) }
-        ensures later { MatchResult result (λ store. GoesOn (P.view device) (view_of store)) (λ e. GoesOn (P.view device) (P.view e.0)) }
-        ensures spared { (P.view device).honest ≡ true → IfErr result (λ e. IsSpared (P.view device) (P.view e.0) e.1) }
-        ensures exact { (P.view device).honest ≡ true → MatchResult result (IsOpened (P.view device).seen) (λ e. IsCause e.1 (P.view device).seen) }
-        ensures steady { (events : List EventOf) → (P.view device).honest ≡ true → ((image : Image) → (P.view device).may_leave image → StandsFor events image)
-            → MatchResult result (λ store. Steady events (P.view device) (view_of store)) (λ e. Steady events (P.view device) (P.view e.0)) }
-        ensures fixes { (settled pending : List EventOf) → (P.view device).honest ≡ true → ((image : Image) → (P.view device).may_leave image → StandsBetween settled pending image)
+        ensures later { MatchResult result (λ store. GoesOn (P.view device) (view_of store))
+            (λ e. GoesOn (P.view device) (P.view e.0)) }
+        ensures spared { (P.view device).honest ≡ true
+            → IfErr result (λ e. IsSpared (P.view device) (P.view e.0) e.1) }
+        ensures exact { (P.view device).honest ≡ true
+            → MatchResult result (IsOpened (P.view device).seen)
+            (λ e. IsCause e.1 (P.view device).seen) }
+        ensures steady { (events : List EventOf) → (P.view device).honest ≡ true
+            → ((image : Image) → (P.view device).may_leave image → StandsFor events image)
+            → MatchResult result (λ store. Steady events (P.view device) (view_of store))
+            (λ e. Steady events (P.view device) (P.view e.0)) }
+        ensures fixes { (settled pending : List EventOf) → (P.view device).honest ≡ true
+            → ((image : Image) → (P.view device).may_leave image
+            → StandsBetween settled pending image)
             → MatchResult result (λ store. Fixes settled pending (P.view device) (view_of store))
-            (λ e. Fixes settled pending (P.view device) (P.view e.0) ⊎ ((e.1 ≡ OpenFault.Device) × FixesNothing settled pending (P.view device) (P.view e.0))) }
-        ensures stands { (events : List EventOf) → (P.view device).honest ≡ true → StandsFor events (P.view device).seen → MatchResult result (Remembers events []) (λ e. IsRefusal e.1) }
+            (λ e. Fixes settled pending (P.view device) (P.view e.0)
+            ⊎ ((e.1 ≡ OpenFault.Device) × FixesNothing settled pending (P.view device)
+            (P.view e.0))) }
+        ensures stands { (events : List EventOf) → (P.view device).honest ≡ true
+            → StandsFor events (P.view device).seen
+            → MatchResult result (Remembers events []) (λ e. IsRefusal e.1) }
     {
         let mut device = device;
         match settle_and_find(alloc, &mut device) {
@@ -123,19 +143,30 @@ impl<P: Pages, A: Allocator + Copy> Store<P, A> {
         }
     }
 
-    /// Gives a device back as `open` does that is refused memory: Memory is told where all else is right, and nothing is written.
+    /// Returns a device as `open` does if it gets no memory: `Memory` is reported if everything else is right, and nothing is
+    /// written.
     pub fn unopened(alloc: A, device: P) -> (P, OpenFault)
-        ensures gives_back { (before : StoreWorld) → DeviceFits (P.view device) before → GivesBack before (P.view device) (P.view result.0) result.1 }
+        ensures gives_back { (before : StoreWorld) → DeviceFits (P.view device) before
+            → GivesBack before (P.view device) (P.view result.0) result.1 }
         ensures size { (result.1 ≡ OpenFault.Size) ↔ IsTooSmall (P.view device) }
-        ensures device { result.1 ≡ OpenFault.Device → Rose (P.view device).faults (P.view result.0).faults }
+        ensures device { result.1 ≡ OpenFault.Device
+            → Rose (P.view device).faults (P.view result.0).faults }
         ensures small { result.1 ≡ OpenFault.Size → result.0 ≡ device }
         ensures later { GoesOn (P.view device) (P.view result.0) }
-        ensures spared { (P.view device).honest ≡ true → IsSpared (P.view device) (P.view result.0) result.1 }
+        ensures spared { (P.view device).honest ≡ true
+            → IsSpared (P.view device) (P.view result.0) result.1 }
         ensures exact { (P.view device).honest ≡ true → IsCause result.1 (P.view device).seen }
-        ensures steady { (events : List EventOf) → (P.view device).honest ≡ true → ((image : Image) → (P.view device).may_leave image → StandsFor events image) → Steady events (P.view device) (P.view result.0) }
-        ensures fixes { (settled pending : List EventOf) → (P.view device).honest ≡ true → ((image : Image) → (P.view device).may_leave image → StandsBetween settled pending image)
-            → Fixes settled pending (P.view device) (P.view result.0) ⊎ ((result.1 ≡ OpenFault.Device) × FixesNothing settled pending (P.view device) (P.view result.0)) }
-        ensures stands { (events : List EventOf) → (P.view device).honest ≡ true → StandsFor events (P.view device).seen → IsRefusal result.1 }
+        ensures steady { (events : List EventOf) → (P.view device).honest ≡ true
+            → ((image : Image) → (P.view device).may_leave image → StandsFor events image)
+            → Steady events (P.view device) (P.view result.0) }
+        ensures fixes { (settled pending : List EventOf) → (P.view device).honest ≡ true
+            → ((image : Image) → (P.view device).may_leave image
+            → StandsBetween settled pending image)
+            → Fixes settled pending (P.view device) (P.view result.0)
+            ⊎ ((result.1 ≡ OpenFault.Device)
+            × FixesNothing settled pending (P.view device) (P.view result.0)) }
+        ensures stands { (events : List EventOf) → (P.view device).honest ≡ true
+            → StandsFor events (P.view device).seen → IsRefusal result.1 }
     {
         let mut device = device;
         if let Err(refusal) = settle_and_find(alloc, &mut device) {
@@ -146,12 +177,15 @@ impl<P: Pages, A: Allocator + Copy> Store<P, A> {
 
     /// Gives a device back as `format` does that is refused memory: cleared, with Memory, where all else is right.
     pub fn unformatted(device: P) -> (P, OpenFault)
-        ensures memory { (P.view device).honest ≡ true → result.1 ≡ OpenFault.Memory → Leaves (P.view result.0) IsClear }
+        ensures memory { (P.view device).honest ≡ true → result.1 ≡ OpenFault.Memory
+            → Leaves (P.view result.0) IsClear }
         ensures size { (result.1 ≡ OpenFault.Size) ↔ IsTooSmall (P.view device) }
         ensures small { result.1 ≡ OpenFault.Size → result.0 ≡ device }
-        ensures device { result.1 ≡ OpenFault.Device → Rose (P.view device).faults (P.view result.0).faults }
+        ensures device { result.1 ≡ OpenFault.Device
+            → Rose (P.view device).faults (P.view result.0).faults }
         ensures later { GoesOn (P.view device) (P.view result.0) }
-        ensures faults { (result.1 ≢ OpenFault.NoCheckpoint) × ((page : ℕ) → result.1 ≢ OpenFault.Corrupt page) × (result.1 ≢ OpenFault.Exhausted) }
+        ensures faults { (result.1 ≢ OpenFault.NoCheckpoint)
+            × ((page : ℕ) → result.1 ≢ OpenFault.Corrupt page) × (result.1 ≢ OpenFault.Exhausted) }
     {
         let mut device = device;
         if let Err(fault) = make_clear(&mut device) {
@@ -160,26 +194,38 @@ impl<P: Pages, A: Allocator + Copy> Store<P, A> {
         (device, OpenFault::Memory)
     }
 
-    // The store of what was found, with a checkpoint where one is due.
+    // The store of what was found, with a checkpoint if one is due.
     fn recovered(device: P, found: Found<A>) -> Result<Self, (P, OpenFault)>
         requires room { PAGES ≤ length (P.view device).seen }
         requires few { found.journal.pages ≤ JOURNAL_PAGES }
         requires captured { found.journal.captured ≤ MOST_CAPTURED }
         requires order { found.journal.captured ≤ found.state.rows.next }
         requires events { HasEvents found.state }
-        ensures opens { (image : Image) (base : List EventOf) (pages : List (List EventOf)) (events : List EventOf) → IsFixed (P.view device) image → IsFound image base pages found → base ++ all_of pages ≡ events → Quiet found.edition.generation (length pages) image
-            → MatchResult result (OpensAs (Rests events) (P.view device)) (λ e. GivesBack (Rests events) (P.view device) (P.view e.0) e.1) }
-        ensures remembers { (events : List EventOf) → IsStateOf events found.state → IfOk result (Remembers events []) }
+        ensures opens { (image : Image) (base : List EventOf) (pages : List (List EventOf))
+            (events : List EventOf) → IsFixed (P.view device) image → IsFound image base pages found
+            → base ++ all_of pages ≡ events → Quiet found.edition.generation (length pages) image
+            → MatchResult result (OpensAs (Rests events) (P.view device))
+            (λ e. GivesBack (Rests events) (P.view device) (P.view e.0) e.1) }
+        ensures remembers { (events : List EventOf) → IsStateOf events found.state
+            → IfOk result (Remembers events []) }
         ensures fresh { IfOk result (IsFresh found) }
-        ensures stands { (image : Image) (base : List EventOf) (pages : List (List EventOf)) → IsFixed (P.view device) image → IsFound image base pages found → IfOk result (HasCheckpoint (base ++ all_of pages)) }
-        ensures steady { (image : Image) (base : List EventOf) (pages : List (List EventOf)) → IsFixed (P.view device) image → IsFound image base pages found
-            → MatchResult result (λ store. Steady (base ++ all_of pages) (P.view device) (view_of store)) (λ e. Steady (base ++ all_of pages) (P.view device) (P.view e.0)) }
+        ensures stands { (image : Image) (base : List EventOf) (pages : List (List EventOf))
+            → IsFixed (P.view device) image → IsFound image base pages found
+            → IfOk result (HasCheckpoint (base ++ all_of pages)) }
+        ensures steady { (image : Image) (base : List EventOf) (pages : List (List EventOf))
+            → IsFixed (P.view device) image → IsFound image base pages found
+            → MatchResult result (λ store. Steady (base ++ all_of pages) (P.view device)
+            (view_of store)) (λ e. Steady (base ++ all_of pages) (P.view device) (P.view e.0)) }
         ensures runs { IfOk result (λ store. IsStopped store → ⊥) }
-        ensures device { IfErr result (λ e. e.1 ≡ OpenFault.Device → Rose (P.view device).faults (P.view e.0).faults) }
-        ensures exhausted { IfErr result (λ e. e.1 ≡ OpenFault.Exhausted → (found.edition.generation ≡ LAST_GENERATION) × IsStale found) }
+        ensures device { IfErr result (λ e. e.1 ≡ OpenFault.Device
+            → Rose (P.view device).faults (P.view e.0).faults) }
+        ensures exhausted { IfErr result (λ e. e.1 ≡ OpenFault.Exhausted
+            → (found.edition.generation ≡ LAST_GENERATION) × IsStale found) }
         ensures spares { IfErr result (λ e. e.1 ≡ OpenFault.Exhausted → e.0 ≡ device) }
-        ensures later { MatchResult result (λ store. GoesOn (P.view device) (view_of store)) (λ e. GoesOn (P.view device) (P.view e.0)) }
-        ensures faults { IfErr result (λ e. (e.1 ≡ OpenFault.Device) ⊎ (e.1 ≡ OpenFault.Exhausted)) }
+        ensures later { MatchResult result (λ store. GoesOn (P.view device) (view_of store))
+            (λ e. GoesOn (P.view device) (P.view e.0)) }
+        ensures faults { IfErr result (λ e. (e.1 ≡ OpenFault.Device)
+            ⊎ (e.1 ≡ OpenFault.Exhausted)) }
     {
         let mut device = device;
         if !found.is_due() {
@@ -219,24 +265,34 @@ impl<P: Pages, A: Allocator + Copy> Store<P, A> {
         }
     }
 
-    /// Takes an event. Where its record does not fit behind those that are pending, these are committed first, and where
-    /// 240 rows were captured since the last checkpoint, one is made. Exhausted is told too where the event's row would have
-    /// a number past 64 bits.
+    /// Accepts an event. If its record does not fit after the pending ones, those are committed first; if 240 rows were captured
+    /// since the last checkpoint, a checkpoint is made. `Exhausted` is also reported if the event's row would have a number past 64
+    /// bits.
     pub fn add(&mut self, event: Event) -> Result<(), AddFault>
-        ensures run { (before : StoreWorld) → StoreFits self.old before → AddMoves result event before self.old self.new }
+        ensures run { (before : StoreWorld) → StoreFits self.old before
+            → AddMoves result event before self.old self.new }
         ensures joins { OnOk result (JoinsPending self.old event → Joins event self.old self.new) }
-        ensures joins_alone { OnOk result ((JoinsPending self.old event → ⊥) → JoinsAlone event self.old self.new) }
+        ensures joins_alone { OnOk result ((JoinsPending self.old event → ⊥)
+            → JoinsAlone event self.old self.new) }
         ensures runs { OnOk result (IsStopped self.new → ⊥) }
         ensures stopped { (result ≡ Err AddFault.Stopped) ↔ IsStopped self.old }
-        ensures refused { (cause : Refused) → (result ≡ Err (AddFault.Refused cause)) ↔ (IsRunning self.old × (refusal_in self.old event ≡ Some cause)) }
+        ensures refused { (cause : Refused) → (result ≡ Err (AddFault.Refused cause))
+            ↔ (IsRunning self.old × (refusal_in self.old event ≡ Some cause)) }
         ensures device { result ≡ Err AddFault.Device → Fails self.old self.new }
-        ensures answers { IsRunning self.old → refusal_in self.old event ≡ None → (Rose (view_of self.old).faults (view_of self.new).faults → ⊥) → (AddIsExhausted self.old event → ⊥) → IsOk result }
-        ensures exhausted { (result ≡ Err AddFault.Exhausted) ↔ (IsRunning self.old × (refusal_in self.old event ≡ None) × AddIsExhausted self.old event) }
+        ensures answers { IsRunning self.old → refusal_in self.old event ≡ None
+            → (Rose (view_of self.old).faults (view_of self.new).faults → ⊥)
+            → (AddIsExhausted self.old event → ⊥) → IsOk result }
+        ensures exhausted { (result ≡ Err AddFault.Exhausted)
+            ↔ (IsRunning self.old × (refusal_in self.old event ≡ None)
+            × AddIsExhausted self.old event) }
         ensures unchanged { OnErr result (result ≢ Err AddFault.Device → self.new ≡ self.old) }
         ensures page { OnOk result (length (records_in self.new) ≤ MOST_PAYLOAD) }
-        ensures joins_in_memory { OnOk result (JoinsPending self.old event → IsElsewhereSame self.old self.new) }
-        ensures takes_page { OnOk result ((JoinsPending self.old event → ⊥) → (IsRingFull self.old → ⊥) → (IsFull self.old → ⊥) → TakesPage self.old self.new) }
-        ensures makes_checkpoint { OnOk result ((JoinsPending self.old event → ⊥) → IsRingFull self.old ⊎ IsFull self.old → MakesCheckpoint self.old self.new) }
+        ensures joins_in_memory { OnOk result (JoinsPending self.old event
+            → IsElsewhereSame self.old self.new) }
+        ensures takes_page { OnOk result ((JoinsPending self.old event → ⊥)
+            → (IsRingFull self.old → ⊥) → (IsFull self.old → ⊥) → TakesPage self.old self.new) }
+        ensures makes_checkpoint { OnOk result ((JoinsPending self.old event → ⊥)
+            → IsRingFull self.old ⊎ IsFull self.old → MakesCheckpoint self.old self.new) }
         ensures later { IsLater self.old self.new }
     {
         if self.stopped {
@@ -253,23 +309,29 @@ impl<P: Pages, A: Allocator + Copy> Store<P, A> {
         Ok(())
     }
 
-    // Makes room for an event whose record has so many bytes: where it may not join what is pending, that is settled.
+    // Makes space for an event whose record has this many bytes: if it may not join the pending ones, those are settled.
     fn make_room(&mut self, event: &Event, bytes: usize) -> Result<(), StoreFault>
         requires running { IsRunning self.old }
         requires bytes { bytes ≡ length (record_of event.now) }
         requires short { bytes ≤ MOST_PAYLOAD }
         ensures kept { JoinsPending self.old event.now → (result ≡ Ok tt) × (self.new ≡ self.old) }
-        ensures run { (JoinsPending self.old event.now → ⊥) → (before : StoreWorld) → StoreFits self.old before → Moves (commit_step result) before self.old self.new }
-        ensures settles { OnOk result ((JoinsPending self.old event.now → ⊥) → Settles self.old self.new) }
+        ensures run { (JoinsPending self.old event.now → ⊥) → (before : StoreWorld)
+            → StoreFits self.old before → Moves (commit_step result) before self.old self.new }
+        ensures settles { OnOk result ((JoinsPending self.old event.now → ⊥)
+            → Settles self.old self.new) }
         ensures room { OnOk result (JoinsPending self.new event.now) }
-        ensures takes_page { OnOk result ((JoinsPending self.old event.now → ⊥) → (IsRingFull self.old → ⊥) → (IsFull self.old → ⊥) → TakesPage self.old self.new) }
-        ensures makes_checkpoint { OnOk result ((JoinsPending self.old event.now → ⊥) → IsRingFull self.old ⊎ IsFull self.old → MakesCheckpoint self.old self.new) }
+        ensures takes_page { OnOk result ((JoinsPending self.old event.now → ⊥)
+            → (IsRingFull self.old → ⊥) → (IsFull self.old → ⊥) → TakesPage self.old self.new) }
+        ensures makes_checkpoint { OnOk result ((JoinsPending self.old event.now → ⊥)
+            → IsRingFull self.old ⊎ IsFull self.old → MakesCheckpoint self.old self.new) }
         ensures runs { OnOk result (IsRunning self.new) }
         ensures state { state_in self.new ≡ state_in self.old }
         ensures stopped { result ≢ Err StoreFault.Stopped }
         ensures device { result ≡ Err StoreFault.Device → Fails self.old self.new }
-        ensures answers { (Rose (view_of self.old).faults (view_of self.new).faults → ⊥) → (RoomIsExhausted self.old event.now → ⊥) → IsOk result }
-        ensures exhausted { (result ≡ Err StoreFault.Exhausted) ↔ RoomIsExhausted self.old event.now }
+        ensures answers { (Rose (view_of self.old).faults (view_of self.new).faults → ⊥)
+            → (RoomIsExhausted self.old event.now → ⊥) → IsOk result }
+        ensures exhausted { (result ≡ Err StoreFault.Exhausted)
+            ↔ RoomIsExhausted self.old event.now }
         ensures unchanged { OnErr result (result ≢ Err StoreFault.Device → self.new ≡ self.old) }
         ensures later { IsLater self.old self.new }
     {
@@ -282,12 +344,13 @@ impl<P: Pages, A: Allocator + Copy> Store<P, A> {
         self.settle_pending()
     }
 
-    // Takes an event whose record fits, and tells what that is for the events and the device.
+    // Adds an event whose record fits, and states what that means for the events and the device.
     fn push(&mut self, event: Event)
         requires passes { refusal_in self.old event ≡ None }
         requires room { JoinsPending self.old event }
         requires number { HasNumberFor (state_in self.old) event }
-        ensures run { (before : StoreWorld) → IsRunning self.old → StoreFits self.old before → Moves (Adds event) before self.old self.new }
+        ensures run { (before : StoreWorld) → IsRunning self.old → StoreFits self.old before
+            → Moves (Adds event) before self.old self.new }
         ensures joins { Joins event self.old self.new }
         ensures same { IsElsewhereSame self.old self.new }
         ensures number { (state_in self.old).rows.next ≤ (state_in self.new).rows.next }
@@ -315,20 +378,30 @@ impl<P: Pages, A: Allocator + Copy> Store<P, A> {
     /// Settles what is pending: in the next journal page or, where all are used, in a checkpoint. With nothing pending it
     /// does nothing.
     pub fn commit(&mut self) -> Result<(), StoreFault>
-        ensures run { (before : StoreWorld) → StoreFits self.old before → Moves (commit_step result) before self.old self.new }
+        ensures run { (before : StoreWorld) → StoreFits self.old before
+            → Moves (commit_step result) before self.old self.new }
         ensures settles { OnOk result (Settles self.old self.new) }
         ensures runs { OnOk result (IsStopped self.new → ⊥) }
         ensures empty { OnOk result (records_in self.new ≡ []) }
         ensures state { state_in self.new ≡ state_in self.old }
         ensures stopped { (result ≡ Err StoreFault.Stopped) ↔ IsStopped self.old }
         ensures device { result ≡ Err StoreFault.Device → Fails self.old self.new }
-        ensures answers { IsRunning self.old → (Rose (view_of self.old).faults (view_of self.new).faults → ⊥) → (CommitIsExhausted self.old → ⊥) → IsOk result }
-        ensures exhausted { (result ≡ Err StoreFault.Exhausted) ↔ (IsRunning self.old × CommitIsExhausted self.old) }
+        ensures answers { IsRunning self.old
+            → (Rose (view_of self.old).faults (view_of self.new).faults → ⊥)
+            → (CommitIsExhausted self.old → ⊥) → IsOk result }
+        ensures exhausted { (result ≡ Err StoreFault.Exhausted)
+            ↔ (IsRunning self.old × CommitIsExhausted self.old) }
         ensures unchanged { OnErr result (result ≢ Err StoreFault.Device → self.new ≡ self.old) }
-        ensures nothing { IsRunning self.old → records_in self.old ≡ [] → (result ≡ Ok tt) × (self.new ≡ self.old) }
-        ensures takes_page { OnOk result ((records_in self.old ≡ [] → ⊥) → (IsFull self.old → ⊥) → TakesPage self.old self.new) }
-        ensures makes_checkpoint { OnOk result ((records_in self.old ≡ [] → ⊥) → IsFull self.old → MakesCheckpoint self.old self.new) }
-        ensures page { (view_of self.old).honest ≡ true → OnOk result ((records_in self.old ≡ [] → ⊥) → (IsFull self.old → ⊥) → Leaves (view_of self.new) (HasJournalPage self.old.next self.old.generation (records_in self.old))) }
+        ensures nothing { IsRunning self.old → records_in self.old ≡ []
+            → (result ≡ Ok tt) × (self.new ≡ self.old) }
+        ensures takes_page { OnOk result ((records_in self.old ≡ [] → ⊥) → (IsFull self.old → ⊥)
+            → TakesPage self.old self.new) }
+        ensures makes_checkpoint { OnOk result ((records_in self.old ≡ [] → ⊥) → IsFull self.old
+            → MakesCheckpoint self.old self.new) }
+        ensures page { (view_of self.old).honest ≡ true
+            → OnOk result ((records_in self.old ≡ [] → ⊥) → (IsFull self.old → ⊥)
+            → Leaves (view_of self.new) (HasJournalPage self.old.next self.old.generation
+            (records_in self.old))) }
         ensures later { IsLater self.old self.new }
     {
         self.settle_pending()
@@ -336,7 +409,8 @@ impl<P: Pages, A: Allocator + Copy> Store<P, A> {
 
     // What `commit` does. Once it is done, no more rows count as captured since the active checkpoint than before.
     fn settle_pending(&mut self) -> Result<(), StoreFault>
-        ensures run { (before : StoreWorld) → StoreFits self.old before → Moves (commit_step result) before self.old self.new }
+        ensures run { (before : StoreWorld) → StoreFits self.old before
+            → Moves (commit_step result) before self.old self.new }
         ensures settles { OnOk result (Settles self.old self.new) }
         ensures runs { OnOk result (IsStopped self.new → ⊥) }
         ensures empty { OnOk result (records_in self.new ≡ []) }
@@ -344,13 +418,22 @@ impl<P: Pages, A: Allocator + Copy> Store<P, A> {
         ensures state { state_in self.new ≡ state_in self.old }
         ensures stopped { (result ≡ Err StoreFault.Stopped) ↔ IsStopped self.old }
         ensures device { result ≡ Err StoreFault.Device → Fails self.old self.new }
-        ensures answers { IsRunning self.old → (Rose (view_of self.old).faults (view_of self.new).faults → ⊥) → (CommitIsExhausted self.old → ⊥) → IsOk result }
-        ensures exhausted { (result ≡ Err StoreFault.Exhausted) ↔ (IsRunning self.old × CommitIsExhausted self.old) }
+        ensures answers { IsRunning self.old
+            → (Rose (view_of self.old).faults (view_of self.new).faults → ⊥)
+            → (CommitIsExhausted self.old → ⊥) → IsOk result }
+        ensures exhausted { (result ≡ Err StoreFault.Exhausted)
+            ↔ (IsRunning self.old × CommitIsExhausted self.old) }
         ensures unchanged { OnErr result (result ≢ Err StoreFault.Device → self.new ≡ self.old) }
-        ensures nothing { IsRunning self.old → records_in self.old ≡ [] → (result ≡ Ok tt) × (self.new ≡ self.old) }
-        ensures takes_page { OnOk result ((records_in self.old ≡ [] → ⊥) → (IsFull self.old → ⊥) → TakesPage self.old self.new) }
-        ensures makes_checkpoint { OnOk result ((records_in self.old ≡ [] → ⊥) → IsFull self.old → MakesCheckpoint self.old self.new) }
-        ensures page { (view_of self.old).honest ≡ true → OnOk result ((records_in self.old ≡ [] → ⊥) → (IsFull self.old → ⊥) → Leaves (view_of self.new) (HasJournalPage self.old.next self.old.generation (records_in self.old))) }
+        ensures nothing { IsRunning self.old → records_in self.old ≡ []
+            → (result ≡ Ok tt) × (self.new ≡ self.old) }
+        ensures takes_page { OnOk result ((records_in self.old ≡ [] → ⊥) → (IsFull self.old → ⊥)
+            → TakesPage self.old self.new) }
+        ensures makes_checkpoint { OnOk result ((records_in self.old ≡ [] → ⊥) → IsFull self.old
+            → MakesCheckpoint self.old self.new) }
+        ensures page { (view_of self.old).honest ≡ true
+            → OnOk result ((records_in self.old ≡ [] → ⊥) → (IsFull self.old → ⊥)
+            → Leaves (view_of self.new) (HasJournalPage self.old.next self.old.generation
+            (records_in self.old))) }
         ensures later { IsLater self.old self.new }
     {
         if self.stopped {
@@ -380,7 +463,8 @@ impl<P: Pages, A: Allocator + Copy> Store<P, A> {
 
     /// Settles what is pending in a checkpoint: the other slot gets the state, and the journal begins again.
     pub fn checkpoint(&mut self) -> Result<(), StoreFault>
-        ensures run { (before : StoreWorld) → StoreFits self.old before → Moves (commit_step result) before self.old self.new }
+        ensures run { (before : StoreWorld) → StoreFits self.old before
+            → Moves (commit_step result) before self.old self.new }
         ensures settles { OnOk result (Settles self.old self.new) }
         ensures runs { OnOk result (IsStopped self.new → ⊥) }
         ensures empty { OnOk result (records_in self.new ≡ []) }
@@ -388,11 +472,19 @@ impl<P: Pages, A: Allocator + Copy> Store<P, A> {
         ensures stopped { (result ≡ Err StoreFault.Stopped) ↔ IsStopped self.old }
         ensures device { result ≡ Err StoreFault.Device → Fails self.old self.new }
         ensures renewed { OnOk result (IsRenewed self.old self.new) }
-        ensures gate { (view_of self.old).honest ≡ true → OnOk result (Leaves (view_of self.new) (HasGate self.new.slot self.new.generation)) }
-        ensures steady { (base : List EventOf) (pages : List (List EventOf)) → IsRenewable base pages self.old → Steady (base ++ all_of pages) (view_of self.old) (view_of self.new) }
-        ensures stands { (base : List EventOf) (pages : List (List EventOf)) → IsRenewable base pages self.old → OnOk result (HasCheckpoint (base ++ all_of pages) self.new) }
-        ensures answers { IsRunning self.old → (Rose (view_of self.old).faults (view_of self.new).faults → ⊥) → (IsLast self.old → ⊥) → IsOk result }
-        ensures exhausted { (result ≡ Err StoreFault.Exhausted) ↔ (IsRunning self.old × IsLast self.old) }
+        ensures gate { (view_of self.old).honest ≡ true
+            → OnOk result (Leaves (view_of self.new) (HasGate self.new.slot self.new.generation)) }
+        ensures steady { (base : List EventOf) (pages : List (List EventOf))
+            → IsRenewable base pages self.old
+            → Steady (base ++ all_of pages) (view_of self.old) (view_of self.new) }
+        ensures stands { (base : List EventOf) (pages : List (List EventOf))
+            → IsRenewable base pages self.old
+            → OnOk result (HasCheckpoint (base ++ all_of pages) self.new) }
+        ensures answers { IsRunning self.old
+            → (Rose (view_of self.old).faults (view_of self.new).faults → ⊥) → (IsLast self.old → ⊥)
+            → IsOk result }
+        ensures exhausted { (result ≡ Err StoreFault.Exhausted)
+            ↔ (IsRunning self.old × IsLast self.old) }
         ensures unchanged { OnErr result (result ≢ Err StoreFault.Device → self.new ≡ self.old) }
         ensures later { IsLater self.old self.new }
     {
@@ -426,7 +518,8 @@ impl<P: Pages, A: Allocator + Copy> Store<P, A> {
     /// The state after every event that was accepted.
     pub fn state(&self) -> &State<A>
         ensures value { result.now ≡ state_in self.now }
-        ensures after { (settled pending : List EventOf) → Remembers settled pending self.now → IsStateOf (settled ++ pending) result.now }
+        ensures after { (settled pending : List EventOf) → Remembers settled pending self.now
+            → IsStateOf (settled ++ pending) result.now }
     {
         &self.state
     }
@@ -441,12 +534,17 @@ impl<P: Pages, A: Allocator + Copy> Store<P, A> {
 
     /// Commits, and gives the device back. Where the commit fails, what was pending is in doubt.
     pub fn close(self) -> P
-        ensures run { (before : StoreWorld) → StoreFits self before → GivesUp Closes before (view_of self) (P.view result) ⊎ GivesUp ClosesInDoubt before (view_of self) (P.view result) }
-        ensures settles { (IsStopped self → ⊥) → (Rose (view_of self).faults (P.view result).faults → ⊥) → (CommitIsExhausted self → ⊥)
-            → (before : StoreWorld) → StoreFits self before → GivesUp Closes before (view_of self) (P.view result) }
+        ensures run { (before : StoreWorld) → StoreFits self before
+            → GivesUp Closes before (view_of self) (P.view result)
+            ⊎ GivesUp ClosesInDoubt before (view_of self) (P.view result) }
+        ensures settles { (IsStopped self → ⊥)
+            → (Rose (view_of self).faults (P.view result).faults → ⊥) → (CommitIsExhausted self → ⊥)
+            → (before : StoreWorld) → StoreFits self before
+            → GivesUp Closes before (view_of self) (P.view result) }
         ensures nothing { IsRunning self → records_in self ≡ [] → result ≡ self.device }
         ensures later { GoesOn (view_of self) (P.view result) }
-        ensures from { IsRunning self → (Rose (view_of self).faults (P.view result).faults → ⊥) → (before : StoreWorld) → StoreFits self before → LeavesNoEarlier self (P.view result) }
+        ensures from { IsRunning self → (Rose (view_of self).faults (P.view result).faults → ⊥)
+            → (before : StoreWorld) → StoreFits self before → LeavesNoEarlier self (P.view result) }
     {
         let mut store = self;
         let _in_doubt = store.commit();

@@ -1,4 +1,4 @@
--- What is told of pages.
+-- The verdicts on pages.
 use Rattle.std.proofs.Common.{sym, ap, ◌∙◌, ◌≡◌, List, ◌∷◌, ◌++◌, Some}
 use Rattle.dlms_state.specs.Refusal.{IsLegal, refusal_after}
 use Rattle.dlms_state.specs.declared.event.Event.{Event}

@@ -1,4 +1,4 @@
--- What stands in a file for a page.
+-- The bytes of a page in a file.
 use Rattle.std.specs.Prelude.{◌≡◌, ◌≤◌, ◌<◌, ◌+◌, ◌*◌, ℕ, List, length, slice_range, slice_index_or}
 use Rattle.dlms_pages.specs.Seal.{ReadsSlot}
 use Rattle.dlms_pages.specs.declared.device.PageRead.{PageRead}
@@ -13,11 +13,12 @@ slot_at index bytes = slice_range bytes (index * SLOT_BYTES) (index * SLOT_BYTES
 abbrev pub IsCut : (index count : ℕ) → Type 0
 IsCut index count = count < index * SLOT_BYTES + SLOT_BYTES
 
--- A page is what its slot says, by its seal; where the bytes end before the slot does, it is damaged.
+-- A page is the content of its slot, by its seal; if the bytes end before the slot does, it is damaged.
 pub record IsPageIn (index : ℕ) (bytes : List ℕ) (page : PageRead) : Type 0 where
-  pub whole : index * SLOT_BYTES + SLOT_BYTES ≤ length bytes → ReadsSlot index (slot_at index bytes) page
+  pub whole : index * SLOT_BYTES + SLOT_BYTES ≤ length bytes
+      → ReadsSlot index (slot_at index bytes) page
   pub cut : IsCut index (length bytes) → page ≡ Damaged
 
--- so of each page of a device of so many pages
+-- the same for each page of a device
 abbrev pub AreIn : List ℕ → List PageRead → Type 0
 AreIn bytes pages = (k : ℕ) → k < length pages → IsPageIn k bytes (slice_index_or pages k Damaged)

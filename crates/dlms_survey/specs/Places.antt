@@ -1,4 +1,4 @@
--- What the places of pages are for, by the layout of dlms_store.
+-- The purposes of the places of pages, by the layout of dlms_store.
 use Rattle.std.specs.Prelude.{◌≡◌, ◌<◌, ◌+◌, ◌-◌, ◌==◌, ℕ, nat_le, nat_lt, if◌then◌else◌, Option, Some, None}
 use Rattle.dlms_store.specs.declared.layout.Slot.{Slot}
 use Rattle.dlms_store.specs.declared.layout.Slot.TheVariants.{First, Second}
@@ -7,7 +7,7 @@ use Rattle.dlms_store.specs.Layout.{gate_of}
 use Rattle.dlms_survey.specs.declared.place.Place.{Place}
 use Rattle.dlms_survey.specs.declared.place.Place.TheVariants.{Gate, Body, Journal, Ring}
 
--- the page of this number behind a slot's gate, the gate itself being 0
+-- the page with this number after a slot's gate, which has the number 0
 abbrev pub IsInSlot : Slot → ℕ → Place → Type 0
 IsInSlot slot number (Gate of) = (of ≡ slot) × (number ≡ 0)
 IsInSlot slot number (Body of k) = (of ≡ slot) × (number ≡ 1 + k)
@@ -20,7 +20,7 @@ IsPlace page (Body slot k) = (page ≡ gate_of slot + 1 + k) × (k < BODIES)
 IsPlace page (Journal k) = (page ≡ JOURNAL + k) × (k < JOURNAL_PAGES)
 IsPlace page (Ring k) = page ≡ RING + k
 
--- the place of a page: by its number behind a slot's gate, and by its number in the store
+-- the place of a page: by its number after a slot's gate, and by its number in the store
 abbrev pub in_slot : Slot → ℕ → Place
 in_slot slot number = if number == 0 then Gate slot else Body slot (number - 1)
 

@@ -1,4 +1,4 @@
-//! What the head of a page says.
+//! The content of the head of a page.
 ghost use Rattle.std.specs.Prelude.{◌≡◌, slice_index, is_some};
 ghost use Rattle.dlms_journal.specs.Page.{kind_named, payload_at};
 ghost use Rattle.dlms_journal.specs.Page.{head_of as said_by};
@@ -7,10 +7,10 @@ use dlms_journal::{
     PAGE_BYTES, PageKind, generation_of, index_of, kind_of, payload_of, version_of,
 };
 
-/// What the head of a page says.
+/// The content of the head of a page.
 #[derive(Clone, Copy, Debug, PartialEq, Eq)]
 pub struct Head {
-    /// What the page is for; none where the number is unknown.
+    /// The kind of the page; none if the number is unknown.
     pub kind: Option<PageKind>,
     /// The number by which it says so.
     pub number: u8,
@@ -24,7 +24,7 @@ pub struct Head {
     pub has_payload: bool,
 }
 
-/// What the head of a page says, by the readers of heads.
+/// The content of the head of a page, by the readers of heads.
 pub fn head_of(page: &[u8; PAGE_BYTES]) -> Head
     ensures kind { result.kind ≡ kind_named (said_by page.now).kind }
     ensures number { result.number ≡ (said_by page.now).kind }

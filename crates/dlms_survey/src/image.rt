@@ -35,7 +35,7 @@ impl<A: Allocator> Model for Image<A> {
     ghost invariant = { λ i. length i.pages.items ≡ PAGES };
 }
 
-/// What stands at a page's place: what its slot says; where the bytes end before the slot does, a damaged page.
+/// The page of a slot; a damaged page if the bytes end before the slot does.
 fn page_in(bytes: &[u8], index: u16) -> PageRead
     ensures { IsPageIn index bytes.now result }
 {
@@ -64,7 +64,7 @@ fn fill(pages: &mut [PageRead], bytes: &[u8])
 impl<A: Allocator + Copy> Image<A> {
     ghost use Rattle.dlms_survey.specs.Image.{view_of};
 
-    /// The pages of these bytes. What stands behind the last page is not looked at.
+    /// The pages of these bytes. Bytes after the last page are ignored.
     pub fn of_bytes(alloc: A, bytes: &[u8]) -> Result<Image<A>, AllocError>
         ensures pages { IfOk result (λ image. AreIn bytes.now image.pages) }
         ensures bytes { IfOk result (λ image. image.bytes ≡ length bytes.now) }
@@ -85,7 +85,7 @@ impl<A: Allocator + Copy> Image<A> {
         let _pages = &self.pages;
     }
 
-    /// What a page holds; one past the last is damaged.
+    /// The content of a page; one past the last is damaged.
     pub fn page(&self, index: u16) -> &PageRead
         ensures { result.now ≡ page_at self.now.pages index }
     {

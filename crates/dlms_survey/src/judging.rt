@@ -49,7 +49,9 @@ fn index_at(place: Place) -> Option<u16>
 /// Whether a page of this kind has what its place asks for, whatever counts.
 fn fits_place(place: Place, kind: PageKind, head: Head) -> Verdict
     ensures counts { result ≢ Verdict.Counts }
-    ensures says { (image : ImageValue) (page : ℕ) (bytes : List ℕ) → IsKind (Some kind) (said_by bytes) → head.version ≡ (said_by bytes).version → head.index ≡ (said_by bytes).index → head.has_payload ≡ is_some (payload_at bytes)
+    ensures says { (image : ImageValue) (page : ℕ) (bytes : List ℕ)
+        → IsKind (Some kind) (said_by bytes) → head.version ≡ (said_by bytes).version
+        → head.index ≡ (said_by bytes).index → head.has_payload ≡ is_some (payload_at bytes)
         → SaysOf image page (Content bytes) result }
     ensures exact { result ≡ fit place kind head.version head.index head.has_payload }
 {
@@ -94,8 +96,10 @@ fn at_place<A: Allocator + Copy>(image: &Image<A>, page: u16) -> Verdict
 /// The payload of a page that has what its place asks for, if it is of this edition; else why it is not.
 fn of_edition(bytes: &[u8; PAGE_BYTES], edition: Edition) -> Result<&[u8], Verdict>
     ensures counts { IfErr result (λ verdict. verdict ≢ Verdict.Counts) }
-    ensures says { (image : ImageValue) (page : ℕ) → IfErr result (SaysOf image page (Content bytes.now)) }
-    ensures exact { MatchResult result (λ payload. of_edition edition bytes.now ≡ Ok payload.now) (λ told. of_edition edition bytes.now ≡ Err told) }
+    ensures says { (image : ImageValue) (page : ℕ)
+        → IfErr result (SaysOf image page (Content bytes.now)) }
+    ensures exact { MatchResult result (λ payload. of_edition edition bytes.now ≡ Ok payload.now)
+        (λ told. of_edition edition bytes.now ≡ Err told) }
 {
     let head = head_of(bytes);
     if head.generation != edition.generation {
@@ -118,7 +122,9 @@ fn payload_in<A: Allocator + Copy>(
 ) -> Result<&[u8], Verdict>
     ensures counts { IfErr result (λ verdict. verdict ≢ Verdict.Counts) }
     ensures says { IfErr result (Says image.now page) }
-    ensures exact { MatchResult result (λ payload. payload_of image.now page edition ≡ Ok payload.now) (λ told. payload_of image.now page edition ≡ Err told) }
+    ensures exact { MatchResult result
+        (λ payload. payload_of image.now page edition ≡ Ok payload.now)
+        (λ told. payload_of image.now page edition ≡ Err told) }
 {
     let found = at_place(image, page);
     let PageRead::Content(bytes) = image.page(page) else {
@@ -130,7 +136,7 @@ fn payload_in<A: Allocator + Copy>(
     of_edition(bytes, edition)
 }
 
-/// A slot's bodies, where they are those of a state.
+/// The bodies of a slot, if they encode a state.
 fn bodies_of<A: Allocator + Copy>(
     image: &Image<A>,
     slot: Slot,
@@ -189,10 +195,11 @@ fn body_reason<A: Allocator + Copy>(
     }
 }
 
-/// Why a journal page behind this state does not fit, which is of the edition that counts.
+/// Why a journal page of the active edition after this state does not fit.
 fn records_reason<A: Allocator + Copy>(state: &State<A>, payload: &[u8]) -> Verdict
     ensures counts { result ≢ Verdict.Counts }
-    ensures says { (image : ImageValue) (page : ℕ) (read : PageReadOf) → SaysOf image page read result }
+    ensures says { (image : ImageValue) (page : ℕ) (read : PageReadOf)
+        → SaysOf image page read result }
     ensures exact { IsRecordsTold state.now payload.now result }
 {
     let Some(events) = records_of(payload) else {
@@ -211,7 +218,7 @@ fn records_reason<A: Allocator + Copy>(state: &State<A>, payload: &[u8]) -> Verd
     Verdict::RingFull
 }
 
-/// The ring pages that a checkpoint names, by their numbers: from the first one up to the one behind the last.
+/// The ring pages that a checkpoint names, by their numbers: from the first one up to the one after the last.
 #[derive(Clone, Copy, Debug, PartialEq, Eq)]
 struct Named {
     first: u64,
@@ -220,11 +227,12 @@ struct Named {
     serves_older: bool,
 }
 
-/// The number of the ring page that stands at this index, where this one is the first that may be named.
+/// The number of the ring page at this index, if this one is the first that may be named.
 fn number_at(first: u64, index: u16) -> u64
     ensures from { first ≤ result }
     ensures place { result < 2 ^ 64 - 1 → index < RING_PAGES → result % RING_PAGES ≡ index }
-    ensures least { (n : ℕ) → index < RING_PAGES → first ≤ n → n < 2 ^ 64 → n % RING_PAGES ≡ index → result ≤ n }
+    ensures least { (n : ℕ) → index < RING_PAGES → first ≤ n → n < 2 ^ 64 → n % RING_PAGES ≡ index
+        → result ≤ n }
     ensures exact { result ≡ number_from first index }
 {
     let pages = u64::from(RING_PAGES);
@@ -232,7 +240,7 @@ fn number_at(first: u64, index: u16) -> u64
     first.saturating_add(ahead)
 }
 
-/// The number of the ring page behind those that were named: those that a recovery took, or up to the one that does not fit.
+/// The number of the ring page after those that were named: those that a recovery read, or up to the one that does not fit.
 fn behind_named<A: Allocator + Copy>(found: &Result<Found<A>, OpenFault>, first: u64) -> u64
     ensures { IsBehindNamed first found.now result }
 {
@@ -264,7 +272,8 @@ impl<'a, A: Allocator + Copy> Judge<'a, A> {
         ensures image { result.image.now ≡ image.now }
         ensures survey { result.survey.now ≡ survey.now }
         ensures more { result.more ≡ asks_for_more image.now survey.now.active }
-        ensures named { IfSome result.named (λ named. IsBehindNamed named.first survey.now.found named.behind) }
+        ensures named { IfSome result.named
+            (λ named. IsBehindNamed named.first survey.now.found named.behind) }
     {
         let Ok((slot, edition)) = survey.active else {
             return Judge {
@@ -297,7 +306,8 @@ impl<'a, A: Allocator + Copy> Judge<'a, A> {
     fn gate(&self, slot: Slot) -> Verdict
         ensures counts { (result ≡ Verdict.Counts) ↔ CountsGate slot self.now.survey.now }
         ensures says { Says self.now.image.now (gate_of slot) result }
-        ensures exact { result ≡ gate_told slot self.now.survey.now.active (own self.now.image.now (gate_of slot)) }
+        ensures exact { result ≡ gate_told slot self.now.survey.now.active
+            (own self.now.image.now (gate_of slot)) }
     {
         match self.survey.active {
             Ok((active, _)) if active == slot => Verdict::Counts,
@@ -313,7 +323,8 @@ impl<'a, A: Allocator + Copy> Judge<'a, A> {
     fn is_asked_for(&self, slot: Slot, index: u16) -> bool
         ensures slot { IsTrue result → CountsGate slot self.now.survey.now }
         ensures index { IsTrue result → IsTrue ((index == 0) || self.now.more) }
-        ensures all { CountsGate slot self.now.survey.now → IsTrue ((index == 0) || self.now.more) → IsTrue result }
+        ensures all { CountsGate slot self.now.survey.now → IsTrue ((index == 0) || self.now.more)
+            → IsTrue result }
     {
         match self.survey.active {
             Ok((active, _)) if active == slot => index == 0 || self.more,
@@ -321,7 +332,7 @@ impl<'a, A: Allocator + Copy> Judge<'a, A> {
         }
     }
 
-    /// Whether a page stands before the one that a recovery names where it refuses.
+    /// Whether a page comes before the one that a recovery names in its refusal.
     fn is_before(&self, page: u16) -> bool
         ensures { IsTrue result ↔ IsBefore page self.now.survey.now.found }
     {
@@ -333,7 +344,8 @@ impl<'a, A: Allocator + Copy> Judge<'a, A> {
 
     /// Whether a body counts, and why not.
     fn body(&self, slot: Slot, index: u16, page: u16) -> Verdict
-        ensures counts { (result ≡ Verdict.Counts) ↔ MayCountBody slot index page self.now.more self.now.survey.now }
+        ensures counts { (result ≡ Verdict.Counts)
+            ↔ MayCountBody slot index page self.now.more self.now.survey.now }
         ensures says { Says self.now.image.now page result }
         ensures exact { result ≡ body_at self.now.image.now self.now.survey.now.found self.now.more slot index page self.now.survey.now.active }
     {
@@ -394,7 +406,8 @@ impl<'a, A: Allocator + Copy> Judge<'a, A> {
 
     /// Whether a ring page counts, and why not.
     fn ring(&self, index: u16, page: u16) -> Verdict
-        ensures counts { index < RING_PAGES → (result ≡ Verdict.Counts) ↔ CountsRing index page self.now.named self.now.survey.now }
+        ensures counts { index < RING_PAGES → (result ≡ Verdict.Counts)
+            ↔ CountsRing index page self.now.named self.now.survey.now }
         ensures says { Says self.now.image.now page result }
         ensures exact { result ≡ ring_at self.now.image.now self.now.survey.now index page self.now.named }
     {
@@ -412,16 +425,22 @@ impl<'a, A: Allocator + Copy> Judge<'a, A> {
         }
     }
 
-    /// Whether a page serves, and why not. A gate counts exactly where its slot does, a body where it is one of those that the first
-    /// body asks for, a journal page where a recovery takes its events, and a ring page where the bodies name it. What it says of a
-    /// page's octets is so.
+    /// Whether a page is used, and if not, why. A gate counts exactly if its slot does, a body if it is one of those that the first
+    /// body asks for, a journal page if a recovery applies its events, and a ring page if the bodies name it. Its statements about
+    /// a page's octets are true.
     pub fn verdict(&self, page: u16) -> Verdict
-        ensures gate { (slot : SlotOf) → page ≡ gate_of slot → (result ≡ Verdict.Counts) ↔ CountsGate slot self.now.survey.now }
-        ensures body { (slot : SlotOf) (k : ℕ) → page ≡ gate_of slot + 1 + k → k < BODIES → (result ≡ Verdict.Counts) ↔ MayCountBody slot k page self.now.more self.now.survey.now }
-        ensures journal { (k : ℕ) → page ≡ JOURNAL + k → k < JOURNAL_PAGES → (result ≡ Verdict.Counts) ↔ CountsJournal k self.now.survey.now }
-        ensures ring { (k : ℕ) → page ≡ RING + k → k < RING_PAGES → (result ≡ Verdict.Counts) ↔ CountsRing k page self.now.named self.now.survey.now }
-        // What is told of a page, by its place.
-        ensures exact { IsToldAt self.now.image.now self.now.survey.now self.now.more self.now.named page (place_at page) result }
+        ensures gate { (slot : SlotOf) → page ≡ gate_of slot → (result ≡ Verdict.Counts)
+            ↔ CountsGate slot self.now.survey.now }
+        ensures body { (slot : SlotOf) (k : ℕ) → page ≡ gate_of slot + 1 + k → k < BODIES
+            → (result ≡ Verdict.Counts)
+            ↔ MayCountBody slot k page self.now.more self.now.survey.now }
+        ensures journal { (k : ℕ) → page ≡ JOURNAL + k → k < JOURNAL_PAGES
+            → (result ≡ Verdict.Counts) ↔ CountsJournal k self.now.survey.now }
+        ensures ring { (k : ℕ) → page ≡ RING + k → k < RING_PAGES → (result ≡ Verdict.Counts)
+            ↔ CountsRing k page self.now.named self.now.survey.now }
+        // The verdict on a page, by its place.
+        ensures exact { IsToldAt self.now.image.now self.now.survey.now self.now.more self.now.named page
+            (place_at page) result }
         // What that says of its octets.
         ensures says { Says self.now.image.now page result }
     {

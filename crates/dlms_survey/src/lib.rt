@@ -1,4 +1,5 @@
-//! What the pages of a store are: which slot counts, what a recovery finds and would do, and whether each page serves, and why not.
+//! The state of a store's pages: which slot counts, what a recovery finds and would do, and whether each page is used, and if not,
+//! why.
 #![tactic(auto)]
 
 mod head;

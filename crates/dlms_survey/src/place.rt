@@ -1,11 +1,11 @@
-//! What the places of pages are for.
+//! The purposes of the places of pages.
 ghost use Rattle.std.specs.Prelude.{◌≡◌};
 ghost use Rattle.dlms_survey.specs.Places.{IsPlace, IsInSlot, in_slot, place_at};
 
 use dlms_store::{JOURNAL, RING, Slot};
 use std::fmt;
 
-/// What a page's place is for.
+/// The purpose of a page's place.
 #[derive(Clone, Copy, Debug, PartialEq, Eq)]
 pub enum Place {
     /// The gate of a slot.
@@ -18,7 +18,7 @@ pub enum Place {
     Ring(u16),
 }
 
-/// What the page of this number, counted from its slot's gate, is for.
+/// The purpose of the page with this number, counted from its slot's gate.
 fn in_slot(slot: Slot, number: u16) -> Place
     ensures place { IsInSlot slot number result }
     ensures exact { result ≡ in_slot slot number }
@@ -30,7 +30,7 @@ fn in_slot(slot: Slot, number: u16) -> Place
     }
 }
 
-/// What the place of a page is for.
+/// The purpose of a page's place.
 pub fn place_of(page: u16) -> Place
     ensures place { IsPlace page result }
     ensures exact { result ≡ place_at page }

@@ -9,7 +9,7 @@ use dlms_state::State;
 use dlms_store::{Edition, Found, OpenFault, Slot, active, find, open_edition};
 use std::alloc::{AllocError, Allocator, Global};
 
-/// What a recovery would do.
+/// The action of a recovery.
 #[derive(Clone, Copy, Debug, PartialEq, Eq)]
 pub enum Recovery {
     /// It would open the store, and write nothing.
@@ -20,7 +20,7 @@ pub enum Recovery {
     Refused(OpenFault),
 }
 
-/// What a recovery would do with what it finds.
+/// The action of a recovery, given what it finds.
 fn recovery_of<A: Allocator + Copy>(found: &Found<A>) -> Recovery
     ensures { IsRecovery found.now result }
 {
@@ -33,14 +33,14 @@ fn recovery_of<A: Allocator + Copy>(found: &Found<A>) -> Recovery
     }
 }
 
-/// What the gate of a slot says, where it is whole, open and of a known version.
+/// The edition of the gate of a slot, if it is whole, open and of a known version.
 fn gate_in<A: Allocator + Copy>(image: &Image<A>, slot: Slot) -> Option<Edition>
     ensures { IsGateOf slot image.now.pages result }
 {
     open_edition(image.page(slot.gate()))
 }
 
-/// What a recovery finds in an image, by the store's own reading.
+/// The result of a recovery of an image, by the store's own reading.
 fn found_in<A: Allocator + Copy>(alloc: A, image: &mut Image<A>) -> Result<Found<A>, OpenFault>
     ensures found { IsFoundIn image.old.pages result }
     ensures size { result ≢ Err OpenFault.Size }
@@ -51,17 +51,17 @@ fn found_in<A: Allocator + Copy>(alloc: A, image: &mut Image<A>) -> Result<Found
     find(alloc, image)
 }
 
-/// What a recovery finds in an image: what its two gates say, which slot counts, and what that slot and the journal stand for, or
-/// why they stand for nothing.
+/// The result of a recovery of an image: the editions of its two gates, the slot that counts, and the events that this slot and the
+/// journal represent, or why they represent none.
 #[derive(Drop)]
 pub struct Survey<A: Allocator = Global> {
-    /// What the first slot's gate says, where it is whole, open and of a known version.
+    /// The edition of the first slot's gate, if it is whole, open and of a known version.
     pub first: Option<Edition>,
-    /// What the second one's says.
+    /// The edition of the second one.
     pub second: Option<Edition>,
     /// Which slot counts, or why none does.
     pub active: Result<(Slot, Edition), OpenFault>,
-    /// What a recovery finds, or why it would refuse.
+    /// The result of a recovery, or why it would refuse.
     pub found: Result<Found<A>, OpenFault>,
 }
 
@@ -69,8 +69,10 @@ impl<A: Allocator + Copy> Survey<A> {
     /// Surveys an image. Want of memory comes of the rows of the state, and so only where all else is that of one.
     pub fn of(alloc: A, image: &mut Image<A>) -> Result<Survey<A>, AllocError>
         ensures surveyed { IfOk result (IsSurveyed image.old.pages) }
-        ensures told { IfOk result (λ survey. (survey.found ≢ Err OpenFault.Size) × (survey.found ≢ Err OpenFault.Memory)) }
-        ensures device { IfOk result (λ survey. survey.found ≡ Err OpenFault.Device → Rose image.old.faults image.new.faults) }
+        ensures told { IfOk result (λ survey. (survey.found ≢ Err OpenFault.Size)
+            × (survey.found ≢ Err OpenFault.Memory)) }
+        ensures device { IfOk result (λ survey. survey.found ≡ Err OpenFault.Device
+            → Rose image.old.faults image.new.faults) }
         ensures memory { IsErr result → IsCause OpenFault.Memory image.old.pages }
         ensures pages { image.new.pages ≡ image.old.pages }
     {
@@ -88,9 +90,10 @@ impl<A: Allocator + Copy> Survey<A> {
         })
     }
 
-    /// What a recovery would do.
+    /// The action of a recovery.
     pub fn recovery(&self) -> Recovery
-        ensures { MatchResult self.now.found (λ found. IsRecovery found result) (λ fault. result ≡ Recovery.Refused fault) }
+        ensures { MatchResult self.now.found (λ found. IsRecovery found result)
+            (λ fault. result ≡ Recovery.Refused fault) }
     {
         match &self.found {
             Ok(found) => recovery_of(found),
@@ -98,7 +101,7 @@ impl<A: Allocator + Copy> Survey<A> {
         }
     }
 
-    /// The state after all events that a recovery finds; none exactly where it would refuse.
+    /// The state after all events that a recovery finds; none exactly if it would refuse.
     pub fn state(&self) -> Option<&State<A>>
         ensures { option_map (λ state. state.now) result ≡ state_in self.now.found }
     {

@@ -16,7 +16,7 @@ pub enum Verdict {
     Empty,
     /// The kind has no name.
     UnknownKind(u8),
-    /// The version is none that is read.
+    /// The version is unknown.
     UnknownVersion(u8),
     /// It is of another kind than its place.
     OtherKind(PageKind),
@@ -52,11 +52,11 @@ pub enum Verdict {
     Refused(Refused),
     /// Its events capture more rows than the ring takes.
     RingFull,
-    /// A journal page behind the end of the journal.
+    /// A journal page after the end of the journal.
     Behind,
 }
 
-/// What a page of this kind is.
+/// The name of a kind of page.
 pub fn kind_name(kind: PageKind) -> &'static str {
     match kind {
         PageKind::Empty => "empty",
@@ -73,10 +73,10 @@ impl Verdict {
     fn plain(self) -> &'static str {
         match self {
             Verdict::Cut => "damaged: the file ends before it does",
-            Verdict::Torn => "damaged: its seal is not that of its content",
+            Verdict::Torn => "damaged: its seal does not match its content",
             Verdict::Empty => "empty",
             Verdict::Overlong => "does not fit: its payload is longer than a page holds",
-            Verdict::Unused => "not looked at",
+            Verdict::Unused => "ignored",
             Verdict::Closed => "closed: its bodies may be half written",
             Verdict::Counts => "counts",
             Verdict::Older => "does not count: the other gate is of a greater generation",
@@ -84,10 +84,10 @@ impl Verdict {
             Verdict::OtherLength => "does not fit: the body has another length",
             Verdict::NoRows =>
                 "does not fit: its rows have another length, or a clock past its range",
-            Verdict::NoState => "does not fit: the bodies are those of no state",
+            Verdict::NoState => "does not fit: the bodies contain no state",
             Verdict::NoRecords => "does not fit: its payload is not whole records",
             Verdict::RingFull => "does not fit: its events capture more rows than the ring takes",
-            Verdict::Behind => "behind the journal's end: not looked at",
+            Verdict::Behind => "after the journal's end: ignored",
             Verdict::Body(BodyFault::Length) => "does not fit: the body has another length",
             Verdict::Body(BodyFault::Counts) =>
                 "does not fit: the body's counts are past their limits",

@@ -1,4 +1,4 @@
--- What the program's words come to.
+-- The job of the command line.
 use Rattle.std.proofs.Common.{◌≡◌, ◌∙◌, ◌&&◌, ℕ, refl, sym, ap, subst, inl, inr, Bool, true, false, not, List, [], ◌∷◌, Option, Some, None, codes, Bor}
 use Rattle.std.specs.Prelude.{◌⊎◌, cond, find, is_some, option_map}
 use Rattle.std.specs.List.{list_any}
@@ -61,7 +61,7 @@ one_entered a (Some p) h = one_found (λ s. answers_to p.0 (label_of s)) a.subs 
 abbrev made : App
 made = built dlms
 
--- where no fault was met, one of the program's commands was
+-- if there was no fault, one of the program's commands was found
 pub command_met : (words : List Text) → fault_of dlms words ≡ [] → IsOneOf made.subs (subcommand_of dlms words)
 command_met words h =
     let args : List Text = argument_words made words in
@@ -85,7 +85,7 @@ met_named name (Some (other, rows)) e = (rows, ap (λ (n : Text). Some (n, rows)
 other_name : (name : Text) (met found : Option (Text × List Row)) → met ≡ found → IsNot name met → ((rows : List Row) × (found ≡ Some (name, rows))) → ⊥
 other_name name met found is not_it has = not_it (ap (option_map (λ p. p.0)) (is ∙ has.1))
 
--- the words of a job whose name is none of the others
+-- the command line of a job with another name than the others
 pub polls_else : (words : List Text) (met : Option (Text × List Row)) → fault_of dlms words ≡ [] → met ≡ subcommand_of dlms words
     → IsNot (codes "format") met → IsNot (codes "replay") met → IsNot (codes "loopback") met → IsNot (codes "serve") met
     → IsNot (codes "get") met → IsNot (codes "list") met → IsNot (codes "set") met → IsNot (codes "act") met
@@ -139,7 +139,7 @@ matched a words m is has =
     let found : HasMatchesOf dlms words m = subst (λ (b : App). HasMatchesOf b words m) is has in
     (found refl).1
 
--- what was found is there where a view of it is
+-- there is a match if there is a view of it
 pub is_some_map : {A B : Type 0} (f : A → B) (o : Option A) → is_some (option_map f o) ≡ is_some o
 is_some_map f None = refl
 is_some_map f (Some x) = refl

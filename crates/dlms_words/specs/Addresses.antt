@@ -6,11 +6,11 @@ use Rattle.dlms_words.specs.Numbers.{IsNumberOf}
 abbrev pub IsPort : List ℕ → Type 0
 IsPort digits = (port : ℕ) × (port < 2 ^ 16) × IsNumberOf digits port
 
--- a colon stands at this place, and behind it a port
+-- there is a colon at this place, followed by a port
 abbrev pub EndsHost : List ℕ → ℕ → Type 0
 EndsHost text at = (get_or text at 0 ≡ 58) × IsPort (drop (at + 1) text)
 
--- a host, which has one octet at least, ends somewhere, and a port stands behind it
+-- a host of at least one octet ends somewhere, followed by a port
 pub record IsAddress (text : List ℕ) : Type 0 where
   pub at : ℕ
   pub host : 0 < at

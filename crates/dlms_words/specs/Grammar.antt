@@ -13,18 +13,18 @@ use Rattle.dlms_words.specs.declared.grammar.CommandWords.{CommandWords}
 
 -- ---- what a command may be given
 
--- a value that stands by itself: it may be left out, or has to be there
+-- a positional argument: it may be left out, or is required
 abbrev pub value_rule : Text → Rule
 value_rule name = new_rule name
 
 abbrev pub wanted_rule : Text → Rule
 wanted_rule name = record (new_rule name) { required = true }
 
--- a flag, and an option with a value, by this name behind two dashes
+-- a flag, and an option with a value, by this name after two dashes
 abbrev pub flag_rule : Text → Rule
 flag_rule name = record (new_rule name) { long = Some name; action = Some SetTrue }
 
--- and a flag that has a letter behind one dash too
+-- and a flag that also has a letter after one dash
 abbrev pub short_flag_rule : Text → ℕ → Rule
 short_flag_rule name letter = record (flag_rule name) { short = Some letter }
 
@@ -37,7 +37,8 @@ options_rule name = record (option_rule name) { action = Some Append }
 
 -- an option whose value is a number from `least` to `most`
 abbrev pub number_rule : Text → (least most : ℕ) → Rule
-number_rule name least most = record (option_rule name) { parser = Some (parser.Signed (pos least) (pos most)) }
+number_rule name least most =
+    record (option_rule name) { parser = Some (parser.Signed (pos least) (pos most)) }
 
 -- the rule of an argument of the table
 abbrev pub rule_as : Kind → Text → Rule
@@ -68,7 +69,8 @@ AreAllLocal (command ∷ commands) = ((fields_of command).has_globals ≡ false)
 
 -- a command of the table
 abbrev pub app_for : CommandWords → App
-app_for words = with_rules (with_rules (new_app words.name.now) (map rule_for words.arguments.now)) (map rule_for words.more.now)
+app_for words = with_rules (with_rules (new_app words.name.now) (map rule_for words.arguments.now))
+    (map rule_for words.more.now)
 
 abbrev pub with_commands : App → List App → App
 with_commands app [] = app
@@ -77,68 +79,94 @@ with_commands app (command ∷ commands) = with_commands (with_subcommand app co
 -- ---- the commands
 
 abbrev pub format_command : App
-format_command = with_rules (new_app (codes "format")) (wanted_rule (codes "FILE") ∷ flag_rule (codes "demo") ∷ flag_rule (codes "force") ∷ [])
+format_command = with_rules (new_app (codes "format"))
+    (wanted_rule (codes "FILE") ∷ flag_rule (codes "demo") ∷ flag_rule (codes "force") ∷ [])
 
 abbrev pub replay_command : App
 replay_command = with_rules (new_app (codes "replay")) (value_rule (codes "FILE") ∷ [])
 
 abbrev pub loopback_command : App
-loopback_command = with_rules (new_app (codes "loopback")) (option_rule (codes "readings") ∷ number_rule (codes "stops") 0 100 ∷ [])
+loopback_command = with_rules (new_app (codes "loopback"))
+    (option_rule (codes "readings") ∷ number_rule (codes "stops") 0 100 ∷ [])
 
 -- a load in watts, and times in seconds
 abbrev pub serve_command : App
 serve_command = with_rules (new_app (codes "serve"))
-    (wanted_rule (codes "FILE") ∷ option_rule (codes "listen") ∷ option_rule (codes "line") ∷ number_rule (codes "load") 0 1000000 ∷ number_rule (codes "tick") 1 60 ∷ flag_rule (codes "quiet")
-    ∷ number_rule (codes "idle") 1 86400 ∷ number_rule (codes "turn") 1 86400 ∷ number_rule (codes "inactivity") 1 86400 ∷ [])
+    (wanted_rule (codes "FILE") ∷ option_rule (codes "listen") ∷ option_rule (codes "line")
+    ∷ number_rule (codes "load") 0 1000000 ∷ number_rule (codes "tick") 1 60
+    ∷ flag_rule (codes "quiet")
+    ∷ number_rule (codes "idle") 1 86400 ∷ number_rule (codes "turn") 1 86400
+    ∷ number_rule (codes "inactivity") 1 86400 ∷ [])
 
 abbrev pub poll_command : App
 poll_command = with_rules (new_app (codes "poll"))
-    (wanted_rule (codes "PLACE") ∷ option_rule (codes "readings") ∷ option_rule (codes "secret-file") ∷ flag_rule (codes "public") ∷ flag_rule (codes "reader")
-    ∷ number_rule (codes "deadline") 1 86400 ∷ flag_rule (codes "check-clock") ∷ number_rule (codes "ahead") 0 31536000 ∷ flag_rule (codes "strict")
+    (wanted_rule (codes "PLACE") ∷ option_rule (codes "readings")
+    ∷ option_rule (codes "secret-file") ∷ flag_rule (codes "public")
+    ∷ flag_rule (codes "reader")
+    ∷ number_rule (codes "deadline") 1 86400 ∷ flag_rule (codes "check-clock")
+    ∷ number_rule (codes "ahead") 0 31536000 ∷ flag_rule (codes "strict")
     ∷ options_rule (codes "expect") ∷ [])
 
--- which meter is asked, by whom, whether the frames are explained, and how long a value may be
+-- the meter to ask, the client that asks, whether the frames are explained, and the longest value
 abbrev pub asking_rules : List Rule
 asking_rules =
-    option_rule (codes "server") ∷ flag_rule (codes "wide") ∷ number_rule (codes "client") 1 127 ∷ option_rule (codes "secret-file") ∷ short_flag_rule (codes "verbose") 118
+    option_rule (codes "server") ∷ flag_rule (codes "wide") ∷ number_rule (codes "client") 1 127
+    ∷ option_rule (codes "secret-file") ∷ short_flag_rule (codes "verbose") 118
     ∷ number_rule (codes "most") 1 16777216 ∷ []
 
 abbrev pub get_command : App
 get_command = with_rules
     (with_rules (new_app (codes "get"))
-    (wanted_rule (codes "PLACE") ∷ wanted_rule (codes "NAMES") ∷ number_rule (codes "class") 1 65535 ∷ flag_rule (codes "raw") ∷ flag_rule (codes "json") ∷ []))
+    (wanted_rule (codes "PLACE") ∷ wanted_rule (codes "NAMES") ∷ number_rule (codes "class") 1 65535
+    ∷ flag_rule (codes "raw") ∷ flag_rule (codes "json") ∷ []))
     asking_rules
 
 abbrev pub list_command : App
-list_command = with_rules (with_rules (new_app (codes "list")) (wanted_rule (codes "PLACE") ∷ flag_rule (codes "json") ∷ [])) asking_rules
+list_command = with_rules (with_rules (new_app (codes "list"))
+    (wanted_rule (codes "PLACE") ∷ flag_rule (codes "json") ∷ [])) asking_rules
 
 abbrev pub set_command : App
 set_command = with_rules
-    (with_rules (new_app (codes "set")) (wanted_rule (codes "PLACE") ∷ wanted_rule (codes "NAME") ∷ wanted_rule (codes "VALUE") ∷ number_rule (codes "class") 1 65535 ∷ []))
+    (with_rules (new_app (codes "set"))
+    (wanted_rule (codes "PLACE") ∷ wanted_rule (codes "NAME") ∷ wanted_rule (codes "VALUE")
+    ∷ number_rule (codes "class") 1 65535 ∷ []))
     asking_rules
 
 abbrev pub act_command : App
 act_command = with_rules
-    (with_rules (new_app (codes "act")) (wanted_rule (codes "PLACE") ∷ wanted_rule (codes "NAME") ∷ value_rule (codes "VALUE") ∷ number_rule (codes "class") 1 65535 ∷ []))
+    (with_rules (new_app (codes "act"))
+    (wanted_rule (codes "PLACE") ∷ wanted_rule (codes "NAME") ∷ value_rule (codes "VALUE")
+    ∷ number_rule (codes "class") 1 65535 ∷ []))
     asking_rules
 
 abbrev pub explain_command : App
-explain_command = with_rules (new_app (codes "explain")) (value_rule (codes "FILE") ∷ flag_rule (codes "raw") ∷ flag_rule (codes "short") ∷ flag_rule (codes "hex") ∷ flag_rule (codes "json") ∷ [])
+explain_command = with_rules (new_app (codes "explain"))
+    (value_rule (codes "FILE") ∷ flag_rule (codes "raw") ∷ flag_rule (codes "short")
+    ∷ flag_rule (codes "hex") ∷ flag_rule (codes "json") ∷ [])
 
 abbrev pub show_command : App
-show_command = with_rules (new_app (codes "show")) (wanted_rule (codes "FILE") ∷ flag_rule (codes "plot") ∷ [])
+show_command = with_rules (new_app (codes "show"))
+    (wanted_rule (codes "FILE") ∷ flag_rule (codes "plot") ∷ [])
 
 abbrev pub plot_command : App
-plot_command = with_rules (new_app (codes "plot")) (wanted_rule (codes "READINGS") ∷ flag_rule (codes "svg") ∷ [])
+plot_command = with_rules (new_app (codes "plot"))
+    (wanted_rule (codes "READINGS") ∷ flag_rule (codes "svg") ∷ [])
 
 -- the program has a version, and wants one of its commands
 abbrev pub top : App
 top = record (new_app (codes "dlms")) {
-  top = record (new_app (codes "dlms")).top { has_version = true; disable_help_subcommand = true; arg_required_else_help = true; subcommand_required = true };
+  top = record (new_app (codes "dlms")).top {
+    has_version = true;
+    disable_help_subcommand = true;
+    arg_required_else_help = true;
+    subcommand_required = true;
+  };
 }
 
 abbrev pub commands : List App
-commands = format_command ∷ replay_command ∷ loopback_command ∷ serve_command ∷ poll_command ∷ get_command ∷ list_command ∷ set_command ∷ act_command ∷ explain_command ∷ show_command ∷ plot_command ∷ []
+commands = format_command ∷ replay_command ∷ loopback_command ∷ serve_command ∷ poll_command
+    ∷ get_command ∷ list_command ∷ set_command ∷ act_command ∷ explain_command ∷ show_command
+    ∷ plot_command ∷ []
 
 abbrev pub dlms : App
 dlms = with_commands top commands

@@ -1,4 +1,4 @@
--- The job that a parse of the program's words names.
+-- The job of a parsed command line.
 use Rattle.std.specs.Str.{bytes_eq}
 use Rattle.std.specs.Str.Parse.{without_leading_plus}
 use Rattle.std.specs.Prelude.{◌≡◌, ◌⊎◌, if◌then◌else◌, ◌<◌, ◌↔◌, ◌^◌, ℕ, [], List, Option, Some, None, codes, cond, option_map, unwrap_or, Bool, true, false, is_some, IsTrue, slice_get}
@@ -10,13 +10,18 @@ use Rattle.dlms_words.specs.declared.commands.Job.{Job}
 use Rattle.dlms_words.specs.declared.commands.Job.TheVariants.{Format, Replay, Loopback, Serve, Poll, Get, List as ListOf, Set, Act, Explain, Show, Plot}
 use Rattle.dlms_words.specs.declared.commands.Asking.{Asking}
 use Rattle.dlms_words.specs.declared.commands.Expecting.{Expecting}
+use Rattle.dlms_words.specs.declared.commands.OutputFormat.{OutputFormat}
+use Rattle.dlms_words.specs.declared.commands.OutputFormat.TheVariants as output
+use Rattle.dlms_words.specs.declared.commands.ValueFormat.{ValueFormat}
+use Rattle.dlms_words.specs.declared.commands.ValueFormat.TheVariants as value
+use Rattle.dlms_words.specs.declared.commands.ValueFormat.TheVariants.{Encoding}
 use Rattle.dlms_words.specs.declared.words.TheConstants.{AHEAD, CLIENT, DEADLINE, IDLE, INACTIVITY, MOST, TICK, TURN}
 use Rattle.dlms_words.specs.Addresses.{IsAddress, is_device}
 use Rattle.dlms_words.specs.Numbers.{IsNumberOf}
 use Rattle.dlms_frame.specs.declared.client.Client.{Client}
 use Rattle.dlms_frame.specs.declared.client.Client.TheVariants.{Public, Management, Reader}
 
--- what a parse met: a command's name, and what was found for it
+-- the result of a parse: a command's name, and its matches
 abbrev pub Met : Type 0
 Met = Option (Text × List Row)
 
@@ -24,12 +29,22 @@ Met = Option (Text × List Row)
 abbrev pub file_in : List Row → Option Text
 file_in rows = first_of (codes "FILE") rows
 
--- a number of so many bits, with a plus before it or without; if none is said, this one
+-- the text spells this number, of so many bits, with a plus before it or without
+abbrev pub Spells : (bits : ℕ) → Text → ℕ → Type 0
+Spells bits text n = (n < 2 ^ bits) × IsNumberOf (without_leading_plus text) n
+
+-- The number that the text spells. A text that spells no number of this size is a zero with a minus: `clap` lets nothing else
+-- through.
+abbrev pub Numbers : (bits : ℕ) → Text → ℕ → Type 0
+Numbers bits text number = ((n : ℕ) → Spells bits text n → number ≡ n)
+    × (((n : ℕ) → Spells bits text n → ⊥) → number ≡ 0)
+
+-- the number of the text; if none is given, this one
 abbrev pub Says : (bits other : ℕ) → Option Text → ℕ → Type 0
 Says bits other None number = number ≡ other
-Says bits other (Some text) number = (n : ℕ) → n < 2 ^ bits → IsNumberOf (without_leading_plus text) n → number ≡ n
+Says bits other (Some text) number = Numbers bits text number
 
--- the number that was said for this value, where none is this one: so many stops; so many watts, seconds and the like
+-- the number given for this value, or its default: stops; watts, seconds and the like
 abbrev pub SaysStops : Option Text → ℕ → Type 0
 SaysStops = Says 8 0
 
@@ -40,25 +55,47 @@ IsSaidFor name rows other number = Says 32 other (first_of name rows) number
 abbrev pub IsSaid : Option Text → Bool → Type 0
 IsSaid found flag = IsTrue flag ↔ (found ≡ Some (codes "true"))
 
--- by how many seconds a row may be past the system's clock: so many as are said; where none are, a day where the clock is to be
--- looked at, and else it is not looked at
+-- by how many seconds a row may be past the system's clock: the given number; if none is given, a day if the clock is to be
+-- checked, and otherwise any
 abbrev pub SaysAhead : Bool → Option Text → Option ℕ → Type 0
 SaysAhead checks None ahead = ahead ≡ cond checks (Some AHEAD) None
-SaysAhead checks (Some text) ahead = (n : ℕ) → n < 2 ^ 32 → IsNumberOf (without_leading_plus text) n → ahead ≡ Some n
+SaysAhead checks (Some text) ahead = (number : ℕ) × (ahead ≡ Some number) × Numbers 32 text number
 
 abbrev pub ChecksClock : List Row → Option ℕ → Type 0
-ChecksClock rows ahead = (checks : Bool) × IsSaid (first_of (codes "check-clock") rows) checks × SaysAhead checks (first_of (codes "ahead") rows) ahead
+ChecksClock rows ahead = (checks : Bool) × IsSaid (first_of (codes "check-clock") rows) checks
+    × SaysAhead checks (first_of (codes "ahead") rows) ahead
 
--- who asks: the public client where its flag was given, else the reader where its was, else management
+-- the client that asks: the public client with its flag, otherwise the reader with its flag, otherwise management
 abbrev pub asker : (public reader : Bool) → Client
 asker true reader = Public
 asker false true = Reader
 asker false false = Management
 
 abbrev pub IsAsker : List Row → Client → Type 0
-IsAsker rows client = (public : Bool) × (reader : Bool) × IsSaid (first_of (codes "public") rows) public × IsSaid (first_of (codes "reader") rows) reader × (client ≡ asker public reader)
+IsAsker rows client = (public : Bool) × (reader : Bool)
+    × IsSaid (first_of (codes "public") rows) public
+    × IsSaid (first_of (codes "reader") rows) reader × (client ≡ asker public reader)
 
--- which meter is asked, by whom, whether the frames are explained, and how long a value may be
+-- how values are printed, by the flags `raw` and `json`: the encoding, if it is wanted, comes before JSON
+abbrev pub value_format : (raw json : Bool) → ValueFormat
+value_format true json = Encoding
+value_format false true = value.Json
+value_format false false = value.Text
+
+abbrev pub output_format : (json : Bool) → OutputFormat
+output_format true = output.Json
+output_format false = output.Text
+
+abbrev pub ChoosesValueFormat : List Row → ValueFormat → Type 0
+ChoosesValueFormat rows format = (raw : Bool) × (json : Bool)
+    × IsSaid (first_of (codes "raw") rows) raw
+    × IsSaid (first_of (codes "json") rows) json × (format ≡ value_format raw json)
+
+abbrev pub ChoosesFormat : List Row → OutputFormat → Type 0
+ChoosesFormat rows format = (json : Bool) × IsSaid (first_of (codes "json") rows) json
+    × (format ≡ output_format json)
+
+-- the meter to ask, the client that asks, whether the frames are explained, and the longest value
 pub record IsAsking (rows : List Row) (asking : Asking) : Type 0 where
   pub place : asking.place.now ≡ unwrap_or (first_of (codes "PLACE") rows) []
   pub server : option_map (λ s. s.now) asking.server ≡ first_of (codes "server") rows
@@ -81,43 +118,80 @@ pub record IsExpecting (texts : Option (List Text)) (expecting : Expecting) : Ty
   pub fourth : option_map (λ text. text.now) expecting.fourth ≡ nth_of 3 texts
   pub fifth : option_map (λ text. text.now) expecting.fifth ≡ nth_of 4 texts
 
--- the words ask for the job, with these values
+-- the command line asks for the job, with these values
 abbrev pub Asks : Met → Job → Type 0
-Asks met (Format file demo force) = (rows : List Row) × (met ≡ Some (codes "format", rows)) × (file.now ≡ unwrap_or (file_in rows) []) × IsSaid (first_of (codes "demo") rows) demo × IsSaid (first_of (codes "force") rows) force
-Asks met (Replay file) = (rows : List Row) × (met ≡ Some (codes "replay", rows)) × (option_map (λ f. f.now) file ≡ file_in rows)
-Asks met (Loopback readings stops) = (rows : List Row) × (met ≡ Some (codes "loopback", rows)) × (option_map (λ f. f.now) readings ≡ first_of (codes "readings") rows) × SaysStops (first_of (codes "stops") rows) stops
-Asks met (Serve file listen line load tick quiet idle turn inactivity) = (rows : List Row) × (met ≡ Some (codes "serve", rows)) × (file.now ≡ unwrap_or (file_in rows) [])
-    × (option_map (λ a. a.now) listen ≡ first_of (codes "listen") rows) × (option_map (λ d. d.now) line ≡ first_of (codes "line") rows) × IsSaidFor (codes "load") rows 0 load
-    × IsSaidFor (codes "tick") rows TICK tick × IsSaid (first_of (codes "quiet") rows) quiet
-    × IsSaidFor (codes "idle") rows IDLE idle × IsSaidFor (codes "turn") rows TURN turn × IsSaidFor (codes "inactivity") rows INACTIVITY inactivity
-Asks met (Poll address readings secret client deadline ahead strict expecting) = (rows : List Row) × (met ≡ Some (codes "poll", rows)) × (address.now ≡ unwrap_or (first_of (codes "PLACE") rows) [])
-    × (option_map (λ f. f.now) readings ≡ first_of (codes "readings") rows) × (option_map (λ f. f.now) secret ≡ first_of (codes "secret-file") rows)
-    × IsAsker rows client × IsSaidFor (codes "deadline") rows DEADLINE deadline × ChecksClock rows ahead
-    × IsSaid (first_of (codes "strict") rows) strict × IsExpecting (all_of (codes "expect") rows) expecting
-Asks met (Get asking names of_class raw json) = (rows : List Row) × (met ≡ Some (codes "get", rows)) × IsAsking rows asking × (names.now ≡ unwrap_or (first_of (codes "NAMES") rows) [])
-    × IsSaidFor (codes "class") rows 0 of_class × IsSaid (first_of (codes "raw") rows) raw × IsSaid (first_of (codes "json") rows) json
-Asks met (ListOf asking json) = (rows : List Row) × (met ≡ Some (codes "list", rows)) × IsAsking rows asking × IsSaid (first_of (codes "json") rows) json
-Asks met (Set asking name value of_class) = (rows : List Row) × (met ≡ Some (codes "set", rows)) × IsAsking rows asking × (name.now ≡ unwrap_or (first_of (codes "NAME") rows) [])
-    × (value.now ≡ unwrap_or (first_of (codes "VALUE") rows) []) × IsSaidFor (codes "class") rows 0 of_class
-Asks met (Act asking name value of_class) = (rows : List Row) × (met ≡ Some (codes "act", rows)) × IsAsking rows asking × (name.now ≡ unwrap_or (first_of (codes "NAME") rows) [])
-    × (option_map (λ v. v.now) value ≡ first_of (codes "VALUE") rows) × IsSaidFor (codes "class") rows 0 of_class
-Asks met (Explain file raw short hex json) = (rows : List Row) × (met ≡ Some (codes "explain", rows)) × (option_map (λ f. f.now) file ≡ file_in rows)
-    × IsSaid (first_of (codes "raw") rows) raw × IsSaid (first_of (codes "short") rows) short × IsSaid (first_of (codes "hex") rows) hex × IsSaid (first_of (codes "json") rows) json
-Asks met (Show file plot) = (rows : List Row) × (met ≡ Some (codes "show", rows)) × (file.now ≡ unwrap_or (file_in rows) []) × IsSaid (first_of (codes "plot") rows) plot
-Asks met (Plot readings svg) = (rows : List Row) × (met ≡ Some (codes "plot", rows)) × (readings.now ≡ unwrap_or (first_of (codes "READINGS") rows) [])
-    × IsSaid (first_of (codes "svg") rows) svg
+Asks met (Format options) = (rows : List Row) × (met ≡ Some (codes "format", rows))
+    × (options.file.now ≡ unwrap_or (file_in rows) [])
+    × IsSaid (first_of (codes "demo") rows) options.demo
+    × IsSaid (first_of (codes "force") rows) options.force
+Asks met (Replay file) = (rows : List Row) × (met ≡ Some (codes "replay", rows))
+    × (option_map (λ f. f.now) file ≡ file_in rows)
+Asks met (Loopback options) = (rows : List Row) × (met ≡ Some (codes "loopback", rows))
+    × (option_map (λ f. f.now) options.readings ≡ first_of (codes "readings") rows)
+    × SaysStops (first_of (codes "stops") rows) options.stops
+Asks met (Serve options) = (rows : List Row) × (met ≡ Some (codes "serve", rows))
+    × (options.file.now ≡ unwrap_or (file_in rows) [])
+    × (option_map (λ a. a.now) options.listen ≡ first_of (codes "listen") rows)
+    × (option_map (λ d. d.now) options.line ≡ first_of (codes "line") rows)
+    × IsSaidFor (codes "load") rows 0 options.load
+    × IsSaidFor (codes "tick") rows TICK options.tick
+    × IsSaid (first_of (codes "quiet") rows) options.quiet
+    × IsSaidFor (codes "idle") rows IDLE options.idle
+    × IsSaidFor (codes "turn") rows TURN options.turn
+    × IsSaidFor (codes "inactivity") rows INACTIVITY options.inactivity
+Asks met (Poll options) = (rows : List Row) × (met ≡ Some (codes "poll", rows))
+    × (options.address.now ≡ unwrap_or (first_of (codes "PLACE") rows) [])
+    × (option_map (λ f. f.now) options.readings ≡ first_of (codes "readings") rows)
+    × (option_map (λ f. f.now) options.secret_file ≡ first_of (codes "secret-file") rows)
+    × IsAsker rows options.client
+    × IsSaidFor (codes "deadline") rows DEADLINE options.deadline
+    × ChecksClock rows options.ahead
+    × IsSaid (first_of (codes "strict") rows) options.strict
+    × IsExpecting (all_of (codes "expect") rows) options.expecting
+Asks met (Get options) = (rows : List Row) × (met ≡ Some (codes "get", rows))
+    × IsAsking rows options.asking
+    × (options.names.now ≡ unwrap_or (first_of (codes "NAMES") rows) [])
+    × IsSaidFor (codes "class") rows 0 options.class
+    × ChoosesValueFormat rows options.format
+Asks met (ListOf options) = (rows : List Row) × (met ≡ Some (codes "list", rows))
+    × IsAsking rows options.asking × ChoosesFormat rows options.format
+Asks met (Set options) = (rows : List Row) × (met ≡ Some (codes "set", rows))
+    × IsAsking rows options.asking
+    × (options.name.now ≡ unwrap_or (first_of (codes "NAME") rows) [])
+    × (options.value.now ≡ unwrap_or (first_of (codes "VALUE") rows) [])
+    × IsSaidFor (codes "class") rows 0 options.class
+Asks met (Act options) = (rows : List Row) × (met ≡ Some (codes "act", rows))
+    × IsAsking rows options.asking
+    × (options.name.now ≡ unwrap_or (first_of (codes "NAME") rows) [])
+    × (option_map (λ v. v.now) options.value ≡ first_of (codes "VALUE") rows)
+    × IsSaidFor (codes "class") rows 0 options.class
+Asks met (Explain options) = (rows : List Row) × (met ≡ Some (codes "explain", rows))
+    × (option_map (λ f. f.now) options.file ≡ file_in rows)
+    × IsSaid (first_of (codes "raw") rows) options.raw
+    × IsSaid (first_of (codes "short") rows) options.short
+    × IsSaid (first_of (codes "hex") rows) options.hex × ChoosesFormat rows options.format
+Asks met (Show options) = (rows : List Row) × (met ≡ Some (codes "show", rows))
+    × (options.file.now ≡ unwrap_or (file_in rows) [])
+    × IsSaid (first_of (codes "plot") rows) options.plot
+Asks met (Plot options) = (rows : List Row) × (met ≡ Some (codes "plot", rows))
+    × (options.readings.now ≡ unwrap_or (first_of (codes "READINGS") rows) [])
+    × IsSaid (first_of (codes "svg") rows) options.svg
 
 -- ---- words that clap takes, and that ask for nothing all the same
 
 -- two clients are asked for at once
 abbrev pub AsksTwoClients : Met → Type 0
-AsksTwoClients met = (rows : List Row) × (met ≡ Some (codes "poll", rows)) × (first_of (codes "public") rows ≡ Some (codes "true")) × (first_of (codes "reader") rows ≡ Some (codes "true"))
+AsksTwoClients met = (rows : List Row) × (met ≡ Some (codes "poll", rows))
+    × (first_of (codes "public") rows ≡ Some (codes "true"))
+    × (first_of (codes "reader") rows ≡ Some (codes "true"))
 
 -- a port and a serial line are named at once
 abbrev pub NamesTwoPlaces : Met → Type 0
-NamesTwoPlaces met = (rows : List Row) × (met ≡ Some (codes "serve", rows)) × IsTrue (is_some (first_of (codes "listen") rows)) × IsTrue (is_some (first_of (codes "line") rows))
+NamesTwoPlaces met = (rows : List Row) × (met ≡ Some (codes "serve", rows))
+    × IsTrue (is_some (first_of (codes "listen") rows))
+    × IsTrue (is_some (first_of (codes "line") rows))
 
--- two are asked for where one is wanted
+-- two are given and one is wanted
 abbrev pub AsksBoth : Met → Type 0
 AsksBoth met = AsksTwoClients met ⊎ NamesTwoPlaces met
 
@@ -133,7 +207,7 @@ address_in (Some (name, rows)) =
     if bytes_eq name (codes "poll") then unless_device (first_of (codes "PLACE") rows)
     else (if bytes_eq name (codes "serve") then first_of (codes "listen") rows else None)
 
--- that is none
+-- that is invalid
 abbrev pub NamesNoAddress : Met → Type 0
 NamesNoAddress met = (text : Text) × (address_in met ≡ Some text) × (IsAddress text → ⊥)
 
@@ -143,4 +217,5 @@ IsClear met = (AsksBoth met → ⊥) × (NamesNoAddress met → ⊥)
 
 -- one of them is, which the error says
 abbrev pub IsUnclear : Met → Error → Type 0
-IsUnclear met e = (AsksBoth met × (kind_of e ≡ ArgumentConflict)) ⊎ (NamesNoAddress met × (kind_of e ≡ InvalidValue))
+IsUnclear met e = (AsksBoth met × (kind_of e ≡ ArgumentConflict))
+    ⊎ (NamesNoAddress met × (kind_of e ≡ InvalidValue))

@@ -20,7 +20,7 @@ fn is_port(digits: &[u8]) -> bool
     }
 }
 
-/// Whether a host ends at this place, and a port stands behind it.
+/// Whether a host ends at this place, followed by a port.
 fn ends_host(text: &[u8], at: usize) -> bool
     requires { at < length text.now }
     ensures { IsTrue result ↔ EndsHost text.now at }

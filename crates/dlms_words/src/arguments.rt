@@ -1,4 +1,4 @@
-//! What a command may be given, and a command that is given it.
+//! The arguments of a command, and a command with them.
 
 ghost use Rattle.std.specs.Prelude.{◌≡◌, false, IfOk, map};
 ghost use Rattle.clap.specs.Words.{app_of, rule_of};
@@ -9,7 +9,7 @@ use clap::builder::ValueParser;
 use clap::{Arg, ArgAction, Command};
 use std::alloc::{AllocError, Global};
 
-/// A value that stands by itself, and may be left out.
+/// A positional argument that may be left out.
 fn value<'a>(alloc: Global, name: &'a str, help: &'a str) -> Arg<'a>
     ensures rule { rule_of result ≡ value_rule name.entry.now }
     ensures local { result.global ≡ false }
@@ -17,7 +17,7 @@ fn value<'a>(alloc: Global, name: &'a str, help: &'a str) -> Arg<'a>
     Arg::new(alloc, name).help(help)
 }
 
-/// A value that stands by itself, and has to be there.
+/// A positional argument that is required.
 fn wanted<'a>(alloc: Global, name: &'a str, help: &'a str) -> Arg<'a>
     ensures rule { rule_of result ≡ wanted_rule name.entry.now }
     ensures local { result.global ≡ false }
@@ -79,26 +79,26 @@ fn number<'a>(
     option(alloc, name, value, help).value_parser(range)
 }
 
-/// What a word of a command stands for.
+/// The kind of an argument.
 #[derive(Clone, Copy)]
 pub enum Kind {
-    /// A value that stands by itself, and may be left out.
+    /// A positional argument that may be left out.
     Value,
-    /// A value that stands by itself, and has to be there.
+    /// A positional argument that is required.
     Wanted,
     /// A flag, `--NAME`.
     Flag,
-    /// A flag, `--NAME` or this letter behind one dash.
+    /// A flag, `--NAME`, or this letter after one dash.
     ShortFlag(char),
-    /// An option, `--NAME VALUE`, whose value is told so.
+    /// An option, `--NAME VALUE`, with this name for its value.
     Option(&'static str),
-    /// An option that may be given several times, whose value is told so.
+    /// An option that may be given several times, with this name for its value.
     Options(&'static str),
-    /// An option whose value is told so, and is a number from the first to the second.
+    /// An option with this name for its value, which is a number from the first to the second.
     Number(&'static str, u32, u32),
 }
 
-/// What a command may be given: its name, what it stands for, and what is said of it.
+/// An argument of a command: its name, its kind, and its help.
 #[derive(Clone, Copy)]
 pub struct Argument {
     pub name: &'static str,
@@ -125,7 +125,8 @@ fn argument_for<'a>(alloc: Global, given: &Argument) -> Arg<'a>
 
 /// Arguments, one after another.
 fn arguments<'a>(alloc: Global, given: &[Argument]) -> Result<Vec<Arg<'a>>, AllocError>
-    ensures rules { IfOk result (λ arguments. map rule_of arguments.items ≡ map rule_for given.now) }
+    ensures rules { IfOk result
+        (λ arguments. map rule_of arguments.items ≡ map rule_for given.now) }
     ensures local { IfOk result (λ arguments. AreLocal arguments.items) }
 {
     let mut arguments = Vec::new(alloc);
@@ -141,8 +142,10 @@ pub fn with_arguments<'a>(
     command: Command<'a>,
     given: &[Argument],
 ) -> Result<Command<'a>, AllocError>
-    ensures shape { IfOk result (λ c. app_of c ≡ with_rules (app_of command.entry) (map rule_for given.now)) }
-    ensures local { (fields_of command.entry).has_globals ≡ false → IfOk result (λ c. (fields_of c).has_globals ≡ false) }
+    ensures shape { IfOk result (λ c. app_of c ≡ with_rules (app_of command.entry)
+        (map rule_for given.now)) }
+    ensures local { (fields_of command.entry).has_globals ≡ false
+        → IfOk result (λ c. (fields_of c).has_globals ≡ false) }
 {
     let arguments = arguments(alloc, given)?;
     command.args(arguments)
@@ -154,7 +157,8 @@ pub fn with_commands<'a>(
     commands: Vec<Command<'a>>,
 ) -> Result<Command<'a>, AllocError>
     requires { AreAllLocal commands.items }
-    ensures { IfOk result (λ c. app_of c ≡ with_commands (app_of program.entry) (map app_of commands.entry.items)) }
+    ensures { IfOk result (λ c. app_of c ≡ with_commands (app_of program.entry)
+        (map app_of commands.entry.items)) }
 {
     program.subcommands(commands)
 }

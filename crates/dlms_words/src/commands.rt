@@ -1,8 +1,8 @@
-//! What the program can be asked to do.
+//! The jobs of the program.
 
 use dlms_frame::Client;
 
-/// Which meter is asked, by whom.
+/// The meter to ask, and the client that asks.
 #[derive(Clone, Copy)]
 pub struct Asking<'a> {
     /// Where the meter is.
@@ -21,7 +21,7 @@ pub struct Asking<'a> {
     pub most: u32,
 }
 
-/// The texts of an option that was given several times, in their order. `fifth` is there to be refused: four are taken at most.
+/// The texts of an option that was given several times, in order. `fifth` exists to be refused: at most four are accepted.
 #[derive(Clone, Copy)]
 pub struct Expecting<'a> {
     pub first: Option<&'a str>,
@@ -31,102 +31,184 @@ pub struct Expecting<'a> {
     pub fifth: Option<&'a str>,
 }
 
+/// How a value is printed: as text, as its encoding, or as JSON.
+#[derive(Clone, Copy, PartialEq, Eq)]
+pub enum ValueFormat {
+    Text,
+    Encoding,
+    Json,
+}
+
+/// How an object list or an explanation is printed: as text, or as JSON.
+#[derive(Clone, Copy, PartialEq, Eq)]
+pub enum OutputFormat {
+    Text,
+    Json,
+}
+
+/// The options of `format`.
+#[derive(Clone, Copy)]
+pub struct FormatOptions<'a> {
+    /// The file of the new meter.
+    pub file: &'a str,
+    /// Whether the meter gets a day of captures.
+    pub demo: bool,
+    /// Whether a file that holds a meter is formatted all the same.
+    pub force: bool,
+}
+
+/// The options of `loopback`.
+#[derive(Clone, Copy)]
+pub struct LoopbackOptions<'a> {
+    /// The readings file, if one is given.
+    pub readings: Option<&'a str>,
+    /// How many times the power fails; the meter is polled after each failure.
+    pub stops: u8,
+}
+
+/// The options of `serve`.
+#[derive(Clone, Copy)]
+pub struct ServeOptions<'a> {
+    /// The meter's file.
+    pub file: &'a str,
+    /// The address to listen on, if one is given.
+    pub listen: Option<&'a str>,
+    /// The device of the serial line, if one is given.
+    pub line: Option<&'a str>,
+    /// The load in watts, which makes pulses.
+    pub load: u32,
+    /// The seconds of the clock are reported to the meter in steps of this many.
+    pub tick: u32,
+    /// Whether nothing is printed about connections.
+    pub quiet: bool,
+    /// If another connection waits, one is closed after this many seconds without an answered frame of an association.
+    pub idle: u32,
+    /// A connection is closed, whatever it does, once another one has waited for this many seconds.
+    pub turn: u32,
+    /// A connection is closed after this many seconds without an answered frame.
+    pub inactivity: u32,
+}
+
+/// The options of `poll`.
+#[derive(Clone, Copy)]
+pub struct PollOptions<'a> {
+    /// The meter's address, or the device of its serial line.
+    pub address: &'a str,
+    /// The readings file, if one is given.
+    pub readings: Option<&'a str>,
+    /// The file of the client's secret. If none is given, a client that has one sends its first secret.
+    pub secret_file: Option<&'a str>,
+    /// The client that polls.
+    pub client: Client,
+    /// How many seconds the poll may take.
+    pub deadline: u32,
+    /// By how many seconds a row's clock may be ahead of the system's, if that is checked.
+    pub ahead: Option<u32>,
+    /// Whether each row has to be later than the one before it.
+    pub strict: bool,
+    /// Only a meter whose objects show these texts is polled.
+    pub expecting: Expecting<'a>,
+}
+
+/// The options of `get`.
+#[derive(Clone, Copy)]
+pub struct GetOptions<'a> {
+    pub asking: Asking<'a>,
+    /// The names of the attributes, with commas between them.
+    pub names: &'a str,
+    /// The class of their objects; 0 if it is to be found.
+    pub class: u32,
+    pub format: ValueFormat,
+}
+
+/// The options of `list`.
+#[derive(Clone, Copy)]
+pub struct ListOptions<'a> {
+    pub asking: Asking<'a>,
+    pub format: OutputFormat,
+}
+
+/// The options of `set`.
+#[derive(Clone, Copy)]
+pub struct SetOptions<'a> {
+    pub asking: Asking<'a>,
+    /// The attribute's name.
+    pub name: &'a str,
+    /// Its new value.
+    pub value: &'a str,
+    /// The class of its object; 0 if it is to be found.
+    pub class: u32,
+}
+
+/// The options of `act`.
+#[derive(Clone, Copy)]
+pub struct ActOptions<'a> {
+    pub asking: Asking<'a>,
+    /// The method's name.
+    pub name: &'a str,
+    /// Its parameter, if one is given.
+    pub value: Option<&'a str>,
+    /// The class of its object; 0 if it is to be found.
+    pub class: u32,
+}
+
+/// The options of `explain`.
+#[derive(Clone, Copy)]
+pub struct ExplainOptions<'a> {
+    /// The file with the frames; standard input if none is given.
+    pub file: Option<&'a str>,
+    /// Whether strings that may be a secret are printed.
+    pub raw: bool,
+    /// Whether each frame takes one line.
+    pub short: bool,
+    /// Whether each frame's octets are printed beside it.
+    pub hex: bool,
+    pub format: OutputFormat,
+}
+
+/// The options of `show`.
+#[derive(Clone, Copy)]
+pub struct ShowOptions<'a> {
+    /// The meter's file.
+    pub file: &'a str,
+    /// Whether the curve of the load profile is printed.
+    pub plot: bool,
+}
+
+/// The options of `plot`.
+#[derive(Clone, Copy)]
+pub struct PlotOptions<'a> {
+    /// The readings file.
+    pub readings: &'a str,
+    /// Whether the curve is an SVG; otherwise it is text.
+    pub svg: bool,
+}
+
 /// The work that the program is asked to do.
 #[derive(Clone, Copy)]
 pub enum Job<'a> {
-    /// Makes a new meter in this file; with a day of captures if `demo` is set. A file that holds a meter is formatted only if
-    /// `force` is set.
-    Format {
-        file: &'a str,
-        demo: bool,
-        force: bool,
-    },
+    /// Makes a new meter in a file.
+    Format(FormatOptions<'a>),
     /// Replays standard input on the meter in this file, or on a new one in memory.
-    Replay {
-        file: Option<&'a str>,
-    },
-    /// Polls a new meter in memory over a socket, into this file where one is named, and so many times more, each time behind a
-    /// stop of the meter.
-    Loopback {
-        readings: Option<&'a str>,
-        stops: u8,
-    },
-    /// Serves the meter in this file on a TCP port, at this address where one is named, or where one is on this serial line; its
-    /// load in watts gives pulses. It is told of
-    /// the seconds of the clock in steps of so many, and says nothing of connections where `quiet` is set. A connection is closed
-    /// on which no frame was answered for `inactivity` seconds; where another waits one on which no frame of an association was
-    /// answered for `idle` seconds, and any once the other has waited for `turn` seconds.
-    Serve {
-        file: &'a str,
-        listen: Option<&'a str>,
-        line: Option<&'a str>,
-        load: u32,
-        tick: u32,
-        quiet: bool,
-        idle: u32,
-        turn: u32,
-        inactivity: u32,
-    },
-    /// Polls the meter at this address or on this serial line once, into this file if one is named. It asks as this client, with the
-    /// secret in a file, or with the client's first secret if no file is named and the client has one. It may take `deadline` seconds.
-    /// With `ahead` no row's clock may be more seconds past the system's; with `strict` each row has to be later than the one before
-    /// it. With `expecting` it polls only a meter whose objects show these texts.
-    Poll {
-        address: &'a str,
-        readings: Option<&'a str>,
-        secret_file: Option<&'a str>,
-        client: Client,
-        deadline: u32,
-        ahead: Option<u32>,
-        strict: bool,
-        expecting: Expecting<'a>,
-    },
-    /// Asks a meter for the attributes with these names, of objects of this class where it is not 0; prints their encodings where
-    /// `raw` is set, and JSON where `json` is.
-    Get {
-        asking: Asking<'a>,
-        names: &'a str,
-        class: u32,
-        raw: bool,
-        json: bool,
-    },
-    /// Lists a meter's objects, as JSON where `json` is set.
-    List {
-        asking: Asking<'a>,
-        json: bool,
-    },
-    /// Sets the attribute with this name, of an object of this class where it is not 0.
-    Set {
-        asking: Asking<'a>,
-        name: &'a str,
-        value: &'a str,
-        class: u32,
-    },
-    /// Calls the method with this name, of an object of this class where it is not 0.
-    Act {
-        asking: Asking<'a>,
-        name: &'a str,
-        value: Option<&'a str>,
-        class: u32,
-    },
-    /// Explains the frames that stand in this file, or on standard input where none is named; where `raw` is set, with strings
-    /// that may be a secret, where `short` is, a frame in one line, where `hex` is, with its octets beside, and where `json` is, as
-    /// an object of JSON.
-    Explain {
-        file: Option<&'a str>,
-        raw: bool,
-        short: bool,
-        hex: bool,
-        json: bool,
-    },
-    /// Shows what stands in a meter's file, and the curve of its load profile where `plot` asks for it.
-    Show {
-        file: &'a str,
-        plot: bool,
-    },
-    /// Plots the load profile of a readings file, as text or as an SVG.
-    Plot {
-        readings: &'a str,
-        svg: bool,
-    },
+    Replay(Option<&'a str>),
+    /// Polls a new meter in memory over a socket, and again after each power failure of the meter.
+    Loopback(LoopbackOptions<'a>),
+    /// Serves the meter in a file on a TCP port or on a serial line.
+    Serve(ServeOptions<'a>),
+    /// Polls a meter once, into a readings file if one is given.
+    Poll(PollOptions<'a>),
+    /// Prints attributes of a meter.
+    Get(GetOptions<'a>),
+    /// Lists a meter's objects.
+    List(ListOptions<'a>),
+    /// Sets an attribute of a meter.
+    Set(SetOptions<'a>),
+    /// Calls a method of a meter.
+    Act(ActOptions<'a>),
+    /// Explains frames.
+    Explain(ExplainOptions<'a>),
+    /// Shows the contents of a meter's file.
+    Show(ShowOptions<'a>),
+    /// Plots the load profile of a readings file.
+    Plot(PlotOptions<'a>),
 }

@@ -16,7 +16,7 @@ use std::alloc::{AllocError, Global};
 /// The program's version, as `--version` prints it.
 const VERSION: &str = "0.1.0";
 
-/// A command's words: its name, what it does in a line and in whole, an example, and what it may be given, in two parts.
+/// The help of a command: its name, its purpose in one line and in full, an example, and its arguments, in two parts.
 #[derive(Clone, Copy)]
 struct CommandWords {
     name: &'static str,
@@ -27,27 +27,27 @@ struct CommandWords {
     more: &'static [Argument],
 }
 
-/// Which meter is asked, by whom, whether the frames are explained, and how long a value may be.
+/// The meter to ask, the client that asks, whether the frames are explained, and the longest value.
 const ASKING: &[Argument] = &[
     Argument {
         name: "server",
         kind: Kind::Option("UPPER[/LOWER]"),
-        help: "The meter's address, 1 at first",
+        help: "The meter's address [default: 1]",
     },
     Argument {
         name: "wide",
         kind: Kind::Flag,
-        help: "The meter's address has four octets in any case",
+        help: "Sends the meter's address in four octets",
     },
     Argument {
         name: "client",
         kind: Kind::Number("SAP", 1, 127),
-        help: "The client's address, 1 to 127, 16 at first: the public client's",
+        help: "The client's address, 1 to 127 [default: 16, the public client]",
     },
     Argument {
         name: "secret-file",
         kind: Kind::Option("FILE"),
-        help: "The file that the client's secret stands in",
+        help: "The file with the client's secret",
     },
     Argument {
         name: "verbose",
@@ -57,7 +57,7 @@ const ASKING: &[Argument] = &[
     Argument {
         name: "most",
         kind: Kind::Number("BYTES", 1, 16_777_216),
-        help: "The most octets of a value's encoding, 1 to 16777216, 4194304 at first",
+        help: "The longest encoding of a value in octets, 1 to 16777216 [default: 4194304]",
     },
 ];
 
@@ -72,17 +72,17 @@ const COMMANDS: [CommandWords; 12] = [
             Argument {
                 name: "FILE",
                 kind: Kind::Wanted,
-                help: "The file that the meter is to stand in",
+                help: "The file of the new meter",
             },
             Argument {
                 name: "demo",
                 kind: Kind::Flag,
-                help: "Gives the meter a day of a household to show",
+                help: "Gives the meter one day of a household",
             },
             Argument {
                 name: "force",
                 kind: Kind::Flag,
-                help: "Formats a FILE that already holds a meter; what it holds is lost",
+                help: "Formats a FILE that already holds a meter; everything in it is lost",
             },
         ],
         more: &[],
@@ -95,7 +95,7 @@ const COMMANDS: [CommandWords; 12] = [
         arguments: &[Argument {
             name: "FILE",
             kind: Kind::Value,
-            help: "The file that the meter stands in",
+            help: "The meter's file",
         }],
         more: &[],
     },
@@ -108,12 +108,12 @@ const COMMANDS: [CommandWords; 12] = [
             Argument {
                 name: "readings",
                 kind: Kind::Option("FILE"),
-                help: "The file that the readings stand in",
+                help: "The readings file",
             },
             Argument {
                 name: "stops",
                 kind: Kind::Number("N", 0, 100),
-                help: "So many stops of the meter, 0 to 100",
+                help: "The number of power failures, 0 to 100 [default: 0]",
             },
         ],
         more: &[],
@@ -127,54 +127,54 @@ const COMMANDS: [CommandWords; 12] = [
             Argument {
                 name: "FILE",
                 kind: Kind::Wanted,
-                help: "The file that the meter stands in",
+                help: "The meter's file",
             },
             Argument {
                 name: "listen",
                 kind: Kind::Option("ADDRESS:PORT"),
-                help: "The address to listen on, 127.0.0.1:4059 at first",
+                help: "The address to listen on [default: 127.0.0.1:4059]",
             },
             Argument {
                 name: "line",
                 kind: Kind::Option("DEVICE"),
-                help: "The serial line to serve in place of a port",
+                help: "The serial line to serve instead of a port",
             },
             Argument {
                 name: "load",
                 kind: Kind::Number("WATTS", 0, 1_000_000),
-                help: "So many watts give pulses on channel 0, 0 to 1000000",
+                help: "The load in watts that makes pulses on channel 0, 0 to 1000000 [default: 0]",
             },
             Argument {
                 name: "tick",
                 kind: Kind::Number("SECONDS", 1, 60),
-                help: "The meter is told of its seconds in steps of so many, 1 to 60, 1 at first",
+                help: "The step in seconds in which the meter's clock goes on, 1 to 60 [default: 1]",
             },
             Argument {
                 name: "quiet",
                 kind: Kind::Flag,
-                help: "Tells of nothing but the place and a fault",
+                help: "Prints nothing except the place and a fault",
             },
             Argument {
                 name: "idle",
                 kind: Kind::Number("SECONDS", 1, 86_400),
-                help: "Where another waits, a connection may be without an association's frame for so long, 5 at first",
+                help: "While another client waits, closes a connection without an association's frame after this time [default: 5]",
             },
             Argument {
                 name: "turn",
                 kind: Kind::Number("SECONDS", 1, 86_400),
-                help: "Where another waits, a connection ends after so long, 60 at first",
+                help: "While another client waits, closes any connection after this time [default: 60]",
             },
             Argument {
                 name: "inactivity",
                 kind: Kind::Number("SECONDS", 1, 86_400),
-                help: "A connection may be without an answered frame for so long, 120 at first",
+                help: "Closes a connection without an answered frame after this time [default: 120]",
             },
         ],
         more: &[],
     },
     CommandWords {
         name: "poll",
-        about: "Polls the meter at PLACE, and prints the rows that are new",
+        about: "Polls the meter at PLACE, and prints the new rows",
         long_about: POLL_ABOUT,
         example: "Example:\n  dlms poll 127.0.0.1:4059 --readings readings.csv",
         arguments: &[
@@ -186,12 +186,12 @@ const COMMANDS: [CommandWords; 12] = [
             Argument {
                 name: "readings",
                 kind: Kind::Option("FILE"),
-                help: "The file that the readings stand in",
+                help: "The readings file",
             },
             Argument {
                 name: "secret-file",
                 kind: Kind::Option("FILE"),
-                help: "The file that the client's secret stands in",
+                help: "The file with the client's secret",
             },
             Argument {
                 name: "public",
@@ -206,7 +206,7 @@ const COMMANDS: [CommandWords; 12] = [
             Argument {
                 name: "deadline",
                 kind: Kind::Number("SECONDS", 1, 86_400),
-                help: "The poll takes so many seconds at most, 1 to 86400, 300 at first",
+                help: "The most seconds that the poll may take, 1 to 86400 [default: 300]",
             },
             Argument {
                 name: "check-clock",
@@ -216,7 +216,7 @@ const COMMANDS: [CommandWords; 12] = [
             Argument {
                 name: "ahead",
                 kind: Kind::Number("SECONDS", 0, 31_536_000),
-                help: "Checks the clock, and bears so many seconds, 0 to 31536000; with --check-clock alone 86400",
+                help: "Checks the clock, and allows this many seconds, 0 to 31536000 [default with --check-clock: 86400]",
             },
             Argument {
                 name: "strict",
@@ -250,12 +250,12 @@ const COMMANDS: [CommandWords; 12] = [
             Argument {
                 name: "class",
                 kind: Kind::Number("CLASS", 1, 65_535),
-                help: "The class of the objects, 1 to 65535; it is not looked up then",
+                help: "The class of the objects, 1 to 65535; without it, the meter's object list is read first",
             },
             Argument {
                 name: "raw",
                 kind: Kind::Flag,
-                help: "Prints encodings in place of values",
+                help: "Prints encodings instead of values",
             },
             Argument {
                 name: "json",
@@ -308,7 +308,7 @@ const COMMANDS: [CommandWords; 12] = [
             Argument {
                 name: "class",
                 kind: Kind::Number("CLASS", 1, 65_535),
-                help: "The class of the objects, 1 to 65535; it is not looked up then",
+                help: "The class of the objects, 1 to 65535; without it, the meter's object list is read first",
             },
         ],
         more: ASKING,
@@ -332,31 +332,31 @@ const COMMANDS: [CommandWords; 12] = [
             Argument {
                 name: "VALUE",
                 kind: Kind::Value,
-                help: "The parameter, as the value of set",
+                help: "The parameter, given as the value of set",
             },
             Argument {
                 name: "class",
                 kind: Kind::Number("CLASS", 1, 65_535),
-                help: "The class of the objects, 1 to 65535; it is not looked up then",
+                help: "The class of the objects, 1 to 65535; without it, the meter's object list is read first",
             },
         ],
         more: ASKING,
     },
     CommandWords {
         name: "explain",
-        about: "Explains the frames that stand in FILE or on standard input, and what they carry",
+        about: "Explains the frames in FILE or on standard input, and what they carry",
         long_about: EXPLAIN_ABOUT,
         example: "Example:\n  dlms explain line.log",
         arguments: &[
             Argument {
                 name: "FILE",
                 kind: Kind::Value,
-                help: "The file that the frames stand in",
+                help: "The file with the frames",
             },
             Argument {
                 name: "raw",
                 kind: Kind::Flag,
-                help: "Prints strings that may be a secret too",
+                help: "Also prints strings that may be a secret",
             },
             Argument {
                 name: "short",
@@ -366,7 +366,7 @@ const COMMANDS: [CommandWords; 12] = [
             Argument {
                 name: "hex",
                 kind: Kind::Flag,
-                help: "Prints the octets of each frame beside it",
+                help: "Prints the octets of each frame beside its explanation",
             },
             Argument {
                 name: "json",
@@ -378,19 +378,19 @@ const COMMANDS: [CommandWords; 12] = [
     },
     CommandWords {
         name: "show",
-        about: "Shows what stands in the meter's file FILE, damaged or not",
+        about: "Shows the contents of the meter's file FILE, damaged or not",
         long_about: SHOW_ABOUT,
         example: "Example:\n  dlms show meter.bin --plot",
         arguments: &[
             Argument {
                 name: "FILE",
                 kind: Kind::Wanted,
-                help: "The file that the meter stands in",
+                help: "The meter's file",
             },
             Argument {
                 name: "plot",
                 kind: Kind::Flag,
-                help: "Plots the load profile too",
+                help: "Also plots the load profile",
             },
         ],
         more: &[],
@@ -404,12 +404,12 @@ const COMMANDS: [CommandWords; 12] = [
             Argument {
                 name: "READINGS",
                 kind: Kind::Wanted,
-                help: "The file that the readings stand in",
+                help: "The readings file",
             },
             Argument {
                 name: "svg",
                 kind: Kind::Flag,
-                help: "Prints an SVG in place of plain text",
+                help: "Prints an SVG instead of plain text",
             },
         ],
         more: &[],

@@ -1,10 +1,10 @@
-//! The numbers of the words.
+//! The numbers of the arguments.
 
 ghost use Rattle.std.specs.Prelude.{◌≡◌};
 ghost use Rattle.dlms_words.specs.declared.words.TheConstants.{AHEAD, CLIENT, DEADLINE, IDLE, INACTIVITY, MOST, TICK, TURN};
 
-/// The numbers that clauses cite by name: what holds where the words say nothing, in seconds, and for a meter that is asked the client's
-/// address and the octets of a value's encoding.
+/// The numbers that clauses cite by name: the defaults in seconds, and for a meter that is asked the client's address and the
+/// octets of a value's encoding.
 pub fn the_numbers()
     ensures poll { (DEADLINE ≡ 300) × (AHEAD ≡ 86400) }
     ensures asking { (CLIENT ≡ 16) × (MOST ≡ 4194304) }

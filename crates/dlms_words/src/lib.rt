@@ -1,4 +1,4 @@
-//! The program's words: its commands, what each may be given, and what is asked for by them.
+//! The command line: the commands, their arguments, and the job that they ask for.
 #![tactic(auto)]
 
 mod addresses;
@@ -10,6 +10,10 @@ pub mod laws;
 mod numbers;
 mod words;
 
-pub use commands::{Asking, Expecting, Job};
+pub use commands::{
+    ActOptions, Asking, Expecting, ExplainOptions, FormatOptions, GetOptions, Job, ListOptions,
+    LoopbackOptions, OutputFormat, PlotOptions, PollOptions, ServeOptions, SetOptions, ShowOptions,
+    ValueFormat,
+};
 pub use numbers::number;
 pub use words::job;

@@ -1,65 +1,71 @@
-//! What the program's words ask for.
+//! The job that the command line asks for.
 ghost use Rattle.std.specs.Prelude.{◌≡◌, ◌⊎◌, ◌↔◌, [], List, Some, option_map, OnOk, IfErr, IfNone, IfOk, OnSome, IsTrue, codes, is_some, map, slice_get};
 ghost use Rattle.clap.specs.Values.{kind_of};
 ghost use Rattle.clap.specs.Words.{all_of, fault_of, first_of, Row, FailsBy, HasKind, subcommand_rows_of, subcommand_of};
 ghost use Rattle.dlms_words.specs.Grammar.{dlms};
-ghost use Rattle.dlms_words.specs.Words.{asker as client_by, address_in, Asks, AsksBoth, AsksTwoClients, IsAsking, IsClear, IsExpecting, IsUnclear, NamesNoAddress, NamesTwoPlaces, nth_of, IsSaid, IsSaidFor, Says, SaysAhead, SaysStops, unless_device};
+ghost use Rattle.dlms_words.specs.Words.{asker as client_by, address_in, Asks, AsksBoth, AsksTwoClients, IsAsking, IsClear, IsExpecting, IsUnclear, NamesNoAddress, NamesTwoPlaces, nth_of, output_format, IsSaid, IsSaidFor, Says, SaysAhead, SaysStops, unless_device, value_format};
 
 use crate::addresses::{is_address, is_device};
-use crate::commands::{Asking, Expecting, Job};
+use crate::commands::{
+    ActOptions, Asking, Expecting, ExplainOptions, FormatOptions, GetOptions, Job, ListOptions,
+    LoopbackOptions, OutputFormat, PlotOptions, PollOptions, ServeOptions, SetOptions, ShowOptions,
+    ValueFormat,
+};
 use crate::grammar::program;
 use clap::error::ErrorKind;
 use clap::{ArgMatches, Error};
 use dlms_frame::Client;
 use std::alloc::{AllocError, Global};
 
-/// How many seconds a poll may take where nothing is said.
+/// The default number of seconds that a poll may take.
 const DEADLINE: u32 = 300;
 
-/// The seconds of a step in which a meter that serves is told of the clock where nothing is said.
+/// The default step, in seconds, in which a serving meter learns of the clock.
 const TICK: u32 = 1;
 
-/// For how many seconds a connection may be without an answer of an association where another waits and nothing is said: two frames
-/// that are lost and go again.
+/// The default number of seconds that a connection may be without an answer of an association while another waits: time for two
+/// lost frames to be repeated.
 const IDLE: u32 = 5;
 
-/// For how many seconds another connection waits at most where nothing is said: many polls.
+/// The default number of seconds that another connection waits at most: time for many polls.
 const TURN: u32 = 60;
 
-/// For how many seconds a connection may be without an answer where nothing is said: the default of the inactivity time-out of the
-/// class IEC HDLC setup (Blue Book 4.7.2).
+/// The default number of seconds that a connection may be without an answer: the default of the inactivity timeout of the class IEC
+/// HDLC setup (Blue Book 4.7.2).
 const INACTIVITY: u32 = 120;
 
-/// By how many seconds a row may be past the system's clock where nothing is said: by a day, since a meter's clock may show the
-/// time of any place.
+/// The default number of seconds that a row may be past the system's clock: a day, because a meter's clock may show the time of any
+/// place.
 const AHEAD: u32 = 86_400;
 
-/// The client that asks where none is said: the public client (IEC 62056-46, reserved addresses).
+/// The default client: the public client (IEC 62056-46, reserved addresses).
 const CLIENT: u32 = 16;
 
 /// How many octets the encoding of a value from the meter has at most when nothing is said: 4 MiB.
 const MOST: u32 = 4_194_304;
 
-/// What is said where two clients are asked for.
+/// The message if two clients are given.
 const TWO_CLIENTS: &str = "the argument '--public' cannot be used with '--reader'";
 
-/// What is said where a port and a serial line are named.
+/// The message if a port and a serial line are given.
 const TWO_PLACES: &str = "the argument '--listen' cannot be used with '--line'";
 
-/// What is said where an address is none.
-const NO_ADDRESS: &str = "an address is wanted as HOST:PORT, with a port of 0 to 65535";
+/// The message if an address is invalid.
+const NO_ADDRESS: &str = "an address is expected as HOST:PORT, with a port of 0 to 65535";
 
-/// What was found for the words.
+/// The matches of the command line.
 fn parsed<'a>(alloc: Global, words: &'a [&'a str]) -> Result<ArgMatches<'a>, Error>
     ensures kinds { FailsBy (fault_of dlms (map (λ word. word.now) words.entry.now)) result }
-    ensures matches { IfOk result (λ m. subcommand_rows_of m ≡ subcommand_of dlms (map (λ word. word.now) words.entry.now)) }
+    ensures matches { IfOk result
+        (λ m. subcommand_rows_of m ≡ subcommand_of dlms (map (λ word. word.now) words.entry.now)) }
 {
     program(alloc)?.try_get_matches_from(words)
 }
 
 /// What was found for one of a command's values, if it was.
 fn value_for<'a>(matches: &ArgMatches<'a>, command: &str, id: &str) -> Option<&'a str>
-    ensures { (rows : List Row) → subcommand_rows_of matches.now ≡ Some (command.now, rows) → option_map (λ value. value.now) result ≡ first_of id.now rows }
+    ensures { (rows : List Row) → subcommand_rows_of matches.now ≡ Some (command.now, rows)
+        → option_map (λ value. value.now) result ≡ first_of id.now rows }
 {
     matches.subcommand_matches(command)?.get_str(id)
 }
@@ -73,7 +79,8 @@ fn text_at<'a>(texts: &[&'a str], place: usize) -> Option<&'a str>
 
 /// The text at this place, from 0 on, among those that were found for one of a command's values, if there are so many.
 fn nth_for<'a>(matches: &ArgMatches<'a>, command: &str, id: &str, place: usize) -> Option<&'a str>
-    ensures { (rows : List Row) → subcommand_rows_of matches.now ≡ Some (command.now, rows) → option_map (λ value. value.now) result ≡ nth_of place (all_of id.now rows) }
+    ensures { (rows : List Row) → subcommand_rows_of matches.now ≡ Some (command.now, rows)
+        → option_map (λ value. value.now) result ≡ nth_of place (all_of id.now rows) }
 {
     let texts = matches.subcommand_matches(command)?.get_strs(id)?;
     text_at(texts, place)
@@ -89,30 +96,30 @@ fn stops(said: Option<&str>) -> u8
     }
 }
 
-/// The number that was said, and where none was this one.
+/// The number that was given; if none was, this one. If `clap` takes what is no `u32`, it is a zero with a minus.
 fn number(said: Option<&str>, other: u32) -> u32
     ensures { Says 32 other (option_map (λ text. text.now) said.entry) result }
 {
     match said {
-        Some(text) => text.parse::<u32>().unwrap_or(other),
+        Some(text) => text.parse::<u32>().unwrap_or(0),
         None => other,
     }
 }
 
-/// The number that was said for one of a command's values, and where none was this one.
+/// The number given for one of a command's values; if none was, this one.
 fn number_for(matches: &ArgMatches<'_>, command: &str, id: &str, other: u32) -> u32
-    ensures { (rows : List Row) → subcommand_rows_of matches.now ≡ Some (command.now, rows) → IsSaidFor id.now rows other result }
+    ensures { (rows : List Row) → subcommand_rows_of matches.now ≡ Some (command.now, rows)
+        → IsSaidFor id.now rows other result }
 {
     number(value_for(matches, command, id), other)
 }
 
-/// By how many seconds a row may be past the system's clock, where that is looked at. Where `clap` takes what is no `u32`, it is
-/// a zero with the sign of a negative number.
+/// By how many seconds a row may be past the system's clock, if that is checked.
 fn ahead(checks: bool, said: Option<&str>) -> Option<u32>
     ensures { SaysAhead checks (option_map (λ text. text.now) said.entry) result }
 {
     match said {
-        Some(text) => Some(text.parse::<u32>().unwrap_or(0)),
+        Some(_) => Some(number(said, AHEAD)),
         None if checks => Some(AHEAD),
         None => None,
     }
@@ -125,35 +132,60 @@ fn is_given(said: Option<&str>) -> bool
     said == Some("true")
 }
 
+/// How values are printed, by the flags that were given: `raw` comes before `json`.
+fn value_format(raw: bool, json: bool) -> ValueFormat
+    ensures { result ≡ value_format raw json }
+{
+    match (raw, json) {
+        (true, _) => ValueFormat::Encoding,
+        (false, true) => ValueFormat::Json,
+        (false, false) => ValueFormat::Text,
+    }
+}
+
+/// How the output is printed, by the flag that was given.
+fn output_format(json: bool) -> OutputFormat
+    ensures { result ≡ output_format json }
+{
+    if json {
+        OutputFormat::Json
+    } else {
+        OutputFormat::Text
+    }
+}
+
 /// The values of `format`.
 fn format_job<'a>(matches: &ArgMatches<'a>) -> Job<'a>
-    ensures { (rows : List Row) → subcommand_rows_of matches.now ≡ Some (codes "format", rows) → Asks (Some (codes "format", rows)) result }
+    ensures { (rows : List Row) → subcommand_rows_of matches.now ≡ Some (codes "format", rows)
+        → Asks (Some (codes "format", rows)) result }
 {
     let demo = is_given(value_for(matches, "format", "demo"));
     let force = is_given(value_for(matches, "format", "force"));
-    Job::Format {
+    Job::Format(FormatOptions {
         file: value_for(matches, "format", "FILE").unwrap_or(""),
         demo,
         force,
-    }
+    })
 }
 
 /// The values of `loopback`.
 fn loopback_job<'a>(matches: &ArgMatches<'a>) -> Job<'a>
-    ensures { (rows : List Row) → subcommand_rows_of matches.now ≡ Some (codes "loopback", rows) → Asks (Some (codes "loopback", rows)) result }
+    ensures { (rows : List Row) → subcommand_rows_of matches.now ≡ Some (codes "loopback", rows)
+        → Asks (Some (codes "loopback", rows)) result }
 {
-    Job::Loopback {
+    Job::Loopback(LoopbackOptions {
         readings: value_for(matches, "loopback", "readings"),
         stops: stops(value_for(matches, "loopback", "stops")),
-    }
+    })
 }
 
 /// The values of `serve`.
 fn serve_job<'a>(matches: &ArgMatches<'a>) -> Job<'a>
-    ensures { (rows : List Row) → subcommand_rows_of matches.now ≡ Some (codes "serve", rows) → Asks (Some (codes "serve", rows)) result }
+    ensures { (rows : List Row) → subcommand_rows_of matches.now ≡ Some (codes "serve", rows)
+        → Asks (Some (codes "serve", rows)) result }
 {
     let quiet = is_given(value_for(matches, "serve", "quiet"));
-    Job::Serve {
+    Job::Serve(ServeOptions {
         file: value_for(matches, "serve", "FILE").unwrap_or(""),
         listen: value_for(matches, "serve", "listen"),
         line: value_for(matches, "serve", "line"),
@@ -163,7 +195,7 @@ fn serve_job<'a>(matches: &ArgMatches<'a>) -> Job<'a>
         idle: number_for(matches, "serve", "idle", IDLE),
         turn: number_for(matches, "serve", "turn", TURN),
         inactivity: number_for(matches, "serve", "inactivity", INACTIVITY),
-    }
+    })
 }
 
 /// Who asks, by the flags that were given.
@@ -181,7 +213,8 @@ fn asker(public: bool, reader: bool) -> Client
 
 /// The texts that the meter's objects have to show.
 fn expecting<'a>(matches: &ArgMatches<'a>) -> Expecting<'a>
-    ensures { (rows : List Row) → subcommand_rows_of matches.now ≡ Some (codes "poll", rows) → IsExpecting (all_of (codes "expect") rows) result }
+    ensures { (rows : List Row) → subcommand_rows_of matches.now ≡ Some (codes "poll", rows)
+        → IsExpecting (all_of (codes "expect") rows) result }
 {
     Expecting {
         first: nth_for(matches, "poll", "expect", 0),
@@ -194,13 +227,14 @@ fn expecting<'a>(matches: &ArgMatches<'a>) -> Expecting<'a>
 
 /// The values of `poll`.
 fn poll_job<'a>(matches: &ArgMatches<'a>) -> Job<'a>
-    ensures { (rows : List Row) → subcommand_rows_of matches.now ≡ Some (codes "poll", rows) → Asks (Some (codes "poll", rows)) result }
+    ensures { (rows : List Row) → subcommand_rows_of matches.now ≡ Some (codes "poll", rows)
+        → Asks (Some (codes "poll", rows)) result }
 {
     let public = is_given(value_for(matches, "poll", "public"));
     let reader = is_given(value_for(matches, "poll", "reader"));
     let checks = is_given(value_for(matches, "poll", "check-clock"));
     let strict = is_given(value_for(matches, "poll", "strict"));
-    Job::Poll {
+    Job::Poll(PollOptions {
         address: value_for(matches, "poll", "PLACE").unwrap_or(""),
         readings: value_for(matches, "poll", "readings"),
         secret_file: value_for(matches, "poll", "secret-file"),
@@ -209,51 +243,55 @@ fn poll_job<'a>(matches: &ArgMatches<'a>) -> Job<'a>
         ahead: ahead(checks, value_for(matches, "poll", "ahead")),
         strict,
         expecting: expecting(matches),
-    }
+    })
 }
 
 /// The values of `show`.
 fn show_job<'a>(matches: &ArgMatches<'a>) -> Job<'a>
-    ensures { (rows : List Row) → subcommand_rows_of matches.now ≡ Some (codes "show", rows) → Asks (Some (codes "show", rows)) result }
+    ensures { (rows : List Row) → subcommand_rows_of matches.now ≡ Some (codes "show", rows)
+        → Asks (Some (codes "show", rows)) result }
 {
     let plot = is_given(value_for(matches, "show", "plot"));
-    Job::Show {
+    Job::Show(ShowOptions {
         file: value_for(matches, "show", "FILE").unwrap_or(""),
         plot,
-    }
+    })
 }
 
 /// The values of `explain`.
 fn explain_job<'a>(matches: &ArgMatches<'a>) -> Job<'a>
-    ensures { (rows : List Row) → subcommand_rows_of matches.now ≡ Some (codes "explain", rows) → Asks (Some (codes "explain", rows)) result }
+    ensures { (rows : List Row) → subcommand_rows_of matches.now ≡ Some (codes "explain", rows)
+        → Asks (Some (codes "explain", rows)) result }
 {
     let raw = is_given(value_for(matches, "explain", "raw"));
     let short = is_given(value_for(matches, "explain", "short"));
     let hex = is_given(value_for(matches, "explain", "hex"));
     let json = is_given(value_for(matches, "explain", "json"));
-    Job::Explain {
+    Job::Explain(ExplainOptions {
         file: value_for(matches, "explain", "FILE"),
         raw,
         short,
         hex,
-        json,
-    }
+        format: output_format(json),
+    })
 }
 
 /// The values of `plot`.
 fn plot_job<'a>(matches: &ArgMatches<'a>) -> Job<'a>
-    ensures { (rows : List Row) → subcommand_rows_of matches.now ≡ Some (codes "plot", rows) → Asks (Some (codes "plot", rows)) result }
+    ensures { (rows : List Row) → subcommand_rows_of matches.now ≡ Some (codes "plot", rows)
+        → Asks (Some (codes "plot", rows)) result }
 {
     let svg = is_given(value_for(matches, "plot", "svg"));
-    Job::Plot {
+    Job::Plot(PlotOptions {
         readings: value_for(matches, "plot", "READINGS").unwrap_or(""),
         svg,
-    }
+    })
 }
 
-/// Which meter a command asks, by whom.
+/// The meter that a command asks, and the client that asks.
 fn asking<'a>(matches: &ArgMatches<'a>, command: &str) -> Asking<'a>
-    ensures { (rows : List Row) → subcommand_rows_of matches.now ≡ Some (command.now, rows) → IsAsking rows result }
+    ensures { (rows : List Row) → subcommand_rows_of matches.now ≡ Some (command.now, rows)
+        → IsAsking rows result }
 {
     let wide = is_given(value_for(matches, command, "wide"));
     let verbose = is_given(value_for(matches, command, "verbose"));
@@ -270,52 +308,55 @@ fn asking<'a>(matches: &ArgMatches<'a>, command: &str) -> Asking<'a>
 
 /// The values of `get`.
 fn get_job<'a>(matches: &ArgMatches<'a>) -> Job<'a>
-    ensures { (rows : List Row) → subcommand_rows_of matches.now ≡ Some (codes "get", rows) → Asks (Some (codes "get", rows)) result }
+    ensures { (rows : List Row) → subcommand_rows_of matches.now ≡ Some (codes "get", rows)
+        → Asks (Some (codes "get", rows)) result }
 {
     let raw = is_given(value_for(matches, "get", "raw"));
     let json = is_given(value_for(matches, "get", "json"));
-    Job::Get {
+    Job::Get(GetOptions {
         asking: asking(matches, "get"),
         names: value_for(matches, "get", "NAMES").unwrap_or(""),
         class: number_for(matches, "get", "class", 0),
-        raw,
-        json,
-    }
+        format: value_format(raw, json),
+    })
 }
 
 /// The values of `list`.
 fn list_job<'a>(matches: &ArgMatches<'a>) -> Job<'a>
-    ensures { (rows : List Row) → subcommand_rows_of matches.now ≡ Some (codes "list", rows) → Asks (Some (codes "list", rows)) result }
+    ensures { (rows : List Row) → subcommand_rows_of matches.now ≡ Some (codes "list", rows)
+        → Asks (Some (codes "list", rows)) result }
 {
     let json = is_given(value_for(matches, "list", "json"));
-    Job::List {
+    Job::List(ListOptions {
         asking: asking(matches, "list"),
-        json,
-    }
+        format: output_format(json),
+    })
 }
 
 /// The values of `set`.
 fn set_job<'a>(matches: &ArgMatches<'a>) -> Job<'a>
-    ensures { (rows : List Row) → subcommand_rows_of matches.now ≡ Some (codes "set", rows) → Asks (Some (codes "set", rows)) result }
+    ensures { (rows : List Row) → subcommand_rows_of matches.now ≡ Some (codes "set", rows)
+        → Asks (Some (codes "set", rows)) result }
 {
-    Job::Set {
+    Job::Set(SetOptions {
         asking: asking(matches, "set"),
         name: value_for(matches, "set", "NAME").unwrap_or(""),
         value: value_for(matches, "set", "VALUE").unwrap_or(""),
         class: number_for(matches, "set", "class", 0),
-    }
+    })
 }
 
 /// The values of `act`.
 fn act_job<'a>(matches: &ArgMatches<'a>) -> Job<'a>
-    ensures { (rows : List Row) → subcommand_rows_of matches.now ≡ Some (codes "act", rows) → Asks (Some (codes "act", rows)) result }
+    ensures { (rows : List Row) → subcommand_rows_of matches.now ≡ Some (codes "act", rows)
+        → Asks (Some (codes "act", rows)) result }
 {
-    Job::Act {
+    Job::Act(ActOptions {
         asking: asking(matches, "act"),
         name: value_for(matches, "act", "NAME").unwrap_or(""),
         value: value_for(matches, "act", "VALUE"),
         class: number_for(matches, "act", "class", 0),
-    }
+    })
 }
 
 /// Whether two clients are asked for at once.
@@ -332,7 +373,8 @@ fn asks_two_clients(matches: &ArgMatches<'_>) -> bool
 
 /// Whether one of a command's values was named.
 fn is_named(matches: &ArgMatches<'_>, command: &str, id: &str) -> bool
-    ensures { (rows : List Row) → subcommand_rows_of matches.now ≡ Some (command.now, rows) → result ≡ is_some (first_of id.now rows) }
+    ensures { (rows : List Row) → subcommand_rows_of matches.now ≡ Some (command.now, rows)
+        → result ≡ is_some (first_of id.now rows) }
 {
     value_for(matches, command, id).is_some()
 }
@@ -349,7 +391,7 @@ fn names_two_places(matches: &ArgMatches<'_>) -> bool
     listen && line
 }
 
-/// What is said where two are asked for and one is wanted.
+/// The message if two are given and one is wanted.
 fn conflict(matches: &ArgMatches<'_>) -> Option<&'static str>
     ensures some { OnSome result (AsksBoth (subcommand_rows_of matches.now)) }
     ensures none { IfNone result (AsksBoth (subcommand_rows_of matches.now) → ⊥) }
@@ -365,7 +407,8 @@ fn conflict(matches: &ArgMatches<'_>) -> Option<&'static str>
 
 /// The place, unless it is the device of a serial line.
 fn unless_device(place: Option<&str>) -> Option<&str>
-    ensures { option_map (λ text. text.now) result ≡ unless_device (option_map (λ text. text.now) place.entry) }
+    ensures { option_map (λ text. text.now) result ≡ unless_device
+        (option_map (λ text. text.now) place.entry) }
 {
     match place {
         Some(text) => {
@@ -392,7 +435,7 @@ fn address_for<'a>(matches: &ArgMatches<'a>) -> Option<&'a str>
     None
 }
 
-/// Whether the address that is named is none.
+/// Whether the given address is invalid.
 fn names_no_address(matches: &ArgMatches<'_>) -> bool
     ensures { IsTrue result ↔ NamesNoAddress (subcommand_rows_of matches.now) }
 {
@@ -410,12 +453,15 @@ fn complaint(alloc: Global, kind: ErrorKind, message: &str) -> Result<Error, All
     program.error(kind, message)
 }
 
-/// What was found for the words, where it asks for something.
+/// The matches of the command line, if it asks for something.
 fn clear<'a>(alloc: Global, words: &'a [&'a str]) -> Result<ArgMatches<'a>, Error>
     ensures none { OnOk result (fault_of dlms (map (λ word. word.now) words.entry.now) ≡ []) }
-    ensures clear { OnOk result (IsClear (subcommand_of dlms (map (λ word. word.now) words.entry.now))) }
-    ensures matches { IfOk result (λ m. subcommand_rows_of m ≡ subcommand_of dlms (map (λ word. word.now) words.entry.now)) }
-    ensures fault { IfErr result (λ e. HasKind (fault_of dlms (map (λ word. word.now) words.entry.now)) e
+    ensures clear { OnOk result (IsClear
+        (subcommand_of dlms (map (λ word. word.now) words.entry.now))) }
+    ensures matches { IfOk result
+        (λ m. subcommand_rows_of m ≡ subcommand_of dlms (map (λ word. word.now) words.entry.now)) }
+    ensures fault { IfErr result (λ e. HasKind
+        (fault_of dlms (map (λ word. word.now) words.entry.now)) e
         ⊎ IsUnclear (subcommand_of dlms (map (λ word. word.now) words.entry.now)) e) }
 {
     let matches = parsed(alloc, words)?;
@@ -428,15 +474,17 @@ fn clear<'a>(alloc: Global, words: &'a [&'a str]) -> Result<ArgMatches<'a>, Erro
     Ok(matches)
 }
 
-/// The job that the words name, the first of which is the program's own name: its command and its values are those that `clap`
-/// finds for them. A fault is `clap`'s, or want of memory, or that two clients or two places are asked for, or no address is named
-/// where one is wanted; where there is none of these, it is want of memory.
+/// The job of this command line, whose first word is the program's own name: its command and its values are those that `clap`
+/// finds. A fault is `clap`'s, or out of memory, or that two clients or two places are given, or that an address is invalid; if
+/// there is none of these, it is out of memory.
 #[inline(never)]
 pub fn job<'a>(alloc: Global, words: &'a [&'a str]) -> Result<Job<'a>, Error>
     ensures ok { IfOk result (Asks (subcommand_of dlms (map (λ word. word.now) words.entry.now))) }
-    ensures clear { OnOk result (IsClear (subcommand_of dlms (map (λ word. word.now) words.entry.now))) }
+    ensures clear { OnOk result (IsClear
+        (subcommand_of dlms (map (λ word. word.now) words.entry.now))) }
     ensures only_ok { OnOk result (fault_of dlms (map (λ word. word.now) words.entry.now) ≡ []) }
-    ensures fault { IfErr result (λ e. HasKind (fault_of dlms (map (λ word. word.now) words.entry.now)) e
+    ensures fault { IfErr result (λ e. HasKind
+        (fault_of dlms (map (λ word. word.now) words.entry.now)) e
         ⊎ IsUnclear (subcommand_of dlms (map (λ word. word.now) words.entry.now)) e) }
 {
     let matches = clear(alloc, words)?;
@@ -445,7 +493,7 @@ pub fn job<'a>(alloc: Global, words: &'a [&'a str]) -> Result<Job<'a>, Error>
     }
     if matches.subcommand_name() == Some("replay") {
         let file = value_for(&matches, "replay", "FILE");
-        return Ok(Job::Replay { file });
+        return Ok(Job::Replay(file));
     }
     if matches.subcommand_name() == Some("loopback") {
         return Ok(loopback_job(&matches));

@@ -102,7 +102,7 @@ Kept Running asking memory served = KeptBy (λ E. Since E (events_in memory)) as
 Kept Done asking memory served = KeptBy (λ E. Unit {0}) asking served
 Kept (Failed fault) asking memory served = Unit {0}
 
--- the first question was answered with data, and nothing was served behind it
+-- the first request was answered with data, and nothing was served after it
 record IsOpen (asking : Columns) (served : List Exchange) (first : Exchange) : Type 0 where
   association : Exchange
   are : served ≡ association ∷ first ∷ []
@@ -128,7 +128,7 @@ taken_on (Failed fault) asking before after served taken all still k = tt
 second_is_in : (served : List Exchange) (a x : Exchange) → served ≡ a ∷ x ∷ [] → Contains served x
 second_is_in served a x is = subst (λ (l : List Exchange). Contains l x) (sym is) (1, omega arith, refl)
 
--- the meter comes back with a beginning of what it held
+-- the meter comes back with a prefix of its events
 lost_on : (course : Course) (asking : Columns) (before after : Store) (served : List Exchange) → ((x : Exchange) → Contains served x → is_success x.outcome.answer ≡ true → IsBeginning x.before (events_in after)) → IsBeginning (events_in after) (events_in before)
     → Kept course asking before served → Kept course asking after served
 lost_on Ready asking before after served settled less k = tt

@@ -78,7 +78,7 @@ done_poller now p plan course done rows released = record {
 
 -- ---- a frame comes
 
--- the link after a frame, and what came of it
+-- the link after a frame, and its output
 abbrev after : Link → ClientRecord → List Parts → ClientOut → Link
 after link c rest o = client_does (record link { client = c; down_line = rest }) o
 
@@ -98,7 +98,7 @@ record Frame_at (w : World) (frame : Parts) (rest : List Parts) (old : PollerVal
   runs : w.course ≡ Running
   line : w.link.down_line ≡ frame ∷ rest
 
--- the line behind that frame, and the meter's end
+-- the line after that frame, and the meter's end
 record Behind (w : World) (rest : List Parts) (sent : List Parts) : Type 0 where
   going : (reached w).up_line ≡ w.link.up_line ++ sent
   coming : (reached w).down_line ≡ rest
@@ -157,7 +157,7 @@ fails w frame rest old new fault at why behind plan course = (
   aside w (record w { link = reached w; course = Failed fault }) refl behind.meter refl refl refl refl,
 )
 
--- where the link comes up nothing was taken
+-- if the link comes up nothing was taken
 none_taken : (columns : Columns) (stage : Stage) (blocks : Joining) (rows : List Row) (apdus : List (List ℕ)) (phase : Phase) → FitsAt columns stage blocks rows apdus → StandsAt stage phase → phase ≡ Connecting → apdus ≡ []
 none_taken columns Associating blocks rows apdus phase h s e = h.0
 none_taken columns Naming blocks rows apdus phase h s e = absurd (cc)

@@ -1,4 +1,4 @@
--- What a formatted meter holds once the first quarter of an hour has passed: one row.
+-- The content of a formatted meter once the first quarter of an hour has passed: one row.
 use Rattle.std.proofs.Common.{arith, ◌≡◌, ◌∙◌, ◌<◌, ◌≤◌, ℕ, Bool, true, false, nat_le, List, [], ◌∷◌, ◌++◌, All, map, length, length-append, refl, sym, subst, Some}
 use Rattle.std.specs.Prelude.{◌^◌}
 use Rattle.dlms_classes.specs.Shown.{IsTable, cells}

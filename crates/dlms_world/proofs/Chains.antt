@@ -26,7 +26,8 @@ told_in served = map (λ x. x.outcome.answer) served
 abbrev pub InOrder : Client → List Exchange → SessionValue → Type 0
 InOrder who served last = InTurn (fresh who) (map Asked served) last
 
--- what the meter served is what its link gave up and was given, in turn, and what it keeps of the client is what that left
+-- the exchanges that the meter served are the APDUs that its link handed up and was given, in turn, and its record of the client is
+-- what they left
 pub record Chain (who : Client) (link : Link) (ours : Bool) (session : SessionValue) (served : List Exchange) : Type 0 where
   pub apdus : asked_in served ≡ link.served
   pub answers : told_in served ≡ link.answers
@@ -94,7 +95,7 @@ go_on : (s m : SessionValue) (xs : List Exchange) (x : Exchange) → InTurn s (m
 go_on s m [] x h k = (subst (λ (v : SessionValue). Does x.choice x.before v x.apdu x.outcome) h k, refl)
 go_on s m (y ∷ ys) x h k = (h.0, go_on y.outcome.own m ys x h.1 k)
 
--- none is served where the link gave up none
+-- none is served if the link handed up none
 none_served : (served : List Exchange) → asked_in served ≡ [] → served ≡ []
 none_served [] e = refl
 none_served (x ∷ xs) e = cc

@@ -1,4 +1,4 @@
--- What is kept of a client stays that client's.
+-- A record of a client stays that client's.
 use Rattle.std.proofs.Common.{◌≡◌, ℕ, ◌+◌, Bool, true, false, if◌then◌else◌, List, Option, Some, None, Result, Ok, Err, refl, ◌∙◌, ap, length}
 use Rattle.std.specs.Prelude.{nat_le}
 use Rattle.dlms_apdu.specs.Forms.{RequestForm, BlockForm, get_normal, get_next, set_normal, set_first, set_block, action_normal, action_first, action_block, get_data, get_result}

@@ -141,7 +141,7 @@ module _ (before : World) (plan : PlanValue) (E : List Event) (legal : IsLegal E
     heard : List ℕ
     reaches : happens link ReachesClient ≡ rounds.idle plan.client sends receives last took had heard given got
 
-  -- The segments of an answer come, of which this one is on the line, and so much is left behind it.
+  -- The segments of an answer arrive; this one is on the line, and this rest follows it.
   gathers : (fuel : ℕ) (given got : List (List ℕ)) (answer : List ℕ) (session : SessionValue) (ours : Bool) (exchanges : List Exchange) (s n : ℕ) → s < 8 → n < 8 → (q : Parts) (took : Bool) (kept : Kept) (had heard info left : List ℕ)
       → length left ≤ fuel → length answer ≤ 1024 → Joins from_meter kept (info ++ left) answer → IsFirst kept info → Run before (under_way (rounds.coming plan.client s n q took kept had heard info left answer given got) ours session exchanges)
       → Awaits given (got ++ answer ∷ []) session
@@ -319,7 +319,7 @@ module _ (before : World) (plan : PlanValue) (E : List Event) (legal : IsLegal E
     all_sent : IsSent encoding served.room
     all_sent = record { short = omega (arith, few); some = omega arith }
 
-    -- The block behind so many is on the way: it is the last one, or the next one is asked for.
+    -- The block after the first k is on the way: it is the last one, or the next one is requested.
     behind : (fuel k : ℕ) → length encoding ≤ k + 1 + fuel → k < 65536 → (b : Bool) → is_last encoding served.room (k + 1) ≡ b → (given got : List (List ℕ)) (joined : List ℕ) → HasBlocks plan.columns got k joined → joined ≡ blocks_up_to encoding served.room k
         → (answer : List ℕ) → answer ≡ block_answer encoding served.room (k + 1) → (s : SessionValue) → s ≡ gave (k + 1) (is_last encoding served.room (k + 1)) → Awaits given (got ++ answer ∷ []) s → Got
     behind fuel k enough small true last given got joined blocks is answer said s own a =
@@ -468,7 +468,7 @@ recovers w (Rests events) is =
     let opens = subst (λ (m : Memory). Next m (Opens events) (Runs events [])) (sym is) (refl, refl) in
     (back, Goes w back Stays (Restarted w (Opens events) (Runs events []) (λ none. none) opens), refl, refl)
 
-joined : (w mid now : World) → Run w mid → Run mid now → Run w now
+pub joined : (w mid now : World) → Run w mid → Run mid now → Run w now
 joined w mid now first Stays = first
 joined w mid now first (Goes last other run turn) = Goes last other (joined w mid last first run) turn
 

@@ -1,4 +1,4 @@
--- The frame that ends a poll: what it took are the answers to what it asked, as the meter served them in turn.
+-- The frame that ends a poll: the APDUs that it took are the answers to its requests, as the meter served them in turn.
 use Rattle.std.proofs.Common.{◌≡◌, ℕ, true, List, [], ◌∷◌, ◌++◌, map, Option, None, Some, refl, sym, ◌∙◌, ap, subst}
 use Rattle.std.specs.Prelude.{Contains}
 use Rattle.std.proofs.lemmas.List.{append-nil}
@@ -79,7 +79,7 @@ is_told tell who w frame rest rows client sound line fit c released =
     let talk = talks w.plan [] first.before w.link.taken first.rest up.0 down.0 w.served first.answered (ap (λ l. l ++ up.0) c.apdus ∙ up.1 ∙ first.are) (down.1 ∙ sym c.answers) in
     tell w.plan w.served c.last w.link.taken rows (subst (λ k. InTurn (fresh k) (map Asked w.served) c.last) (sym client) c.in_turn) talk released
 
--- the events behind an answer of data are settled
+-- the events after an answer of data are settled
 settled_each : (memory : Store) (served : List Exchange) → DataSettled memory served → ByRecursion (λ x. is_success x.outcome.answer ≡ true → IsBeginning x.before (settled_in memory)) served
 settled_each memory [] d = tt
 settled_each memory (x ∷ served) d = (d.0, settled_each memory served d.1)

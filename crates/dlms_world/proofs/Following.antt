@@ -37,20 +37,20 @@ use Rattle.dlms_world.proofs.Gets.{no_data, no_data_in, failed_get, read_excepti
 pub has_count : (columns : Columns) (apdus : List (List ℕ)) (t u : ℕ) (i j : List ℕ) → HasBlocks columns apdus t i → HasBlocks columns apdus u j → t ≡ u
 has_count columns apdus t u i j h k = (has_blocks_told columns apdus t u i j h k).0
 
--- rows came with an APDU that is no block behind which others are to come
+-- rows came with an APDU that is no block with others to follow
 pub not_both : (columns : Columns) (apdus : List (List ℕ)) (k : ℕ) (joined : List ℕ) (rows : List Row) → HasBlocks columns apdus k joined → HasRows columns apdus rows → ⊥
 not_both columns apdus k joined rows h r = rows_inside columns apdus apdus [] k joined rows h r (sym (append-nil apdus))
 
 pub not_named : (columns : Columns) (apdus : List (List ℕ)) (k : ℕ) (joined : List ℕ) (rows : List Row) → HasBlocks columns apdus k joined → HasNamed columns apdus rows → ⊥
 not_named columns apdus k joined rows h r = rows_inside columns apdus r.before r.names k joined rows h r.polled r.are
 
--- where the columns are asked for, an answer that tells them came behind the acceptance
+-- if the plan asks for the columns, an answer with them came after the acceptance
 pub not_accepted : (columns : Columns) (apdus : List (List ℕ)) (k : ℕ) (joined : List ℕ) → columns ≡ AsksColumns → HasBlocks columns apdus k joined → HasAccepted apdus → ⊥
 not_accepted columns apdus k joined asked h a =
     let named : AreNamed AsksColumns h.names = subst (λ (c : Columns). AreNamed c h.names) asked h.named in
     omega (arith, ap length (sym h.are ∙ a.are), length-append h.names h.blocks, ap length named.1)
 
--- behind so many blocks the next one is asked for
+-- after this many blocks the next one is requested
 pub asks_next : (plan : PlanValue) (apdus : List (List ℕ)) (k : ℕ) (joined apdu : List ℕ) → 0 < k → HasBlocks plan.columns apdus k joined → Asks plan apdus apdu → apdu ≡ next_bytes k
 asks_next plan apdus k joined apdu some h (associates none is) = absurd (empty (sym none ∙ h.are))
   where
@@ -136,7 +136,7 @@ more_data taken (Ok (get_block i last number raw)) bytes h = tt
 more_data taken _ bytes h = absurd h
 
 module _ (plan : PlanValue) (encoding : List ℕ) (room : ℕ) (sent : IsSent encoding room) (n : ℕ) (answer : List ℕ) (tail : List (List ℕ)) (rows : List Row) (last : SessionValue) where
-  -- behind k blocks these come, and then the last one: their bytes, joined, are the encoding
+  -- after k blocks come these, and then the last one: their bytes, joined, are the encoding
   pub follow : (blocks : List (List ℕ)) (k : ℕ) (before : List (List ℕ)) (joined rest : List ℕ) (s : SessionValue) (served : List Exchange) → 0 < k → k < 65536 → HasBlocks plan.columns before k joined → joined ≡ blocks_up_to encoding room k →
       s.getting ≡ Some (given_blocks encoding room k false) → InTurn s (map Asked served) last → Talks plan before served (blocks ++ answer ∷ tail) → AreBlocks k blocks n rest → Spells n (joined ++ rest) answer rows → IsEncoded encoding rows
   follow [] k before joined rest s [] some few h is getting chain talk come spelled = absurd talk

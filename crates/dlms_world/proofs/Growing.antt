@@ -1,5 +1,5 @@
--- What is settled is never taken back: of two memories, one after another, the settled events of the first are a beginning of
--- those of the second.
+-- Settled events are never taken back: of two consecutive memories, the settled events of the first are a prefix of those of the
+-- second.
 use Rattle.std.proofs.Common.{◌≡◌, ⊎_elim, List, [], ◌∷◌, ◌++◌, take, refl, sym, ◌∙◌, ap, subst, append_assoc}
 use Rattle.std.proofs.lemmas.List.{append-nil}
 use Rattle.dlms_state.specs.declared.event.Event.{Event}
@@ -63,7 +63,7 @@ run_grows before [] after run = at (settled_in before) after before run (same (s
 run_grows before (step ∷ steps) after run =
     through (settled_in before) (settled_in run.0) (settled_in after) (grows before step run.0 run.1) (run_grows run.0 steps after run.2)
 
--- where nothing is pending, all that is held is settled
+-- if nothing is pending, all events are settled
 pub all_settled : (m : StoreWorld) → pending_in m ≡ [] → events_in m ≡ settled_in m
 all_settled (Runs s p) none = ap (λ (l : List Event). s ++ l) none ∙ append-nil s
 all_settled (InDoubt s p) none = ap (λ (l : List Event). s ++ l) none ∙ append-nil s

@@ -80,7 +80,7 @@ pub record Linked (who : Client) (w : World) : Type 0 where
   pub session : w.session.client ≡ who
   pub others : AreOwn w.others
 
--- whose the poll is behind a step
+-- the client of the poll after a step
 abbrev pub whose_after : Client → {w now : World} → Turn w now → Client
 whose_after who (TurnsTo w plan up down) = plan.client
 whose_after who _ = who
@@ -302,7 +302,7 @@ more_settled memory served choice E r BadLlc o d new = subst (DataSettled memory
 more_settled memory served choice E r (Up f) o d new = subst (DataSettled memory) (sym (append-nil served)) d
 more_settled memory served choice E r (Down f) o d new = subst (DataSettled memory) (sym (append-nil served)) d
 
--- what was events_in before an answer of data is settled behind it
+-- what was events_in before an answer of data is settled after it
 promised : (w : World) (frame : Parts) (choice : Choice) (o : Outcome) (memory : Store) → Takes w frame choice o memory → is_success o.answer ≡ true → IsBeginning (events_in w.memory) (settled_in memory)
 promised w frame choice o memory takes success = (o.accepted, sym takes.remembers.all ∙ all_settled memory (takes.promise success))
 

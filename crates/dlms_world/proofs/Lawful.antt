@@ -1,4 +1,4 @@
--- What the meter holds is legal.
+-- The meter's events are legal.
 use Rattle.std.proofs.Common.{◌≡◌, ⊎_elim, List, [], ◌++◌, take, drop, sym, ◌∙◌, ap, subst, append_assoc, take-append-drop}
 use Rattle.std.proofs.lemmas.List.{append-nil}
 use Rattle.dlms_state.specs.Refusal.{IsLegal}
@@ -29,7 +29,7 @@ between : (s p e : List Event) → IsBetween s p e → IsBeginning e (s ++ p)
 between s p e is =
     (drop is.0 p, ap (λ (l : List Event). l ++ drop is.0 p) is.1 ∙ append_assoc s (take is.0 p) (drop is.0 p) ∙ ap (λ (l : List Event). s ++ l) (take-append-drop is.0 p))
 
--- a stop, a close and a recovery find a beginning of what was held
+-- a stop, a close and a recovery find a prefix of the events
 pub finds : (before : Store) (step : StoreStep) (after : Store) → (IsUsual step → ⊥) → Next before step after → IsBeginning (events_in after) (events_in before)
 finds before (Adds e) after unusual next = absurd (unusual tt)
 finds before (AddsBehind e) after unusual next = absurd (unusual tt)

@@ -31,3 +31,4 @@ pub mod Stopping
 pub mod HeadEndStops
 pub mod LineFrames
 pub mod ProgramLaw
+pub mod OverLine

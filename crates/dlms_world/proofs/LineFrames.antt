@@ -1,4 +1,4 @@
--- What is on the way to the poller are frames.
+-- Everything on the way to the poller is a frame.
 use Rattle.std.proofs.Common.{arith, ◌≤◌, ◌<◌, ℕ, Bool, false, List, [], ◌∷◌, ◌++◌, length, ap, length-append}
 use Rattle.dlms_frame.specs.declared.client.Client.{Client}
 use Rattle.dlms_frame.specs.declared.client.Client.TheVariants.{Public, Management, Reader}

@@ -225,7 +225,7 @@ abbrev rest_of : List Exchange → List Exchange
 rest_of [] = []
 rest_of (x ∷ xs) = xs
 
--- one behind the first of some
+-- one after the first of some
 pub behind_first : (x : Exchange) (xs front back : List Exchange) (last : Exchange) (n : ℕ) → x ∷ xs ≡ front ++ last ∷ back → length front ≡ suc n → (between : List Exchange) × (xs ≡ between ++ last ∷ back)
 behind_first x xs [] back last n e count = absurd (omega (arith, count))
 behind_first x xs (f ∷ front) back last n e count = (front, ap rest_of e)

@@ -45,7 +45,7 @@ use Rattle.dlms_world.proofs.Telling.{tells}
 use Rattle.dlms_world.proofs.Tied.{feeds_are_turns, events_are_turns}
 use Rattle.dlms_world.proofs.Whole.{good, readings_are_captures}
 
--- a run of the world that stands for what such a program holds
+-- a run of the world that represents the state of such a program
 record Matches {P A : Type 0} {ghosts : Ghosts P} (plan : PlanValue) (h : Held P A ghosts) (w : World) : Type 0 where
   run : Run (first_world plan) w
   m : MeterWorld
@@ -67,7 +67,7 @@ all_of m w at who = by_test (is_same w.plan.client who) refl
     by_test true e = ap m.records (sym (same-is w.plan.client who e)) ∙ at.own
     by_test false e = at.others who (not_same w.plan.client who e)
 
-still_meter : (m : MeterWorld) (w now : World) → IsMeterOf m w → IsAsideSame w now → IsMeterOf m now
+pub still_meter : (m : MeterWorld) (w now : World) → IsMeterOf m w → IsAsideSame w now → IsMeterOf m now
 still_meter m w now at same =
     let all : (who : Client) → m.records who ≡ records_in now who = λ who. all_of m w at who ∙ sym (same.records who) in
     record { own = all now.plan.client ∙ its_record now; others = λ other differs. all other ∙ other_record now other differs; store = at.store ∙ sym same.memory }
@@ -94,7 +94,7 @@ runs plan h w course x is = sym x.poller.course ∙ is
 
 -- ---- calls of the meter
 
-still_poller : (p : PollerValue) (w now : World) → IsPollerOf p w → IsPollSame w now → IsPollerOf p now
+pub still_poller : (p : PollerValue) (w now : World) → IsPollerOf p w → IsPollSame w now → IsPollerOf p now
 still_poller p w now is same = record {
   plan = is.plan ∙ sym same.plan;
   course = is.course ∙ sym same.course;
@@ -104,7 +104,7 @@ still_poller p w now is same = record {
 }
 
 -- what the meter put on the line is the frame that its reply spells
-put : (reply : Option (List ℕ)) (before after sent : List Parts) → AreFrames after → Puts reply before after → IsReply reply sent → after ≡ before ++ sent
+pub put : (reply : Option (List ℕ)) (before after sent : List Parts) → AreFrames after → Puts reply before after → IsReply reply sent → after ≡ before ++ sent
 put None before after sent lawful puts is = puts ∙ sym (append-nil before) ∙ ap (λ (l : List Parts). before ++ l) (sym is)
 put (Some reply) before after sent lawful (f, spells, puts) (g, is, one) =
     let fits : IsFrame f = last_of before f (subst (λ (l : List Parts). AreFrames l) puts lawful) in
@@ -115,7 +115,7 @@ put (Some reply) before after sent lawful (f, spells, puts) (g, is, one) =
     last_of [] f all = all.0
     last_of (x ∷ front) f all = last_of front f all.1
 
-lawful : (plan : PlanValue) (now : World) → Run (first_world plan) now → AreFrames now.link.down_line
+pub lawful : (plan : PlanValue) (now : World) → Run (first_world plan) now → AreFrames now.link.down_line
 lawful plan now run = are_frames now.plan.client now.link (good tells plan now run).link.sound
 
 answered : {P A : Type 0} {ghosts : Ghosts P} (plan : PlanValue) (h : Held P A ghosts) (w : World) (new : Meter P A ghosts) (m : MeterWorld) (left sent : List Parts) (reply : Option (List ℕ)) → Matches plan h w
@@ -218,16 +218,16 @@ recovers {P} {A} {ghosts} plan h new device w (CutOffMaking same after other ima
 -- ---- what such a program does
 
 -- a client is the one that an address is of
-same_client : (who : Client) (of : Option Client) → of ≡ Some who → (w : World) (frame : Parts) (reply : Option (List ℕ)) (m : MeterWorld) → StepsAt of w frame reply m → StepsFrom (is_same w.plan.client who) w frame reply m
+pub same_client : (who : Client) (of : Option Client) → of ≡ Some who → (w : World) (frame : Parts) (reply : Option (List ℕ)) (m : MeterWorld) → StepsAt of w frame reply m → StepsFrom (is_same w.plan.client who) w frame reply m
 same_client who None is w frame reply m steps = cc
 same_client who (Some other) is w frame reply m steps = subst (λ (c : Option Client). StepsAt c w frame reply m) is steps
 
-its_own : (w : World) (who : Client) → who ≡ w.plan.client → (frame : Parts) (reply : Option (List ℕ)) (m : MeterWorld) → StepsFrom (is_same w.plan.client who) w frame reply m → StepsFrom true w frame reply m
+pub its_own : (w : World) (who : Client) → who ≡ w.plan.client → (frame : Parts) (reply : Option (List ℕ)) (m : MeterWorld) → StepsFrom (is_same w.plan.client who) w frame reply m → StepsFrom true w frame reply m
 its_own w who is frame reply m steps =
     subst (λ (b : Bool). StepsFrom b w frame reply m) (ap (λ (c : Client). is_same w.plan.client c) is ∙ is_itself w.plan.client) steps
 
 -- bytes of nobody of the poller's client are a step, or none
-others_step : (from : Option Client) (w : World) (frame : Parts) (reply : Option (List ℕ)) (m : MeterWorld) → from ≢ Some w.plan.client → StepsAt from w frame reply m → IsMeterOf m w ⊎ StepsTo w m
+pub others_step : (from : Option Client) (w : World) (frame : Parts) (reply : Option (List ℕ)) (m : MeterWorld) → from ≢ Some w.plan.client → StepsAt from w frame reply m → IsMeterOf m w ⊎ StepsTo w m
 others_step None w frame reply m other steps = inl steps.0
 others_step (Some who) w frame reply m other steps = by_test (is_same w.plan.client who) refl steps
   where
@@ -236,7 +236,7 @@ others_step (Some who) w frame reply m other steps = by_test (is_same w.plan.cli
     by_test false same taken = inr taken
 
 -- of anyone, before the poller begins
-any_step : (from : Option Client) (w : World) (frame : Parts) (reply : Option (List ℕ)) (m : MeterWorld) → w.course ≡ Ready → w.link.client.phase ≡ Closed → StepsAt from w frame reply m → IsMeterOf m w ⊎ StepsTo w m
+pub any_step : (from : Option Client) (w : World) (frame : Parts) (reply : Option (List ℕ)) (m : MeterWorld) → w.course ≡ Ready → w.link.client.phase ≡ Closed → StepsAt from w frame reply m → IsMeterOf m w ⊎ StepsTo w m
 any_step None w frame reply m ready closed steps = inl steps.0
 any_step (Some who) w frame reply m ready closed steps = by_test (is_same w.plan.client who) steps
   where

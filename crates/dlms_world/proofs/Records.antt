@@ -1,4 +1,4 @@
--- What the meter keeps of each client.
+-- The meter's record of each client.
 use Rattle.std.proofs.Common.{◌≡◌, ◌≢◌, ◌∙◌, refl, ap, Bool, true, false, if◌then◌else◌}
 use Rattle.dlms_frame.specs.declared.client.Client.{Client}
 use Rattle.dlms_link.specs.Server.{ServerRecord}
@@ -20,7 +20,7 @@ with_own records who own are link session other = by_test (is_same who other) re
     by_test true e = (link ∙ same-is who other e, session ∙ same-is who other e)
     by_test false e = are other
 
--- a record that is put where it stood
+-- a record put back in its place
 pub again : (records : Records) (who other : Client) → with_record records who (records who) other ≡ records other
 again records who other = by_test (is_same who other) refl
   where
@@ -36,7 +36,7 @@ pub other_record : (w : World) (other : Client) → other ≢ w.plan.client → 
 other_record w other differs =
     ap (λ (b : Bool). (let own : ClientRecord = record { link = w.link.meter; session = w.session } in if b then own else w.others other)) (differing w.plan.client other differs)
 
--- they are the same where nothing that they are made of has changed
+-- they are the same if none of their parts has changed
 pub same_records : (w now : World) → now.plan.client ≡ w.plan.client → now.link.meter ≡ w.link.meter → now.session ≡ w.session → now.others ≡ w.others → (who : Client) → records_in now who ≡ records_in w who
 same_records w now client meter session others who =
     ap (λ (o : Records). with_record o now.plan.client (record { link = now.link.meter; session = now.session }) who) others

@@ -56,7 +56,7 @@ module _ (who : Client) where
   abbrev pub request : (s n : ℕ) → List ℕ → Parts
   request s n apdu = to_meter who (information_octet s n) false (llc from_client ++ apdu)
 
-  -- a segment of an answer, and what is left of it
+  -- a segment of an answer, and the rest of it
   abbrev pub part : (n s : ℕ) → (info left : List ℕ) → Parts
   part n s info left = to_client who (One 1) (information_octet n s) (is_more left) info
 

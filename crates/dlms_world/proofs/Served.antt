@@ -1,4 +1,4 @@
--- What a meter answers to the requests of a poll whose client knows its secret, where the columns are the first ones.
+-- A meter's answers to the requests of a poll whose client knows its secret, if the columns are the initial ones.
 use Rattle.std.proofs.Common.{arith, ◌≡◌, ◌∙◌, ◌+◌, ◌≤◌, ◌<◌, ℕ, true, nat_le, List, [], ◌∷◌, ◌++◌, map, length, length-append, Option, None, Some, Ok, refl, sym, ap, subst, ◌-◌, ◌*◌, false, drop, nat_lt, if◌then◌else◌}
 use Rattle.std.specs.Prelude.{◌^◌, pos}
 use Rattle.std.specs.Int.{w8, bytes_high_first}

@@ -38,7 +38,7 @@ fit_sized (row ∷ rows) v all otherwise =
       | false ↦ λ other. fit_sized rows v all.1 other
     ] otherwise
 
--- where no row fits, each of them doesn't
+-- if no row fits, none of them does
 not_first : (b : Bool) (v : Verdict) (rest : Option Verdict) → (if b then Some v else rest) ≡ None → (b ≡ false) × (rest ≡ None)
 not_first true v rest e = cc
 not_first false v rest e = (refl, e)
@@ -78,7 +78,7 @@ judged_sized s secret (Err e) = tt
 by_service : (choice : Memory) (E : List Event) (plan : PlanValue) (s : SessionValue) (o : Outcome) → Serves choice E s (association_bytes plan) o → HasSize o.own.opened
 by_service choice E plan s o serves = subst (λ (x : Outcome). HasSize x.own.opened) (sym serves) (judged_sized s (secret_for s.client E) (aarq_at (association_bytes plan)))
 
--- where the device failed, the association is as it was
+-- if the device failed, the association is as it was
 failed_as_was : (s : SessionValue) (x : Stake) → (fails s x).own.opened ≡ s.opened
 failed_as_was s (stake.Get invoke) = refl
 failed_as_was s (stake.Next invoke number) = refl

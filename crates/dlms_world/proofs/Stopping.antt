@@ -1,9 +1,10 @@
 -- A stop inside a call, a recovery and a close are steps of the world.
 use Rattle.std.proofs.Common.{◌≡◌, ◌∙◌, inl, inr, refl, sym, ap, subst, append-nil, append_assoc, List, [], ◌∷◌, ◌++◌, Option, Result, Ok, Err, ℕ}
 use Rattle.dlms_frame.specs.declared.client.Client.{Client}
+use Rattle.dlms_headend.specs.Asking.{PlanValue}
 use Rattle.dlms_link.specs.Server.{fresh_server}
 use Rattle.dlms_meter.specs.ClientRecord.{ClientRecord}
-use Rattle.dlms_meter.specs.Run.{MeterWorld, Choice, Fed, Judged, events_in}
+use Rattle.dlms_meter.specs.Run.{MeterWorld, Choice, Fed, Judged, events_in, recovered}
 use Rattle.dlms_meter.specs.declared.meter.Meter.{Meter}
 use Rattle.dlms_meter.proofs.LifeLaw.{ends_opened}
 use Rattle.dlms_meter.proofs.StoreLaw.{runs_on}
@@ -20,9 +21,9 @@ use Rattle.dlms_store.specs.World.StoreWorld.{Runs, InDoubt, Rests}
 use Rattle.dlms_store.specs.World.StoreStep.{Adds, AddsBehind, Settles, Refuses, Fails, Closes, ClosesInDoubt, Stops, Opens, OpenFails}
 use Rattle.dlms_store.specs.declared.fault.AddFault.{AddFault}
 use Rattle.dlms_store.specs.declared.fault.AddFault.TheVariants as add
-use Rattle.dlms_world.specs.World.{World, IsOn, IsUsual, AreUsual, Remembers}
-use Rattle.dlms_world.specs.Turn.{StopsInside, Restarted}
-use Rattle.dlms_world.specs.Ties.{IsLeftInStep, StopsAreTurns, RecoveriesAreTurns, RestsAreTurns}
+use Rattle.dlms_world.specs.World.{World, IsOn, IsUsual, AreUsual, Remembers, first_world}
+use Rattle.dlms_world.specs.Turn.{Run, StopsInside, Restarted, restarted}
+use Rattle.dlms_world.specs.Ties.{IsLeftInStep, IsMeterOf, StopsAreTurns, RecoveriesAreTurns, RestsAreTurns}
 use Rattle.dlms_world.proofs.Lawful.{beginning_legal}
 use Rattle.dlms_world.proofs.Telling.{tells}
 use Rattle.dlms_world.proofs.Tied.{known_on, known_legal, add_usual, stored_usual}
@@ -135,7 +136,7 @@ fed_usual : (May : Choice → Type 0) (m : MeterWorld) (taken : List ℕ) (reply
 fed_usual May m taken reply steps m' (inl (free, none, no_steps, is)) = subst AreUsual (sym no_steps) tt
 fed_usual May m taken reply steps m' (inr (turn, is_turn, may, promise, ends, told, same_steps, is)) = subst AreUsual (sym same_steps) (stored_usual turn.choice turn.answer turn.accepted turn.steps is_turn.stored)
 
-judged_usual : (m : MeterWorld) (event : Event) (outcome : Result (Unit {0}) AddFault) (step : StoreStep) (m' : MeterWorld) → Judged m event outcome step m' → IsUsual step
+pub judged_usual : (m : MeterWorld) (event : Event) (outcome : Result (Unit {0}) AddFault) (step : StoreStep) (m' : MeterWorld) → Judged m event outcome step m' → IsUsual step
 judged_usual m event (Ok done) step m' (free, is_add, now, next, is) = add_usual event step is_add
 judged_usual m event (Err add.Device) step m' (free, is, now, next, same_world) = subst IsUsual (sym is) tt
 judged_usual m event (Err add.Stopped) step m' (at, is, same_world) = subst IsUsual (sym is) tt
@@ -157,23 +158,28 @@ stops_are_turns old new m w stands fits at =
 
 -- ---- recoveries
 
+-- a meter that was recovered with these events
+pub recovered_is : (first : PlanValue) (w : World) (memory : Store) (found : List Event) → Run (first_world first) w → memory ≡ Runs found [] → IsMeterOf (recovered found) (restarted w memory)
+recovered_is first w memory found run here =
+    let all = good tells first w run in
+    let meter : w.plan.client ≡ w.link.meter.client = sym (whose_meter w.plan.client w.link all.link.sound) in
+    let session : w.plan.client ≡ w.session.client = sym all.link.session in
+    record {
+      own = ap (λ (c : Client). (let r : ClientRecord = record { link = fresh_server c; session = fresh w.plan.client } in r)) meter
+          ∙ ap (λ (c : Client). (let r : ClientRecord = record { link = fresh_server w.link.meter.client; session = fresh c } in r)) session;
+      others = λ other differs. refl;
+      store = sym here;
+    }
+
 pub recoveries_are_turns : {P A : Type 0} {ghosts : Ghosts P} (new : Meter P A ghosts) → RecoveriesAreTurns new
 recoveries_are_turns new first w device run opens stands =
-    let all = good tells first w run in
     let here : opens.now ≡ Runs opens.found [] = ends_opened [] w.memory opens.now opens.found (opens.now, opens.next, refl) in
-    let fits : StoreFits new.store (Runs opens.found []) = subst (λ (x : Store). StoreFits new.store x) here opens.fits in
-    let meter : w.plan.client ≡ w.link.meter.client = sym (whose_meter w.plan.client w.link all.link.sound) in
-    let session : w.plan.client ≡ w.session.client = sym all.link.session in (
+    let fits : StoreFits new.store (Runs opens.found []) = subst (λ (x : Store). StoreFits new.store x) here opens.fits in (
       opens.found,
       opens.now,
       Restarted w (Opens opens.found) opens.now (λ none. none) opens.next,
       stands opens.found fits.1,
-      record {
-        own = ap (λ (c : Client). (let r : ClientRecord = record { link = fresh_server c; session = fresh w.plan.client } in r)) meter
-            ∙ ap (λ (c : Client). (let r : ClientRecord = record { link = fresh_server w.link.meter.client; session = fresh c } in r)) session;
-        others = λ other differs. refl;
-        store = sym here;
-      },
+      recovered_is first w opens.now opens.found run here,
       opens.fits,
     )
 

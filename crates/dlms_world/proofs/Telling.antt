@@ -73,7 +73,7 @@ gave_success d part E s o g given =
     (λ is. absurd (no_data o (without_get s) (get_result invoke (number_of OtherReason)) (read_result (number_of OtherReason)) tt is given)) rest)
     (which o (says (without_get s) (get_data invoke g.v)) (in_blocks (without_get s) g.a invoke enc) refused (nat_le (4 + length enc) g.a.size) (has g.a blocks_with_get) g.outcome)
 
--- the GET of the rows comes behind these APDUs
+-- the GET of the rows comes after these APDUs
 module _ (plan : PlanValue) (opening : List (List ℕ)) (only : HasBlocks plan.columns opening 0 []) (answer : List ℕ) (tail : List (List ℕ)) (rows : List Row) where
   first_get : (apdu : List ℕ) → Asks plan opening apdu → IsBufferRequest plan.after apdu
   first_get apdu (associates none is) = absurd (empty (sym none ∙ only.are))
@@ -89,7 +89,7 @@ module _ (plan : PlanValue) (opening : List (List ℕ)) (only : HasBlocks plan.c
   first_get apdu (checks more asked r is) = absurd (not_both plan.columns opening 0 [] more only r)
   first_get apdu (releases more r is) = absurd (not_named plan.columns opening 0 [] more only r)
 
-  -- the GET, what answered it, and what came behind it
+  -- the GET, its answer, and the exchanges after it
   module _ (x : Exchange) (served : List Exchange) (s last : SessionValue) (size : HasSize s.opened) (serves : Does x.choice x.before s x.apdu x.outcome) (chain : InTurn x.outcome.own (map Asked served) last) (asks : Asks plan opening x.apdu) where
     request : IsBufferRequest plan.after x.apdu
     request = first_get x.apdu asks
@@ -170,7 +170,7 @@ first_asked plan apdu (goes_further n joined some g is) = cc (g.are)
 first_asked plan apdu (checks rows asked r is) = absurd (short_rows plan.columns [] rows r (omega arith))
 first_asked plan apdu (releases rows r is) = absurd (short_named plan.columns [] rows r (omega arith))
 
--- the second one, where it asks for the columns
+-- the second one, if it asks for the columns
 second_asked : (plan : PlanValue) (response apdu : List ℕ) → Accepts response → plan.columns ≡ AsksColumns → Asks plan (response ∷ []) apdu → apdu ≡ columns_bytes
 second_asked plan response apdu accepts asked (associates none is) = cc
 second_asked plan response apdu accepts asked (names same a is) = is
@@ -191,7 +191,7 @@ tells_data : (read : Result ResponseForm Refusal) → TellsBy read → GivesData
 tells_data (Ok (get_data i v)) h = tt
 tells_data _ h = absurd h
 
--- behind rows that were asked for with the columns, the columns are asked for again
+-- after rows that were requested with the columns, the columns are requested again
 last_asked : (plan : PlanValue) (apdus : List (List ℕ)) (rows : List Row) (apdu : List ℕ) → plan.columns ≡ AsksColumns → HasRows plan.columns apdus rows → Asks plan apdus apdu → apdu ≡ columns_bytes
 last_asked plan apdus rows apdu asked h (associates none is) = absurd (short_rows plan.columns apdus rows h (subst (λ (l : List (List ℕ)). length l ≤ 1) (sym none) (omega arith)))
 last_asked plan apdus rows apdu asked h (names same a is) = absurd (short_rows plan.columns apdus rows h (subst (λ (l : List (List ℕ)). length l ≤ 1) (sym a.are) (omega arith)))
@@ -243,7 +243,7 @@ module _ (plan : PlanValue) (answer : List ℕ) (tail : List (List ℕ)) (rows :
         names = by_name x served refl asked success are;
       }
 
-  -- the association stands, and what tells the columns comes, where they are asked for, and again behind the rows
+  -- the association is there, and an answer with the columns comes, if the plan asks for them, and again after the rows
   from_names : (asking : Columns) → plan.columns ≡ asking → (response : List ℕ) → Accepts response → (named blocks again post : List (List ℕ)) → AreNamed asking named → AreNamed asking again → tail ≡ again ++ post
       → (first : Exchange) → HasSize first.outcome.own.opened → (served : List Exchange) → AreBlocks 0 blocks n joined → InTurn first.outcome.own (map Asked served) last → Talks plan (response ∷ []) served (named ++ (blocks ++ answer ∷ tail)) → IsTold plan (first ∷ served) rows
   from_names Trusted is response accepts named blocks again post none none_again behind_rows first size served come chain talk =

@@ -33,7 +33,7 @@ use Rattle.dlms_world.proofs.Clients.{by_link}
 
 -- ---- what a store knows
 
--- a store that knows of a world is on, and what it holds is legal
+-- a store that knows of a world is on, and its events are legal
 pub known_on : {P A : Type 0} {ghosts : Ghosts P} (m : Meter P A ghosts) (memory : Store) → Knows m.store memory → IsOn memory
 known_on m (Runs s p) knows = tt
 known_on m (InDoubt s p) knows = tt
@@ -84,7 +84,7 @@ remembered m turn is legal = record {
 
 -- ---- a frame of the poller's client
 
--- what was said above the link, of what was made of the frame
+-- the answer above the link to a frame
 record Said (choice : Choice) (E : List Event) (r : ServerRecord) (s : SessionValue) (given : LinkOut) (h : Handled) : Type 0 where
   o : Outcome
   answers : Answers choice E r s given o
@@ -117,7 +117,7 @@ said choice E r s Oversize h is = same_said choice E r s Oversize h _ (by_link c
 said choice E r s BadLlc h is = same_said choice E r s BadLlc h _ (by_link choice (h ≡ sends r (unknown_service s)) is)
     (record { o = unknown_service s; answers = made choice (unknown_service s ≡ unknown_service s) refl (h ≡ sends r (unknown_service s)) is; accepted = refl; session = refl; link = λ link. refl; answer = inr refl; puts = λ link. ((server_send r (unknown_service s).answer).1, refl, refl) })
 
--- what holds of an answer that goes out holds of what was said
+-- a property of an answer that goes out is one of the answer above the link
 short_by : (answer : Option (List ℕ)) (bytes : List ℕ) → (bytes ≡ []) ⊎ (answer ≡ Some bytes) → IfSome answer (λ a. length a ≤ 1024) → length bytes ≤ 1024
 short_by answer bytes (inl none) short = subst (λ (b : List ℕ). length b ≤ 1024) (sym none) (omega arith)
 short_by answer bytes (inr is) short = subst (λ (a : Option (List ℕ)). IfSome a (λ b. length b ≤ 1024)) is short
@@ -136,7 +136,7 @@ own_record records who own = ap (λ (b : Bool). if b then own else records who) 
 others_record : (records : Records) (who : Client) (own : ClientRecord) (other : Client) → other ≢ who → with_record records who own other ≡ records other
 others_record records who own other differs = ap (λ (b : Bool). if b then own else records other) (differing who other differs)
 
--- what was made of a frame of the poller's client, and what was said of it above the link
+-- the handling of a frame of the poller's client, and the answer above the link
 record Taken (m : MeterWorld) (turn : MeterTurn) (w : World) (own : ClientRecord) : Type 0 where
   o : Outcome
   takes : Takes w turn.frame turn.choice o turn.store
@@ -294,7 +294,7 @@ unstored : (choice : Choice) (answer : Option (List ℕ)) (events : List Event) 
 unstored choice None events steps before now none (nothing, is) run = subst (λ (xs : List StoreStep). StoreRun before xs now) is run
 unstored choice (Some bytes) events steps before now none stored run = cc
 
-at_client : (from : Option Client) (m : MeterWorld) (turn : MeterTurn) (w : World) → client_at turn.frame.src ≡ from → IsMeterOf m w → IsOn w.memory → IsTurn m turn → Promised turn → IsLegal (events_in turn.store)
+pub at_client : (from : Option Client) (m : MeterWorld) (turn : MeterTurn) (w : World) → client_at turn.frame.src ≡ from → IsMeterOf m w → IsOn w.memory → IsTurn m turn → Promised turn → IsLegal (events_in turn.store)
     → MeterTakes (events_of m) m.records turn from → StepsAt from w turn.frame turn.reply (after_turn m turn)
 at_client None m turn w from at on is promise legal (same, unsaid, unanswered, nothing) =
     (still_its m (after_turn m turn) w at same (unstored turn.choice turn.answer turn.accepted turn.steps m.store turn.store unanswered is.stored is.run), unsaid)
@@ -337,7 +337,7 @@ took m event step now is_add next legal = record {
   legal = legal;
 }
 
-fault_events : (before now : Store) → Next before Fault now → events_in now ≡ events_in before
+pub fault_events : (before now : Store) → Next before Fault now → events_in now ≡ events_in before
 fault_events (Runs s p) now next = ap events_in next
 fault_events (InDoubt s p) now next = absurd next
 fault_events (Rests events) now next = absurd next
@@ -354,7 +354,7 @@ failed before now next legal = record {
 with_its : (m : MeterWorld) (w : World) (now : Store) → IsMeterOf m w → IsMeterOf (with_store m now) (record w { memory = now })
 with_its m w now at = record { own = at.own; others = at.others; store = refl }
 
-judged : (m : MeterWorld) (w : World) (event : Event) (outcome : Result (Unit {0}) AddFault) (step : StoreStep) (m' : MeterWorld) → IsMeterOf m w → IsOn w.memory → IsLegal (events_in m'.store) → Judged m event outcome step m'
+pub judged : (m : MeterWorld) (w : World) (event : Event) (outcome : Result (Unit {0}) AddFault) (step : StoreStep) (m' : MeterWorld) → IsMeterOf m w → IsOn w.memory → IsLegal (events_in m'.store) → Judged m event outcome step m'
     → IsToldIn w event outcome m'
 judged m w event (Ok done) step m' at on legal (free, is_add, now, next, is) =
     let lawful : IsLegal (events_in now) = subst (λ (x : MeterWorld). IsLegal (events_in x.store)) is legal in

@@ -66,7 +66,7 @@ same_filter place second (row ∷ rows) all =
 some_is : (a b : ℕ) → Some a ≡ Some b → a ≡ b
 some_is a b e = cc
 
--- the clock stands at its place
+-- the clock is at its place
 place_is : (columns : List ℕ) (from place : ℕ) → position_from (λ id. id == 0) from columns ≡ Some place → (from ≤ place) × (place - from < length columns) × (slice_index columns (place - from) ≡ 0)
 place_is [] from place is = absurd (cc is)
 place_is (zero ∷ ids) from place is =

@@ -32,7 +32,7 @@ use Rattle.dlms_world.proofs.Ties.{whole_range}
 use Rattle.dlms_state.proofs.Limits.{IsWithinLimits-legal}
 use Rattle.dlms_state.specs.Refusal.{IsLegal}
 
--- the poll's rows were told by events that are settled
+-- the poll's rows are determined by events that are settled
 pub record Brought (plan : PlanValue) (served : List Exchange) (memory : Store) (rows : List Row) : Type 0 where
   pub told : IsTold plan served rows
   pub settled : IsBeginning told.get.before (settled_in memory)

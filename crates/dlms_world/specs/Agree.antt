@@ -23,7 +23,7 @@ abbrev pub IsBefore : Row → List Row → Type 0
 IsBefore row [] = Unit {0}
 IsBefore row (later ∷ rows) = (row.clock < later.clock) × IsBefore row rows
 
--- the clocks rise strictly: no row stands twice, and the rows stand in order
+-- the clocks rise strictly: no row occurs twice, and the rows are in order
 abbrev pub Rise : List Row → Type 0
 Rise [] = Unit {0}
 Rise (row ∷ rows) = IsBefore row rows × Rise rows
@@ -37,16 +37,20 @@ pub record BringsBuffer (plan : PlanValue) (served : List Exchange) (rows : List
 
 -- a poll that is done has exactly the rows of the buffer at its GET
 abbrev pub PollsAreTold : Type 0
-PollsAreTold = (plan : PlanValue) (w : World) → Run (first_world plan) w → w.course ≡ Done → BringsBuffer w.plan w.served w.rows
+PollsAreTold = (plan : PlanValue) (w : World) → Run (first_world plan) w → w.course ≡ Done
+    → BringsBuffer w.plan w.served w.rows
 
 -- each row of the readings is a capture of the events that the meter holds, whatever came since it was read
 abbrev pub ReadingsAreCaptures : Type 0
-ReadingsAreCaptures = (plan : PlanValue) (w : World) → Run (first_world plan) w → AreCaptures (events_in w.memory) w.file
+ReadingsAreCaptures = (plan : PlanValue) (w : World) → Run (first_world plan) w
+    → AreCaptures (events_in w.memory) w.file
 
--- where the captures' clocks rise strictly, no row stands twice, and the rows stand in order
+-- if the captures' clocks rise strictly, no row occurs twice, and the rows are in order
 abbrev pub ReadingsRise : Type 0
-ReadingsRise = (plan : PlanValue) (w : World) → Run (first_world plan) w → Rise (all_readings (events_in w.memory)) → Rise w.file
+ReadingsRise = (plan : PlanValue) (w : World) → Run (first_world plan) w
+    → Rise (all_readings (events_in w.memory)) → Rise w.file
 
 -- once a poll is over nothing is on the line, so a new poller may take its place at once
 abbrev pub LineIsSilent : Type 0
-LineIsSilent = (plan : PlanValue) (w : World) → Run (first_world plan) w → IsOver w.course → (w.link.up_line ≡ []) × (w.link.down_line ≡ [])
+LineIsSilent = (plan : PlanValue) (w : World) → Run (first_world plan) w → IsOver w.course
+    → (w.link.up_line ≡ []) × (w.link.down_line ≡ [])

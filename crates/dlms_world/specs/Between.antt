@@ -29,7 +29,9 @@ accepted_in (LosesUp w) = []
 accepted_in (LosesDown w) = []
 accepted_in (Arrives w frame rest choice o memory line takes) = o.accepted
 accepted_in (Intruded w frame choice o memory between closed takes) = o.accepted
-accepted_in (OtherSends w who frame choice own reply answer accepted memory on differs of handles remembers) = accepted
+accepted_in
+    (OtherSends w who frame choice own reply answer accepted memory on differs of handles remembers) =
+    accepted
 accepted_in (Happens w event memory on follows remembers) = event ∷ []
 accepted_in (Works w memory on remembers) = []
 accepted_in (StopsInside w accepted mid memory on remembers stops) = accepted
@@ -39,8 +41,8 @@ accepted_in (Restarted w step memory unusual next) = []
 abbrev pub columns_set_by : List Event → List (List ℕ)
 columns_set_by events = filter_map columns_set events
 
--- A poll that asks for the columns is under way, and is between their two answers: behind the association the meter served a GET of
--- them, and none since.
+-- A poll that asks for the columns is under way, between their two answers: after the association the meter served a GET of them,
+-- and none since.
 pub record IsBetween (w : World) : Type 0 where
   pub runs : w.course ≡ Running
   pub asks : w.plan.columns ≡ Asked
@@ -56,7 +58,7 @@ abbrev pub StandStill : {first w : World} → Run first w → Type 0
 StandStill Stays = Unit {0}
 StandStill (Goes mid now run turn) = StandStill run × (IsBetween now → columns_set_by (accepted_in turn) ≡ [])
 
--- each poll that is done, and behind which the run goes on, asked for the columns
+-- each poll that is done, and after which the run continues, asked for the columns
 abbrev pub EachAsks : {first w : World} → Run first w → Type 0
 EachAsks Stays = Unit {0}
 EachAsks (Goes mid now run turn) = EachAsks run × (mid.course ≡ Done → mid.plan.columns ≡ Asked)
@@ -64,7 +66,8 @@ EachAsks (Goes mid now run turn) = EachAsks run × (mid.course ≡ Done → mid.
 -- Each row of the readings is a capture of the events that the meter holds, by name: it has the clock, and in the place of a register
 -- what that register held. Columns may be set anywhere in the run, but for the stretches between the two answers of a poll.
 abbrev pub ReadingsAreNamed : Type 0
-ReadingsAreNamed = (plan : PlanValue) (w : World) (run : Run (first_world plan) w) → StandStill run → EachAsks run → AreAmong (named_readings (events_in w.memory)) w.file
+ReadingsAreNamed = (plan : PlanValue) (w : World) (run : Run (first_world plan) w) → StandStill run
+    → EachAsks run → AreAmong (named_readings (events_in w.memory)) w.file
 
 -- ---- where the columns stand still
 
@@ -77,6 +80,7 @@ SetsNone (Goes mid now run turn) = SetsNone run × (columns_set_by (accepted_in 
 abbrev pub StillUnset : Type 0
 StillUnset = (first w : World) (run : Run first w) → SetsNone run → StandStill run
 
--- and in one that goes on by any step behind which no poll is under way: before a poll begins, and once it is over
+-- and in one that continues with any step after which no poll is under way: before a poll begins, and once it is over
 abbrev pub StillApart : Type 0
-StillApart = (first mid now : World) (run : Run first mid) (turn : Turn mid now) → StandStill run → now.course ≢ Running → StandStill (Goes mid now run turn)
+StillApart = (first mid now : World) (run : Run first mid) (turn : Turn mid now) → StandStill run
+    → now.course ≢ Running → StandStill (Goes mid now run turn)

@@ -1,4 +1,4 @@
--- What the calls of a poller are in the world.
+-- How the calls of a poller are steps of the world.
 use Rattle.std.specs.Prelude.{◌≡◌, ℕ, List, [], ◌∷◌, ◌++◌, Option, None, Some, Result, Ok, Err}
 use Rattle.dlms_frame.specs.Frame.{Parts}
 use Rattle.dlms_frame.specs.declared.client.Client.{Client}
@@ -38,17 +38,18 @@ pub record IsPollerOf (p : PollerValue) (w : World) : Type 0 where
   pub rows : w.course ≡ Done → p.talk.rows ≡ w.rows
   pub fits : Fits p (taken_by w.course w.link.taken)
 
--- what the meter keeps of each client, and what it holds, are as they were, and so is the file
+-- the meter's record of each client, its events, and the file are as they were
 pub record IsAsideSame (w now : World) : Type 0 where
   pub records : (who : Client) → records_in now who ≡ records_in w who
   pub memory : now.memory ≡ w.memory
   pub file : now.file ≡ w.file
 
--- A step of the world, after which this is its poller: the frames that it sent stand on the line behind those on the way to the
--- meter, these are left on the way to the poller, and nothing else has changed.
+-- A step of the world, after which this is its poller: the frames that it sent are on the line, after those already on the way to
+-- the meter; these are left on the way to the poller; and nothing else has changed.
 abbrev pub TurnsInto : World → (sent left : List Parts) → PollerValue → Type 0
 TurnsInto w sent left new =
-    (now : World) × Turn w now × IsPollerOf new now × (now.link.up_line ≡ w.link.up_line ++ sent) × (now.link.down_line ≡ left) × IsAsideSame w now
+    (now : World) × Turn w now × IsPollerOf new now × (now.link.up_line ≡ w.link.up_line ++ sent)
+    × (now.link.down_line ≡ left) × IsAsideSame w now
 
 -- the frame that a call answered, if it did
 abbrev pub sent_first : Option Parts → List Parts
@@ -67,29 +68,37 @@ sent_again (Err fault) = []
 abbrev pub NewIsFirst : Type 0
 NewIsFirst = (plan : PlanValue) → IsPollerOf (fresh_poll plan) (first_world plan)
 
--- so is one behind any poll, by whatever plan of whatever client, while nothing is on the line
+-- the same after any poll, by any plan of any client, while nothing is on the line
 abbrev pub NewIsTurn : Type 0
-NewIsTurn = (plan : PlanValue) (w : World) → w.link.up_line ≡ [] → w.link.down_line ≡ [] → TurnsInto w [] [] (fresh_poll plan)
+NewIsTurn = (plan : PlanValue) (w : World) → w.link.up_line ≡ [] → w.link.down_line ≡ []
+    → TurnsInto w [] [] (fresh_poll plan)
 
 -- A merge of rows of a poll that is done, all or some of them in their order, is a step: the file has its rows, followed by the later
 -- ones of those.
 abbrev pub MergeIsTurn : Type 0
 MergeIsTurn =
-    (w : World) (p : PollerValue) (kept : List Row) → IsPollerOf p w → p.course ≡ Done → IsSublist kept p.talk.rows
+    (w : World) (p : PollerValue) (kept : List Row) → IsPollerOf p w → p.course ≡ Done
+    → IsSublist kept p.talk.rows
     → (now : World) × Turn w now × IsPollerOf p now × (now ≡ record w { file = merged w.file kept })
 
 -- the call that gives the first frame is a step
 abbrev pub NextIsTurn : Type 0
-NextIsTurn = (w : World) (result : Option Parts) (old new : PollerValue) → IsPollerOf old w → w.course ≡ Ready → Begins old result new → TurnsInto w (sent_first result) w.link.down_line new
+NextIsTurn = (w : World) (result : Option Parts) (old new : PollerValue) → IsPollerOf old w
+    → w.course ≡ Ready → Begins old result new
+    → TurnsInto w (sent_first result) w.link.down_line new
 
 -- a call that is given the oldest frame on the way is a step
 abbrev pub OnIsTurn : Type 0
 OnIsTurn =
-    (w : World) (frame : Parts) (rest : List Parts) (result : Result PollStep PollFault) (old new : PollerValue) → IsPollerOf old w → w.course ≡ Running
-    → w.link.down_line ≡ frame ∷ rest → Polls w.link.taken frame old result new → TurnsInto w (sent_on result) rest new
+    (w : World) (frame : Parts) (rest : List Parts) (result : Result PollStep PollFault)
+    (old new : PollerValue) → IsPollerOf old w → w.course ≡ Running
+    → w.link.down_line ≡ frame ∷ rest → Polls w.link.taken frame old result new
+    → TurnsInto w (sent_on result) rest new
 
--- a call that tells of a time-out, while nothing is on the line, is a step
+-- a call that reports a timeout, while nothing is on the line, is a step
 abbrev pub TimeoutIsTurn : Type 0
 TimeoutIsTurn =
-    (w : World) (result : Result Parts PollFault) (old new : PollerValue) → IsPollerOf old w → w.course ≡ Running → CanTimeOut old
-    → w.link.up_line ≡ [] → w.link.down_line ≡ [] → TimesOut old result new → TurnsInto w (sent_again result) [] new
+    (w : World) (result : Result Parts PollFault) (old new : PollerValue) → IsPollerOf old w
+    → w.course ≡ Running → CanTimeOut old
+    → w.link.up_line ≡ [] → w.link.down_line ≡ [] → TimesOut old result new
+    → TurnsInto w (sent_again result) [] new

@@ -21,17 +21,17 @@ use Rattle.dlms_world.specs.World.{World, first_world}
 abbrev pub names_after : List Event → Value
 names_after E = array (map_values (λ id. column_value (object_of_column id)) (columns_after E))
 
--- a capture by name: what the clock showed then, and what the three registers held, whatever the columns were
+-- a capture by name: the clock at that time, and the registers' values, whatever the columns were
 abbrev pub named_reading : List Event → Row
 named_reading capture = record { clock = clock_after capture; registers = registers_after capture }
 
 abbrev pub named_readings : List Event → List Row
 named_readings E = map named_reading (captures E)
 
--- A poll that asks for the columns: behind the association the meter served a GET of them, then the GET of the rows, and behind it
--- and its blocks a GET of the columns again. At the first and at the last of them its columns were the clock and the three registers;
--- where they were at the GET of the rows too, each row has in the place of a register what that register held at a capture. The
--- first two were answered with data.
+-- A poll that asks for the columns: after the association the meter served a GET of them, then the GET of the rows, and after it
+-- and its blocks a GET of the columns again. At the first and at the last of them its columns were the clock and the three
+-- registers; if they were at the GET of the rows too, each row has in the place of a register what that register held at a capture.
+-- The first two were answered with data.
 pub record IsNamed (plan : PlanValue) (served : List Exchange) (rows : List Row) : Type 0 where
   pub association : Exchange
   pub first : Exchange
@@ -51,4 +51,5 @@ pub record IsNamed (plan : PlanValue) (served : List Exchange) (rows : List Row)
 
 -- a poll that is done and asks for the columns is such a one
 abbrev pub PollsAreNamed : Type 0
-PollsAreNamed = (plan : PlanValue) (w : World) → Run (first_world plan) w → w.course ≡ Done → w.plan.columns ≡ Asked → IsNamed w.plan w.served w.rows
+PollsAreNamed = (plan : PlanValue) (w : World) → Run (first_world plan) w → w.course ≡ Done
+    → w.plan.columns ≡ Asked → IsNamed w.plan w.served w.rows

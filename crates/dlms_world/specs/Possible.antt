@@ -20,7 +20,8 @@ use Rattle.dlms_world.specs.Turn.{Run, records_in}
 
 -- a poll can begin: the meter takes its SNRM, and the link is this connection's
 abbrev pub CanBegin : Type 0
-CanBegin = (plan : PlanValue) → (w : World) × Run (first_world plan) w × (w.course ≡ Running) × (w.ours ≡ true)
+CanBegin = (plan : PlanValue)
+    → (w : World) × Run (first_world plan) w × (w.course ≡ Running) × (w.ours ≡ true)
 
 -- ---- a poll can be done
 
@@ -31,7 +32,8 @@ pub record KnowsSecret (plan : PlanValue) (E : List Event) : Type 0 where
   pub secret : plan.secret ≡ secret_after whose E
 
 -- a poll by this plan is done with these rows, at a meter that holds these events
-pub record IsDone (wanted : PlanValue) (E : List Event) (found : List Row) (w : World) : Type 0 where
+pub record IsDone (wanted : PlanValue) (E : List Event) (found : List Row) (w : World)
+    : Type 0 where
   pub course : w.course ≡ Done
   pub plan : w.plan ≡ wanted
   pub events : events_in w.memory ≡ E
@@ -44,16 +46,17 @@ quarter = Moment 900 ∷ []
 abbrev pub first_row : Row
 first_row = record { clock = 900; registers = 0 ∷ 0 ∷ 0 ∷ [] }
 
--- that row, where it is not before the second that is asked from
+-- that row, if it is not before the second that is asked from
 abbrev pub first_rows : Option ℕ → List Row
 first_rows after = if nat_le (first_second after) 900 then first_row ∷ [] else []
 
--- From the first world of each plan that has its client's first secret, and asks for the columns or not: the meter captures that row,
--- the poll can be done with it, and the file has it behind a merge.
+-- From the first world of each plan that has its client's first secret, and asks for the columns or not: the meter captures that
+-- row, the poll can be done with it, and the file has it after a merge.
 abbrev pub CanBeDone : Option ℕ → Type 0
 CanBeDone after =
     (plan : PlanValue) → KnowsSecret plan [] → plan.after ≡ after
-    → (w : World) × Run (first_world plan) w × IsDone plan quarter (first_rows after) w × (w.file ≡ first_rows after)
+    → (w : World) × Run (first_world plan) w × IsDone plan quarter (first_rows after) w
+    × (w.file ≡ first_rows after)
 
 -- each row's second has a date-time, as each second of the clock has (`seconds_have_times`)
 abbrev pub HaveTimes : List Row → Type 0
@@ -70,13 +73,15 @@ pub record HasAnswer (plan : PlanValue) (E : List Event) : Type 0 where
 -- are merged into the file: at a meter that still has all its events.
 abbrev pub CanBeDoneAgain : Option ℕ → Type 0
 CanBeDoneAgain after =
-    (first plan : PlanValue) (w : World) → Run (first_world first) w → plan.after ≡ after → HasAnswer plan (events_in w.memory)
-    → (now : World) × Run w now × IsDone plan (events_in w.memory) (rows_due plan (events_in w.memory)) now × (now.file ≡ merged w.file now.rows)
+    (first plan : PlanValue) (w : World) → Run (first_world first) w → plan.after ≡ after
+    → HasAnswer plan (events_in w.memory)
+    → (now : World) × Run w now × IsDone plan (events_in w.memory)
+    (rows_due plan (events_in w.memory)) now × (now.file ≡ merged w.file now.rows)
 
 -- ---- a head end can stop
 
--- The head end was stopped: a new poll has not begun, on a new link with nothing on the line. The file, what the meter keeps of each
--- client, and what it holds, are as they were.
+-- The head end was stopped: a new poll has not begun, on a new link with nothing on the line. The file, the meter's record of each
+-- client, and its events are as they were.
 pub record IsStopped (w : World) (next : PlanValue) (now : World) : Type 0 where
   pub course : now.course ≡ Ready
   pub plan : now.plan ≡ next
@@ -86,6 +91,6 @@ pub record IsStopped (w : World) (next : PlanValue) (now : World) : Type 0 where
   pub memory : now.memory ≡ w.memory
   pub records : (who : Client) → records_in now who ≡ records_in w who
 
--- it may be stopped at any moment, wherever its poll stands, and what is on the line is lost
+-- it may be stopped at any moment, at any stage of its poll, and frames on the line are lost
 abbrev pub CanStop : Type 0
 CanStop = (plan : PlanValue) (w : World) → (now : World) × Run w now × IsStopped w plan now

@@ -1,4 +1,4 @@
--- What the calls of a meter are in the world.
+-- How the calls of a meter are steps of the world.
 use Rattle.std.specs.Prelude.{◌≡◌, ◌≢◌, ◌⊎◌, ℕ, ◌+◌, List, [], ◌∷◌, ◌++◌, length, Option, None, Some, Bool, true, false, Result, Ok, Err}
 use Rattle.dlms_frame.specs.Frame.{Parts, spelling}
 use Rattle.dlms_frame.specs.Stream.{IsNext}
@@ -42,19 +42,21 @@ pub record IsPollSame (w now : World) : Type 0 where
 -- what a call puts on the line towards the poller: its reply, or nothing
 abbrev pub Puts : Option (List ℕ) → (before after : List Parts) → Type 0
 Puts None before after = after ≡ before
-Puts (Some reply) before after = (frame : Parts) × (reply ≡ spelling frame) × (after ≡ before ++ frame ∷ [])
+Puts (Some reply) before after = (frame : Parts) × (reply ≡ spelling frame)
+    × (after ≡ before ++ frame ∷ [])
 
 -- A step of the world, after which this is its meter: these frames are left on the way to it, and its reply is on the line.
 abbrev pub AnswersTo : World → (left : List Parts) → Option (List ℕ) → MeterWorld → Type 0
-AnswersTo w left reply m = (now : World) × Turn w now × IsMeterOf m now × IsPollSame w now × (now.link.up_line ≡ left) × Puts reply w.link.down_line now.link.down_line
+AnswersTo w left reply m = (now : World) × Turn w now × IsMeterOf m now × IsPollSame w now
+    × (now.link.up_line ≡ left) × Puts reply w.link.down_line now.link.down_line
 
--- so it is, and the line is as it was
+-- the same, and the line is as it was
 abbrev pub StepsTo : World → MeterWorld → Type 0
 StepsTo w m = AnswersTo w w.link.up_line None m
 
--- A frame that a call of feed took. One of the poller's client is the step that the oldest frame on the way is, whose reply goes
--- onto the line; or, where no poll is under way and that client's link is closed, the one of another hand, whose reply reaches
--- nobody here. One of another client is a step that leaves the poller's line as it is.
+-- A frame that a call of feed took. One of the poller's client is the step of the oldest frame on the way, whose reply goes onto
+-- the line; or, if no poll is under way and that client's link is closed, the step of another sender, whose reply does not arrive
+-- here. One of another client is a step that leaves the poller's line as it is.
 abbrev pub StepsFrom : Bool → World → Parts → Option (List ℕ) → MeterWorld → Type 0
 StepsFrom true w frame reply m =
     ((rest : List Parts) → w.link.up_line ≡ frame ∷ rest → AnswersTo w rest reply m)
@@ -69,18 +71,25 @@ StepsAt (Some who) w frame reply m = StepsFrom (is_same w.plan.client who) w fra
 -- these bytes end the next frame of the stretch with their last one, and it is such a step
 abbrev pub EndsInStep : MeterWorld → List ℕ → World → Option (List ℕ) → MeterWorld → Type 0
 EndsInStep m taken w reply m' =
-    (i : ℕ) × (j : ℕ) × (frame : Parts) × IsNext (m.stretch ++ taken) m.place i j frame × (j + 1 ≡ length (m.stretch ++ taken)) × StepsAt (client_at frame.src) w frame reply m'
+    (i : ℕ) × (j : ℕ) × (frame : Parts) × IsNext (m.stretch ++ taken) m.place i j frame
+    × (j + 1 ≡ length (m.stretch ++ taken)) × StepsAt (client_at frame.src) w frame reply m'
 
 -- what a call of feed is: its bytes ended no frame, and nothing is replied; or they ended one
-abbrev pub FeedsAreTurns : {P A : Type 0} → {ghosts : Ghosts P} → Meter P A ghosts → Meter P A ghosts → Type 0
+abbrev pub FeedsAreTurns : {P A : Type 0} → {ghosts : Ghosts P} → Meter P A ghosts
+    → Meter P A ghosts → Type 0
 FeedsAreTurns old new =
-    (taken : List ℕ) (reply : Option (List ℕ)) (m : MeterWorld) (w : World) → Feeds old taken reply new → Stands old m → IsMeterOf m w
-    → (m' : MeterWorld) × Stands new m' × (StoreFits old.store m.store → StoreFits new.store m'.store)
-    × ((HasNoFrame (m.stretch ++ taken) m.place × (reply ≡ None) × IsMeterOf m' w) ⊎ EndsInStep m taken w reply m')
+    (taken : List ℕ) (reply : Option (List ℕ)) (m : MeterWorld) (w : World)
+    → Feeds old taken reply new → Stands old m → IsMeterOf m w
+    → (m' : MeterWorld) × Stands new m'
+    × (StoreFits old.store m.store → StoreFits new.store m'.store)
+    × ((HasNoFrame (m.stretch ++ taken) m.place × (reply ≡ None) × IsMeterOf m' w)
+    ⊎ EndsInStep m taken w reply m')
 
 -- a step in which the meter alone changes, by these events
 abbrev pub Accepts : World → List Event → MeterWorld → Type 0
-Accepts w events m = (now : World) × Turn w now × IsMeterOf m now × (now ≡ record w { memory = now.memory }) × (events_in now.memory ≡ events_in w.memory ++ events)
+Accepts w events m = (now : World) × Turn w now × IsMeterOf m now
+    × (now ≡ record w { memory = now.memory })
+    × (events_in now.memory ≡ events_in w.memory ++ events)
 
 -- by its outcome: an event that is accepted, a device that fails, or no step at all
 abbrev pub IsToldIn : World → Event → Result (Unit {0}) AddFault → MeterWorld → Type 0
@@ -89,34 +98,49 @@ IsToldIn w event (Err Device) m = Accepts w [] m
 IsToldIn w event (Err _) m = IsMeterOf m w
 
 -- what a call of pulses or moment is
-abbrev pub EventsAreTurns : {P A : Type 0} → {ghosts : Ghosts P} → Meter P A ghosts → Meter P A ghosts → Type 0
+abbrev pub EventsAreTurns : {P A : Type 0} → {ghosts : Ghosts P} → Meter P A ghosts
+    → Meter P A ghosts → Type 0
 EventsAreTurns old new =
-    (event : Event) (outcome : Result (Unit {0}) AddFault) (m : MeterWorld) (w : World) → Judges old event outcome new → Stands old m → IsMeterOf m w
-    → (m' : MeterWorld) × Stands new m' × (StoreFits old.store m.store → StoreFits new.store m'.store) × IsToldIn w event outcome m'
+    (event : Event) (outcome : Result (Unit {0}) AddFault) (m : MeterWorld) (w : World)
+    → Judges old event outcome new → Stands old m → IsMeterOf m w
+    → (m' : MeterWorld) × Stands new m'
+    × (StoreFits old.store m.store → StoreFits new.store m'.store) × IsToldIn w event outcome m'
 
 -- ---- stops and recoveries
 
--- an image that stands for the events of a world in which the power has stopped
+-- an image that represents the events of a world in which the power has stopped
 abbrev pub IsLeftInStep : World → Image → Type 0
-IsLeftInStep w image = (events : List Event) × Turn w (restarted w (Rests events)) × IsLeftFor events image
+IsLeftInStep w image = (events : List Event) × Turn w (restarted w (Rests events))
+    × IsLeftFor events image
 
 -- what a stop at any moment of a call may leave, of feed and of an event
-abbrev pub StopsAreTurns : {P A : Type 0} → {ghosts : Ghosts P} → Meter P A ghosts → Meter P A ghosts → Type 0
+abbrev pub StopsAreTurns : {P A : Type 0} → {ghosts : Ghosts P} → Meter P A ghosts
+    → Meter P A ghosts → Type 0
 StopsAreTurns old new =
     (m : MeterWorld) (w : World) → Stands old m → StoreFits old.store m.store → IsMeterOf m w
-    → (((taken : List ℕ) (reply : Option (List ℕ)) → Feeds old taken reply new → LeavesOnly (view_of old.store) (view_of new.store) (IsLeftInStep w))
-    × ((event : Event) (outcome : Result (Unit {0}) AddFault) → Judges old event outcome new → LeavesOnly (view_of old.store) (view_of new.store) (IsLeftInStep w)))
+    → (((taken : List ℕ) (reply : Option (List ℕ)) → Feeds old taken reply new
+    → LeavesOnly (view_of old.store) (view_of new.store) (IsLeftInStep w))
+    × ((event : Event) (outcome : Result (Unit {0}) AddFault) → Judges old event outcome new
+    → LeavesOnly (view_of old.store) (view_of new.store) (IsLeftInStep w)))
 
--- A recovery over a device that fits the world's memory: the meter that it makes is that of the world behind it, with what was found.
+-- A recovery over a device that fits the world's memory: the meter that it makes is that of the world after it, with the events
+-- found.
 abbrev pub RecoveriesAreTurns : {P A : Type 0} → {ghosts : Ghosts P} → Meter P A ghosts → Type 0
 RecoveriesAreTurns {P} {A} {ghosts} new =
-    (first : PlanValue) (w : World) (device : P) → Run (first_world first) w → OpensAs w.memory (ghosts.view device) new.store → ((events : List Event) → Remembers events [] new.store → Stands new (recovered events))
-    → (found : List Event) × (memory : StoreWorld) × Turn w (restarted w memory) × Stands new (recovered found) × IsMeterOf (recovered found) (restarted w memory) × StoreFits new.store memory
+    (first : PlanValue) (w : World) (device : P) → Run (first_world first) w
+    → OpensAs w.memory (ghosts.view device) new.store
+    → ((events : List Event) → Remembers events [] new.store → Stands new (recovered events))
+    → (found : List Event) × (memory : StoreWorld) × Turn w (restarted w memory)
+    × Stands new (recovered found) × IsMeterOf (recovered found) (restarted w memory)
+    × StoreFits new.store memory
 
 -- a device that a recovery, or a close, gave back
 abbrev pub RestsAreTurns : {P A : Type 0} → {ghosts : Ghosts P} → Meter P A ghosts → Type 0
 RestsAreTurns {P} {A} {ghosts} meter =
     (w : World) (old new : P)
-    → (((fault : OpenFault) → GivesBack w.memory (ghosts.view old) (ghosts.view new) fault → (memory : StoreWorld) × Turn w (restarted w memory) × DeviceFits (ghosts.view new) memory)
-    × (GivesUp Closes w.memory (ghosts.view old) (ghosts.view new) ⊎ GivesUp ClosesInDoubt w.memory (ghosts.view old) (ghosts.view new)
+    → (((fault : OpenFault) → GivesBack w.memory (ghosts.view old) (ghosts.view new) fault
+    → (memory : StoreWorld) × Turn w (restarted w memory)
+    × DeviceFits (ghosts.view new) memory)
+    × (GivesUp Closes w.memory (ghosts.view old) (ghosts.view new)
+    ⊎ GivesUp ClosesInDoubt w.memory (ghosts.view old) (ghosts.view new)
     → (memory : StoreWorld) × Turn w (restarted w memory) × DeviceFits (ghosts.view new) memory))

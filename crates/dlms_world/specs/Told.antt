@@ -1,4 +1,4 @@
--- What the answers to a poll tell, whatever carried them: the one thing that is needed of the services.
+-- What the answers to a poll report, however they were carried: the only fact that is needed about the services.
 use Rattle.std.specs.Prelude.{◌≡◌, ℕ, true, List, [], ◌∷◌, ◌++◌, map, Contains}
 use Rattle.dlms_headend.specs.Asking.{PlanValue, IsBufferRequest}
 use Rattle.dlms_headend.specs.Poll.{Asks, HasReleased}
@@ -14,10 +14,11 @@ use Rattle.dlms_world.specs.World.{rows_asked}
 abbrev pub Talks : PlanValue → List (List ℕ) → List Exchange → List (List ℕ) → Type 0
 Talks plan before served [] = Unit {0}
 Talks plan before [] (apdu ∷ taken) = ⊥
-Talks plan before (x ∷ served) (apdu ∷ taken) = Asks plan before x.apdu × (x.outcome.answer ≡ apdu) × Talks plan (before ++ apdu ∷ []) served taken
+Talks plan before (x ∷ served) (apdu ∷ taken) = Asks plan before x.apdu × (x.outcome.answer ≡ apdu)
+    × Talks plan (before ++ apdu ∷ []) served taken
 
--- The rows are those that the buffer had when the GET was taken, from the plan's second on; its answer is one of success or data. Of a
--- poll that asks for the columns it is told too what they were.
+-- The rows are those that the buffer had when the GET was taken, from the plan's second on; its answer is one of success or data.
+-- For a poll that asks for the columns, they are stated, too.
 pub record IsTold (plan : PlanValue) (served : List Exchange) (rows : List Row) : Type 0 where
   pub get : Exchange
   pub took : Contains served get
@@ -29,5 +30,6 @@ pub record IsTold (plan : PlanValue) (served : List Exchange) (rows : List Row) 
 -- APDUs served in turn to a client that has just come up, whose answers are those of a whole poll, tell its rows.
 abbrev pub AnswersTell : Type 0
 AnswersTell =
-    (plan : PlanValue) (served : List Exchange) (last : SessionValue) (taken : List (List ℕ)) (rows : List Row) → InTurn (fresh plan.client) (map Asked served) last
+    (plan : PlanValue) (served : List Exchange) (last : SessionValue) (taken : List (List ℕ))
+    (rows : List Row) → InTurn (fresh plan.client) (map Asked served) last
     → Talks plan [] served taken → HasReleased plan.columns taken rows → IsTold plan served rows

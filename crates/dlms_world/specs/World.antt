@@ -36,7 +36,7 @@ pub record World : Type 0 where
   pub served : List Exchange
   -- the events that the meter's store holds
   pub memory : Memory
-  -- the poll: what it is to read, where it stands, and the rows that it was done with
+  -- the poll: its plan, its course, and the rows that it was done with
   pub plan : PlanValue
   pub course : Course
   pub rows : List Row
@@ -98,13 +98,16 @@ GivesData apdu = GivesDataBy (response_at apdu)
 -- a capture, as the readings have it: its first value is the clock, and the others are the registers. Of rows of other columns than
 -- the clock and three registers the poll reads none.
 abbrev pub reading_of : Captured → Row
-reading_of row = record { clock = slice_index row.values.items 0; registers = drop 1 row.values.items }
+reading_of row = record {
+  clock = slice_index row.values.items 0;
+  registers = drop 1 row.values.items;
+}
 
 -- the readings of all captures of these events
 abbrev pub all_readings : List Event → List Row
 all_readings E = map reading_of (map row_after (captures E))
 
--- the rows whose clock lies between two seconds, where the clock stands at this place; none where it is no column
+-- the rows whose clock lies between two seconds, if the clock is at this place; none if it is not a column
 abbrev pub rows_between : Option ℕ → (first last : ℕ) → List Captured → List Captured
 rows_between None first last rows = []
 rows_between (Some place) first last rows = in_range place first last rows
@@ -112,17 +115,20 @@ rows_between (Some place) first last rows = in_range place first last rows
 -- the rows whose clock is at least this second
 abbrev pub rows_since : Option ℕ → (first : ℕ) → List Captured → List Captured
 rows_since None first rows = []
-rows_since (Some place) first rows = filter (λ row. nat_le first (slice_index row.values.items place)) rows
+rows_since (Some place) first rows =
+    filter (λ row. nat_le first (slice_index row.values.items place)) rows
 
 -- the buffer's rows from this second on, to the last of the clock
 abbrev pub rows_from : ℕ → List Event → List Row
-rows_from second E = map reading_of (rows_between (clock_place (columns_after E)) second LAST_SECOND (buffer_after E))
+rows_from second E = map reading_of
+    (rows_between (clock_place (columns_after E)) second LAST_SECOND (buffer_after E))
 
 -- all of its rows from this second on
 abbrev pub all_rows_from : ℕ → List Event → List Row
-all_rows_from second E = map reading_of (rows_since (clock_place (columns_after E)) second (buffer_after E))
+all_rows_from second E = map reading_of
+    (rows_since (clock_place (columns_after E)) second (buffer_after E))
 
--- what a poll by this plan asks for, where the meter takes its GET after these events
+-- the rows that a poll by this plan asks for, if the meter takes its GET after these events
 abbrev pub rows_asked : PlanValue → List Event → List Row
 rows_asked plan E = rows_from (first_second plan.after) E
 

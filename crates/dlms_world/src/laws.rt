@@ -17,6 +17,7 @@ ghost use Rattle.dlms_world.specs.Between.{ReadingsAreNamed, StillUnset, StillAp
 ghost use Rattle.dlms_world.specs.Told.{AnswersTell};
 ghost use Rattle.dlms_world.specs.Calls.{NewIsFirst, NewIsTurn, MergeIsTurn, NextIsTurn, OnIsTurn, TimeoutIsTurn};
 ghost use Rattle.dlms_world.specs.Programs.{FilesAreCaptures};
+ghost use Rattle.dlms_world.specs.Line.{FirstAgree, AgreeingIsCaptures, RunsAgree, StopsAgree, PollsAgree};
 ghost use Rattle.dlms_world.specs.Ties.{FeedsAreTurns, EventsAreTurns, StopsAreTurns, RecoveriesAreTurns, RestsAreTurns};
 ghost use Rattle.dlms_world.specs.Agree.{PollsAreTold, ReadingsAreCaptures, ReadingsRise, LineIsSilent};
 ghost use Rattle.dlms_world.specs.Possible.{CanBegin, CanBeDone, CanBeDoneAgain, CanStop};
@@ -26,17 +27,17 @@ use dlms_meter::Meter;
 use dlms_pages::Pages;
 use std::alloc::Allocator;
 
-/// However frames, losses, time-outs, pulses, moments, other clients, stops and recoveries interleave: a poll that is done has
+/// However frames, losses, timeouts, pulses, moments, other clients, stops and recoveries interleave: a poll that is done has
 /// exactly the rows that the meter's buffer had when it took the poll's GET; each row of the readings is a capture of the events
-/// that the meter holds; and where the captures' clocks rise strictly, no row stands twice and the rows stand in order.
+/// that the meter holds; and if the captures' clocks rise strictly, no row occurs twice and the rows are in order.
 pub fn the_file_and_the_meter_agree()
     ensures told { PollsAreTold }
     ensures captures { ReadingsAreCaptures }
     ensures rise { ReadingsRise }
 {}
 
-/// A poll that is done and asks for the columns: the meter's columns were the clock and the three registers both before its GET of the
-/// rows and behind it. Where they were at that GET too, each row is a capture by name: in the place of a register stands what that
+/// For a poll that is done and asks for the columns, the meter's columns were the clock and the three registers both before and
+/// after its GET of the rows. If they were at that GET too, each row is a capture by name: in the place of a register is what that
 /// register held.
 pub fn polls_are_named()
     ensures { PollsAreNamed }
@@ -49,8 +50,8 @@ pub fn the_file_is_named()
     ensures { ReadingsAreNamed }
 {}
 
-/// Where no columns are set between the answers of a poll: in a run that sets none, and in one that goes on by any step behind which
-/// no poll is under way.
+/// When no columns are set between the answers of a poll: in a run that sets none, and in one that continues with any step after
+/// which no poll is under way.
 pub fn columns_stand_still()
     ensures unset { StillUnset }
     ensures apart { StillApart }
@@ -61,14 +62,16 @@ pub fn answers_tell_rows()
     ensures { AnswersTell }
 {}
 
-/// No row of a legal list lies behind the clock's last second: the rows of the poll's range are all from its first second on.
+/// No row of a legal list is past the clock's last second: the rows of the poll's range are all rows from its first second on.
 pub fn a_range_to_the_last_second_has_all_rows()
-    ensures { (second : ℕ) (E : List Event) → IsLegal E → rows_from second E ≡ all_rows_from second E }
+    ensures { (second : ℕ) (E : List Event) → IsLegal E
+        → rows_from second E ≡ all_rows_from second E }
 {}
 
-/// What the meter of this world makes of a frame is what the meter's own definition makes of it.
+/// The meter of this world handles a frame as the meter's own definition says.
 pub fn frames_are_handled()
-    ensures { (choice : Choice) (E : List Event) (r : ServerRecord) (s : SessionValue) (out : LinkOut) (o : Outcome) → Answers choice E r s out o
+    ensures { (choice : Choice) (E : List Event) (r : ServerRecord) (s : SessionValue)
+        (out : LinkOut) (o : Outcome) → Answers choice E r s out o
         → Answered choice E r s out (handled r out o) }
 {}
 
@@ -77,9 +80,9 @@ pub fn the_line_is_silent_behind_a_poll()
     ensures { LineIsSilent }
 {}
 
-/// A head end may be stopped at any moment, wherever its poll stands, and another one takes its place, of the same client or of another:
-/// the file, what the meter keeps of each client, and what it holds, are as they were. What the laws say of every run they say of
-/// those that go on from there.
+/// A head end may be stopped at any moment, at any stage of its poll, and another one takes its place, for the same client or for
+/// another: the file, the meter's record of each client, and its events stay as they were. The laws of every run also apply to
+/// those that continue from there.
 pub fn a_head_end_can_stop()
     ensures { CanStop }
 {}
@@ -118,10 +121,10 @@ fn bytes_fit(bytes: &[u8])
     let _bytes = bytes;
 }
 
-/// The calls of a poller are steps of the world: a new one, of whatever client, is that of the first world, or of one behind any poll while
-/// nothing is on the line; the call that gives its first frame, one that is given the oldest frame on the way, and one that tells of a
-/// time-out while nothing is on the line; and a merge of rows of one that is done, all or some of
-/// them in their order.
+/// The calls of a poller are steps of the world: a new one, for any client, is that of the first world, or of one after any poll
+/// while nothing is on the line; so are the call that returns its first frame, one that is given the oldest frame on the way, one
+/// that reports a timeout while nothing is on the line, and a merge of rows of a poll that is done, all or some of them in their
+/// order.
 pub fn calls_are_turns()
     ensures new { NewIsFirst }
     ensures again { NewIsTurn }
@@ -131,11 +134,11 @@ pub fn calls_are_turns()
     ensures merge { MergeIsTurn }
 {}
 
-/// The calls of a meter are steps of the world, whatever its device does. The bytes of a call of `feed` end no frame, and nothing is
-/// replied; or they end the next frame of the stretch: where that is the oldest on the way from the poller its reply is the frame
-/// that goes onto the line, one of another client leaves the poller's line as it is, and one of nobody is none. A call of `pulses`
-/// or `moment` is a step where it accepted the event, or the device failed, and else none. What a stop at any moment of such a call
-/// leaves stands for the events of a step.
+/// The calls of a meter are steps of the world, whatever its device does. The bytes of a call of `feed` end no frame, and nothing
+/// is replied; or they end the next frame of the stretch. If that is the oldest on the way from the poller, its reply is the frame
+/// that goes onto the line; one of another client leaves the poller's line as it is; and one of no client is no step. A call of
+/// `pulses` or `moment` is a step if it accepted the event, or if the device failed, and otherwise none. A stop at any moment of
+/// such a call leaves what represents the events of a step.
 pub fn calls_of_a_meter_are_turns<P: Pages, A: Allocator + Copy>(
     old: &Meter<P, A>,
     new: &Meter<P, A>,
@@ -145,8 +148,8 @@ pub fn calls_of_a_meter_are_turns<P: Pages, A: Allocator + Copy>(
     ensures stops { StopsAreTurns old.now new.now }
 {}
 
-/// So are recoveries and closes: the meter that a recovery makes is that of the world behind it, and a device that a recovery or a
-/// close gives back fits the world's memory.
+/// Recoveries and closes are steps, too: the meter that a recovery makes is that of the world after it, and a device that a
+/// recovery or a close returns fits the world's memory.
 pub fn recoveries_are_turns<P: Pages, A: Allocator + Copy>(new: &Meter<P, A>)
     ensures opens { RecoveriesAreTurns new.now }
     ensures rests { RestsAreTurns new.now }
@@ -156,4 +159,17 @@ pub fn recoveries_are_turns<P: Pages, A: Allocator + Copy>(new: &Meter<P, A>)
 /// row of its file is a capture of the events that its meter holds, wherever the power stopped, inside calls and recoveries too.
 pub fn programs_are_runs<P: Pages, A: Allocator + Copy>(meter: &Meter<P, A>)
     ensures { FilesAreCaptures meter.now }
+{}
+
+/// A readings file and a meter agree if a run of the world has led to both. This is true of an empty file and a formatted meter,
+/// and each row of such a file is a capture that the meter holds. They go on agreeing whatever arrives at the meter, wherever the
+/// power stops, and after a merge of rows from a poll over a line. The head end and the meter are two ends of that line, each by
+/// its own calls; the line may lose, cut and delay anything, as long as each whole frame that arrives was sent from the other end,
+/// since the last timeout, and frames arrive in order.
+pub fn a_poll_over_a_line<P: Pages, A: Allocator + Copy>(old: &Meter<P, A>, new: &Meter<P, A>)
+    ensures first { FirstAgree }
+    ensures captures { AgreeingIsCaptures }
+    ensures runs { RunsAgree old.now new.now }
+    ensures stops { StopsAgree }
+    ensures polls { PollsAgree old.now new.now }
 {}

@@ -28,7 +28,7 @@ fn reply_to(bench: &mut Bench, frame: &SentFrame) -> Option<SentFrame> {
     frame.owned()
 }
 
-/// What comes of a frame and all that follow it; none where the meter is silent or the client fails.
+/// The outcome of a frame and all that follow it; none if the meter is silent or the client fails.
 pub fn settled(bench: &mut Bench, first: SentFrame) -> Option<Step> {
     let mut frame = first;
     for _ in 0..FRAMES {

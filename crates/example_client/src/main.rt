@@ -107,7 +107,7 @@ fn octets_of(value: &Data<Global>) -> &[u8] {
     }
 }
 
-/// Management, by this address of the meter, with APDUs of so many bytes.
+/// Management, by this address of the meter, with APDUs of this many bytes.
 fn management(server: Address, size: u16) -> Plan {
     let mut secret = ArrayVec::new();
     let _fits = secret.try_extend_from_slice(b"12345678");

@@ -27,7 +27,7 @@ fn request(alloc: Global) -> Result<Vec<u8>, AllocError> {
     apdu
 }
 
-/// The information of a frame that asks for it, behind the three bytes of the LLC.
+/// The information of a frame that asks for it, after the three bytes of the LLC.
 fn information(apdu: &[u8]) -> Option<ArrayVec<u8, 64>> {
     let mut information = ArrayVec::new();
     information.try_extend_from_slice(&[0xe6, 0xe6, 0x00]).ok()?;
@@ -63,7 +63,7 @@ fn number(response: &Response<'_, Global>) -> Option<u32> {
     }
 }
 
-/// The number in a frame that answers it, behind the three bytes of the LLC.
+/// The number in a frame that answers it, after the three bytes of the LLC.
 fn answer(alloc: Global, bytes: &[u8]) -> Option<u32> {
     let mut deframer = Deframer::new();
     let _taken = deframer.feed(bytes);

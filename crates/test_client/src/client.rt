@@ -12,7 +12,7 @@ use std::alloc::Allocator;
 /// An APDU.
 pub type Apdu = ArrayVec<u8, 1024>;
 
-/// What the client proposes.
+/// The services that the client proposes.
 const PROPOSED: Conformance = Conformance(0x7e_1f);
 
 /// The most bytes of an APDU that a client takes. The object list is longer than the public one's.
@@ -23,7 +23,7 @@ fn size_of(client: Client) -> u16 {
     }
 }
 
-/// The meter's reply to a frame; none where it has none.
+/// The meter's reply to a frame; none if it has none.
 pub fn reply_to<P: Pages, A: Allocator + Copy>(
     meter: &mut Meter<P, A>,
     frame: &SentFrame,
@@ -37,7 +37,7 @@ pub fn reply_to<P: Pages, A: Allocator + Copy>(
     frame.owned()
 }
 
-/// Sends an APDU of at most 1024 bytes, and takes its answer, in as many frames as it comes in; none where the link is busy or no
+/// Sends an APDU of at most 1024 bytes, and returns its answer, in as many frames as it comes in; none if the link is busy or no
 /// answer comes.
 pub fn exchange<P: Pages, A: Allocator + Copy>(
     meter: &mut Meter<P, A>,
@@ -71,7 +71,7 @@ pub fn associated<P: Pages, A: Allocator + Copy>(
     associated_by(meter, client, size_of(client))
 }
 
-/// Connects a link with this frame, and associates on it, for APDUs of at most so many bytes.
+/// Connects a link with this frame, and associates on it, for APDUs of at most this many bytes.
 fn associate<P: Pages, A: Allocator + Copy>(
     meter: &mut Meter<P, A>,
     link: &mut ClientLink,
@@ -88,7 +88,7 @@ fn associate<P: Pages, A: Allocator + Copy>(
     (answer.len() == 43).then_some(())
 }
 
-/// A client's link, with an association that takes APDUs of at most so many bytes; none where it is refused.
+/// A client's link, with an association that takes APDUs of at most this many bytes; none if it is refused.
 pub fn associated_by<P: Pages, A: Allocator + Copy>(
     meter: &mut Meter<P, A>,
     client: Client,

@@ -1,11 +1,11 @@
-//! What is said of faults that no case brings about: those of a poll's other end, of a device, and of want of memory.
+//! The messages of faults that no case produces: those of a poll's other end, of a device, and out of memory.
 
 use anyhow::Result;
 use dlms_apdu::ApduFault;
 use dlms_call::CallFault;
 use dlms_client::{Denial, Fault as Talked};
 use dlms_command::{Fault, finish};
-use dlms_ends::LoopFault;
+use dlms_ends::RunFault;
 use dlms_field::ClockFault;
 use dlms_headend::{PollFault, list_columns};
 use dlms_identity::Expected;
@@ -16,7 +16,7 @@ use std::alloc::Global;
 /// The address of a poll.
 const ADDRESS: &str = "192.0.2.7:4059";
 
-/// The name of what is asked for.
+/// The name of the request.
 const NAME: &str = "1.0.1.8.0.255";
 
 /// The file of a meter.
@@ -79,14 +79,14 @@ fn say_of_devices(told: &mut Vec<u8>) -> Result<()> {
     for fault in [ReplayFault::Line(7), ReplayFault::Io, ReplayFault::Memory] {
         say(told, Fault::Replay(fault))?;
     }
-    for fault in [LoopFault::Io, LoopFault::Memory] {
-        say(told, Fault::Loop(fault))?;
+    for fault in [RunFault::Io, RunFault::Memory] {
+        say(told, Fault::Run(fault))?;
     }
     say(told, Fault::Output)?;
     say(told, Fault::Input("line.log"))
 }
 
-/// Says what is said of what a meter refuses.
+/// Prints the messages for a meter's refusals.
 fn say_of_results(told: &mut Vec<u8>) -> Result<()> {
     say(told, Fault::Result(NAME, 9, true))?;
     say(told, Fault::Result(NAME, 77, false))?;
@@ -138,7 +138,7 @@ fn say_all(alloc: Global, told: &mut Vec<u8>) -> Result<()> {
     say_of_talks(told)
 }
 
-/// What is said of them, one after another.
+/// The messages for them, one after another.
 pub fn said(alloc: Global) -> Result<Vec<u8>> {
     let mut told = Vec::new(alloc);
     match say_all(alloc, &mut told) {

@@ -1,10 +1,10 @@
 //! Runs the program's commands on the cases that lie here, and says which come out otherwise than their writer expects.
 //!
-//! `cases.txt` lists them: kind, name, status, and the program's words. A case reads `NAME.in` (nothing where it is not there),
-//! prints `NAME.out`, byte for byte, and says `NAME.err` among the errors (nothing where these are not there). The cases run in
-//! the order of the list, in one folder: a file that one makes is there for the next. Where a case has `NAME.seal`, the file that
-//! its last word names must have this SHA-256 behind the run. Of the kind `talk` each line is given when it is asked for, and only
-//! where each frame before it was answered. `faults.txt` is what is said of the faults that no case brings about (`faults`).
+//! `cases.txt` lists them: kind, name, status, and the program's arguments. A case reads `NAME.in` (nothing if it is missing),
+//! prints `NAME.out`, byte for byte, and prints `NAME.err` on its errors (nothing if these are missing). The cases run in the order
+//! of the list, in one folder: a file that one creates is there for the next. If a case has `NAME.seal`, the file that its last
+//! argument names must have this SHA-256 after the run. In the kind `talk` each line is given when it is requested, and only if
+//! each frame before it was answered. `faults.txt` has the messages of the faults that no case produces (`faults`).
 #![tactic(auto)]
 
 use anyhow::Result;
@@ -19,6 +19,7 @@ use std::process::ExitCode;
 use std::rt::Files;
 use std::time::Clock;
 
+mod damages;
 mod faults;
 mod talk;
 
@@ -30,7 +31,7 @@ const PROGRAM: &str = "dlms";
 /// The kind of a case whose lines are given one by one.
 const TALK: &str = "talk";
 
-/// A case as the list has it: the words behind its status are the program's.
+/// A case as the list has it: the words after its status are the program's arguments.
 #[derive(Clone, Copy)]
 struct Case<'a> {
     is_talk: bool,
@@ -39,7 +40,7 @@ struct Case<'a> {
     words: &'a str,
 }
 
-/// What a case differs in.
+/// The differences of a case.
 #[derive(Clone, Copy, Debug, PartialEq, Eq)]
 enum Verdict {
     AsExpected,
@@ -49,7 +50,7 @@ enum Verdict {
     OtherFile,
 }
 
-/// A file's bytes; none where it isn't there.
+/// A file's bytes; none if it isn't there.
 fn bytes_of<R: Files + AllocGlobal>(rt: &R, name: &str, kind: &str) -> Result<Option<Vec<u8>>> {
     let path = format!(in rt.alloc(); "{name}.{kind}")?;
     let read = fs::read(rt, path.as_str());
@@ -79,7 +80,7 @@ fn has_seal<R: Files + AllocGlobal>(rt: &R, path: &str, seal: &[u8]) -> Result<b
     has_digest
 }
 
-/// The file that was left has the case's seal; where the case has none, any file is right.
+/// The remaining file has the case's seal; if the case has none, any file is right.
 fn is_sealed<R: Files + AllocGlobal>(rt: &R, name: &str, path: &str) -> Result<bool> {
     match bytes_of(rt, name, "seal")? {
         Some(seal) => {
@@ -91,7 +92,7 @@ fn is_sealed<R: Files + AllocGlobal>(rt: &R, name: &str, path: &str) -> Result<b
     }
 }
 
-/// The program's name, and the words behind it.
+/// The program's name, and its arguments.
 fn words_of(alloc: Global, line: &str) -> std::result::Result<Vec<&str>, AllocError> {
     let mut words = Vec::new(alloc);
     words.push(PROGRAM)?;
@@ -101,7 +102,7 @@ fn words_of(alloc: Global, line: &str) -> std::result::Result<Vec<&str>, AllocEr
     Ok(words)
 }
 
-/// A line of the list; none where it is empty, or said to its reader alone.
+/// A line of the list; none if it is empty, or a comment.
 fn case_of(line: &str) -> Option<Case<'_>> {
     let (kind, rest) = line.split_once(' ')?;
     if kind == "#" {
@@ -117,7 +118,7 @@ fn case_of(line: &str) -> Option<Case<'_>> {
     })
 }
 
-/// What a run of the program has left.
+/// The result of a run of the program.
 #[derive(Drop)]
 struct Ran {
     status: u8,
@@ -125,7 +126,7 @@ struct Ran {
     errors: Vec<u8>,
 }
 
-/// Runs the program on an input that is given line by line, and gives its status and what it printed.
+/// Runs the program on an input that is given line by line, and returns its status and its output.
 fn talked<R: Net + Files<File = File> + Clock + AllocGlobal>(
     rt: &R,
     words: &[&str],
@@ -143,7 +144,7 @@ fn talked<R: Net + Files<File = File> + Clock + AllocGlobal>(
     }
 }
 
-/// Runs the program on an input that is there as a whole, or line by line, and gives its status and what it printed.
+/// Runs the program on an input that is there as a whole, or line by line, and returns its status and its output.
 fn printed<R: Net + Files<File = File> + Clock + AllocGlobal>(
     rt: &R,
     is_talk: bool,
@@ -201,7 +202,7 @@ fn ran_by<R: Net + Files<File = File> + Clock + AllocGlobal>(
     }
 }
 
-/// Whether a text is what the case's file of this kind says; where it is not there, whether it is nothing.
+/// Whether a text equals the case's file of this kind; if that is missing, whether it is empty.
 fn is_expected<R: Files + AllocGlobal>(
     rt: &R,
     name: &str,
@@ -226,7 +227,7 @@ fn is_status(status: u8, written: &str) -> bool {
     }
 }
 
-/// What a case differs in, whose run has left this, and whose last word is this.
+/// The differences of a case with this result of its run, and this last argument.
 fn verdict_on<R: Files + AllocGlobal>(
     rt: &R,
     case: &Case<'_>,
@@ -301,7 +302,7 @@ fn run_all<R: Net + Files<File = File> + Clock + Print + AllocGlobal>(rt: &R) ->
     differing
 }
 
-/// Whether each fault is told as `faults.txt` has it.
+/// Whether each fault has the message of `faults.txt`.
 fn faults_are_said<R: Files + Print + AllocGlobal>(rt: &R) -> Result<bool> {
     let said = faults::said(rt.alloc())?;
     let is_said = is_expected(rt, "faults", "txt", said.as_slice());
@@ -313,7 +314,9 @@ fn faults_are_said<R: Files + Print + AllocGlobal>(rt: &R) -> Result<bool> {
 
 fn main(rt: HostRuntime) -> Result<ExitCode> {
     let differing = run_all(&rt)?;
-    if faults_are_said(&rt)? && differing == 0 {
+    let is_said = faults_are_said(&rt)?;
+    damages::print_files(&rt)?;
+    if is_said && differing == 0 {
         Ok(ExitCode::SUCCESS)
     } else {
         Ok(ExitCode::from(1))

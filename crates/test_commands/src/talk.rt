@@ -1,4 +1,4 @@
-//! Two ends of a pipe: whoever sends a frame waits for its answer before the next line.
+//! Two ends of a pipe: the sender of a frame waits for its answer before the next line.
 
 use std::alloc::Global;
 use std::cell::Cell;
@@ -22,7 +22,7 @@ impl Turns {
     }
 }
 
-/// Gives a line at each read, and fails where a frame that it gave before has no answer yet.
+/// Returns a line at each read, and fails if an earlier frame has no answer yet.
 #[derive(Drop)]
 pub struct Asking<'a> {
     lines: &'a [u8],

@@ -21,7 +21,7 @@ fn close_up(arena: &Bump) -> Result<(), AllocError> {
     Ok(())
 }
 
-/// A request of a meter with so many rows, where so many bytes are left of its arena.
+/// A request to a meter with this many rows, with this many bytes left of its arena.
 fn asked_with(
     alloc: Global,
     asked: &Asked,
@@ -43,7 +43,7 @@ fn asked_with(
     Ok(answer.map(|answer| ended_by(asked, answer.as_slice())))
 }
 
-/// A request of a meter with so many rows, on arenas that have a step more left each: how many were refused is noted.
+/// A request to a meter with this many rows, on arenas with a step more left each: notes how many were refused.
 pub fn refused_in_arenas(
     alloc: Global,
     asked: &Asked,

@@ -21,7 +21,7 @@ pub fn changed(bytes: &[u8], place: usize, value: u8) -> Bytes {
     changed
 }
 
-/// Whether a deframer finds the frames that stand in a stretch, each with its closing flag, and no other.
+/// Whether a deframer finds exactly the frames in a stretch, each with its closing flag.
 fn are_found(stretch: &[u8]) -> bool {
     let mut deframer = Deframer::new();
     let (mut taken, mut place) = (0usize, 0usize);
@@ -46,7 +46,7 @@ fn are_found(stretch: &[u8]) -> bool {
     false
 }
 
-/// Whether the frames are found in bytes, and in bytes with a whole frame behind them.
+/// Whether the frames are found in bytes, and in bytes followed by a whole frame.
 pub fn are_found_behind(bytes: &[u8], whole: &[u8]) -> bool {
     let mut both: Bytes = ArrayVec::new();
     let fits = both.try_extend_from_slice(bytes).is_ok()
@@ -73,7 +73,7 @@ pub fn is_left_alone(
     Ok(is_led && is_silent && goes_on)
 }
 
-/// What comes of bytes in the place of one of a talk's frames.
+/// The outcome of bytes in place of one of a session's frames.
 fn judged(
     alloc: Global,
     talk: &[Step],

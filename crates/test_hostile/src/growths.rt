@@ -22,9 +22,9 @@ pub const ROWS: u32 = 960;
 pub struct Asked {
     pub client: Client,
     pub apdu: &'static [u8],
-    /// What the answer begins with where all memory is there.
+    /// The beginning of the answer with all memory.
     pub given: &'static [u8],
-    /// The answers where it is refused; none where the request needs none.
+    /// The answers without memory; none if the request needs none.
     pub refused: &'static [&'static [u8]],
     /// How many bytes more are left in each case than in the one before, and how many cases there are.
     pub step: usize,
@@ -149,7 +149,7 @@ fn sets_longest_text<A: Allocator + Copy>(meter: &mut MemoryMeter<A>) -> bool {
     }
 }
 
-/// A meter with so many rows and the longest text, which takes its memory from a heap; none where it can't be made.
+/// A meter with this many rows and the longest text, which takes its memory from a heap; none if it can't be made.
 pub fn filled<A: Allocator + Copy>(
     alloc: Global,
     heap: A,
@@ -167,7 +167,7 @@ pub fn filled<A: Allocator + Copy>(
     Ok(is_set.then_some(meter))
 }
 
-/// What came of a request.
+/// The outcome of a request.
 #[derive(Clone, Copy, Debug, PartialEq, Eq)]
 pub enum Ended {
     Given,
@@ -187,7 +187,7 @@ pub fn ended_by(asked: &Asked, answer: &[u8]) -> Ended {
     Ended::Otherwise
 }
 
-/// A request of an association, where so many bytes are left of the heap.
+/// A request in an association, with this many bytes left of the heap.
 fn asked_with(
     heap: &LocalHeap,
     meter: &mut MemoryMeter<&LocalHeap>,

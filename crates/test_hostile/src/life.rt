@@ -32,7 +32,7 @@ pub fn seen_in<P: Pages, A: Allocator + Copy>(meter: &Meter<P, A>) -> Seen {
     }
 }
 
-/// A meter with forty-two pulses and one captured row; none where it can't be made.
+/// A meter with forty-two pulses and one captured row; none if it can't be made.
 pub fn counted<A: Allocator + Copy>(
     alloc: A,
     pages: Global,

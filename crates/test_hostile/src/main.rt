@@ -34,7 +34,7 @@ const HEAP: usize = 131_072;
 
 const HEAP_WITH_PAGES: usize = 229_376;
 
-/// What is sent in the place of each frame of a talk.
+/// Sends these in place of each frame of a session.
 fn run_talk<R: Print + AllocGlobal>(rt: &R, who: &str, talk: &[Step]) -> Result<u32> {
     let alloc = rt.alloc();
     let noted = "hold a frame";

@@ -15,7 +15,7 @@ const CLIENTS: [&[u8]; 3] = [&[0x21], &[0x03], &[0x05]];
 /// The poll bit of a control byte.
 const POLL: u8 = 0x10;
 
-/// The addresses of a frame, the bytes from its control byte on, and those behind the header's check.
+/// The addresses of a frame, the bytes from its control byte on, and those after the header's check.
 #[derive(Clone, Copy)]
 struct Parts<'a> {
     destination: &'a [u8],
@@ -38,7 +38,7 @@ fn parts_of(frame: &[u8]) -> Option<Parts<'_>> {
     })
 }
 
-/// Puts the check of the bytes from the first one to a place behind them.
+/// Puts the check of the bytes from the first one to a place after them.
 fn put_check(bytes: &mut Bytes, place: usize) {
     let check = match bytes.as_slice().get(1..place) {
         Some(checked) => check_of(checked).to_le_bytes(),
@@ -51,7 +51,7 @@ fn put_check(bytes: &mut Bytes, place: usize) {
     }
 }
 
-/// A frame with one byte changed, and its checks, at the places where they stand in the frame, made anew.
+/// A frame with one byte changed, and its checks, in their places, computed again.
 fn mended(frame: &[u8], place: usize, value: u8) -> Bytes {
     let mut bytes = changed(frame, place, value);
     let header = frame.get(1..).and_then(header_len).unwrap_or(0);
@@ -69,7 +69,7 @@ fn is_success(answer: &[u8]) -> bool {
     }
 }
 
-/// Whether a frame may be replied to, and the reply goes back where it came from.
+/// Whether a frame may be replied to, and the reply goes back to its sender.
 fn is_lawful(frame: &[u8], reply: &[u8]) -> bool {
     match (parts_of(frame), parts_of(reply)) {
         (Some(asked), Some(replied)) => {
@@ -84,8 +84,8 @@ fn is_lawful(frame: &[u8], reply: &[u8]) -> bool {
     }
 }
 
-/// Whether a frame in the place of one of a talk's is replied to lawfully or not at all, changes nothing but where the reply says
-/// that it did, and leaves a meter with which the whole talk can be had.
+/// Whether a frame in place of one of a session's is replied to lawfully or not at all, changes nothing unless the reply says that
+/// it did, and leaves a meter with which the whole session is possible.
 fn is_endured(
     alloc: Global,
     talk: &[Step],
@@ -109,7 +109,7 @@ fn is_endured(
     Ok(is_led && is_allowed && is_kept && is_talked(&mut meter, talk))
 }
 
-/// What comes of a frame with one byte changed and its checks made anew.
+/// The outcome of a frame with one byte changed and its checks computed again.
 fn judged(
     alloc: Global,
     talk: &[Step],

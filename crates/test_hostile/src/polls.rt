@@ -16,12 +16,12 @@ const FRAMES: u16 = 400;
 /// The seconds of a capture period.
 const PERIOD: u32 = 900;
 
-/// The row that the capture behind a period has, on a meter that counts nothing.
+/// The row of the capture after a period, on a meter that counts nothing.
 fn is_capture(period: usize, row: &Row) -> bool {
     row.clock as usize == period.saturating_mul(PERIOD as usize) && row.registers == [0; 3]
 }
 
-/// Whether rows are the captures behind so many periods.
+/// Whether rows are the captures after this many periods.
 pub fn are_captures(rows: &[Row], count: usize) -> bool {
     let mut period = 0usize;
     for row in rows {
@@ -33,7 +33,7 @@ pub fn are_captures(rows: &[Row], count: usize) -> bool {
     period == count
 }
 
-/// A meter with a capture behind each of so many periods; none where it can't be made.
+/// A meter with a capture after each of this many periods; none if it can't be made.
 pub fn meter_with<P: Pages + Drop, A: Allocator + Copy>(
     alloc: A,
     device: P,
@@ -50,7 +50,7 @@ pub fn meter_with<P: Pages + Drop, A: Allocator + Copy>(
     Some(meter)
 }
 
-/// A poll of so many rows that was done, and the frames with which the meter replied; none where it was not.
+/// A finished poll of this many rows, and the frames of the meter's replies; none if it was not finished.
 fn polled(
     alloc: Global,
     periods: u32,
@@ -79,7 +79,7 @@ fn polled(
     Ok(None)
 }
 
-/// What came of a poll.
+/// The outcome of a poll.
 #[derive(Clone, Copy, Debug, PartialEq, Eq)]
 enum Ended {
     Done,
@@ -114,8 +114,8 @@ fn ended_by<A: Allocator + Copy>(
     }
 }
 
-/// Polls of so many rows by pollers on heaps, each larger by a step from none on: how many were refused is noted. One of no row takes no
-/// memory.
+/// Polls of this many rows by pollers on heaps, each larger by a step from none on: notes how many were refused. One of no row
+/// takes no memory.
 pub fn polls(alloc: Global, rows: u32, step: usize, cases: usize) -> Result<Tally, AllocError> {
     let mut tally = Tally::new();
     let mut replies = Vec::new(alloc);
@@ -141,7 +141,7 @@ pub fn polls(alloc: Global, rows: u32, step: usize, cases: usize) -> Result<Tall
 /// The longest line of a readings file.
 const LINE: &str = "3155759999,4294967295,4294967295,4294967295\n";
 
-/// A file of so many longest lines.
+/// A file of this many longest lines.
 fn long_file(alloc: Global, lines: u32) -> Result<String, AllocError> {
     let mut text = String::new(alloc);
     for _ in 0..lines {
@@ -150,7 +150,7 @@ fn long_file(alloc: Global, lines: u32) -> Result<String, AllocError> {
     Ok(text)
 }
 
-/// Whether the text of a file is given, if its memory is not refused: none where it is.
+/// Whether the text of a file is returned, if its memory is not refused: none if it is.
 fn is_text<A: Allocator + Copy>(file: &Readings<A>, expected: &str) -> Option<bool> {
     match file.text() {
         Ok(text) => Some(text.as_str() == expected),
@@ -158,7 +158,7 @@ fn is_text<A: Allocator + Copy>(file: &Readings<A>, expected: &str) -> Option<bo
     }
 }
 
-/// What came of a file: each of its calls is answered, or refused.
+/// The outcome of a file: each of its calls is answered, or refused.
 fn read_on(heap: &LocalHeap, text: &str) -> Ended {
     match Readings::open(heap, text) {
         Ok(file) => match is_text(&file, text) {
@@ -171,7 +171,7 @@ fn read_on(heap: &LocalHeap, text: &str) -> Ended {
     }
 }
 
-/// What came of the rows of a poll that are merged into a file without any: all are in it, or none.
+/// The outcome of merging the rows of a poll into an empty file: all are in it, or none.
 fn merged_on(heap: &LocalHeap, poller: &Poller) -> Ended {
     let rows = poller.rows();
     let Ok(mut file) = Readings::open(heap, "") else {

@@ -8,7 +8,7 @@ use dlms_store::{OpenFault, PAGES};
 use linked_list_allocator::LocalHeap;
 use std::alloc::{AllocError, Global};
 
-/// What is to be seen of the meter behind its recovery, where there is one.
+/// The state of the meter after its recovery, if there is one.
 fn found<P: Pages + Drop>(alloc: Global, device: P) -> Option<Seen> {
     match Meter::recover(alloc, device) {
         Ok(meter) => Some(seen_in(&meter)),
@@ -85,10 +85,10 @@ pub fn recoveries(alloc: Global, step: usize, cases: usize) -> Result<Tally, All
     Ok(tally)
 }
 
-/// The heap of a device, ample for its pages and for what it writes.
+/// The heap of a device, ample for its pages and for its writes.
 const HEAP: usize = 524_288;
 
-/// Meters that are made over a device which has ever more memory for what it writes.
+/// Meters over a device with more and more memory for its writes.
 pub fn devices(alloc: Global, step: usize, cases: usize) -> Result<Tally, AllocError> {
     let mut tally = Tally::new();
     for case in 0..cases {

@@ -1,5 +1,5 @@
-//! Which frames stand in bytes, by the words of IEC 62056-46, 6.4.1, and apart from the crate that finds them: the check is a
-//! division bit by bit, and each place is looked at.
+//! The frames in bytes, by IEC 62056-46, 6.4.1, and independent of the crate that finds them: the check is a division bit by bit,
+//! and each place is tried.
 
 ghost use Rattle.std.specs.Prelude.{◌≤◌, IfSome};
 
@@ -41,7 +41,7 @@ pub fn address_len(bytes: &[u8]) -> Option<usize>
     }
 }
 
-/// How many bytes stand before the first check: format, destination, source and control.
+/// The number of bytes before the first check: format, destination, source and control.
 pub fn header_len(body: &[u8]) -> Option<usize>
     ensures { IfSome result (λ len. len ≤ 11) }
 {
@@ -50,8 +50,8 @@ pub fn header_len(body: &[u8]) -> Option<usize>
     Some(3 + destination + source)
 }
 
-/// Whether what stands between two flags is a frame: its last check alone behind the header, or the header's check,
-/// information and a last check.
+/// Whether the bytes between two flags are a frame: its last check alone after the header, or the header's check, information and a
+/// last check.
 fn is_body(body: &[u8]) -> bool {
     let Some(header) = header_len(body) else {
         return false;

@@ -1,4 +1,4 @@
-//! The worked talks: each client's frames, and what a meter with forty-two pulses replies to them.
+//! The worked sessions: each client's frames, and the replies of a meter with forty-two pulses.
 //!
 //! By hand from the standards' tables (IEC 62056-46; IEC 62056-5-3), their checks by CRC-16/X-25, apart from this project's code.
 

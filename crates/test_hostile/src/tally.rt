@@ -1,11 +1,11 @@
-//! How many cases there were, and what came of them.
+//! The number of cases, and their outcomes.
 
 use std::io;
 
-/// What came of a case.
+/// The outcome of a case.
 #[derive(Clone, Copy, Debug, PartialEq, Eq)]
 pub struct Verdict {
-    /// What it is counted for beside.
+    /// What else it is counted for.
     pub is_noted: bool,
     pub is_right: bool,
 }

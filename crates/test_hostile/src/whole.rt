@@ -42,7 +42,7 @@ fn is_given<P: Pages + Drop, A: Allocator + Copy>(
 /// The reader's first secret.
 const READERS_SECRET: &[u8] = b"23456789";
 
-/// What the reader polls with its first secret.
+/// The reader's plan, with its first secret.
 fn readers_plan() -> Plan
     ensures { result.after ≡ None }
 {
@@ -56,7 +56,7 @@ fn readers_plan() -> Plan
     }
 }
 
-/// A poll on its way, and the frame that it sends next; none where it is done. The head end's memory is its own.
+/// A poll in progress, and the frame that it sends next; none if it is done. The head end has its own memory.
 #[derive(Drop)]
 struct Polling {
     poller: Poller,
@@ -90,13 +90,13 @@ impl Polling {
         }
     }
 
-    /// Whether it is done, with so many rows.
+    /// Whether it is done, with this many rows.
     fn has(&self, rows: usize) -> bool {
         self.next.is_none() && are_captures(self.poller.rows(), rows)
     }
 }
 
-/// Whether management and the reader poll so many rows in blocks, a frame of the one and then one of the other.
+/// Whether management and the reader poll this many rows in blocks, a frame of the one and then one of the other.
 fn are_polled<P: Pages + Drop, A: Allocator + Copy>(
     alloc: Global,
     meter: &mut Meter<P, A>,
@@ -125,7 +125,7 @@ fn serves_all<P: Pages + Drop, A: Allocator + Copy>(
         && is_given(meter, &mut link, &GET_SECOND, 2)
 }
 
-/// Whether a meter over this device, with memory from this allocator, does all that, and is found again behind its close.
+/// Whether a meter over this device, with memory from this allocator, does all that, and is found again after its close.
 fn lives<P: Pages + Drop, A: Allocator + Copy>(alloc: Global, own: A, device: P) -> bool {
     let Some(mut meter) = meter_with(own, device, ROWS) else {
         return false;
@@ -138,14 +138,14 @@ fn lives<P: Pages + Drop, A: Allocator + Copy>(alloc: Global, own: A, device: P)
     }
 }
 
-/// Whether a heap of so many bytes suffices a meter whose device has memory of its own.
+/// Whether a heap of this many bytes suffices for a meter whose device has its own memory.
 pub fn suffices(alloc: Global, size: usize) -> Result<bool, AllocError> {
     let heap = LocalHeap::new(alloc, size)?;
     let device = MemoryPages::new(alloc, PAGES)?;
     Ok(lives(alloc, &heap, device))
 }
 
-/// Whether a heap of so many bytes suffices a meter and the pages of its device.
+/// Whether a heap of this many bytes suffices for a meter and the pages of its device.
 pub fn suffices_with_pages(alloc: Global, size: usize) -> Result<bool, AllocError> {
     let heap = LocalHeap::new(alloc, size)?;
     match MemoryPages::new(&heap, PAGES) {

@@ -45,7 +45,7 @@ fn put_verdict(answer: &mut String, verdict: &Verdict) -> Result<(), RowFault> {
     }
 }
 
-/// What a request says: context, mechanism, secret, initiate request.
+/// The content of a request: context, mechanism, secret, initiate request.
 fn put_aarq(answer: &mut String, aarq: &Aarq) -> Result<(), RowFault> {
     put_shown(answer, &aarq.context)?;
     answer.push(' ')?;
@@ -66,7 +66,7 @@ fn put_aarq(answer: &mut String, aarq: &Aarq) -> Result<(), RowFault> {
     }
 }
 
-/// What is read of a request.
+/// The result of reading a request.
 fn put_read(bytes: &[u8], answer: &mut String) -> Result<(), RowFault> {
     match read_aarq(bytes) {
         Ok(aarq) => put_aarq(answer, &aarq),
@@ -107,7 +107,7 @@ fn put_request(words: &mut Words<'_>, answer: &mut String) -> Result<(), RowFaul
     put_hex(answer, bytes.as_slice())
 }
 
-/// What is read of a response.
+/// The result of reading a response.
 fn put_response(bytes: &[u8], answer: &mut String) -> Result<(), RowFault> {
     match read_aare(bytes) {
         Ok(outcome) => put_verdict(answer, &outcome),

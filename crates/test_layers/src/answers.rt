@@ -18,7 +18,7 @@ pub fn put_signed(answer: &mut String, number: i64) -> Result<(), RowFault> {
     Ok(write!(answer, "{number}")?)
 }
 
-/// A word, and a number behind it.
+/// A word, followed by a number.
 pub fn put_with_number(answer: &mut String, word: &str, number: u64) -> Result<(), RowFault> {
     answer.push_str(word)?;
     put_number(answer, number)
@@ -30,7 +30,7 @@ pub fn put_number_and(answer: &mut String, number: u64, behind: char) -> Result<
     Ok(answer.push(behind)?)
 }
 
-/// What a value says of itself.
+/// A value, as it is shown.
 pub fn put_text<T: Display>(answer: &mut String, value: &T) -> Result<(), RowFault> {
     Ok(write!(answer, "{value}")?)
 }

@@ -62,7 +62,7 @@ fn put_response<'h>(
     }
 }
 
-/// What is read of a request with memory from a heap.
+/// The result of reading a request with memory from a heap.
 fn put_read_request<'h>(
     heap: &'h LocalHeap,
     bytes: &[u8],
@@ -75,7 +75,7 @@ fn put_read_request<'h>(
     }
 }
 
-/// What is read of a response with memory from a heap.
+/// The result of reading a response with memory from a heap.
 fn put_read_response<'h>(
     heap: &'h LocalHeap,
     bytes: &[u8],

@@ -5,8 +5,8 @@ use crate::scenario::Line;
 use crate::words::Words;
 use linked_list_allocator::LocalHeap;
 
-/// Where a scenario finds its memory. What is prepared stands in `ample`, and what the rows try takes its memory
-/// from `heap`; both are the same where the scenario names no sizes.
+/// The memory of a scenario. Prepared values are in `ample`, and the rows under test take their memory from `heap`; both are the
+/// same if the scenario names no sizes.
 #[derive(Clone, Copy)]
 pub struct Room<'h> {
     pub ample: &'h LocalHeap,

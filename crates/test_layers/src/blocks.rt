@@ -34,7 +34,7 @@ fn put_block(answer: &mut String, block: &Result<Block, u8>) -> Result<(), RowFa
     }
 }
 
-/// What a block makes of a value to set.
+/// How a block changes a value to set.
 fn put_step(answer: &mut String, step: Result<PutStep, u8>) -> Result<(), RowFault> {
     match step {
         Ok(step) => put_shown(answer, &step),
@@ -42,7 +42,7 @@ fn put_step(answer: &mut String, step: Result<PutStep, u8>) -> Result<(), RowFau
     }
 }
 
-/// What a block of a GET makes of it.
+/// How a block of a GET changes it.
 fn put_joined(answer: &mut String, joined: Result<bool, u8>) -> Result<(), RowFault> {
     match joined {
         Ok(true) => Ok(answer.push_str("Whole")?),
@@ -51,7 +51,7 @@ fn put_joined(answer: &mut String, joined: Result<bool, u8>) -> Result<(), RowFa
     }
 }
 
-/// A value that goes out in blocks, where it may.
+/// A value that goes out in blocks, if it may.
 fn get_out_of(words: &mut Words<'_>) -> Result<GetOut, RowFault> {
     let bytes = words.bytes()?;
     let size = words.number()?;
@@ -61,7 +61,7 @@ fn get_out_of(words: &mut Words<'_>) -> Result<GetOut, RowFault> {
     Ok(GetOut::start(bytes, size as u16))
 }
 
-/// A value to set that goes out in blocks, where it may.
+/// A value to set that goes out in blocks, if it may.
 fn put_out_of(words: &mut Words<'_>) -> Result<PutOut, RowFault> {
     let bytes = words.bytes()?;
     let size = words.number()?;

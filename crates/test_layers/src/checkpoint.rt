@@ -49,7 +49,7 @@ fn is_named(state: &State<&LocalHeap>, page: u64) -> bool
     state.first_number() < behind && behind <= state.next_number()
 }
 
-/// The places of this ring page; `no` where the state's checkpoint names none.
+/// The places of this ring page; `no` if the state's checkpoint names none.
 fn put_ring(state: &State<&LocalHeap>, page: u64, answer: &mut String) -> Result<(), RowFault> {
     if is_named(state, page) {
         put_hex(answer, ring_page_of(state, page).as_slice())

@@ -108,7 +108,7 @@ fn put_got<'h>(
     }
 }
 
-/// GET of what the words ask for: an attribute, and behind it a selector's number and value.
+/// GET of an attribute, followed by a selector's number and value.
 fn put_get<'h>(
     room: Room<'h>,
     state: &State<&'h LocalHeap>,
@@ -180,7 +180,7 @@ fn put_planned(
     }
 }
 
-/// ACTION of what the words ask for: a method, and behind it a parameter.
+/// ACTION of a method, followed by a parameter.
 fn put_action(room: Room<'_>, words: &mut Words<'_>, answer: &mut String) -> Result<(), RowFault> {
     let asked = asked_of(words)?;
     if words.is_empty() {

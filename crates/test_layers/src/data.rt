@@ -52,7 +52,7 @@ fn put_found<'h>(
     put_value(answer, heap, value)
 }
 
-/// What is read.
+/// The result of reading.
 fn put_read(room: Room<'_>, bytes: &[u8], answer: &mut String) -> Result<(), RowFault> {
     match read(room.heap, bytes) {
         Ok((value, len)) => put_found(room.ample, bytes, &value, len, answer),
@@ -60,7 +60,7 @@ fn put_read(room: Room<'_>, bytes: &[u8], answer: &mut String) -> Result<(), Row
     }
 }
 
-/// Whether reading takes no more than so many bytes of memory, all its growths together; else how many.
+/// Whether reading takes at most this many bytes of memory, all its allocations together; otherwise how many.
 fn put_taken(room: Room<'_>, most: u32, bytes: &[u8], answer: &mut String) -> Result<(), RowFault> {
     let arena = Bump::new(room.ample);
     drop(read(&arena, bytes));
@@ -72,7 +72,7 @@ fn put_taken(room: Room<'_>, most: u32, bytes: &[u8], answer: &mut String) -> Re
     }
 }
 
-/// The length of what stands at the front, or the fault.
+/// The length of the value at the front, or the fault.
 fn put_span(bytes: &[u8], answer: &mut String) -> Result<(), RowFault> {
     match span(bytes) {
         Ok(len) => put_number(answer, len as u64),
@@ -80,7 +80,7 @@ fn put_span(bytes: &[u8], answer: &mut String) -> Result<(), RowFault> {
     }
 }
 
-/// A value behind other bytes, with memory from the heap.
+/// A value after other bytes, with memory from the heap.
 fn put_appended<'h>(
     heap: &'h LocalHeap,
     front: &[u8],
@@ -99,7 +99,7 @@ fn put_appended<'h>(
     }
 }
 
-/// The value that bytes are, written with memory from the heap, behind other bytes.
+/// The value of these bytes, written with memory from the heap, after other bytes.
 fn put_written(
     room: Room<'_>,
     front: &[u8],
@@ -112,7 +112,7 @@ fn put_written(
     }
 }
 
-/// What is read, variant by variant.
+/// The result of reading, variant by variant.
 fn put_debug(room: Room<'_>, bytes: &[u8], answer: &mut String) -> Result<(), RowFault> {
     match read(room.heap, bytes) {
         Ok((value, _)) => put_shown(answer, &value),
@@ -120,7 +120,7 @@ fn put_debug(room: Room<'_>, bytes: &[u8], answer: &mut String) -> Result<(), Ro
     }
 }
 
-/// The octets behind their length, and what follows them.
+/// The octets after their length, and what follows them.
 fn put_counted(bytes: &[u8], answer: &mut String) -> Result<(), RowFault> {
     match counted(bytes) {
         Ok((octets, rest)) => {
@@ -132,7 +132,7 @@ fn put_counted(bytes: &[u8], answer: &mut String) -> Result<(), RowFault> {
     }
 }
 
-/// Bytes, and octets behind their length.
+/// Bytes, and octets after their length.
 fn put_append_counted(
     room: Room<'_>,
     front: &[u8],
@@ -156,7 +156,7 @@ fn extended<'h>(
     Ok(items)
 }
 
-/// Whether a null in so many arrays, each in the next, has a spelling.
+/// Whether a null in this many arrays, each in the next, has a spelling.
 fn put_nested(room: Room<'_>, levels: u32, answer: &mut String) -> Result<(), RowFault> {
     let mut value = Data::Null;
     for _ in 0..levels {
@@ -165,7 +165,7 @@ fn put_nested(room: Room<'_>, levels: u32, answer: &mut String) -> Result<(), Ro
     put_truth(answer, fits(&value))
 }
 
-/// A structure of octets and a number that is put together: how many values it has, and how it is written behind other bytes.
+/// A structure made of octets and a number: the number of its values, and its spelling after other bytes.
 fn put_structure(
     room: Room<'_>,
     octets: &[u8],
@@ -179,7 +179,7 @@ fn put_structure(
     put_value(answer, room.ample, &Data::Structure(items))
 }
 
-/// How many bits there are in so many bits of bytes, and the bytes that hold them.
+/// The number of the first bits of bytes, and the bytes that hold them.
 fn put_first_bits(
     room: Room<'_>,
     bytes: &[u8],

@@ -1,4 +1,4 @@
-//! Events, as the rows write them: a word and what the event holds.
+//! Events, as the rows write them: a word and the event's content.
 
 use crate::answers::put_with_number;
 use crate::fault::RowFault;
@@ -6,7 +6,7 @@ use crate::words::Words;
 use arrayvec::ArrayVec;
 use dlms_state::{Event, Refused, SecretOf};
 
-/// Bytes in place; not understood where there are more than fit.
+/// Bytes in place; not understood if there are more than fit.
 pub fn in_place<const MOST: usize>(bytes: &[u8]) -> Result<ArrayVec<u8, MOST>, RowFault> {
     let mut held = ArrayVec::new();
     match held.try_extend_from_slice(bytes) {
@@ -42,7 +42,7 @@ fn other_event(call: &str, words: &mut Words<'_>) -> Result<Event, RowFault> {
     }
 }
 
-/// The event that a word and those behind it name.
+/// The event that a word and those after it name.
 pub fn event_of(call: &str, words: &mut Words<'_>) -> Result<Event, RowFault> {
     match call {
         "pulses" => {
@@ -58,7 +58,7 @@ pub fn event_of(call: &str, words: &mut Words<'_>) -> Result<Event, RowFault> {
     }
 }
 
-/// Why an event is refused: the number, and the last moment where it goes back.
+/// Why an event is refused: the number, and the last moment if it goes back.
 pub fn put_refused(answer: &mut String, refused: Refused) -> Result<(), RowFault> {
     put_with_number(answer, "refused ", u64::from(refused.number()))?;
     if let Refused::MomentBack(last) = refused {

@@ -10,7 +10,7 @@ pub enum RowFault {
     /// The line names no call, or not what the call takes.
     #[error("a line is not understood")]
     Form,
-    /// What the line works on was not made.
+    /// The subject of the line was not created.
     #[error("there is none")]
     Missing,
     /// This program itself has no memory.

@@ -56,7 +56,7 @@ fn put_rows(answer: &mut String, rows: &[Row]) -> Result<(), RowFault> {
     Ok(())
 }
 
-/// A second behind which is polled, or `-`.
+/// A second after which to poll, or `-`.
 fn after_of(word: &str) -> Result<Option<u32>, RowFault>
     ensures { IfOk result (λ after. IfSome after (λ second. second ≤ LAST_SECOND)) }
 {
@@ -69,7 +69,7 @@ fn after_of(word: &str) -> Result<Option<u32>, RowFault>
     }
 }
 
-/// A text of lines: `/` stands for the end of a line, `_` for a blank and `~` for a carriage return.
+/// A text of lines: `/` means the end of a line, `_` a blank and `~` a carriage return.
 fn text_of(heap: &mut String, word: &str) -> Result<(), RowFault> {
     for sign in word.chars() {
         heap.push(match sign {
@@ -82,7 +82,7 @@ fn text_of(heap: &mut String, word: &str) -> Result<(), RowFault> {
     Ok(())
 }
 
-/// What a poll makes of a frame.
+/// How a poll handles a frame.
 fn put_step(answer: &mut String, step: Result<PollStep, PollFault>) -> Result<(), RowFault> {
     match step {
         Ok(PollStep::Nothing) => Ok(answer.push_str("nothing")?),
@@ -126,7 +126,7 @@ fn poll_step(
     }
 }
 
-/// A row of the words: its clock and its registers.
+/// A row from the words: its clock and its registers.
 fn row_of(words: &mut Words<'_>) -> Result<Row, RowFault>
     ensures { IfOk result IsReading }
 {
@@ -200,7 +200,7 @@ impl<'h> HeadendBench<'h> {
         }
     }
 
-    /// A poll by a client, with its secret, behind a second, that asks for the columns or not.
+    /// A poll by a client, with its secret, after a second, that asks for the columns or not.
     fn poll(&mut self, columns: Columns, words: &mut Words<'_>) -> Result<(), RowFault> {
         let client = client_of(words.word()?)?;
         let secret = in_place(&words.bytes()?)?;

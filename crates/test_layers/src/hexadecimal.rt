@@ -4,10 +4,10 @@
 use crate::fault::RowFault;
 use std::alloc::Global;
 
-/// The most bytes that a part may stand for by its number.
+/// The most bytes that a part may repeat by its number.
 const MOST: usize = 65_536;
 
-/// How many bytes a part stands for.
+/// The number of bytes of a part.
 fn count_of(text: &str) -> Result<usize, RowFault> {
     match text.parse::<usize>() {
         Ok(count) if count <= MOST => Ok(count),
@@ -15,7 +15,7 @@ fn count_of(text: &str) -> Result<usize, RowFault> {
     }
 }
 
-/// A byte that stands so many times.
+/// A byte, repeated.
 fn put_repeated(bytes: &mut Vec<u8>, pair: &[u8], count: usize) -> Result<(), RowFault> {
     let mut byte = [0u8; 1];
     if hex::decode_to_slice(pair, &mut byte).is_err() {
@@ -57,7 +57,7 @@ fn put_part(bytes: &mut Vec<u8>, part: &str) -> Result<(), RowFault> {
     }
 }
 
-/// The bytes that a word stands for.
+/// The bytes of a word.
 pub fn bytes_of(alloc: Global, word: &str) -> Result<Vec<u8>, RowFault> {
     let mut bytes = Vec::new(alloc);
     for part in word.split("+") {
@@ -66,7 +66,7 @@ pub fn bytes_of(alloc: Global, word: &str) -> Result<Vec<u8>, RowFault> {
     Ok(bytes)
 }
 
-/// Writes bytes in pairs of digits; `-` where there is none.
+/// Writes bytes in pairs of digits; `-` if there is none.
 pub fn put_hex(answer: &mut String, bytes: &[u8]) -> Result<(), RowFault> {
     if bytes.is_empty() {
         return Ok(answer.push_str("-")?);

@@ -62,7 +62,7 @@ fn put_page(words: &mut Words<'_>, answer: &mut String) -> Result<(), RowFault> 
     put_hex(answer, page.as_slice())
 }
 
-/// What a page's head says: kind, version, index, generation, and how long the payload is.
+/// The content of a page's head: kind, version, index, generation, and the length of the payload.
 fn put_head(bytes: &[u8], answer: &mut String) -> Result<(), RowFault> {
     let mut page = [0u8; PAGE_BYTES];
     if bytes.len() != PAGE_BYTES {

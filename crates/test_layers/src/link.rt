@@ -25,13 +25,13 @@ pub struct LinkBench {
     client: Option<ClientLink>,
 }
 
-/// A word, and a frame behind it.
+/// A word, followed by a frame.
 fn put_reply(answer: &mut String, word: &str, frame: &SentFrame) -> Result<(), RowFault> {
     answer.push_str(word)?;
     put_frame(answer, frame)
 }
 
-/// The meter's reply to a frame, with this answer where an APDU waits for one.
+/// The meter's reply to a frame, with this answer if an APDU waits for one.
 fn put_served(
     server: &mut IdleServer,
     frame: &Frame<'_>,
@@ -52,7 +52,7 @@ fn put_served(
     put_reply(answer, word, &frame)
 }
 
-/// What the client makes of a frame.
+/// How the client handles a frame.
 fn put_out(answer: &mut String, out: &ClientOut) -> Result<(), RowFault> {
     match out {
         ClientOut::Nothing => Ok(answer.push_str("nothing")?),
@@ -63,7 +63,7 @@ fn put_out(answer: &mut String, out: &ClientOut) -> Result<(), RowFault> {
     }
 }
 
-/// The call of a client that stands where it may be made; `none` elsewhere.
+/// The call of a client that is in the place where it may be made; `none` elsewhere.
 fn put_call(
     client: &mut ClientLink,
     call: &str,

@@ -1,13 +1,12 @@
 //! Plays the rows that lie here, and says which come out otherwise than they are written.
 //!
-//! `data/` has a file for each crate, and its head says which calls its lines name. A line is a call and what it takes, `->`,
-//! and the answer that it is to give; a line without `->` is to answer nothing. What one line makes stays for the next, up to
-//! an empty line, where everything is let go. `#` begins a comment.
+//! `data/` has a file for each crate, and its head says which calls its lines name. A line is a call with its arguments, `->`, and
+//! the expected answer; a line without `->` has no answer. The result of one line stays for the next, up to an empty line, where
+//! everything is dropped. `#` begins a comment.
 //!
-//! A line `heaps FIRST STEP COUNT` has the lines up to the next empty one played on a heap of each of these sizes, `FIRST`
-//! bytes and `STEP` more each time. Answers behind `|` may then stand in place of the first, for want of memory; with a
-//! further number `LEAST` they do at more than so many sizes, and not at the last one. However a scenario ends, its heap is
-//! empty then.
+//! A line `heaps FIRST STEP COUNT` plays the lines up to the next empty one on a heap of each of these sizes, `FIRST` bytes and
+//! `STEP` more each time. Answers after `|` may then replace the first, when memory runs out; with a further number `LEAST` they do
+//! at more than this many sizes, and not at the last one. However a scenario ends, its heap is empty then.
 #![tactic(auto)]
 
 mod acse;

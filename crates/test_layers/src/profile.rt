@@ -16,7 +16,7 @@ pub struct ProfileBench<'h> {
     rows: Option<Rows<&'h LocalHeap>>,
 }
 
-/// Appends a row, where a number is left for it.
+/// Appends a row, if a number is left for it.
 fn push(rows: &mut Rows<&LocalHeap>, row: Row) -> Result<(), RowFault> {
     if rows.next_number() >= NUMBERS_END {
         return Err(RowFault::Form);

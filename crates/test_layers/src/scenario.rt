@@ -58,8 +58,7 @@ impl<'t> Reader<'t> {
         }
     }
 
-    /// Puts the lines of the next scenario in the place of `lines`, and says on which heaps it is played; none behind the
-    /// last.
+    /// Replaces `lines` by the lines of the next scenario, and returns the heaps on which it is played; none after the last.
     pub fn next_scenario(&mut self, lines: &mut Vec<Line<'t>>) -> Result<Option<Heaps>, RowFault> {
         lines.clear();
         let mut heaps = Heaps::Ample;

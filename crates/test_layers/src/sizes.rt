@@ -3,8 +3,8 @@
 use crate::fault::RowFault;
 use crate::words::Words;
 
-/// The sizes from `first` on, `count` of them, each `step` bytes above the one before. Where `least` is there, memory is
-/// refused at more than so many of them, and not at the last.
+/// The sizes from `first` on, `count` of them, each `step` bytes above the one before. If `least` is there, memory is refused at
+/// more than this many of them, and not at the last.
 #[derive(Clone, Copy)]
 pub struct Sizes {
     pub first: u32,
@@ -13,7 +13,7 @@ pub struct Sizes {
     pub least: Option<u32>,
 }
 
-/// What a scenario says of its heap; one ample heap where it says nothing.
+/// The heaps of a scenario; one ample heap by default.
 #[derive(Clone, Copy)]
 pub enum Heaps {
     Ample,
@@ -21,7 +21,7 @@ pub enum Heaps {
 }
 
 impl Sizes {
-    /// First, step, count, and least where it is there.
+    /// First, step, count, and least if it is there.
     pub fn read(words: &mut Words<'_>) -> Result<Sizes, RowFault> {
         Ok(Sizes {
             first: words.number()?,

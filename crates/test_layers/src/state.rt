@@ -15,7 +15,7 @@ use dlms_profile::{CAPACITY, MOST_VALUES, Row};
 use dlms_state::{Event, LAST_SECOND, Outlook, Parts, PartsFault, SecretOf, State};
 use linked_list_allocator::LocalHeap;
 
-/// A state that takes its memory from a heap, and what an outlook on it comes to.
+/// A state that takes its memory from a heap, and the result of an outlook on it.
 #[derive(Drop)]
 pub struct StateBench<'h> {
     heap: &'h LocalHeap,
@@ -43,7 +43,7 @@ pub fn row_of(words: &mut Words<'_>) -> Result<Row, RowFault> {
     Ok(Row { values })
 }
 
-/// The bytes of the next word; these where no word is left.
+/// The bytes of the next word; these if no word is left.
 fn bytes_or<const MOST: usize>(
     words: &mut Words<'_>,
     first: &[u8],
@@ -54,8 +54,8 @@ fn bytes_or<const MOST: usize>(
     in_place(&words.bytes()?)
 }
 
-/// Registers, last moment, offset, period, text, secret, and behind them the reader's secret and the columns; a new state's
-/// where they are not there.
+/// Registers, last moment, offset, period, text, secret, followed by the reader's secret and the columns; a new state's if they are
+/// missing.
 fn parts_of(words: &mut Words<'_>) -> Result<Parts, RowFault> {
     Ok(Parts {
         registers: [words.number()?, words.number()?, words.number()?],
@@ -69,7 +69,7 @@ fn parts_of(words: &mut Words<'_>) -> Result<Parts, RowFault> {
     })
 }
 
-/// Has a state take an event, where a number is left for a row.
+/// Makes a state apply an event, if a number is left for a row.
 fn take(state: &mut State<&LocalHeap>, event: Event, answer: &mut String) -> Result<(), RowFault> {
     match state.check(&event) {
         Ok(()) if state.next_number() < NUMBERS_END => {
@@ -97,7 +97,7 @@ fn is_row_of(columns: &[u8], row: &Row) -> bool
     true
 }
 
-/// Restores a row, where it is one of the state's columns, there is room and a number is left for it.
+/// Restores a row, if it is one of the state's columns, there is space and a number is left for it.
 fn restore_row(state: &mut State<&LocalHeap>, row: Row) -> Result<(), RowFault> {
     if state.rows().len() >= CAPACITY || state.next_number() >= NUMBERS_END {
         return Err(RowFault::Form);
@@ -154,7 +154,7 @@ fn put_view_number(
     }
 }
 
-/// What a call of `VIEWS` shows.
+/// The result of a call of `VIEWS`.
 fn put_view(
     state: &State<&LocalHeap>,
     call: &str,
@@ -308,7 +308,7 @@ impl<'h> StateBench<'h> {
         }
     }
 
-    /// The calls of a state; what is none of them is an event.
+    /// The calls of a state; any other word is an event.
     pub fn call(
         &mut self,
         call: &str,

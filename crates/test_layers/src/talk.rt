@@ -70,7 +70,7 @@ impl Course {
     }
 }
 
-/// What the meter sends back: to an APDU the next answer.
+/// The meter's reply: to an APDU the next answer.
 fn meter_row(meter: &mut ServerLink, frame: &Frame<'_>, course: &mut Course) -> Option<SentFrame>
     requires { meter.old.waits ≡ None }
     ensures { meter.new.waits ≡ None }
@@ -91,7 +91,7 @@ fn meter_row(meter: &mut ServerLink, frame: &Frame<'_>, course: &mut Course) -> 
     }
 }
 
-/// The client's next frame: behind an answer the next request, and behind the last one a disconnect.
+/// The client's next frame: after an answer the next request, and after the last one a disconnect.
 fn client_row(
     client: &mut ClientLink,
     frame: &Frame<'_>,
@@ -148,7 +148,7 @@ impl Talk {
         number != self.lost
     }
 
-    /// The meter's reply, where the frame arrives.
+    /// The meter's reply, if the frame arrives.
     fn there(&mut self, frame: &SentFrame) -> Option<SentFrame> {
         if !self.arrives() {
             return None;
@@ -157,7 +157,7 @@ impl Talk {
         meter_row(&mut self.meter, &came.lent(), &mut self.course)
     }
 
-    /// The client's next frame, where the reply arrives; else it repeats its last one after a while.
+    /// The client's next frame, if the reply arrives; otherwise it repeats its last one after a while.
     fn back(&mut self, reply: Option<SentFrame>) -> Option<SentFrame> {
         if let Some(frame) = reply {
             if self.arrives() {

@@ -26,18 +26,18 @@ impl Counts {
     }
 }
 
-/// What an answer is, beside what is written.
+/// The actual answer, compared with the written ones.
 #[derive(Clone, Copy)]
 enum Match {
-    /// What is written.
+    /// The written answer.
     Same,
-    /// What is written behind a `|`: memory was refused.
+    /// The answer after a `|`: memory was refused.
     Other,
     /// Neither.
     Differs,
 }
 
-/// The text that a written answer stands for: a word with `*` or `~` is written out as bytes.
+/// The text of a written answer: a word with `*` or `~` is written out as bytes.
 fn written_out(answer: &str, text: &mut String) -> Result<(), RowFault> {
     let mut is_first = true;
     for word in answer.split_whitespace() {
@@ -55,14 +55,14 @@ fn written_out(answer: &str, text: &mut String) -> Result<(), RowFault> {
     Ok(())
 }
 
-/// Whether a written answer stands for this one.
+/// Whether a written answer means this one.
 fn is_written(alloc: Global, written: &str, answer: &str) -> Result<bool, RowFault> {
     let mut text = String::new(alloc);
     written_out(written, &mut text)?;
     Ok(text.as_str() == answer)
 }
 
-/// What an answer is, beside what its line says.
+/// The actual answer, compared with its line.
 fn match_of(alloc: Global, line: &Line<'_>, answer: &str) -> Result<Match, RowFault> {
     let Some(wanted) = line.wanted else {
         return Ok(if answer.is_empty() {

@@ -9,7 +9,7 @@ use std::str::SplitWhitespace;
 /// One above the greatest number that a row can have.
 pub const NUMBERS_END: u128 = 18_446_744_073_709_551_616;
 
-/// What a line says of its call, word by word.
+/// The arguments of a line's call, word by word.
 #[derive(Drop)]
 pub struct Words<'t> {
     alloc: Global,
@@ -31,7 +31,7 @@ impl<'t> Words<'t> {
         self.ahead().is_none()
     }
 
-    /// The next word, which stays; none behind the last.
+    /// The next word, which stays; none after the last.
     fn ahead(&mut self) -> Option<&'t str> {
         if self.ahead.is_none() {
             self.ahead = self.words.next();
@@ -74,7 +74,7 @@ impl<'t> Words<'t> {
         self.word()?.parse::<i64>().map_err(|_| RowFault::Form)
     }
 
-    /// The next word, which stands for bytes.
+    /// The next word, as bytes.
     pub fn bytes(&mut self) -> Result<Vec<u8>, RowFault> {
         let word = self.word()?;
         bytes_of(self.alloc, word)

@@ -13,7 +13,7 @@ const ROWS: u32 = 40;
 /// More than the frames of its poll.
 const FRAMES: u32 = 40;
 
-/// Polls on which each frame of the run in turn is lost, with so many behind it.
+/// Polls in which each frame of the run in turn is lost, with this many after it.
 fn losses(alloc: Global, count: u32, expected: Ended) -> Result<Tally> {
     let mut tally = Tally { right: 0, wrong: 0 };
     for first in 0..FRAMES {

@@ -1,6 +1,8 @@
-//! Polls a meter: over lines that lose, cut and repeat frames; over a socket of this machine; and around stops of its power.
+//! Polls a meter: over lines that lose, cut and repeat frames; over a socket of this machine; and around stops of its power. Asks it to
+//! capture over a line that loses the answer.
 #![tactic(auto)]
 
+mod capture;
 mod lines;
 mod poll;
 mod site;
@@ -27,7 +29,8 @@ fn main(rt: HostRuntime) -> Result<ExitCode> {
         &mut told,
     );
     let stopped = stops::run(&rt)?;
-    if differing == 0 && looped.is_ok() && stopped == 0 {
+    let is_captured_once = capture::run(&rt, rt.alloc())?;
+    if differing == 0 && looped.is_ok() && stopped == 0 && is_captured_once {
         Ok(ExitCode::SUCCESS)
     } else {
         Ok(ExitCode::from(1))

@@ -15,7 +15,7 @@ pub type MemoryMeter = Meter<MemoryPages<Global>, Global>;
 /// The most frames of a poll.
 const FRAMES: u16 = 400;
 
-/// A poll that is done, from a second of the clock on; none where it fails.
+/// A finished poll, from a second of the clock on; none if it fails.
 pub fn polled(meter: &mut MemoryMeter, after: Option<u32>, alloc: Global) -> Option<Poller>
     requires { IfSome after (λ second. second ≤ LAST_SECOND) }
 {

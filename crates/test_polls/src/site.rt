@@ -2,7 +2,7 @@
 use crate::poll::MemoryMeter;
 use crate::wire::{Fate, Pieces, Wire};
 use anyhow::{Result, anyhow};
-use dlms_ends::{LoopFault, poll};
+use dlms_ends::{RunFault, poll};
 use dlms_headend::{Columns, PollFault, Poller, Row};
 use dlms_meter::Meter;
 use dlms_pages::MemoryPages;
@@ -27,7 +27,7 @@ pub enum Ended {
     Other,
 }
 
-/// A meter with a capture after each of so many periods, each with one pulse more in it than the one before.
+/// A meter with a capture after each of this many periods, each with one pulse more in it than the one before.
 fn meter_with(alloc: Global, rows: u32) -> Result<MemoryMeter> {
     let Ok(mut meter) = Meter::format(alloc, MemoryPages::new(alloc, PAGES)?) else {
         return Err(anyhow!("no meter"));
@@ -39,13 +39,13 @@ fn meter_with(alloc: Global, rows: u32) -> Result<MemoryMeter> {
     Ok(meter)
 }
 
-/// Whether this is the capture behind a period.
+/// Whether this is the capture after a period.
 fn is_capture(period: u32, clock: u32, registers: [u32; 3]) -> bool {
     let sum = period.saturating_mul(period.saturating_add(1)) / 2;
     clock == period.saturating_mul(PERIOD) && registers == [sum, 0, 0]
 }
 
-/// Whether these are the captures that a meter keeps of so many periods.
+/// Whether these are the captures that a meter keeps of this many periods.
 fn are_captures(rows: u32, polled: &[Row]) -> bool {
     let mut period = rows.saturating_sub(KEPT);
     for row in polled {
@@ -82,14 +82,14 @@ fn has_met(fate: Fate, sent: u32) -> bool {
     }
 }
 
-/// A poll of a meter with so many captures over such a line; none where the poll has fewer frames than the line was to lose.
+/// A poll of a meter with this many captures over such a line; none if the poll has fewer frames than the line was to lose.
 pub fn ended_by(alloc: Global, rows: u32, fate: Fate, pieces: Pieces) -> Result<Option<Ended>> {
     let mut meter = meter_with(alloc, rows)?;
     let wire = Wire::new(alloc, fate, pieces);
     let poller = Poller::new(alloc, managements_plan(None, Columns::Asked));
     let ended = match poll(&mut wire.head(), &mut wire.tail(), &mut meter, poller) {
         Ok(done) if are_captures(rows, done.rows()) => Ended::Done,
-        Err(LoopFault::Poll(PollFault::Line)) => Ended::Line,
+        Err(RunFault::Poll(PollFault::Line)) => Ended::Line,
         _ => Ended::Other,
     };
     let ended = if has_captures(&meter, rows) {

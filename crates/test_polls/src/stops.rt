@@ -1,4 +1,4 @@
-//! Stops a meter at each call of its device, behind a first poll and in a second one of the same readings file, recovers it and
+//! Stops a meter at each call of its device, after a first poll and in a second one of the same readings file, recovers it and
 //! polls again: the file then has each row that the meter holds, once, and no other.
 
 use crate::poll::{MemoryMeter, polled};
@@ -13,7 +13,7 @@ use std::alloc::Global;
 /// are in a run.
 const CALLS: u64 = 190;
 
-/// What comes of a run.
+/// The outcome of a run.
 #[derive(Clone, Copy)]
 enum Outcome {
     /// The power stopped before the first poll was done.
@@ -64,7 +64,7 @@ fn agrees(meter: &MemoryMeter, file: &Readings, alloc: Global) -> Result<bool> {
     Ok(text.as_str() == expected.as_str())
 }
 
-/// A new meter whose device fails after so many calls; none where it fails within `format`.
+/// A new meter whose device fails after this many calls; none if it fails within `format`.
 fn new_meter(alloc: Global, calls: u64) -> Result<Option<MemoryMeter>> {
     let mut pages = MemoryPages::new(alloc, PAGES)?;
     pages.fuse(calls);
@@ -83,7 +83,7 @@ fn first_life(meter: &mut MemoryMeter, file: &mut Readings, alloc: Global) -> Re
     Ok(true)
 }
 
-/// One more poll behind the stop.
+/// One more poll after the stop.
 fn second_life(meter: &mut MemoryMeter, file: &mut Readings, alloc: Global) -> Result<Outcome> {
     if reads(meter, file, alloc)? && agrees(meter, file, alloc)? {
         Ok(Outcome::Agrees)
@@ -92,7 +92,7 @@ fn second_life(meter: &mut MemoryMeter, file: &mut Readings, alloc: Global) -> R
     }
 }
 
-/// What comes of a stop of this meter, and of its recovery.
+/// The outcome of a stop of this meter, and of its recovery.
 fn outcome_of_stop(
     meter: MemoryMeter,
     file: &mut Readings,
@@ -105,8 +105,7 @@ fn outcome_of_stop(
     }
 }
 
-/// A meter whose device fails after so many calls, polled into this file while it lives and once when it comes back from a
-/// stop.
+/// A meter whose device fails after this many calls, polled into this file while it lives and once when it comes back from a stop.
 fn outcome_in(file: &mut Readings, alloc: Global, calls: u64, pick: Pick<'_>) -> Result<Outcome> {
     let Some(mut meter) = new_meter(alloc, calls)? else {
         return Ok(Outcome::Early);
@@ -126,7 +125,7 @@ fn outcome_of(alloc: Global, calls: u64, pick: Pick<'_>) -> Result<Outcome> {
     }
 }
 
-/// Each stop with each of three outcomes of what was not synced: how many differ.
+/// Each stop with each of three outcomes of the unsynced content: how many differ.
 pub fn run<R: Print + AllocGlobal>(rt: &R) -> Result<u32> {
     let mut agreeing = 0u32;
     let mut differing = 0u32;

@@ -13,7 +13,7 @@ pub enum Fate {
     Whole,
     /// So many are lost, from this one on.
     Lost(u32, u32),
-    /// Of this one the last byte is missing.
+    /// The last byte of this one is missing.
     Cut(u32),
     /// This one arrives twice.
     Twice(u32),
@@ -28,7 +28,7 @@ pub enum Pieces {
     Single,
 }
 
-/// What is on its way, and how many frames were sent.
+/// The frames on their way, and the number of frames sent.
 #[derive(Drop)]
 struct Traffic {
     to_head: Vec<u8>,
@@ -101,7 +101,7 @@ fn arriving(fate: Fate, number: u32, frame: &[u8]) -> (&[u8], u8) {
     }
 }
 
-/// Puts bytes on their way so many times.
+/// Sends bytes this many times.
 fn put(way: &mut Vec<u8>, bytes: &[u8], times: u8) -> io::Result<()> {
     for _ in 0..times {
         way.extend_from_slice(bytes)?;

@@ -1,11 +1,11 @@
--- What an entry of a script stands for.
+-- The meaning of an entry of a script.
 use Rattle.std.specs.Prelude.{ℕ, Bool, true, false, nat_eq, if◌then◌else◌, List, Option, Some, None, Result, Ok, Err}
 use Rattle.std.specs.declared.io.Error.{Error}
 use Rattle.std.specs.declared.net.socket_addr.SocketAddr.{SocketAddr}
 use Rattle.dlms_filing.specs.Disk.{FileCall}
 use Rattle.dlms_filing.specs.Disk.FileCall.{Finds, Locks, Reads, Creates, Writes, Syncs, Renames, SyncsFolder, Removes}
-use Rattle.dlms_filing.specs.Filing.{Asked}
-use Rattle.dlms_filing.specs.Filing.Asked.{Holds, Opens, Lays, Puts, Drops}
+use Rattle.dlms_filing.specs.Filing.{PlaceCall}
+use Rattle.dlms_filing.specs.Filing.PlaceCall.{Holds, Opens, Lays, Puts, Drops}
 use Rattle.dlms_ends.specs.Moments.{Moment}
 use Rattle.dlms_ends.specs.Moments.Moment.{Came, Quiet, Unheard, Went, Broke, Connects, Joins}
 use Rattle.dlms_field.specs.Watching.{Sight}
@@ -16,7 +16,7 @@ abbrev pub unless : {X : Type 0} → X → Option Error → Result X Error
 unless x None = Ok x
 unless x (Some e) = Err e
 
--- bytes came or went out; where it went badly, nothing came, or the line broke behind these; a read failed
+-- bytes arrived or were sent; or, if it failed, nothing arrived, or the line broke after these; a read failed
 abbrev pub moment_at : (is_coming is_well : Bool) → Option Error → List ℕ → Moment
 moment_at true true failed bytes = Came bytes
 moment_at true false None bytes = Quiet
@@ -30,14 +30,14 @@ moment_of true is_coming is_well failed bytes = Joins failed
 moment_of false is_coming is_well failed bytes = moment_at is_coming is_well failed bytes
 
 -- a file was to be held; the text was asked for; one was to be laid; it was to be put; or it was taken away
-abbrev pub asked_for : (is_held is_text is_laid is_put : Bool) → Option Error → List ℕ → Asked
+abbrev pub asked_for : (is_held is_text is_laid is_put : Bool) → Option Error → List ℕ → PlaceCall
 asked_for true is_text is_laid is_put failed text = Holds text failed
 asked_for false true is_laid is_put failed text = Opens (unless text failed)
 asked_for false false true is_put failed text = Lays text failed
 asked_for false false false true failed text = Puts failed
 asked_for false false false false failed text = Drops
 
--- the calls of files by their numbers: what each was given, and what came of it
+-- the calls of files by their numbers: the arguments of each, and its outcome
 abbrev pub file_call : ℕ → (first second : List ℕ) → (is_there : Bool) → Option Error → FileCall
 file_call number first second is_there failed =
     if nat_eq number 0
@@ -74,7 +74,8 @@ where_so true x = Some x
 where_so false x = None
 
 -- what was asked of clocks, a port and files of secrets, by its number
-abbrev pub sight_of : ℕ → (second : ℕ) → (is_so : Bool) → Option Error → SocketAddr → (file bytes : List ℕ) → Sight
+abbrev pub sight_of : ℕ → (second : ℕ) → (is_so : Bool) → Option Error → SocketAddr
+    → (file bytes : List ℕ) → Sight
 sight_of number second is_so failed address file bytes =
     if nat_eq number 0
     then Second (where_so is_so second)

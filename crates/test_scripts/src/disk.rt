@@ -81,7 +81,7 @@ impl<'a, R: Abort> Cabinet<'a, R> {
     }
 }
 
-/// The path at the end of the links, the text that stands there, and the path of the file beside it.
+/// The path at the end of the links, the text there, and the path of the file beside it.
 const PATH: &str = "/rows.csv";
 
 const TEXT: &str = "900,42,0,0\n";
@@ -258,7 +258,7 @@ fn file<D: Disk>(place: &mut FilePlace<D>, alloc: Global) -> io::Result<()> {
 }
 
 /// A file is found, locked and read; the new one is created, written and synced before it takes its place, and then the folder is
-/// synced. Where a call fails none comes behind it, but that a new file that does not take its place is taken away.
+/// synced. If a call fails none comes after it, except that a new file that does not take its place is removed.
 #[test]
 fn files_are_called_in_order(rt: HostRuntime) {
     let expected: [(u8, &[u8]); 9] = [

@@ -1,11 +1,11 @@
-//! What code asks of the world, for tests, with a past that is known: what comes is written down beforehand, and what was asked is
-//! kept. The tests drive `dlms_ends`, `dlms_filing` and `dlms_field` with it.
+//! Test doubles with a known past: their results are written down beforehand, and the calls are kept. The tests drive `dlms_ends`,
+//! `dlms_filing` and `dlms_field` with them.
 #![tactic(auto)]
 
 #[cfg(test)]
-mod desk;
-#[cfg(test)]
 mod disk;
+#[cfg(test)]
+mod inputs;
 #[cfg(test)]
 mod line;
 #[cfg(test)]

@@ -4,9 +4,10 @@ ghost use Rattle.test_scripts.specs.Scripts.{moment_of};
 
 use arrayvec::ArrayVec;
 use dlms_ends::meter_end::turn;
-use dlms_ends::{End, HeadEnd, Heard, LoopFault, PIECE, Turn};
-use dlms_frame::Client;
-use dlms_headend::{Columns, Plan, Poller};
+use dlms_ends::{End, HeadEnd, Heard, PIECE, PollTurn, RunFault, poll, poller};
+use dlms_frame::{Client, Deframer};
+use dlms_headend::{Columns, Plan, PollStep, Poller};
+use dlms_loopback::Joining;
 use dlms_meter::Meter;
 use dlms_pages::MemoryPages;
 use dlms_store::PAGES;
@@ -24,7 +25,7 @@ pub const UA: [u8; 32] = [
     0x80, 0x07, 0x04, 0x00, 0x00, 0x00, 0x01, 0x08, 0x04, 0x00, 0x00, 0x00, 0x01, 0x53, 0x3b, 0x7e,
 ];
 
-/// What comes at an end.
+/// The bytes or silence that arrive at an end.
 #[derive(Clone, Copy, Debug, PartialEq, Eq)]
 pub enum Play<'a> {
     /// These bytes.
@@ -33,8 +34,8 @@ pub enum Play<'a> {
     Nothing,
 }
 
-/// What happened at an end: it was joined to another one; or bytes came or went out; and where it went badly, nothing came, a read
-/// failed, or the line broke behind these.
+/// A moment at an end: it was joined to another one; or bytes arrived or were sent; or, if it failed, nothing arrived, a read
+/// failed, or the line broke after these.
 #[derive(Drop)]
 struct Happened {
     is_joining: bool,
@@ -156,6 +157,29 @@ impl<R: Abort> End for Script<'_, R> {
     }
 }
 
+impl<R: Abort> Joining for Script<'_, R> {
+    #[tactic(auto, using(crate::proofs::Lists::map_append))]
+    fn join(head: &mut Self, tail: &mut Self) -> io::Result<()> {
+        let bytes = head.copied(&[]);
+        head.add(Happened {
+            is_joining: true,
+            is_coming: false,
+            is_well: true,
+            failed: None,
+            bytes,
+        });
+        let bytes = tail.copied(&[]);
+        tail.add(Happened {
+            is_joining: true,
+            is_coming: false,
+            is_well: true,
+            failed: None,
+            bytes,
+        });
+        Ok(())
+    }
+}
+
 /// A SNRM that comes in two pieces is answered once it is whole, and silence ends a turn without an answer.
 #[test]
 fn a_meter_answers_a_frame_in_pieces(rt: HostRuntime) {
@@ -179,7 +203,7 @@ fn a_meter_answers_a_frame_in_pieces(rt: HostRuntime) {
     assert!(rt; end.has(0, true, false, &[]));
 }
 
-/// A head end sends SNRM, asks for an association once UA has come, and asks again where nothing comes; where the line breaks the
+/// A head end sends SNRM, requests an association once UA has come, and requests it again if nothing comes; if the line breaks the
 /// turn ends with that fault.
 #[test]
 fn a_head_end_repeats_what_is_out(rt: HostRuntime) {
@@ -195,14 +219,120 @@ fn a_head_end_repeats_what_is_out(rt: HostRuntime) {
         panic!(rt; "no poll");
     };
     assert!(rt; end.has(0, false, true, &SNRM));
-    assert_eq!(rt; head.turn(&mut end), Ok(Turn::Sent));
+    assert_eq!(rt; head.turn(&mut end), Ok(PollTurn::Sent));
     assert!(rt; end.has(1, true, true, &UA));
     let asked = match end.happened.get(2) {
         Some(asked) => end.copied(asked.bytes.as_slice()),
         None => Vec::new(rt.alloc()),
     };
-    assert_eq!(rt; head.turn(&mut end), Ok(Turn::Sent));
+    assert_eq!(rt; head.turn(&mut end), Ok(PollTurn::Sent));
     assert!(rt; end.has(0, false, true, asked.as_slice()));
     assert!(rt; end.has(1, true, false, &[]));
-    assert_eq!(rt; head.turn(&mut end), Err(LoopFault::Io));
+    assert_eq!(rt; head.turn(&mut end), Err(RunFault::Io));
+}
+
+/// A meter over pages in memory, with 42 pulses and two captures.
+fn captured<R: Abort>(rt: &R, alloc: Global) -> Meter<MemoryPages<Global>, Global> {
+    let pages = MemoryPages::new(alloc, PAGES).expect(rt, "memory");
+    let Ok(mut meter) = Meter::format(alloc, pages) else {
+        panic!(rt; "no meter");
+    };
+    assert!(rt; meter.pulses(0, 42).is_ok());
+    assert!(rt; meter.moment(900).is_ok());
+    assert!(rt; meter.moment(1_800).is_ok());
+    meter
+}
+
+/// Management's poll of all rows, with its first secret.
+fn managements(alloc: Global) -> Poller {
+    let mut secret = ArrayVec::new();
+    let _fits = secret.try_extend_from_slice(b"12345678");
+    poller(alloc, Client::Management, secret, None)
+}
+
+/// The frames of a poll that reach the meter, and its replies.
+#[derive(Drop)]
+struct Talk {
+    up: Vec<Vec<u8>>,
+    down: Vec<Vec<u8>>,
+}
+
+/// Appends a copy of these bytes to the others.
+fn keep<R: Abort>(rt: &R, alloc: Global, frames: &mut Vec<Vec<u8>>, bytes: &[u8]) {
+    let mut copy = Vec::new(alloc);
+    copy.extend_from_slice(bytes).expect(rt, "memory");
+    frames.push(copy).expect(rt, "memory");
+}
+
+/// The talk of a poll that is done.
+fn recorded<R: Abort>(rt: &R, alloc: Global) -> Talk {
+    let mut meter = captured(rt, alloc);
+    let mut poller = managements(alloc);
+    let mut talk = Talk {
+        up: Vec::new(alloc),
+        down: Vec::new(alloc),
+    };
+    let Some(mut frame) = poller.next() else {
+        panic!(rt; "no frame");
+    };
+    for _ in 0..64u8 {
+        let bytes = frame.put();
+        keep(rt, alloc, &mut talk.up, bytes.as_slice());
+        let (_, Some(reply)) = meter.feed(bytes.as_slice()) else {
+            panic!(rt; "no reply");
+        };
+        keep(rt, alloc, &mut talk.down, reply.as_slice());
+        let mut deframer = Deframer::new();
+        let _taken = deframer.feed(reply.as_slice());
+        let Some(answer) = deframer.frame() else {
+            panic!(rt; "no frame");
+        };
+        match poller.on(&answer) {
+            Ok(PollStep::Send(next)) => frame = next,
+            Ok(PollStep::Done) => return talk,
+            _ => panic!(rt; "no poll"),
+        }
+    }
+    panic!(rt; "no end")
+}
+
+/// The frames that arrive at an end, one after another.
+fn plays<'a, R: Abort>(rt: &R, alloc: Global, frames: &'a [Vec<u8>]) -> Vec<Play<'a>> {
+    let mut plays = Vec::new(alloc);
+    for frame in frames {
+        plays
+            .push(Play::Bytes(frame.as_slice()))
+            .expect(rt, "memory");
+    }
+    plays
+}
+
+/// A poll over two ends that are joined: what came at each of them was put at the other, in the same order, and the poll has the
+/// meter's rows.
+#[test]
+fn what_comes_was_put_at_the_other_end(rt: HostRuntime) {
+    let talk = recorded(&rt, rt.alloc());
+    let up = plays(&rt, rt.alloc(), talk.up.as_slice());
+    let down = plays(&rt, rt.alloc(), talk.down.as_slice());
+    let mut head = Script::new(&rt, rt.alloc(), down.as_slice());
+    let mut tail = Script::new(&rt, rt.alloc(), up.as_slice());
+    let mut meter = captured(&rt, rt.alloc());
+    assert!(rt; Joining::join(&mut head, &mut tail).is_ok());
+    let Ok(done) = poll(&mut head, &mut tail, &mut meter, managements(rt.alloc())) else {
+        panic!(rt; "no poll");
+    };
+    let clocks: [u32; 2] = [900, 1_800];
+    assert!(rt;
+        done.rows()
+            .iter()
+            .map(|row| row.clock)
+            .eq(clocks.iter().copied())
+    );
+    assert_eq!(rt; head.happened.len(), 1 + 2 * talk.up.len());
+    assert_eq!(rt; tail.happened.len(), head.happened.len());
+    for (one, other) in head.happened.iter().zip(tail.happened.iter()) {
+        assert!(rt; one.bytes.as_slice() == other.bytes.as_slice());
+        assert!(rt; one.is_joining == other.is_joining);
+        assert!(rt; one.is_joining || one.is_coming != other.is_coming);
+    }
 }

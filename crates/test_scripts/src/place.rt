@@ -1,5 +1,4 @@
-//! A place of readings and an output for tests, whose past is known: of their calls one is to fail, and what was asked of them is
-//! kept.
+//! A place of readings and an output for tests, whose past is known: one of their calls is set to fail, and the calls are kept.
 ghost use Rattle.std.specs.Prelude.{◌≡◌, [], ◌∷◌, ◌++◌, Some, None, map, if◌then◌else◌};
 ghost use Rattle.dlms_ends.specs.Moments.Moment.{Went, Broke};
 ghost use Rattle.test_scripts.specs.Scripts.{asked_for};
@@ -71,13 +70,13 @@ impl<'a, R: Abort> Shelf<'a, R> {
         copy
     }
 
-    /// Whether this text stands there.
+    /// Whether this text is there.
     pub fn stands(&self, text: &str) -> bool {
         self.standing.as_str() == text
     }
 
-    /// Whether these were the calls behind the first one: a text was laid, and put or taken away, or it was not, and how the last
-    /// of them went.
+    /// Whether these were the calls after the first one: a text was laid, and put or taken away, or it was not, and the outcome of
+    /// the last of them.
     fn has(&self, count: usize, text: &str, is_put: bool, is_well: bool) -> bool {
         let is_laid = match self.calls.get(0) {
             Some(call) => call.is_laid && call.text.as_slice() == text.as_bytes(),
@@ -189,7 +188,7 @@ impl<R: Abort> Filing for Shelf<'_, R> {
     }
 }
 
-/// What went out to an output: these bytes, or that it failed behind these.
+/// The bytes sent to an output, or that it failed after these.
 #[derive(Drop)]
 struct Print {
     is_well: bool,
@@ -202,6 +201,8 @@ pub struct Sheet<'a, R: Abort> {
     rt: &'a R,
     alloc: Global,
     is_well: bool,
+    /// Whether all that was printed was flushed.
+    is_flushed: bool,
     prints: Vec<Print>,
 }
 
@@ -212,24 +213,30 @@ impl<'a, R: Abort> Sheet<'a, R> {
             rt,
             alloc,
             is_well,
+            is_flushed: true,
             prints: Vec::new(alloc),
         }
     }
 
-    /// Whether these bytes alone were printed.
+    /// Whether these bytes alone were printed, and flushed.
     pub fn has(&self, bytes: &[u8]) -> bool {
         match self.prints.as_slice() {
-            [print] => print.is_well && print.bytes.as_slice() == bytes,
+            [print] => self.is_flushed && print.is_well && print.bytes.as_slice() == bytes,
             _ => false,
         }
     }
 }
 
 impl<R: Abort> Output for Sheet<'_, R> {
-    ghost printed = { λ s. record { moments = Some (map (λ p. if p.is_well then (Went p.bytes.items) else (Broke p.bytes.items)) s.prints.items); bytes = None } };
+    ghost printed = { λ s. record {
+      moments = Some (map (λ p. if p.is_well then (Went p.bytes.items) else (Broke p.bytes.items)) s.prints.items);
+      flushed = if s.is_flushed then Some (map (λ p. if p.is_well then (Went p.bytes.items) else (Broke p.bytes.items)) s.prints.items) else None;
+      bytes = None;
+    } };
 
     #[tactic(auto, using(crate::proofs::Lists::map_append))]
-    fn print(&mut self, bytes: &[u8]) -> io::Result<()> {
+    fn write_out(&mut self, bytes: &[u8]) -> io::Result<()> {
+        self.is_flushed = false;
         let is_well = self.is_well;
         let mut copy = Vec::new(self.alloc);
         if is_well {
@@ -247,14 +254,19 @@ impl<R: Abort> Output for Sheet<'_, R> {
             Err(io::Error::other("no output"))
         }
     }
+
+    fn flush_out(&mut self) -> io::Result<()> {
+        self.is_flushed = true;
+        Ok(())
+    }
 }
 
-/// The text that stands in the tests, and that of the row that is filed behind it (docs/READINGS.md).
+/// The text that is there in the tests, and that of the row that is filed after it (docs/READINGS.md).
 const OLD: &str = "900,42,0,0\n";
 
 const BOTH: &str = "900,42,0,0\n1800,43,0,7\n";
 
-/// The row that is filed, behind one that stands there.
+/// The row that is filed, after one that is there.
 const ROWS: [Row; 2] = [
     Row {
         clock: 900,
@@ -275,7 +287,7 @@ fn opened<R: Abort>(rt: &R, alloc: Global) -> Readings {
     }
 }
 
-/// A text of readings that stands at a place is opened, and a call that fails is told.
+/// A text of readings at a place is opened, and a call that fails is reported.
 #[test]
 fn readings_are_opened(rt: HostRuntime) {
     assert_eq!(rt; opened(&rt, rt.alloc()).rows(), &ROWS[..1]);
@@ -283,7 +295,7 @@ fn readings_are_opened(rt: HostRuntime) {
     assert!(rt; open_rows(rt.alloc(), &mut broken).is_err());
 }
 
-/// The rows that are new stand there, and were printed before; where a call fails what stood there stands.
+/// The new rows are there, and were printed before; if a call fails the earlier text stays.
 #[test]
 fn rows_are_filed(rt: HostRuntime) {
     for (fails, count, is_put, is_well) in [
@@ -314,7 +326,7 @@ fn an_output_fails(rt: HostRuntime) {
     assert_eq!(rt; shelf.standing.as_str(), OLD);
 }
 
-/// Rows that are kept alone stand there too.
+/// Rows that are kept without printing are there too.
 #[test]
 fn rows_are_kept(rt: HostRuntime) {
     let mut readings = opened(&rt, rt.alloc());

@@ -1,11 +1,13 @@
-//! A clock and a port for tests, whose past is known: a second goes by at each look, so many times, and one connection comes.
+//! A clock and a port for tests, whose past is known: a second goes by at each look, a number of times, and one connection comes.
 
 ghost use Rattle.std.specs.Prelude.{◌≡◌, [], ◌∷◌, ◌++◌, Some, map};
 ghost use Rattle.test_scripts.specs.Scripts.{sight_of};
 
 use crate::line::{Play, SNRM, Script, UA};
 use crate::noted::{Noted, are_numbered};
-use dlms_field::{FieldFault, Log, Peer, Rules, Site, Ticks, Times, Watch, serve_all, serve_turns};
+use dlms_field::{
+    FieldFault, Log, Peer, Rules, Server, Ticks, Times, Watch, serve_all, serve_turns,
+};
 use dlms_meter::Meter;
 use dlms_pages::MemoryPages;
 use dlms_store::PAGES;
@@ -14,7 +16,7 @@ use std::io;
 use std::net::{Ipv4Addr, SocketAddr};
 use std::process::Abort;
 
-/// A clock that ends before this second, and a port at which one connection comes, where this is played; then the port fails.
+/// A clock that ends before this second, and a port at which one connection comes, if this is played; then the port fails.
 #[derive(Drop)]
 struct Porch<'a, R: Abort> {
     rt: &'a R,
@@ -110,8 +112,8 @@ impl<'a, R: Abort> Watch for Porch<'a, R> {
     }
 }
 
-/// A connection is made ready and served: the clock is looked at when it comes, when it begins, before each read and behind each
-/// frame; and where the port or the clock fails, the serving ends with that.
+/// A connection is made ready and served: the clock is read when it comes, when it begins, before each read and after each frame;
+/// and if the port or the clock fails, the serving ends with that.
 #[test]
 fn a_connection_is_served(rt: HostRuntime) {
     let rules = Rules {
@@ -136,20 +138,20 @@ fn a_connection_is_served(rt: HostRuntime) {
         };
         let mut errors: Vec<u8> = Vec::new(rt.alloc());
         let porch = Porch::new(&rt, rt.alloc(), &plays, end);
-        let mut site = Site::new(porch, Ticks::new(0, 0), Log::quiet(), &mut errors);
-        let served = serve_all(&mut site, rules, &mut meter, "here");
+        let mut server = Server::new(porch, Ticks::new(0, 0), Log::quiet(), &mut errors);
+        let served = serve_all(&mut server, rules, &mut meter, "here");
         assert_eq!(rt;
             matches!(served, Err(FieldFault::System("here", _))),
             is_of_port
         );
         assert!(rt; served.is_err());
-        assert!(rt; are_numbered(site.watch.noted.as_slice(), numbers));
+        assert!(rt; are_numbered(server.watch.noted.as_slice(), numbers));
     }
 }
 
-/// A serial line is served one turn after another: the clock is looked at when a turn begins, before each read and behind each
-/// frame; three seconds without a frame end a turn, and the next one begins; and where the line is gone, or the clock fails, the
-/// serving ends with that.
+/// A serial line is served one turn after another: the clock is read when a turn begins, before each read and after each frame;
+/// three seconds without a frame end a turn, and the next one begins; and if the line is gone, or the clock fails, the serving ends
+/// with that.
 #[test]
 fn a_line_is_served(rt: HostRuntime) {
     let rules = Rules {
@@ -178,14 +180,14 @@ fn a_line_is_served(rt: HostRuntime) {
         let plays = if asks { &asking } else { &silent };
         let mut line = Script::new(&rt, rt.alloc(), plays);
         let porch = Porch::new(&rt, rt.alloc(), &[], end);
-        let mut site = Site::new(porch, Ticks::new(0, 0), Log::quiet(), &mut errors);
-        let served = serve_turns(&mut site, rules, &mut meter, &mut line, "here");
+        let mut server = Server::new(porch, Ticks::new(0, 0), Log::quiet(), &mut errors);
+        let served = serve_turns(&mut server, rules, &mut meter, &mut line, "here");
         assert_eq!(rt;
             matches!(served, Err(FieldFault::System("here", _))),
             is_gone
         );
         assert!(rt; served.is_err());
-        assert!(rt; are_numbered(site.watch.noted.as_slice(), numbers));
+        assert!(rt; are_numbered(server.watch.noted.as_slice(), numbers));
         let is_answered = line.has(2, false, true, &UA);
         assert_eq!(rt; is_answered, asks && is_gone);
     }

@@ -19,9 +19,9 @@ pub enum Act {
 pub struct Asked {
     pub apdu: &'static [u8],
     pub answer: &'static [u8],
-    /// The answer where the device fails at it.
+    /// The answer if the device fails at it.
     pub fails: &'static [u8],
-    /// The answer where the device failed before it.
+    /// The answer if the device failed before it.
     pub late: &'static [u8],
 }
 

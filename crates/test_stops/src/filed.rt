@@ -1,4 +1,4 @@
-//! The scenario on a meter in a file of slots in memory: behind each number of its calls one fails, or the power stops.
+//! The scenario on a meter in a file of slots in memory: after each number of its calls one fails, or the power stops.
 
 use crate::FORMATS;
 use crate::play::{Seen, seen_in};
@@ -14,7 +14,7 @@ type SlotPages = FilePages<MemorySlots>;
 /// The calls by which pages are opened: a read and a write of each slot, and a sync.
 const OPENS: u64 = 2 * PAGES as u64 + 1;
 
-/// What is seen of the meter that pages held, where one is recovered.
+/// The state of the meter that pages held, if one is recovered.
 fn found_on(alloc: Global, pages: SlotPages) -> Option<Seen> {
     match Meter::recover(alloc, pages) {
         Ok(meter) => Some(seen_in(&meter)),
@@ -22,7 +22,7 @@ fn found_on(alloc: Global, pages: SlotPages) -> Option<Seen> {
     }
 }
 
-/// What is seen of it where the power stopped, and the file is opened again.
+/// The state of it if the power stopped, and the file is opened again.
 fn found_behind_a_stop(alloc: Global, pages: SlotPages, tear: Tear) -> Option<Seen> {
     let left = pages.into_slots().cut(Tears::All(tear));
     match FilePages::over(alloc, left, PAGES) {
@@ -31,7 +31,7 @@ fn found_behind_a_stop(alloc: Global, pages: SlotPages, tear: Tear) -> Option<Se
     }
 }
 
-/// A new file that fails so, behind so many calls of a formatted meter.
+/// A new file with this failure, after this many calls of a formatted meter.
 fn file_of(
     alloc: Global,
     fault: Fault,
@@ -48,7 +48,7 @@ fn file_of(
     Ok(FilePages::over(alloc, slots, PAGES).ok())
 }
 
-/// Whether a run comes out as it may: where the file failed once the same program recovers, and else the power stops.
+/// Whether the outcome of a run is allowed: if the file failed once the same program recovers, and otherwise the power stops.
 fn is_right(
     alloc: Global,
     fault: Fault,

@@ -16,7 +16,7 @@ pub const GET_REGISTER: [u8; 13] = [0xc0, 0x01, 0xc1, 0, 3, 1, 0, 1, 8, 0, 255, 
 /// GET of the object list, which is longer than a client here takes in one piece.
 pub const GET_LIST: [u8; 13] = [0xc0, 0x01, 0xc1, 0, 15, 0, 0, 40, 0, 0, 255, 2, 0];
 
-/// GET of the block behind the first.
+/// GET of the block after the first.
 const GET_SECOND: [u8; 7] = [0xc0, 0x02, 0xc1, 0, 0, 0, 1];
 
 /// The first heap has room for a meter's lines and rows, and for little more.
@@ -25,7 +25,7 @@ pub const LEAST: usize = 56_840;
 /// How many heaps there are.
 const HEAPS: usize = 128;
 
-/// What came of a GET.
+/// The outcome of a GET.
 #[derive(Clone, Copy, Debug, PartialEq, Eq)]
 enum Ended {
     Given,
@@ -94,7 +94,7 @@ fn is_block(answer: &[u8], number: u8) -> bool {
     }
 }
 
-/// Whether the second block is given behind one that found no memory.
+/// Whether the second block is returned after one that found no memory.
 fn is_given_behind<A: Allocator + Copy>(
     alloc: Global,
     heap: A,

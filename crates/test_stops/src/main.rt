@@ -37,7 +37,7 @@ fn formatted(alloc: Global, device: MemoryPages) -> Option<MemoryMeter> {
     Meter::format(alloc, device).ok()
 }
 
-/// The meter that a device held, or the device where it is not found.
+/// The meter that a device held, or the device if it is not found.
 fn recovered(alloc: Global, device: MemoryPages) -> Result<MemoryMeter, MemoryPages> {
     match Meter::recover(alloc, device) {
         Ok(meter) => Ok(meter),
@@ -53,7 +53,7 @@ fn set_and_count(meter: &mut MemoryMeter) {
     }
 }
 
-/// The device of a meter whose text was set, and which then counted five pulses, where so many of its calls pass.
+/// The device of a meter whose text was set, and which then counted five pulses, if this many of its calls succeed.
 fn set_and_pulses(alloc: Global, calls: u64) -> Result<Option<MemoryPages>, AllocError> {
     let mut device = MemoryPages::new(alloc, PAGES)?;
     device.fuse(FORMATS.saturating_add(calls));
@@ -66,7 +66,7 @@ fn set_and_pulses(alloc: Global, calls: u64) -> Result<Option<MemoryPages>, Allo
     }
 }
 
-/// What is to be found behind an answered SET: its text, and no pulse.
+/// The expected state after an answered SET: its text, and no pulse.
 const TEXT_ALONE: Seen = Seen {
     pulses: 0,
     clock: 0,
@@ -74,7 +74,7 @@ const TEXT_ALONE: Seen = Seen {
     text: Some(b'A'),
 };
 
-/// Whether the text is found, and no pulse, where the power stops before the pulses' page is written.
+/// Whether the text is found, and no pulse, if the power stops before the pulses' page is written.
 fn is_found_behind_a_set(alloc: Global) -> Result<bool, AllocError> {
     match set_and_pulses(alloc, 2)? {
         Some(device) => Ok(found_on(alloc, after_stop(device, Left::Old)) == Some(TEXT_ALONE)),
@@ -82,7 +82,7 @@ fn is_found_behind_a_set(alloc: Global) -> Result<bool, AllocError> {
     }
 }
 
-/// Whether it is so where the pulses' page is torn, and the power stops again behind so many calls of the recovery.
+/// The same if the pulses' page is torn, and the power stops again after this many calls of the recovery.
 fn is_found_behind_a_torn_page(alloc: Global, calls: u64, pick: Left) -> Result<bool, AllocError> {
     match set_and_pulses(alloc, 3)? {
         Some(device) => {

@@ -28,7 +28,7 @@ pub fn seen_in<P: Pages>(meter: &Meter<P>) -> Seen {
     }
 }
 
-/// What came of a scenario.
+/// The outcome of a scenario.
 #[derive(Clone, Copy)]
 pub struct Played {
     /// What was to be seen when success or data was last answered.

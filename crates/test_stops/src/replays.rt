@@ -24,27 +24,27 @@ enum Trouble {
     Interrupted,
     /// Behind the last byte the reader fails.
     ReaderFails,
-    /// The writer fails behind so many bytes.
+    /// The writer fails after this many bytes.
     WriterFails(usize),
 }
 
-/// A replay, and what is to come of it.
+/// A replay, and its expected outcome.
 #[derive(Clone, Copy)]
 struct Case {
     /// How many pulses are counted first.
     pulses: u8,
-    /// The lines behind them.
+    /// The lines after them.
     lines: &'static [u8],
     trouble: Trouble,
-    /// How the device fails, from the first call behind the format on.
+    /// How the device fails, from the first call after the format on.
     fault: Option<Fault>,
     ended: Result<(), ReplayFault>,
     printed: &'static [u8],
-    /// The registers of the meter, where it is still there.
+    /// The registers of the meter, if it is still there.
     registers: Option<[u32; 3]>,
 }
 
-/// What is replayed where the streams fail.
+/// The text replayed when the streams fail.
 const STREAMS: Case = Case {
     pulses: 0,
     lines: b"P 0 42\nS\n",
@@ -55,8 +55,8 @@ const STREAMS: Case = Case {
     registers: Some([42, 0, 0]),
 };
 
-/// A call that a signal interrupts is made again; a reader that fails takes nothing back; a device that goes on failing is
-/// not opened again, and one that failed once is, with what was settled before.
+/// A call that a signal interrupts is repeated; a reader that fails takes nothing back; a device that goes on failing is not opened
+/// again, and one that failed once is, with the events that were settled before.
 const CASES: [Case; 4] = [
     Case {
         trouble: Trouble::Interrupted,
@@ -155,7 +155,7 @@ fn text_of(alloc: Global, case: &Case) -> Result<Vec<u8>, AllocError> {
     Ok(text)
 }
 
-/// A device that fails so behind a format.
+/// A device with this failure after a format.
 fn device_of(alloc: Global, fault: Option<Fault>) -> Result<MemoryPages, AllocError> {
     let mut device = MemoryPages::new(alloc, PAGES)?;
     match fault {
@@ -166,7 +166,7 @@ fn device_of(alloc: Global, fault: Option<Fault>) -> Result<MemoryPages, AllocEr
     Ok(device)
 }
 
-/// Whether a replay comes out otherwise, where so many of the bytes that are to be printed can be.
+/// Whether a replay comes out differently, if this many of the bytes can be printed.
 fn differs(alloc: Global, case: &Case, room: usize) -> Result<bool, AllocError> {
     let text = text_of(alloc, case)?;
     let mut meter = formatted(alloc, device_of(alloc, case.fault)?);
@@ -189,7 +189,7 @@ fn differs(alloc: Global, case: &Case, room: usize) -> Result<bool, AllocError> 
     Ok(ended != case.ended || registers != case.registers || writer.taken.as_slice() != printed)
 }
 
-/// Whether a line `O` is refused its memory, on a heap of so many bytes, and what it prints then; None where anything else comes.
+/// Whether a line `O` is refused its memory, on a heap of this many bytes, and what it prints then; None if anything else comes.
 fn refused_on(alloc: Global, size: usize) -> Result<Option<bool>, AllocError> {
     let ample = LocalHeap::new(alloc, 65_536)?;
     let small = LocalHeap::new(alloc, size)?;

@@ -1,4 +1,4 @@
-//! A replay of rows that go round the ring, whose device fails at each of its calls: what it prints, and what a recovery finds.
+//! A replay of rows that go round the ring, whose device fails at each of its calls: its output, and what a recovery finds.
 
 use crate::stops::{Fault, Left, after_stop, device_of};
 use crate::{MemoryMeter, formatted, recovered};
@@ -15,7 +15,7 @@ const PENDING: u32 = 99;
 /// How often the device is called: for two pages, a checkpoint with eight ring pages, and the page that closing writes.
 const CALLS: u32 = 21;
 
-/// What is printed for the line at which the device fails, and for each behind it.
+/// The output for the line at which the device fails, and for each after it.
 const FAILED: &[u8] = b"fault 2\n";
 
 const STOPPED: &[u8] = b"fault 3\n";
@@ -30,8 +30,8 @@ fn text_of(alloc: Global) -> Result<String, AllocError> {
     Ok(text)
 }
 
-/// How many lines were not taken: none, or the one at which the device failed and all behind it. None where anything else is
-/// printed.
+/// The number of lines that were not accepted: none, or the one at which the device failed and all after it. None if anything else
+/// is printed.
 fn lost_in(printed: &[u8]) -> Option<u32> {
     if printed.is_empty() {
         return Some(0);
@@ -51,7 +51,7 @@ fn lost_in(printed: &[u8]) -> Option<u32> {
     rest.is_empty().then_some(lost)
 }
 
-/// How many rows were captured on a device, where a meter is.
+/// The number of rows captured on a device, if there is a meter.
 fn rows_on(alloc: Global, device: MemoryPages) -> Option<u128> {
     match recovered(alloc, device) {
         Ok(meter) => Some(meter.state().next_number()),
@@ -59,7 +59,7 @@ fn rows_on(alloc: Global, device: MemoryPages) -> Option<u128> {
     }
 }
 
-/// How many rows are found where the power stops in each call of the recovery in turn, until it ends.
+/// The number of rows found if the power stops in each call of the recovery in turn, until it ends.
 fn rows_behind_stops(alloc: Global, device: MemoryPages, left: Left) -> Option<u128> {
     let mut device = device;
     for calls in 0..64u64 {

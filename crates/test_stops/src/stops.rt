@@ -10,7 +10,7 @@ use dlms_store::PAGES;
 use std::alloc::{AllocError, Global};
 use test_client::associated_by;
 
-/// How the device fails behind so many calls.
+/// How the device fails after this many calls.
 #[derive(Clone, Copy, Debug, PartialEq, Eq)]
 pub enum Fault {
     /// Every later call fails.
@@ -29,7 +29,7 @@ pub enum Left {
     AsItIs,
 }
 
-/// What came of the scenario on a device that fails so, with what was to be seen at its end, and the device.
+/// The outcome of the scenario on a device with this failure, with the expected state at its end, and the device.
 #[derive(Drop)]
 struct Ended {
     played: Played,
@@ -37,7 +37,7 @@ struct Ended {
     device: MemoryPages,
 }
 
-/// A new device that fails so, behind so many calls of a formatted meter.
+/// A new device with this failure, after this many calls of a formatted meter.
 pub fn device_of(alloc: Global, fault: Fault, calls: u64) -> Result<MemoryPages, AllocError> {
     let mut device = MemoryPages::new(alloc, PAGES)?;
     let calls = FORMATS.saturating_add(calls);
@@ -92,7 +92,7 @@ pub fn after_stop(device: MemoryPages, left: Left) -> MemoryPages {
     }
 }
 
-/// What is found where the power stops in each call of the recovery in turn, until it ends.
+/// The state found if the power stops in each call of the recovery in turn, until it ends.
 fn found_after_stops(alloc: Global, device: MemoryPages, pick: Left) -> Option<Seen> {
     let mut device = device;
     for calls in 0..RECOVERY {
@@ -114,7 +114,7 @@ pub fn is_between(trace: &[Seen], answered: Seen, found: Seen, last: Seen) -> bo
     }
 }
 
-/// What is found on a device, where a meter is.
+/// The state found on a device, if there is a meter.
 pub fn found_on(alloc: Global, device: MemoryPages) -> Option<Seen> {
     match recovered(alloc, device) {
         Ok(meter) => Some(seen_in(&meter)),
@@ -122,7 +122,7 @@ pub fn found_on(alloc: Global, device: MemoryPages) -> Option<Seen> {
     }
 }
 
-/// What is found where the power stops behind so many calls of a recovery.
+/// The state found if the power stops after this many calls of a recovery.
 pub fn found_behind(alloc: Global, device: MemoryPages, calls: u64, pick: Left) -> Option<Seen> {
     let mut device = device;
     device.fuse(calls);
@@ -167,7 +167,7 @@ pub const CALLS: u32 = 101;
 /// More calls than a recovery makes: a sync, two gates, two bodies, eight ring pages and sixteen of the journal, and a checkpoint.
 const RECOVERY: u64 = 64;
 
-/// What is to be seen in the scenario, call by call, where the device never fails; None where a call answers otherwise.
+/// The expected states in the scenario, call by call, if the device never fails; None if a call answers otherwise.
 pub fn whole(alloc: Global) -> Result<Option<Vec<Seen>>, AllocError> {
     let mut trace = Vec::new(alloc);
     match end_of(alloc, Fault::Fuse, u64::from(CALLS), &mut trace)? {

@@ -1,4 +1,4 @@
-//! Calls of a device, and what is to come of each.
+//! Calls of a device, and the expected outcome of each.
 
 use crate::report::Report;
 use dlms_pages::{DeviceFault, PageRead, Pages};
@@ -18,7 +18,7 @@ pub enum Ask {
     Sync,
 }
 
-/// What came of a call.
+/// The outcome of a call.
 #[derive(Clone, Copy, Debug, PartialEq, Eq)]
 pub enum Came {
     Number(u64),
@@ -33,7 +33,7 @@ pub enum Came {
     NoPage,
 }
 
-/// What a page that was read is.
+/// The outcome of a read by its page.
 fn came_of_page(page: &PageRead) -> Came {
     match page {
         PageRead::Content(bytes) if *bytes == [bytes[0]; 512] => Came::Full(bytes[0]),
@@ -42,7 +42,7 @@ fn came_of_page(page: &PageRead) -> Came {
     }
 }
 
-/// What a page reads as.
+/// The outcome of reading a page.
 pub fn get<P: Pages>(device: &mut P, index: u16) -> Came {
     if device.count() <= index {
         return Came::NoPage;
@@ -53,7 +53,7 @@ pub fn get<P: Pages>(device: &mut P, index: u16) -> Came {
     }
 }
 
-/// What came of a call that gives nothing.
+/// The outcome of a call without a result.
 fn came_of_call(ended: Result<(), DeviceFault>) -> Came {
     match ended {
         Ok(()) => Came::Done,

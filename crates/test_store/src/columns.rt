@@ -1,4 +1,4 @@
-//! Scripts of columns that are set: what the journal, the bodies and the ring pages then hold, and what a recovery finds.
+//! Scripts that set columns: what the journal, the bodies and the ring pages then hold, and what a recovery finds.
 
 use crate::scripts::{OnDevice, OnStore, Script, Step};
 use dlms_pages::Pick;
@@ -17,7 +17,7 @@ const COLUMNS_AND_NUMBERS: [u8; 38] = [
     0, 0, 0, 0, 0, 0, 0, 0, 0, 0, 0, 0, 0, 31,
 ];
 
-/// Where the columns stand in a body's page.
+/// The place of the columns in a body's page.
 const COLUMNS_PLACE: usize = 302;
 
 /// The first ring page of rows of two columns: 240 bytes.

@@ -1,4 +1,4 @@
-//! What befalls the bytes of a file of three pages, and what the pages then read as.
+//! Damages to the bytes of a file of three pages, and what the pages then read as.
 
 use crate::asked::Came;
 use std::alloc::{AllocError, Global};
@@ -16,7 +16,7 @@ pub enum Damage {
     Swapped,
     /// So many of the first bytes are left.
     Cut(usize),
-    /// So many sevens stand behind them.
+    /// This many sevens follow them.
     Longer(usize),
 }
 
@@ -77,7 +77,7 @@ fn swapped(alloc: Global, whole: &[u8]) -> Result<Vec<u8>, AllocError> {
     Ok(bytes)
 }
 
-/// The bytes with so many sevens behind them.
+/// The bytes followed by this many sevens.
 fn longer(alloc: Global, whole: &[u8], count: usize) -> Result<Vec<u8>, AllocError> {
     let mut bytes = Vec::from_slice(alloc, whole)?;
     for _ in 0..count {

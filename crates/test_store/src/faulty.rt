@@ -17,7 +17,7 @@ pub enum Since {
     FirstSync,
 }
 
-/// The system's files, where so many of the calls of each fail.
+/// The system's files, where some of the calls of each fail.
 #[derive(Drop)]
 pub struct FaultyFiles<'r> {
     pub rt: &'r HostRuntime,
@@ -44,7 +44,7 @@ impl Faulty {
     }
 }
 
-/// What a call that is to fail answers.
+/// The error of a call that is set to fail.
 fn refused() -> io::Error {
     io::Error::from(ErrorKind::Other)
 }
@@ -60,7 +60,7 @@ impl Read for Faulty {
 }
 
 impl Write for Faulty {
-    // Half of what is given, and then the fault.
+    // Half of the bytes, and then the fault.
     fn write(&mut self, buf: &[u8]) -> io::Result<usize> {
         let is_due = self.is_due() && 0 < self.writes;
         if is_due && buf.len() < 544 {

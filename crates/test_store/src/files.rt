@@ -40,7 +40,7 @@ fn stands_at(bytes: &[u8], place: usize, part: &[u8]) -> bool {
     }
 }
 
-/// What three pages read as where the file is opened anew.
+/// What three pages read as when the file is opened again.
 fn reads(rt: &HostRuntime, path: &str) -> io::Result<[Came; 3]> {
     let mut device: FilePages = FilePages::open(rt, path, 3)?;
     let pages = [
@@ -116,7 +116,7 @@ fn read_one(rt: &HostRuntime, path: &str, index: u16) -> io::Result<Option<PageR
 /// Where page 258 stands.
 const PLACE: usize = 258 * SLOT;
 
-/// Writes the bytes with what stands behind this place one slot earlier.
+/// Writes the bytes with everything after this place one slot earlier.
 fn move_up(rt: &HostRuntime, path: &str, bytes: &[u8], place: usize) -> Result<()> {
     let mut moved = vec![in rt.alloc(); 0u8; place.saturating_sub(SLOT)]?;
     moved.extend_from_slice(bytes.get(place..).unwrap_or(&[]))?;
@@ -219,7 +219,7 @@ fn play_use(report: &mut Report<'_>, path: &str) -> Result<()> {
     Ok(report.compare("closed", reads(report.rt(), path)?, pages)?)
 }
 
-/// What is done with pages in a file of which calls fail, and what is to come of it.
+/// The calls on pages in a file with failing calls, and their expected outcomes.
 #[derive(Clone, Copy)]
 enum Turn {
     Asks(Ask, Came),
@@ -229,7 +229,7 @@ enum Turn {
     Holds(Came, Came),
 }
 
-/// A scenario on a file of three pages of which so many calls fail.
+/// A scenario on a file of three pages with failing calls.
 struct Scenario {
     name: &'static str,
     reads: u32,
@@ -238,9 +238,9 @@ struct Scenario {
     turns: &'static [Turn],
 }
 
-/// Two syncs that fail, one that passes, and one with nothing to sync: what was dropped each time comes back up to the one
-/// that passes, and what was synced is not written again. A write that fails half done tears its page, and the next sync makes
-/// up for it; that sync may fail too. A read that fails.
+/// Two syncs that fail, one that succeeds, and one with nothing to sync: content that was dropped comes back until the one that
+/// succeeds, and synced content is not written again. A write that fails half done tears its page, and the next sync repairs it;
+/// that sync may fail too. A read that fails.
 const SCENARIOS: [Scenario; 3] = [
     Scenario {
         name: "two syncs fail",
@@ -291,7 +291,7 @@ const SCENARIOS: [Scenario; 3] = [
     },
 ];
 
-/// Three pages in a file of which so many calls fail.
+/// Three pages in a file with failing calls.
 fn with_faults(
     rt: &HostRuntime,
     path: &str,
@@ -307,7 +307,7 @@ fn with_faults(
     FilePages::open(&files, path, 3)
 }
 
-/// What the first two pages of a file in use read as: of a copy, which nobody has open.
+/// What the first two pages of a file in use read as: read from a copy, which no program has open.
 fn reads_of_copy(rt: &HostRuntime, path: &str, copy: &str) -> Result<[Came; 2]> {
     let bytes = fs::read(rt, path)?;
     fs::write(rt, copy, &bytes)?;
@@ -338,7 +338,7 @@ fn play_turns(report: &mut Report<'_>, path: &str, scenario: &Scenario) -> Resul
     Ok(())
 }
 
-/// Whether a file of three pages is not opened, where so many of its first reads, writes and syncs fail.
+/// Whether a file of three pages is not opened if some of its first reads, writes and syncs fail.
 fn is_not_opened(rt: &HostRuntime, path: &str, [reads, writes, syncs]: [u32; 3]) -> bool {
     let files = FaultyFiles {
         rt,
@@ -353,8 +353,8 @@ fn is_not_opened(rt: &HostRuntime, path: &str, [reads, writes, syncs]: [u32; 3])
     is_refused
 }
 
-/// Opening reads each slot, writes it again as it stands, and syncs: where one of these calls fails the file is not opened, and
-/// it is as it was, also behind a write that was half done. Where none does its bytes are the same too.
+/// Opening reads each slot, writes it again unchanged, and syncs: if one of these calls fails the file is not opened, and it is as
+/// it was, also after a write that was half done. If none fails its bytes are the same too.
 fn play_opening(report: &mut Report<'_>, path: &str) -> Result<()> {
     let rt = report.rt();
     let whole = three(report, path)?;
@@ -376,8 +376,8 @@ fn play_scenarios(report: &mut Report<'_>, path: &str) -> Result<()> {
     Ok(())
 }
 
-/// Pages in files: one of this run's own in the folder for temporary files, and one of a plain name, which stands in the folder
-/// where the program runs. Both are removed.
+/// Pages in files: one of this run's own in the folder for temporary files, and one with a plain name, which is in the folder where
+/// the program runs. Both are removed.
 pub fn play_files(report: &mut Report<'_>) -> Result<()> {
     let path = path_of(report.rt(), "pages")?;
     report.begin("files");

@@ -14,7 +14,7 @@ const HEAPS: usize = 128;
 /// How much larger each is than the one before, from 0 on.
 const STEP: usize = 64;
 
-/// What came of a write of page 0 and one of page 1, what the two hold then, and the faults.
+/// The outcomes of a write of page 0 and one of page 1, the content of the two then, and the faults.
 type Two = [Came; 5];
 
 /// The pages were refused, both writes, the second one, none.
@@ -43,7 +43,7 @@ const ENDS: [Option<Two>; 4] = [
     ]),
 ];
 
-/// Two writes with so much memory; None where there is none for the pages.
+/// Two writes with this much memory; None if there is none for the pages.
 fn two_writes<A: Allocator + Copy>(alloc: A) -> Option<Two> {
     let Ok(mut device) = MemoryPages::new(alloc, 2) else {
         return None;
@@ -64,7 +64,7 @@ fn end_of(two: Option<Two>) -> Option<usize> {
     ENDS.iter().position(|end| *end == two)
 }
 
-/// What the writes come to on a heap of this size, and what is left on it.
+/// The outcomes of the writes on a heap of this size, and the memory left on it.
 fn on_heap(report: &Report<'_>, size: usize) -> Result<(Option<usize>, usize), AllocError> {
     let heap = LocalHeap::new(report.alloc(), size)?;
     let end = end_of(two_writes(&heap));
@@ -101,7 +101,7 @@ static ROWS: [(usize, Option<OpenFault>); 4] = [
     (32, None),
 ];
 
-/// Why a device was not opened, and what is pending in its store where it is opened with room.
+/// Why a device was not opened, and what is pending in its store if it is opened with enough memory.
 type Found = (Option<OpenFault>, Option<usize>);
 
 /// The device of a new store.
@@ -116,7 +116,7 @@ fn formatted(alloc: Global) -> Result<Option<MemoryPages>, AllocError> {
     }
 }
 
-/// What is pending in the store of a device.
+/// The pending events in the store of a device.
 fn pending_on(alloc: Global, device: MemoryPages) -> Option<usize> {
     match Store::open(alloc, device) {
         Ok(store) => {
@@ -131,7 +131,7 @@ fn pending_on(alloc: Global, device: MemoryPages) -> Option<usize> {
     }
 }
 
-/// What is found on a device that is opened on a heap, and then with room.
+/// The result for a device that is opened on a heap, and then with enough memory.
 fn found_on(alloc: Global, heap: &LocalHeap, device: MemoryPages) -> Found {
     match Store::open(heap, device) {
         Ok(store) => (None, pending_on(alloc, store.close())),
@@ -139,7 +139,7 @@ fn found_on(alloc: Global, heap: &LocalHeap, device: MemoryPages) -> Found {
     }
 }
 
-/// What is found on the device of a new store, opened on a heap of so many KiB.
+/// The result for the device of a new store, opened on a heap of this many KiB.
 fn found_on_heap(alloc: Global, kilobytes: usize) -> Result<Option<Found>, AllocError> {
     let heap = LocalHeap::new(alloc, kilobytes.saturating_mul(1024))?;
     let found = match formatted(alloc) {
@@ -151,7 +151,7 @@ fn found_on_heap(alloc: Global, kilobytes: usize) -> Result<Option<Found>, Alloc
     found
 }
 
-/// Room for the rows is asked for once, and refused where the heap is too small; the device comes back.
+/// Memory for the rows is requested once, and refused if the heap is too small; the device comes back.
 pub fn play_recoveries(report: &mut Report<'_>) -> Result<()> {
     report.begin("refused rows");
     for (kilobytes, fault) in &ROWS {

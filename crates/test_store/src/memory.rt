@@ -115,7 +115,7 @@ fn fail_so(device: &mut MemoryPages, fails: Fails) {
     }
 }
 
-/// A fuse of each length fails every call behind it, and one fault fails one call.
+/// A fuse of each length fails every call after it, and one fault fails one call.
 pub fn play_faults(report: &mut Report<'_>) -> Result<()> {
     report.begin("faults");
     for (fails, faults) in &FAULTS {
@@ -128,7 +128,7 @@ pub fn play_faults(report: &mut Report<'_>) -> Result<()> {
     Ok(report.end()?)
 }
 
-/// What is synced before a call fails.
+/// The pages synced before a call fails.
 const SYNCED: [(Ask, Came); 2] = [(Ask::Put(0, 1), Came::Done), (Ask::Sync, Came::Done)];
 
 /// A write that fails.
@@ -141,10 +141,10 @@ const UNSYNCED: [(Ask, Came); 3] = [
     (Ask::Get(0), Came::Full(3)),
 ];
 
-/// What a stop leaves then, where it leaves what was synced.
+/// What a stop leaves then, if it leaves the synced content.
 const LEFT: [(Ask, Came); 2] = [(Ask::Get(0), Came::Full(1)), (Ask::Faults, Came::Number(2))];
 
-/// A write that fails, and a sync, behind one that passed.
+/// A write that fails, and a sync, after one that succeeded.
 fn play_two_faults(report: &mut Report<'_>, device: &mut MemoryPages) -> io::Result<()> {
     play(report, "synced", device, &SYNCED)?;
     device.fail_once(0);
@@ -211,7 +211,7 @@ fn four(device: &mut MemoryPages) -> [Came; 4] {
     ]
 }
 
-/// What a pick leaves of the pages of a device, and what is left behind a second stop.
+/// What a pick leaves of the pages of a device, and what is left after a second stop.
 fn stopped_twice(device: MemoryPages, pick: Pick<'static>) -> [[Came; 4]; 2] {
     let mut device = device.cut(pick);
     let once = four(&mut device);

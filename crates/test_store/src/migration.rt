@@ -26,7 +26,7 @@ struct Image {
     /// The number of the oldest row, and the one that the next row gets.
     first: u32,
     next: u32,
-    /// How many calls of the device the recovery makes, and how many the one behind it.
+    /// The number of device calls that the recovery makes, and of the next one.
     calls: u64,
     again: u64,
 }
@@ -141,10 +141,10 @@ fn recovered(
     }
 }
 
-/// What a recovery comes to, and whether the store holds what the image holds.
+/// The outcome of a recovery, and whether the store holds what the image holds.
 type Recovery = (Option<OpenFault>, bool);
 
-/// What a recovery comes to, and the one behind it, with the power stopped between them or not.
+/// The outcome of a recovery, and of the next one, with or without a stop between them.
 fn recovered_twice(
     alloc: Global,
     device: MemoryPages,
@@ -185,7 +185,7 @@ fn fault_behind(calls: u64, image: &Image) -> Option<OpenFault> {
     }
 }
 
-/// The power stops behind each call, and behind none: the next recovery finds what was there.
+/// The power stops after each call, and after none: the next recovery finds what was there.
 fn play_stops(report: &mut Report<'_>, image: &Image, bytes: &[u8]) -> Result<()> {
     let alloc = report.alloc();
     for left in LEFT {
@@ -201,7 +201,7 @@ fn play_stops(report: &mut Report<'_>, image: &Image, bytes: &[u8]) -> Result<()
     Ok(())
 }
 
-/// Each call of the recovery fails alone: that is told, and the next recovery finds what was there.
+/// Each call of the recovery fails alone: that is reported, and the next recovery finds what was there.
 fn play_failures(report: &mut Report<'_>, image: &Image, bytes: &[u8]) -> Result<()> {
     let alloc = report.alloc();
     for calls in 0..image.calls {

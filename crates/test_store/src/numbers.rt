@@ -1,4 +1,4 @@
-//! The last numbers of rows: those of 64 bits are given, and none behind them.
+//! The last numbers of rows: those of 64 bits are used, and none after them.
 
 use crate::report::Report;
 use crate::stores::{MemoryStore, reopen};
@@ -83,7 +83,7 @@ fn numbers(store: &MemoryStore) -> (u128, u128) {
     (store.state().first_number(), store.state().next_number())
 }
 
-/// The last row is taken, and behind it an event that captures a row changes nothing, while others are taken.
+/// The last row is accepted; after it an event that captures a row changes nothing, while others are accepted.
 fn play_captures(report: &mut Report<'_>, store: &mut MemoryStore) -> io::Result<()> {
     report.compare("opened", numbers(store), (LAST, LAST))?;
     report.compare("the last row", store.add(Event::Capture), Ok(()))?;

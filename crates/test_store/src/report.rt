@@ -43,7 +43,7 @@ impl<'r> Report<'r> {
         self.differing = 0;
     }
 
-    /// One more case of the group. Where it comes out otherwise it is named, with what was found and what was to be.
+    /// One more case of the group. If it differs it is named, with the actual and the expected result.
     pub fn compare<C: Debug + Drop, T: PartialEq + Debug + Drop>(
         &mut self,
         case: C,

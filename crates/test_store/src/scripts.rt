@@ -1,4 +1,4 @@
-//! What is done with a store and its device, step by step, and what is to come of each step.
+//! Steps on a store and its device, and the expected outcome of each step.
 //!
 //! A store has 62 pages: a gate and two bodies from page 0 on, the same from page 3 on, 16 pages of the journal from page 6 on, and
 //! 40 ring pages from page 22 on. A page begins with its kind (1 an open gate, 3 a body, 4 of the journal, 5 of the ring), the
@@ -11,12 +11,12 @@ use dlms_store::{AddFault, OpenFault, PAGES, StoreFault};
 /// The calls of a format: the 62 pages and a sync; a body and a sync; a gate and a sync.
 pub const FORMATS: u64 = 67;
 
-/// What is done with a store, or seen of it.
+/// A call of a store, or a look at it.
 #[derive(Clone, Copy)]
 pub enum OnStore {
     /// So many events of one pulse each are taken.
     Pulses(u32),
-    /// An event of so many pulses on a channel.
+    /// An event of this many pulses on a channel.
     Adds(u8, u32, Result<(), AddFault>),
     /// So many captures are taken.
     Captures(u32),
@@ -36,14 +36,14 @@ pub enum OnStore {
     Row(usize, &'static [u32]),
 }
 
-/// What is done with a device, or seen of it.
+/// A call of a device, or a look at it.
 #[derive(Clone, Copy)]
 pub enum OnDevice {
-    /// Every call behind so many fails.
+    /// Every call after this many fails.
     Fails(u64),
     /// A page is filled with zeros.
     Clears(u16),
-    /// A page gets these bytes in front, and zeros behind them.
+    /// A page gets these bytes at the front, and zeros after them.
     Puts(u16, &'static [u8]),
     /// A page becomes an open gate of a version and a generation.
     Gate(u16, u8, u8),
@@ -53,18 +53,18 @@ pub enum OnDevice {
     Journal(u8, u8, &'static [u8]),
     /// A byte of a page, at this place, becomes this one.
     Changes(u16, usize, u8),
-    /// A page has these bytes from this place on, and zeros behind them.
+    /// A page has these bytes from this place on, and zeros after them.
     Ends(u16, usize, &'static [u8]),
     /// A page begins with these bytes.
     Begins(u16, &'static [u8]),
-    /// A page has these bytes in front, and zeros behind them.
+    /// A page has these bytes at the front, and zeros after them.
     Holds(u16, &'static [u8]),
 }
 
 /// A step of a script.
 #[derive(Clone, Copy)]
 pub enum Step {
-    /// A new device of so many pages.
+    /// A new device of this many pages.
     Device(u16),
     Formats(Option<OpenFault>),
     Opens(Option<OpenFault>),
@@ -75,7 +75,7 @@ pub enum Step {
     At(OnDevice),
 }
 
-/// A script, and what it is about.
+/// A script, and its subject.
 pub struct Script {
     pub name: &'static str,
     pub steps: &'static [Step],
@@ -114,10 +114,10 @@ const THIRD_BODY: [u8; 16] = [3, 2, 0, 0, 0, 0, 0, 0, 0, 0, 0, 3, 0x01, 0x54, 0,
 /// The numbers at the end of a body's head: of the first row 0, after the last row 240.
 const FROM_0_TO_240: [u8; 16] = [0, 0, 0, 0, 0, 0, 0, 0, 0, 0, 0, 0, 0, 0, 0, 240];
 
-/// Of no row behind 241 others.
+/// No row after 241 others.
 const FROM_241: [u8; 16] = [0, 0, 0, 0, 0, 0, 0, 241, 0, 0, 0, 0, 0, 0, 0, 241];
 
-/// Where these numbers stand in a body's page.
+/// The place of these numbers in a body's page.
 const NUMBERS: usize = 324;
 
 /// The first ring page and the eighth: 480 bytes each.
@@ -416,7 +416,7 @@ pub static SCRIPTS: [Script; 26] = [
             Step::Opens(Some(OpenFault::Corrupt(4))),
         ],
     },
-    // The first byte of the last row's clock stands in the second body, and an unused byte of the secret in the first.
+    // The first byte of the last row's clock is in the second body, and an unused byte of the secret is in the first.
     Script {
         name: "bodies of no state name the first of them",
         steps: &[

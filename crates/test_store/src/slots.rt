@@ -16,10 +16,10 @@ type SlotPages = FilePages<MemorySlots>;
 /// The calls by which pages are opened: a read and a write of each slot, and a sync.
 const OPENS: u64 = 2 * PAGES as u64 + 1;
 
-/// The calls of the scenario, and of the store that is closed behind it.
+/// The calls of the scenario, and of the store that is closed after it.
 const CALLS: u64 = 16;
 
-/// How the file fails behind so many calls.
+/// How the file fails after this many calls.
 #[derive(Clone, Copy, Debug, PartialEq, Eq)]
 enum Fault {
     /// Every later call fails, and then the power stops.
@@ -32,7 +32,7 @@ enum Fault {
 
 static FAULTS: [Fault; 3] = [Fault::Stop, Fault::GoesOn, Fault::Another];
 
-/// What is left of a slot on its way: of the failed call's, and of all where the power stops.
+/// What is left of a slot that is being written: of the failed call's, and of all if the power stops.
 static TEARS: [Tear; 6] = [
     Tear::Old,
     Tear::New,
@@ -42,12 +42,12 @@ static TEARS: [Tear; 6] = [
     Tear::EverySecond,
 ];
 
-/// The pages of slots in memory, where they can be opened.
+/// The pages of slots in memory, if they can be opened.
 fn opened(alloc: Global, slots: MemorySlots) -> Option<SlotPages> {
     FilePages::over(alloc, slots, PAGES).ok()
 }
 
-/// Slots that fail so, behind so many calls of a formatted store.
+/// Slots with this failure, after this many calls of a formatted store.
 fn slots_of(
     alloc: Global,
     fault: Fault,
@@ -64,7 +64,7 @@ fn slots_of(
     Ok(slots)
 }
 
-/// Pages of which a call failed, with the least and the most pulses that they may stand for.
+/// Pages with a failed call, with the least and the most pulses that they may represent.
 #[derive(Drop)]
 struct Failed {
     pages: SlotPages,
@@ -94,7 +94,7 @@ fn played(
     }))
 }
 
-/// How many pulses are found on pages, and the slots behind that.
+/// The number of pulses found on pages, and the slots afterwards.
 fn found_on(alloc: Global, pages: SlotPages) -> (Option<u32>, MemorySlots) {
     match Store::open(alloc, pages) {
         Ok(store) => (Some(accepted(&store)), store.close().into_slots()),
@@ -102,12 +102,12 @@ fn found_on(alloc: Global, pages: SlotPages) -> (Option<u32>, MemorySlots) {
     }
 }
 
-/// How many are found where the slots are opened.
+/// The number found when the slots are opened.
 fn found_in(alloc: Global, slots: MemorySlots) -> Option<u32> {
     found_on(alloc, opened(alloc, slots)?).0
 }
 
-/// How many are found behind a fault: by this program or another one, or behind a stop.
+/// The number found after a fault: by this program or another one, or after a stop.
 fn found_behind(alloc: Global, fault: Fault, pages: SlotPages, tear: Tear) -> Option<u32> {
     match fault {
         Fault::Stop => found_in(alloc, pages.into_slots().cut(Tears::All(tear))),
@@ -120,7 +120,7 @@ fn found_behind(alloc: Global, fault: Fault, pages: SlotPages, tear: Tear) -> Op
     }
 }
 
-/// What is left of slots where the power stops behind so many calls of their opening or of the recovery.
+/// What is left of slots if the power stops after this many calls of their opening or of the recovery.
 fn stopped_again(alloc: Global, slots: MemorySlots, calls: u64, tear: Tear) -> MemorySlots {
     let mut slots = slots;
     slots.fuse(calls);
@@ -131,7 +131,7 @@ fn stopped_again(alloc: Global, slots: MemorySlots, calls: u64, tear: Tear) -> M
     slots.cut(Tears::All(tear))
 }
 
-/// The calls of an opening and a recovery behind which the power stops again: at its first and last slots, at its sync, and in the
+/// The calls of an opening and a recovery after which the power stops again: at its first and last slots, at its sync, and in the
 /// recovery.
 const AGAIN: [u64; 12] = [
     0,
@@ -148,7 +148,7 @@ const AGAIN: [u64; 12] = [
     OPENS + 20,
 ];
 
-/// How many are found behind a stop and a second one.
+/// The number found after a stop and a second one.
 fn found_again(
     alloc: Global,
     calls: u64,
@@ -165,7 +165,7 @@ fn found_again(
     }
 }
 
-/// As much is found behind a second stop.
+/// The same number is found after a second stop.
 fn play_second_stops(
     report: &mut Report<'_>,
     calls: u64,
@@ -181,7 +181,7 @@ fn play_second_stops(
     Ok(())
 }
 
-/// How many are found behind a fault, and whether they are no fewer than were settled and no more than were accepted.
+/// The number found after a fault, and whether it is no less than was settled and no more than was accepted.
 fn found_after(
     alloc: Global,
     fault: Fault,
@@ -200,8 +200,8 @@ fn found_after(
     Ok(Some((found, is_between)))
 }
 
-/// A call that fails, or behind which the power stops, at each place of the scenario: what is found has every pulse that was settled,
-/// and none that was not accepted.
+/// A call that fails, or a stop after a call, at each place of the scenario: every settled pulse is found, and none that was not
+/// accepted.
 fn play_faults(report: &mut Report<'_>, fault: Fault, tear: Tear) -> Result<()> {
     let alloc = report.alloc();
     for calls in 0..CALLS {
@@ -234,7 +234,7 @@ fn torn(alloc: Global, tear: Tear) -> Result<Option<[Came; 3]>> {
     Ok(Some([get(&mut pages, 0), get(&mut pages, 1), get(&mut pages, 2)]))
 }
 
-/// What the middle page is to be: the old one where no octet came, the new one where all did, and else damaged.
+/// The expected middle page: the old one if no octet arrived, the new one if all did, and otherwise damaged.
 fn page_of(octets: usize) -> Came {
     match octets {
         0 => Came::Full(0x11),

@@ -16,7 +16,7 @@ enum Act {
     Checkpoint,
 }
 
-/// Its device is called 14 times, twice of them where the 83 records fill a page.
+/// Its device is called 14 times, twice of them when the 83 records fill a page.
 const SCENARIO: [Act; 9] = [
     Act::Pulses(3),
     Act::Commit,
@@ -46,7 +46,7 @@ pub enum Left {
 }
 
 impl Left {
-    /// What is picked for each page.
+    /// The pick for each page.
     pub fn pick(self) -> Pick<'static> {
         match self {
             Left::Old => Pick::AllOld,
@@ -66,7 +66,7 @@ pub fn accepted<P: Pages>(store: &Store<P>) -> u32 {
     pulses
 }
 
-/// What came of a part of the scenario: how many pulses were settled, and whether the device still works.
+/// The outcome of a part of the scenario: the number of settled pulses, and whether the device still works.
 #[derive(Clone, Copy)]
 struct Went {
     settled: u32,
@@ -94,7 +94,7 @@ fn add_pulses<P: Pages>(store: &mut Store<P>, count: u32, settled: u32) -> Went 
     }
 }
 
-/// What a call that settles all pulses came to.
+/// The outcome of a call that settles all pulses.
 fn settles<P: Pages>(store: &Store<P>, works: bool, settled: u32) -> Went {
     Went {
         settled: if works { accepted(store) } else { settled },
@@ -130,7 +130,7 @@ pub fn settled_in<P: Pages>(store: &mut Store<P>) -> u32 {
     settled
 }
 
-/// A device on which the power stopped, with the least and the most pulses that it may stand for.
+/// A device whose power stopped, with the least and the most pulses that it may represent.
 #[derive(Drop)]
 struct Stopped {
     device: MemoryPages,
@@ -138,7 +138,7 @@ struct Stopped {
     most: u32,
 }
 
-/// The device of a scenario whose power stopped behind so many calls of a formatted store.
+/// The device of a scenario whose power stopped after this many calls of a formatted store.
 fn stopped_behind(alloc: Global, calls: u64, left: Left) -> Result<Option<Stopped>, AllocError> {
     let mut device = MemoryPages::new(alloc, PAGES)?;
     device.fuse(FORMATS.saturating_add(calls));
@@ -169,7 +169,7 @@ fn found_on(alloc: Global, device: MemoryPages) -> Option<u32> {
     }
 }
 
-/// How many are found where the power stops again behind so many calls of the recovery.
+/// The number found if the power stops again after this many calls of the recovery.
 fn found_behind(alloc: Global, device: MemoryPages, calls: u64, left: Left) -> Option<u32> {
     let mut device = device;
     device.fuse(calls);
@@ -180,7 +180,7 @@ fn found_behind(alloc: Global, device: MemoryPages, calls: u64, left: Left) -> O
     found_on(alloc, device.cut(left.pick()))
 }
 
-/// How many pulses are found behind one stop, and whether they are no fewer than were settled and no more than were accepted.
+/// The number of pulses found after one stop, and whether it is no less than was settled and no more than was accepted.
 fn found_after(alloc: Global, calls: u64, left: Left) -> Result<(Option<u32>, bool), AllocError> {
     let Some(stopped) = stopped_behind(alloc, calls, left)? else {
         return Ok((None, false));
@@ -193,7 +193,7 @@ fn found_after(alloc: Global, calls: u64, left: Left) -> Result<(Option<u32>, bo
     Ok((found, is_between))
 }
 
-/// How many pulses are found behind a stop and a second one.
+/// The number of pulses found after a stop and a second one.
 fn found_again(
     alloc: Global,
     calls: u64,

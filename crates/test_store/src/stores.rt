@@ -16,7 +16,7 @@ use std::mem::replace;
 /// A store over pages in memory.
 pub type MemoryStore = Store<MemoryPages>;
 
-/// Closes a store, and opens it again; None is left where it does not open.
+/// Closes a store, and opens it again; None is left if it does not open.
 pub fn reopen(alloc: Global, store: &mut Option<MemoryStore>) {
     if let Some(here) = store.take() {
         drop(replace(store, Store::open(alloc, here.close()).ok()));
@@ -33,7 +33,7 @@ fn taken(store: &mut MemoryStore, count: u32) -> u32 {
     count
 }
 
-/// Captures so many rows, up to the first that is not taken. How many were taken.
+/// Captures rows, up to the first that is not accepted. Returns how many were accepted.
 fn captured(store: &mut MemoryStore, count: u32) -> u32 {
     for place in 0..count {
         if store.add(Event::Capture).is_err() {
@@ -95,7 +95,7 @@ fn play_on_store(
     }
 }
 
-/// What a page holds; None where it is damaged, or cannot be read.
+/// The content of a page; None if it is damaged, or cannot be read.
 fn content_of(device: &mut MemoryPages, index: u16) -> Option<[u8; 512]> {
     if device.count() <= index {
         return None;
@@ -114,7 +114,7 @@ fn begins(device: &mut MemoryPages, index: u16, front: &[u8]) -> bool {
     }
 }
 
-/// Whether a page has these bytes from this place on, and zeros behind them.
+/// Whether a page has these bytes from this place on, and zeros after them.
 fn ends(device: &mut MemoryPages, index: u16, place: usize, part: &[u8]) -> bool {
     let Some(bytes) = content_of(device, index) else {
         return false;
@@ -127,7 +127,7 @@ fn ends(device: &mut MemoryPages, index: u16, place: usize, part: &[u8]) -> bool
     }
 }
 
-/// Writes a page with these bytes in front and zeros behind them, and says whether that passed.
+/// Writes a page with these bytes at the front and zeros after them, and returns whether that succeeded.
 fn puts(device: &mut MemoryPages, index: u16, front: &[u8]) -> bool {
     let mut content = [0; 512];
     for (byte, value) in content.iter_mut().zip(front.iter()) {
@@ -136,7 +136,7 @@ fn puts(device: &mut MemoryPages, index: u16, front: &[u8]) -> bool {
     index < device.count() && device.write(index, &content).is_ok()
 }
 
-/// What the head of a page with index 0 says.
+/// The content of the head of a page with index 0.
 #[derive(Clone, Copy)]
 struct Head {
     kind: u8,
@@ -230,7 +230,7 @@ fn play_on_device(
     }
 }
 
-/// What a script works on.
+/// The subject of a script.
 #[derive(Drop)]
 enum Subject {
     Nothing,
@@ -267,7 +267,7 @@ fn store_in(subject: &mut Subject) -> Option<MemoryStore> {
     }
 }
 
-/// What came of a format or a recovery: the store, or the device and why there is none.
+/// The outcome of a format or a recovery: the store, or the device and why there is none.
 fn keep(
     subject: &mut Subject,
     made: std::result::Result<MemoryStore, (MemoryPages, OpenFault)>,
@@ -424,7 +424,7 @@ pub fn play_stores(report: &mut Report<'_>) -> Result<()> {
     Ok(play_group(report, "versions", &VERSIONS)?)
 }
 
-/// How a fault at an event is told.
+/// How a fault at an event is shown.
 const TEXTS: [(AddFault, &str); 7] = [
     (AddFault::Refused(Refused::MomentBack(900)), "refused 1"),
     (AddFault::Refused(Refused::Range), "refused 2"),
@@ -435,7 +435,7 @@ const TEXTS: [(AddFault, &str); 7] = [
     (AddFault::Exhausted, "exhausted"),
 ];
 
-/// Faults are told by name and number.
+/// Faults are shown by name and number.
 pub fn play_texts(report: &mut Report<'_>) -> Result<()> {
     report.begin("texts of faults");
     for (fault, text) in TEXTS {

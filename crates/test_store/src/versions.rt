@@ -1,4 +1,4 @@
-//! Scripts of pages of several versions: what a recovery takes of version 1, what it writes in its place, and what it does not know.
+//! Scripts of pages of several versions: what a recovery uses of version 1, what it writes in its place, and what it does not know.
 
 use crate::scripts::{OnDevice, OnStore, Script, Step};
 use dlms_store::{OpenFault, PAGES};

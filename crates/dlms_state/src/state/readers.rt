@@ -1,4 +1,4 @@
-//! What a state holds. Each reader's value is that of the definitions, for every list of events that leaves the state.
+//! Reads a state. Each method returns the value of the definitions, for every list of events that leads to the state.
 ghost use Rattle.std.specs.Prelude.{◌≡◌, ◌<◌, ◌≤◌, ◌-◌, ◌^◌, List, All, length, true};
 ghost use Rattle.dlms_state.specs.declared.event.TheConstants.{LAST_SECOND, LONGEST_PERIOD, MOST_COLUMNS, MOST_TEXT};
 ghost use Rattle.dlms_state.specs.Events.{clock_at, registers_after, clock_after, moment_after, offset_after, period_after, text_after, secret_after, columns_after, buffer_after, captures};
@@ -39,7 +39,7 @@ impl<A: Allocator + Copy> State<A> {
         self.clock.last
     }
 
-    /// What is added to the last moment to make the clock.
+    /// The offset added to the last moment to make the clock.
     pub fn offset(&self) -> i64
         ensures value { result ≡ self.now.offset }
         ensures after { (E : List Event) → IsStateOf E self.now → result ≡ offset_after E }
@@ -47,7 +47,7 @@ impl<A: Allocator + Copy> State<A> {
         self.clock.offset
     }
 
-    /// The capture period in seconds; 0 is none.
+    /// The capture period in seconds; 0 means no period.
     pub fn period(&self) -> u32
         ensures value { result ≡ self.now.period }
         ensures after { (E : List Event) → IsStateOf E self.now → result ≡ period_after E }
@@ -91,16 +91,18 @@ impl<A: Allocator + Copy> State<A> {
     /// The load profile's buffer.
     pub fn rows(&self) -> &Rows<A>
         ensures value { result.now ≡ self.now.rows }
-        ensures after { (E : List Event) → IsStateOf E self.now → result.now.items ≡ buffer_after E }
+        ensures after { (E : List Event) → IsStateOf E self.now
+            → result.now.items ≡ buffer_after E }
         ensures columns { All (IsRowOf self.now.columns) self.now.rows.items }
     {
         &self.rows
     }
 
-    /// The number of the oldest row in the buffer, or of the next one where it is empty.
+    /// The number of the oldest row in the buffer, or of the next one if it is empty.
     pub fn first_number(&self) -> u128
         ensures value { result ≡ first_number self.now.rows }
-        ensures after { (E : List Event) → IsStateOf E self.now → result ≡ length (captures E) - length (buffer_after E) }
+        ensures after { (E : List Event) → IsStateOf E self.now
+            → result ≡ length (captures E) - length (buffer_after E) }
     {
         self.rows.first_number()
     }

@@ -14,7 +14,7 @@ returns-then-not-is_free g c = λ t stands. (t, stands, NotAsked (is_false c.is_
 
 pub returns-in-Ok : goal.returns-in-Ok
 returns-in-Ok g c = λ t stands.
-    let u = c.answered.ensures (record t { client = c.get.new.self }) (asked_in c.args.head.now _ t c.get.new.self refl refl refl stands) in
+    let u = c.request_answer.ensures (record t { client = c.get.new.self }) (asked_in c.args.head.now _ t c.get.new.self refl refl refl stands) in
     (u.0, u.1, IsMade (c.is_free.ensures.0 c.if-not-is_free.false) c.in-Ok.frame c.get.new.self (asks_as Get (get_normal INVOKE c.args.attribute None) c.args.head.now.client t.client (Ok c.in-Ok.frame) c.get.new.self stands.at.client c.in-Ok.ensures) u.2)
 
 pub returns-in-Err : goal.returns-in-Err

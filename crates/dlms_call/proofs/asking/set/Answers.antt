@@ -18,7 +18,7 @@ returns-then-not-fits g c = λ t stands. (t, stands, NotAsked (λ may. is_false 
 
 pub returns-in-Ok : goal.returns-in-Ok
 returns-in-Ok g c = λ t stands.
-    let u = c.answered.ensures (record t { client = c.set.new.self }) (asked_in c.args.head.now _ t c.set.new.self refl refl refl stands) in
+    let u = c.request_answer.ensures (record t { client = c.set.new.self }) (asked_in c.args.head.now _ t c.set.new.self refl refl refl stands) in
     (u.0, u.1, IsMade (c.is_free.ensures.0 c.if-not-is_free.false, c.fits.ensures.0 c.if-not-fits.false) c.in-Ok.frame c.set.new.self (asks_as Set (set_normal INVOKE c.args.attribute None (value_of c.args.value)) c.args.head.now.client t.client (Ok c.in-Ok.frame) c.set.new.self stands.at.client c.in-Ok.ensures) u.2)
 
 pub returns-in-Err : goal.returns-in-Err

@@ -3,7 +3,7 @@ use Rattle.dlms_call.specs.Asking.{SendsOn}
 use Rattle.dlms_call.specs.Asking.SendsOn.{NoTurn, OneMore}
 use Rattle.dlms_call.specs.Asking.Settles.{IsTold, TalksOn}
 use Rattle.dlms_call.specs.declared.asking.TheConstants.{TURNS}
-use Rattle.dlms_call.specs.declared.client_end.Turn.TheVariants.{Sent, Associated, Answered, Down}
+use Rattle.dlms_call.specs.declared.client_end.ClientTurn.TheVariants.{Sent, Associated, Answered, Down}
 use Rattle.dlms_call.proofs.TalkingLemmas.{within_as}
 use Rattle.dlms_call.proofs.asking.settle.Goals as goal
 

@@ -5,7 +5,7 @@ use Rattle.dlms_checkpoint.specs.Checkpoint.{head_bytes}
 use Rattle.dlms_checkpoint.proofs.Joins.{joined_two}
 use Rattle.dlms_checkpoint.proofs.fields.head_of.Goals as goal
 
--- four pieces more behind six
+-- four more pieces after six
 joined_four : (b b1 b2 b3 b4 p q r s : List ℕ) → b1 ≡ b ++ p → b2 ≡ b1 ++ q → b3 ≡ b2 ++ r → b4 ≡ b3 ++ s → b4 ≡ b ++ (p ++ (q ++ (r ++ s)))
 joined_four b b1 b2 b3 b4 p q r s e1 e2 e3 e4 =
     joined_two b b1 b4 p (q ++ (r ++ s)) e1 (joined_two b1 b2 b4 q (r ++ s) e2 (joined_two b2 b3 b4 r s e3 e4))

@@ -57,7 +57,7 @@ are_rows-requires-clause-few c =
     let same = columns_alone (state_of_parts c.parts_of-parts.result 0) c.split_at.result.0.now c.columns_of.result.now c.columns_of.ensures (c.parts_of-parts.ensures 0) in
     omega (arith, (c.parts_fit.ensures 0).columns.count, ap length same)
 
--- how long the places behind the head are
+-- the length of the places after the head
 places_long : (bytes behind : List ℕ) (columns next : ℕ) → behind ≡ drop 324 bytes → length bytes ≡ 324 + 4 * columns * (next % 30) → length behind ≡ 4 * columns * (next % 30)
 places_long bytes behind columns next is all = ap length is ∙ omega (arith, length-drop 324 bytes, all)
 

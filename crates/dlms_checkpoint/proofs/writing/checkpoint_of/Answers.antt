@@ -5,7 +5,7 @@ use Rattle.dlms_checkpoint.specs.Checkpoint.{AreBytes, head_bytes, first_written
 use Rattle.dlms_checkpoint.proofs.Places.{bytes_are}
 use Rattle.dlms_checkpoint.proofs.writing.checkpoint_of.Goals as goal
 
--- the rows of a state do not stand in its head
+-- the rows of a state are not in its head
 head_alone : (s : StateValue) (n first next : ℕ) → head_bytes (record s { rows = none_before n }) first next ≡ head_bytes s first next
 unfolding head_bytes
 head_alone s n first next = refl

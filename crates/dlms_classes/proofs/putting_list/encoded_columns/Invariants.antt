@@ -5,6 +5,6 @@ use Rattle.dlms_classes.specs.Shown.{column_value}
 use Rattle.dlms_classes.specs.Table.{object_of_column}
 use Rattle.dlms_classes.proofs.putting_list.encoded_columns.Given as goal
 
--- behind the head the columns so far
+-- the columns so far, after the head
 abbrev pub invariant-loop-id : goal.invariant-loop-id
 invariant-loop-id g l = l.out.items ≡ (1 ∷ short_length (length l.columns)) ++ all_canonical (map_values (λ id. column_value (object_of_column id)) (take l.id-index l.columns))

@@ -4,6 +4,6 @@ use Rattle.dlms_data.specs.Writing.{all_canonical, short_length}
 use Rattle.dlms_classes.specs.Listing.{map_values, listed_attribute}
 use Rattle.dlms_classes.proofs.putting_list.put_attributes.Given as goal
 
--- behind the head the entries so far
+-- the entries so far, after the head
 abbrev pub invariant-loop-i : goal.invariant-loop-i
 invariant-loop-i g l = l.out.items ≡ (l.fn.out.items ++ 1 ∷ short_length (length l.attributes)) ++ all_canonical (map_values (listed_attribute l.client) (enumerate_from 1 (take l.i l.attributes)))

@@ -12,15 +12,15 @@ returns-in-Err-knows-clause-attempts g c =
     subst (λ (b : Bool). Reaches c.args.connected c.args.polling.now.address.now (g.L.End.past c.args.line.now) (g.L.End.past c.reach.new.line) (Ok b)) c.in-Ok-true.field-0-test c.in-Ok-true.ensures in
     NotKnown (g.L.End.past c.reach.new.line) reached c.in-Err-knows.ensures refl
 
-pub returns-in-Err-done-clause-attempts : goal.returns-in-Err-done-clause-attempts
-returns-in-Err-done-clause-attempts g c =
+pub returns-in-Err-poll_within-clause-attempts : goal.returns-in-Err-poll_within-clause-attempts
+returns-in-Err-poll_within-clause-attempts g c =
     let reached : Reaches c.args.connected c.args.polling.now.address.now (g.L.End.past c.args.line.now) (g.L.End.past c.reach.new.line) (Ok true) =
     subst (λ (b : Bool). Reaches c.args.connected c.args.polling.now.address.now (g.L.End.past c.args.line.now) (g.L.End.past c.reach.new.line) (Ok b)) c.in-Ok-true.field-0-test c.in-Ok-true.ensures in
-    LineFails c.in-Err-done.fault c.line_fault.ensures
+    LineFails c.in-Err-poll_within.fault c.line_fault.ensures
     (record {
       mid = g.L.End.past c.reach.new.line;
       known = g.L.End.past c.knows.new.line;
       reaches = reached;
       knows = c.in-Ok.ensures;
-      does = subst (λ (p : PollerValue). Does c.args.polling.now.deadline (g.L.End.past c.knows.new.line) (g.L.End.past c.done.new.line) (g.D.Timer.seen c.args.desk.now) (g.D.Timer.seen c.done.new.timer) p (Err c.in-Err-done.fault)) c.fresh.ensures c.in-Err-done.ensures.does;
+      does = subst (λ (p : PollerValue). Does c.args.polling.now.deadline (g.L.End.past c.knows.new.line) (g.L.End.past c.poll_within.new.line) (g.D.Timer.seen c.args.inputs.now) (g.D.Timer.seen c.poll_within.new.timer) p (Err c.in-Err-poll_within.fault)) c.fresh.ensures c.in-Err-poll_within.ensures.does;
     })

@@ -12,16 +12,16 @@ use Rattle.dlms_field.proofs.polling.poll.Goals as goal
 pub returns-in-Err : goal.returns-in-Err
 returns-in-Err g c = NotReady c.in-Err.ensures.fails refl (refl, refl)
 
-pub returns-in-Err-called : goal.returns-in-Err-called
-returns-in-Err-called g c =
+pub returns-in-Err-call_meter : goal.returns-in-Err-call_meter
+returns-in-Err-call_meter g c =
     let ready = c.in-Ok.ready in
     let client = c.args.polling.now.client in
     let given : PlanValue = record { client = client; secret = ready.secret.items; after = c.last.result; columns = Asked } in
     let same : given ≡ plan_behind client ready.secret.items ready.readings =
     ap (λ (after : Option ℕ). let plan : PlanValue = record { client = client; secret = ready.secret.items; after = after; columns = Asked } in plan) c.last.ensures.last in
-    let before : Known = record { seen = g.D.Timer.seen c.args.office.now.desk; asked = g.F.Filing.asked c.args.office.now.place; past = g.L.End.past c.args.office.now.line; printed = g.O.Output.printed c.args.output.now; errors = g.E.Output.printed c.args.errors.now } in
-    let after : Known = record { seen = g.D.Timer.seen c.called.new.desk; asked = g.F.Filing.asked c.prepared.new.place; past = g.L.End.past c.called.new.line; printed = g.O.Output.printed c.args.output.now; errors = g.E.Output.printed c.args.errors.now } in
-    not_called c.args.polling.now before after ready.secret.items ready.readings ready.limit (g.D.Timer.seen c.prepared.new.desk) given c.in-Err-called.fault c.in-Ok.ensures.ready same c.in-Err-called.ensures.fails (refl, refl)
+    let before : Known = record { seen = g.D.Timer.seen c.args.setup.now.inputs; asked = g.F.Filing.asked c.args.setup.now.place; past = g.L.End.past c.args.setup.now.line; printed = g.O.Output.printed c.args.output.now; errors = g.E.Output.printed c.args.errors.now } in
+    let after : Known = record { seen = g.D.Timer.seen c.call_meter.new.inputs; asked = g.F.Filing.asked c.prepare_poll.new.place; past = g.L.End.past c.call_meter.new.line; printed = g.O.Output.printed c.args.output.now; errors = g.E.Output.printed c.args.errors.now } in
+    not_called c.args.polling.now before after ready.secret.items ready.readings ready.limit (g.D.Timer.seen c.prepare_poll.new.inputs) given c.in-Err-call_meter.fault c.in-Ok.ensures.ready same c.in-Err-call_meter.ensures.fails (refl, refl)
 
 pub returns : goal.returns
 returns g c =
@@ -30,10 +30,10 @@ returns g c =
     let given : PlanValue = record { client = client; secret = ready.secret.items; after = c.last.result; columns = Asked } in
     let same : given ≡ plan_behind client ready.secret.items ready.readings =
     ap (λ (after : Option ℕ). let plan : PlanValue = record { client = client; secret = ready.secret.items; after = after; columns = Asked } in plan) c.last.ensures.last in
-    let before : Known = record { seen = g.D.Timer.seen c.args.office.now.desk; asked = g.F.Filing.asked c.args.office.now.place; past = g.L.End.past c.args.office.now.line; printed = g.O.Output.printed c.args.output.now; errors = g.E.Output.printed c.args.errors.now } in
-    let after : Known = record { seen = g.D.Timer.seen c.called.new.desk; asked = g.F.Filing.asked c.filed.new.place; past = g.L.End.past c.called.new.line; printed = g.O.Output.printed c.filed.new.output; errors = g.E.Output.printed c.filed.new.errors } in
-    let asked = g.F.Filing.asked c.prepared.new.place in
-    let done = c.in-Ok-called.poller in
-    polls_so c.args.polling.now before after ready.secret.items ready.readings ready.limit (g.D.Timer.seen c.prepared.new.desk) asked given done c.in-Ok.ensures.ready same c.in-Ok-called.ensures.takes.0 c.in-Ok-called.ensures.takes.1 (subst (λ (plan : PlanValue). IsDonePoll plan done) same c.in-Ok-called.ensures.done) c.filed.result
-    (subst (λ (rs : List Row). IfOk c.filed.result (λ _. FilesPolled asked after.asked before.printed after.printed before.errors after.errors ready.readings rs)) c.rows.ensures.rows c.filed.ensures.files)
-    (subst (λ (rs : List Row). IfErr c.filed.result (FilesNone (readings_of c.args.polling.now) asked after.asked before.printed after.printed before.errors after.errors ready.readings rs)) c.rows.ensures.rows c.filed.ensures.fails)
+    let before : Known = record { seen = g.D.Timer.seen c.args.setup.now.inputs; asked = g.F.Filing.asked c.args.setup.now.place; past = g.L.End.past c.args.setup.now.line; printed = g.O.Output.printed c.args.output.now; errors = g.E.Output.printed c.args.errors.now } in
+    let after : Known = record { seen = g.D.Timer.seen c.call_meter.new.inputs; asked = g.F.Filing.asked c.file_readings.new.place; past = g.L.End.past c.call_meter.new.line; printed = g.O.Output.printed c.file_readings.new.output; errors = g.E.Output.printed c.file_readings.new.errors } in
+    let asked = g.F.Filing.asked c.prepare_poll.new.place in
+    let done = c.in-Ok-call_meter.poller in
+    polls_so c.args.polling.now before after ready.secret.items ready.readings ready.limit (g.D.Timer.seen c.prepare_poll.new.inputs) asked given done c.in-Ok.ensures.ready same c.in-Ok-call_meter.ensures.takes.0 c.in-Ok-call_meter.ensures.takes.1 (subst (λ (plan : PlanValue). IsDonePoll plan done) same c.in-Ok-call_meter.ensures.done) c.file_readings.result
+    (subst (λ (rs : List Row). IfOk c.file_readings.result (λ _. FilesPolled asked after.asked before.printed after.printed before.errors after.errors ready.readings rs)) c.rows.ensures.rows c.file_readings.ensures.files)
+    (subst (λ (rs : List Row). IfErr c.file_readings.result (FilesNone (readings_of c.args.polling.now) asked after.asked before.printed after.printed before.errors after.errors ready.readings rs)) c.rows.ensures.rows c.file_readings.ensures.fails)

@@ -18,6 +18,6 @@ returns-in-Err-announce-clause-serves g c =
 
 pub returns-clause-serves : goal.returns-clause-serves
 returns-clause-serves g c =
-    HasServed _ _ c.new-site.result.ticks c.serve_all.new.site.ticks c.serve_all.result c.serve_all.new.meter
-    (λ w stands. ap (λ (t : Ticks). t.first) c.new-site.ensures ∙ c.new-ticks.ensures.first ∙ c.last.ensures.after (events_of w) (c.state.ensures w stands)) (ap (λ (t : Ticks). t.told) c.new-site.ensures ∙ c.new-ticks.ensures.none)
-    (ap (λ (t : Ticks). t.watts) c.new-site.ensures ∙ c.new-ticks.ensures.watts) c.serve_all.ensures.serves
+    HasServed _ _ c.new-server.result.ticks c.serve_all.new.server.ticks c.serve_all.result c.serve_all.new.meter
+    (λ w stands. ap (λ (t : Ticks). t.first) c.new-server.ensures ∙ c.new-ticks.ensures.first ∙ c.last.ensures.after (events_of w) (c.state.ensures w stands)) (ap (λ (t : Ticks). t.told) c.new-server.ensures ∙ c.new-ticks.ensures.none)
+    (ap (λ (t : Ticks). t.watts) c.new-server.ensures ∙ c.new-ticks.ensures.watts) c.serve_all.ensures.serves

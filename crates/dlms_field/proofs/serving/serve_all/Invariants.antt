@@ -4,4 +4,4 @@ use Rattle.dlms_field.proofs.serving.serve_all.Given as goal
 
 abbrev pub invariant-connections : goal.invariant-connections
 invariant-connections g l =
-    ServesMany l.fn.rules (g.W.Watch.seen l.fn.site.watch) l.fn.meter l.fn.site.ticks l._next (g.W.Watch.seen l.site.watch) l.meter l.site.ticks × Made l.fn.meter l.meter
+    ServesMany l.fn.rules (g.W.Watch.seen l.fn.server.watch) l.fn.meter l.fn.server.ticks l._next (g.W.Watch.seen l.server.watch) l.meter l.server.ticks × Made l.fn.meter l.meter

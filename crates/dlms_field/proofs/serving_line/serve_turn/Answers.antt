@@ -20,8 +20,8 @@ returns-in-Some-clause-calls g c = joined _ _ _ c.hang_up.ensures.calls (joined 
 
 pub returns-in-None-clause-serves : goal.returns-in-None-clause-serves
 returns-in-None-clause-serves g c =
-    turn_lasts c.args.device.now c.args.rules (g.T.End.past c.args.line.now) (g.T.End.past c.talk.new.stream) (g.W.Watch.seen c.args.site.now.watch) (g.W.Watch.seen c.talk.new.self.watch) (g.W.Watch.seen c.tell.new.site.watch)
-    (g.W.Watch.seen c.rest.new.watch) c.args.meter.now c.hang_up.new.meter c.talk.new.meter c.hang_up-2.new.meter c.args.site.now.ticks c.talk.new.self.ticks c.tell.new.site.ticks c.in-Ok.ending c.hang_up.ensures.hangs_up
+    turn_lasts c.args.device.now c.args.rules (g.T.End.past c.args.line.now) (g.T.End.past c.talk.new.stream) (g.W.Watch.seen c.args.server.now.watch) (g.W.Watch.seen c.talk.new.self.watch) (g.W.Watch.seen c.tell.new.server.watch)
+    (g.W.Watch.seen c.rest.new.watch) c.args.meter.now c.hang_up.new.meter c.talk.new.meter c.hang_up-2.new.meter c.args.server.now.ticks c.talk.new.self.ticks c.tell.new.server.ticks c.in-Ok.ending c.hang_up.ensures.hangs_up
     c.in-Ok.ensures c.hang_up-2.ensures.hangs_up c.in-None.ensures c.tell.ensures.ticks (ap g.W.Watch.seen c.tell.ensures.watch) c.rest.ensures
 
 pub returns-in-None-clause-calls : goal.returns-in-None-clause-calls

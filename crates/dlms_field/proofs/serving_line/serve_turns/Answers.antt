@@ -9,8 +9,8 @@ turns-init g c = (Begun, ([], refl))
 
 pub returns-in-Err-clause-serves : goal.returns-in-Err-clause-serves
 returns-in-Err-clause-serves g c =
-    turns_until c.args.device.now c.args.rules (g.T.End.past c.args.line.now) (g.T.End.past c.turns.line) (g.T.End.past c.serve_turn.new.line) (g.W.Watch.seen c.args.site.now.watch) (g.W.Watch.seen c.turns.site.watch)
-    (g.W.Watch.seen c.serve_turn.new.site.watch) c.args.meter.now c.turns.meter c.serve_turn.new.meter c.args.site.now.ticks c.turns.site.ticks c.serve_turn.new.site.ticks c.turns._turn c.in-Err.fault c.turns.invariant.0
+    turns_until c.args.device.now c.args.rules (g.T.End.past c.args.line.now) (g.T.End.past c.turns.line) (g.T.End.past c.serve_turn.new.line) (g.W.Watch.seen c.args.server.now.watch) (g.W.Watch.seen c.turns.server.watch)
+    (g.W.Watch.seen c.serve_turn.new.server.watch) c.args.meter.now c.turns.meter c.serve_turn.new.meter c.args.server.now.ticks c.turns.server.ticks c.serve_turn.new.server.ticks c.turns._turn c.in-Err.fault c.turns.invariant.0
     c.in-Err.ensures.serves
 
 pub returns-in-Err-clause-calls : goal.returns-in-Err-clause-calls
@@ -18,14 +18,14 @@ returns-in-Err-clause-calls g c = joined _ _ _ c.turns.invariant.1 c.serve_turn.
 
 pub turns-preserved : goal.turns-preserved
 turns-preserved g c = (
-  Then c.turns._turn (g.T.End.past c.turns.line) (g.T.End.past c.serve_turn.new.line) (g.W.Watch.seen c.turns.site.watch) (g.W.Watch.seen c.serve_turn.new.site.watch) c.turns.meter c.serve_turn.new.meter c.turns.site.ticks c.serve_turn.new.site.ticks c.turns.invariant.0 c.in-Ok.ensures.serves,
+  Then c.turns._turn (g.T.End.past c.turns.line) (g.T.End.past c.serve_turn.new.line) (g.W.Watch.seen c.turns.server.watch) (g.W.Watch.seen c.serve_turn.new.server.watch) c.turns.meter c.serve_turn.new.meter c.turns.server.ticks c.serve_turn.new.server.ticks c.turns.invariant.0 c.in-Ok.ensures.serves,
   joined _ _ _ c.turns.invariant.1 c.serve_turn.ensures.calls,
 )
 
 pub returns-clause-serves : goal.returns-clause-serves
 returns-clause-serves g c =
     let all : c.turns._turn ≡ 2 ^ 64 - 1 = omega (arith, c.turns-test.false, c.turns.auto._turn-end) in
-    subst (λ (n : ℕ). ServesTurns c.args.device.now c.args.rules (g.T.End.past c.args.line.now) (g.W.Watch.seen c.args.site.now.watch) c.args.meter.now c.args.site.now.ticks n (g.T.End.past c.turns.line) (g.W.Watch.seen c.turns.site.watch) c.turns.meter c.turns.site.ticks) all c.turns.invariant.0
+    subst (λ (n : ℕ). ServesTurns c.args.device.now c.args.rules (g.T.End.past c.args.line.now) (g.W.Watch.seen c.args.server.now.watch) c.args.meter.now c.args.server.now.ticks n (g.T.End.past c.turns.line) (g.W.Watch.seen c.turns.server.watch) c.turns.meter c.turns.server.ticks) all c.turns.invariant.0
 
 pub returns-clause-calls : goal.returns-clause-calls
 returns-clause-calls g c = c.turns.invariant.1

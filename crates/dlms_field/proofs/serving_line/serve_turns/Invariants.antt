@@ -4,5 +4,5 @@ use Rattle.dlms_field.proofs.serving_line.serve_turns.Given as goal
 
 abbrev pub invariant-turns : goal.invariant-turns
 invariant-turns g l =
-    ServesTurns l.fn.device l.fn.rules (g.T.End.past l.fn.line) (g.W.Watch.seen l.fn.site.watch) l.fn.meter l.fn.site.ticks l._turn (g.T.End.past l.line) (g.W.Watch.seen l.site.watch) l.meter l.site.ticks
+    ServesTurns l.fn.device l.fn.rules (g.T.End.past l.fn.line) (g.W.Watch.seen l.fn.server.watch) l.fn.meter l.fn.server.ticks l._turn (g.T.End.past l.line) (g.W.Watch.seen l.server.watch) l.meter l.server.ticks
     × Made l.fn.meter l.meter

@@ -10,7 +10,7 @@ use Rattle.dlms_store.specs.Page.{HasPage, IsNot, of_version}
 use Rattle.dlms_store.proofs.Looking.{match_more, was_none}
 use Rattle.dlms_store.proofs.page.ring_payload.Goals as goal
 
--- where neither version's page stands there, none serves
+-- if there is no page of either version, none can be used
 neither : (version own : Version) (columns : List ℕ) (S : Type 0) (index number : ℕ) (page : PageRead) → ((payload : List ℕ) → version ≡ Columns → IsNot (HasPage Ring index (of_version Columns number) payload page))
     → ((payload : List ℕ) → S → IsNot (HasPage Ring index (of_version Rings number) payload page)) → S ↔ (columns ≡ first_columns) → (payload : List ℕ) → Serves version columns own → IsNot (HasPage Ring index (of_version own number) payload page)
 neither version Columns columns S index number page present older first payload serves = present payload serves

@@ -12,6 +12,11 @@ returns c = λ rows met.
       c.asking.ensures rows met,
       search rules,
       c.number_for.ensures rows met,
-      subst (λ (said : Option Text). IsSaid said c.is_given-raw.result) (c.value_for.ensures rows met) c.is_given-raw.ensures,
-      subst (λ (said : Option Text). IsSaid said c.is_given-json.result) (c.value_for-2.ensures rows met) c.is_given-json.ensures,
+      (
+        c.is_given-raw.result,
+        c.is_given-json.result,
+        subst (λ (said : Option Text). IsSaid said c.is_given-raw.result) (c.value_for.ensures rows met) c.is_given-raw.ensures,
+        subst (λ (said : Option Text). IsSaid said c.is_given-json.result) (c.value_for-2.ensures rows met) c.is_given-json.ensures,
+        c.value_format.ensures,
+      ),
     )

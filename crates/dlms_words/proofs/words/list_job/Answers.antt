@@ -9,5 +9,9 @@ returns c = λ rows met. (
   rows,
   refl,
   c.asking.ensures rows met,
-  subst (λ (said : Option Text). IsSaid said c.is_given-json.result) (c.value_for.ensures rows met) c.is_given-json.ensures,
+  (
+    c.is_given-json.result,
+    subst (λ (said : Option Text). IsSaid said c.is_given-json.result) (c.value_for.ensures rows met) c.is_given-json.ensures,
+    c.output_format.ensures,
+  ),
 )

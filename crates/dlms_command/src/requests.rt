@@ -1,0 +1,516 @@
+//! The requests to a meter, one after another, and the output for each.
+
+ghost use Rattle.std.specs.Prelude.{◌≤◌, ◌<◌, ◌+◌, ◌≡◌, ◌⊎◌, MatchOption};
+ghost use Rattle.dlms_data.specs.declared.date_time.TheConstants.{LAST_SECOND};
+ghost use Rattle.dlms_command.specs.declared.requests.TheConstants.{BEGINNING};
+
+use crate::fault::Fault;
+use crate::objects::class_named;
+use crate::telling::{Teller, put_clock, put_line};
+use dlms_ask::{Front, Name, ValueFault, front_of, name_of, value_of};
+use dlms_call::{CallFault, ClientEnd, act, end, get, set};
+use dlms_client::Answer;
+use dlms_data::{Data, Descriptor, LAST_SECOND};
+use dlms_ends::End;
+use dlms_words::{OutputFormat, ValueFormat};
+use std::alloc::Global;
+use std::io::Write;
+
+/// The second of the system's clock, counted from 1970-01-01 00:00:00, at which the meter's begins.
+const BEGINNING: u64 = 946_684_800;
+
+/// The class of an association that is made by logical names, and the name of the current one (IEC 62056-6-2, Association LN).
+const ASSOCIATION: u16 = 15;
+
+const CURRENT: [u8; 6] = [0, 0, 40, 0, 0, 255];
+
+/// The attribute of its object list, and of what most classes keep.
+const SECOND: u8 = 2;
+
+/// The classes Register, Extended register and Demand register.
+const REGISTER: u16 = 3;
+
+const EXTENDED: u16 = 4;
+
+const DEMAND: u16 = 5;
+
+/// The tags of an octet-string, of an integer, of an enum and of a date-time (A-XDR, IEC 62056-6-2, common data types).
+const OCTET_STRING: u8 = 9;
+
+const INTEGER: u8 = 15;
+
+const ENUM: u8 = 22;
+
+const DATE_TIME: u8 = 25;
+
+/// The class Clock, whose time its attribute 2 is.
+const CLOCK: u16 = 8;
+
+/// The second of a meter's clock, counted from 2000-01-01 00:00:00, at this second of the system's; `None` if no meter's clock can
+/// show it, before 2000 or after 2099.
+pub fn second_of(seconds: u64) -> Option<u32>
+    ensures { MatchOption result ((seconds < BEGINNING)
+        ⊎ (BEGINNING + LAST_SECOND < seconds)) (λ second. (second ≤ LAST_SECOND)
+        × (BEGINNING + second ≡ seconds)) }
+{
+    let second = u32::try_from(seconds.checked_sub(BEGINNING)?).ok()?;
+    if second <= LAST_SECOND {
+        Some(second)
+    } else {
+        None
+    }
+}
+
+/// A talk with a meter: its place, its line, the client, and how many octets a value may have.
+#[derive(Drop)]
+pub struct MeterSession<'a, 's, S: End> {
+    pub alloc: Global,
+    pub place: &'a str,
+    pub line: &'s mut S,
+    pub head: Box<ClientEnd<Global>>,
+    pub most: u32,
+}
+
+/// The name that a text writes.
+pub fn read_name(text: &str) -> Result<Name, Fault<'_>> {
+    match name_of(text) {
+        Some(name) => Ok(name),
+        None => Err(Fault::Name(text)),
+    }
+}
+
+/// The value that a text writes, at this second.
+pub fn read_value(alloc: Global, text: &str, now: u32) -> Result<Data<Global>, Fault<'_>>
+    requires { now ≤ LAST_SECOND }
+{
+    match value_of(alloc, text, now) {
+        Ok(value) => Ok(value),
+        Err(ValueFault::Form) => Err(Fault::Value(text)),
+        Err(ValueFault::Memory) => Err(Fault::MEMORY),
+    }
+}
+
+/// The scaler and the unit in an encoding, if it encodes a structure of both.
+fn scale_of(bytes: &[u8]) -> Option<(i8, u8)> {
+    match front_of(bytes) {
+        (Front::Structure(2), [INTEGER, scaler, ENUM, unit]) => {
+            Some((i8::from_be_bytes([*scaler]), *unit))
+        }
+        _ => None,
+    }
+}
+
+/// The attribute with the scaler and the unit of a register's value; `None` if it has none.
+fn scaler_of(attribute: Descriptor) -> Option<Descriptor> {
+    let id = match (attribute.class, attribute.id) {
+        (REGISTER, 2) | (EXTENDED, 2) => 3,
+        (DEMAND, 2) | (DEMAND, 3) => 4,
+        _ => return None,
+    };
+    Some(Descriptor { id, ..attribute })
+}
+
+/// Whether a fault is the meter's answer to a request, after which the association goes on.
+fn is_answer(fault: &Fault<'_>) -> bool {
+    matches!(fault, Fault::Result(..) | Fault::Denied(..))
+}
+
+impl<'a, S: End> MeterSession<'a, '_, S> {
+    /// The result that an answer reports for the object of this name: nothing more for a success.
+    fn judge(
+        &self,
+        name: &'a str,
+        is_action: bool,
+        answer: Result<Answer, CallFault>,
+    ) -> Result<(), Fault<'a>> {
+        match answer {
+            Ok(Answer::Value) | Ok(Answer::Result(0)) => Ok(()),
+            Ok(Answer::Result(code)) => Err(Fault::Result(name, code, is_action)),
+            Ok(Answer::Denied(denial)) => Err(Fault::Denied(name, denial)),
+            Err(CallFault::TooLarge) => Err(Fault::Large(name, self.most)),
+            Err(fault) => Err(Fault::of_call(self.place, fault)),
+        }
+    }
+
+    /// Asks for an attribute. Its encoding is the client's value then.
+    fn fetch(&mut self, name: &'a str, attribute: Descriptor) -> Result<(), Fault<'a>> {
+        let answer = get(self.line, &mut self.head, attribute, self.most as usize);
+        self.judge(name, false, answer)
+    }
+
+    /// A copy of the encoding that came last.
+    fn copy_value(&self) -> Result<Vec<u8>, Fault<'a>> {
+        Ok(Vec::from_slice(self.alloc, self.head.client.value())?)
+    }
+
+    /// Asks for the object list.
+    fn fetch_list(&mut self) -> Result<(), Fault<'a>> {
+        let attribute = Descriptor {
+            class: ASSOCIATION,
+            name: CURRENT,
+            id: SECOND,
+        };
+        self.fetch("0.0.40.0.0.255/2", attribute)
+    }
+
+    /// The encoding of the object list, if no class is given.
+    fn list_unless(&mut self, said: u16) -> Result<Option<Vec<u8>>, Fault<'a>> {
+        if said > 0 {
+            return Ok(None);
+        }
+        self.fetch_list()?;
+        Ok(Some(self.copy_value()?))
+    }
+
+    /// The class of an object: what is said, or what the object list says.
+    fn class(
+        &self,
+        list: &Option<Vec<u8>>,
+        text: &'a str,
+        name: Name,
+        said: u16,
+    ) -> Result<u16, Fault<'a>> {
+        let Some(list) = list else {
+            return Ok(said);
+        };
+        match class_named(self.alloc, list.as_slice(), name.code) {
+            Ok(Some(class)) => Ok(class),
+            Ok(None) | Err(ValueFault::Form) => Err(Fault::Class(text)),
+            Err(ValueFault::Memory) => Err(Fault::MEMORY),
+        }
+    }
+
+    /// The scaler and the unit of a register's value, if it has them.
+    fn scaler_unit(&mut self, said: &'a str, scaler: Descriptor) -> Option<(i8, u8)> {
+        match self.fetch(said, scaler) {
+            Ok(()) => scale_of(self.head.client.value()),
+            Err(fault) => {
+                drop(fault);
+                None
+            }
+        }
+    }
+
+    /// An attribute by its name: the value if no number is given.
+    fn attribute(
+        &self,
+        list: &Option<Vec<u8>>,
+        said: &'a str,
+        name: Name,
+        class: u16,
+    ) -> Result<Descriptor, Fault<'a>> {
+        let class = self.class(list, said, name, class)?;
+        let code = name.code;
+        Ok(Descriptor {
+            class,
+            name: code,
+            id: name.number.unwrap_or(SECOND),
+        })
+    }
+
+    /// The same by the meter's object list, which is read if no class is given.
+    fn attribute_of(
+        &mut self,
+        said: &'a str,
+        name: Name,
+        class: u16,
+    ) -> Result<Descriptor, Fault<'a>> {
+        let list = self.list_unless(class)?;
+        let attribute = self.attribute(&list, said, name, class);
+        drop(list);
+        attribute
+    }
+
+    /// Prints the value of an attribute that came last, as it is.
+    fn put_plain<W: Write>(
+        &self,
+        attribute: Descriptor,
+        format: ValueFormat,
+        output: &mut W,
+    ) -> Result<(), Fault<'a>> {
+        let mut teller = Teller::new(self.alloc, self.place, output);
+        teller.put_value(attribute, self.head.client.value(), format, None)
+    }
+
+    /// Prints the value of a register that came last, with its scaler and its unit.
+    fn put_scaled<W: Write>(
+        &mut self,
+        said: &'a str,
+        attribute: Descriptor,
+        scaler: Descriptor,
+        format: ValueFormat,
+        output: &mut W,
+    ) -> Result<(), Fault<'a>> {
+        let value = self.copy_value()?;
+        let scaled = self.scaler_unit(said, scaler);
+        let mut teller = Teller::new(self.alloc, self.place, output);
+        let told = teller.put_value(attribute, value.as_slice(), format, scaled);
+        drop(teller);
+        drop(value);
+        told
+    }
+
+    /// Prints the value of an attribute.
+    fn get_one<W: Write>(
+        &mut self,
+        list: &Option<Vec<u8>>,
+        said: &'a str,
+        class: u16,
+        format: ValueFormat,
+        output: &mut W,
+    ) -> Result<(), Fault<'a>> {
+        let attribute = self.attribute(list, said, read_name(said)?, class)?;
+        self.fetch(said, attribute)?;
+        match scaler_of(attribute) {
+            Some(scaler) if format != ValueFormat::Encoding => {
+                self.put_scaled(said, attribute, scaler, format, output)
+            }
+            _ => self.put_plain(attribute, format, output),
+        }
+    }
+
+    /// Prints the values of attributes; if no class is given, their classes come from an object list.
+    fn get_each<W: Write>(
+        &mut self,
+        list: &Option<Vec<u8>>,
+        names: &'a str,
+        class: u16,
+        format: ValueFormat,
+        output: &mut W,
+    ) -> Result<(), Fault<'a>> {
+        let mut rest = names;
+        'names: for _name in 0..names.len() {
+            let (said, behind) = match rest.split_once(',') {
+                Some((said, behind)) => (said, Some(behind)),
+                None => (rest, None),
+            };
+            self.get_one(list, said, class, format, output)?;
+            match behind {
+                Some(behind) => rest = behind,
+                None => return Ok(()),
+            }
+        }
+        Ok(())
+    }
+
+    /// Prints the values of attributes.
+    #[inline(never)]
+    pub fn get_all<W: Write>(
+        &mut self,
+        names: &'a str,
+        class: u16,
+        format: ValueFormat,
+        output: &mut W,
+    ) -> Result<(), Fault<'a>> {
+        let list = self.list_unless(class)?;
+        let told = self.get_each(&list, names, class, format, output);
+        drop(list);
+        told
+    }
+
+    /// Prints the object list.
+    #[inline(never)]
+    pub fn list_all<W: Write>(
+        &mut self,
+        format: OutputFormat,
+        output: &mut W,
+    ) -> Result<(), Fault<'a>> {
+        self.fetch_list()?;
+        let mut teller = Teller::new(self.alloc, self.place, output);
+        teller.put_objects(self.head.client.value(), format)
+    }
+
+    /// The attribute that a text names.
+    fn attribute_said(&mut self, said: &'a str, class: u16) -> Result<Descriptor, Fault<'a>> {
+        let name = read_name(said)?;
+        self.attribute_of(said, name, class)
+    }
+
+    /// The method that a text names.
+    fn method_said(&mut self, said: &'a str, class: u16) -> Result<Descriptor, Fault<'a>> {
+        let name = read_name(said)?;
+        if name.number.is_none() {
+            return Err(Fault::Name(said));
+        }
+        self.attribute_of(said, name, class)
+    }
+
+    /// The octets that a clock shows, or none if the meter does not give them. An object that is not a clock is not read.
+    fn clock(
+        &mut self,
+        said: &'a str,
+        clock: Option<Descriptor>,
+    ) -> Result<Option<[u8; 12]>, Fault<'a>> {
+        let Some(clock) = clock else {
+            return Ok(None);
+        };
+        match self.fetch(said, clock) {
+            Ok(()) => Ok(clock_in(self.head.client.value())),
+            Err(fault) => {
+                if is_answer(&fault) {
+                    drop(fault);
+                    Ok(None)
+                } else {
+                    Err(fault)
+                }
+            }
+        }
+    }
+
+    /// Prints what a clock showed before it was changed, and what it shows now; nothing for any other object.
+    fn put_clock<W: Write>(
+        &mut self,
+        said: &'a str,
+        clock: Option<Descriptor>,
+        before: Option<[u8; 12]>,
+        output: &mut W,
+    ) -> Result<(), Fault<'a>> {
+        let Some(of) = clock else {
+            return Ok(());
+        };
+        let after = self.clock(said, clock)?;
+        put_clock(self.alloc, output, of.name, before, after)
+    }
+
+    /// Sets an attribute.
+    fn set_to(
+        &mut self,
+        said: &'a str,
+        attribute: Descriptor,
+        value: Data<Global>,
+    ) -> Result<(), Fault<'a>> {
+        let answer = set(self.line, &mut self.head, attribute, value);
+        self.judge(said, false, answer)
+    }
+
+    /// The attribute to be set, and what it shows before that if it belongs to a clock.
+    fn before_set(
+        &mut self,
+        said: &'a str,
+        class: u16,
+    ) -> Result<(Descriptor, Option<[u8; 12]>), Fault<'a>> {
+        let attribute = self.attribute_said(said, class)?;
+        let before = self.clock(said, clock_set_by(attribute))?;
+        Ok((attribute, before))
+    }
+
+    /// The method to be called, and what its clock shows before that if it is a clock's method.
+    fn before_call(
+        &mut self,
+        said: &'a str,
+        class: u16,
+    ) -> Result<(Descriptor, Option<[u8; 12]>), Fault<'a>> {
+        let method = self.method_said(said, class)?;
+        let before = self.clock(said, clock_called_by(method))?;
+        Ok((method, before))
+    }
+
+    /// Sets an attribute; of a clock prints what it showed before and shows now.
+    #[inline(never)]
+    pub fn set_one<W: Write>(
+        &mut self,
+        said: &'a str,
+        value: Data<Global>,
+        class: u16,
+        output: &mut W,
+    ) -> Result<(), Fault<'a>> {
+        let (attribute, before) = match self.before_set(said, class) {
+            Ok(found) => found,
+            Err(fault) => {
+                drop(value);
+                return Err(fault);
+            }
+        };
+        self.set_to(said, attribute, value)?;
+        put_line(output, "set ", said)?;
+        self.put_clock(said, clock_set_by(attribute), before, output)
+    }
+
+    /// Calls a method.
+    fn call(
+        &mut self,
+        said: &'a str,
+        method: Descriptor,
+        value: Option<Data<Global>>,
+    ) -> Result<(), Fault<'a>> {
+        let answer = act(self.line, &mut self.head, method, value);
+        self.judge(said, true, answer)
+    }
+
+    /// Calls a method, and prints what it returns; of a clock prints what it showed before and shows now.
+    #[inline(never)]
+    pub fn act_one<W: Write>(
+        &mut self,
+        said: &'a str,
+        value: Option<Data<Global>>,
+        class: u16,
+        output: &mut W,
+    ) -> Result<(), Fault<'a>> {
+        let (method, before) = match self.before_call(said, class) {
+            Ok(found) => found,
+            Err(fault) => {
+                drop(value);
+                return Err(fault);
+            }
+        };
+        self.call(said, method, value)?;
+        put_line(output, "called ", said)?;
+        self.put_returned(output)?;
+        self.put_clock(said, clock_called_by(method), before, output)
+    }
+
+    /// Prints what a method returned, if it is a value.
+    fn put_returned<W: Write>(&self, output: &mut W) -> Result<(), Fault<'a>> {
+        let value = self.head.client.value();
+        if value.is_empty() {
+            return Ok(());
+        }
+        let mut teller = Teller::new(self.alloc, self.place, output);
+        teller.put_words(value)
+    }
+
+    /// Ends the association, and the link.
+    pub fn end(&mut self) {
+        let _ended = end(self.line, &mut self.head);
+    }
+}
+
+/// The clock that a SET of this attribute changes, if any.
+fn clock_set_by(attribute: Descriptor) -> Option<Descriptor> {
+    if attribute.class == CLOCK && attribute.id == SECOND {
+        Some(attribute)
+    } else {
+        None
+    }
+}
+
+/// The clock that a call of this method changes, if any.
+fn clock_called_by(method: Descriptor) -> Option<Descriptor> {
+    if method.class == CLOCK {
+        Some(Descriptor {
+            id: SECOND,
+            ..method
+        })
+    } else {
+        None
+    }
+}
+
+/// The octets of a date-time that an encoding says, as an octet-string or as a date-time.
+fn clock_in(bytes: &[u8]) -> Option<[u8; 12]> {
+    match bytes {
+        [DATE_TIME, octets @ ..] => twelve(octets),
+        [OCTET_STRING, 12, octets @ ..] => twelve(octets),
+        _ => None,
+    }
+}
+
+/// Twelve octets.
+fn twelve(bytes: &[u8]) -> Option<[u8; 12]> {
+    let mut octets = [0; 12];
+    if bytes.len() != 12 {
+        return None;
+    }
+    octets.copy_from_slice(bytes);
+    Some(octets)
+}

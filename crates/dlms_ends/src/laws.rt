@@ -1,0 +1,14 @@
+//! The numbers that clauses cite by name.
+
+ghost use Rattle.std.specs.Prelude.{◌≡◌};
+ghost use Rattle.dlms_ends.specs.declared.end.TheConstants.{PIECE, READS};
+ghost use Rattle.dlms_ends.specs.declared.head_end.TheConstants.{MOST_BYTES};
+ghost use Rattle.dlms_ends.specs.declared.polling.TheConstants.{TURNS};
+
+/// The most bytes of one read, the most reads of one turn, the most turns of a poll, and the most bytes that may come in it.
+pub fn the_numbers()
+    ensures piece { PIECE ≡ 2048 }
+    ensures reads { READS ≡ 4096 }
+    ensures turns { TURNS ≡ 65536 }
+    ensures bytes { MOST_BYTES ≡ 2097152 }
+{}
