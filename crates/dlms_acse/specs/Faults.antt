@@ -5,7 +5,7 @@ use Rattle.dlms_acse.specs.declared.fault.AcseFault.TheVariants.{Short, Tag, Len
 use Rattle.dlms_acse.specs.Reading.{contains, checked_at, body_at}
 use Rattle.dlms_acse.specs.Spelling.{IsLength, Counts, Field, SpellFields, AreNew, IsApdu}
 
--- no length begins so: 80, or a byte that promises more bytes than there may be
+-- an octet that begins no length: 80, or one that announces more octets than the limit
 abbrev pub IsNoLength : ℕ → List ℕ → Type 0
 IsNoLength most bytes = (b : ℕ) × (rest : List ℕ) × (bytes ≡ b ∷ rest)
     × ((b ≡ 0x80) ⊎ (0x80 + most < b))
@@ -23,22 +23,22 @@ abbrev pub seen : List ℕ → List Field → List ℕ
 seen tags [] = tags
 seen tags (f ∷ fs) = seen (f.tag ∷ tags) fs
 
--- what is wrong at a field after these tags: its tag is among them, or there is no length, or it is cut
+-- the fault of a field after these tags: its tag is among them, or there is no length, or it is cut short
 abbrev pub IsWrong : AcseFault → List ℕ → ℕ → List ℕ → Type 0
-IsWrong Short tags tag behind = (contains tag tags ≡ false) × IsCut 2 behind
-IsWrong Tag tags tag behind = ⊥
-IsWrong Length tags tag behind = (contains tag tags ≡ false) × IsNoLength 2 behind
-IsWrong Repeated tags tag behind = contains tag tags ≡ true
+IsWrong Short tags tag rest = (contains tag tags ≡ false) × IsCut 2 rest
+IsWrong Tag tags tag rest = ⊥
+IsWrong Length tags tag rest = (contains tag tags ≡ false) × IsNoLength 2 rest
+IsWrong Repeated tags tag rest = contains tag tags ≡ true
 
 -- after fields with distinct tags comes a field at which this is wrong
 abbrev pub StandsIn : AcseFault → List ℕ → List ℕ → Type 0
-StandsIn fault tags bytes = (fs : List Field) × (front : List ℕ) × (tag : ℕ) × (behind : List ℕ)
-    × (bytes ≡ front ++ tag ∷ behind) × SpellFields front fs × AreNew tags fs
-    × IsWrong fault (seen tags fs) tag behind
+StandsIn fault tags bytes = (fs : List Field) × (front : List ℕ) × (tag : ℕ) × (rest : List ℕ)
+    × (bytes ≡ front ++ tag ∷ rest) × SpellFields front fs × AreNew tags fs
+    × IsWrong fault (seen tags fs) tag rest
 
--- what the APDU's length counts has the fault
+-- the fault is within what the APDU's length counts
 abbrev pub IsInside : AcseFault → ℕ → List ℕ → Type 0
-IsInside fault tag bytes = (text body behind : List ℕ) × (bytes ≡ tag ∷ (text ++ behind))
+IsInside fault tag bytes = (text body rest : List ℕ) × (bytes ≡ tag ∷ (text ++ rest))
     × Counts 2 text body × StandsIn fault [] body
 
 -- ---- the laws
@@ -48,7 +48,7 @@ abbrev pub TellsFields : Type 0
 TellsFields = (bytes : List ℕ) (fault : AcseFault)
     → (checked_at (length bytes) [] bytes ≡ Err fault) ↔ StandsIn fault [] bytes
 
--- another APDU: its first byte is another
+-- an APDU of another type: its first octet differs
 abbrev pub TellsAnother : Type 0
 TellsAnother = (tag : ℕ) (bytes : List ℕ) → (body_at tag bytes ≡ Err Tag)
     ↔ ((t : ℕ) × (rest : List ℕ) × (bytes ≡ t ∷ rest) × (t ≢ tag))

@@ -20,7 +20,7 @@ abbrev pub ◌>>=◌ : {A B : Type 0} → Result A AcseFault → (A → Result B
 (Ok x) >>= f = f x
 (Err e) >>= f = Err e
 
--- what a function returned, seen by view, is what reading gives
+-- the result of a function, as its view shows it, is the result of reading
 abbrev pub Tells : {X Y : Type 0} → (X → Y) → Result X AcseFault → Result Y AcseFault → Type 0
 Tells view (Ok x) read = read ≡ Ok (view x)
 Tells view (Err e) read = read ≡ Err e
@@ -40,7 +40,7 @@ length_at most (b ∷ rest) =
     else (if nat_lt b 0x81 || nat_lt (0x80 + most) b then Err Length
     else number_at (b - 0x80) rest)
 
--- a length begins here that has more bytes than so many
+-- a length begins here that has more octets than the limit
 abbrev pub is_longer : ℕ → List ℕ → Bool
 is_longer most [] = false
 is_longer most (b ∷ rest) = nat_lt (0x80 + most) b
@@ -90,7 +90,7 @@ body_at tag (t ∷ rest) =
     if t == tag then (octets_at 2 rest >>= λ x. checked_at (length x.0) [] x.0 >>= λ u. ended x)
     else Err Tag
 
--- ---- what the fields hold
+-- ---- the content of the fields
 
 abbrev pub on_some : {A B : Type 0} → Option A → (A → Option B) → Option B
 on_some None f = None
@@ -164,7 +164,7 @@ request_at (t ∷ rest) =
 unfoldable pub initiate_at : List ℕ → Option Initiate
 initiate_at value = on_some (inner_at 4 value) request_at
 
--- what the fields with these values say
+-- the meaning of fields with these values
 abbrev pub request_from : (ℕ → Option (List ℕ)) → Request
 request_from value = record {
   context = is_context (value 0xA1);
@@ -207,7 +207,7 @@ abbrev pub or_short : {A : Type 0} → Option A → Result A AcseFault
 or_short (Some x) = Ok x
 or_short None = Err Short
 
--- what the fields with these values say: one that has to be there and is not, or has another form, is missing
+-- the meaning of fields with these values: a required one that is absent, or has another form, is missing
 abbrev pub answer_from : ℕ → ℕ → Option (List ℕ) → Result Verdict AcseFault
 answer_from r d user =
     if r == 0 then or_short (on_some (on_some user (inner_at 0x04)) response_at)

@@ -95,7 +95,7 @@ pub fn record_length(event: &Event) -> usize
     }
 }
 
-/// Appends the record of an event, in the layout of `docs/FORMATS.md`.
+/// Appends the record of an event, in the layout of `docs/WIRE.md`.
 pub fn append_record(records: &mut Record, event: &Event)
     requires { length records.old.items + length (record_of event.now) ≤ MOST_PAYLOAD }
     ensures { records.new.items ≡ records.old.items ++ record_of event.now }

@@ -11,7 +11,7 @@ use Rattle.dlms_pages.specs.Pick.{page_left}
 use Rattle.dlms_pages.specs.Stops.{IsFixed}
 use Rattle.dlms_pages.specs.declared.device.Pages.{Ghosts}
 use Rattle.dlms_pages.specs.declared.memory.Call.{Call}
-use Rattle.dlms_pages.specs.declared.pick.Choice.TheVariants.{Old}
+use Rattle.dlms_pages.specs.declared.pick.PageChoice.TheVariants.{Old}
 use Rattle.dlms_state.specs.declared.event.Event.{Event}
 use Rattle.dlms_store.specs.Fitting.{DeviceFits, GivesUp, OpensAs, StoreFits}
 use Rattle.dlms_store.specs.Image.{IsLeftFor}

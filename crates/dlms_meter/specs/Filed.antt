@@ -1,6 +1,6 @@
 -- A meter over pages in a file of slots, whose machine stops.
 use Rattle.std.specs.Prelude.{◌≡◌, ◌≤◌, ◌++◌, ℕ, List, [], ◌∷◌, length}
-use Rattle.dlms_pages.specs.declared.asking.Asked.{Asked}
+use Rattle.dlms_pages.specs.declared.asking.SlotCall.{SlotCall}
 use Rattle.dlms_pages.specs.declared.device.Pages.{Ghosts}
 use Rattle.dlms_pages.specs.File.{FileValue, file_view}
 use Rattle.dlms_pages.specs.Reopening.{LeavesSlots, IsOpenedOver}
@@ -18,7 +18,7 @@ use Rattle.dlms_meter.specs.Storing.{store_steps}
 -- the file as it was at one of the moments between these two
 pub record IsBetween (old new at : Slots) : Type 0 where
   pub first : at.first ≡ new.first
-  pub later : List Asked
+  pub later : List SlotCall
   pub split : new.calls ≡ later ++ at.calls
   pub since : length old.calls ≤ length at.calls
 

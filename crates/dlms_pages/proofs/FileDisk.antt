@@ -3,8 +3,8 @@ use Rattle.std.proofs.Common.{◌≡◌, ◌≢◌, ◌<◌, ◌≤◌, ◌+◌,
 use Rattle.std.proofs.lemmas.List.{length-append, length-set, get_or-set_other, get_or-set_same, ext_get_or, drop_at, drop_all, drop-append-le, length-take-le, take_at}
 use Rattle.std.proofs.lemmas.Bool.{cases_Bool, cases_eq, cases_lt, eq-eqb, eqb-true, and_parts, and_from}
 use Rattle.std.specs.Prelude.{nat_eq, if◌then◌else◌}
-use Rattle.dlms_pages.specs.declared.asking.Asked.{Asked}
-use Rattle.dlms_pages.specs.declared.asking.Asked.TheVariants.{Writes}
+use Rattle.dlms_pages.specs.declared.asking.SlotCall.{SlotCall}
+use Rattle.dlms_pages.specs.declared.asking.SlotCall.TheVariants.{Writes}
 use Rattle.dlms_pages.specs.declared.device.PageRead.{PageRead}
 use Rattle.dlms_pages.specs.declared.device.PageRead.TheVariants.{Content, Damaged}
 use Rattle.dlms_pages.specs.Device.{Image, Elapses, Outcome, page_at}
@@ -55,17 +55,17 @@ page_read k slot Damaged size is = sym (page_unsealed k slot is)
 
 -- ---- so many pages, of slots
 
-abbrev pages : List Slot → List Asked → ℕ → Image
+abbrev pages : List Slot → List SlotCall → ℕ → Image
 pages first calls count = pages_from (λ k. page_in k (newest first calls k)) 0 count
 
-place : (first : List Slot) (calls : List Asked) (count k : ℕ) → k < count → page_at (pages first calls count) k ≡ page_in k (newest first calls k)
+place : (first : List Slot) (calls : List SlotCall) (count k : ℕ) → k < count → page_at (pages first calls count) k ≡ page_in k (newest first calls k)
 place first calls count k small = page_of (λ k. page_in k (newest first calls k)) count k small
 
-counted : (first : List Slot) (calls : List Asked) (count : ℕ) → length (pages first calls count) ≡ count
+counted : (first : List Slot) (calls : List SlotCall) (count : ℕ) → length (pages first calls count) ≡ count
 counted first calls count = count_of (λ k. page_in k (newest first calls k)) 0 count
 
 -- an image that has each page as reads give it
-pub is_seen : (first : List Slot) (calls : List Asked) (count : ℕ) (image : Image) → length image ≡ count → ((k : ℕ) → k < count → page_at image k ≡ page_in k (newest first calls k)) → image ≡ pages first calls count
+pub is_seen : (first : List Slot) (calls : List SlotCall) (count : ℕ) (image : Image) → length image ≡ count → ((k : ℕ) → k < count → page_at image k ≡ page_in k (newest first calls k)) → image ≡ pages first calls count
 is_seen first calls count image size each =
     ext_get_or Damaged image (pages first calls count) (size ∙ sym (counted first calls count)) (λ k small.
     let there : k < count = omega (arith, small, size) in
@@ -73,8 +73,8 @@ is_seen first calls count image size each =
 
 -- ---- a write
 
-module _ (first : List Slot) (calls : List Asked) (count index : ℕ) (bytes content : List ℕ) (passed : Bool) (there : index < count) (is : page_in index (Some bytes) ≡ Content content) where
-  abbrev after : List Asked
+module _ (first : List Slot) (calls : List SlotCall) (count index : ℕ) (bytes content : List ℕ) (passed : Bool) (there : index < count) (is : page_in index (Some bytes) ≡ Content content) where
+  abbrev after : List SlotCall
   after = Writes index bytes passed ∷ calls
 
   pub seen_after : pages first after count ≡ set (pages first calls count) index (Content content)
@@ -124,24 +124,24 @@ module _ (first : List Slot) (calls : List Asked) (count index : ℕ) (bytes con
 
 -- ---- time goes on
 
-module _ (count : ℕ) (first : List Slot) (olds more : List Asked) (inner : (i : ℕ) → i ≤ length more → (c : Image) → LeavesImage count first (drop i more ++ olds) c → LeavesImage count first olds c ⊎ LeavesImage count first (more ++ olds) c) where
+module _ (count : ℕ) (first : List Slot) (olds more : List SlotCall) (inner : (i : ℕ) → i ≤ length more → (c : Image) → LeavesImage count first (drop i more ++ olds) c → LeavesImage count first olds c ⊎ LeavesImage count first (more ++ olds) c) where
   -- a moment since the first of these calls
-  within : (later earlier : List Asked) → more ++ olds ≡ later ++ earlier → length olds ≤ length earlier → earlier ≡ drop (length later) more ++ olds
+  within : (later earlier : List SlotCall) → more ++ olds ≡ later ++ earlier → length olds ≤ length earlier → earlier ≡ drop (length later) more ++ olds
   within later earlier split long =
-      let n : length more + length olds ≡ length later + length earlier = sym (length-append more olds) ∙ ap (λ (l : List Asked). length l) split ∙ length-append later earlier in
+      let n : length more + length olds ≡ length later + length earlier = sym (length-append more olds) ∙ ap (λ (l : List SlotCall). length l) split ∙ length-append later earlier in
       sym (drop_at later earlier (length later) refl) ∙ ap (drop (length later)) (sym split) ∙ drop-append-le (length later) more olds (omega (arith, n, long))
 
   -- a moment before them
-  before_them : (later earlier : List Asked) → more ++ olds ≡ later ++ earlier → length earlier ≤ length olds → olds ≡ drop (length more) later ++ earlier
+  before_them : (later earlier : List SlotCall) → more ++ olds ≡ later ++ earlier → length earlier ≤ length olds → olds ≡ drop (length more) later ++ earlier
   before_them later earlier split short =
-      let n : length more + length olds ≡ length later + length earlier = sym (length-append more olds) ∙ ap (λ (l : List Asked). length l) split ∙ length-append later earlier in
+      let n : length more + length olds ≡ length later + length earlier = sym (length-append more olds) ∙ ap (λ (l : List SlotCall). length l) split ∙ length-append later earlier in
       sym (drop_at more olds (length more) refl) ∙ ap (drop (length more)) split ∙ drop-append-le (length more) later earlier (omega (arith, n, short))
 
   nothing_else : (t : ℕ) (c : Image) → t ≤ length olds → LeftSince count first (more ++ olds) t c → LeftSince count first olds t c ⊎ LeavesImage count first (more ++ olds) c
   nothing_else t c le left = ⊎_elim
       (λ (short : length left.earlier < length olds). inl (record { later = drop (length more) left.later; earlier = left.earlier; split = before_them left.later left.earlier left.split (omega (arith, short)); since = left.since; left = left.left }))
       (λ (long : length olds ≤ length left.earlier).
-      let n : length more + length olds ≡ length left.later + length left.earlier = sym (length-append more olds) ∙ ap (λ (l : List Asked). length l) left.split ∙ length-append left.later left.earlier in
+      let n : length more + length olds ≡ length left.later + length left.earlier = sym (length-append more olds) ∙ ap (λ (l : List SlotCall). length l) left.split ∙ length-append left.later left.earlier in
       ⊎_elim
       (λ old. inl (record { later = []; earlier = olds; split = refl; since = le; left = old }))
       (λ new. inr new)
@@ -152,10 +152,10 @@ module _ (count : ℕ) (first : List Slot) (olds more : List Asked) (inner : (i 
   elapses keeps f g = record {
     later = omega (arith, length-append more olds);
     nothing_else = nothing_else;
-    keeps = λ t c le left. record { later = more ++ left.later; earlier = left.earlier; split = ap (λ (l : List Asked). more ++ l) left.split ∙ sym (append_assoc more left.later left.earlier); since = left.since; left = left.left };
+    keeps = λ t c le left. record { later = more ++ left.later; earlier = left.earlier; split = ap (λ (l : List SlotCall). more ++ l) left.split ∙ sym (append_assoc more left.later left.earlier); since = left.since; left = left.left };
   }
 
 -- one call
-pub one_inner : (count : ℕ) (first : List Slot) (olds : List Asked) (call : Asked) → (i : ℕ) → i ≤ 1 → (c : Image) → LeavesImage count first (drop i (call ∷ []) ++ olds) c → LeavesImage count first olds c ⊎ LeavesImage count first ((call ∷ []) ++ olds) c
+pub one_inner : (count : ℕ) (first : List Slot) (olds : List SlotCall) (call : SlotCall) → (i : ℕ) → i ≤ 1 → (c : Image) → LeavesImage count first (drop i (call ∷ []) ++ olds) c → LeavesImage count first olds c ⊎ LeavesImage count first ((call ∷ []) ++ olds) c
 one_inner count first olds call zero le c left = inr left
 one_inner count first olds call (suc i) le c left = inl (subst (λ l. LeavesImage count first (l ++ olds) c) (drop_all i [] (omega arith)) left)

@@ -3,14 +3,14 @@ use Rattle.std.proofs.Common.{◌≡◌, ◌≢◌, ◌<◌, ◌≤◌, ◌⊎�
 use Rattle.std.proofs.lemmas.List.{length-set, get_or-set_other, get_or-set_same}
 use Rattle.std.proofs.lemmas.Bool.{cases_Bool, cases_eq, true≢false}
 use Rattle.std.specs.Prelude.{nat_eq, if◌then◌else◌, IfSome, IfOk}
-use Rattle.dlms_pages.specs.declared.asking.Asked.{Asked}
-use Rattle.dlms_pages.specs.declared.asking.Asked.TheVariants.{Reads as ReadsSlot, Writes as WritesSlot, Syncs as SyncsFile}
+use Rattle.dlms_pages.specs.declared.asking.SlotCall.{SlotCall}
+use Rattle.dlms_pages.specs.declared.asking.SlotCall.TheVariants.{Reads as ReadsSlot, Writes as WritesSlot, Syncs as SyncsFile}
 use Rattle.dlms_pages.specs.declared.asking.Came.{Came}
 use Rattle.dlms_pages.specs.declared.asking.Came.TheVariants.{Slot as Octets, Short, Failed}
 use Rattle.dlms_pages.specs.declared.device.DeviceFault.{DeviceFault}
 use Rattle.dlms_pages.specs.declared.device.PageRead.{PageRead}
 use Rattle.dlms_pages.specs.declared.device.PageRead.TheVariants.{Content, Damaged}
-use Rattle.dlms_pages.specs.Asked.{ReadsAs, passed}
+use Rattle.dlms_pages.specs.SlotCalls.{ReadsAs, passed}
 use Rattle.dlms_pages.specs.Device.{Image, Goes, Reads, Writes, Rose, page_at}
 use Rattle.dlms_pages.specs.File.{FileValue, CountsFaults, GivesPage, IsKeptBeside, IsKeptOf, IsPending, KeepsPage, file_view, pages_of}
 use Rattle.dlms_pages.specs.Seal.{slot_of}
@@ -24,7 +24,7 @@ sure_of : (b : Bool) (s : Standing) (p : Bool) → (s.synced ≡ true → s.sure
 sure_of true s p before is = absurd (cc is)
 sure_of false s p before is = before is
 
-pub synced_sure : (calls : List Asked) (k : ℕ) → (standing calls k).synced ≡ true → (standing calls k).sure ≡ true
+pub synced_sure : (calls : List SlotCall) (k : ℕ) → (standing calls k).synced ≡ true → (standing calls k).sure ≡ true
 synced_sure [] k is = refl
 synced_sure (ReadsSlot index came ∷ calls) k is = synced_sure calls k is
 synced_sure (WritesSlot index bytes passed ∷ calls) k is = sure_of (nat_eq index k) (standing calls k) passed (synced_sure calls k) is

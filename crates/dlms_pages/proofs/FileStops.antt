@@ -2,8 +2,8 @@
 use Rattle.std.proofs.Common.{◌≡◌, ◌⊎◌, inl, inr, ⊎_elim, ℕ, Bool, true, false, List, [], ◌∷◌, take, Some, None, refl, sym, ap, subst}
 use Rattle.std.proofs.lemmas.Bool.{cases_Bool}
 use Rattle.std.specs.Prelude.{if◌then◌else◌}
-use Rattle.dlms_pages.specs.declared.asking.Asked.{Asked}
-use Rattle.dlms_pages.specs.declared.asking.Asked.TheVariants.{Reads, Writes, Syncs}
+use Rattle.dlms_pages.specs.declared.asking.SlotCall.{SlotCall}
+use Rattle.dlms_pages.specs.declared.asking.SlotCall.TheVariants.{Reads, Writes, Syncs}
 use Rattle.dlms_pages.specs.declared.device.PageRead.{PageRead}
 use Rattle.dlms_pages.specs.declared.device.PageRead.TheVariants.{Content, Damaged}
 use Rattle.dlms_pages.specs.Laws.{StopsAreOfPages}
@@ -24,7 +24,7 @@ either_too : (b : Bool) (This That This' That' : Type 0) → (This → This') �
 either_too true This That This' That' f g is = f is
 either_too false This That This' That' f g is = g is
 
-pub page_left : (first : List Slot) (calls : List Asked) (k : ℕ) (slot : Slot) → Leaves first calls k slot → LeavesPage first calls k (page_in k slot)
+pub page_left : (first : List Slot) (calls : List SlotCall) (k : ℕ) (slot : Slot) → Leaves first calls k slot → LeavesPage first calls k (page_in k slot)
 page_left first [] k slot left = ap (page_in k) left
 page_left first (Reads index came ∷ calls) k slot left = page_left first calls k slot left
 page_left first (Writes index bytes passed ∷ calls) k slot left = ⊎_elim

@@ -3,12 +3,12 @@ use Rattle.std.proofs.Common.{◌≡◌, ◌≢◌, ◌<◌, ◌≤◌, ◌+◌,
 use Rattle.std.proofs.lemmas.List.{length-replicate, get_or-replicate, reverse-append}
 use Rattle.std.proofs.lemmas.Bool.{cases_eq, true≢false}
 use Rattle.std.specs.Prelude.{reverse}
-use Rattle.dlms_pages.specs.declared.asking.Asked.{Asked}
-use Rattle.dlms_pages.specs.declared.asking.Asked.TheVariants.{Reads as ReadsSlot, Writes as WritesSlot, Syncs as SyncsFile}
+use Rattle.dlms_pages.specs.declared.asking.SlotCall.{SlotCall}
+use Rattle.dlms_pages.specs.declared.asking.SlotCall.TheVariants.{Reads as ReadsSlot, Writes as WritesSlot, Syncs as SyncsFile}
 use Rattle.dlms_pages.specs.declared.device.DeviceFault.{DeviceFault}
 use Rattle.dlms_pages.specs.declared.device.PageRead.{PageRead}
 use Rattle.dlms_pages.specs.declared.device.PageRead.TheVariants.{Damaged}
-use Rattle.dlms_pages.specs.Asked.{Asks, AsksAll, AsksUntilFault, failed, sync_calls, written_again}
+use Rattle.dlms_pages.specs.SlotCalls.{Asks, AsksAll, AsksUntilFault, failed, sync_calls, written_again}
 use Rattle.dlms_pages.specs.Device.{Image, Goes, Syncs, page_at}
 use Rattle.dlms_pages.specs.File.{FileValue, IsKeptBeside, IsKeptOf, IsPending, Settles, file_view, pages_of}
 use Rattle.dlms_pages.specs.Seal.{slot_of}
@@ -20,36 +20,36 @@ use Rattle.dlms_pages.proofs.Reopened.{newest_hit, newest_missed, standing_hit, 
 
 -- ---- calls that write again what is pending, and syncs that fail
 
-abbrev IsQuiet : List (Option (List ℕ)) → Asked → Type 0
+abbrev IsQuiet : List (Option (List ℕ)) → SlotCall → Type 0
 IsQuiet pages (ReadsSlot index came) = ⊥
 IsQuiet pages (WritesSlot index slot passed) = (index < length pages) × ((bytes : List ℕ) × (get_or pages index None ≡ Some bytes) × (slot ≡ slot_of index bytes))
 IsQuiet pages (SyncsFile true) = ⊥
 IsQuiet pages (SyncsFile false) = Unit {0}
 
-abbrev AreQuiet : List (Option (List ℕ)) → List Asked → Type 0
+abbrev AreQuiet : List (Option (List ℕ)) → List SlotCall → Type 0
 AreQuiet pages [] = Unit {0}
 AreQuiet pages (call ∷ calls) = IsQuiet pages call × AreQuiet pages calls
 
-quiet_append : (pages : List (Option (List ℕ))) (xs ys : List Asked) → AreQuiet pages xs → AreQuiet pages ys → AreQuiet pages (xs ++ ys)
+quiet_append : (pages : List (Option (List ℕ))) (xs ys : List SlotCall) → AreQuiet pages xs → AreQuiet pages ys → AreQuiet pages (xs ++ ys)
 quiet_append pages [] ys a b = b
 quiet_append pages (x ∷ xs) ys a b = (a.0, quiet_append pages xs ys a.1 b)
 
-quiet_front : (pages : List (Option (List ℕ))) (xs ys : List Asked) → AreQuiet pages (xs ++ ys) → AreQuiet pages xs
+quiet_front : (pages : List (Option (List ℕ))) (xs ys : List SlotCall) → AreQuiet pages (xs ++ ys) → AreQuiet pages xs
 quiet_front pages [] ys a = tt
 quiet_front pages (x ∷ xs) ys a = (a.0, quiet_front pages xs ys a.1)
 
-quiet_back : (pages : List (Option (List ℕ))) (xs ys : List Asked) → AreQuiet pages (xs ++ ys) → AreQuiet pages ys
+quiet_back : (pages : List (Option (List ℕ))) (xs ys : List SlotCall) → AreQuiet pages (xs ++ ys) → AreQuiet pages ys
 quiet_back pages [] ys a = a
 quiet_back pages (x ∷ xs) ys a = quiet_back pages xs ys a.1
 
-rev_more : (call : Asked) (calls olds : List Asked) → reverse (call ∷ calls) ++ olds ≡ reverse calls ++ (call ∷ olds)
-rev_more call calls olds = ap (λ (l : List Asked). l ++ olds) (reverse-append (call ∷ []) calls) ∙ append_assoc (reverse calls) (call ∷ []) olds
+rev_more : (call : SlotCall) (calls olds : List SlotCall) → reverse (call ∷ calls) ++ olds ≡ reverse calls ++ (call ∷ olds)
+rev_more call calls olds = ap (λ (l : List SlotCall). l ++ olds) (reverse-append (call ∷ []) calls) ∙ append_assoc (reverse calls) (call ∷ []) olds
 
-quiet_reverse : (pages : List (Option (List ℕ))) (xs : List Asked) → AreQuiet pages xs → AreQuiet pages (reverse xs)
+quiet_reverse : (pages : List (Option (List ℕ))) (xs : List SlotCall) → AreQuiet pages xs → AreQuiet pages (reverse xs)
 quiet_reverse pages [] a = tt
 quiet_reverse pages (x ∷ xs) a = subst (AreQuiet pages) (sym (reverse-append (x ∷ []) xs)) (quiet_append pages (reverse xs) (x ∷ []) (quiet_reverse pages xs a.1) (a.0, tt))
 
-quiet_drop : (pages : List (Option (List ℕ))) (i : ℕ) (xs : List Asked) → AreQuiet pages xs → AreQuiet pages (drop i xs)
+quiet_drop : (pages : List (Option (List ℕ))) (i : ℕ) (xs : List SlotCall) → AreQuiet pages xs → AreQuiet pages (drop i xs)
 quiet_drop pages zero xs a = a
 quiet_drop pages (suc i) [] a = tt
 quiet_drop pages (suc i) (x ∷ xs) a = quiet_drop pages i xs a.1
@@ -67,10 +67,10 @@ again_quiet all (Some bytes ∷ pages) from fits same =
 pub all_quiet : (pages : List (Option (List ℕ))) → AreQuiet pages (written_again 0 pages)
 all_quiet pages = again_quiet pages pages 0 (omega arith) (λ j small. (let same : 0 + j ≡ j = omega arith in ap (λ (n : ℕ). get_or pages n None) same))
 
-head_is : {x y : Asked} {xs ys : List Asked} → x ∷ xs ≡ y ∷ ys → x ≡ y
+head_is : {x y : SlotCall} {xs ys : List SlotCall} → x ∷ xs ≡ y ∷ ys → x ≡ y
 head_is {x} {y} {xs} {ys} e = cc e
 
-tail_is : {x y : Asked} {xs ys : List Asked} → x ∷ xs ≡ y ∷ ys → xs ≡ ys
+tail_is : {x y : SlotCall} {xs ys : List SlotCall} → x ∷ xs ≡ y ∷ ys → xs ≡ ys
 tail_is {x} {y} {xs} {ys} e = cc e
 
 some_none : (bytes : List ℕ) → Some bytes ≡ None → ⊥
@@ -81,11 +81,11 @@ module _ (file : Slots) (pages : List (Option (List ℕ))) (kept : (k : ℕ) →
   pending : (k : ℕ) (bytes : List ℕ) → k < length pages → get_or pages k None ≡ Some bytes → IsPending file k bytes
   pending k bytes small is = subst (IsKeptOf file k) is (kept k small)
 
-  abbrev after : List Asked → List Asked
+  abbrev after : List SlotCall → List SlotCall
   after calls = calls ++ file.calls
 
   -- nothing new may be left of a page
-  pub quiet_page : (calls : List Asked) → AreQuiet pages calls → (k : ℕ) → k < length pages → (page : PageRead) → LeavesPage file.first (after calls) k page → LeavesPage file.first file.calls k page
+  pub quiet_page : (calls : List SlotCall) → AreQuiet pages calls → (k : ℕ) → k < length pages → (page : PageRead) → LeavesPage file.first (after calls) k page → LeavesPage file.first file.calls k page
   quiet_page [] quiet k small page left = left
   quiet_page (ReadsSlot index came ∷ calls) quiet k small page left = absurd quiet.0
   quiet_page (WritesSlot index slot passed ∷ calls) quiet k small page left = ⊎_elim
@@ -103,7 +103,7 @@ module _ (file : Slots) (pages : List (Option (List ℕ))) (kept : (k : ℕ) →
   quiet_page (SyncsFile false ∷ calls) quiet k small page left = quiet_page calls quiet.1 k small page left
 
   -- what may be left still may
-  pub still_left : (calls : List Asked) → AreQuiet pages calls → (k : ℕ) (page : PageRead) → LeavesPage file.first file.calls k page → LeavesPage file.first (after calls) k page
+  pub still_left : (calls : List SlotCall) → AreQuiet pages calls → (k : ℕ) (page : PageRead) → LeavesPage file.first file.calls k page → LeavesPage file.first (after calls) k page
   still_left [] quiet k page left = left
   still_left (ReadsSlot index came ∷ calls) quiet k page left = absurd quiet.0
   still_left (WritesSlot index slot passed ∷ calls) quiet k page left = inl (still_left calls quiet.1 k page left)
@@ -111,7 +111,7 @@ module _ (file : Slots) (pages : List (Option (List ℕ))) (kept : (k : ℕ) →
   still_left (SyncsFile false ∷ calls) quiet k page left = still_left calls quiet.1 k page left
 
   -- reads give the same
-  pub quiet_newest : (calls : List Asked) → AreQuiet pages calls → (k : ℕ) → k < length pages → newest file.first (after calls) k ≡ newest file.first file.calls k
+  pub quiet_newest : (calls : List SlotCall) → AreQuiet pages calls → (k : ℕ) → k < length pages → newest file.first (after calls) k ≡ newest file.first file.calls k
   quiet_newest [] quiet k small = refl
   quiet_newest (ReadsSlot index came ∷ calls) quiet k small = absurd quiet.0
   quiet_newest (WritesSlot index slot passed ∷ calls) quiet k small = ⊎_elim
@@ -125,7 +125,7 @@ module _ (file : Slots) (pages : List (Option (List ℕ))) (kept : (k : ℕ) →
   quiet_newest (SyncsFile false ∷ calls) quiet k small = quiet_newest calls quiet.1 k small
 
   -- what is synced stays so
-  pub quiet_synced : (calls : List Asked) → AreQuiet pages calls → (k : ℕ) → k < length pages → get_or pages k None ≡ None → (standing (after calls) k).synced ≡ true
+  pub quiet_synced : (calls : List SlotCall) → AreQuiet pages calls → (k : ℕ) → k < length pages → get_or pages k None ≡ None → (standing (after calls) k).synced ≡ true
   quiet_synced [] quiet k small none = subst (IsKeptOf file k) none (kept k small)
   quiet_synced (ReadsSlot index came ∷ calls) quiet k small none = absurd quiet.0
   quiet_synced (WritesSlot index slot passed ∷ calls) quiet k small none = ⊎_elim
@@ -138,11 +138,11 @@ module _ (file : Slots) (pages : List (Option (List ℕ))) (kept : (k : ℕ) →
   quiet_synced (SyncsFile false ∷ calls) quiet k small none = quiet_synced calls quiet.1 k small none
 
   -- of a whole image
-  pub quiet_image : (calls : List Asked) → AreQuiet pages calls → (c : Image) → LeavesImage (length pages) file.first (after calls) c → LeavesImage (length pages) file.first file.calls c
+  pub quiet_image : (calls : List SlotCall) → AreQuiet pages calls → (c : Image) → LeavesImage (length pages) file.first (after calls) c → LeavesImage (length pages) file.first file.calls c
   quiet_image calls quiet c left = record { counted = left.counted; page = λ k small. quiet_page calls quiet k small (page_at c k) (left.page k small) }
 
   -- what is kept, after them
-  pub quiet_kept : (calls : List Asked) → AreQuiet pages calls → (k : ℕ) → k < length pages → (o : Option (List ℕ)) → get_or pages k None ≡ o → IsKeptOf (record file { calls = after calls }) k o
+  pub quiet_kept : (calls : List SlotCall) → AreQuiet pages calls → (k : ℕ) → k < length pages → (o : Option (List ℕ)) → get_or pages k None ≡ o → IsKeptOf (record file { calls = after calls }) k o
   quiet_kept calls quiet k small None is = quiet_synced calls quiet k small is
   quiet_kept calls quiet k small (Some bytes) is =
       let was = pending k bytes small is in
@@ -151,16 +151,16 @@ module _ (file : Slots) (pages : List (Option (List ℕ))) (kept : (k : ℕ) →
 -- ---- all that is pending, written again
 
 -- writes of later slots
-later_ones : (pages : List (Option (List ℕ))) (from : ℕ) (calls : List Asked) (k : ℕ) → k < from → standing (reverse (written_again from pages) ++ calls) k ≡ standing calls k
+later_ones : (pages : List (Option (List ℕ))) (from : ℕ) (calls : List SlotCall) (k : ℕ) → k < from → standing (reverse (written_again from pages) ++ calls) k ≡ standing calls k
 later_ones [] from calls k small = refl
 later_ones (None ∷ pages) from calls k small = later_ones pages (from + 1) calls k (omega (arith, small))
 later_ones (Some bytes ∷ pages) from calls k small =
     let call = WritesSlot from (slot_of from bytes) true in
-    ap (λ (l : List Asked). standing l k) (rev_more call (written_again (from + 1) pages) calls)
+    ap (λ (l : List SlotCall). standing l k) (rev_more call (written_again (from + 1) pages) calls)
     ∙ later_ones pages (from + 1) (call ∷ calls) k (omega (arith, small))
     ∙ standing_missed from k (slot_of from bytes) true calls (λ e. absurd (omega (arith, small, e)))
 
-pub again_sure : (pages : List (Option (List ℕ))) (from : ℕ) (calls : List Asked) (j : ℕ) (bytes : List ℕ) → j < length pages → get_or pages j None ≡ Some bytes → (standing (reverse (written_again from pages) ++ calls) (from + j)).sure ≡ true
+pub again_sure : (pages : List (Option (List ℕ))) (from : ℕ) (calls : List SlotCall) (j : ℕ) (bytes : List ℕ) → j < length pages → get_or pages j None ≡ Some bytes → (standing (reverse (written_again from pages) ++ calls) (from + j)).sure ≡ true
 again_sure [] from calls j bytes small is = absurd (omega (arith, small))
 again_sure (None ∷ pages) from calls zero bytes small is = absurd (some_none bytes (sym is))
 again_sure (None ∷ pages) from calls (suc j) bytes small is =
@@ -169,13 +169,13 @@ again_sure (None ∷ pages) from calls (suc j) bytes small is =
 again_sure (Some first ∷ pages) from calls zero bytes small is =
     let call = WritesSlot from (slot_of from first) true in
     let here : from + 0 ≡ from = omega arith in
-    ap (λ (l : List Asked). (standing l (from + 0)).sure) (rev_more call (written_again (from + 1) pages) calls)
+    ap (λ (l : List SlotCall). (standing l (from + 0)).sure) (rev_more call (written_again (from + 1) pages) calls)
     ∙ ap (λ (s : Standing). s.sure) (later_ones pages (from + 1) (call ∷ calls) (from + 0) (omega arith))
     ∙ ap (λ (s : Standing). s.sure) (standing_hit from (from + 0) (slot_of from first) true calls here)
 again_sure (Some first ∷ pages) from calls (suc j) bytes small is =
     let call = WritesSlot from (slot_of from first) true in
     let next : from + suc j ≡ from + 1 + j = omega arith in
-    ap (λ (l : List Asked). (standing l (from + suc j)).sure) (rev_more call (written_again (from + 1) pages) calls)
+    ap (λ (l : List SlotCall). (standing l (from + suc j)).sure) (rev_more call (written_again (from + 1) pages) calls)
     ∙ ap (λ (n : ℕ). (standing (reverse (written_again (from + 1) pages) ++ (call ∷ calls)) n).sure) next
     ∙ again_sure pages (from + 1) (call ∷ calls) j bytes (omega (arith, small)) is
 
@@ -189,12 +189,12 @@ any_sure file pages kept k small (Some bytes) is =
     ap (λ (n : ℕ). (standing (reverse (written_again 0 pages) ++ file.calls) n).sure) here ∙ again_sure pages 0 file.calls k bytes small is
 
 -- what is written again, the newest first
-abbrev again : Bool → List (Option (List ℕ)) → List Asked
+abbrev again : Bool → List (Option (List ℕ)) → List SlotCall
 again true pages = reverse (written_again 0 pages)
 again false pages = []
 
-again_is : (behind : Bool) (pages : List (Option (List ℕ))) (olds : List Asked) → reverse (sync_calls behind pages) ++ olds ≡ SyncsFile true ∷ (again behind pages ++ olds)
-again_is true pages olds = ap (λ (l : List Asked). l ++ olds) (reverse-append (written_again 0 pages) (SyncsFile true ∷ []))
+again_is : (behind : Bool) (pages : List (Option (List ℕ))) (olds : List SlotCall) → reverse (sync_calls behind pages) ++ olds ≡ SyncsFile true ∷ (again behind pages ++ olds)
+again_is true pages olds = ap (λ (l : List SlotCall). l ++ olds) (reverse-append (written_again 0 pages) (SyncsFile true ∷ []))
 again_is false pages olds = refl
 
 again_is_quiet : (behind : Bool) (pages : List (Option (List ℕ))) → AreQuiet pages (again behind pages)
@@ -206,7 +206,7 @@ all_sure file pages true kept keeps k small = any_sure file pages (kept.pages ke
 all_sure file pages false kept keeps k small = kept.sure keeps refl k small
 
 module _ (file : Slots) (pages : List (Option (List ℕ))) (behind : Bool) (kept : IsKeptBeside file pages behind) (keeps : file.keeps ≡ true) where
-  abbrev mid : List Asked
+  abbrev mid : List SlotCall
   mid = again behind pages ++ file.calls
 
   abbrev quiet : AreQuiet pages (again behind pages)
@@ -241,7 +241,7 @@ module _ (file : Slots) (pages : List (Option (List ℕ))) (behind : Bool) (kept
   }
 
   -- up to a fault, with calls that are quiet
-  module _ (calls : List Asked) (are : AreQuiet pages calls) where
+  module _ (calls : List SlotCall) (are : AreQuiet pages calls) where
     inner_failed : (i : ℕ) → i ≤ length calls → (c : Image) → LeavesImage (length pages) file.first (drop i calls ++ file.calls) c → LeavesImage (length pages) file.first file.calls c ⊎ LeavesImage (length pages) file.first (calls ++ file.calls) c
     inner_failed i le c left = inl (quiet_image file pages (kept.pages keeps) (drop i calls) (quiet_drop pages i calls are) c left)
 
@@ -255,14 +255,14 @@ module _ (file : Slots) (pages : List (Option (List ℕ))) (behind : Bool) (kept
 
 -- ---- the calls of one that failed
 
-failed_quiet : (pages : List (Option (List ℕ))) (call : Asked) → IsQuiet pages call → IsQuiet pages (failed call)
+failed_quiet : (pages : List (Option (List ℕ))) (call : SlotCall) → IsQuiet pages call → IsQuiet pages (failed call)
 failed_quiet pages (ReadsSlot index came) is = is
 failed_quiet pages (WritesSlot index slot passed) is = is
 failed_quiet pages (SyncsFile true) is = absurd is
 failed_quiet pages (SyncsFile false) is = tt
 
 -- a fault among quiet calls, or of the sync after them
-fault_quiet : (pages : List (Option (List ℕ))) (ws front : List Asked) (call : Asked) (rest : List Asked) → AreQuiet pages ws → ws ++ SyncsFile true ∷ [] ≡ front ++ call ∷ rest → AreQuiet pages (front ++ failed call ∷ [])
+fault_quiet : (pages : List (Option (List ℕ))) (ws front : List SlotCall) (call : SlotCall) (rest : List SlotCall) → AreQuiet pages ws → ws ++ SyncsFile true ∷ [] ≡ front ++ call ∷ rest → AreQuiet pages (front ++ failed call ∷ [])
 fault_quiet pages [] [] call rest quiet split = (subst (λ c. IsQuiet pages (failed c)) (head_is split) tt, tt)
 fault_quiet pages [] (x ∷ []) call rest quiet split = absurd (cc split)
 fault_quiet pages [] (x ∷ y ∷ front) call rest quiet split = absurd (cc split)
@@ -273,7 +273,7 @@ module _ (file new : Slots) (pages : List (Option (List ℕ))) (behind : Bool) (
   -- all of it passed
   module _ (asks : Asks file new (sync_calls behind pages)) where
     pub passed_is : new ≡ record file { calls = SyncsFile true ∷ (again behind pages ++ file.calls) }
-    passed_is = asks ∙ ap (λ (l : List Asked). record file { calls = l }) (again_is behind pages file.calls)
+    passed_is = asks ∙ ap (λ (l : List SlotCall). record file { calls = l }) (again_is behind pages file.calls)
 
     none_kept : (forgotten : List (Option (List ℕ))) → forgotten ≡ replicate (length pages) None → IsKeptBeside (record file { calls = SyncsFile true ∷ (again behind pages ++ file.calls) }) forgotten false
     none_kept forgotten is =
@@ -292,7 +292,7 @@ module _ (file new : Slots) (pages : List (Option (List ℕ))) (behind : Bool) (
 
   -- up to a fault
   module _ (until : AsksUntilFault file new (sync_calls behind pages)) where
-    abbrev asked : List Asked
+    abbrev asked : List SlotCall
     asked = until.front ++ failed until.call ∷ []
 
     asked_quiet : AreQuiet pages asked
@@ -311,7 +311,7 @@ module _ (file new : Slots) (pages : List (Option (List ℕ))) (behind : Bool) (
       sure = λ keeps level k small. absurd (true≢false level);
     })
 
-keeps_all : {T E : Type 0} (file new : Slots) (calls : List Asked) (result : Result T E) → AsksAll file new calls result → new.keeps ≡ file.keeps
+keeps_all : {T E : Type 0} (file new : Slots) (calls : List SlotCall) (result : Result T E) → AsksAll file new calls result → new.keeps ≡ file.keeps
 keeps_all file new calls (Ok x) asks = ap (λ (s : Slots). s.keeps) asks
 keeps_all file new calls (Err e) until = ap (λ (s : Slots). s.keeps) until.asked
 

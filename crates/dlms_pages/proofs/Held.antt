@@ -3,19 +3,19 @@ use Rattle.std.proofs.Common.{◌≡◌, ◌≢◌, ◌<◌, ◌≤◌, ◌^◌,
 use Rattle.std.proofs.lemmas.List.{get_or-map, get_or-set_same, get_or-set_other, length-set, length-map, reverse-append, ext_get_or}
 use Rattle.std.proofs.lemmas.Bool.{cases_eq, true≢false}
 use Rattle.std.specs.Prelude.{reverse}
-use Rattle.dlms_pages.specs.declared.asking.Asked.{Asked}
-use Rattle.dlms_pages.specs.declared.asking.Asked.TheVariants.{Reads, Writes, Syncs}
+use Rattle.dlms_pages.specs.declared.asking.SlotCall.{SlotCall}
+use Rattle.dlms_pages.specs.declared.asking.SlotCall.TheVariants.{Reads, Writes, Syncs}
 use Rattle.dlms_pages.specs.declared.asking.Came.{Came}
 use Rattle.dlms_pages.specs.HeldSlots.{AreHeld, AreTorn, IsHeld}
 use Rattle.dlms_pages.specs.Slots.{Slot, Standing, IsMix, IsTorn, Leaves, newest, standing}
 use Rattle.dlms_pages.specs.Tear.{AreWhole, tear_at}
-use Rattle.dlms_pages.specs.declared.tear.Tear.TheVariants.{New}
-use Rattle.dlms_pages.specs.declared.tear.Tears.{Tears}
+use Rattle.dlms_pages.specs.declared.tear.SlotTear.TheVariants.{New}
+use Rattle.dlms_pages.specs.declared.tear.SlotTears.{SlotTears}
 use Rattle.dlms_pages.proofs.FileKeeping.{synced_sure}
 use Rattle.dlms_pages.proofs.Reopened.{either_is, newest_hit, newest_missed, standing_hit, standing_missed}
 
 -- one more call
-pub one_call : (calls : List Asked) (call : Asked) → reverse (calls ++ call ∷ []) ≡ call ∷ reverse calls
+pub one_call : (calls : List SlotCall) (call : SlotCall) → reverse (calls ++ call ∷ []) ≡ call ∷ reverse calls
 one_call calls call = reverse-append calls (call ∷ [])
 
 -- ---- torn slots
@@ -55,7 +55,7 @@ held_first slots small = record {
       };
 }
 
-module _ (first : List Slot) (calls : List Asked) (reads kept last : List (List ℕ)) (held : AreHeld first calls reads kept last) where
+module _ (first : List Slot) (calls : List SlotCall) (reads kept last : List (List ℕ)) (held : AreHeld first calls reads kept last) where
   pub held_read : (index : ℕ) (came : Came) → AreHeld first (Reads index came ∷ calls) reads kept last
   held_read index came = record {
     counted = held.counted;
@@ -177,15 +177,15 @@ module _ (first : List Slot) (calls : List Asked) (reads kept last : List (List 
       let h = held.each k (omega (arith, small, held.counted)) in
       subst (Leaves first calls k) (sym (get_or-map Some slots k [] None there)) (h.torn (get_or slots k []) (torn.1 k there))
 
-pub held_new : (first slots kept last : List (List ℕ)) (calls : List Asked) → first ≡ slots → calls ≡ [] → kept ≡ slots → last ≡ slots → length slots < 2 ^ 16 → AreHeld (map Some first) (reverse calls) slots kept last
+pub held_new : (first slots kept last : List (List ℕ)) (calls : List SlotCall) → first ≡ slots → calls ≡ [] → kept ≡ slots → last ≡ slots → length slots < 2 ^ 16 → AreHeld (map Some first) (reverse calls) slots kept last
 held_new first slots kept last calls is_first none is_kept is_last small =
     subst (λ (f : List (List ℕ)). AreHeld (map Some f) (reverse calls) slots kept last) (sym is_first)
-    (subst (λ (l : List Asked). AreHeld (map Some slots) (reverse l) slots kept last) (sym none)
+    (subst (λ (l : List SlotCall). AreHeld (map Some slots) (reverse l) slots kept last) (sym none)
     (subst (λ (k : List (List ℕ)). AreHeld (map Some slots) [] slots k last) (sym is_kept)
     (subst (λ (l : List (List ℕ)). AreHeld (map Some slots) [] slots slots l) (sym is_last) (held_first slots small))))
 
 -- a slot of which all octets came
-pub whole_left : (first : List Slot) (calls : List Asked) (reads kept last slots : List (List ℕ)) → AreHeld first calls reads kept last → AreTorn kept last slots → (tears : Tears) → AreWhole tears last slots
+pub whole_left : (first : List Slot) (calls : List SlotCall) (reads kept last slots : List (List ℕ)) → AreHeld first calls reads kept last → AreTorn kept last slots → (tears : SlotTears) → AreWhole tears last slots
     → (k : ℕ) → k < length first → tear_at tears k ≡ New → (standing calls k).sure ≡ true → get_or (map Some slots) k None ≡ newest first calls k
 whole_left first calls reads kept last slots held torn tears whole k small is sure =
     let there : k < length slots = omega (arith, small, held.counted, held.kept_too, torn.0) in
@@ -194,13 +194,13 @@ whole_left first calls reads kept last slots held torn tears whole k small is su
 
 -- ---- the calls, as they are kept, the oldest first
 
-module _ (first : List Slot) (past : List Asked) (reads kept last : List (List ℕ)) (held : AreHeld first (reverse past) reads kept last) (first_now : List Slot) (past_now : List Asked) (reads_now kept_now last_now : List (List ℕ)) (is_first : first_now ≡ first) where
-  now : (call : Asked) (reads_then kept_then last_then : List (List ℕ)) → past_now ≡ past ++ call ∷ [] → reads_now ≡ reads_then → kept_now ≡ kept_then → last_now ≡ last_then
+module _ (first : List Slot) (past : List SlotCall) (reads kept last : List (List ℕ)) (held : AreHeld first (reverse past) reads kept last) (first_now : List Slot) (past_now : List SlotCall) (reads_now kept_now last_now : List (List ℕ)) (is_first : first_now ≡ first) where
+  now : (call : SlotCall) (reads_then kept_then last_then : List (List ℕ)) → past_now ≡ past ++ call ∷ [] → reads_now ≡ reads_then → kept_now ≡ kept_then → last_now ≡ last_then
       → AreHeld first (call ∷ reverse past) reads_then kept_then last_then → AreHeld first_now (reverse past_now) reads_now kept_now last_now
   now call reads_then kept_then last_then more is_reads is_kept is_last is =
-      let calls : reverse past_now ≡ call ∷ reverse past = ap (λ (l : List Asked). reverse l) more ∙ one_call past call in
+      let calls : reverse past_now ≡ call ∷ reverse past = ap (λ (l : List SlotCall). reverse l) more ∙ one_call past call in
       subst (λ (f : List Slot). AreHeld f (reverse past_now) reads_now kept_now last_now) (sym is_first)
-      (subst (λ (l : List Asked). AreHeld first l reads_now kept_now last_now) (sym calls)
+      (subst (λ (l : List SlotCall). AreHeld first l reads_now kept_now last_now) (sym calls)
       (subst (λ (r : List (List ℕ)). AreHeld first (call ∷ reverse past) r kept_now last_now) (sym is_reads)
       (subst (λ (k : List (List ℕ)). AreHeld first (call ∷ reverse past) reads_then k last_now) (sym is_kept)
       (subst (λ (l : List (List ℕ)). AreHeld first (call ∷ reverse past) reads_then kept_then l) (sym is_last) is))))

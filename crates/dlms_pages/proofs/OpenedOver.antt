@@ -2,8 +2,8 @@
 use Rattle.std.proofs.Common.{◌≡◌, ◌≢◌, ◌<◌, ⊎_elim, ℕ, true, false, List, [], ◌∷◌, ◌++◌, length, None, sym, ◌∙◌, ap, subst, arith}
 use Rattle.std.proofs.lemmas.List.{ext_get_or, length-replicate}
 use Rattle.std.proofs.lemmas.Bool.{cases_eq, true≢false}
-use Rattle.dlms_pages.specs.declared.asking.Asked.{Asked}
-use Rattle.dlms_pages.specs.declared.asking.Asked.TheVariants.{Reads, Writes, Syncs}
+use Rattle.dlms_pages.specs.declared.asking.SlotCall.{SlotCall}
+use Rattle.dlms_pages.specs.declared.asking.SlotCall.TheVariants.{Reads, Writes, Syncs}
 use Rattle.dlms_pages.specs.declared.device.PageRead.{PageRead}
 use Rattle.dlms_pages.specs.declared.device.PageRead.TheVariants.{Damaged}
 use Rattle.dlms_pages.specs.Device.{Image, page_at}
@@ -16,7 +16,7 @@ use Rattle.dlms_pages.proofs.Reopened.{newest_missed, standing_hit, standing_mis
 use Rattle.dlms_pages.proofs.Spared.{take_sure}
 
 -- a stop leaves a page whose slot is synced as it was written last
-synced_page : (first : List Slot) (calls : List Asked) (k : ℕ) (page : PageRead) → (standing calls k).synced ≡ true → LeavesPage first calls k page → page ≡ page_in k (newest first calls k)
+synced_page : (first : List Slot) (calls : List SlotCall) (k : ℕ) (page : PageRead) → (standing calls k).synced ≡ true → LeavesPage first calls k page → page ≡ page_in k (newest first calls k)
 synced_page first [] k page synced left = left
 synced_page first (Reads index came ∷ calls) k page synced left = synced_page first calls k page synced left
 synced_page first (Writes index bytes passed ∷ calls) k page synced left = ⊎_elim
@@ -50,17 +50,17 @@ module _ {F : Type 0} (slots : F → Slots) (count : ℕ) (before : Slots) (left
   same_keeps = ap (λ (file : Slots). file.keeps) is.renewed.calls ∙ is.keeps
 
   newest_is : (k : ℕ) → k < count → newest now.first now.calls k ≡ left k
-  newest_is k small = subst (λ (calls : List Asked). Leaves is.file.first calls k (newest now.first now.calls k)) is.starts (is.reopened k small).left ∙ is.holds k small
+  newest_is k small = subst (λ (calls : List SlotCall). Leaves is.file.first calls k (newest now.first now.calls k)) is.starts (is.reopened k small).left ∙ is.holds k small
 
   only_this : (c : Image) → LeavesImage (length pages.unsynced) now.first now.calls c → c ≡ left_pages
   only_this c image = pages_are count (λ k. page_in k (left k)) c (image.counted ∙ many) (λ k small.
       synced_page now.first now.calls k (page_at c k) (is.reopened k small).synced (image.page k (omega (arith, small, many))) ∙ ap (page_in k) (newest_is k small))
 
-  while_opened : (later earlier : List Asked) → now.calls ≡ later ++ earlier → (other : ℕ → Slot) → LeavesSlots count now.first earlier other → pages_from (λ k. page_in k (other k)) 0 count ≡ left_pages
+  while_opened : (later earlier : List SlotCall) → now.calls ≡ later ++ earlier → (other : ℕ → Slot) → LeavesSlots count now.first earlier other → pages_from (λ k. page_in k (other k)) 0 count ≡ left_pages
   while_opened later earlier split other stops = pages_are count (λ k. page_in k (left k)) (pages_from (λ k. page_in k (other k)) 0 count) (count_of (λ k. page_in k (other k)) 0 count) (λ k small.
-      let none : length is.file.calls ≡ 0 = ap (λ (l : List Asked). length l) is.starts in
+      let none : length is.file.calls ≡ 0 = ap (λ (l : List SlotCall). length l) is.starts in
       page_of (λ k. page_in k (other k)) count k small
-      ∙ subst (λ (calls : List Asked). LeavesPage is.file.first calls k (page_in k (other k))) is.starts (is.spared k later earlier split (omega (arith, none)) (other k) (stops k small))
+      ∙ subst (λ (calls : List SlotCall). LeavesPage is.file.first calls k (page_in k (other k))) is.starts (is.spared k later earlier split (omega (arith, none)) (other k) (stops k small))
       ∙ ap (page_in k) (is.holds k small))
 
   pub as_left : IsAsLeft slots count before pages

@@ -4,8 +4,8 @@ use Rattle.std.proofs.lemmas.List.{get_or_past}
 use Rattle.std.proofs.lemmas.Bool.{cases_lt, eqb-true}
 use Rattle.dlms_pages.specs.declared.device.PageRead.{PageRead}
 use Rattle.dlms_pages.specs.declared.device.PageRead.TheVariants.{Damaged}
-use Rattle.dlms_pages.specs.declared.pick.Choice.{Choice}
-use Rattle.dlms_pages.specs.declared.pick.Choice.TheVariants.{Old, New, Torn}
+use Rattle.dlms_pages.specs.declared.pick.PageChoice.{PageChoice}
+use Rattle.dlms_pages.specs.declared.pick.PageChoice.TheVariants.{Old, New, Torn}
 use Rattle.dlms_pages.specs.Disk.{Disk, at_first, disk_after, Left, was_written, IsImage}
 use Rattle.dlms_pages.specs.Pick.{chosen, page_left}
 use Rattle.dlms_pages.specs.Device.{Image, page_at}
@@ -30,19 +30,19 @@ module _ (disk : Disk) (whole : IsImage disk disk.seen) (k : ℕ) where
   abbrev MayHold : PageRead → Type 0
   MayHold page = (page ≡ page_at disk.stable k) ⊎ Left disk.since k page
 
-  chosen_may : (choice : Choice) → was_written disk.since k ≡ true → MayHold (chosen choice (page_at disk.stable k) (page_at disk.seen k))
+  chosen_may : (choice : PageChoice) → was_written disk.since k ≡ true → MayHold (chosen choice (page_at disk.stable k) (page_at disk.seen k))
   chosen_may Old is = inl refl
   chosen_may New is = whole.page k
   chosen_may Torn is = inr (torn disk.since k is)
 
-  pub left_may : (choice : Choice) → MayHold (page_left disk choice k)
+  pub left_may : (choice : PageChoice) → MayHold (page_left disk choice k)
   left_may choice = by (was_written disk.since k) refl
     where
       by : (b : Bool) → was_written disk.since k ≡ b → MayHold (cond b (chosen choice (page_at disk.stable k) (page_at disk.seen k)) (page_at disk.stable k))
       by true is = chosen_may choice is
       by false is = inl refl
 
-pub picked_is_image : (disk : Disk) (image : Image) (choice : ℕ → Choice) → IsImage disk disk.seen → length disk.stable ≡ length disk.seen → length image ≡ length disk.seen → ((k : ℕ) → k < length image → page_at image k ≡ page_left disk (choice k) k) → IsImage disk image
+pub picked_is_image : (disk : Disk) (image : Image) (choice : ℕ → PageChoice) → IsImage disk disk.seen → length disk.stable ≡ length disk.seen → length image ≡ length disk.seen → ((k : ℕ) → k < length image → page_at image k ≡ page_left disk (choice k) k) → IsImage disk image
 picked_is_image disk image choice whole stable count each = record {
   count = count;
   page = λ k. ⊎_elim
@@ -52,7 +52,7 @@ picked_is_image disk image choice whole stable count each = record {
 }
 
 -- in memory
-pub picked_in_memory : (memory : Memory) (image : Image) (choice : ℕ → Choice) → length image ≡ length memory.first → ((k : ℕ) → k < length memory.first → page_at image k ≡ page_left (disk_of memory) (choice k) k) → IsImage (disk_of memory) image
+pub picked_in_memory : (memory : Memory) (image : Image) (choice : ℕ → PageChoice) → length image ≡ length memory.first → ((k : ℕ) → k < length memory.first → page_at image k ≡ page_left (disk_of memory) (choice k) k) → IsImage (disk_of memory) image
 picked_in_memory memory image choice count each =
     let first = at_first memory.first in
     let stable = length-stable first memory.calls refl in

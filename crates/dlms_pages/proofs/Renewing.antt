@@ -2,9 +2,9 @@
 use Rattle.std.proofs.Common.{◌≡◌, ◌+◌, ℕ, suc, Bool, true, List, [], ◌∷◌, ◌++◌, length, refl, sym, ◌∙◌, ap, arith, append_assoc, subst, Result, Ok, Err}
 use Rattle.std.proofs.lemmas.List.{append-nil, length-append}
 use Rattle.std.specs.Prelude.{IfOk}
-use Rattle.dlms_pages.specs.Asked.{Asks, passed, renewal_of, renewals, IsThere, AreThere, IsSlotRenewed, IsSlotTouched, IsRenewed}
-use Rattle.dlms_pages.specs.declared.asking.Asked.{Asked}
-use Rattle.dlms_pages.specs.declared.asking.Asked.TheVariants.{Reads, Writes, Syncs}
+use Rattle.dlms_pages.specs.SlotCalls.{Asks, passed, renewal_of, renewals, IsThere, AreThere, IsSlotRenewed, IsSlotTouched, IsRenewed}
+use Rattle.dlms_pages.specs.declared.asking.SlotCall.{SlotCall}
+use Rattle.dlms_pages.specs.declared.asking.SlotCall.TheVariants.{Reads, Writes, Syncs}
 use Rattle.dlms_pages.specs.declared.asking.Came.{Came}
 use Rattle.dlms_pages.specs.declared.asking.Came.TheVariants.{Slot}
 use Rattle.dlms_pages.specs.Slots.{Slots, Gives}
@@ -21,7 +21,7 @@ behind : (cames : List Came) (came : Came) (from : ℕ) → renewals from (cames
 behind [] came from = append-nil (renewal_of from came) ∙ ap (λ (n : ℕ). renewal_of n came) (omega arith)
 behind (first ∷ cames) came from =
     let next : from + 1 + length cames ≡ from + suc (length cames) = omega arith in
-    ap (λ (l : List Asked). renewal_of from first ++ l) (behind cames came (from + 1) ∙ ap (λ (n : ℕ). renewals (from + 1) cames ++ renewal_of n came) next)
+    ap (λ (l : List SlotCall). renewal_of from first ++ l) (behind cames came (from + 1) ∙ ap (λ (n : ℕ). renewals (from + 1) cames ++ renewal_of n came) next)
     ∙ sym (append_assoc (renewal_of from first) (renewals (from + 1) cames) (renewal_of (from + suc (length cames)) came))
 
 there_too : (cames : List Came) (came : Came) → AreThere cames → IsThere came → AreThere (cames ++ came ∷ [])

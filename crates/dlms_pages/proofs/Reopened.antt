@@ -2,11 +2,11 @@
 use Rattle.std.proofs.Common.{◌≡◌, ◌≢◌, ◌<◌, ◌≤◌, ◌+◌, inl, inr, ⊎_elim, ℕ, Bool, true, false, List, [], ◌∷◌, Some, refl, sym, ◌∙◌, ap, subst, arith}
 use Rattle.std.proofs.lemmas.Bool.{eq-eqb, ne_eqb, eqb-true, cases_lt}
 use Rattle.std.specs.Prelude.{nat_eq, if◌then◌else◌}
-use Rattle.dlms_pages.specs.declared.asking.Asked.{Asked}
-use Rattle.dlms_pages.specs.declared.asking.Asked.TheVariants.{Reads, Writes, Syncs}
+use Rattle.dlms_pages.specs.declared.asking.SlotCall.{SlotCall}
+use Rattle.dlms_pages.specs.declared.asking.SlotCall.TheVariants.{Reads, Writes, Syncs}
 use Rattle.dlms_pages.specs.declared.asking.Came.{Came}
 use Rattle.dlms_pages.specs.declared.asking.Came.TheVariants.{Slot as Octets, Short, Failed}
-use Rattle.dlms_pages.specs.Asked.{Asks, IsSlotRenewed, IsThere, Reopens, renewal_of}
+use Rattle.dlms_pages.specs.SlotCalls.{Asks, IsSlotRenewed, IsThere, Reopens, renewal_of}
 use Rattle.dlms_pages.specs.Slots.{Slot, Slots, Standing, Either, Gives, Leaves, newest, standing}
 
 -- ---- one slot's write leaves the others as they were
@@ -17,20 +17,20 @@ hit index k same = eq-eqb index k (sym same)
 pub missed : (index k : ℕ) → k ≢ index → nat_eq index k ≡ false
 missed index k apart = ne_eqb index k (λ e. apart (sym e))
 
-pub standing_hit : (index k : ℕ) (bytes : List ℕ) (passed : Bool) (calls : List Asked) → k ≡ index → standing (Writes index bytes passed ∷ calls) k ≡ record { synced = false; sure = passed }
+pub standing_hit : (index k : ℕ) (bytes : List ℕ) (passed : Bool) (calls : List SlotCall) → k ≡ index → standing (Writes index bytes passed ∷ calls) k ≡ record { synced = false; sure = passed }
 standing_hit index k bytes passed calls same = ap (λ (b : Bool). if b then record { synced = false; sure = passed } else standing calls k) (hit index k same)
 
-pub standing_missed : (index k : ℕ) (bytes : List ℕ) (passed : Bool) (calls : List Asked) → k ≢ index → standing (Writes index bytes passed ∷ calls) k ≡ standing calls k
+pub standing_missed : (index k : ℕ) (bytes : List ℕ) (passed : Bool) (calls : List SlotCall) → k ≢ index → standing (Writes index bytes passed ∷ calls) k ≡ standing calls k
 standing_missed index k bytes passed calls apart = ap (λ (b : Bool). if b then record { synced = false; sure = passed } else standing calls k) (missed index k apart)
 
-pub newest_hit : (first : List Slot) (index k : ℕ) (bytes : List ℕ) (passed : Bool) (calls : List Asked) → k ≡ index → newest first (Writes index bytes passed ∷ calls) k ≡ Some bytes
+pub newest_hit : (first : List Slot) (index k : ℕ) (bytes : List ℕ) (passed : Bool) (calls : List SlotCall) → k ≡ index → newest first (Writes index bytes passed ∷ calls) k ≡ Some bytes
 newest_hit first index k bytes passed calls same = ap (λ (b : Bool). if b then Some bytes else newest first calls k) (hit index k same)
 
-pub newest_missed : (first : List Slot) (index k : ℕ) (bytes : List ℕ) (passed : Bool) (calls : List Asked) → k ≢ index → newest first (Writes index bytes passed ∷ calls) k ≡ newest first calls k
+pub newest_missed : (first : List Slot) (index k : ℕ) (bytes : List ℕ) (passed : Bool) (calls : List SlotCall) → k ≢ index → newest first (Writes index bytes passed ∷ calls) k ≡ newest first calls k
 newest_missed first index k bytes passed calls apart = ap (λ (b : Bool). if b then Some bytes else newest first calls k) (missed index k apart)
 
 -- the last write is one of those that a stop may leave
-written : (first : List Slot) (index : ℕ) (bytes : List ℕ) (calls : List Asked) (k : ℕ) (b : Bool) → nat_eq index k ≡ b
+written : (first : List Slot) (index : ℕ) (bytes : List ℕ) (calls : List SlotCall) (k : ℕ) (b : Bool) → nat_eq index k ≡ b
     → Leaves first calls k (newest first calls k) → Leaves first (Writes index bytes true ∷ calls) k (if b then Some bytes else newest first calls k)
 written first index bytes calls k true same before = inr (eqb-true index k same, inl refl)
 written first index bytes calls k false other before = inl before
@@ -39,7 +39,7 @@ pub either_is : (b : Bool) (This That : Type 0) → (b ≡ true → This) → (b
 either_is true This That this that = this refl
 either_is false This That this that = that refl
 
-pub newest_leaves : (first : List Slot) (calls : List Asked) (k : ℕ) → Leaves first calls k (newest first calls k)
+pub newest_leaves : (first : List Slot) (calls : List SlotCall) (k : ℕ) → Leaves first calls k (newest first calls k)
 newest_leaves first [] k = refl
 newest_leaves first (Reads index came ∷ calls) k = newest_leaves first calls k
 newest_leaves first (Writes index bytes passed ∷ calls) k = written first index bytes calls k (nat_eq index k) refl (newest_leaves first calls k)
@@ -73,7 +73,7 @@ none_opened file = record {
 }
 
 module _ (old now : Slots) (index : ℕ) (opened : IsOpenedTo index old now) where
-  abbrev with_calls : List Asked → Slots
+  abbrev with_calls : List SlotCall → Slots
   with_calls calls = record now { calls = calls }
 
   here : IsToCome old now index
@@ -81,7 +81,7 @@ module _ (old now : Slots) (index : ℕ) (opened : IsOpenedTo index old now) whe
 
   -- it was read, and written again unchanged
   module _ (bytes : List ℕ) (gives : old.keeps ≡ true → Gives now index (Octets bytes)) where
-    abbrev after_write : List Asked
+    abbrev after_write : List SlotCall
     after_write = Writes index bytes true ∷ Reads index (Octets bytes) ∷ now.calls
 
     as_before : (k : ℕ) (slot : Slot) → k ≢ index → Leaves now.first after_write k slot → Leaves now.first now.calls k slot

@@ -3,12 +3,12 @@ use Rattle.std.proofs.Common.{◌≡◌, ◌≢◌, ◌≤◌, ◌+◌, inl, inr
 use Rattle.std.proofs.lemmas.Bool.{cases_Bool, cases_eq, true≢false}
 use Rattle.std.proofs.lemmas.List.{length-append}
 use Rattle.std.specs.Prelude.{reverse}
-use Rattle.dlms_pages.specs.declared.asking.Asked.{Asked}
-use Rattle.dlms_pages.specs.declared.asking.Asked.TheVariants.{Reads, Writes, Syncs}
+use Rattle.dlms_pages.specs.declared.asking.SlotCall.{SlotCall}
+use Rattle.dlms_pages.specs.declared.asking.SlotCall.TheVariants.{Reads, Writes, Syncs}
 use Rattle.dlms_pages.specs.declared.asking.Came.{Came}
 use Rattle.dlms_pages.specs.declared.asking.Came.TheVariants.{Slot as Octets, Short, Failed}
 use Rattle.dlms_pages.specs.declared.device.PageRead.TheVariants.{Damaged}
-use Rattle.dlms_pages.specs.Asked.{Asks, IsSlotTouched, SparesSlot, touch_of}
+use Rattle.dlms_pages.specs.SlotCalls.{Asks, IsSlotTouched, SparesSlot, touch_of}
 use Rattle.dlms_pages.specs.SlotRules.{no_more}
 use Rattle.dlms_pages.specs.Slots.{Slot, Slots, Standing, Either, Gives, IsTorn, Leaves, LeavesPage, newest, page_in, standing}
 use Rattle.dlms_pages.proofs.FileKeeping.{synced_sure}
@@ -27,7 +27,7 @@ give_doubt true This That is that = absurd (true≢false is)
 give_doubt false This That is that = that
 
 -- a stop leaves a synced slot as it was written last
-pub synced_newest : (first : List Slot) (calls : List Asked) (k : ℕ) (slot : Slot) → (standing calls k).synced ≡ true → Leaves first calls k slot → slot ≡ newest first calls k
+pub synced_newest : (first : List Slot) (calls : List SlotCall) (k : ℕ) (slot : Slot) → (standing calls k).synced ≡ true → Leaves first calls k slot → slot ≡ newest first calls k
 synced_newest first [] k slot synced left = left
 synced_newest first (Reads index came ∷ calls) k slot synced left = synced_newest first calls k slot synced left
 synced_newest first (Writes index bytes passed ∷ calls) k slot synced left = ⊎_elim
@@ -40,14 +40,14 @@ synced_newest first (Writes index bytes passed ∷ calls) k slot synced left = �
 synced_newest first (Syncs true ∷ calls) k slot synced left = take_sure (standing calls k).sure _ _ synced left
 synced_newest first (Syncs false ∷ calls) k slot synced left = synced_newest first calls k slot synced left
 
-not_synced : (calls : List Asked) (k : ℕ) → (standing calls k).sure ≡ false → (standing calls k).synced ≡ false
+not_synced : (calls : List SlotCall) (k : ℕ) → (standing calls k).sure ≡ false → (standing calls k).synced ≡ false
 not_synced calls k doubt = ⊎_elim
     (λ (is : (standing calls k).synced ≡ true). absurd (true≢false (sym (synced_sure calls k is) ∙ doubt)))
     (λ (is : (standing calls k).synced ≡ false). is)
     (cases_Bool (standing calls k).synced)
 
 -- any other may be left damaged
-pub unsynced_damaged : (first : List Slot) (calls : List Asked) (k : ℕ) → (standing calls k).synced ≡ false → LeavesPage first calls k Damaged
+pub unsynced_damaged : (first : List Slot) (calls : List SlotCall) (k : ℕ) → (standing calls k).synced ≡ false → LeavesPage first calls k Damaged
 unsynced_damaged first [] k is = absurd (true≢false is)
 unsynced_damaged first (Reads index came ∷ calls) k is = unsynced_damaged first calls k is
 unsynced_damaged first (Writes index bytes passed ∷ calls) k is = ⊎_elim
@@ -62,10 +62,10 @@ unsynced_damaged first (Syncs false ∷ calls) k is = unsynced_damaged first cal
 pub spares_itself : (file : Slots) (k : ℕ) → SparesSlot file file k
 spares_itself file k later earlier split since slot left = page_left file.first file.calls k slot (subst (λ l. Leaves file.first l k slot) (sym (no_more file.calls later earlier split since)) left)
 
-pub one_call_more : (old now : Slots) (call : Asked) (k : ℕ) → ((slot : Slot) → Leaves now.first (call ∷ now.calls) k slot → LeavesPage old.first old.calls k (page_in k slot)) → SparesSlot old now k
+pub one_call_more : (old now : Slots) (call : SlotCall) (k : ℕ) → ((slot : Slot) → Leaves now.first (call ∷ now.calls) k slot → LeavesPage old.first old.calls k (page_in k slot)) → SparesSlot old now k
     → SparesSlot old (record now { calls = call ∷ now.calls }) k
 one_call_more old now call k here before [] earlier split since slot left = here slot (subst (λ l. Leaves now.first l k slot) (sym split) left)
-one_call_more old now call k here before (last ∷ later) earlier split since slot left = before later earlier (ap (λ (l : List Asked). drop 1 l) split) since slot left
+one_call_more old now call k here before (last ∷ later) earlier split since slot left = before later earlier (ap (λ (l : List SlotCall). drop 1 l) split) since slot left
 
 -- what a stop leaves now
 pub leaves_now : (old now : Slots) (k : ℕ) → SparesSlot old now k → (slot : Slot) → Leaves now.first now.calls k slot → length old.calls ≤ length now.calls → LeavesPage old.first old.calls k (page_in k slot)
@@ -112,7 +112,7 @@ module _ (old now : Slots) (index : ℕ) (to_come : IsToCome old now index) (byt
       left
 
 module _ (old now : Slots) (index k : ℕ) (long : length old.calls ≤ length now.calls) (spared : SparesSlot old now k) where
-  abbrev with_calls : List Asked → Slots
+  abbrev with_calls : List SlotCall → Slots
   with_calls calls = record now { calls = calls }
 
   was_read : (came : Came) → SparesSlot old (with_calls (Reads index came ∷ now.calls)) k
@@ -161,7 +161,7 @@ pub record IsSparedTo (old now : Slots) : Type 0 where
 pub spared_first : (file : Slots) → IsSparedTo file file
 spared_first file = record { long = omega arith; spared = λ keeps k. spares_itself file k }
 
-longer : (old new : Slots) (calls : List Asked) → Asks old new calls → length old.calls ≤ length new.calls
+longer : (old new : Slots) (calls : List SlotCall) → Asks old new calls → length old.calls ≤ length new.calls
 longer old new calls asks =
     let n : length new.calls ≡ length (reverse calls) + length old.calls = ap (λ (file : Slots). length file.calls) asks ∙ length-append (reverse calls) old.calls in
     omega (arith, n)

@@ -1,8 +1,8 @@
 -- The facts known about pages in a file: those about the file of slots, the content written since the last sync, and how often a
 -- call failed. Pages in a file keep the disk rules if the file keeps those of slots.
 use Rattle.std.specs.Prelude.{◌≡◌, ◌<◌, ◌≤◌, ◌+◌, ◌-◌, ◌^◌, min, ℕ, Bool, true, false, List, [], ◌∷◌, length, Option, Some, None, IfSome, Result, Ok, OnOk, OnErr, replicate, slice_index_or, slice_set}
-use Rattle.dlms_pages.specs.Asked.{Asks, AsksAll, ReadsAs, passed, sync_calls}
-use Rattle.dlms_pages.specs.declared.asking.Asked.TheVariants.{Reads, Writes}
+use Rattle.dlms_pages.specs.SlotCalls.{Asks, AsksAll, ReadsAs, passed, sync_calls}
+use Rattle.dlms_pages.specs.declared.asking.SlotCall.TheVariants.{Reads, Writes}
 use Rattle.dlms_pages.specs.declared.asking.Came.{Came}
 use Rattle.dlms_pages.specs.Device.{View}
 use Rattle.dlms_pages.specs.Seal.{slot_of}

@@ -1,12 +1,12 @@
 -- What slots in memory hold: for each slot the content that a read returns, the content when it last became durable, and the
 -- content last written.
 use Rattle.std.specs.Prelude.{◌≡◌, ◌<◌, ◌^◌, ℕ, true, List, [], length, Some, slice_index_or}
-use Rattle.dlms_pages.specs.declared.asking.Asked.{Asked}
+use Rattle.dlms_pages.specs.declared.asking.SlotCall.{SlotCall}
 use Rattle.dlms_pages.specs.Slots.{Slot, IsTorn, Leaves, newest, standing}
 
 -- Each of these may be left by a stop, and so may each tear of the write between them; a read returns the newest if the slot is
 -- sure, and if it is synced all three are the same.
-pub record IsHeld (first : List Slot) (calls : List Asked) (k : ℕ) (reads kept last : List ℕ)
+pub record IsHeld (first : List Slot) (calls : List SlotCall) (k : ℕ) (reads kept last : List ℕ)
     : Type 0 where
   pub left : Leaves first calls k (Some reads)
   pub sure : (standing calls k).sure ≡ true → newest first calls k ≡ Some reads
@@ -16,7 +16,7 @@ pub record IsHeld (first : List Slot) (calls : List Asked) (k : ℕ) (reads kept
       → Leaves first calls k (Some bytes)
   pub settled : (standing calls k).synced ≡ true → (kept ≡ reads) × (last ≡ reads)
 
-pub record AreHeld (first : List Slot) (calls : List Asked) (reads kept last : List (List ℕ))
+pub record AreHeld (first : List Slot) (calls : List SlotCall) (reads kept last : List (List ℕ))
     : Type 0 where
   pub counted : length first ≡ length reads
   pub kept_too : length kept ≡ length reads

@@ -1,4 +1,4 @@
-pub mod Asked
+pub mod SlotCalls
 pub mod Device
 pub mod Disk
 pub mod File

@@ -1,14 +1,14 @@
 -- A file whose machine stopped, and that is opened again.
 use Rattle.std.specs.Prelude.{◌≡◌, ◌<◌, ◌++◌, ℕ, true, List, [], None, slice_index_or}
-use Rattle.dlms_pages.specs.Asked.{IsRenewed, Reopens, SparesSlot}
-use Rattle.dlms_pages.specs.declared.asking.Asked.{Asked}
+use Rattle.dlms_pages.specs.SlotCalls.{IsRenewed, Reopens, SparesSlot}
+use Rattle.dlms_pages.specs.declared.asking.SlotCall.{SlotCall}
 use Rattle.dlms_pages.specs.Device.{Image}
 use Rattle.dlms_pages.specs.File.{FileValue, IsFresh, file_view}
 use Rattle.dlms_pages.specs.Slots.{Slot, Slots, Leaves, LeavesImage, page_in, pages_from}
 use Rattle.dlms_pages.specs.Stops.{IsFixed}
 
 -- a stop may leave these slots
-abbrev pub LeavesSlots : ℕ → List Slot → List Asked → (ℕ → Slot) → Type 0
+abbrev pub LeavesSlots : ℕ → List Slot → List SlotCall → (ℕ → Slot) → Type 0
 LeavesSlots count first calls left = (k : ℕ) → k < count → Leaves first calls k (left k)
 
 -- These slots were left, and pages were opened over a file that holds them and keeps the rules: what `over` then says of them.
@@ -29,7 +29,7 @@ pub record IsAsLeft {F : Type 0} (slots : F
   pub image : Image
   pub left : LeavesImage count before.first before.calls image
   pub fixed : IsFixed (file_view slots pages) image
-  pub inside : (later earlier : List Asked) → (slots pages.file).calls ≡ later ++ earlier
+  pub inside : (later earlier : List SlotCall) → (slots pages.file).calls ≡ later ++ earlier
       → (left : ℕ → Slot) → LeavesSlots count (slots pages.file).first earlier left
       → pages_from (λ k. page_in k (left k)) 0 count ≡ image
 

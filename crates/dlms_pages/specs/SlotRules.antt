@@ -3,8 +3,8 @@ use Rattle.std.proofs.Common.{◌≡◌, ◌<◌, ◌≤◌, ◌+◌, inl, inr, 
 use Rattle.std.proofs.lemmas.List.{length-append, nil_from_length}
 use Rattle.std.proofs.lemmas.Bool.{eqb-true}
 use Rattle.std.specs.Prelude.{nat_eq, if◌then◌else◌}
-use Rattle.dlms_pages.specs.declared.asking.Asked.{Asked}
-use Rattle.dlms_pages.specs.declared.asking.Asked.TheVariants.{Reads, Writes, Syncs}
+use Rattle.dlms_pages.specs.declared.asking.SlotCall.{SlotCall}
+use Rattle.dlms_pages.specs.declared.asking.SlotCall.TheVariants.{Reads, Writes, Syncs}
 use Rattle.dlms_pages.specs.declared.device.PageRead.{PageRead}
 use Rattle.dlms_pages.specs.declared.device.PageRead.TheVariants.{Damaged}
 use Rattle.dlms_pages.specs.Device.{page_at, Rules}
@@ -36,7 +36,7 @@ either_is true This That this that = this refl
 either_is false This That this that = that refl
 
 -- the last write is one of those that a stop may leave
-written : (first : List Slot) (index : ℕ) (bytes : List ℕ) (calls : List Asked) (k : ℕ) (b : Bool)
+written : (first : List Slot) (index : ℕ) (bytes : List ℕ) (calls : List SlotCall) (k : ℕ) (b : Bool)
     → nat_eq index k ≡ b
     → (LeavesPage first calls k (page_in k (newest first calls k)))
     → LeavesPage first (Writes index bytes true ∷ calls) k (page_in k (if b then Some bytes
@@ -44,7 +44,7 @@ written : (first : List Slot) (index : ℕ) (bytes : List ℕ) (calls : List Ask
 written first index bytes calls k true same before = inr (eqb-true index k same, inl refl)
 written first index bytes calls k false other before = inl before
 
-pub newest_left : (first : List Slot) (calls : List Asked) (k : ℕ)
+pub newest_left : (first : List Slot) (calls : List SlotCall) (k : ℕ)
     → LeavesPage first calls k (page_in k (newest first calls k))
 newest_left first [] k = refl
 newest_left first (Reads index came ∷ calls) k = newest_left first calls k
@@ -55,13 +55,13 @@ newest_left first (Syncs true ∷ calls) k =
 newest_left first (Syncs false ∷ calls) k = newest_left first calls k
 
 -- nothing precedes all of a list
-pub no_more : (calls later earlier : List Asked) → calls ≡ later ++ earlier
+pub no_more : (calls later earlier : List SlotCall) → calls ≡ later ++ earlier
     → length calls ≤ length earlier → calls ≡ earlier
 no_more calls later earlier split small =
     let n : length calls ≡ length later + length earlier =
-    ap (λ (l : List Asked). length l) split ∙ length-append later earlier in
+    ap (λ (l : List SlotCall). length l) split ∙ length-append later earlier in
     let none : later ≡ [] = nil_from_length later (omega (arith, n, small)) in
-    split ∙ ap (λ (l : List Asked). l ++ earlier) none
+    split ∙ ap (λ (l : List SlotCall). l ++ earlier) none
 
 pub pages_rules : (count : ℕ) (file : Slots) (faults : ℕ) → Rules (pages_of count file faults)
 pages_rules count file faults =

@@ -5,8 +5,8 @@
 -- part. A successful sync makes everything written durable; a failed one may drop it, and then nothing is known of the slots
 -- written since the last successful sync until they are written again.
 use Rattle.std.specs.Prelude.{◌≡◌, ◌⊎◌, ◌<◌, ◌≤◌, ◌+◌, ◌&&◌, ℕ, zero, suc, Bool, true, false, nat_eq, if◌then◌else◌, List, [], ◌∷◌, ◌++◌, length, take, slice_index_or, Option, Some, None}
-use Rattle.dlms_pages.specs.declared.asking.Asked.{Asked}
-use Rattle.dlms_pages.specs.declared.asking.Asked.TheVariants.{Reads, Writes, Syncs}
+use Rattle.dlms_pages.specs.declared.asking.SlotCall.{SlotCall}
+use Rattle.dlms_pages.specs.declared.asking.SlotCall.TheVariants.{Reads, Writes, Syncs}
 use Rattle.dlms_pages.specs.declared.asking.Came.{Came}
 use Rattle.dlms_pages.specs.declared.asking.Came.TheVariants.{Slot as Octets, Short, Failed}
 use Rattle.dlms_pages.specs.declared.device.PageRead.{PageRead}
@@ -25,10 +25,10 @@ pub record Slots : Type 0 where
   -- the content of each slot when the machine started; none past the list's end
   pub first : List Slot
   -- what was asked of it since, by whichever program, the newest first
-  pub calls : List Asked
+  pub calls : List SlotCall
 
 -- what was last written to slot k; if nothing was, its initial content
-abbrev pub newest : List Slot → List Asked → ℕ → Slot
+abbrev pub newest : List Slot → List SlotCall → ℕ → Slot
 newest first [] k = slice_index_or first k None
 newest first (Reads index came ∷ calls) k = newest first calls k
 newest first (Writes index slot passed ∷ calls) k = if nat_eq index k then Some slot
@@ -44,7 +44,7 @@ pub record Standing : Type 0 where
 
 -- A slot is sure if its last write succeeded, and no sync failed after that before one succeeded; it is synced if a sync succeeded
 -- while it was sure. Initial content is both.
-abbrev pub standing : List Asked → ℕ → Standing
+abbrev pub standing : List SlotCall → ℕ → Standing
 standing [] k = record { synced = true; sure = true }
 standing (Reads index came ∷ calls) k = standing calls k
 standing (Writes index slot passed ∷ calls) k = if nat_eq index k
@@ -79,7 +79,7 @@ Either false this that = that
 
 -- What a stop may leave in slot k: its newest octets if it is synced; otherwise what it held before, or a write since, or the two
 -- torn.
-abbrev pub Leaves : List Slot → List Asked → ℕ → Slot → Type 0
+abbrev pub Leaves : List Slot → List SlotCall → ℕ → Slot → Type 0
 Leaves first [] k slot = slot ≡ slice_index_or first k None
 Leaves first (Reads index came ∷ calls) k slot = Leaves first calls k slot
 Leaves first (Writes index bytes passed ∷ calls) k slot = Leaves first calls k slot
@@ -118,7 +118,7 @@ pages_from page k (suc count) = page k ∷ pages_from page (k + 1) count
 
 -- What a stop may leave of page k: the content of its slot if that is synced; otherwise what it held before, or the content of a
 -- write since, or it is damaged.
-abbrev pub LeavesPage : List Slot → List Asked → ℕ → PageRead → Type 0
+abbrev pub LeavesPage : List Slot → List SlotCall → ℕ → PageRead → Type 0
 LeavesPage first [] k page = page ≡ page_in k (slice_index_or first k None)
 LeavesPage first (Reads index came ∷ calls) k page = LeavesPage first calls k page
 LeavesPage first (Writes index bytes passed ∷ calls) k page = LeavesPage first calls k page
@@ -129,16 +129,16 @@ LeavesPage first (Syncs true ∷ calls) k page =
 LeavesPage first (Syncs false ∷ calls) k page = LeavesPage first calls k page
 
 -- this many pages, each as a stop may leave it
-pub record LeavesImage (count : ℕ) (first : List Slot) (calls : List Asked) (image : Image)
+pub record LeavesImage (count : ℕ) (first : List Slot) (calls : List SlotCall) (image : Image)
     : Type 0 where
   pub counted : length image ≡ count
   pub page : (k : ℕ) → k < count → LeavesPage first calls k (page_at image k)
 
 -- what a stop since call number t might have left
-pub record LeftSince (count : ℕ) (first : List Slot) (calls : List Asked) (t : ℕ) (image : Image)
+pub record LeftSince (count : ℕ) (first : List Slot) (calls : List SlotCall) (t : ℕ) (image : Image)
     : Type 0 where
-  pub later : List Asked
-  pub earlier : List Asked
+  pub later : List SlotCall
+  pub earlier : List SlotCall
   pub split : calls ≡ later ++ earlier
   pub since : t ≤ length earlier
   pub left : LeavesImage count first earlier image

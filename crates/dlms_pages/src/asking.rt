@@ -14,7 +14,7 @@ pub enum Came {
 
 /// A call of a file of slots and its outcome; for a write and a sync, whether it succeeded.
 #[derive(Clone, Copy)]
-pub enum Asked {
+pub enum SlotCall {
     /// The slot of this index was read.
     Reads {
         index: u16,

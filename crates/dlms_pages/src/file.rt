@@ -1,6 +1,6 @@
 //! Pages in a file, each under a seal.
 ghost use Rattle.std.specs.Prelude.{◌≡◌, ◌<◌, ◌≤◌, ◌^◌, ℕ, true, false, length, replicate, slice_index_or, slice_set, IfOk, IfSome, MatchResult, OnErr, OnOk, Ok, Err};
-ghost use Rattle.dlms_pages.specs.Asked.{AsksAll, IsRenewed, IsSlotRenewed, IsSlotTouched, Reopens, SparesSlot, sync_calls, written_again};
+ghost use Rattle.dlms_pages.specs.SlotCalls.{AsksAll, IsRenewed, IsSlotRenewed, IsSlotTouched, Reopens, SparesSlot, sync_calls, written_again};
 
 use crate::folder::sync_folder;
 use crate::lock::LockFile;

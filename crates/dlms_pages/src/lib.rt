@@ -18,7 +18,7 @@ mod seal;
 mod slot_file;
 mod tear;
 
-pub use asking::{Asked, Came};
+pub use asking::{SlotCall, Came};
 pub use descriptor::refuse_standard;
 pub use device::{DeviceFault, PAGE_BYTES, PageRead, Pages};
 pub use file::FilePages;
@@ -26,7 +26,7 @@ pub use folder::sync_folder;
 pub use lock::LockFile;
 pub use memory::{Call, MemoryPages};
 pub use memory_slots::MemorySlots;
-pub use pick::{Choice, Pick};
+pub use pick::{PageChoice, Pick};
 pub use seal::{SLOT_BYTES, opened};
 pub use slot_file::{FileSlots, SlotFile};
-pub use tear::{Tear, Tears};
+pub use tear::{SlotTear, SlotTears};

@@ -10,7 +10,7 @@ ghost use Rattle.dlms_pages.specs.Pick.{choice_at, page_left};
 use crate::history::{History, history_of};
 use crate::past::Past;
 use crate::plan::{Plan, next_of};
-use crate::{Choice, DeviceFault, PAGE_BYTES, PageRead, Pages, Pick};
+use crate::{PageChoice, DeviceFault, PAGE_BYTES, PageRead, Pages, Pick};
 use std::alloc::{AllocError, Allocator, Global};
 use std::marker::Model;
 use std::snapshot::Snapshot;
@@ -216,16 +216,16 @@ fn settle(pages: &mut [PageRead], calls: &[Call])
 }
 
 // The content that a stop leaves in one page.
-fn left(history: History, choice: Choice) -> PageRead
+fn left(history: History, choice: PageChoice) -> PageRead
     ensures { (disk : Disk) (k : ℕ) → IsHistory disk k history → result ≡ page_left disk choice k }
 {
     if !history.written {
         return history.stable;
     }
     match choice {
-        Choice::Old => history.stable,
-        Choice::New => history.seen,
-        Choice::Torn => PageRead::Damaged,
+        PageChoice::Old => history.stable,
+        PageChoice::New => history.seen,
+        PageChoice::Torn => PageRead::Damaged,
     }
 }
 

@@ -1,16 +1,16 @@
 //! A file of slots in memory, which keeps the rules of such a file, and can lose power.
 ghost use Rattle.std.specs.Prelude.{◌≡◌, ◌<◌, ℕ, true, [], ◌∷◌, None, IfOk, length, slice_index_or};
-ghost use Rattle.dlms_pages.specs.Asked.{Asks, came_of, passed};
+ghost use Rattle.dlms_pages.specs.SlotCalls.{Asks, came_of, passed};
 ghost use Rattle.dlms_pages.specs.Slots.{Slots, Gives, Leaves, newest, standing};
 ghost use Rattle.dlms_pages.specs.Tear.{tear_at};
-ghost use Rattle.dlms_pages.specs.declared.asking.Asked.TheVariants.{Reads, Writes, Syncs};
+ghost use Rattle.dlms_pages.specs.declared.asking.SlotCall.TheVariants.{Reads, Writes, Syncs};
 
-use crate::asking::{Asked, Came};
+use crate::asking::{SlotCall, Came};
 use crate::past::Past;
 use crate::plan::{Plan, next_of};
 use crate::seal::SLOT_BYTES;
 use crate::slot_file::SlotFile;
-use crate::tear::{Tear, Tears, tear_all, torn};
+use crate::tear::{SlotTear, SlotTears, tear_all, torn};
 use std::alloc::{AllocError, Allocator, Global};
 use std::io;
 use std::io::ErrorKind;
@@ -28,10 +28,10 @@ pub struct MemorySlots<A: Allocator = Global> {
     kept: Vec<[u8; SLOT_BYTES], A>,
     last: Vec<[u8; SLOT_BYTES], A>,
     plan: Plan,
-    tear: Tear,
+    tear: SlotTear,
     // The initial content and the calls since. Neither takes memory.
     first: Snapshot<Vec<[u8; SLOT_BYTES], A>>,
-    past: Past<Asked>,
+    past: Past<SlotCall>,
 }
 
 impl<A: Allocator> Model for MemorySlots<A> {
@@ -66,7 +66,7 @@ impl<A: Allocator + Copy> MemorySlots<A> {
             kept,
             last,
             plan: Plan::Never,
-            tear: Tear::Old,
+            tear: SlotTear::Old,
             first,
             past: Past::new(),
         })
@@ -87,20 +87,20 @@ impl<A: Allocator + Copy> MemorySlots<A> {
     }
 
     /// How a call that fails leaves the slots that it was to change. A new file leaves them old.
-    pub fn fail_as(&mut self, tear: Tear)
+    pub fn fail_as(&mut self, tear: SlotTear)
         ensures { self.new ≡ self.old }
     {
         self.tear = tear;
     }
 
     /// Stops the power. Each slot that was written and not made durable is left torn as requested; no call is set to fail.
-    pub fn cut(self, tears: Tears<'_>) -> Self
+    pub fn cut(self, tears: SlotTears<'_>) -> Self
         ensures keeps { result.keeps ≡ true }
         ensures calls { result.calls ≡ [] }
         ensures count { length result.first ≡ length self.first }
         ensures left { (k : ℕ) → k < length self.first
             → Leaves self.first self.calls k (slice_index_or result.first k None) }
-        ensures new { (k : ℕ) → k < length self.first → tear_at tears.entry k ≡ Tear.New
+        ensures new { (k : ℕ) → k < length self.first → tear_at tears.entry k ≡ SlotTear.New
             → (standing self.calls k).sure ≡ true
             → slice_index_or result.first k None ≡ newest self.first self.calls k }
     {
@@ -125,7 +125,7 @@ impl<A: Allocator + Copy> MemorySlots<A> {
             kept,
             last,
             plan: Plan::Never,
-            tear: Tear::Old,
+            tear: SlotTear::Old,
             first,
             past: Past::new(),
         }
@@ -167,12 +167,12 @@ impl<A: Allocator> SlotFile for MemorySlots<A> {
         let due = self.is_due();
         if due || self.slots.len() <= index as usize {
             let came = Came::Failed;
-            self.past = self.past.and(&Asked::Reads { index, came });
+            self.past = self.past.and(&SlotCall::Reads { index, came });
             return Err(refused());
         }
         *slot = self.slots[index as usize];
         let came = Came::Slot(*slot);
-        self.past = self.past.and(&Asked::Reads { index, came });
+        self.past = self.past.and(&SlotCall::Reads { index, came });
         Ok(true)
     }
 
@@ -182,11 +182,11 @@ impl<A: Allocator> SlotFile for MemorySlots<A> {
         let passed = is_there && !due;
         if is_there {
             let place = index as usize;
-            let tear = if passed { Tear::New } else { self.tear };
+            let tear = if passed { SlotTear::New } else { self.tear };
             self.slots[place] = torn(index, &self.slots[place], slot, tear);
             self.last[place] = *slot;
         }
-        self.past = self.past.and(&Asked::Writes {
+        self.past = self.past.and(&SlotCall::Writes {
             index,
             slot: *slot,
             passed,
@@ -204,10 +204,10 @@ impl<A: Allocator> SlotFile for MemorySlots<A> {
                 &self.kept,
                 &self.last,
                 &mut self.slots,
-                Tears::All(self.tear),
+                SlotTears::All(self.tear),
             );
         }
-        self.past = self.past.and(&Asked::Syncs { passed });
+        self.past = self.past.and(&SlotCall::Syncs { passed });
         if passed { Ok(()) } else { Err(refused()) }
     }
 }

@@ -4,7 +4,7 @@ ghost use Rattle.dlms_pages.specs.Pick.{choice_at};
 
 /// What a stop leaves of a page that was written since the last sync.
 #[derive(Clone, Copy, Debug, PartialEq, Eq)]
-pub enum Choice {
+pub enum PageChoice {
     /// Its content at the last sync.
     Old,
     /// What was written to it last.
@@ -23,18 +23,18 @@ pub enum Pick<'a> {
     /// Each reads as damaged.
     AllDamaged,
     /// The choice at each place is for the page with that index; pages past the list's end are left old.
-    Each(&'a [Choice]),
+    Each(&'a [PageChoice]),
 }
 
 impl Pick<'_> {
-    pub(crate) fn choice(&self, index: usize) -> Choice
+    pub(crate) fn choice(&self, index: usize) -> PageChoice
         ensures { result ≡ choice_at self.now index }
     {
         match self {
-            Pick::AllOld => Choice::Old,
-            Pick::AllNew => Choice::New,
-            Pick::AllDamaged => Choice::Torn,
-            Pick::Each(choices) => choices.get(index).copied().unwrap_or(Choice::Old),
+            Pick::AllOld => PageChoice::Old,
+            Pick::AllNew => PageChoice::New,
+            Pick::AllDamaged => PageChoice::Torn,
+            Pick::Each(choices) => choices.get(index).copied().unwrap_or(PageChoice::Old),
         }
     }
 }

@@ -1,10 +1,10 @@
 //! A file as slots: what is asked of it, what came of that, and the rules by which it may be a disk.
 ghost use Rattle.std.specs.Prelude.{◌≡◌, true, [], ◌∷◌};
-ghost use Rattle.dlms_pages.specs.Asked.{Asks, came_of, passed};
+ghost use Rattle.dlms_pages.specs.SlotCalls.{Asks, came_of, passed};
 ghost use Rattle.dlms_pages.specs.Slots.{Slots, Gives};
-ghost use Rattle.dlms_pages.specs.declared.asking.Asked.TheVariants.{Reads, Writes, Syncs};
+ghost use Rattle.dlms_pages.specs.declared.asking.SlotCall.TheVariants.{Reads, Writes, Syncs};
 
-use crate::asking::{Asked, Came};
+use crate::asking::{SlotCall, Came};
 use crate::past::Past;
 use crate::seal::SLOT_BYTES;
 use std::fs::OpenFile;
@@ -38,7 +38,7 @@ pub trait SlotFile {
 #[derive(Drop)]
 pub struct FileSlots<F> {
     file: F,
-    past: Past<Asked>,
+    past: Past<SlotCall>,
 }
 
 impl<F> Model for FileSlots<F> {
@@ -98,14 +98,14 @@ impl<F: Read + Write + Seek + OpenFile> SlotFile for FileSlots<F> {
             Ok(false) => Came::Short,
             Err(_) => Came::Failed,
         };
-        self.past = self.past.and(&Asked::Reads { index, came });
+        self.past = self.past.and(&SlotCall::Reads { index, came });
         result
     }
 
     fn write_slot(&mut self, index: u16, slot: &[u8; SLOT_BYTES]) -> io::Result<()> {
         let result = self.put(index, slot);
         let passed = result.is_ok();
-        self.past = self.past.and(&Asked::Writes {
+        self.past = self.past.and(&SlotCall::Writes {
             index,
             slot: *slot,
             passed,
@@ -116,7 +116,7 @@ impl<F: Read + Write + Seek + OpenFile> SlotFile for FileSlots<F> {
     fn sync(&mut self) -> io::Result<()> {
         let result = self.file.sync_all();
         let passed = result.is_ok();
-        self.past = self.past.and(&Asked::Syncs { passed });
+        self.past = self.past.and(&SlotCall::Syncs { passed });
         result
     }
 }

@@ -10,7 +10,7 @@ use std::alloc::Allocator;
 
 /// Which octets of a slot are the new ones; the others are the old ones.
 #[derive(Clone, Copy, Debug, PartialEq, Eq)]
-pub enum Tear {
+pub enum SlotTear {
     /// None.
     Old,
     /// All.
@@ -25,40 +25,40 @@ pub enum Tear {
 
 /// The tear of each of many slots.
 #[derive(Clone, Copy, Debug)]
-pub enum Tears<'a> {
+pub enum SlotTears<'a> {
     /// The same for all of them.
-    All(Tear),
+    All(SlotTear),
     /// The tear at each place is for the slot with that index; slots past the list's end are left old.
-    Each(&'a [Tear]),
+    Each(&'a [SlotTear]),
 }
 
-impl Tear {
+impl SlotTear {
     // Whether the octet at this place is the new one.
     fn takes(self, place: usize) -> bool {
         match self {
-            Tear::Old => false,
-            Tear::New => true,
-            Tear::Front(count) => place < count as usize,
-            Tear::Back(count) => place >= count as usize,
-            Tear::EverySecond => place % 2 == 1,
+            SlotTear::Old => false,
+            SlotTear::New => true,
+            SlotTear::Front(count) => place < count as usize,
+            SlotTear::Back(count) => place >= count as usize,
+            SlotTear::EverySecond => place % 2 == 1,
         }
     }
 }
 
-impl Tears<'_> {
+impl SlotTears<'_> {
     // The tear of this slot.
-    fn at(&self, index: usize) -> Tear
+    fn at(&self, index: usize) -> SlotTear
         ensures { result ≡ tear_at self.now index }
     {
         match self {
-            Tears::All(tear) => *tear,
-            Tears::Each(tears) => tears.get(index).copied().unwrap_or(Tear::Old),
+            SlotTears::All(tear) => *tear,
+            SlotTears::Each(tears) => tears.get(index).copied().unwrap_or(SlotTear::Old),
         }
     }
 }
 
 // The old octets, with the new ones where the tear says so.
-fn mixed(old: &[u8; SLOT_BYTES], new: &[u8; SLOT_BYTES], tear: Tear) -> [u8; SLOT_BYTES]
+fn mixed(old: &[u8; SLOT_BYTES], new: &[u8; SLOT_BYTES], tear: SlotTear) -> [u8; SLOT_BYTES]
     ensures { IsMix old.now new.now result }
 {
     let mut mix = *old;
@@ -76,15 +76,15 @@ pub fn torn(
     index: u16,
     old: &[u8; SLOT_BYTES],
     new: &[u8; SLOT_BYTES],
-    tear: Tear,
+    tear: SlotTear,
 ) -> [u8; SLOT_BYTES]
     ensures mix { IsTorn index (Some old.now) new.now (Some result) }
-    ensures old { tear ≡ Tear.Old → result ≡ old.now }
-    ensures new { tear ≡ Tear.New → result ≡ new.now }
+    ensures old { tear ≡ SlotTear.Old → result ≡ old.now }
+    ensures new { tear ≡ SlotTear.New → result ≡ new.now }
 {
     let mix = match tear {
-        Tear::Old => return *old,
-        Tear::New => return *new,
+        SlotTear::Old => return *old,
+        SlotTear::New => return *new,
         _ => mixed(old, new, tear),
     };
     if mix == *new {
@@ -101,7 +101,7 @@ pub fn tear_all<A: Allocator>(
     old: &[[u8; SLOT_BYTES]],
     new: &[[u8; SLOT_BYTES]],
     slots: &mut Vec<[u8; SLOT_BYTES], A>,
-    tears: Tears<'_>,
+    tears: SlotTears<'_>,
 )
     requires olds { length old.now ≡ length slots.old.items }
     requires news { length new.now ≡ length slots.old.items }

@@ -8,7 +8,7 @@ ghost use Rattle.dlms_pages.specs.Seal.{ReadsSlot};
 ghost use Rattle.dlms_pages.specs.Stops.{IsFixed};
 ghost use Rattle.dlms_relay.specs.Loaded.{IsLoaded, slot_in};
 
-use dlms_pages::{Choice, MemoryPages, PAGE_BYTES, PageRead, Pages, Pick, SLOT_BYTES, opened};
+use dlms_pages::{PageChoice, MemoryPages, PAGE_BYTES, PageRead, Pages, Pick, SLOT_BYTES, opened};
 use std::alloc::{AllocError, Allocator};
 
 /// The content of the slot of a page.
@@ -23,12 +23,12 @@ fn page_of(octets: &[u8], index: u16) -> PageRead
 }
 
 /// The content to write so that a stop leaves the page, and the choice at that stop.
-fn written_as(page: PageRead) -> ([u8; PAGE_BYTES], Choice)
+fn written_as(page: PageRead) -> ([u8; PAGE_BYTES], PageChoice)
     ensures { (stable : PageReadOf) → chosen result.1 stable (Content result.0) ≡ page }
 {
     match page {
-        PageRead::Content(content) => (content, Choice::New),
-        PageRead::Damaged => ([0; PAGE_BYTES], Choice::Torn),
+        PageRead::Content(content) => (content, PageChoice::New),
+        PageRead::Damaged => ([0; PAGE_BYTES], PageChoice::Torn),
     }
 }
 
@@ -44,7 +44,7 @@ pub(crate) fn loaded<A: Allocator + Copy>(
     ensures fixed { IfOk result (λ pages. IsFixed (view_of pages) pages.first) }
 {
     let mut pages = MemoryPages::new(alloc, count)?;
-    let mut choices = vec![in alloc; Choice::Old; count as usize]?;
+    let mut choices = vec![in alloc; PageChoice::Old; count as usize]?;
     for index in 0..count {
         let (content, choice) = written_as(page_of(octets, index));
         if pages.write(index, &content).is_err() {

@@ -63,7 +63,7 @@ use Rattle.dlms_world.proofs.HeadEndStops.{silences}
 use Rattle.dlms_world.proofs.Keeping.{all_own}
 use Rattle.dlms_world.proofs.Rounds as rounds
 use Rattle.dlms_world.proofs.Served as served
-use Rattle.dlms_world.proofs.Tabled.{shows_due}
+use Rattle.dlms_world.proofs.RowsAsValues.{shows_due}
 use Rattle.dlms_world.proofs.Telling.{tells}
 use Rattle.dlms_world.proofs.Whole.{good}
 use Rattle.dlms_world.specs.Possible.{CanBeDone, CanBeDoneAgain, KnowsSecret, quarter, first_rows}

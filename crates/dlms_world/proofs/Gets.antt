@@ -28,7 +28,7 @@ use Rattle.dlms_state.specs.declared.event.Event.{Event}
 use Rattle.dlms_service.specs.Stake.{stake_of, fails, failing}
 use Rattle.dlms_meter.specs.Run.{Choice, Served, DeviceFails, Does}
 use Rattle.dlms_world.specs.World.{GivesData, GivesDataBy, rows_between}
-use Rattle.dlms_world.proofs.Tables.{one_second}
+use Rattle.dlms_world.proofs.ValuesAsRows.{one_second}
 use Rattle.dlms_data.specs.declared.date_time.TheConstants.{LAST_SECOND}
 
 abbrev pub read_as : RequestForm → Result RequestForm Refusal

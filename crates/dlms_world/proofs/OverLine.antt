@@ -43,20 +43,20 @@ use Rattle.dlms_store.specs.World.StoreStep.{Adds, AddsBehind, Settles, Refuses,
 use Rattle.dlms_store.specs.declared.fault.AddFault.{AddFault}
 use Rattle.dlms_store.specs.declared.fault.AddFault.TheVariants as add
 use Rattle.dlms_world.specs.Agree.{AreCaptures, BringsBuffer}
-use Rattle.dlms_world.specs.Calls.{IsPollerOf, IsUnderWay, IsAsideSame, TurnsInto, taken_by, sent_first, sent_on, sent_again}
+use Rattle.dlms_world.specs.PollTurns.{IsPollerOf, IsUnderWay, IsAsideSame, TurnsInto, taken_by, sent_first, sent_on, sent_again}
 use Rattle.dlms_world.specs.Line.{Moment, AtHead, AtMeter, call_at, turn_at, turns_of, OnLine, Comes, CallsOver, TakenOver, Own, Other, Passes, Carries, Joins, Agree, DoAgree, FirstAgree, AgreeingIsCaptures, RunsAgree, StopsAgree, PollsAgree}
 use Rattle.dlms_world.specs.Programs.{IsReply}
 use Rattle.dlms_world.specs.Sublists.{IsSublist}
-use Rattle.dlms_world.specs.Ties.{IsMeterOf, IsPollSame, AnswersTo, StepsTo, StepsFrom, StepsAt, Puts, IsToldIn}
+use Rattle.dlms_world.specs.MeterTurns.{IsMeterOf, IsPollSame, AnswersTo, StepsTo, StepsFrom, StepsAt, Puts, IsToldIn}
 use Rattle.dlms_world.specs.Turn.{Turn, LosesUp, LosesDown, Merges, Restarted, Run, Stays, Goes, IsOver, restarted, records_in}
 use Rattle.dlms_world.specs.World.{World, IsOn, IsUsual, AreUsual, first_world}
-use Rattle.dlms_world.proofs.Called.{next_is_turn, on_is_turn, timeout_is_turn}
+use Rattle.dlms_world.proofs.PollCallsAreTurns.{next_is_turn, on_is_turn, timeout_is_turn}
 use Rattle.dlms_world.proofs.Done.{joined}
 use Rattle.dlms_world.proofs.HeadEndStops.{can_stop}
 use Rattle.dlms_world.proofs.ProgramLaw.{any_step, its_own, lawful, others_step, put, same_client, still_meter, still_poller}
 use Rattle.dlms_world.proofs.Records.{its_record, other_record}
 use Rattle.dlms_world.proofs.Stopping.{recovered_is, judged_usual}
-use Rattle.dlms_world.proofs.Tied.{at_client, fault_events, judged, known_on, known_legal, stored_usual}
+use Rattle.dlms_world.proofs.CallsAreTurns.{at_client, fault_events, judged, known_on, known_legal, stored_usual}
 use Rattle.dlms_world.proofs.Whole.{polls_are_told, readings_are_captures}
 
 -- ---- a store that is on stays on in usual steps

@@ -33,16 +33,16 @@ use Rattle.dlms_world.specs.Agree.{AreCaptures}
 use Rattle.dlms_world.specs.World.{World, first_world}
 use Rattle.dlms_world.specs.Sublists.{IsSublist}
 use Rattle.dlms_world.specs.Turn.{Turn, LosesUp, LosesDown, Merges as MergesTurn, Restarted, Run, Stays, Goes, restarted, records_in}
-use Rattle.dlms_world.specs.Calls.{IsPollerOf, IsUnderWay, taken_by, IsAsideSame, TurnsInto, sent_first, sent_on, sent_again}
-use Rattle.dlms_world.specs.Ties.{IsMeterOf, IsPollSame, AnswersTo, StepsTo, StepsFrom, StepsAt, Puts, IsToldIn, IsLeftInStep}
+use Rattle.dlms_world.specs.PollTurns.{IsPollerOf, IsUnderWay, taken_by, IsAsideSame, TurnsInto, sent_first, sent_on, sent_again}
+use Rattle.dlms_world.specs.MeterTurns.{IsMeterOf, IsPollSame, AnswersTo, StepsTo, StepsFrom, StepsAt, Puts, IsToldIn, IsLeftInStep}
 use Rattle.dlms_world.specs.Programs.{Held, IsReply, Recovers, Made, Failed, CutOff, CutOffMaking, Act, Begins, Hears, Waits, Renews, Merges, LosesGoing, LosesComing, Arrives, Feeds, Intrudes, Idles, Tells, Stops, StopsFeeding, StopsTelling, Acts, Begun, Then, IsFirst, FilesAreCaptures}
-use Rattle.dlms_world.proofs.Called.{new_is_first, next_is_turn, on_is_turn, timeout_is_turn}
+use Rattle.dlms_world.proofs.PollCallsAreTurns.{new_is_first, next_is_turn, on_is_turn, timeout_is_turn}
 use Rattle.dlms_world.proofs.LineFrames.{AreFrames, are_frames}
 use Rattle.dlms_world.proofs.Records.{its_record, other_record}
 use Rattle.dlms_world.proofs.Renewed.{new_is_turn}
 use Rattle.dlms_world.proofs.Stopping.{stops_are_turns, recoveries_are_turns}
 use Rattle.dlms_world.proofs.Telling.{tells}
-use Rattle.dlms_world.proofs.Tied.{feeds_are_turns, events_are_turns}
+use Rattle.dlms_world.proofs.CallsAreTurns.{feeds_are_turns, events_are_turns}
 use Rattle.dlms_world.proofs.Whole.{good, readings_are_captures}
 
 -- a run of the world that represents the state of such a program

@@ -4,7 +4,7 @@ use Rattle.dlms_headend.specs.Merged.{merged}
 use Rattle.dlms_headend.specs.declared.row.Row.{Row}
 use Rattle.dlms_headend.specs.declared.stage.Course.TheVariants.{Done}
 use Rattle.dlms_world.specs.Turn.{TurnsTo, Merges, records_in, turned}
-use Rattle.dlms_world.specs.Calls.{NewIsTurn, MergeIsTurn}
+use Rattle.dlms_world.specs.PollTurns.{NewIsTurn, MergeIsTurn}
 use Rattle.dlms_world.specs.Sublists.{IsSublist}
 use Rattle.dlms_world.proofs.Records.{again}
 

@@ -23,10 +23,10 @@ use Rattle.dlms_store.specs.declared.fault.AddFault.{AddFault}
 use Rattle.dlms_store.specs.declared.fault.AddFault.TheVariants as add
 use Rattle.dlms_world.specs.World.{World, IsOn, IsUsual, AreUsual, Remembers, first_world}
 use Rattle.dlms_world.specs.Turn.{Run, StopsInside, Restarted, restarted}
-use Rattle.dlms_world.specs.Ties.{IsLeftInStep, IsMeterOf, StopsAreTurns, RecoveriesAreTurns, RestsAreTurns}
+use Rattle.dlms_world.specs.MeterTurns.{IsLeftInStep, IsMeterOf, StopsAreTurns, RecoveriesAreTurns, RestsAreTurns}
 use Rattle.dlms_world.proofs.Lawful.{beginning_legal}
 use Rattle.dlms_world.proofs.Telling.{tells}
-use Rattle.dlms_world.proofs.Tied.{known_on, known_legal, add_usual, stored_usual}
+use Rattle.dlms_world.proofs.CallsAreTurns.{known_on, known_legal, add_usual, stored_usual}
 use Rattle.dlms_world.proofs.Keeping.{whose_meter}
 use Rattle.dlms_world.proofs.Whole.{good}
 

@@ -39,7 +39,7 @@ use Rattle.dlms_state.specs.declared.event.Event.{Event}
 use Rattle.dlms_world.specs.World.{GivesData, GivesDataBy, rows_asked, rows_between}
 use Rattle.dlms_classes.specs.Shown.{clock_place}
 use Rattle.dlms_world.specs.Told.{Talks, IsTold, AnswersTell}
-use Rattle.dlms_world.proofs.Tables.{table_is_profile, range_has}
+use Rattle.dlms_world.proofs.ValuesAsRows.{table_is_profile, range_has}
 use Rattle.dlms_world.proofs.Gets.{Gave, range_part, gets_tell, table_shown, columns_tell, no_data, read_result}
 use Rattle.dlms_world.proofs.Sized.{association_sized}
 use Rattle.dlms_world.proofs.Following.{IsSent, follow, block_read, given_blocks, spells_data, more_data, not_both, not_named, not_accepted, has_count}

@@ -28,7 +28,7 @@ use Rattle.dlms_world.proofs.Keeping.{settles_on, whose_after, Linked, linked, S
 use Rattle.dlms_world.proofs.Ending.{is_told, is_settled}
 use Rattle.dlms_world.proofs.Telling.{tells}
 use Rattle.dlms_world.proofs.Lawful.{legal_after, none_legal, beginning_legal}
-use Rattle.dlms_world.proofs.Ties.{whole_range}
+use Rattle.dlms_world.proofs.SameAsMeter.{whole_range}
 use Rattle.dlms_state.proofs.Limits.{IsWithinLimits-legal}
 use Rattle.dlms_state.specs.Refusal.{IsLegal}
 

@@ -22,10 +22,10 @@ use Rattle.dlms_store.specs.World.{StoreWorld, Next as StoreNext}
 use Rattle.dlms_store.specs.World.StoreWorld.{Rests}
 use Rattle.dlms_store.specs.World.StoreStep.{Stops}
 use Rattle.dlms_world.specs.Agree.{AreCaptures, BringsBuffer}
-use Rattle.dlms_world.specs.Calls.{sent_first, sent_on, sent_again}
+use Rattle.dlms_world.specs.PollTurns.{sent_first, sent_on, sent_again}
 use Rattle.dlms_world.specs.Programs.{IsReply}
 use Rattle.dlms_world.specs.Sublists.{IsSublist}
-use Rattle.dlms_world.specs.Ties.{IsMeterOf}
+use Rattle.dlms_world.specs.MeterTurns.{IsMeterOf}
 use Rattle.dlms_world.specs.Turn.{Run}
 use Rattle.dlms_world.specs.World.{World, first_world}
 

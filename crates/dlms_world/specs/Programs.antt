@@ -23,7 +23,7 @@ use Rattle.dlms_store.specs.declared.fault.AddFault.{AddFault}
 use Rattle.dlms_store.specs.declared.fault.OpenFault.{OpenFault}
 use Rattle.dlms_world.specs.Agree.{AreCaptures}
 use Rattle.dlms_world.specs.Sublists.{IsSublist}
-use Rattle.dlms_world.specs.Calls.{sent_first, sent_on, sent_again}
+use Rattle.dlms_world.specs.PollTurns.{sent_first, sent_on, sent_again}
 
 -- what such a program holds, with the frames that are on the line, the oldest first: going to the meter, and coming to the poller
 pub record Held (P A : Type 0) (ghosts : Ghosts P) : Type 0 where

@@ -15,10 +15,10 @@ ghost use Rattle.dlms_world.specs.Turn.{Answers, handled};
 ghost use Rattle.dlms_world.specs.Named.{PollsAreNamed};
 ghost use Rattle.dlms_world.specs.Between.{ReadingsAreNamed, StillUnset, StillApart};
 ghost use Rattle.dlms_world.specs.Told.{AnswersTell};
-ghost use Rattle.dlms_world.specs.Calls.{NewIsFirst, NewIsTurn, MergeIsTurn, NextIsTurn, OnIsTurn, TimeoutIsTurn};
+ghost use Rattle.dlms_world.specs.PollTurns.{NewIsFirst, NewIsTurn, MergeIsTurn, NextIsTurn, OnIsTurn, TimeoutIsTurn};
 ghost use Rattle.dlms_world.specs.Programs.{FilesAreCaptures};
 ghost use Rattle.dlms_world.specs.Line.{FirstAgree, AgreeingIsCaptures, RunsAgree, StopsAgree, PollsAgree};
-ghost use Rattle.dlms_world.specs.Ties.{FeedsAreTurns, EventsAreTurns, StopsAreTurns, RecoveriesAreTurns, RestsAreTurns};
+ghost use Rattle.dlms_world.specs.MeterTurns.{FeedsAreTurns, EventsAreTurns, StopsAreTurns, RecoveriesAreTurns, RestsAreTurns};
 ghost use Rattle.dlms_world.specs.Agree.{PollsAreTold, ReadingsAreCaptures, ReadingsRise, LineIsSilent};
 ghost use Rattle.dlms_world.specs.Possible.{CanBegin, CanBeDone, CanBeDoneAgain, CanStop};
 

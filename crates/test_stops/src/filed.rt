@@ -4,7 +4,7 @@ use crate::FORMATS;
 use crate::play::{Seen, seen_in};
 use crate::stops::{CALLS, Fault, is_between, played_on, whole};
 use dlms_meter::Meter;
-use dlms_pages::{FilePages, MemorySlots, Tear, Tears};
+use dlms_pages::{FilePages, MemorySlots, SlotTear, SlotTears};
 use dlms_store::PAGES;
 use std::alloc::{AllocError, Global};
 
@@ -23,8 +23,8 @@ fn found_on(alloc: Global, pages: SlotPages) -> Option<Seen> {
 }
 
 /// The state of it if the power stopped, and the file is opened again.
-fn found_behind_a_stop(alloc: Global, pages: SlotPages, tear: Tear) -> Option<Seen> {
-    let left = pages.into_slots().cut(Tears::All(tear));
+fn found_behind_a_stop(alloc: Global, pages: SlotPages, tear: SlotTear) -> Option<Seen> {
+    let left = pages.into_slots().cut(SlotTears::All(tear));
     match FilePages::over(alloc, left, PAGES) {
         Ok(pages) => found_on(alloc, pages),
         Err(_) => None,
@@ -36,7 +36,7 @@ fn file_of(
     alloc: Global,
     fault: Fault,
     calls: u64,
-    tear: Tear,
+    tear: SlotTear,
 ) -> Result<Option<SlotPages>, AllocError> {
     let mut slots = MemorySlots::new(alloc, PAGES)?;
     slots.fail_as(tear);
@@ -53,7 +53,7 @@ fn is_right(
     alloc: Global,
     fault: Fault,
     calls: u64,
-    tear: Tear,
+    tear: SlotTear,
     trace: &[Seen],
 ) -> Result<bool, AllocError> {
     let Some(pages) = file_of(alloc, fault, calls, tear)? else {
@@ -83,7 +83,7 @@ fn is_right(
 pub fn stopped_in_a_file(
     alloc: Global,
     fault: Fault,
-    tear: Tear,
+    tear: SlotTear,
 ) -> Result<(u32, u32), AllocError> {
     let Some(trace) = whole(alloc)? else {
         return Ok((0, 1));

@@ -14,7 +14,7 @@ use acts::{SET_A, SIZE};
 use anyhow::Result;
 use dlms_frame::Client;
 use dlms_meter::Meter;
-use dlms_pages::{MemoryPages, Tear};
+use dlms_pages::{MemoryPages, SlotTear};
 use dlms_store::PAGES;
 use filed::stopped_in_a_file;
 use heaps::{GET_LIST, GET_REGISTER, is_refused_in_turn, is_transfer_left};
@@ -140,7 +140,7 @@ fn run(rt: &HostRuntime) -> Result<()> {
         println!(rt; "{fault:?}, {pick:?}, rows replayed: {runs} runs, {differ} differ")?;
     }
     for fault in [Fault::Fuse, Fault::Once] {
-        for tear in [Tear::Old, Tear::New, Tear::EverySecond] {
+        for tear in [SlotTear::Old, SlotTear::New, SlotTear::EverySecond] {
             let (runs, differ) = stopped_in_a_file(alloc, fault, tear)?;
             println!(rt; "in a file, {fault:?}, {tear:?}: {runs} runs, {differ} differ")?;
         }

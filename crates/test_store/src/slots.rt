@@ -6,7 +6,7 @@ use crate::report::Report;
 use crate::scripts::FORMATS;
 use crate::stops::{accepted, settled_in};
 use anyhow::Result;
-use dlms_pages::{FilePages, MemorySlots, SLOT_BYTES, Tear, Tears};
+use dlms_pages::{FilePages, MemorySlots, SLOT_BYTES, SlotTear, SlotTears};
 use dlms_store::{PAGES, Store};
 use std::alloc::{AllocError, Global};
 
@@ -33,13 +33,13 @@ enum Fault {
 static FAULTS: [Fault; 3] = [Fault::Stop, Fault::GoesOn, Fault::Another];
 
 /// What is left of a slot that is being written: of the failed call's, and of all if the power stops.
-static TEARS: [Tear; 6] = [
-    Tear::Old,
-    Tear::New,
-    Tear::Front(272),
-    Tear::Front(540),
-    Tear::Back(512),
-    Tear::EverySecond,
+static TEARS: [SlotTear; 6] = [
+    SlotTear::Old,
+    SlotTear::New,
+    SlotTear::Front(272),
+    SlotTear::Front(540),
+    SlotTear::Back(512),
+    SlotTear::EverySecond,
 ];
 
 /// The pages of slots in memory, if they can be opened.
@@ -52,7 +52,7 @@ fn slots_of(
     alloc: Global,
     fault: Fault,
     calls: u64,
-    tear: Tear,
+    tear: SlotTear,
 ) -> std::result::Result<MemorySlots, AllocError> {
     let mut slots = MemorySlots::new(alloc, PAGES)?;
     slots.fail_as(tear);
@@ -77,7 +77,7 @@ fn played(
     alloc: Global,
     fault: Fault,
     calls: u64,
-    tear: Tear,
+    tear: SlotTear,
 ) -> std::result::Result<Option<Failed>, AllocError> {
     let Some(pages) = opened(alloc, slots_of(alloc, fault, calls, tear)?) else {
         return Ok(None);
@@ -108,27 +108,27 @@ fn found_in(alloc: Global, slots: MemorySlots) -> Option<u32> {
 }
 
 /// The number found after a fault: by this program or another one, or after a stop.
-fn found_behind(alloc: Global, fault: Fault, pages: SlotPages, tear: Tear) -> Option<u32> {
+fn found_behind(alloc: Global, fault: Fault, pages: SlotPages, tear: SlotTear) -> Option<u32> {
     match fault {
-        Fault::Stop => found_in(alloc, pages.into_slots().cut(Tears::All(tear))),
+        Fault::Stop => found_in(alloc, pages.into_slots().cut(SlotTears::All(tear))),
         Fault::Another => found_in(alloc, pages.into_slots()),
         Fault::GoesOn => {
             let (found, slots) = found_on(alloc, pages);
-            let again = found_in(alloc, slots.cut(Tears::All(tear)));
+            let again = found_in(alloc, slots.cut(SlotTears::All(tear)));
             if found == again { found } else { None }
         }
     }
 }
 
 /// What is left of slots if the power stops after this many calls of their opening or of the recovery.
-fn stopped_again(alloc: Global, slots: MemorySlots, calls: u64, tear: Tear) -> MemorySlots {
+fn stopped_again(alloc: Global, slots: MemorySlots, calls: u64, tear: SlotTear) -> MemorySlots {
     let mut slots = slots;
     slots.fuse(calls);
     let slots = match FilePages::over(alloc, slots, PAGES) {
         Ok(pages) => found_on(alloc, pages).1,
         Err((slots, _)) => slots,
     };
-    slots.cut(Tears::All(tear))
+    slots.cut(SlotTears::All(tear))
 }
 
 /// The calls of an opening and a recovery after which the power stops again: at its first and last slots, at its sync, and in the
@@ -152,12 +152,12 @@ const AGAIN: [u64; 12] = [
 fn found_again(
     alloc: Global,
     calls: u64,
-    tear: Tear,
+    tear: SlotTear,
     again: u64,
 ) -> std::result::Result<Option<Option<u32>>, AllocError> {
     match played(alloc, Fault::Stop, calls, tear)? {
         Some(failed) => {
-            let left = failed.pages.into_slots().cut(Tears::All(tear));
+            let left = failed.pages.into_slots().cut(SlotTears::All(tear));
             let also = found_in(alloc, stopped_again(alloc, left, again, tear));
             Ok(Some(also))
         }
@@ -169,7 +169,7 @@ fn found_again(
 fn play_second_stops(
     report: &mut Report<'_>,
     calls: u64,
-    tear: Tear,
+    tear: SlotTear,
     found: Option<u32>,
 ) -> Result<()> {
     let alloc = report.alloc();
@@ -186,7 +186,7 @@ fn found_after(
     alloc: Global,
     fault: Fault,
     calls: u64,
-    tear: Tear,
+    tear: SlotTear,
 ) -> std::result::Result<Option<(Option<u32>, bool)>, AllocError> {
     let Some(failed) = played(alloc, fault, calls, tear)? else {
         return Ok(None);
@@ -202,7 +202,7 @@ fn found_after(
 
 /// A call that fails, or a stop after a call, at each place of the scenario: every settled pulse is found, and none that was not
 /// accepted.
-fn play_faults(report: &mut Report<'_>, fault: Fault, tear: Tear) -> Result<()> {
+fn play_faults(report: &mut Report<'_>, fault: Fault, tear: SlotTear) -> Result<()> {
     let alloc = report.alloc();
     for calls in 0..CALLS {
         let Some((found, is_between)) = found_after(alloc, fault, calls, tear)? else {
@@ -218,7 +218,7 @@ fn play_faults(report: &mut Report<'_>, fault: Fault, tear: Tear) -> Result<()> 
 }
 
 /// Three pages of which the middle one is written anew, and torn so by a stop.
-fn torn(alloc: Global, tear: Tear) -> Result<Option<[Came; 3]>> {
+fn torn(alloc: Global, tear: SlotTear) -> Result<Option<[Came; 3]>> {
     let Ok(mut pages) = FilePages::over(alloc, MemorySlots::new(alloc, 3)?, 3) else {
         return Ok(None);
     };
@@ -227,7 +227,7 @@ fn torn(alloc: Global, tear: Tear) -> Result<Option<[Came; 3]>> {
     }
     let _synced = asked(&mut pages, Ask::Sync);
     let _written = asked(&mut pages, Ask::Put(1, 0xee));
-    let left = pages.into_slots().cut(Tears::All(tear));
+    let left = pages.into_slots().cut(SlotTears::All(tear));
     let Ok(mut pages) = FilePages::over(alloc, left, 3) else {
         return Ok(None);
     };
@@ -249,13 +249,13 @@ fn play_torn(report: &mut Report<'_>) -> Result<()> {
     for octets in 0..=SLOT_BYTES {
         let place = octets as u16;
         let pages = Some([Came::Full(0x11), page_of(octets), Came::Full(0x11)]);
-        report.compare(place, torn(alloc, Tear::Front(place))?, pages)?;
+        report.compare(place, torn(alloc, SlotTear::Front(place))?, pages)?;
         let pages = Some([
             Came::Full(0x11),
             page_of(SLOT_BYTES - octets),
             Came::Full(0x11),
         ]);
-        report.compare(place, torn(alloc, Tear::Back(place))?, pages)?;
+        report.compare(place, torn(alloc, SlotTear::Back(place))?, pages)?;
     }
     Ok(())
 }

@@ -3,7 +3,7 @@
 use crate::report::Report;
 use crate::scripts::FORMATS;
 use anyhow::Result;
-use dlms_pages::{Choice, MemoryPages, Pages, Pick};
+use dlms_pages::{PageChoice, MemoryPages, Pages, Pick};
 use dlms_state::Event;
 use dlms_store::{PAGES, Store};
 use std::alloc::{AllocError, Global};
@@ -52,7 +52,7 @@ impl Left {
             Left::Old => Pick::AllOld,
             Left::New => Pick::AllNew,
             Left::Damaged => Pick::AllDamaged,
-            Left::Each => Pick::Each(&[Choice::New, Choice::Torn, Choice::Old]),
+            Left::Each => Pick::Each(&[PageChoice::New, PageChoice::Torn, PageChoice::Old]),
         }
     }
 }

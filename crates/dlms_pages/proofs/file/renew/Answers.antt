@@ -1,4 +1,4 @@
-use Rattle.dlms_pages.specs.Asked.{passed}
+use Rattle.dlms_pages.specs.SlotCalls.{passed}
 use Rattle.dlms_pages.proofs.Renewing.{none_yet, one_more}
 use Rattle.dlms_pages.proofs.Reopened.{none_opened, one_opened}
 use Rattle.dlms_pages.proofs.Spared.{spared_first, spared_more, spared_synced}

@@ -1,5 +1,5 @@
 use Rattle.std.proofs.Common.{rules}
-use Rattle.dlms_pages.specs.Asked.{passed}
+use Rattle.dlms_pages.specs.SlotCalls.{passed}
 use Rattle.dlms_pages.proofs.Renewing.{slot_again, slot_touched}
 use Rattle.dlms_pages.proofs.file.renew_slot.Goals as goal
 

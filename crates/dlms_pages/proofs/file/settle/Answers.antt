@@ -1,6 +1,6 @@
 use Rattle.std.proofs.Common.{◌∷◌, [], true, Bool, subst, sym}
-use Rattle.dlms_pages.specs.Asked.{AsksUntilFault, sync_calls, written_again}
-use Rattle.dlms_pages.specs.declared.asking.Asked.TheVariants.{Syncs}
+use Rattle.dlms_pages.specs.SlotCalls.{AsksUntilFault, sync_calls, written_again}
+use Rattle.dlms_pages.specs.declared.asking.SlotCall.TheVariants.{Syncs}
 use Rattle.dlms_pages.proofs.FileCalls.{longer, with_fault}
 use Rattle.dlms_pages.proofs.file.settle.Goals as goal
 

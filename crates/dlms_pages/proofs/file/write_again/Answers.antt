@@ -1,5 +1,5 @@
 use Rattle.std.proofs.Common.{◌+◌, subst, sym, take}
-use Rattle.dlms_pages.specs.Asked.{Asks, written_again}
+use Rattle.dlms_pages.specs.SlotCalls.{Asks, written_again}
 use Rattle.dlms_pages.proofs.FileCalls.{one_more_asked, still_asked, until_page, with_fault}
 use Rattle.dlms_pages.proofs.file.write_again.Goals.{in-Some+in_ok-write_slot, in_default}
 use Rattle.dlms_pages.proofs.file.write_again.Goals as goal

@@ -1,5 +1,5 @@
 use Rattle.std.proofs.Common.{take}
-use Rattle.dlms_pages.specs.Asked.{Asks, written_again}
+use Rattle.dlms_pages.specs.SlotCalls.{Asks, written_again}
 use Rattle.dlms_pages.proofs.file.write_again.Given as goal
 
 -- what was written before this page

@@ -1,7 +1,7 @@
 use Rattle.std.proofs.Common.{◌≡◌, ◌<◌, ℕ, Some, length, get_or, []}
 use Rattle.dlms_pages.specs.Slots.{IsTorn}
 use Rattle.dlms_pages.specs.Tear.{tear_at}
-use Rattle.dlms_pages.specs.declared.tear.Tear.TheVariants.{New}
+use Rattle.dlms_pages.specs.declared.tear.SlotTear.TheVariants.{New}
 use Rattle.dlms_pages.proofs.tear.tear_all.Given as goal
 
 -- those below this one are torn

@@ -1,4 +1,4 @@
-use Rattle.dlms_world.proofs.Called.{new_is_first, next_is_turn, on_is_turn, timeout_is_turn}
+use Rattle.dlms_world.proofs.PollCallsAreTurns.{new_is_first, next_is_turn, on_is_turn, timeout_is_turn}
 use Rattle.dlms_world.proofs.Renewed.{new_is_turn, merge_is_turn}
 use Rattle.dlms_world.proofs.laws.calls_are_turns.Goals as goal
 

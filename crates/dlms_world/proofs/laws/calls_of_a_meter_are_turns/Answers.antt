@@ -1,5 +1,5 @@
 use Rattle.dlms_world.proofs.Stopping.{stops_are_turns}
-use Rattle.dlms_world.proofs.Tied.{feeds_are_turns, events_are_turns}
+use Rattle.dlms_world.proofs.CallsAreTurns.{feeds_are_turns, events_are_turns}
 use Rattle.dlms_world.proofs.laws.calls_of_a_meter_are_turns.Goals as goal
 
 pub returns : goal.returns

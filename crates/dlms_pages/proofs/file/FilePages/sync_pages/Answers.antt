@@ -1,6 +1,6 @@
 use Rattle.std.proofs.Common.{rules, subst, List, Option, ℕ, ◌∙◌}
 use Rattle.std.proofs.lemmas.List.{with_items_is}
-use Rattle.dlms_pages.specs.Asked.{Asks, AsksUntilFault, sync_calls}
+use Rattle.dlms_pages.specs.SlotCalls.{Asks, AsksUntilFault, sync_calls}
 use Rattle.dlms_pages.proofs.FileSyncing.{kept_failed, kept_synced}
 use Rattle.dlms_pages.proofs.file.FilePages.sync_pages.Goals as goal
 

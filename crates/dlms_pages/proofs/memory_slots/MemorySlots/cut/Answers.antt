@@ -3,7 +3,7 @@ use Rattle.std.specs.Prelude.{reverse}
 use Rattle.dlms_pages.specs.HeldSlots.{AreTorn}
 use Rattle.dlms_pages.specs.Slots.{Leaves, newest, standing}
 use Rattle.dlms_pages.specs.Tear.{AreWhole, tear_at}
-use Rattle.dlms_pages.specs.declared.tear.Tear.TheVariants.{New}
+use Rattle.dlms_pages.specs.declared.tear.SlotTear.TheVariants.{New}
 use Rattle.dlms_pages.proofs.Held.{held_new, left_torn, whole_left}
 use Rattle.dlms_pages.proofs.memory_slots.MemorySlots.cut.Goals as goal
 

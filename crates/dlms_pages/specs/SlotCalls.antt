@@ -2,8 +2,8 @@
 use Rattle.std.specs.Prelude.{◌≡◌, ◌+◌, ◌≤◌, ℕ, Bool, true, false, List, [], ◌∷◌, ◌++◌, reverse, length, Option, Some, None, Result, Ok, Err, if◌then◌else◌}
 use Rattle.dlms_pages.specs.Seal.{slot_of}
 use Rattle.dlms_pages.specs.Slots.{Slot, Slots, Gives, Leaves, LeavesPage, newest, page_in, standing}
-use Rattle.dlms_pages.specs.declared.asking.Asked.{Asked}
-use Rattle.dlms_pages.specs.declared.asking.Asked.TheVariants.{Reads, Writes, Syncs}
+use Rattle.dlms_pages.specs.declared.asking.SlotCall.{SlotCall}
+use Rattle.dlms_pages.specs.declared.asking.SlotCall.TheVariants.{Reads, Writes, Syncs}
 use Rattle.dlms_pages.specs.declared.asking.Came.{Came}
 use Rattle.dlms_pages.specs.declared.asking.Came.TheVariants.{Slot as Octets, Short, Failed}
 use Rattle.dlms_pages.specs.declared.device.PageRead.{PageRead}
@@ -19,25 +19,25 @@ passed (Ok x) = true
 passed (Err e) = false
 
 -- these calls came after those of before; the initial content, and whether the file keeps the rules, are the same
-abbrev pub Asks : Slots → Slots → List Asked → Type 0
+abbrev pub Asks : Slots → Slots → List SlotCall → Type 0
 Asks old new calls = new ≡ record old { calls = reverse calls ++ old.calls }
 
 -- the same call, that did not pass
-abbrev pub failed : Asked → Asked
+abbrev pub failed : SlotCall → SlotCall
 failed (Reads index came) = Reads index Failed
 failed (Writes index slot is) = Writes index slot false
 failed (Syncs is) = Syncs false
 
 -- these calls, up to one that failed
-pub record AsksUntilFault (old new : Slots) (calls : List Asked) : Type 0 where
-  pub front : List Asked
-  pub call : Asked
-  pub rest : List Asked
+pub record AsksUntilFault (old new : Slots) (calls : List SlotCall) : Type 0 where
+  pub front : List SlotCall
+  pub call : SlotCall
+  pub rest : List SlotCall
   pub split : calls ≡ front ++ call ∷ rest
   pub asked : Asks old new (front ++ failed call ∷ [])
 
 -- an Ok asked all of these calls, and each passed; a fault is that of the first that failed
-abbrev pub AsksAll : {T E : Type 0} → Slots → Slots → List Asked → Result T E → Type 0
+abbrev pub AsksAll : {T E : Type 0} → Slots → Slots → List SlotCall → Result T E → Type 0
 AsksAll old new calls (Ok x) = Asks old new calls
 AsksAll old new calls (Err e) = AsksUntilFault old new calls
 
@@ -49,7 +49,7 @@ ReadsAs index Failed (Ok page) = ⊥
 ReadsAs index Failed (Err fault) = Unit {0}
 
 -- each page that was written is written again, in their order
-abbrev pub written_again : ℕ → List (Option (List ℕ)) → List Asked
+abbrev pub written_again : ℕ → List (Option (List ℕ)) → List SlotCall
 written_again from [] = []
 written_again from (None ∷ pages) = written_again (from + 1) pages
 written_again from (Some bytes ∷ pages) = Writes from (slot_of from bytes) true
@@ -57,19 +57,19 @@ written_again from (Some bytes ∷ pages) = Writes from (slot_of from bytes) tru
 
 -- The calls of a sync: if a write or a sync has failed since the last successful one, everything written since is written again
 -- first.
-abbrev pub sync_calls : Bool → List (Option (List ℕ)) → List Asked
+abbrev pub sync_calls : Bool → List (Option (List ℕ)) → List SlotCall
 sync_calls behind pages = (if behind then written_again 0 pages else []) ++ Syncs true ∷ []
 
 -- ---- a file that is opened
 
 -- a slot is read, and written again unchanged if the file has all of it
-abbrev pub renewal_of : ℕ → Came → List Asked
+abbrev pub renewal_of : ℕ → Came → List SlotCall
 renewal_of index (Octets bytes) = Reads index (Octets bytes) ∷ Writes index bytes true ∷ []
 renewal_of index Short = Reads index Short ∷ []
 renewal_of index Failed = Reads index Failed ∷ []
 
 -- the slots from this index on, one after another
-abbrev pub renewals : ℕ → List Came → List Asked
+abbrev pub renewals : ℕ → List Came → List SlotCall
 renewals from [] = []
 renewals from (came ∷ cames) = renewal_of from came ++ renewals (from + 1) cames
 
@@ -107,7 +107,7 @@ pub record Reopens (old new : Slots) (k : ℕ) : Type 0 where
       → newest new.first new.calls k ≡ newest old.first old.calls k
 
 -- a slot is read and, if the file has all of it, written unchanged; the write may fail
-abbrev pub touch_of : ℕ → Came → Bool → List Asked
+abbrev pub touch_of : ℕ → Came → Bool → List SlotCall
 touch_of index (Octets bytes) passed = Reads index (Octets bytes) ∷ Writes index bytes passed ∷ []
 touch_of index Short passed = Reads index Short ∷ []
 touch_of index Failed passed = Reads index Failed ∷ []
@@ -122,6 +122,6 @@ pub record IsSlotTouched (index : ℕ) (old new : Slots) : Type 0 where
 -- Whatever a stop leaves of slot k at any moment of the calls that lead from the one to the other: it reads as a page that a stop
 -- before them might have left.
 abbrev pub SparesSlot : Slots → Slots → ℕ → Type 0
-SparesSlot old new k = (later earlier : List Asked) → new.calls ≡ later ++ earlier
+SparesSlot old new k = (later earlier : List SlotCall) → new.calls ≡ later ++ earlier
     → length old.calls ≤ length earlier → (slot : Slot) → Leaves new.first earlier k slot
     → LeavesPage old.first old.calls k (page_in k slot)

@@ -28,7 +28,7 @@ use Rattle.dlms_link.specs.declared.phase.Phase.{Phase}
 use Rattle.dlms_link.specs.declared.phase.Phase.TheVariants.{Closed, Connecting, Open}
 use Rattle.dlms_world.specs.World.{World}
 use Rattle.dlms_world.specs.Turn.{Begins as BeginsTurn, GoesOn, AsksNext, Leaves, Ends, FailsAt, TimedOut, GivesUp, reached, gives, IsFree, IsOnItsOwn, Fails}
-use Rattle.dlms_world.specs.Calls.{IsPollerOf, IsUnderWay, taken_by, IsAsideSame, TurnsInto, sent_first, sent_on, sent_again, NewIsFirst, NextIsTurn, OnIsTurn, TimeoutIsTurn}
+use Rattle.dlms_world.specs.PollTurns.{IsPollerOf, IsUnderWay, taken_by, IsAsideSame, TurnsInto, sent_first, sent_on, sent_again, NewIsFirst, NextIsTurn, OnIsTurn, TimeoutIsTurn}
 use Rattle.dlms_world.proofs.Standing.{Stands, client_stands}
 use Rattle.dlms_world.proofs.Records.{same_records}
 

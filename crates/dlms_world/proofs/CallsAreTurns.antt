@@ -28,7 +28,7 @@ use Rattle.dlms_store.specs.declared.fault.AddFault.{AddFault}
 use Rattle.dlms_store.specs.declared.fault.AddFault.TheVariants as add
 use Rattle.dlms_world.specs.World.{World, IsOn, IsUsual, AreUsual, Remembers}
 use Rattle.dlms_world.specs.Turn.{Arrives, Intruded, OtherSends, Happens, Works, Answers, Takes, silent}
-use Rattle.dlms_world.specs.Ties.{IsMeterOf, StepsTo, Puts, AnswersTo, StepsFrom, StepsAt, EndsInStep, IsToldIn, FeedsAreTurns, EventsAreTurns}
+use Rattle.dlms_world.specs.MeterTurns.{IsMeterOf, StepsTo, Puts, AnswersTo, StepsFrom, StepsAt, EndsInStep, IsToldIn, FeedsAreTurns, EventsAreTurns}
 use Rattle.dlms_world.proofs.Clients.{by_link}
 
 -- ---- what a store knows

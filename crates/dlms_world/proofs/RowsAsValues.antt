@@ -19,8 +19,8 @@ use Rattle.dlms_state.specs.Events.{buffer_after, columns_after}
 use Rattle.dlms_state.specs.Refusal.{IsLegal}
 use Rattle.dlms_state.specs.declared.event.Event.{Event}
 use Rattle.dlms_world.proofs.Served.{short_three}
-use Rattle.dlms_world.proofs.Tables.{AllHave, range_has}
-use Rattle.dlms_world.proofs.Ties.{whole_range}
+use Rattle.dlms_world.proofs.ValuesAsRows.{AllHave, range_has}
+use Rattle.dlms_world.proofs.SameAsMeter.{whole_range}
 use Rattle.dlms_world.specs.Possible.{HaveTimes}
 use Rattle.dlms_world.specs.World.{reading_of, rows_between, rows_due}
 
