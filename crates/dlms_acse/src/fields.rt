@@ -28,7 +28,7 @@ fn told(fault: DataFault) -> AcseFault
 }
 
 /// A length and its content, and the bytes after that: BER's spelling of a length is A-XDR's, with at most `most` bytes.
-pub(crate) fn counted(bytes: &[u8], most: u8) -> Result<(&[u8], &[u8]), AcseFault>
+pub(crate) fn take_content(bytes: &[u8], most: u8) -> Result<(&[u8], &[u8]), AcseFault>
     requires { most ≤ 4 }
     ensures exact { Tells (λ x. (x.0.now, x.1.now)) result (octets_at most bytes.now) }
     ensures within { IfOk result (λ x. length x.1.now ≤ length bytes.now) }
@@ -61,7 +61,7 @@ fn check(bytes: &[u8]) -> Result<(), AcseFault>
             return Err(AcseFault::Repeated);
         }
         seen[tag] = true;
-        (_, rest) = counted(behind, 2)?;
+        (_, rest) = take_content(behind, 2)?;
     }
     Ok(())
 }
@@ -72,7 +72,7 @@ pub(crate) fn find(bytes: &[u8], tag: u8) -> Option<&[u8]>
 {
     let mut rest = bytes;
     while let Some((first, behind)) = rest.split_first() {
-        let (value, after) = counted(behind, 2).ok()?;
+        let (value, after) = take_content(behind, 2).ok()?;
         if *first == tag {
             return Some(value);
         }
@@ -92,7 +92,7 @@ pub(crate) fn body(bytes: &[u8], tag: u8) -> Result<&[u8], AcseFault>
             if *first != tag {
                 return Err(AcseFault::Tag);
             }
-            let (fields, behind) = counted(rest, 2)?;
+            let (fields, behind) = take_content(rest, 2)?;
             check(fields)?;
             if !behind.is_empty() {
                 return Err(AcseFault::Length);

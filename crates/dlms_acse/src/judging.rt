@@ -42,7 +42,7 @@ fn is_right(given: &Option<ArrayVec<u8, 16>>, secret: &[u8]) -> bool
 }
 
 /// A refusal whose cause is not the services.
-fn refused(diagnostic: u8) -> Verdict
+fn refusal(diagnostic: u8) -> Verdict
     ensures { result ≡ refused diagnostic }
 {
     Verdict::Refused {
@@ -67,14 +67,14 @@ fn doubt(aarq: &Aarq, client: Client, secret: &[u8]) -> Option<Verdict>
 {
     match (client.has_secret(), aarq.mechanism) {
         (false, Mechanism::Absent | Mechanism::Lowest) => None,
-        (false, _) => Some(refused(11)),
-        (true, Mechanism::Absent | Mechanism::Lowest) => Some(refused(14)),
-        (true, Mechanism::Other) => Some(refused(11)),
+        (false, _) => Some(refusal(11)),
+        (true, Mechanism::Absent | Mechanism::Lowest) => Some(refusal(14)),
+        (true, Mechanism::Other) => Some(refusal(11)),
         (true, Mechanism::Low) => {
             if is_right(&aarq.secret, secret) {
                 None
             } else {
-                Some(refused(13))
+                Some(refusal(13))
             }
         }
     }
@@ -122,13 +122,13 @@ pub fn verdict(aarq: &Aarq, client: Client, secret: &[u8]) -> Verdict
     ensures { result ≡ verdict_of (request_of aarq.now) client secret.now }
 {
     if !aarq.context {
-        return refused(2);
+        return refusal(2);
     }
     if let Some(refusal) = doubt(aarq, client, secret) {
         return refusal;
     }
     match aarq.initiate {
-        None => refused(1),
+        None => refusal(1),
         Some(initiate) => services(initiate),
     }
 }

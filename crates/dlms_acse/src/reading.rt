@@ -8,7 +8,7 @@ ghost use Rattle.dlms_acse.specs.Reading.{Tells, on_some, inner_at, is_context, 
 use crate::aarq::{Aarq, Initiate, Mechanism};
 use crate::conformance::Conformance;
 use crate::fault::AcseFault;
-use crate::fields::{body, counted, find};
+use crate::fields::{body, find, take_content};
 use arrayvec::ArrayVec;
 
 /// The name of the application context with logical names and without ciphering.
@@ -27,7 +27,7 @@ pub(crate) fn inner(bytes: &[u8], tag: u8) -> Option<&[u8]>
 {
     match bytes {
         [first, rest @ ..] if *first == tag => {
-            let (value, behind) = counted(rest, 2).ok()?;
+            let (value, behind) = take_content(rest, 2).ok()?;
             if behind.is_empty() { Some(value) } else { None }
         }
         _ => None,
@@ -83,7 +83,7 @@ fn after_key(bytes: &[u8]) -> Option<&[u8]>
     match bytes {
         [0, rest @ ..] => Some(rest),
         [1, rest @ ..] => {
-            let (_, behind) = counted(rest, 4).ok()?;
+            let (_, behind) = take_content(rest, 4).ok()?;
             Some(behind)
         }
         _ => None,

@@ -34,7 +34,7 @@ fn side_of(number: u8) -> Option<Option<Side>>
 }
 
 /// The text of the frames in these octets, and of the octets between them.
-fn explained(alloc: Global, octets: &[u8]) -> Result<String, AllocError> {
+fn explain_octets(alloc: Global, octets: &[u8]) -> Result<String, AllocError> {
     let mut text = String::new(alloc);
     let mut explainer = Explainer::new(alloc, Form::full());
     explainer.octets(None, octets, &mut text)?;
@@ -78,7 +78,7 @@ pub extern "C" fn dlms_explain(
     ensures told { result ≢ MEMORY
         → (told : List ℕ) × ∥ IsUtf8 told ∥₁ × Puts told text.old result size.new text.new }
 {
-    let Ok(told) = explained(alloc, octets) else {
+    let Ok(told) = explain_octets(alloc, octets) else {
         *size = 0;
         return MEMORY;
     };

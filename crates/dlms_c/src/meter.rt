@@ -11,10 +11,10 @@ ghost use Rattle.dlms_c.specs.declared.kept_meter.KeptMeter.{KeptMeter as KeptMe
 use crate::codes::{CLOSED, DONE, EMPTY, FULL, LOST, MEMORY, NOTHING, SHORT, SIZE, SYNC, WRITE};
 use crate::kept_meter::KeptMeter;
 use crate::loose::Loose;
-use crate::meter_handle::{MeterHandle, kept, loosened, none};
+use crate::meter_handle::{MeterHandle, kept, none, take_kept};
 use dlms_meter::Meter;
 use dlms_pages::{Call, SLOT_BYTES};
-use dlms_relay::{RelayedPages, sealed};
+use dlms_relay::{RelayedPages, seal_slot};
 use std::alloc::Global;
 use std::mem::replace;
 
@@ -34,7 +34,7 @@ pub struct MeterState {
 }
 
 /// Puts a new meter into the handle; otherwise the handle stays empty, and the reason is returned.
-fn filled(alloc: Global, made: Result<KeptMeter, u32>, meter: &mut MeterHandle) -> u32
+fn fill_handle(alloc: Global, made: Result<KeptMeter, u32>, meter: &mut MeterHandle) -> u32
     requires { meter.old.value ≡ None }
     ensures { MatchOption meter.new.value
         ((result ≡ MEMORY) ⊎ (made ≡ Err result))
@@ -62,11 +62,11 @@ pub extern "C" fn dlms_meter_new(alloc: Global, meter: &mut MeterHandle) -> u32
         ⊎ (result ≡ DEVICE)) (λ new. (result ≡ DONE) × IsNewKept new) }
 {
     let handle = replace(meter, none());
-    if let Some(loose) = loosened(handle, alloc) {
+    if let Some(loose) = take_kept(handle, alloc) {
         *meter = kept(loose);
         return FULL;
     }
-    filled(alloc, KeptMeter::format(alloc), meter)
+    fill_handle(alloc, KeptMeter::format(alloc), meter)
 }
 
 /// Makes a meter with every event that these slots hold, in a handle that holds none.
@@ -81,14 +81,14 @@ pub extern "C" fn dlms_meter_recover(alloc: Global, meter: &mut MeterHandle, slo
         × IsRecovered slots.now new) }
 {
     let handle = replace(meter, none());
-    if let Some(loose) = loosened(handle, alloc) {
+    if let Some(loose) = take_kept(handle, alloc) {
         *meter = kept(loose);
         return FULL;
     }
     if slots.len() < SLOTS {
         return SIZE;
     }
-    filled(alloc, KeptMeter::recover(alloc, slots), meter)
+    fill_handle(alloc, KeptMeter::recover(alloc, slots), meter)
 }
 
 /// Takes octets through at most one frame. Its reply is returned by `dlms_meter_reply`, after the pages.
@@ -107,7 +107,7 @@ pub extern "C" fn dlms_meter_feed(
 {
     *taken = 0;
     let handle = replace(meter, none());
-    let Some(loose) = loosened(handle, alloc) else {
+    let Some(loose) = take_kept(handle, alloc) else {
         return EMPTY;
     };
     let mut held = loose.into_box();
@@ -131,7 +131,7 @@ pub extern "C" fn dlms_meter_pulses(
         × JudgesKept old (Pulses channel count) result new }
 {
     let handle = replace(meter, none());
-    let Some(loose) = loosened(handle, alloc) else {
+    let Some(loose) = take_kept(handle, alloc) else {
         return EMPTY;
     };
     let mut held = loose.into_box();
@@ -149,7 +149,7 @@ pub extern "C" fn dlms_meter_moment(alloc: Global, meter: &mut MeterHandle, seco
         × JudgesKept old (Moment second) result new }
 {
     let handle = replace(meter, none());
-    let Some(loose) = loosened(handle, alloc) else {
+    let Some(loose) = take_kept(handle, alloc) else {
         return EMPTY;
     };
     let mut held = loose.into_box();
@@ -166,7 +166,7 @@ pub extern "C" fn dlms_meter_idle(alloc: Global, meter: &mut MeterHandle) -> u32
         → (new : KeptMeterOf) × (meter.new.value ≡ Some new) × FallsSilentKept old result new }
 {
     let handle = replace(meter, none());
-    let Some(loose) = loosened(handle, alloc) else {
+    let Some(loose) = take_kept(handle, alloc) else {
         return EMPTY;
     };
     let mut held = loose.into_box();
@@ -183,7 +183,7 @@ pub extern "C" fn dlms_meter_hang_up(alloc: Global, meter: &mut MeterHandle) -> 
         → (new : KeptMeterOf) × (meter.new.value ≡ Some new) × HangsUpKept old result new }
 {
     let handle = replace(meter, none());
-    let Some(loose) = loosened(handle, alloc) else {
+    let Some(loose) = take_kept(handle, alloc) else {
         return EMPTY;
     };
     let mut held = loose.into_box();
@@ -213,7 +213,7 @@ fn put_page(is_lost: bool, call: &Option<Call>, index: &mut u16, slot: &mut [u8]
     match call {
         Some(Call::Write { index: at, bytes }) => {
             *index = *at;
-            put_slot(&sealed(*at, bytes), slot);
+            put_slot(&seal_slot(*at, bytes), slot);
             WRITE
         }
         Some(Call::Sync) => SYNC,
@@ -237,7 +237,7 @@ pub extern "C" fn dlms_meter_page(
         × HandsPage old result index.new (take SLOT_BYTES slot.new) new }
 {
     let handle = replace(meter, none());
-    let Some(loose) = loosened(handle, alloc) else {
+    let Some(loose) = take_kept(handle, alloc) else {
         return EMPTY;
     };
     if slot.len() < SLOT_BYTES {
@@ -259,7 +259,7 @@ pub extern "C" fn dlms_meter_page_failed(alloc: Global, meter: &mut MeterHandle)
         → (result ≡ DONE) × (meter.new.value ≡ Some (record old { is_lost = true })) }
 {
     let handle = replace(meter, none());
-    let Some(loose) = loosened(handle, alloc) else {
+    let Some(loose) = take_kept(handle, alloc) else {
         return EMPTY;
     };
     let mut held = loose.into_box();
@@ -285,7 +285,7 @@ pub extern "C" fn dlms_meter_reply(
 {
     *size = 0;
     let handle = replace(meter, none());
-    let Some(loose) = loosened(handle, alloc) else {
+    let Some(loose) = take_kept(handle, alloc) else {
         return EMPTY;
     };
     let mut held = loose.into_box();
@@ -334,7 +334,7 @@ pub extern "C" fn dlms_meter_state(
         → Shows old.meter state.new }
 {
     let handle = replace(meter, none());
-    let Some(loose) = loosened(handle, alloc) else {
+    let Some(loose) = take_kept(handle, alloc) else {
         return EMPTY;
     };
     let held = loose.into_box();
@@ -351,7 +351,7 @@ pub extern "C" fn dlms_meter_close(alloc: Global, meter: &mut MeterHandle) -> u3
         → (new : KeptMeterOf) × (meter.new.value ≡ Some new) × Closes old result new }
 {
     let handle = replace(meter, none());
-    let Some(loose) = loosened(handle, alloc) else {
+    let Some(loose) = take_kept(handle, alloc) else {
         return EMPTY;
     };
     let mut held = loose.into_box();
@@ -366,7 +366,7 @@ pub extern "C" fn dlms_meter_free(alloc: Global, meter: &mut MeterHandle)
     ensures { meter.new.value ≡ None }
 {
     let handle = replace(meter, none());
-    if let Some(loose) = loosened(handle, alloc) {
+    if let Some(loose) = take_kept(handle, alloc) {
         let _held = loose.into_box();
     }
 }

@@ -48,7 +48,7 @@ pub fn kept(loose: Loose<KeptMeter, Global>) -> MeterHandle
 }
 
 /// The meter that is kept, if one is.
-pub fn loosened(handle: MeterHandle, alloc: Global) -> Option<Loose<KeptMeter, Global>>
+pub fn take_kept(handle: MeterHandle, alloc: Global) -> Option<Loose<KeptMeter, Global>>
     ensures { option_map (λ loose. loose.value) result ≡ handle.value }
 {
     let MeterHandle { at, is_full } = handle;

@@ -16,7 +16,7 @@ use crate::codes::{
 };
 use crate::kept_poller::KeptPoller;
 use crate::loose::Loose;
-use crate::poller_handle::{PollerHandle, kept, loosened, none};
+use crate::poller_handle::{PollerHandle, kept, none, take_kept};
 use arrayvec::ArrayVec;
 use dlms_data::LAST_SECOND;
 use dlms_frame::{Client, MOST_TEXT, SentFrame};
@@ -207,7 +207,7 @@ pub extern "C" fn dlms_poller_new(
         × IsNewPoller plan.now secret.now new) }
 {
     let handle = replace(poller, none());
-    if let Some(loose) = loosened(handle, alloc) {
+    if let Some(loose) = take_kept(handle, alloc) {
         *poller = kept(loose);
         return FULL;
     }
@@ -242,7 +242,7 @@ pub extern "C" fn dlms_poller_next(
 {
     *size = 0;
     let handle = replace(poller, none());
-    let Some(loose) = loosened(handle, alloc) else {
+    let Some(loose) = take_kept(handle, alloc) else {
         return EMPTY;
     };
     if frame.len() < MOST_TEXT {
@@ -282,7 +282,7 @@ pub extern "C" fn dlms_poller_on(
     *size = 0;
     *number = 0;
     let handle = replace(poller, none());
-    let Some(loose) = loosened(handle, alloc) else {
+    let Some(loose) = take_kept(handle, alloc) else {
         return EMPTY;
     };
     if frame.len() < MOST_TEXT {
@@ -318,7 +318,7 @@ pub extern "C" fn dlms_poller_timeout(
     *size = 0;
     *number = 0;
     let handle = replace(poller, none());
-    let Some(loose) = loosened(handle, alloc) else {
+    let Some(loose) = take_kept(handle, alloc) else {
         return EMPTY;
     };
     if frame.len() < MOST_TEXT {
@@ -346,7 +346,7 @@ pub extern "C" fn dlms_poller_rows(
 {
     *count = 0;
     let handle = replace(poller, none());
-    let Some(loose) = loosened(handle, alloc) else {
+    let Some(loose) = take_kept(handle, alloc) else {
         return EMPTY;
     };
     let held = loose.into_box();
@@ -374,7 +374,7 @@ pub extern "C" fn dlms_poller_row(
         × IsRow row.new polled }
 {
     let handle = replace(poller, none());
-    let Some(loose) = loosened(handle, alloc) else {
+    let Some(loose) = take_kept(handle, alloc) else {
         return EMPTY;
     };
     let held = loose.into_box();
@@ -389,7 +389,7 @@ pub extern "C" fn dlms_poller_free(alloc: Global, poller: &mut PollerHandle)
     ensures { poller.new.value ≡ None }
 {
     let handle = replace(poller, none());
-    if let Some(loose) = loosened(handle, alloc) {
+    if let Some(loose) = take_kept(handle, alloc) {
         let _held = loose.into_box();
     }
 }

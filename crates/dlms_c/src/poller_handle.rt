@@ -48,7 +48,7 @@ pub fn kept(loose: Loose<KeptPoller, Global>) -> PollerHandle
 }
 
 /// The poller that is kept, if one is.
-pub fn loosened(handle: PollerHandle, alloc: Global) -> Option<Loose<KeptPoller, Global>>
+pub fn take_kept(handle: PollerHandle, alloc: Global) -> Option<Loose<KeptPoller, Global>>
     ensures { option_map (λ loose. loose.value) result ≡ handle.value }
 {
     let PollerHandle { at, is_full } = handle;

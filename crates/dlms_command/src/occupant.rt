@@ -1,6 +1,6 @@
 //! The present contents of the file for a new meter, so that nothing of the user's is overwritten.
 
-use dlms_pages::{PageRead, SLOT_BYTES, opened};
+use dlms_pages::{PageRead, SLOT_BYTES, open_slot};
 use dlms_store::PAGES;
 use std::fs::{File, Files};
 use std::io::{ErrorKind, Read};
@@ -57,7 +57,7 @@ fn next_slot<R: Read>(reader: &mut R, index: u16) -> io::Result<Slot> {
     if count < SLOT_BYTES {
         return Ok(Slot::Other);
     }
-    match opened(index, &slot) {
+    match open_slot(index, &slot) {
         PageRead::Content(_) => Ok(Slot::Page),
         PageRead::Damaged if slot.iter().all(|octet| *octet == 0) => Ok(Slot::Zeros),
         PageRead::Damaged => Ok(Slot::Other),

@@ -69,7 +69,7 @@ fn reason(bytes: &[u8]) -> Option<u8>
 }
 
 /// The report of a release whose length does not count the bytes after it.
-fn uncounted<'a, A: Allocator>() -> Apdu<'a, A>
+fn wrong_length<'a, A: Allocator>() -> Apdu<'a, A>
     ensures { IsUncounted result }
 {
     Apdu::Unreadable(Fault {
@@ -85,7 +85,7 @@ fn release_request<'a, A: Allocator>(bytes: &'a [u8]) -> Apdu<'a, A>
     if is_counted(bytes) {
         Apdu::ReleaseRequest(reason(bytes))
     } else {
-        uncounted()
+        wrong_length()
     }
 }
 
@@ -96,7 +96,7 @@ fn release_response<'a, A: Allocator>(bytes: &'a [u8]) -> Apdu<'a, A>
     if is_counted(bytes) {
         Apdu::ReleaseResponse(reason(bytes))
     } else {
-        uncounted()
+        wrong_length()
     }
 }
 

@@ -53,12 +53,12 @@ pub fn read(octet: u8) -> Control
     } else if octet % 16 == 0x05 {
         Control::NotReady { receive }
     } else {
-        unnumbered(octet)
+        unnumbered_frame(octet)
     }
 }
 
 /// The frame without numbers that this octet names, with its poll bit or without.
-fn unnumbered(octet: u8) -> Control
+fn unnumbered_frame(octet: u8) -> Control
     ensures { result ≡ unnumbered_of octet }
 {
     match octet {

@@ -78,7 +78,7 @@ impl<'a> Foreign<'a> {
     }
 
     /// The object that it asks for; if there are several, the most secret one.
-    pub fn asked(self) -> Option<Asked>
+    pub fn requested_object(self) -> Option<Asked>
         ensures { result ≡ asked_by self.entry.survey }
     {
         match (self.survey.invoke, self.survey.chief) {
@@ -89,7 +89,7 @@ impl<'a> Foreign<'a> {
 
     /// The number of its octets from the first field on that is reported by its length or not at all, given this secrecy of its
     /// values. Those before may be shown beside the report (`laws::no_octet_beside_a_secret`).
-    pub fn closed(self, secrecy: Secrecy) -> usize
+    pub fn hidden_len(self, secrecy: Secrecy) -> usize
         ensures { Leaves secrecy self.entry.form.steps.now self.entry.fields.now result }
     {
         left_of(secrecy, Walk::new(self.form.steps, self.fields))

@@ -111,7 +111,7 @@ fn block_of<'a>(octets: &[u8], before: usize) -> Item<'a>
 }
 
 /// Ciphered content, after its length and its security header.
-fn ciphered<'a>(octets: &[u8]) -> Item<'a>
+fn ciphered_item<'a>(octets: &[u8]) -> Item<'a>
     ensures { Ciphers octets.now result }
 {
     let behind = match length_at(octets) {
@@ -155,7 +155,7 @@ pub fn item_of<'a>(secrecy: Secrecy, event: Event<'a>) -> Item<'a>
         Event::Field(Field::ShortData, octets) if tag_of(octets) == 2 => {
             Item::Length(Field::ShortData, number_behind(4, octets))
         }
-        Event::Field(Field::Ciphered, octets) => ciphered(octets),
+        Event::Field(Field::Ciphered, octets) => ciphered_item(octets),
         Event::Field(field, octets) => Item::Plain(field, octets),
     }
 }

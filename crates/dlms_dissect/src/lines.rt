@@ -142,7 +142,7 @@ fn mark(words: &[u8]) -> Option<(Side, usize)>
 }
 
 /// The sender and the pairs of the bytes that follow, if a log's word at the front states it.
-fn marked(words: &[u8]) -> Option<(Side, &[u8])>
+fn sender_mark(words: &[u8]) -> Option<(Side, &[u8])>
     ensures some { IfSome result (λ found. IsMarked words.now found.0 found.1.now) }
     ensures none { IfNone result (is_marked words.now ≡ false) }
 {
@@ -156,12 +156,12 @@ fn marked(words: &[u8]) -> Option<(Side, &[u8])>
 }
 
 /// A log's words before the one that says whose bytes follow, whose they are, and their pairs.
-fn logged(line: &[u8]) -> Option<(&[u8], Side, &[u8])>
+fn log_front(line: &[u8]) -> Option<(&[u8], Side, &[u8])>
     ensures some { IfSome result (λ found. IsLogged line.now found.0.now found.1 found.2.now) }
     ensures none { IfNone result (is_logged line.now ≡ false) }
 {
     for at in 0..line.len() {
-        if let Some((side, digits)) = marked(&line[at..]) {
+        if let Some((side, digits)) = sender_mark(&line[at..]) {
             return Some((&line[..at], side, digits));
         }
     }
@@ -169,10 +169,10 @@ fn logged(line: &[u8]) -> Option<(&[u8], Side, &[u8])>
 }
 
 /// The content of the line if it has no pairs and no mark at the front.
-fn worded(line: &[u8]) -> Line<'_>
+fn line_of_words(line: &[u8]) -> Line<'_>
     ensures { IsWorded line.now result }
 {
-    match logged(line) {
+    match log_front(line) {
         Some((words, side, digits)) => Line::Logged(words, side, digits),
         None => Line::Other,
     }
@@ -188,6 +188,6 @@ pub fn line_of(line: &[u8]) -> Line<'_>
         [b'>', digits @ ..] => pairs_of(Side::Client, digits),
         [b'<', digits @ ..] => pairs_of(Side::Meter, digits),
         _ if are_pairs(line) => Line::Pairs(None, line),
-        _ => worded(line),
+        _ => line_of_words(line),
     }
 }

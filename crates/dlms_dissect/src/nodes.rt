@@ -214,7 +214,7 @@ fn compact(bytes: &[u8]) -> Option<Front>
 }
 
 /// The element with a length after its tag.
-fn counted(tag: u8, length: Length) -> Front
+fn element_front(tag: u8, length: Length) -> Front
     requires { length.octets ≤ 5 }
     ensures { result ≡ counted tag length }
 {
@@ -241,7 +241,7 @@ pub fn node_at(bytes: &[u8]) -> Option<Front>
 {
     let (tag, rest) = bytes.split_first()?;
     match *tag {
-        1 | 2 | 4 | 9 | 10 | 12 => Some(counted(*tag, length_at(rest)?)),
+        1 | 2 | 4 | 9 | 10 | 12 => Some(element_front(*tag, length_at(rest)?)),
         19 => compact(rest),
         other => alone(1 + fixed_of(other)?),
     }

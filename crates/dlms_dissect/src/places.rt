@@ -37,7 +37,7 @@ fn reason_in<T: Drop>(read: Result<T, ApduFault>) -> Option<ApduFault>
 }
 
 /// Why the reader of one end's APDUs refuses the bytes, if it does.
-fn refused<A: Allocator + Copy>(alloc: A, side: Side, bytes: &[u8]) -> Option<ApduFault>
+fn reading_fault<A: Allocator + Copy>(alloc: A, side: Side, bytes: &[u8]) -> Option<ApduFault>
     ensures { result ≡ refused side bytes.now }
 {
     match side {
@@ -66,7 +66,7 @@ fn shortest<A: Allocator + Copy>(alloc: A, side: Side, fault: ApduFault, bytes: 
     let mut high = bytes.len();
     'halving: while high - low > 1 {
         let middle = low + (high - low) / 2;
-        if is_shown(fault, refused(alloc, side, &bytes[..middle])) {
+        if is_shown(fault, reading_fault(alloc, side, &bytes[..middle])) {
             high = middle;
         } else {
             low = middle;

@@ -330,7 +330,10 @@ fn response_content<'a, A: Allocator>(
 }
 
 /// The object that the request of a response asked for, if the response has its invoke-id-and-priority.
-pub fn answered<A: Allocator>(asked: Option<Asked>, response: &Response<'_, A>) -> Option<Asked>
+pub fn answered_object<A: Allocator>(
+    asked: Option<Asked>,
+    response: &Response<'_, A>,
+) -> Option<Asked>
     ensures { result ≡ answered asked response.now }
 {
     match response_invoke(response) {
@@ -353,7 +356,7 @@ pub fn response_said<'a, A: Allocator>(
     ensures content { ShowsResponse
         (told_as raw (secrecy_of (answered asked response.now))) response.now result.content }
 {
-    let of = answered(asked, response);
+    let of = answered_object(asked, response);
     Said {
         form: response_form(response),
         invoke: response_invoke(response),

@@ -251,7 +251,7 @@ impl<A: Allocator> Segments<A> {
     }
 
     /// The position of a frame that is not taken; `follows` states that another segment comes.
-    pub fn passed(&self, side: Option<Side>, number: u8, follows: bool, info: &[u8]) -> Came
+    pub fn pass_frame(&self, side: Option<Side>, number: u8, follows: bool, info: &[u8]) -> Came
         ensures { result ≡ passed self.now.next side number follows info.now }
     {
         if self.is_again(number) {

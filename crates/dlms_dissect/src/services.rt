@@ -70,7 +70,7 @@ impl<A: Allocator + Copy> Services<A> {
     }
 
     /// The object of the answer to this request.
-    fn awaited(&self, request: &Request<'_, A>) -> Option<Asked>
+    fn awaited_object(&self, request: &Request<'_, A>) -> Option<Asked>
         ensures { result ≡ awaited_behind self.now.transfers request.now }
     {
         match request {
@@ -138,7 +138,7 @@ impl<A: Allocator + Copy> Services<A> {
         ensures after { self.new ≡ behind_request self.old request.now }
     {
         let said = request_said(request, self.raw);
-        self.asked = self.awaited(request);
+        self.asked = self.awaited_object(request);
         let joined = self.put(alloc, request);
         Heard { said, joined }
     }
@@ -236,7 +236,7 @@ impl<A: Allocator + Copy> Services<A> {
         match foreign.role() {
             Role::Asks => {
                 self.forget(alloc);
-                self.asked = foreign.asked();
+                self.asked = foreign.requested_object();
                 told_as(self.raw, secrecy_of_named(foreign.survey.chief))
             }
             Role::Answers => {

@@ -196,7 +196,7 @@ impl<A: Allocator + Copy> Talk<A> {
             return Ok(Came::NoPoll);
         }
         if !self.client.is_next(numbers.send) || !self.meter.is_next(numbers.receive) {
-            return Ok(self.client.passed(side, numbers.send, follows, info));
+            return Ok(self.client.pass_frame(side, numbers.send, follows, info));
         }
         self.take_next(numbers, follows, info)
     }

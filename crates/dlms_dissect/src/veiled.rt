@@ -80,7 +80,7 @@ impl<A: Allocator> Covered<A> {
     }
 
     /// Its report.
-    pub fn veiled(&self) -> Veiled<'_, A>
+    pub fn report(&self) -> Veiled<'_, A>
         ensures { result.value.now ≡ self.now.value }
     {
         Veiled { value: &self.value }

@@ -172,7 +172,7 @@ impl<A: Allocator + Copy> Connection<A> {
     fn tell_stamp(&mut self, stamp: Option<Stamp>, ends: Ends, text: &mut Text<A>) {
         let mut told = Text::new(String::new(self.alloc));
         write_segment(&mut told, self.form.is_one_line(), stamp, ends);
-        if told.granted().is_err() {
+        if told.check_memory().is_err() {
             text.refuse();
         }
         match self.carries {

@@ -169,7 +169,7 @@ fn open_len<A: Allocator + Copy>(
     let closed = match apdu {
         Apdu::Unreadable(_) => bytes.len(),
         Apdu::Request(_) | Apdu::Response(_) | Apdu::Foreign(_) => match read_foreign(bytes) {
-            Some(foreign) => foreign.closed(services.values(foreign)),
+            Some(foreign) => foreign.hidden_len(services.values(foreign)),
             None => bytes.len(),
         },
         _ => left_of_acse(bytes),
@@ -425,7 +425,7 @@ fn tell_frame<A: Allocator + Copy>(
     let hex = view.form.hex;
     view.full.clear();
     let shown = explain_content(&mut view.full, alloc, hex, side, talk, frame);
-    if view.full.granted().is_err() {
+    if view.full.check_memory().is_err() {
         text.refuse();
     }
     let octets: &[u8] = if hex { octets } else { &[] };
@@ -576,7 +576,7 @@ impl<A: Allocator + Copy> Explainer<A> {
         let words = str::from_utf8(bytes.trim_ascii()).unwrap_or(NO_TEXT);
         let mut told = Text::new(String::new(self.alloc));
         write_echo(&mut told, written, words);
-        if told.granted().is_err() {
+        if told.check_memory().is_err() {
             text.refuse();
         }
         self.stamp(told.as_str(), text);

@@ -256,7 +256,7 @@ pub fn write_whole<A: Allocator>(text: &mut Text<A>, len: usize, whole: &Whole<A
     match whole {
         Whole::Secret => line(text, 3, "(secret)"),
         Whole::Value(value) => write_levels(text, 3, value),
-        Whole::Unknown(covered) => write_veiled(text, 3, &covered.veiled()),
+        Whole::Unknown(covered) => write_veiled(text, 3, &covered.report()),
         Whole::Unreadable(fault) => write_no_value(text, *fault),
     }
 }

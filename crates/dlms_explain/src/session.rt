@@ -31,7 +31,7 @@ fn write_text<A: Allocator, W: Write>(
 ) -> Result<(), ExplainFault>
     ensures { OnOk result (text.old.is_refused ≡ false) }
 {
-    text.granted()?;
+    text.check_memory()?;
     let written = output.write_all(text.as_str().as_bytes());
     text.clear();
     written.map_err(|_| ExplainFault::Output)

@@ -89,7 +89,7 @@ impl<A: Allocator> Text<A> {
     }
 
     /// Whether each growth was granted.
-    pub fn granted(&self) -> Result<(), AllocError>
+    pub fn check_memory(&self) -> Result<(), AllocError>
         ensures granted { OnOk result (self.now.is_refused ≡ false) }
         ensures refused { IsErr result → self.now.is_refused ≡ true }
     {
@@ -115,7 +115,7 @@ impl<A: Allocator + Copy> Text<A> {
         ensures granted { OnOk result (self.is_refused ≡ false) }
         ensures refused { IsErr result → self.is_refused ≡ true }
     {
-        let granted = self.granted();
+        let granted = self.check_memory();
         *words = self.words;
         granted
     }

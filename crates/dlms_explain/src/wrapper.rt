@@ -102,7 +102,7 @@ impl<A: Allocator + Copy> Asked<A> {
             &mut self.services,
             apdu,
         );
-        if self.view.full.granted().is_err() {
+        if self.view.full.check_memory().is_err() {
             text.refuse();
         }
         let beside = Beside {

@@ -31,7 +31,7 @@ fn other_fault(apdu: &[u8]) -> PollFault
 }
 
 /// The answer to the association request.
-pub fn associated(apdu: &[u8]) -> Result<(), PollFault>
+pub fn read_association(apdu: &[u8]) -> Result<(), PollFault>
     ensures { MatchResult result (λ _. Accepts apdu.now) (Denies apdu.now) }
 {
     match read_aare(apdu) {
@@ -42,7 +42,7 @@ pub fn associated(apdu: &[u8]) -> Result<(), PollFault>
 }
 
 /// The answer to the release.
-pub fn released(apdu: &[u8]) -> Result<(), PollFault>
+pub fn read_release(apdu: &[u8]) -> Result<(), PollFault>
     ensures { MatchResult result (λ _. is_release apdu.now ≡ true)
         (λ fault. (is_release apdu.now ≡ false) × (fault ≡ other_fault apdu.now)) }
 {

@@ -86,7 +86,7 @@ fn are_rows<A: Allocator>(values: &[Data<A>]) -> bool
 }
 
 /// The rows of values. That each is a row's is looked at before memory is asked for.
-fn collected<A: Allocator>(alloc: A, values: &[Data<A>]) -> Result<Vec<Row, A>, PollFault>
+fn collect_rows<A: Allocator>(alloc: A, values: &[Data<A>]) -> Result<Vec<Row, A>, PollFault>
     ensures ok { IfOk result (λ rows. AreRows (values_of values.now) rows.items) }
     ensures readings { IfOk result (λ rows. AreReadings rows.items) }
     ensures err { IfErr result (NoRows (values_of values.now)) }
@@ -111,7 +111,7 @@ pub fn rows<A: Allocator>(alloc: A, value: &Data<A>) -> Result<Vec<Row, A>, Poll
     ensures err { IfErr result (NoProfile (value_of value.now)) }
 {
     match value {
-        Data::Array(items) => collected(alloc, items.as_slice()),
+        Data::Array(items) => collect_rows(alloc, items.as_slice()),
         _ => Err(PollFault::Protocol),
     }
 }
@@ -132,7 +132,7 @@ fn whole_value<A: Allocator + Copy>(alloc: A, bytes: &[u8]) -> Result<Data<A>, P
 }
 
 /// The rows of the buffer's encoding. That it is one is looked at before memory is asked for.
-pub fn encoded<A: Allocator + Copy>(alloc: A, bytes: &[u8]) -> Result<Vec<Row, A>, PollFault>
+pub fn read_rows<A: Allocator + Copy>(alloc: A, bytes: &[u8]) -> Result<Vec<Row, A>, PollFault>
     ensures ok { IfOk result (λ rows. IsEncoded bytes.now rows.items) }
     ensures readings { IfOk result (λ rows. AreReadings rows.items) }
     ensures err { IfErr result (NoEncoding bytes.now) }

@@ -14,7 +14,7 @@ use dlms_apdu::{ApduFault, Response, read_response};
 use std::alloc::Allocator;
 
 /// The value, by its bytes.
-fn judged(bytes: &[u8]) -> Result<(), PollFault>
+fn judge_columns(bytes: &[u8]) -> Result<(), PollFault>
     ensures { (v : Value) → IsSpelling bytes.now v
         → MatchResult result (λ _. v ≡ columns) (λ fault. (fault ≡ OtherColumns)
         × (v ≡ columns → ⊥)) }
@@ -31,12 +31,12 @@ pub fn told<A: Allocator + Copy>(alloc: A, apdu: &[u8]) -> Result<(), PollFault>
     ensures { MatchResult result (λ _. TellsColumns apdu.now) (MissesColumns apdu.now) }
 {
     match read_response(alloc, apdu) {
-        Ok(Response::GetData { .. }) => judged(behind_head(apdu)),
+        Ok(Response::GetData { .. }) => judge_columns(behind_head(apdu)),
         Ok(Response::GetResult { result, .. }) => Err(PollFault::Result(result)),
         Ok(Response::GetBlockResult { result, .. }) => Err(PollFault::Result(result)),
         Ok(Response::Exception { .. }) => Err(PollFault::Result(EXCEPTION)),
         Ok(_) => Err(PollFault::Protocol),
-        Err(ApduFault::Memory) => judged(behind_head(apdu)),
+        Err(ApduFault::Memory) => judge_columns(behind_head(apdu)),
         Err(_) => Err(PollFault::Protocol),
     }
 }

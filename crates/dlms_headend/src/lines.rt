@@ -37,7 +37,7 @@ fn number(digits: &[u8]) -> Option<u32>
 }
 
 /// Splits the bytes at the first separator.
-fn parted(bytes: &[u8], separator: u8) -> Option<(&[u8], &[u8])>
+fn split_at_separator(bytes: &[u8], separator: u8) -> Option<(&[u8], &[u8])>
     ensures found { IfSome result (λ parts. (bytes.now ≡ parts.0.now ++ separator ∷ parts.1.now)
         × Lacks separator parts.0.now) }
     ensures none { IfNone result (Lacks separator bytes.now) }
@@ -57,7 +57,7 @@ fn number_before(bytes: &[u8], separator: u8) -> Option<(u32, &[u8])>
     ensures none { IfNone result ((n : ℕ) (rest : List ℕ) → n < 2 ^ 32
         → bytes.now ≡ field n separator rest → ⊥) }
 {
-    let (before, behind) = parted(bytes, separator)?;
+    let (before, behind) = split_at_separator(bytes, separator)?;
     let value = number(before)?;
     Some((value, behind))
 }

@@ -11,7 +11,7 @@ ghost use Rattle.dlms_headend.specs.declared.poll_fault.PollFault.TheVariants.{R
 ghost use Rattle.dlms_headend.specs.Heard.{HasTaken, HearsBy, Hears, LastHeard, FailsOrWants, BringsReadings};
 
 use crate::answer::EXCEPTION;
-use crate::buffer::{encoded, rows};
+use crate::buffer::{read_rows, rows};
 use crate::form::is_profile;
 use crate::get_answer::GetAnswer;
 use crate::poll_fault::PollFault;
@@ -40,7 +40,7 @@ fn last_block<A: Allocator + Copy>(alloc: A, bytes: &[u8]) -> Result<GetAnswer<A
     ensures hears { LastHeard bytes.now result }
     ensures readings { BringsReadings result }
 {
-    match encoded(alloc, bytes) {
+    match read_rows(alloc, bytes) {
         Ok(rows) => Ok(GetAnswer::Rows(rows)),
         Err(fault) => Err(fault),
     }

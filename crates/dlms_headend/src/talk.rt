@@ -5,7 +5,7 @@ ghost use Rattle.dlms_headend.specs.declared.stage.Stage.TheVariants.{Associatin
 ghost use Rattle.dlms_headend.specs.Rows.{AreReadings};
 ghost use Rattle.dlms_headend.specs.Talk.{fresh_talk, behind_acceptance, behind_rows, FitsTalk, CanTake, Takes};
 
-use crate::answer::{associated, released};
+use crate::answer::{read_association, read_release};
 use crate::capture_objects::told;
 use crate::get_answer::GetAnswer;
 use crate::plan::Columns;
@@ -90,7 +90,7 @@ impl<A: Allocator + Copy> Talk<A> {
         ensures { (apdus : List (List ℕ)) → FitsTalk columns self.old apdus
             → self.old.stage ≡ Associating → Takes columns self.old apdus apdu.now result self.new }
     {
-        match associated(apdu) {
+        match read_association(apdu) {
             Ok(()) => {
                 self.stage = behind_acceptance(columns);
                 Ok(())
@@ -158,7 +158,7 @@ impl<A: Allocator + Copy> Talk<A> {
             Stage::Naming => self.name(columns, apdu),
             Stage::Getting(taken) => self.hear(columns, taken, apdu),
             Stage::Checking => self.check(columns, apdu),
-            Stage::Releasing => match released(apdu) {
+            Stage::Releasing => match read_release(apdu) {
                 Ok(()) => {
                     self.stage = Stage::Leaving;
                     Ok(())

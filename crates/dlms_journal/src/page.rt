@@ -48,7 +48,7 @@ fn head_bytes(kind: PageKind, index: u16, generation: u64, payload: u16) -> [u8;
 }
 
 /// A head and a payload, followed by zeros.
-fn joined(head: &[u8; HEAD_BYTES], payload: &[u8]) -> [u8; PAGE_BYTES]
+fn join_page(head: &[u8; HEAD_BYTES], payload: &[u8]) -> [u8; PAGE_BYTES]
     requires { length payload.now ≤ MOST_PAYLOAD }
     ensures { result ≡ head.now ++ (payload.now
         ++ replicate (MOST_PAYLOAD - length payload.now) 0) }
@@ -68,7 +68,7 @@ pub fn page_of(kind: PageKind, index: u16, generation: u64, payload: &[u8]) -> [
     ensures { IsPage result kind index generation payload.now }
 {
     let head = head_bytes(kind, index, generation, payload.len() as u16);
-    joined(&head, payload)
+    join_page(&head, payload)
 }
 
 /// The kind of a page; none if its number is unknown.

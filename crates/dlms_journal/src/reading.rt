@@ -12,7 +12,7 @@ use dlms_state::{Event, SecretOf};
 
 /// The first `n` bytes, and those after them.
 #[tactic(auto, unfolding(crate::specs::Reading::taken_at))]
-fn taken(bytes: &[u8], n: usize) -> Option<(&[u8], &[u8])>
+fn take_front(bytes: &[u8], n: usize) -> Option<(&[u8], &[u8])>
     ensures exact { option_map (λ x. (x.0.now, x.1.now)) result ≡ taken_at n bytes.now }
     ensures length { IfSome result (λ x. length x.0.now ≡ n) }
 {
@@ -27,7 +27,7 @@ fn taken(bytes: &[u8], n: usize) -> Option<(&[u8], &[u8])>
 fn two(bytes: &[u8]) -> Option<(u16, &[u8])>
     ensures { option_map (λ x. (x.0, x.1.now)) result ≡ number_at 2 bytes.now }
 {
-    let (front, rest) = taken(bytes, 2)?;
+    let (front, rest) = take_front(bytes, 2)?;
     Some((BigEndian::read_u16(front), rest))
 }
 
@@ -36,13 +36,13 @@ fn two(bytes: &[u8]) -> Option<(u16, &[u8])>
 fn four(bytes: &[u8]) -> Option<(u32, &[u8])>
     ensures { option_map (λ x. (x.0, x.1.now)) result ≡ number_at 4 bytes.now }
 {
-    let (front, rest) = taken(bytes, 4)?;
+    let (front, rest) = take_front(bytes, 4)?;
     Some((BigEndian::read_u32(front), rest))
 }
 
 /// A count of at most `MOST`, and that many bytes.
 #[tactic(auto, unfolding(crate::specs::Reading::counted_at))]
-fn counted<const MOST: usize>(bytes: &[u8]) -> Option<(ArrayVec<u8, MOST>, &[u8])>
+fn take_counted<const MOST: usize>(bytes: &[u8]) -> Option<(ArrayVec<u8, MOST>, &[u8])>
     ensures { option_map (λ x. (x.0.items, x.1.now)) result ≡ counted_at MOST bytes.now }
 {
     match bytes {
@@ -52,7 +52,7 @@ fn counted<const MOST: usize>(bytes: &[u8]) -> Option<(ArrayVec<u8, MOST>, &[u8]
             if count > MOST {
                 return None;
             }
-            let (front, rest) = taken(rest, count)?;
+            let (front, rest) = take_front(rest, count)?;
             let mut counted = ArrayVec::new();
             let _fits = counted.try_extend_from_slice(front);
             Some((counted, rest))
@@ -81,11 +81,11 @@ fn secret(bytes: &[u8]) -> Option<(Event, &[u8])>
 {
     match bytes {
         [1, rest @ ..] => {
-            let (secret, rest) = counted(rest)?;
+            let (secret, rest) = take_counted(rest)?;
             Some((Event::SetSecret(SecretOf::Management, secret), rest))
         }
         [2, rest @ ..] => {
-            let (secret, rest) = counted(rest)?;
+            let (secret, rest) = take_counted(rest)?;
             Some((Event::SetSecret(SecretOf::Reader, secret), rest))
         }
         _ => None,
@@ -142,7 +142,7 @@ fn text(bytes: &[u8]) -> Option<(Event, &[u8])>
     ensures { option_map (λ x. (x.0, x.1.now)) result ≡ on_some (counted_at 240 bytes.now)
         (as_event (λ bytes. EventOf.SetText (record { items = bytes }))) }
 {
-    let (text, rest) = counted(bytes)?;
+    let (text, rest) = take_counted(bytes)?;
     Some((Event::SetText(text), rest))
 }
 
@@ -151,7 +151,7 @@ fn columns(bytes: &[u8]) -> Option<(Event, &[u8])>
     ensures { option_map (λ x. (x.0, x.1.now)) result ≡ on_some (counted_at 4 bytes.now)
         (as_event (λ ids. EventOf.SetColumns (record { items = ids }))) }
 {
-    let (ids, rest) = counted(bytes)?;
+    let (ids, rest) = take_counted(bytes)?;
     Some((Event::SetColumns(ids), rest))
 }
 

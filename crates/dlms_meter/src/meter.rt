@@ -72,7 +72,7 @@ impl<P: Pages, A: Allocator + Copy> Meter<P, A> {
             → IfErr result (λ e. e.1 ≡ OpenFault.Memory → Leaves (P.view e.0) IsClear) }
     {
         let Ok(lines) = Lines::new(alloc) else {
-            return Err(Store::<P, A>::unformatted(device));
+            return Err(Store::<P, A>::refuse_format(device));
         };
         let store = Store::format(alloc, device)?;
         Ok(Meter::over(alloc, lines, store))
@@ -117,7 +117,7 @@ impl<P: Pages, A: Allocator + Copy> Meter<P, A> {
             → MatchResult result (λ meter. Remembers events [] meter.store) (λ e. IsRefusal e.1) }
     {
         let Ok(lines) = Lines::new(alloc) else {
-            return Err(Store::unopened(alloc, device));
+            return Err(Store::refuse_open(alloc, device));
         };
         let store = Store::open(alloc, device)?;
         Ok(Meter::over(alloc, lines, store))

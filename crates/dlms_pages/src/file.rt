@@ -4,7 +4,7 @@ ghost use Rattle.dlms_pages.specs.SlotCalls.{AsksAll, IsRenewed, IsSlotRenewed, 
 
 use crate::folder::sync_folder;
 use crate::lock::LockFile;
-use crate::seal::{SLOT_BYTES, opened, sealed};
+use crate::seal::{SLOT_BYTES, open_slot, seal_slot};
 use crate::slot_file::{FileSlots, SlotFile};
 use crate::{DeviceFault, PAGE_BYTES, PageRead, Pages};
 use std::alloc::{AllocError, Allocator, Global};
@@ -77,7 +77,7 @@ impl<F: Read + Write + Seek + OpenFile + LockFile + Drop, A: Allocator> FilePage
         file.set_len(u64::from(count) * SLOT_BYTES as u64)?;
         file.sync_all()?;
         sync_folder(rt, path)?;
-        alone(FilePages::renewed(FileSlots::of(file), unsynced, count))
+        alone(FilePages::over_rewritten_slots(FileSlots::of(file), unsynced, count))
     }
 
     /// Opens a file that is there, and is not in use, by `over`. What it has past its pages stays. The fault is the system's.
@@ -112,7 +112,7 @@ impl<F: SlotFile + Drop, A: Allocator> FilePages<F, A> {
             (λ e. SparesSlot (F.slots file) (F.slots e.0) k) }
     {
         match room(alloc, count) {
-            Ok(unsynced) => FilePages::renewed(file, unsynced, count),
+            Ok(unsynced) => FilePages::over_rewritten_slots(file, unsynced, count),
             Err(fault) => Err((file, fault.into())),
         }
     }
@@ -131,7 +131,7 @@ impl<F: SlotFile + Drop, A: Allocator> FilePages<F, A> {
     }
 
     // `count` pages, with this memory for unsynced content, over a file whose slots are written again.
-    fn renewed(
+    fn over_rewritten_slots(
         file: F,
         unsynced: Vec<Option<[u8; PAGE_BYTES]>, A>,
         count: u16,
@@ -191,7 +191,7 @@ impl<F: SlotFile + Drop, A: Allocator> FilePages<F, A> {
         }
         let mut slot = [0u8; SLOT_BYTES];
         match self.file.read_slot(index, &mut slot) {
-            Ok(true) => Ok(opened(index, &slot)),
+            Ok(true) => Ok(open_slot(index, &slot)),
             Ok(false) => Ok(PageRead::Damaged),
             Err(_) => Err(self.fail()),
         }
@@ -203,7 +203,7 @@ impl<F: SlotFile + Drop, A: Allocator> FilePages<F, A> {
         ensures { KeepsPage F.slots index bytes.now self.old self.new result }
     {
         self.unsynced[index as usize] = Some(*bytes);
-        match self.file.write_slot(index, &sealed(index, bytes)) {
+        match self.file.write_slot(index, &seal_slot(index, bytes)) {
             Ok(()) => Ok(()),
             Err(_) => {
                 self.behind = true;
@@ -346,7 +346,7 @@ fn write_again<F: SlotFile>(file: &mut F, pages: &[Option<[u8; PAGE_BYTES]>]) ->
     for index in 0..pages.len() {
         if let Some(content) = &pages[index] {
             let index = index as u16;
-            file.write_slot(index, &sealed(index, content))?;
+            file.write_slot(index, &seal_slot(index, content))?;
         }
     }
     Ok(())

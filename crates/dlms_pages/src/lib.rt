@@ -18,7 +18,7 @@ mod seal;
 mod slot_file;
 mod tear;
 
-pub use asking::{SlotCall, Came};
+pub use asking::{Came, SlotCall};
 pub use descriptor::refuse_standard;
 pub use device::{DeviceFault, PAGE_BYTES, PageRead, Pages};
 pub use file::FilePages;
@@ -27,6 +27,6 @@ pub use lock::LockFile;
 pub use memory::{Call, MemoryPages};
 pub use memory_slots::MemorySlots;
 pub use pick::{PageChoice, Pick};
-pub use seal::{SLOT_BYTES, opened};
+pub use seal::{SLOT_BYTES, open_slot};
 pub use slot_file::{FileSlots, SlotFile};
 pub use tear::{SlotTear, SlotTears};

@@ -10,7 +10,7 @@ ghost use Rattle.dlms_pages.specs.Pick.{choice_at, page_left};
 use crate::history::{History, history_of};
 use crate::past::Past;
 use crate::plan::{Plan, next_of};
-use crate::{PageChoice, DeviceFault, PAGE_BYTES, PageRead, Pages, Pick};
+use crate::{DeviceFault, PAGE_BYTES, PageChoice, PageRead, Pages, Pick};
 use std::alloc::{AllocError, Allocator, Global};
 use std::marker::Model;
 use std::snapshot::Snapshot;

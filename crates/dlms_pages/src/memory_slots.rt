@@ -5,7 +5,7 @@ ghost use Rattle.dlms_pages.specs.Slots.{Slots, Gives, Leaves, newest, standing}
 ghost use Rattle.dlms_pages.specs.Tear.{tear_at};
 ghost use Rattle.dlms_pages.specs.declared.asking.SlotCall.TheVariants.{Reads, Writes, Syncs};
 
-use crate::asking::{SlotCall, Came};
+use crate::asking::{Came, SlotCall};
 use crate::past::Past;
 use crate::plan::{Plan, next_of};
 use crate::seal::SLOT_BYTES;
@@ -58,8 +58,8 @@ impl<A: Allocator + Copy> MemorySlots<A> {
         ensures count { IfOk result (λ file. length file.first ≡ count) }
     {
         let slots = vec![in alloc; [0; SLOT_BYTES]; count as usize]?;
-        let kept = copied(alloc, &slots)?;
-        let last = copied(alloc, &slots)?;
+        let kept = copy_slots(alloc, &slots)?;
+        let last = copy_slots(alloc, &slots)?;
         let first = Snapshot::of(&slots);
         Ok(MemorySlots {
             slots,
@@ -144,7 +144,7 @@ impl<A: Allocator> MemorySlots<A> {
 }
 
 // The same slots once more.
-fn copied<A: Allocator>(
+fn copy_slots<A: Allocator>(
     alloc: A,
     slots: &[[u8; SLOT_BYTES]],
 ) -> Result<Vec<[u8; SLOT_BYTES], A>, AllocError>
@@ -156,7 +156,7 @@ fn copied<A: Allocator>(
 }
 
 // The error of a call that is set to fail.
-fn refused() -> io::Error {
+fn planned_error() -> io::Error {
     io::Error::from(ErrorKind::Other)
 }
 
@@ -168,7 +168,7 @@ impl<A: Allocator> SlotFile for MemorySlots<A> {
         if due || self.slots.len() <= index as usize {
             let came = Came::Failed;
             self.past = self.past.and(&SlotCall::Reads { index, came });
-            return Err(refused());
+            return Err(planned_error());
         }
         *slot = self.slots[index as usize];
         let came = Came::Slot(*slot);
@@ -191,7 +191,7 @@ impl<A: Allocator> SlotFile for MemorySlots<A> {
             slot: *slot,
             passed,
         });
-        if passed { Ok(()) } else { Err(refused()) }
+        if passed { Ok(()) } else { Err(planned_error()) }
     }
 
     fn sync(&mut self) -> io::Result<()> {
@@ -208,6 +208,6 @@ impl<A: Allocator> SlotFile for MemorySlots<A> {
             );
         }
         self.past = self.past.and(&SlotCall::Syncs { passed });
-        if passed { Ok(()) } else { Err(refused()) }
+        if passed { Ok(()) } else { Err(planned_error()) }
     }
 }

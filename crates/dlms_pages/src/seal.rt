@@ -25,7 +25,7 @@ fn has_seal(index: u16, content: &[u8; PAGE_BYTES], bytes: &[u8]) -> bool
 }
 
 /// The bytes of a page in the file.
-pub fn sealed(index: u16, content: &[u8; PAGE_BYTES]) -> [u8; SLOT_BYTES]
+pub fn seal_slot(index: u16, content: &[u8; PAGE_BYTES]) -> [u8; SLOT_BYTES]
     ensures { result ≡ slot_of index content.now }
 {
     let seal = seal(index, content);
@@ -36,7 +36,7 @@ pub fn sealed(index: u16, content: &[u8; PAGE_BYTES]) -> [u8; SLOT_BYTES]
 }
 
 /// The content of a slot of the file.
-pub fn opened(index: u16, slot: &[u8; SLOT_BYTES]) -> PageRead
+pub fn open_slot(index: u16, slot: &[u8; SLOT_BYTES]) -> PageRead
     ensures { ReadsSlot index slot.now result }
 {
     let mut content = [0u8; PAGE_BYTES];

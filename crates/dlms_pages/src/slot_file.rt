@@ -4,7 +4,7 @@ ghost use Rattle.dlms_pages.specs.SlotCalls.{Asks, came_of, passed};
 ghost use Rattle.dlms_pages.specs.Slots.{Slots, Gives};
 ghost use Rattle.dlms_pages.specs.declared.asking.SlotCall.TheVariants.{Reads, Writes, Syncs};
 
-use crate::asking::{SlotCall, Came};
+use crate::asking::{Came, SlotCall};
 use crate::past::Past;
 use crate::seal::SLOT_BYTES;
 use std::fs::OpenFile;

@@ -5,7 +5,7 @@ ghost use Rattle.dlms_pages.specs.Slots.{IsMix, IsTorn};
 ghost use Rattle.dlms_pages.specs.Tear.{AreWhole, tear_at};
 
 use crate::device::PageRead;
-use crate::seal::{SLOT_BYTES, opened};
+use crate::seal::{SLOT_BYTES, open_slot};
 use std::alloc::Allocator;
 
 /// Which octets of a slot are the new ones; the others are the old ones.
@@ -58,7 +58,7 @@ impl SlotTears<'_> {
 }
 
 // The old octets, with the new ones where the tear says so.
-fn mixed(old: &[u8; SLOT_BYTES], new: &[u8; SLOT_BYTES], tear: SlotTear) -> [u8; SLOT_BYTES]
+fn mix_octets(old: &[u8; SLOT_BYTES], new: &[u8; SLOT_BYTES], tear: SlotTear) -> [u8; SLOT_BYTES]
     ensures { IsMix old.now new.now result }
 {
     let mut mix = *old;
@@ -85,12 +85,12 @@ pub fn torn(
     let mix = match tear {
         SlotTear::Old => return *old,
         SlotTear::New => return *new,
-        _ => mixed(old, new, tear),
+        _ => mix_octets(old, new, tear),
     };
     if mix == *new {
         return *new;
     }
-    match opened(index, &mix) {
+    match open_slot(index, &mix) {
         PageRead::Damaged => mix,
         PageRead::Content(_) => *old,
     }

@@ -64,7 +64,7 @@ fn is_counting(rows: &[Row], quantity: Quantity) -> bool
 }
 
 /// The first register with different values in the first row and the last one; that of the import if there is none.
-fn counted(rows: &[Row]) -> Quantity
+fn counting_register(rows: &[Row]) -> Quantity
     ensures { result ≡ counted_of rows.now }
 {
     if is_counting(rows, Quantity::Import) {
@@ -97,7 +97,7 @@ impl<A: Allocator + Copy> Curve<A> {
         if rows.is_empty() {
             return Ok(None);
         }
-        let quantity = counted(rows);
+        let quantity = counting_register(rows);
         let samples = samples_of(alloc, rows, quantity)?;
         match Series::of(alloc, &samples)? {
             Some(series) => Ok(Some(Curve { quantity, series })),

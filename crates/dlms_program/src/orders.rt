@@ -26,7 +26,7 @@ pub enum Order {
 }
 
 /// Splits the fields at the first space.
-fn parted(fields: &[u8]) -> Option<(&[u8], &[u8])>
+fn split_fields(fields: &[u8]) -> Option<(&[u8], &[u8])>
     ensures found { IfSome result (λ parts. (fields.now ≡ parts.0.now ++ 32 ∷ parts.1.now)
         × HasNoSpace parts.0.now) }
     ensures none { IfNone result (HasNoSpace fields.now) }
@@ -45,7 +45,7 @@ fn pulses_of(fields: &[u8]) -> Option<Order>
     ensures none { IfNone result ((channel count : ℕ)
         → SpellsPulses (codes "P " ++ fields.now) channel count → ⊥) }
 {
-    let (before, behind) = parted(fields)?;
+    let (before, behind) = split_fields(fields)?;
     let channel = number(before)?;
     let count = number(behind)?;
     if channel > 255 {

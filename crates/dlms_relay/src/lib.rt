@@ -6,4 +6,4 @@ mod pages;
 mod seal;
 
 pub use pages::{Relay, RelayedPages};
-pub use seal::sealed;
+pub use seal::seal_slot;

@@ -8,7 +8,9 @@ ghost use Rattle.dlms_pages.specs.Seal.{ReadsSlot};
 ghost use Rattle.dlms_pages.specs.Stops.{IsFixed};
 ghost use Rattle.dlms_relay.specs.Loaded.{IsLoaded, slot_in};
 
-use dlms_pages::{PageChoice, MemoryPages, PAGE_BYTES, PageRead, Pages, Pick, SLOT_BYTES, opened};
+use dlms_pages::{
+    MemoryPages, PAGE_BYTES, PageChoice, PageRead, Pages, Pick, SLOT_BYTES, open_slot,
+};
 use std::alloc::{AllocError, Allocator};
 
 /// The content of the slot of a page.
@@ -19,7 +21,7 @@ fn page_of(octets: &[u8], index: u16) -> PageRead
     let start = index as usize * SLOT_BYTES;
     let mut slot = [0u8; SLOT_BYTES];
     slot.copy_from_slice(&octets[start..start + SLOT_BYTES]);
-    opened(index, &slot)
+    open_slot(index, &slot)
 }
 
 /// The content to write so that a stop leaves the page, and the choice at that stop.
@@ -33,7 +35,7 @@ fn written_as(page: PageRead) -> ([u8; PAGE_BYTES], PageChoice)
 }
 
 /// These pages as they are in these octets, as after a sync.
-pub(crate) fn loaded<A: Allocator + Copy>(
+pub(crate) fn load_pages<A: Allocator + Copy>(
     alloc: A,
     octets: &[u8],
     count: u16,

@@ -8,7 +8,7 @@ ghost use Rattle.dlms_pages.specs.Stops.{IsFixed};
 ghost use Rattle.dlms_relay.specs.Loaded.{IsLoaded};
 ghost use Rattle.dlms_pages.specs.declared.memory.Call.TheVariants.{Write, Sync};
 
-use crate::loading::loaded;
+use crate::loading::load_pages;
 use dlms_pages::{Call, DeviceFault, MemoryPages, PAGE_BYTES, PageRead, Pages};
 use rtrb::{Consumer, Producer, RingBuffer};
 use std::alloc::{AllocError, Allocator, Global};
@@ -55,7 +55,7 @@ impl<A: Allocator + Copy> RelayedPages<A> {
         ensures pair { IfOk result (λ r. IsPair r.0.queue r.1) }
         ensures nothing { IfOk result (λ r. (sent r.0.queue ≡ []) × (received r.1 ≡ [])) }
     {
-        let pages = loaded(alloc, octets, count)?;
+        let pages = load_pages(alloc, octets, count)?;
         let (queue, relay) = RingBuffer::new(alloc, room)?;
         Ok((RelayedPages { pages, queue }, relay))
     }

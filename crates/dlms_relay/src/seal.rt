@@ -6,7 +6,7 @@ use dlms_pages::{PAGE_BYTES, SLOT_BYTES};
 use sha2::{Digest, Sha256};
 
 /// The octets of a page in a file: its content, and the SHA-256 of its index and of its content.
-pub fn sealed(index: u16, content: &[u8; PAGE_BYTES]) -> [u8; SLOT_BYTES]
+pub fn seal_slot(index: u16, content: &[u8; PAGE_BYTES]) -> [u8; SLOT_BYTES]
     ensures { result ≡ slot_of index content.now }
 {
     let mut hasher = Sha256::new();

@@ -31,7 +31,7 @@ pub fn no_block(answer: &mut Answer, invoke: u8, number: u32, code: u8)
 }
 
 /// A block was taken, and further ones are to come.
-pub fn taken(answer: &mut Answer, service: Service, invoke: u8, number: u32)
+pub fn put_block_taken(answer: &mut Answer, service: Service, invoke: u8, number: u32)
     ensures { answer.new.items ≡ response_bytes (taken_form service invoke number) }
 {
     match service {
@@ -41,7 +41,7 @@ pub fn taken(answer: &mut Answer, service: Service, invoke: u8, number: u32)
 }
 
 /// The transfer ended with a result.
-pub fn ended(answer: &mut Answer, service: Service, invoke: u8, number: u32, code: u8)
+pub fn put_last_result(answer: &mut Answer, service: Service, invoke: u8, number: u32, code: u8)
     ensures { answer.new.items ≡ response_bytes (ended_form service invoke number code) }
 {
     match service {

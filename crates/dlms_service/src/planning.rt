@@ -79,13 +79,13 @@ pub fn call_event<A: Allocator + Copy>(
 {
     match parameter {
         Some(value) => plan_action(client, descriptor, Some(value)),
-        None => Err(uncalled(client, descriptor)),
+        None => Err(call_refusal(client, descriptor)),
     }
 }
 
 /// Why nothing is called if the bytes were no value.
 #[tactic(auto, using(crate::proofs::Plans::call_unmatched))]
-fn uncalled(client: Client, descriptor: Descriptor) -> AccessResult
+fn call_refusal(client: Client, descriptor: Descriptor) -> AccessResult
     ensures { call_asked client descriptor None ≡ Err result }
 {
     let nothing: Option<&Data> = None;

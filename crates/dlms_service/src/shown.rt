@@ -23,7 +23,7 @@ use dlms_state::State;
 use std::alloc::Allocator;
 
 /// The answer that a GET is refused.
-pub fn refused(answer: &mut Answer, invoke: u8, refusal: AccessResult)
+pub fn put_refusal(answer: &mut Answer, invoke: u8, refusal: AccessResult)
     ensures { answer.new.items ≡ response_bytes (get_result invoke (number_of refusal)) }
 {
     short(
@@ -57,7 +57,7 @@ pub fn shown<A: Allocator + Copy>(
     if association.has(Conformance::SELECTIVE_ACCESS) || selector.is_none() {
         seen(alloc, state, client, descriptor, selector)
     } else {
-        barred(alloc, state, client, descriptor)
+        selector_refusal(alloc, state, client, descriptor)
     }
 }
 
@@ -82,7 +82,7 @@ fn seen<A: Allocator + Copy>(
 }
 
 /// The refusal of a selector that no attribute takes, or what comes before it.
-fn barred<A: Allocator + Copy>(
+fn selector_refusal<A: Allocator + Copy>(
     alloc: A,
     state: &State<A>,
     client: Client,

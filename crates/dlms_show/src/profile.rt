@@ -70,7 +70,7 @@ fn place_of(columns: &[u8], id: u8) -> Option<usize> {
 }
 
 /// The plotted columns: the first register among them, with its place and the clock's.
-pub fn plotted(columns: &[u8]) -> Option<(Quantity, usize, usize)> {
+pub fn plotted_columns(columns: &[u8]) -> Option<(Quantity, usize, usize)> {
     let clock = place_of(columns, 0)?;
     for channel in 0..3u8 {
         if let Some(place) = place_of(columns, channel + 1) {

@@ -4,7 +4,7 @@ use crate::fault::ShowFault;
 use crate::file::MOST_BYTES;
 use crate::journal::write_journal;
 use crate::pages::{has_pages, write_pages};
-use crate::profile::{plotted, samples_of, write_rows};
+use crate::profile::{plotted_columns, samples_of, write_rows};
 use crate::state::write_state;
 use dlms_checkpoint::Version;
 use dlms_plot::{Quantity, Sample, Series, write_text};
@@ -162,7 +162,7 @@ fn write_curve<A: Allocator + Copy, W: Write>(
     state: &State<A>,
     output: &mut W,
 ) -> Result<(), ShowFault> {
-    let Some((quantity, clock, place)) = plotted(state.columns()) else {
+    let Some((quantity, clock, place)) = plotted_columns(state.columns()) else {
         output.write_all(b"no curve: the columns lack the clock or a register\n")?;
         return Ok(());
     };

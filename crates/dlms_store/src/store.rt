@@ -145,7 +145,7 @@ impl<P: Pages, A: Allocator + Copy> Store<P, A> {
 
     /// Returns a device as `open` does if it gets no memory: `Memory` is reported if everything else is right, and nothing is
     /// written.
-    pub fn unopened(alloc: A, device: P) -> (P, OpenFault)
+    pub fn refuse_open(alloc: A, device: P) -> (P, OpenFault)
         ensures gives_back { (before : StoreWorld) → DeviceFits (P.view device) before
             → GivesBack before (P.view device) (P.view result.0) result.1 }
         ensures size { (result.1 ≡ OpenFault.Size) ↔ IsTooSmall (P.view device) }
@@ -176,7 +176,7 @@ impl<P: Pages, A: Allocator + Copy> Store<P, A> {
     }
 
     /// Gives a device back as `format` does that is refused memory: cleared, with Memory, where all else is right.
-    pub fn unformatted(device: P) -> (P, OpenFault)
+    pub fn refuse_format(device: P) -> (P, OpenFault)
         ensures memory { (P.view device).honest ≡ true → result.1 ≡ OpenFault.Memory
             → Leaves (P.view result.0) IsClear }
         ensures size { (result.1 ≡ OpenFault.Size) ↔ IsTooSmall (P.view device) }
@@ -195,7 +195,7 @@ impl<P: Pages, A: Allocator + Copy> Store<P, A> {
     }
 
     // The store of what was found, with a checkpoint if one is due.
-    fn recovered(device: P, found: Found<A>) -> Result<Self, (P, OpenFault)>
+    fn recover_store(device: P, found: Found<A>) -> Result<Self, (P, OpenFault)>
         requires room { PAGES ≤ length (P.view device).seen }
         requires few { found.journal.pages ≤ JOURNAL_PAGES }
         requires captured { found.journal.captured ≤ MOST_CAPTURED }

@@ -4,7 +4,7 @@ ghost use Rattle.dlms_pages.specs.Device.{page_at};
 ghost use Rattle.dlms_survey.specs.Pages.{AreIn, IsCut, IsPageIn};
 ghost use Rattle.dlms_store.specs.declared.layout.TheConstants.{PAGES};
 
-use dlms_pages::{DeviceFault, PAGE_BYTES, PageRead, Pages, SLOT_BYTES, opened};
+use dlms_pages::{DeviceFault, PAGE_BYTES, PageRead, Pages, SLOT_BYTES, open_slot};
 use dlms_store::PAGES;
 use std::alloc::{AllocError, Allocator, Global};
 use std::marker::Model;
@@ -44,7 +44,7 @@ fn page_in(bytes: &[u8], index: u16) -> PageRead
         Some(found) => {
             let mut slot = [0u8; SLOT_BYTES];
             slot.copy_from_slice(found);
-            opened(index, &slot)
+            open_slot(index, &slot)
         }
         None => PageRead::Damaged,
     }

@@ -3,7 +3,7 @@
 use crate::asked::{Ask, Came, asked, get, play};
 use crate::report::Report;
 use anyhow::Result;
-use dlms_pages::{PageChoice, MemoryPages, Pages, Pick};
+use dlms_pages::{MemoryPages, PageChoice, Pages, Pick};
 use std::io;
 
 /// Each call of a device of three pages of zeros.
@@ -192,7 +192,12 @@ static PICKS: [(Pick<'static>, [Came; 4]); 5] = [
         [Came::Full(1), Came::Damaged, Came::Full(0), Came::Damaged],
     ),
     (
-        Pick::Each(&[PageChoice::Torn, PageChoice::Torn, PageChoice::Torn, PageChoice::New]),
+        Pick::Each(&[
+            PageChoice::Torn,
+            PageChoice::Torn,
+            PageChoice::Torn,
+            PageChoice::New,
+        ]),
         [Came::Full(1), Came::Damaged, Came::Full(0), Came::Full(4)],
     ),
     (

@@ -3,7 +3,7 @@
 use crate::report::Report;
 use crate::scripts::FORMATS;
 use anyhow::Result;
-use dlms_pages::{PageChoice, MemoryPages, Pages, Pick};
+use dlms_pages::{MemoryPages, PageChoice, Pages, Pick};
 use dlms_state::Event;
 use dlms_store::{PAGES, Store};
 use std::alloc::{AllocError, Global};
