@@ -7,7 +7,7 @@ ghost use Rattle.dlms_words.specs.Grammar.{dlms};
 ghost use Rattle.dlms_words.specs.Words.{AsksBoth, IsClear, NamesNoAddress};
 
 use clap::error::ErrorKind;
-use dlms_explain::{ExplainFault, Form as ExplainForm, explain};
+use dlms_explain::{ExplainFault, Form as ExplainForm, Layout, explain};
 use dlms_field::{PollSetup, Polling, Serving, Times, poll, serve, serve_line};
 use dlms_filing::FilePlace;
 use dlms_loopback::{loopback, sockets};
@@ -460,10 +460,13 @@ fn run_explain<'a, H: Files<File = File> + AllocGlobal, R: Read + Drop, W: Write
     output: &mut W,
 ) -> Result<(), Fault<'a>> {
     let form = ExplainForm {
+        layout: match (options.format, options.short) {
+            (OutputFormat::Json, _) => Layout::Json,
+            (OutputFormat::Text, true) => Layout::Short,
+            (OutputFormat::Text, false) => Layout::Full,
+        },
         raw: options.raw,
-        short: options.short,
         hex: options.hex,
-        json: options.format == OutputFormat::Json,
     };
     let Some(file) = named_file(options.file) else {
         return explain_input(host, form, INPUT, input, output);

@@ -4,6 +4,7 @@ ghost use Rattle.std.specs.Prelude.{◌<◌, length};
 
 use crate::connection::Connection;
 use crate::json::{begin_note, end_note, write_note};
+use crate::layout::Layout;
 use crate::session::Form;
 use crate::words::{Text, number};
 use dlms_capture::{File, Next, Packet, Segment, Stamp, segment_of};
@@ -109,15 +110,15 @@ fn explain_packet<A: Allocator + Copy>(
 }
 
 /// The line of how many packets were of other traffic, where some were.
-fn write_others<A: Allocator>(text: &mut Text<A>, is_json: bool, count: u64) {
+fn write_others<A: Allocator>(text: &mut Text<A>, layout: Layout, count: u64) {
     if count == 0 {
         return;
     }
-    begin_note(text, is_json);
+    begin_note(text, layout);
     text.push("(packets of other traffic: ");
     number(text, count);
     text.push(")");
-    end_note(text, is_json);
+    end_note(text, layout);
 }
 
 impl<A: Allocator + Copy> Captured<A> {
@@ -145,7 +146,7 @@ impl<A: Allocator + Copy> Captured<A> {
                 Ok(Next::More) => return,
                 Ok(Next::Broken) => {
                     self.is_broken = true;
-                    write_note(text, self.form.json, BROKEN);
+                    write_note(text, self.form.layout, BROKEN);
                     return;
                 }
                 Err(_) => {
@@ -175,8 +176,8 @@ impl<A: Allocator + Copy> Captured<A> {
             others = others.saturating_add(connection.end(text));
         }
         if !self.is_broken && !self.file.is_whole() {
-            write_note(text, self.form.json, CUT);
+            write_note(text, self.form.layout, CUT);
         }
-        write_others(text, self.form.json, others);
+        write_others(text, self.form.layout, others);
     }
 }

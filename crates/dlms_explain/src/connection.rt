@@ -171,7 +171,7 @@ impl<A: Allocator + Copy> Connection<A> {
     /// When octets came, and between which ends.
     fn tell_stamp(&mut self, stamp: Option<Stamp>, ends: Ends, text: &mut Text<A>) {
         let mut told = Text::new(String::new(self.alloc));
-        write_segment(&mut told, self.form.is_one_line(), stamp, ends);
+        write_segment(&mut told, self.form.layout.is_one_line(), stamp, ends);
         if told.check_memory().is_err() {
             text.refuse();
         }
@@ -199,7 +199,7 @@ impl<A: Allocator + Copy> Connection<A> {
         }
         if self.is_told() {
             let ends = self.ends_of(side);
-            write_missing(text, self.form.json, missing);
+            write_missing(text, self.form.layout, missing);
             self.tell_stamp(stamp, ends, text);
             self.tell(side, text);
         } else {
@@ -295,7 +295,7 @@ impl<A: Allocator + Copy> Connection<A> {
     ) {
         let late = self.order(side).late(sequence, octets.len());
         if !matches!(self.carries, Carries::Other) {
-            write_late(text, self.form.json, late);
+            write_late(text, self.form.layout, late);
         }
         if self.take(side, stamp, sequence, octets).is_err() {
             text.refuse();

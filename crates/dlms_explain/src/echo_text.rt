@@ -4,6 +4,7 @@ use crate::digits::{
     Between, LEAST_HIDDEN, before, digits_in, is_word, marked_len, plain_len, run_of,
 };
 use crate::json::write_quoted;
+use crate::layout::Layout;
 use crate::words::{Text, hexadecimal, number};
 use std::alloc::Allocator;
 
@@ -15,8 +16,8 @@ const LEAST_OCTETS: usize = 16;
 pub struct Written {
     /// With octets, too.
     pub raw: bool,
-    /// Within a string of JSON.
-    pub json: bool,
+    /// In JSON they are written within a string.
+    pub layout: Layout,
 }
 
 /// The element at the front of a line, from some place on.
@@ -83,7 +84,7 @@ fn write_words<A: Allocator>(text: &mut Text<A>, words: &str) {
 
 /// The same, by how they are written.
 fn write_part<A: Allocator>(text: &mut Text<A>, written: Written, words: &str) {
-    if written.json {
+    if written.layout.is_json() {
         write_quoted(text, words);
     } else if written.raw {
         text.push(words);

@@ -11,6 +11,7 @@ use crate::echo_text::{Written, write_echo};
 use crate::foreign_text::write_foreign;
 use crate::frame_text::{write_came, write_frame, write_information, write_no_llc, write_stray};
 use crate::json::{begin_note, end_note, write_note};
+use crate::layout::Layout;
 use crate::logged::logged_of;
 use crate::service_text::{write_fault, write_joined, write_said, write_whole};
 use crate::session::Form;
@@ -454,7 +455,7 @@ fn explain_frame<A: Allocator + Copy>(
 /// The lines of the first bytes of a stretch, which belong to no frame.
 fn explain_stray<A: Allocator>(
     text: &mut Text<A>,
-    is_json: bool,
+    layout: Layout,
     said: Option<Side>,
     stretch: &Stretch<A>,
     before: usize,
@@ -464,7 +465,7 @@ fn explain_stray<A: Allocator>(
     let mut rest = bytes;
     'pieces: while !rest.is_empty() {
         let piece = first_piece(rest);
-        write_stray(text, is_json, said, place, piece);
+        write_stray(text, layout, said, place, piece);
         place = place.saturating_add(piece.len as u64);
         rest = &rest[piece.len..];
     }
@@ -487,7 +488,7 @@ fn explain_bytes<A: Allocator + Copy>(
             return;
         };
         if let Some(Found { frame, before }) = stretch.found() {
-            explain_stray(text, view.form.json, said, stretch, before);
+            explain_stray(text, view.form.layout, said, stretch, before);
             let octets = stretch.behind(before);
             explain_frame(text, view, alloc, said, talks, &frame, octets);
             stretch.pass_frame();
@@ -496,7 +497,7 @@ fn explain_bytes<A: Allocator + Copy>(
     }
     let old = stretch.old();
     if old > 0 {
-        explain_stray(text, view.form.json, said, stretch, old);
+        explain_stray(text, view.form.layout, said, stretch, old);
         stretch.drop_front(old);
     }
 }
@@ -514,15 +515,15 @@ const NO_PAIRS: &str = "(no pairs of hexadecimal digits)";
 fn pass<A: Allocator>(text: &mut Text<A>, form: Form, bytes: &[u8]) {
     let written = Written {
         raw: form.raw,
-        json: form.json,
+        layout: form.layout,
     };
     let line = match bytes.strip_suffix(b"\r".as_slice()) {
         Some(line) if !form.raw => line,
         _ => bytes,
     };
-    begin_note(text, form.json);
+    begin_note(text, form.layout);
     write_echo(text, written, str::from_utf8(line).unwrap_or(NO_TEXT));
-    end_note(text, form.json);
+    end_note(text, form.layout);
 }
 
 impl<A: Allocator + Copy> Explainer<A> {
@@ -560,7 +561,7 @@ impl<A: Allocator + Copy> Explainer<A> {
 
     /// The words before octets, as their time: in a line of their own, or before each frame's.
     pub(crate) fn stamp(&mut self, words: &str, text: &mut Text<A>) {
-        if self.view.form.is_one_line() {
+        if self.view.form.layout.is_one_line() {
             self.view.stamp_with(words, text);
         } else if !words.is_empty() {
             line(text, 0, words);
@@ -571,7 +572,7 @@ impl<A: Allocator + Copy> Explainer<A> {
     fn stamp_of_log(&mut self, bytes: &[u8], text: &mut Text<A>) {
         let written = Written {
             raw: self.view.form.raw,
-            json: false,
+            layout: Layout::Full,
         };
         let words = str::from_utf8(bytes.trim_ascii()).unwrap_or(NO_TEXT);
         let mut told = Text::new(String::new(self.alloc));
@@ -602,9 +603,9 @@ impl<A: Allocator + Copy> Explainer<A> {
 
     /// The rest of the client's bytes is no frame, and a new stretch begins.
     fn end_client(&mut self, text: &mut Text<A>) {
-        let is_json = self.view.form.json;
+        let layout = self.view.form.layout;
         let said = Some(Side::Client);
-        explain_stray(text, is_json, said, &self.client, self.client.len());
+        explain_stray(text, layout, said, &self.client, self.client.len());
         self.client.reset();
     }
 
@@ -618,7 +619,7 @@ impl<A: Allocator + Copy> Explainer<A> {
                 self.dump = Some(offset);
                 self.pairs(None, digits, text);
             }
-            DumpLine::LeftOut => write_note(text, self.view.form.json, LEFT_OUT),
+            DumpLine::LeftOut => write_note(text, self.view.form.layout, LEFT_OUT),
             DumpLine::End => self.dump = None,
         }
     }
@@ -661,7 +662,7 @@ impl<A: Allocator + Copy> Explainer<A> {
             }
             Line::NoPairs => {
                 if !self.tell_logged(line, text) {
-                    write_note(text, form.json, NO_PAIRS);
+                    write_note(text, form.layout, NO_PAIRS);
                 }
             }
             Line::Other => {
@@ -674,17 +675,17 @@ impl<A: Allocator + Copy> Explainer<A> {
 
     /// Explains the bytes after the last frames.
     pub(crate) fn close(&mut self, text: &mut Text<A>) {
-        let is_json = self.view.form.json;
+        let layout = self.view.form.layout;
         self.end_client(text);
         explain_stray(
             text,
-            is_json,
+            layout,
             Some(Side::Meter),
             &self.meter,
             self.meter.len(),
         );
         self.meter.reset();
-        explain_stray(text, is_json, None, &self.bare, self.bare.len());
+        explain_stray(text, layout, None, &self.bare, self.bare.len());
         self.bare.reset();
     }
 

@@ -1,6 +1,7 @@
 //! The line of a frame, and the lines of bytes that are no frame.
 
 use crate::json::{begin_note, end_note};
+use crate::layout::Layout;
 use crate::words::{Text, line, number, number_line};
 use dlms_dissect::{
     Came, Control, Damage, Heading, Parameters, Piece, Side, has_poll, lower, name_of, read, upper,
@@ -180,13 +181,13 @@ fn write_damage<A: Allocator>(text: &mut Text<A>, damage: Option<Damage>) {
 /// The line of bytes that are no frame, with their places in the stretch, of which the first is 0.
 pub fn write_stray<A: Allocator>(
     text: &mut Text<A>,
-    is_json: bool,
+    layout: Layout,
     side: Option<Side>,
     place: u64,
     piece: Piece,
 ) {
     let len = piece.len as u64;
-    begin_note(text, is_json);
+    begin_note(text, layout);
     text.push(sign(side));
     text.push("octets ");
     number(text, place);
@@ -194,7 +195,7 @@ pub fn write_stray<A: Allocator>(
     number(text, place.saturating_add(len.saturating_sub(1)));
     text.push(": no frame");
     write_damage(text, piece.damage);
-    end_note(text, is_json);
+    end_note(text, layout);
 }
 
 /// Shown for information without the LLC.

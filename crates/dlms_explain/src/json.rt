@@ -1,6 +1,7 @@
 //! A frame as a JSON object, in a line: made from its full explanation.
 
 use crate::echo_text::is_steering;
+use crate::layout::Layout;
 use crate::short::{View, has_service, service};
 use crate::words::{Text, number, octet, octets};
 use dlms_dissect::{Heading, Side, lower, name_of, read, upper};
@@ -36,18 +37,18 @@ fn push_string<A: Allocator>(text: &mut Text<A>, words: &str) {
 }
 
 /// A note that is no frame begins: in JSON, an object with its words alone. They have no letter that JSON escapes.
-pub fn begin_note<A: Allocator>(text: &mut Text<A>, is_json: bool) {
-    text.push_if(is_json, "{\"text\":\"");
+pub fn begin_note<A: Allocator>(text: &mut Text<A>, layout: Layout) {
+    text.push_if(layout.is_json(), "{\"text\":\"");
 }
 
 /// A note that is no frame ends.
-pub fn end_note<A: Allocator>(text: &mut Text<A>, is_json: bool) {
-    text.either(is_json, "\"}\n", "\n");
+pub fn end_note<A: Allocator>(text: &mut Text<A>, layout: Layout) {
+    text.either(layout.is_json(), "\"}\n", "\n");
 }
 
 /// A line of a note that is no frame.
-pub fn write_note<A: Allocator>(text: &mut Text<A>, is_json: bool, words: &str) {
-    if is_json {
+pub fn write_note<A: Allocator>(text: &mut Text<A>, layout: Layout, words: &str) {
+    if layout.is_json() {
         write_string(text, "{\"text\":", words);
         text.push("}\n");
     } else {

@@ -3,6 +3,7 @@
 ghost use Rattle.std.specs.Prelude.{◌≤◌};
 
 use crate::json::{begin_note, end_note};
+use crate::layout::Layout;
 use crate::words::{Text, hexadecimal, number, two_digits};
 use dlms_capture::{Address, Ends, Place, Stamp};
 use dlms_data::{LAST_SECOND, octets};
@@ -130,32 +131,32 @@ pub fn write_segment<A: Allocator>(
 }
 
 /// A line of words and a number, unless that is 0.
-fn write_counted<A: Allocator>(text: &mut Text<A>, is_json: bool, words: &str, count: u64) {
+fn write_counted<A: Allocator>(text: &mut Text<A>, layout: Layout, words: &str, count: u64) {
     if count == 0 {
         return;
     }
-    begin_note(text, is_json);
+    begin_note(text, layout);
     text.push(words);
     number(text, count);
     text.push(")");
-    end_note(text, is_json);
+    end_note(text, layout);
 }
 
 /// The line of octets that a capture does not have, if there are some.
-pub fn write_missing<A: Allocator>(text: &mut Text<A>, is_json: bool, count: u64) {
+pub fn write_missing<A: Allocator>(text: &mut Text<A>, layout: Layout, count: u64) {
     write_counted(
         text,
-        is_json,
+        layout,
         "(octets that the capture does not have: ",
         count,
     );
 }
 
 /// The line of octets that belong before the first ones of their direction and come after these, if there are some.
-pub fn write_late<A: Allocator>(text: &mut Text<A>, is_json: bool, count: u64) {
+pub fn write_late<A: Allocator>(text: &mut Text<A>, layout: Layout, count: u64) {
     write_counted(
         text,
-        is_json,
+        layout,
         "(octets before the first ones, which come after them: ",
         count,
     );

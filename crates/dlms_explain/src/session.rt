@@ -1,11 +1,12 @@
 //! The lines of an input, explained as they come.
 
-ghost use Rattle.std.specs.Prelude.{◌≡◌, ◌≤◌, ◌&&◌, ◌||◌, not, false, length, IfOk, OnOk};
+ghost use Rattle.std.specs.Prelude.{◌≡◌, ◌≤◌, ◌↔◌, true, false, length, IfOk, OnOk};
 
 use crate::captured::Captured;
 use crate::explainer::Explainer;
 use crate::fault::ExplainFault;
 use crate::json::write_note;
+use crate::layout::Layout;
 use crate::words::Text;
 use dlms_capture::is_capture;
 use memchr::memchr;
@@ -40,41 +41,31 @@ fn write_text<A: Allocator, W: Write>(
 /// How an explanation is written.
 #[derive(Clone, Copy)]
 pub struct Form {
+    /// How a frame is laid out.
+    pub layout: Layout,
     /// Strings that may be a secret are shown as they are; of a known secret nothing is shown.
     pub raw: bool,
-    /// A frame is explained in one line: its time, its ends, its service and its content, except for the parts of a value.
-    pub short: bool,
     /// A frame's octets are shown beside it, up to the first that is reported by its length or not at all.
     pub hex: bool,
-    /// A frame is explained as a JSON object, in one line.
-    pub json: bool,
 }
 
 impl Form {
     /// In lines, and without strings that may be a secret.
     pub fn full() -> Form
-        ensures { result ≡ record { raw = false; short = false; hex = false; json = false } }
+        ensures { result ≡ record { layout = Layout.Full; raw = false; hex = false } }
     {
         Form {
+            layout: Layout::Full,
             raw: false,
-            short: false,
             hex: false,
-            json: false,
         }
     }
 
     /// Whether the explanation of a frame is written at once, and not put together afterwards.
     pub fn is_at_once(self) -> bool
-        ensures { result ≡ ((not self.short && not self.hex) && not self.json) }
+        ensures { (result ≡ true) ↔ ((self.layout ≡ Layout.Full) × (self.hex ≡ false)) }
     {
-        !self.short && !self.hex && !self.json
-    }
-
-    /// Whether a frame is explained in one line, which also contains its time.
-    pub fn is_one_line(self) -> bool
-        ensures { result ≡ (self.short || self.json) }
-    {
-        self.short || self.json
+        !self.layout.is_one_line() && !self.hex
     }
 }
 
@@ -82,7 +73,7 @@ impl Form {
 #[derive(Drop)]
 struct Session<A: Allocator> {
     explainer: Explainer<A>,
-    is_json: bool,
+    layout: Layout,
     line: Vec<u8, A>,
     is_long: bool,
     text: Text<A>,
@@ -93,7 +84,7 @@ impl<A: Allocator + Copy> Session<A> {
     fn new(alloc: A, form: Form) -> Self {
         Session {
             explainer: Explainer::new(alloc, form),
-            is_json: form.json,
+            layout: form.layout,
             line: Vec::new(alloc),
             is_long: false,
             text: Text::new(String::new(alloc)),
@@ -118,7 +109,7 @@ impl<A: Allocator + Copy> Session<A> {
     /// A line is complete: explains it.
     fn tell_line(&mut self) {
         if self.is_long {
-            write_note(&mut self.text, self.is_json, TOO_LONG);
+            write_note(&mut self.text, self.layout, TOO_LONG);
         } else {
             self.explainer.tell(self.line.as_slice(), &mut self.text);
         }

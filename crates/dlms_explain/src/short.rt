@@ -4,6 +4,7 @@ ghost use Rattle.std.specs.Prelude.{◌≡◌};
 
 use crate::frame_text::write_frame;
 use crate::json::{write_json, write_json_wrapped};
+use crate::layout::Layout;
 use crate::session::Form;
 use crate::words::{Text, end, number, octets};
 use dlms_dissect::{Control, Heading, Side, lower, name_of, read, upper};
@@ -191,18 +192,16 @@ pub fn write_view<A: Allocator>(
     heading: Heading,
     beside: Beside<'_>,
 ) {
-    if view.form.json {
-        write_json(text, view, side, heading, beside.octets);
-        return;
+    match view.form.layout {
+        Layout::Json => write_json(text, view, side, heading, beside.octets),
+        Layout::Short => write_short(text, view, side, heading, beside),
+        Layout::Full => {
+            write_frame(text, side, heading);
+            write_beside(text, beside);
+            end(text);
+            text.push(view.full.as_str());
+        }
     }
-    if view.form.short {
-        write_short(text, view, side, heading, beside);
-        return;
-    }
-    write_frame(text, side, heading);
-    write_beside(text, beside);
-    end(text);
-    text.push(view.full.as_str());
 }
 
 /// The line of an APDU in the wrapper: the time, the client's port and the meter's, and the service.
@@ -213,7 +212,7 @@ pub fn write_wrapped<A: Allocator>(
     ports: (u16, u16),
     beside: Beside<'_>,
 ) {
-    if view.form.json {
+    if view.form.layout.is_json() {
         write_json_wrapped(text, view, side, ports, beside.octets);
         return;
     }

@@ -113,7 +113,7 @@ impl<A: Allocator + Copy> Asked<A> {
             },
             is_whole: shown >= apdu.len(),
         };
-        if self.view.form.is_one_line() {
+        if self.view.form.layout.is_one_line() {
             write_wrapped(text, &self.view, side, self.ports, beside);
             return;
         }
@@ -148,7 +148,7 @@ impl<A: Allocator + Copy> Asked<A> {
                 break;
             };
             if head.version != VERSION {
-                write_note(text, self.view.form.json, NO_WRAPPER);
+                write_note(text, self.view.form.layout, NO_WRAPPER);
                 return octets.len();
             }
             let len = head.len.saturating_add(HEAD);
@@ -198,7 +198,7 @@ impl<A: Allocator + Copy> Wrapped<A> {
 
     /// When octets came: a line, or in front of each APDU's.
     pub fn stamp(&mut self, words: &str, text: &mut Text<A>) {
-        if self.asked.view.form.is_one_line() {
+        if self.asked.view.form.layout.is_one_line() {
             self.asked.view.stamp_with(words, text);
         } else {
             line(text, 0, words);
@@ -216,7 +216,7 @@ impl<A: Allocator + Copy> Wrapped<A> {
     /// No more octets come.
     pub fn end(&mut self, text: &mut Text<A>) {
         if !self.client.is_empty() || !self.meter.is_empty() {
-            write_note(text, self.asked.view.form.json, NOT_WHOLE);
+            write_note(text, self.asked.view.form.layout, NOT_WHOLE);
         }
     }
 }

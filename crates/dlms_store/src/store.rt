@@ -138,7 +138,7 @@ impl<P: Pages, A: Allocator + Copy> Store<P, A> {
     {
         let mut device = device;
         match settle_and_find(alloc, &mut device) {
-            Ok(found) => Store::recovered(device, found),
+            Ok(found) => Store::recover_store(device, found),
             Err(refusal) => Err((device, refusal)),
         }
     }
@@ -341,7 +341,7 @@ impl<P: Pages, A: Allocator + Copy> Store<P, A> {
         if self.pending.len() + bytes <= MOST_PAYLOAD {
             return Ok(());
         }
-        self.settle_pending()
+        self.commit()
     }
 
     // Adds an event whose record fits, and states what that means for the events and the device.
@@ -376,39 +376,8 @@ impl<P: Pages, A: Allocator + Copy> Store<P, A> {
     }
 
     /// Settles what is pending: in the next journal page or, where all are used, in a checkpoint. With nothing pending it
-    /// does nothing.
+    /// does nothing. Once it is done, no more rows count as captured since the active checkpoint than before.
     pub fn commit(&mut self) -> Result<(), StoreFault>
-        ensures run { (before : StoreWorld) → StoreFits self.old before
-            → Moves (commit_step result) before self.old self.new }
-        ensures settles { OnOk result (Settles self.old self.new) }
-        ensures runs { OnOk result (IsStopped self.new → ⊥) }
-        ensures empty { OnOk result (records_in self.new ≡ []) }
-        ensures state { state_in self.new ≡ state_in self.old }
-        ensures stopped { (result ≡ Err StoreFault.Stopped) ↔ IsStopped self.old }
-        ensures device { result ≡ Err StoreFault.Device → Fails self.old self.new }
-        ensures answers { IsRunning self.old
-            → (Rose (view_of self.old).faults (view_of self.new).faults → ⊥)
-            → (CommitIsExhausted self.old → ⊥) → IsOk result }
-        ensures exhausted { (result ≡ Err StoreFault.Exhausted)
-            ↔ (IsRunning self.old × CommitIsExhausted self.old) }
-        ensures unchanged { OnErr result (result ≢ Err StoreFault.Device → self.new ≡ self.old) }
-        ensures nothing { IsRunning self.old → records_in self.old ≡ []
-            → (result ≡ Ok tt) × (self.new ≡ self.old) }
-        ensures takes_page { OnOk result ((records_in self.old ≡ [] → ⊥) → (IsFull self.old → ⊥)
-            → TakesPage self.old self.new) }
-        ensures makes_checkpoint { OnOk result ((records_in self.old ≡ [] → ⊥) → IsFull self.old
-            → MakesCheckpoint self.old self.new) }
-        ensures page { (view_of self.old).honest ≡ true
-            → OnOk result ((records_in self.old ≡ [] → ⊥) → (IsFull self.old → ⊥)
-            → Leaves (view_of self.new) (HasJournalPage self.old.next self.old.generation
-            (records_in self.old))) }
-        ensures later { IsLater self.old self.new }
-    {
-        self.settle_pending()
-    }
-
-    // What `commit` does. Once it is done, no more rows count as captured since the active checkpoint than before.
-    fn settle_pending(&mut self) -> Result<(), StoreFault>
         ensures run { (before : StoreWorld) → StoreFits self.old before
             → Moves (commit_step result) before self.old self.new }
         ensures settles { OnOk result (Settles self.old self.new) }

@@ -16,7 +16,7 @@ use Rattle.dlms_store.specs.Writing.{IsSettled}
 use Rattle.dlms_store.specs.World.StoreStep.{Fails, Settles}
 use Rattle.dlms_store.proofs.Commit.{as_before, outcome, settles, settled_now, as_known, made_records, holds_none, no_more}
 use Rattle.dlms_store.proofs.Keeping.{running, refuses, settling, failing}
-use Rattle.dlms_store.proofs.store.Store.settle_pending.Goals as goal
+use Rattle.dlms_store.proofs.store.Store.commit.Goals as goal
 
 pub returns-then-self-clause-run : goal.returns-then-self-clause-run
 returns-then-self-clause-run g c before fits = refuses before c.args.self.now (λ h. g.met.P.Pages.rules c.args.self.now.device h) fits
