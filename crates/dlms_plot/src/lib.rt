@@ -19,6 +19,4 @@ pub use fault::PlotFault;
 pub use quantity::{Quantity, Thousandth};
 pub use readings::{Curve, Form, plot_readings};
 pub use series::Series;
-pub use svg::{write_empty_svg, write_svg};
 pub use terminal::write_text;
-pub use usual::usual_step;
