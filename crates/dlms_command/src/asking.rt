@@ -7,13 +7,13 @@ use crate::fault::Fault;
 use crate::given::value_given;
 use crate::requests::{MeterSession, read_name};
 use arrayvec::ArrayVec;
-use dlms_ask::server_of;
 use dlms_call::{CallFault, ClientEnd, begin};
 use dlms_client::Plan;
 use dlms_data::Data;
 use dlms_ends::End;
 use dlms_field::{Dialling, FieldFault, HostPollInputs, MeterLine, secret_of};
 use dlms_frame::{Address, Client};
+use dlms_text::server_of;
 use dlms_words::{
     ActOptions, Asking, GetOptions, ListOptions, OutputFormat, SetOptions, ValueFormat,
 };

@@ -1,8 +1,8 @@
 //! The texts that a meter must show before it is polled, as `--expect` gives them.
 
 use crate::fault::Fault;
-use dlms_ask::name_of;
 use dlms_identity::Expected;
+use dlms_text::name_of;
 use dlms_words::Expecting;
 use std::alloc::Global;
 

@@ -1,7 +1,7 @@
 //! A line, with an explanation of the bytes that pass over it.
 
-use dlms_ask::append_pairs;
 use dlms_explain::{Explainer, Form};
+use dlms_text::append_pairs;
 use std::alloc::{AllocError, Global};
 use std::io;
 use std::io::{ErrorKind, Read, Write};

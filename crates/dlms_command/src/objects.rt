@@ -1,13 +1,13 @@
 //! The objects of a meter, as its object list has them.
 
 use crate::telling::{append_code, append_labelled};
-use dlms_ask::{
-    Entry, Front, ValueFault, append_quoted, class_in, entry_of, first_of, front_of, right_of,
-    value_at,
-};
 use dlms_data::Data;
 use dlms_explain::write_code;
 use dlms_names::class_of;
+use dlms_text::{
+    Entry, Front, ValueFault, append_quoted, class_in, entry_of, first_of, front_of, right_of,
+    value_at,
+};
 use std::alloc::{AllocError, Global};
 use std::slice;
 

@@ -2,14 +2,14 @@
 
 use crate::fault::Fault;
 use crate::objects::{append_object, append_object_json};
-use dlms_ask::{
-    Front, ValueFault, append_decimal, append_json, append_number, append_pairs, append_quoted,
-    first_of, front_of, value_at,
-};
 use dlms_call::CallFault;
 use dlms_data::{Data, Descriptor};
 use dlms_explain::write_value;
 use dlms_names::unit_name;
+use dlms_text::{
+    Front, ValueFault, append_decimal, append_json, append_number, append_pairs, append_quoted,
+    first_of, front_of, value_at,
+};
 use dlms_words::{OutputFormat, ValueFormat};
 use std::alloc::{AllocError, Global};
 use std::io::Write;

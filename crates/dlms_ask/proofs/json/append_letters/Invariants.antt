@@ -1,6 +1,0 @@
-use Rattle.std.proofs.Common.{◌≡◌, ◌++◌, take}
-use Rattle.dlms_ask.specs.Json.{letters_of}
-use Rattle.dlms_ask.proofs.json.append_letters.Given as goal
-
-abbrev pub invariant-octets : goal.invariant-octets
-invariant-octets g l = l.text.items ≡ l.initial.text.items ++ letters_of (take l.byte-index l.bytes)
