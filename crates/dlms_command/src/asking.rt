@@ -11,8 +11,9 @@ use dlms_call::{CallFault, ClientEnd, begin};
 use dlms_client::Plan;
 use dlms_data::Data;
 use dlms_ends::End;
-use dlms_field::{Dialling, FieldFault, HostPollInputs, MeterLine, secret_of};
 use dlms_frame::{Address, Client};
+use dlms_lines::{Dialling, FieldFault, MeterLine};
+use dlms_polling::{HostPollInputs, secret_of};
 use dlms_text::server_of;
 use dlms_words::{
     ActOptions, Asking, GetOptions, ListOptions, OutputFormat, SetOptions, ValueFormat,

@@ -4,9 +4,9 @@ use crate::columns::Columns;
 use dlms_call::CallFault;
 use dlms_client::{Denial, Fault as Talked};
 use dlms_ends::RunFault;
-use dlms_field::{ClockFault, FieldFault};
 use dlms_headend::{ColumnList, PollFault, ReadingsFault};
 use dlms_identity::Expected;
+use dlms_lines::{ClockFault, FieldFault};
 use dlms_names::{
     access_result, action_result, diagnostic, initiate_error, service_error, state_error,
 };

@@ -8,13 +8,14 @@ ghost use Rattle.dlms_words.specs.Words.{AsksBoth, IsClear, NamesNoAddress};
 
 use clap::error::ErrorKind;
 use dlms_explain::{ExplainFault, Form as ExplainForm, Layout, explain};
-use dlms_field::{PollSetup, Polling, Serving, Times, poll, serve, serve_line};
 use dlms_filing::FilePlace;
 use dlms_loopback::{loopback, sockets};
 use dlms_meter::Meter;
 use dlms_pages::{FilePages, MemoryPages, Pages};
 use dlms_plot::{Form, plot_readings};
+use dlms_polling::{PollSetup, Polling, poll};
 use dlms_program::{Buffered, Sink, Source, replay};
+use dlms_serving::{Serving, Times, serve, serve_line};
 use dlms_show::{Curve, ShowFault, show_file};
 use dlms_store::{AddFault, OpenFault, PAGES};
 use dlms_words::{

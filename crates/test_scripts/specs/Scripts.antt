@@ -8,8 +8,8 @@ use Rattle.dlms_filing.specs.Filing.{PlaceCall}
 use Rattle.dlms_filing.specs.Filing.PlaceCall.{Holds, Opens, Lays, Puts, Drops}
 use Rattle.dlms_ends.specs.Moments.{Moment}
 use Rattle.dlms_ends.specs.Moments.Moment.{Came, Quiet, Unheard, Went, Broke, Connects, Joins}
-use Rattle.dlms_field.specs.Watching.{Sight}
-use Rattle.dlms_field.specs.Watching.Sight.{Second, Another, Next, Prepares, Bars, Trusts, Pauses, Starts, Dates, Reads as ReadsSecret}
+use Rattle.dlms_lines.specs.Watching.{Sight}
+use Rattle.dlms_lines.specs.Watching.Sight.{Second, Another, Next, Prepares, Bars, Trusts, Pauses, Starts, Dates, Reads as ReadsSecret}
 
 -- the value, or the error with which its call failed
 abbrev pub unless : {X : Type 0} → X → Option Error → Result X Error

@@ -1,5 +1,5 @@
 //! Test doubles with a known past: their results are written down beforehand, and the calls are kept. The tests drive `dlms_ends`,
-//! `dlms_filing` and `dlms_field` with them.
+//! `dlms_filing`, `dlms_polling` and `dlms_serving` with them.
 #![tactic(auto)]
 
 #[cfg(test)]

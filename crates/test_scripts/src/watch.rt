@@ -5,11 +5,10 @@ ghost use Rattle.test_scripts.specs.Scripts.{sight_of};
 
 use crate::line::{Play, SNRM, Script, UA};
 use crate::noted::{Noted, are_numbered};
-use dlms_field::{
-    FieldFault, Log, Peer, Rules, Server, Ticks, Times, Watch, serve_all, serve_turns,
-};
+use dlms_lines::FieldFault;
 use dlms_meter::Meter;
 use dlms_pages::MemoryPages;
+use dlms_serving::{Log, Peer, Rules, Server, Ticks, Times, Watch, serve_all, serve_turns};
 use dlms_store::PAGES;
 use std::alloc::Global;
 use std::io;

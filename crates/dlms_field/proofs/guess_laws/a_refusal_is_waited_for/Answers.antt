@@ -1,5 +1,0 @@
-use Rattle.dlms_field.proofs.GuessLemmas.{waited_for}
-use Rattle.dlms_field.proofs.guess_laws.a_refusal_is_waited_for.Goals as goal
-
-pub returns : goal.returns
-returns c = waited_for

@@ -1,7 +1,0 @@
-use Rattle.std.proofs.Common.{refl, subst, List}
-use Rattle.dlms_headend.specs.declared.row.Row.{Row}
-use Rattle.dlms_field.specs.Keeping.{Unkept}
-use Rattle.dlms_field.proofs.keeping.file_readings.Goals as goal
-
-pub returns-in_default-clause-fails : goal.returns-in_default-clause-fails
-returns-in_default-clause-fails g c = Unkept refl c.in_default.ensures.memory refl refl refl

@@ -1,4 +1,0 @@
-use Rattle.dlms_field.proofs.talking.count_outcome.Goals as goal
-
-pub returns : goal.returns
-returns c = (c.outcome_in.result, c.outcome_in.ensures, c.behind_outcome.ensures)

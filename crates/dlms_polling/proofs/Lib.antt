@@ -1,0 +1,5 @@
+pub mod ClockLemmas
+pub mod RiserLemmas
+pub mod PollingLemmas
+pub mod PolledLemmas
+pub mod SecretLemmas

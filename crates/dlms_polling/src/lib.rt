@@ -1,0 +1,15 @@
+//! A head end that polls a meter over a TCP connection or a serial line.
+#![tactic(auto)]
+
+mod calling;
+mod clocks;
+mod keeping;
+pub mod laws;
+mod poll_inputs;
+mod polling;
+mod rising;
+mod secret;
+
+pub use poll_inputs::{HostPollInputs, PollInputs, SteadyPollInputs};
+pub use polling::{PollSetup, Polling, poll};
+pub use secret::{MOST_READ, secret_of};

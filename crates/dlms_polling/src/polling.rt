@@ -1,0 +1,242 @@
+//! A head end that polls the meter at an address once.
+
+ghost use Rattle.std.specs.Prelude.{◌≤◌, IfErr, IfOk, IfSome, option_map};
+ghost use Rattle.dlms_headend.specs.PollerValue.{plan_of};
+ghost use Rattle.dlms_ends.specs.BothEnds.{IsDonePoll};
+ghost use Rattle.dlms_polling.specs.Calling.{FailsCalled, HasDone, aim_of};
+ghost use Rattle.dlms_polling.specs.Clocks.{Takes};
+ghost use Rattle.dlms_polling.specs.Polled.{IsReady, IsUnready, JudgesFiled, Known, Limits, Polls};
+
+use crate::calling::call;
+use crate::clocks::{Limit, first_ahead, judge};
+use crate::keeping::{file_readings, hold_file, open_readings};
+use crate::poll_inputs::{HostPollInputs, PollInputs};
+use crate::secret::secret_of;
+use arrayvec::ArrayVec;
+use dlms_data::LAST_SECOND;
+use dlms_ends::RunFault;
+use dlms_filing::{FilePlace, Holding, HostDisk, Output};
+use dlms_frame::Client;
+use dlms_headend::{Columns, Plan, Poller, Readings, Row};
+use dlms_identity::Expected;
+use dlms_lines::{ClockFault, Dialling, FieldFault, MeterLine};
+use std::alloc::Global;
+use std::fs::{File, Files};
+use std::net::Net;
+use std::time::Clock;
+
+/// The meter to poll, the file, and the client that asks.
+#[derive(Clone, Copy, Debug)]
+pub struct Polling<'a, 'e> {
+    /// The meter's address and port, or the device of its serial line.
+    pub address: &'a str,
+    /// The readings file.
+    pub readings: Option<&'a str>,
+    /// The file of the client's secret; its first secret if no file is given.
+    pub secret_file: Option<&'a str>,
+    /// The client that asks. For a client without a secret no file is read.
+    pub client: Client,
+    /// For how many seconds the meter is talked to at most.
+    pub deadline: u32,
+    /// By how many seconds a row's clock may be past the system's; without it, by any.
+    pub ahead: Option<u32>,
+    /// Whether an answer is refused if one of its rows is not later than the row before it. Otherwise such rows are left out.
+    pub strict: bool,
+    /// The texts that the meter must show before it is polled.
+    pub expected: &'e [Expected<'a>],
+}
+
+/// The parts of a head end for a poll: its questions to the world, the place of its readings, and its line.
+#[derive(Drop)]
+pub struct PollSetup<D, F, L> {
+    pub inputs: D,
+    pub place: F,
+    pub line: L,
+}
+
+impl<'r, R: Net + Files<File = File> + Clock> PollSetup<
+    HostPollInputs<'r, R>,
+    FilePlace<HostDisk<'r, R>>,
+    MeterLine<'r, R>,
+> {
+    /// The system's clocks and files, and a line that is not connected yet.
+    pub fn of(rt: &'r R) -> Self {
+        PollSetup {
+            inputs: HostPollInputs::new(rt),
+            place: FilePlace::of(rt),
+            line: MeterLine::until(rt),
+        }
+    }
+}
+
+/// The secret and the readings, read before the meter is called.
+#[derive(Drop)]
+struct Ready {
+    secret: ArrayVec<u8, 16>,
+    readings: Readings,
+    limit: Option<Limit>,
+}
+
+/// How far a row may be past the clock of the day, which is looked at now.
+fn limit<D: PollInputs>(inputs: &mut D, ahead: Option<u32>) -> Result<Option<Limit>, RunFault>
+    ensures { Limits ahead (D.seen inputs.old) (D.seen inputs.new) result }
+{
+    match ahead {
+        Some(margin) => match inputs.date() {
+            Ok(now) => Ok(Some(Limit { now, margin })),
+            Err(error) => Err(RunFault::from(error)),
+        },
+        None => Ok(None),
+    }
+}
+
+/// Judges the rows of the file: after a row that is too far past the clock of the day nothing could be filed any more.
+fn judge_filed<'a>(
+    file: Option<&'a str>,
+    limit: Option<Limit>,
+    rows: &[Row],
+) -> Result<(), FieldFault<'a>>
+    ensures { JudgesFiled (option_map (λ x. x.now) file.entry) limit rows.now result }
+{
+    let Some(file) = file else {
+        return Ok(());
+    };
+    let Some(limit) = limit else {
+        return Ok(());
+    };
+    match first_ahead(limit.now, limit.margin, rows) {
+        Some(number) => Err(FieldFault::Clock(file, ClockFault::Ahead(number))),
+        None => Ok(()),
+    }
+}
+
+/// Reads the secret and the file, and judges the rows in the file.
+#[inline(never)]
+fn prepare_poll<'a, D: PollInputs, F: Holding>(
+    alloc: Global,
+    inputs: &mut D,
+    place: &mut F,
+    polling: &Polling<'a, '_>,
+) -> Result<Ready, FieldFault<'a>>
+    ensures ready { IfOk result (λ ready. IsReady polling.now (D.seen inputs.old) (D.seen inputs.new)
+        (F.asked place.old) (F.asked place.new) ready.secret.items ready.readings ready.limit) }
+    ensures fails { IfErr result (IsUnready polling.now (D.seen inputs.old) (D.seen inputs.new)
+        (F.asked place.old) (F.asked place.new)) }
+{
+    let secret = match secret_of(inputs, polling.client, polling.secret_file) {
+        Ok(secret) => secret,
+        Err(fault) => return Err(fault),
+    };
+    match hold_file(place, polling.readings) {
+        Ok(()) => {}
+        Err(fault) => return Err(fault),
+    }
+    let readings = match open_readings(alloc, polling.readings, place) {
+        Ok(readings) => readings,
+        Err(fault) => return Err(fault),
+    };
+    let limit = match limit(inputs, polling.ahead) {
+        Ok(limit) => limit,
+        Err(fault) => return Err(FieldFault::Other(fault)),
+    };
+    match judge_filed(polling.readings, limit, readings.rows()) {
+        Ok(()) => {}
+        Err(fault) => return Err(fault),
+    }
+    Ok(Ready {
+        secret,
+        readings,
+        limit,
+    })
+}
+
+/// Polls the meter, and judges the clocks of the rows that came.
+fn call_meter<'a, D: PollInputs, L: Dialling>(
+    alloc: Global,
+    inputs: &mut D,
+    line: &mut L,
+    polling: &Polling<'a, '_>,
+    plan: &Plan,
+    limit: Option<Limit>,
+) -> Result<Poller, FieldFault<'a>>
+    requires { IfSome plan.now.after (λ second. second ≤ LAST_SECOND) }
+    ensures fails { IfErr result (FailsCalled
+        (aim_of polling.now (plan_of plan.now)) polling.now.strict limit (L.past line.old)
+        (L.past line.new) (D.seen inputs.old) (D.seen inputs.new)) }
+    ensures takes { IfOk result (λ done. HasDone (aim_of polling.now (plan_of plan.now))
+        (L.past line.old) (L.past line.new) (D.seen inputs.old) (D.seen inputs.new) done
+        × Takes polling.now.strict limit done.talk.rows) }
+    ensures done { IfOk result (IsDonePoll (plan_of plan.now)) }
+{
+    let called = call(alloc, inputs, line, polling, plan);
+    let poller = match called {
+        Ok(Some(poller)) => poller,
+        Ok(None) => return Err(FieldFault::Late(polling.address, polling.deadline)),
+        Err(fault) => return Err(fault),
+    };
+    match judge(poller.rows(), limit, polling.strict) {
+        Ok(()) => Ok(poller),
+        Err(fault) => Err(FieldFault::Clock(polling.address, fault)),
+    }
+}
+
+/// Polls the meter at an address once over a line, if it shows the expected texts, merges the rows into the file if one is given,
+/// and prints the rows that the file did not have. The secret and the file are read before the meter is called, and no other poll
+/// has the file until the end. Each row that is later than the row filed before it is filed; the number of rows left out is
+/// reported on the errors. Rows that are too far past the clock of the day are refused, and with `strict` also rows that do not
+/// rise: nothing is filed then.
+pub fn poll<'a, D: PollInputs, F: Holding, L: Dialling, O: Output, E: Output>(
+    alloc: Global,
+    setup: &mut PollSetup<D, F, L>,
+    polling: &Polling<'a, '_>,
+    output: &mut O,
+    errors: &mut E,
+) -> Result<(), FieldFault<'a>>
+    ensures { let before : Known = record {
+      seen = D.seen setup.old.inputs;
+      asked = F.asked setup.old.place;
+      past = L.past setup.old.line;
+      printed = O.printed output.old;
+      errors = E.printed errors.old;
+    } in
+        let after : Known = record {
+          seen = D.seen setup.new.inputs;
+          asked = F.asked setup.new.place;
+          past = L.past setup.new.line;
+          printed = O.printed output.new;
+          errors = E.printed errors.new;
+        } in
+        Polls polling.now before after result }
+{
+    let ready = match prepare_poll(alloc, &mut setup.inputs, &mut setup.place, polling) {
+        Ok(ready) => ready,
+        Err(fault) => return Err(fault),
+    };
+    let mut readings = ready.readings;
+    let plan = Plan {
+        client: polling.client,
+        secret: ready.secret,
+        after: readings.last(),
+        columns: Columns::Asked,
+    };
+    let poller = match call_meter(
+        alloc,
+        &mut setup.inputs,
+        &mut setup.line,
+        polling,
+        &plan,
+        ready.limit,
+    ) {
+        Ok(poller) => poller,
+        Err(fault) => return Err(fault),
+    };
+    file_readings(
+        alloc,
+        &mut setup.place,
+        &mut readings,
+        poller.rows(),
+        polling.readings,
+        output,
+        errors,
+    )
+}

@@ -1,0 +1,98 @@
+-- The calls of a meter that serves.
+use Rattle.std.proofs.Common.{refl, sym, ◌≡◌, ℕ, zero, suc, arith, Bool, List, [], ◌∷◌, ◌++◌, Option, Some, Result, Ok, Err, subst}
+use Rattle.std.specs.Prelude.{MatchResult}
+use Rattle.dlms_ends.specs.Moments.{Moment as LineMoment}
+use Rattle.dlms_ends.specs.declared.fault.RunFault.{RunFault}
+use Rattle.dlms_meter.specs.Steps.{Call, Calls, IsCall}
+use Rattle.dlms_meter.specs.Steps.Call.{Fed, Told}
+use Rattle.dlms_meter.specs.declared.meter.Meter.{Meter}
+use Rattle.dlms_pages.specs.declared.device.Pages.{Ghosts}
+use Rattle.dlms_state.specs.declared.event.Event.{Event}
+use Rattle.dlms_state.specs.declared.event.Event.TheVariants.{Pulses, Moment}
+use Rattle.dlms_store.specs.declared.fault.AddFault.{AddFault}
+use Rattle.dlms_serving.specs.Connection.{At, Arrives, ToRead, Behind, Checks, Connection, Unbegun, Begun, Doing, Reads, Answers, Doings, Nothing, Then, Ends, IsOver, LookEnds, ReadEnds, ReplyEnds, Tires, Gives, LookFails, NoClock, NoStore, LooksOnce, Looked}
+use Rattle.dlms_serving.specs.Serving.{Visits, Unprepared, Prepared}
+use Rattle.dlms_serving.specs.Telling.{Tells, TellsEach}
+use Rattle.dlms_lines.specs.Watching.{Sight}
+use Rattle.dlms_serving.specs.declared.talking.Ending.{Ending}
+use Rattle.dlms_serving.specs.declared.talking.Rules.{Rules}
+use Rattle.dlms_serving.specs.declared.ticks.Second.{Second}
+use Rattle.dlms_serving.specs.declared.ticks.Ticks.{Ticks}
+
+module _ {P A : Type 0} {ghosts : Ghosts P} where
+  abbrev pub Made : Meter P A ghosts → Meter P A ghosts → Type 0
+  Made a b = (calls : List Call) × Calls a calls b
+
+  Calls-trans : (xs ys : List Call) (a b c : Meter P A ghosts) → Calls a xs b → Calls b ys c → Calls a (xs ++ ys) c
+  Calls-trans [] ys a b c p q = subst (λ (m : Meter P A ghosts). Calls m ys c) p q
+  Calls-trans (x ∷ xs) ys a b c p q = (p.0, p.1, Calls-trans xs ys p.0 b c p.2 q)
+
+  pub joined : (a b c : Meter P A ghosts) → Made a b → Made b c → Made a c
+  joined a b c p q = (p.0 ++ q.0, Calls-trans p.0 q.0 a b c p.1 q.1)
+
+  one_told : (a b : Meter P A ghosts) (event : Event) (outcome : Result (Unit {0}) AddFault) → IsCall a (Told event outcome) b → Made a b
+  one_told a b event outcome is = (Told event outcome ∷ [], (b, is, refl))
+
+  behind_pulses : (a b : Meter P A ghosts) (second : Second) (counted outcome : Result (Unit {0}) AddFault)
+      → MatchResult counted (λ _. IsCall a (Told (Moment second.moment) outcome) b) (λ fault. (outcome ≡ Err fault) × (b ≡ a)) → Made a b
+  behind_pulses a b second (Ok done) outcome is = one_told a b (Moment second.moment) outcome is
+  behind_pulses a b second (Err fault) outcome is = subst (λ (m : Meter P A ghosts). Made a m) (sym is.1) ([], refl)
+
+  one_second : (a b : Meter P A ghosts) (second : Second) (n : ℕ) (outcome : Result (Unit {0}) AddFault) → second.pulses ≡ n → Tells a second outcome b → Made a b
+  one_second a b second zero outcome e tells = one_told a b (Moment second.moment) outcome (tells.0 e)
+  one_second a b second (suc n) outcome e tells =
+      let (counted, between, judged, then) = tells.1 (omega (arith, e)) in
+      joined a between b (one_told a between (Pulses 0 second.pulses) counted judged) (behind_pulses between b second counted outcome then)
+
+  each_second : (a b : Meter P A ghosts) (said outcome : Result (Unit {0}) AddFault) (seconds : List Second) → TellsEach a said seconds outcome b → Made a b
+  each_second a b said outcome [] is = subst (λ (m : Meter P A ghosts). Made a m) (sym is.0) ([], refl)
+  each_second a b said outcome (second ∷ seconds) is = joined a is.2 b (one_second a is.2 second second.pulses is.1 refl is.3) (each_second is.2 b is.1 outcome seconds is.4)
+
+  looked_made : (step now : ℕ) (a b : Meter P A ghosts) (ticks ticks' : Ticks) → Looked step a ticks now b ticks' → Made a b
+  looked_made step now a b ticks ticks' look = each_second a b (Ok tt) look.outcome look.looks.1.seconds look.looks.1.each
+
+  failed_made : (step : ℕ) (a b : Meter P A ghosts) (ticks ticks' : Ticks) (fault : RunFault) (sights : List Sight) → LookFails step a ticks fault sights b ticks' → Made a b
+  failed_made step a b ticks ticks' fault sights (NoClock of_system) = ([], refl)
+  failed_made step a b ticks ticks' fault sights (NoStore now due why m t is_due looks tells) = each_second a b (Ok tt) (Err why) looks.1.seconds looks.1.each
+
+  pub look_made : (step : ℕ) (seen seen' : Option (List Sight)) (a b : Meter P A ghosts) (ticks ticks' : Ticks) (result : Result ℕ RunFault) → LooksOnce step seen seen' a ticks result b ticks' → Made a b
+  look_made step seen seen' a b ticks ticks' (Ok now) looks = looked_made step now a b ticks ticks' looks.1
+  look_made step seen seen' a b ticks ticks' (Err fault) looks = failed_made step a b ticks ticks' fault looks.0 looks.2
+
+  gives_made : (s given : At P A ghosts) (reply : Option (List ℕ)) → Gives s reply given → Made s.meter given.meter
+  gives_made s given reply gives = (Fed gives.taken reply ∷ [], (given.meter, gives.call, refl))
+
+  checks_made : (rules : Rules) (s after : At P A ghosts) (is_answered : Bool) (now : ℕ) (sights : List Sight) → Checks rules s is_answered now sights after → Made s.meter after.meter
+  checks_made rules s after is_answered now sights checks = looked_made rules.tick now s.meter after.meter s.ticks after.ticks checks.look
+
+  doing_made : (rules : Rules) (s after : At P A ghosts) (moments : List LineMoment) (sights : List Sight) → Doing rules s moments sights after → Made s.meter after.meter
+  doing_made rules s after moments sights (Reads now more mid moment bytes left checks tells read) = checks_made rules s mid _ now more checks
+  doing_made rules s after moments sights (Answers reply given now more a gives checks tells) = joined s.meter given.meter after.meter (gives_made s given reply gives) (checks_made rules given after _ now more checks)
+
+  doings_made : (rules : Rules) (s after : At P A ghosts) (moments : List LineMoment) (sights : List Sight) → Doings rules s moments sights after → Made s.meter after.meter
+  doings_made rules s after moments sights Nothing = ([], refl)
+  doings_made rules s after moments sights (Then before more asked others mid a does doing) =
+      joined s.meter mid.meter after.meter (doings_made rules s mid before asked does) (doing_made rules mid after more others doing)
+
+  arrives_made : (s given : At P A ghosts) (moments : List LineMoment) (is_answered : Bool) → Arrives s moments is_answered given → Made s.meter given.meter
+  arrives_made s given moments is_answered (ToRead left) = ([], refl)
+  arrives_made s given moments is_answered (Behind reply g gives) = gives_made s given reply gives
+
+  ends_made : (rules : Rules) (s : At P A ghosts) (result : Result Ending RunFault) (moments : List LineMoment) (sights : List Sight) (b : Meter P A ghosts) (ticks : Ticks) → Ends rules s result moments sights b ticks → Made s.meter b
+  ends_made rules s result moments sights b ticks (IsOver m is_answered given now more after why arrives checks tells) =
+      joined s.meter given.meter b (arrives_made s given m is_answered arrives) (checks_made rules given after is_answered now more checks)
+  ends_made rules s result moments sights b ticks (LookEnds m is_answered given fault more meter t arrives fails) =
+      joined s.meter given.meter b (arrives_made s given m is_answered arrives) (failed_made rules.tick given.meter b given.ticks ticks fault more fails)
+  ends_made rules s result moments sights b ticks (ReadEnds now more after error ending left checks tells of_read) = checks_made rules s after _ now more checks
+  ends_made rules s result moments sights b ticks (ReplyEnds reply part missing given error gives cut) = gives_made s given (Some reply) gives
+  ends_made rules s result moments sights b ticks (Tires left all) = ([], refl)
+
+  pub connection_made : (rules : Rules) (p q : Option (List LineMoment)) (v w : Option (List Sight)) (a b : Meter P A ghosts) (ticks ticks' : Ticks) (result : Result Ending RunFault) → Connection rules p q v w a ticks result b ticks' → Made a b
+  connection_made rules p q v w a b ticks ticks' result (Unbegun fault sights m t fails adds sees) = failed_made rules.tick a b ticks ticks' fault sights fails
+  connection_made rules p q v w a b ticks ticks' result (Begun first now mid after told ended r look sees ends) =
+      joined a mid b (looked_made rules.tick first a mid ticks told look)
+      (joined mid ends.last.meter b (doings_made rules _ ends.last ends.goes.moments ends.goes.sights ends.goes.does) (ends_made rules ends.last result ends.moments ends.sights b ticks' ends.ends))
+
+  pub visit_made : (rules : Rules) (v w : Option (List Sight)) (a b : Meter P A ghosts) (ticks ticks' : Ticks) (result : Result Ending RunFault) → Visits rules v w a ticks result b ticks' → Made a b
+  visit_made rules v w a b ticks ticks' result (Unprepared error sees) = ([], refl)
+  visit_made rules v w a b ticks ticks' result (Prepared now p q r m t sees connection) = connection_made rules p q now w a b ticks ticks' result connection

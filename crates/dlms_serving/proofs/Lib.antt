@@ -1,0 +1,11 @@
+pub mod HangingUp
+pub mod TellingLemmas
+pub mod TickLemmas
+pub mod RefusalLemmas
+pub mod TalkLemmas
+pub mod ConnectionLemmas
+pub mod CallLemmas
+pub mod ServeLemmas
+pub mod LineLemmas
+pub mod QueueLemmas
+pub mod GuessLemmas

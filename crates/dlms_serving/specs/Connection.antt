@@ -1,0 +1,374 @@
+-- The steps of a meter that serves a connection, one after another.
+use Rattle.std.specs.Prelude.{◌≡◌, ◌≢◌, ◌⊎◌, ◌↔◌, ◌+◌, ◌-◌, ◌^◌, ◌<◌, ◌≤◌, ℕ, Bool, true, false, IsTrue, IsSome, List, [], ◌∷◌, ◌++◌, length, max, min, nat_lt, take, Option, Some, None, Result, Ok, Err, if◌then◌else◌}
+use Rattle.std.specs.IoError.{error_kind}
+use Rattle.std.specs.declared.io.Error.{Error}
+use Rattle.std.specs.declared.io.ErrorKind.TheVariants.{UnexpectedEof}
+use Rattle.dlms_frame.specs.declared.client.Client.{Client}
+use Rattle.dlms_ends.specs.Faults.{IsOfSystem}
+use Rattle.dlms_ends.specs.Moments.{Moment, Adds, Breaks}
+use Rattle.dlms_ends.specs.Moments.Moment.{Came, Quiet, Unheard, Went, Broke}
+use Rattle.dlms_ends.specs.declared.fault.RunFault.{RunFault}
+use Rattle.dlms_ends.specs.declared.fault.RunFault.TheVariants.{Add, Io}
+use Rattle.dlms_ends.specs.declared.meter_end.Taken.{Taken}
+use Rattle.dlms_meter.specs.Run.{record_for}
+use Rattle.dlms_meter.specs.Steps.{IsCall}
+use Rattle.dlms_meter.specs.Steps.Call.{Fed}
+use Rattle.dlms_meter.specs.declared.meter.Meter.{Meter}
+use Rattle.dlms_pages.specs.declared.device.Pages.{Ghosts}
+use Rattle.dlms_store.specs.declared.fault.AddFault.{AddFault}
+use Rattle.dlms_store.specs.declared.fault.AddFault.TheVariants as add
+use Rattle.dlms_serving.specs.Pace.{AreDue}
+use Rattle.dlms_serving.specs.Refusals.{SaysFirst}
+use Rattle.dlms_serving.specs.Telling.{GoesOn, Looks}
+use Rattle.dlms_serving.specs.Turns.{Tells}
+use Rattle.dlms_lines.specs.Watching.{Sight, Sees, has_any}
+use Rattle.dlms_lines.specs.Watching.Sight.{Second, Another, Trusts}
+use Rattle.dlms_serving.specs.declared.talking.Ending.{Ending}
+use Rattle.dlms_serving.specs.declared.talking.Ending.TheVariants.{Closed, Failed, Over}
+use Rattle.dlms_serving.specs.declared.talking.Rules.{Rules}
+use Rattle.dlms_serving.specs.declared.talking.TurnState.{TurnState}
+use Rattle.dlms_serving.specs.declared.refusals.Outcome.{Outcome}
+use Rattle.dlms_serving.specs.declared.refusals.Outcome.TheVariants.{Refused, Proved, Opened}
+use Rattle.dlms_serving.specs.declared.ticks.Ticks.{Ticks}
+use Rattle.dlms_serving.specs.declared.turns.Over.{Over as Why}
+use Rattle.dlms_serving.specs.declared.turns.Over.TheVariants as why
+use Rattle.dlms_serving.specs.declared.turns.Tries.{Tries}
+use Rattle.dlms_serving.specs.declared.turns.Turn.{Turn}
+
+-- ---- a look at the clock
+
+-- Some seconds have passed; the meter gets those that are due, and its store goes on.
+pub record Looked {P A : Type 0} {ghosts : Ghosts P} (step : ℕ) (meter : Meter P A ghosts)
+    (ticks : Ticks) (now : ℕ) (meter' : Meter P A ghosts) (ticks' : Ticks) : Type 0 where
+  pub due : ℕ
+  pub is_due : AreDue (max step 1) now due
+  pub outcome : Result (Unit {0}) AddFault
+  pub looks : Looks due ticks meter outcome ticks' meter'
+  pub goes_on : GoesOn outcome
+
+-- the outcome that reports that a store does not go on
+abbrev pub TellsStop : AddFault → RunFault → Type 0
+TellsStop (add.Refused cause) fault = ⊥
+TellsStop add.Exhausted fault = fault ≡ Add add.Exhausted
+TellsStop add.Device fault = fault ≡ Add add.Device
+TellsStop add.Stopped fault = fault ≡ Add add.Device
+
+-- The clock failed; or the store did, when the meter got the seconds that are due.
+pub data LookFails {P A : Type 0} {ghosts : Ghosts P} (step : ℕ) (meter : Meter P A ghosts)
+    (ticks : Ticks) (fault : RunFault) : List Sight → Meter P A ghosts → Ticks → Type 0 where
+  NoClock : IsOfSystem fault → LookFails step meter ticks fault (Second None ∷ []) meter ticks
+  NoStore : (now due : ℕ) (why : AddFault) (meter' : Meter P A ghosts) (ticks' : Ticks)
+      → AreDue (max step 1) now due → Looks due ticks meter (Err why) ticks' meter'
+      → TellsStop why fault
+      → LookFails step meter ticks fault (Second (Some now) ∷ []) meter' ticks'
+
+abbrev pub LooksOnce : {P A : Type 0} → {ghosts : Ghosts P} → ℕ → Option (List Sight)
+    → Option (List Sight) → Meter P A ghosts → Ticks → Result ℕ RunFault → Meter P A ghosts → Ticks
+    → Type 0
+LooksOnce step seen seen' meter ticks (Ok now) meter' ticks' =
+    Sees seen seen' (Second (Some now) ∷ []) × Looked step meter ticks now meter' ticks'
+LooksOnce step seen seen' meter ticks (Err fault) meter' ticks' = (sights : List Sight)
+    × Sees seen seen' sights × LookFails step meter ticks fault sights meter' ticks'
+
+-- ---- a connection as it stands
+
+-- the meter, and how much of the clock it got; the bytes that came and that it was not given yet; the turn, and when it last asked
+-- whether another connection waits; and the number of reads
+pub record At (P A : Type 0) (ghosts : Ghosts P) : Type 0 where
+  pub meter : Meter P A ghosts
+  pub ticks : Ticks
+  pub left : List ℕ
+  pub state : TurnState
+  pub reads : ℕ
+
+-- a connection that begins at this second
+abbrev pub begins : {P A : Type 0} → {ghosts : Ghosts P} → Meter P A ghosts → Ticks → ℕ
+    → At P A ghosts
+begins meter ticks first =
+    record {
+      meter = meter;
+      ticks = ticks;
+      left = [];
+      state = record {
+        turn = record {
+          answered = first;
+          held = first;
+          waited = None;
+          tries = record { refusals = 0; is_proved = false };
+        };
+        asked = None;
+      };
+      reads = 0;
+    }
+
+-- ---- bytes are given to the meter
+
+-- a refused association is one refusal more, as far as they are counted, and one that is open by a secret a proof
+abbrev pub behind_outcome : Option Outcome → Tries → Tries
+behind_outcome (Some Refused) tries = record tries { refusals = min (tries.refusals + 1) 255 }
+behind_outcome (Some Proved) tries = record tries { is_proved = true }
+behind_outcome (Some Opened) tries = tries
+behind_outcome None tries = tries
+
+abbrev pub Counts : Option (List ℕ) → Tries → Tries → Type 0
+Counts None before after = after ≡ before
+Counts (Some reply) before after = (outcome : Option Outcome) × SaysFirst reply outcome
+    × (after ≡ behind_outcome outcome before)
+
+-- The meter gets some of the bytes in one call, and its reply is counted.
+pub record Gives {P A : Type 0} {ghosts : Ghosts P} (s : At P A ghosts) (reply : Option (List ℕ))
+    (given : At P A ghosts) : Type 0 where
+  pub taken : List ℕ
+  pub behind : List ℕ
+  pub tries : Tries
+  pub cut : s.left ≡ taken ++ behind
+  pub some : 0 < length taken
+  pub call : IsCall s.meter (Fed taken reply) given.meter
+  pub counts : Counts reply s.state.turn.tries tries
+  pub same : given ≡ record s {
+    meter = given.meter;
+    left = behind;
+    state = record s.state { turn = record s.state.turn { tries = tries } };
+  }
+
+-- the whole reply goes out, and it learns the number of bytes taken and whether there was a reply; or the line breaks at it
+abbrev pub Replied : {E : Type 0} → Option (List Moment) → Option (List Moment) → ℕ
+    → Option (List ℕ) → Result Taken E → Type 0
+Replied old new count None (Ok taken) = (taken ≡ record { count = count; is_answered = false })
+    × Adds old new []
+Replied old new count None (Err e) = ⊥
+Replied old new count (Some reply) (Ok taken) = (taken ≡ record {
+  count = count;
+  is_answered = true;
+}) × Adds old new (Went reply ∷ [])
+Replied old new count (Some reply) (Err e) = Breaks old new reply
+
+-- the same of one call, as its caller sees it
+pub record GivesFrame {P A E : Type 0} {ghosts : Ghosts P} (old new : Option (List Moment))
+    (before : Meter P A ghosts) (bytes : List ℕ) (tries tries' : Tries) (result : Result Taken E)
+    (after : Meter P A ghosts) : Type 0 where
+  pub count : ℕ
+  pub reply : Option (List ℕ)
+  pub some : 0 < length bytes → 0 < count
+  pub within : count ≤ length bytes
+  pub call : IsCall before (Fed (take count bytes) reply) after
+  pub counts : Counts reply tries tries'
+  pub replies : Replied old new count reply result
+
+-- ---- the turn
+
+-- a client has an association
+abbrev pub HasAssociation : {P A : Type 0} → {ghosts : Ghosts P} → Meter P A ghosts → Type 0
+HasAssociation meter = (who : Client) × IsSome (record_for meter who).session.opened
+
+-- the turn after bytes that were answered, or were not
+abbrev pub turn_after_bytes : Turn → Bool → ℕ → Bool → Turn
+turn_after_bytes turn false now associated = turn
+turn_after_bytes turn true now associated = record turn {
+  answered = now;
+  held = if associated then now else turn.held;
+}
+
+-- it is asked at this second whether another connection waits: none is known to, and it was not asked in this second yet
+abbrev pub IsDue : TurnState → ℕ → Type 0
+IsDue state now = (state.turn.waited ≡ None) × (state.asked ≢ Some now)
+
+-- the turn after the answer
+abbrev pub behind_answer : Turn → ℕ → Bool → Turn
+behind_answer turn now waits = if waits then (record turn { waited = Some now }) else turn
+
+-- Where that is due it is asked.
+pub data AsksFor (state : TurnState) (now : ℕ) : List Sight → Turn → Type 0 where
+  NotDue : (IsDue state now → ⊥) → AsksFor state now [] state.turn
+  Asks : IsDue state now → (waits : Bool)
+      → AsksFor state now (Another now waits ∷ []) (behind_answer state.turn now waits)
+
+-- the same, if the questions are known
+abbrev pub AsksOnce : Option (List Sight) → Option (List Sight) → TurnState → ℕ → TurnState → Type 0
+AsksOnce seen seen' state now state' = (sights : List Sight) × Sees seen seen' sights
+    × AsksFor state now sights state'.turn × (state'.asked ≡ Some now)
+
+-- If a secret was proved, the watch hears of that once.
+abbrev pub told_of : TurnState → ℕ → List Sight
+told_of state now = if state.turn.tries.is_proved then (Trusts now ∷ []) else []
+
+abbrev pub behind_telling : TurnState → TurnState
+behind_telling state =
+    record state { turn = record state.turn { tries = record state.turn.tries { is_proved = false } } }
+
+abbrev pub TellsOnce : Option (List Sight) → Option (List Sight) → TurnState → ℕ → TurnState → Type 0
+TellsOnce seen seen' state now state' = Sees seen seen' (told_of state now)
+    × (state' ≡ behind_telling state)
+
+-- A look at the clock, after bytes that were answered or were not, and at the turn at that second.
+pub record Checks {P A : Type 0} {ghosts : Ghosts P} (rules : Rules) (s : At P A ghosts)
+    (is_answered : Bool) (now : ℕ) (sights : List Sight) (after : At P A ghosts) : Type 0 where
+  pub look : Looked rules.tick s.meter s.ticks now after.meter after.ticks
+  pub associated : Bool
+  pub has : IsTrue associated ↔ HasAssociation after.meter
+  pub state : TurnState
+  pub turn_after_bytes : state ≡ record s.state { turn = turn_after_bytes s.state.turn is_answered now associated }
+  pub asked_for : List Sight
+  pub asks : AsksFor (behind_telling state) now asked_for after.state.turn
+  pub all : sights ≡ told_of state now ++ asked_for
+  pub asked : after.state.asked ≡ Some now
+  pub left : after.left ≡ s.left
+  pub reads : after.reads ≡ s.reads
+
+-- the same, with this report on the turn; or the look failed
+abbrev pub ChecksOnce : {P A : Type 0} → {ghosts : Ghosts P} → Rules → Option (List Sight)
+    → Option (List Sight) → At P A ghosts → Bool → Result (Option Why) RunFault → At P A ghosts
+    → Type 0
+ChecksOnce rules seen seen' s is_answered (Ok why) after =
+    (now : ℕ) × (sights : List Sight) × Sees seen seen' (Second (Some now) ∷ sights)
+    × Checks rules s is_answered now sights after × Tells rules after.state.turn now why
+ChecksOnce rules seen seen' s is_answered (Err fault) after =
+    (sights : List Sight) × Sees seen seen' sights
+    × LookFails rules.tick s.meter s.ticks fault sights after.meter after.ticks
+    × (after.left ≡ s.left) × (after.state ≡ s.state) × (after.reads ≡ s.reads)
+
+-- ---- one thing after another
+
+-- bytes came, or none if the call was interrupted; or nothing came for as long as a read waits
+abbrev pub IsRead : Moment → List ℕ → Type 0
+IsRead (Came came) bytes = bytes ≡ came
+IsRead Quiet bytes = bytes ≡ []
+IsRead _ bytes = ⊥
+
+-- one read: bytes came, or nothing did, which counts for none; or it failed
+abbrev pub ReadsPiece : Option (List Moment) → Option (List Moment) → Result ℕ Error → List ℕ
+    → Type 0
+ReadsPiece old new (Ok count) piece = Adds old new (Came (take count piece) ∷ [])
+    ⊎ ((count ≡ 0) × Adds old new (Quiet ∷ []))
+ReadsPiece old new (Err e) piece = Adds old new (Unheard e ∷ [])
+
+abbrev pub goes_out : Option (List ℕ) → List Moment
+goes_out None = []
+goes_out (Some reply) = Went reply ∷ []
+
+-- One step of it, with its events on the line and its questions. If all bytes that came were given, it looks at the clock, and
+-- reads, since its turn is not over. If some were not, it gives the meter some of them, whose reply goes out whole; and then it
+-- looks at the clock, and its turn is not over.
+pub data Doing {P A : Type 0} {ghosts : Ghosts P} (rules : Rules) (s : At P A ghosts) : List Moment
+    → List Sight → At P A ghosts → Type 0 where
+  Reads : (now : ℕ) (sights : List Sight) (mid : At P A ghosts) (moment : Moment) (bytes : List ℕ)
+      → s.left ≡ [] → Checks rules s false now sights mid → Tells rules mid.state.turn now None
+      → IsRead moment bytes
+      → Doing rules s (moment ∷ []) (Second (Some now) ∷ sights) (record mid {
+        left = bytes;
+        reads = mid.reads + 1;
+      })
+  Answers : (reply : Option (List ℕ)) (given : At P A ghosts) (now : ℕ) (sights : List Sight)
+      (after : At P A ghosts) → Gives s reply given
+      → Checks rules given (has_any reply) now sights after
+      → Tells rules after.state.turn now None
+      → Doing rules s (goes_out reply) (Second (Some now) ∷ sights) after
+
+-- one after another
+pub data Doings {P A : Type 0} {ghosts : Ghosts P} (rules : Rules) (s : At P A ghosts) : List Moment
+    → List Sight → At P A ghosts → Type 0 where
+  Nothing : Doings rules s [] [] s
+  Then : (before moments : List Moment) (asked sights : List Sight) (mid after : At P A ghosts)
+      → Doings rules s before asked mid → Doing rules mid moments sights after
+      → Doings rules s (before ++ moments) (asked ++ sights) after
+
+-- So it went on; this was seen on the line, and this was asked.
+pub record Goes {P A : Type 0} {ghosts : Ghosts P} (rules : Rules) (old new : Option (List Moment))
+    (seen seen' : Option (List Sight)) (s after : At P A ghosts) : Type 0 where
+  pub moments : List Moment
+  pub sights : List Sight
+  pub does : Doings rules s moments sights after
+  pub happened : Adds old new moments
+  pub watched : Sees seen seen' sights
+
+-- ---- the end
+
+-- It comes to a look at the clock: before a read, or after bytes that the meter was given, whose reply went out.
+pub data Arrives {P A : Type 0} {ghosts : Ghosts P} (s : At P A ghosts) : List Moment → Bool
+    → At P A ghosts → Type 0 where
+  ToRead : s.left ≡ [] → Arrives s [] false s
+  Behind : (reply : Option (List ℕ)) (given : At P A ghosts) → Gives s reply given
+      → Arrives s (goes_out reply) (has_any reply) given
+
+-- the report on a read that failed: that the other end closed the connection if the stream has ended, otherwise the error
+abbrev pub IsOfRead : Error → Ending → Type 0
+IsOfRead error Closed = error_kind error ≡ UnexpectedEof
+IsOfRead error (Failed told) = (error_kind error ≢ UnexpectedEof) × (told ≡ error)
+IsOfRead error (Over why) = ⊥
+
+-- the end that an error at a reply is: whose association request is refused need not take the reply for that to count
+abbrev pub ending_at_reply : Tries → Error → Ending
+ending_at_reply tries error = if nat_lt 0 tries.refusals then Over why.Refused else Failed error
+
+-- How it ends, and why: at a look at the clock its turn is over, or the look failed; a read failed; a reply did not go out whole; or it
+-- has read as often as it may.
+pub data Ends {P A : Type 0} {ghosts : Ghosts P} (rules : Rules)
+    (s : At P A ghosts) : Result Ending RunFault → List Moment → List Sight → Meter P A ghosts
+    → Ticks → Type 0 where
+  IsOver : (moments : List Moment) (is_answered : Bool) (given : At P A ghosts) (now : ℕ)
+      (sights : List Sight) (after : At P A ghosts) (why : Why)
+      → Arrives s moments is_answered given
+      → Checks rules given is_answered now sights after → Tells rules after.state.turn now (Some why)
+      → Ends rules s (Ok (Over why)) moments (Second (Some now) ∷ sights) after.meter after.ticks
+  LookEnds : (moments : List Moment) (is_answered : Bool) (given : At P A ghosts)
+      (fault : RunFault) (sights : List Sight) (meter : Meter P A ghosts) (ticks : Ticks)
+      → Arrives s moments is_answered given
+      → LookFails rules.tick given.meter given.ticks fault sights meter ticks
+      → Ends rules s (Err fault) moments sights meter ticks
+  ReadEnds : (now : ℕ) (sights : List Sight) (after : At P A ghosts) (error : Error)
+      (ending : Ending) → s.left ≡ [] → Checks rules s false now sights after
+      → Tells rules after.state.turn now None → IsOfRead error ending
+      → Ends rules s (Ok ending) (Unheard error ∷ [])
+      (Second (Some now) ∷ sights) after.meter after.ticks
+  ReplyEnds : (reply part missing : List ℕ) (given : At P A ghosts) (error : Error)
+      → Gives s (Some reply) given → part ++ missing ≡ reply
+      → Ends rules s (Ok (ending_at_reply given.state.turn.tries error))
+      (Broke part ∷ []) [] given.meter given.ticks
+  Tires : s.left ≡ [] → s.reads ≡ 2 ^ 64 - 1 → Ends rules s (Err Io) [] [] s.meter s.ticks
+
+-- From there it went on, and ended so.
+pub record GoesToEnd {P A : Type 0} {ghosts : Ghosts P} (rules : Rules)
+    (old new : Option (List Moment)) (seen seen' : Option (List Sight)) (s : At P A ghosts)
+    (result : Result Ending RunFault) (meter : Meter P A ghosts) (ticks : Ticks) : Type 0 where
+  pub now : Option (List Moment)
+  pub seen_now : Option (List Sight)
+  pub last : At P A ghosts
+  pub goes : Goes rules old now seen seen_now s last
+  pub moments : List Moment
+  pub sights : List Sight
+  pub ends : Ends rules last result moments sights meter ticks
+  pub happened : Adds now new moments
+  pub watched : Sees seen_now seen' sights
+
+-- the frames among some bytes: all of them are answered, or the connection ends there
+abbrev pub AnswersEach : {P A : Type 0} → {ghosts : Ghosts P} → Rules → Option (List Moment)
+    → Option (List Moment) → Option (List Sight) → Option (List Sight) → At P A ghosts
+    → Result (Option Ending) RunFault
+    → Meter P A ghosts → Ticks → TurnState → Type 0
+AnswersEach rules old new seen seen' s (Ok None) meter ticks state =
+    Goes rules old new seen seen' s (record {
+      meter = meter;
+      ticks = ticks;
+      left = [];
+      state = state;
+      reads = s.reads;
+    })
+AnswersEach rules old new seen seen' s (Ok (Some ending)) meter ticks state =
+    GoesToEnd rules old new seen seen' s (Ok ending) meter ticks
+AnswersEach rules old new seen seen' s (Err fault) meter ticks state =
+    GoesToEnd rules old new seen seen' s (Err fault) meter ticks
+
+-- A connection, from its first look at the clock to its end.
+pub data Connection {P A : Type 0} {ghosts : Ghosts P} (rules : Rules)
+    (old new : Option (List Moment)) (seen seen' : Option (List Sight)) (meter : Meter P A ghosts)
+    (ticks : Ticks) : Result Ending RunFault
+    → Meter P A ghosts → Ticks → Type 0 where
+  Unbegun : (fault : RunFault) (sights : List Sight) (meter' : Meter P A ghosts) (ticks' : Ticks)
+      → LookFails rules.tick meter ticks fault sights meter' ticks' → Adds old new []
+      → Sees seen seen' sights
+      → Connection rules old new seen seen' meter ticks (Err fault) meter' ticks'
+  Begun : (first : ℕ) (now : Option (List Sight)) (mid after : Meter P A ghosts)
+      (told ended : Ticks) (result : Result Ending RunFault)
+      → Looked rules.tick meter ticks first mid told → Sees seen now (Second (Some first) ∷ [])
+      → GoesToEnd rules old new now seen' (begins mid told first) result after ended
+      → Connection rules old new seen seen' meter ticks result after ended

@@ -1,0 +1,13 @@
+pub mod HangingUp
+pub mod Load
+pub mod Pace
+pub mod Telling
+pub mod Ticks
+pub mod Turns
+pub mod Connection
+pub mod Refusals
+pub mod Serving
+pub mod ServingLine
+pub mod Guesses
+pub mod Queue
+pub mod GuessRuns
