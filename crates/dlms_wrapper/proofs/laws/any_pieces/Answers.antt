@@ -1,0 +1,5 @@
+use Rattle.dlms_wrapper.proofs.StreamLemmas.{any_run}
+use Rattle.dlms_wrapper.proofs.laws.any_pieces.Goals as goal
+
+pub returns : goal.returns
+returns c = λ limit calls new small fed. any_run limit calls new fed

@@ -1,0 +1,4 @@
+pub mod Message
+pub mod Datagram
+pub mod Stream
+pub mod Reading
