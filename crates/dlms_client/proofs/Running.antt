@@ -10,12 +10,11 @@ use Rattle.dlms_headend.specs.Asking.{next_bytes}
 use Rattle.dlms_link.specs.Client.{ClientRecord, IsIdle, client_step, client_timeout}
 use Rattle.dlms_link.specs.declared.out.ClientOut.{ClientOut}
 use Rattle.dlms_link.specs.declared.out.ClientOut.TheVariants as out
-use Rattle.dlms_client.specs.Addresses.{inward, is_ours}
 use Rattle.dlms_client.specs.Association.{granted_at, released_at}
-use Rattle.dlms_client.specs.Calls.{with_link, fresh, HasFailed, IsPassedOver, BeginsAt, BeginsBy, OpensBy, ReleasesBy, Sends, GivesBlock, GivesNext, next_of_set, next_of_action, AsksMore, emptied, long_value, most_bytes, GoesOn, TakesAt, GoesDownAt, ComesBy, ComesTo, ComesWhile, ComesUnless, TimesOutBy, TimesOutUnless, IsFree, Asks}
+use Rattle.dlms_client.specs.Calls.{with_link, fresh, HasFailed, IsPassedOver, BeginsAt, BeginsBy, OpensBy, ReleasesBy, Sends, GivesBlock, GivesNext, next_of_set, next_of_action, AsksMore, emptied, long_value, most_bytes, GoesOn, TakesAt, GoesDownAt, ComesBy, ComesWhile, ComesUnless, TimesOutBy, TimesOutUnless, IsFree, Asks}
 use Rattle.dlms_client.specs.ClientValue.{ClientValue}
 use Rattle.dlms_client.specs.Hearing.{Hears}
-use Rattle.dlms_client.specs.Run.{Call, Next, On, Timeout, Ask, Release, Disconnect, asked_of, IsCall, handed_by, handed_to, handed_while, handed_unless, handed, Since, nothing_yet, since_after, Runs, AnswersAreSaid, IsOfTheRequest, BlocksAreOfTheRequest}
+use Rattle.dlms_client.specs.Run.{Call, Next, On, Timeout, Ask, Release, Disconnect, asked_of, IsCall, handed_by, handed_while, handed_unless, handed, Since, nothing_yet, since_after, Runs, AnswersAreSaid, IsOfTheRequest, BlocksAreOfTheRequest}
 use Rattle.dlms_client.specs.Saying.{Says}
 use Rattle.dlms_client.specs.declared.answer.Answer.{Answer}
 use Rattle.dlms_client.specs.declared.ask_fault.AskFault.{AskFault}
@@ -165,13 +164,9 @@ comes_fits-by out.Apdu link old new result since whole fits h =
     takes_fits old.stage (with_link old link) new result since whole (subst (λ (failed : Option Fault). FitsUnless failed old.stage old.blocks old.sent since) whole fits) h
 comes_fits-by out.Down link old new result since whole fits h = down_fits old.stage (with_link old link) new result _ h
 
-comes_fits-to : (ours : Bool) (old new : ClientValue) (frame : Parts) (result : Result Step Fault) (since : Since) → old.failed ≡ None → Fits old since → ComesTo ours old frame result new → Fits new (record since { taken = since.taken ++ handed_to ours old frame })
-comes_fits-to true old new frame result since whole fits h = comes_fits-by (client_step old.link (inward frame)).1 (client_step old.link (inward frame)).0 old new result since whole fits h
-comes_fits-to false old new frame result since whole fits h = passed_fits old new result since fits h
-
 comes_fits-while : (waits : Option Parts) (old new : ClientValue) (frame : Parts) (result : Result Step Fault) (since : Since) → old.failed ≡ None → Fits old since → ComesWhile waits old frame result new
     → Fits new (record since { taken = since.taken ++ handed_while waits old frame })
-comes_fits-while (Some waits) old new frame result since whole fits h = comes_fits-to (is_ours old.plan frame) old new frame result since whole fits h
+comes_fits-while (Some waits) old new frame result since whole fits h = comes_fits-by (client_step old.link frame).1 (client_step old.link frame).0 old new result since whole fits h
 comes_fits-while None old new frame result since whole fits h = passed_fits old new result since fits h
 
 comes_fits-unless : (failed : Option Fault) (old new : ClientValue) (frame : Parts) (result : Result Step Fault) (since : Since) → old.failed ≡ failed → Fits old since → ComesUnless failed old frame result new
@@ -327,14 +322,10 @@ told-by out.Apdu link old new answer since idle whole fits h =
     (takes_told old.stage (with_link old link) new answer since whole (subst (λ (failed : Option Fault). FitsUnless failed old.stage old.blocks old.sent since) whole fits) h)
 told-by out.Down link old new answer since idle whole fits h = absurd (down_none old.stage (with_link old link) new answer h)
 
-told-to : (ours : Bool) (old new : ClientValue) (frame : Parts) (answer : Answer) (since : Since) → old.failed ≡ None → Fits old since → ComesTo ours old frame (Ok (step.Answered answer)) new → IsTold old.stage since (handed_to ours old frame) answer new
-told-to true old new frame answer since whole fits h =
-    told-by (client_step old.link (inward frame)).1 (client_step old.link (inward frame)).0 old new answer since (apdu_idle old.link (inward frame)) whole fits h
-told-to false old new frame answer since whole fits h = absurd (passed_none old new answer h)
-
 told-while : (waits : Option Parts) (old new : ClientValue) (frame : Parts) (answer : Answer) (since : Since) → old.failed ≡ None → Fits old since → ComesWhile waits old frame (Ok (step.Answered answer)) new
     → IsTold old.stage since (handed_while waits old frame) answer new
-told-while (Some waits) old new frame answer since whole fits h = told-to (is_ours old.plan frame) old new frame answer since whole fits h
+told-while (Some waits) old new frame answer since whole fits h =
+    told-by (client_step old.link frame).1 (client_step old.link frame).0 old new answer since (apdu_idle old.link frame) whole fits h
 told-while None old new frame answer since whole fits h = absurd (passed_none old new answer h)
 
 told-unless : (failed : Option Fault) (old new : ClientValue) (frame : Parts) (answer : Answer) (since : Since) → old.failed ≡ failed → Fits old since → ComesUnless failed old frame (Ok (step.Answered answer)) new

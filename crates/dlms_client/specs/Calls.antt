@@ -12,12 +12,10 @@ use Rattle.dlms_blocks.specs.declared.block.TheConstants.{LEAST_SIZE}
 use Rattle.dlms_blocks.specs.declared.put_out.TheConstants.{PUT_HEAD}
 use Rattle.dlms_data.specs.Writing.{canonical}
 use Rattle.dlms_frame.specs.Frame.{Parts}
-use Rattle.dlms_frame.specs.declared.client.Client.TheVariants.{Public}
 use Rattle.dlms_headend.specs.Asking.{next_bytes}
-use Rattle.dlms_link.specs.Client.{ClientRecord, IsIdle, fresh_client, snrm_of, disc_of, client_connect, client_disconnect, client_send, client_step, client_timeout}
+use Rattle.dlms_link.specs.Client.{ClientRecord, IsIdle, fresh_between, snrm_of, disc_of, client_connect, client_disconnect, client_send, client_step, client_timeout}
 use Rattle.dlms_link.specs.declared.out.ClientOut.{ClientOut}
 use Rattle.dlms_link.specs.declared.out.ClientOut.TheVariants as out
-use Rattle.dlms_client.specs.Addresses.{outward, inward, is_ours}
 use Rattle.dlms_client.specs.Association.{association_bytes, granted_at, released_at}
 use Rattle.dlms_client.specs.ClientValue.{ClientValue}
 use Rattle.dlms_client.specs.Hearing.{Hears}
@@ -44,7 +42,7 @@ no_grant = record { conformance = record { 0 = 0 }; size = 0 }
 abbrev pub fresh : PlanValue → ClientValue
 fresh plan = record {
   plan = plan;
-  link = fresh_client Public;
+  link = fresh_between plan.sap plan.server;
   stage = Closed;
   failed = None;
   granted = no_grant;
@@ -71,18 +69,18 @@ pub record IsPassedOver (old : ClientValue) (result : Result Step Fault) (new : 
 -- an APDU goes out, on a link that awaits nothing; then this is awaited
 pub record Sends (at : ClientValue) (apdu : List ℕ) (stage : Stage) (frame : Parts)
     (new : ClientValue) : Type 0 where
-  pub goes_out : frame ≡ outward at.plan (client_send at.link apdu).1
+  pub goes_out : frame ≡ (client_send at.link apdu).1
   pub after : new ≡ record at { link = (client_send at.link apdu).0; stage = stage }
 
 -- the link's end is asked for
 pub record Leaves (at : ClientValue) (frame : Parts) (new : ClientValue) : Type 0 where
-  pub goes_out : frame ≡ outward at.plan (disc_of at.link)
+  pub goes_out : frame ≡ disc_of at.link
   pub after : new ≡ record at { link = client_disconnect at.link; stage = Leaving }
 
 -- ---- the first frame
 
 abbrev pub BeginsAt : Stage → ClientValue → Option Parts → ClientValue → Type 0
-BeginsAt Closed old result new = (result ≡ Some (outward old.plan (snrm_of old.link)))
+BeginsAt Closed old result new = (result ≡ Some (snrm_of old.link))
     × (new ≡ record old { link = client_connect old.link; stage = Associating })
 BeginsAt Associating old result new = (result ≡ None) × (new ≡ old)
 BeginsAt Free old result new = (result ≡ None) × (new ≡ old)
@@ -187,22 +185,16 @@ abbrev pub ComesBy : ClientOut → ClientRecord → ClientValue → Result Step 
 ComesBy out.Nothing link old result new = IsPassedOver old result new
 ComesBy out.Up link old result new = (frame : Parts) × (result ≡ Ok (step.Send frame))
     × Sends (with_link old link) (association_bytes old.plan) Associating frame new
-ComesBy (out.Send frame) link old result new = (result ≡ Ok (step.Send (outward old.plan frame)))
+ComesBy (out.Send frame) link old result new = (result ≡ Ok (step.Send frame))
     × (new ≡ with_link old link)
 ComesBy out.Apdu link old result new = TakesAt old.stage (with_link old link) result new
 ComesBy out.Down link old result new = GoesDownAt old.stage (with_link old link) result new
 
--- a frame of others is passed over
-abbrev pub ComesTo : Bool → ClientValue → Parts → Result Step Fault → ClientValue → Type 0
-ComesTo true old frame result new =
-    ComesBy (client_step old.link (inward frame)).1
-    (client_step old.link (inward frame)).0 old result new
-ComesTo false old frame result new = IsPassedOver old result new
-
--- and so is each, while nothing is awaited
+-- while nothing is awaited a frame is ignored
 abbrev pub ComesWhile : Option Parts → ClientValue → Parts → Result Step Fault → ClientValue
     → Type 0
-ComesWhile (Some waits) old frame result new = ComesTo (is_ours old.plan frame) old frame result new
+ComesWhile (Some waits) old frame result new = ComesBy (client_step old.link frame).1
+    (client_step old.link frame).0 old result new
 ComesWhile None old frame result new = IsPassedOver old result new
 
 -- after a fault it is the same fault again
@@ -218,8 +210,7 @@ Comes old frame result new = ComesUnless old.failed old frame result new
 
 abbrev pub TimesOutBy : ClientRecord × Option Parts → ClientValue → Result Parts Fault → ClientValue
     → Type 0
-TimesOutBy (link, Some frame) old result new = (result ≡ Ok (outward old.plan frame))
-    × (new ≡ with_link old link)
+TimesOutBy (link, Some frame) old result new = (result ≡ Ok frame) × (new ≡ with_link old link)
 TimesOutBy (link, None) old result new = HasFailed (with_link old link) Line result new
 
 abbrev pub TimesOutUnless : Option Fault → ClientValue → Result Parts Fault → ClientValue → Type 0

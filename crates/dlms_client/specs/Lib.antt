@@ -1,5 +1,4 @@
 pub mod Plan
-pub mod Addresses
 pub mod Association
 pub mod Hearing
 pub mod ClientValue

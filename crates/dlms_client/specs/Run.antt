@@ -7,7 +7,6 @@ use Rattle.dlms_frame.specs.Frame.{Parts}
 use Rattle.dlms_link.specs.Client.{ClientRecord, client_step}
 use Rattle.dlms_link.specs.declared.out.ClientOut.{ClientOut}
 use Rattle.dlms_link.specs.declared.out.ClientOut.TheVariants as out
-use Rattle.dlms_client.specs.Addresses.{inward, is_ours}
 use Rattle.dlms_client.specs.Calls.{fresh, Begins, Comes, TimesOut, CanTimeOut, IsFree, Asks, Releases, Leaves, long_value}
 use Rattle.dlms_client.specs.ClientValue.{ClientValue}
 use Rattle.dlms_client.specs.Plan.{PlanValue}
@@ -58,13 +57,9 @@ handed_by (out.Send frame) link = []
 handed_by out.Apdu link = link.apdu ∷ []
 handed_by out.Down link = []
 
-abbrev pub handed_to : Bool → ClientValue → Parts → List (List ℕ)
-handed_to true c frame = handed_by (client_step c.link (inward frame)).1
-    (client_step c.link (inward frame)).0
-handed_to false c frame = []
-
 abbrev pub handed_while : Option Parts → ClientValue → Parts → List (List ℕ)
-handed_while (Some waits) c frame = handed_to (is_ours c.plan frame) c frame
+handed_while (Some waits) c frame = handed_by (client_step c.link frame).1
+    (client_step c.link frame).0
 handed_while None c frame = []
 
 abbrev pub handed_unless : Option Fault → ClientValue → Parts → List (List ℕ)

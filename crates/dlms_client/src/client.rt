@@ -7,15 +7,13 @@ ghost use Rattle.dlms_apdu.specs.Writing.{RequestFits, SelectorFits, ParameterFi
 ghost use Rattle.dlms_data.specs.View.{value_of};
 ghost use Rattle.dlms_blocks.specs.BlockView.{view_of};
 ghost use Rattle.dlms_data.specs.Writing.{Fits, canonical};
-ghost use Rattle.dlms_link.specs.Client.{IsIdle, IsDown, client_step};
-ghost use Rattle.dlms_client.specs.Addresses.{inward};
+ghost use Rattle.dlms_link.specs.Client.{IsIdle, IsDown, IsSentBy, client_step};
 ghost use Rattle.dlms_client.specs.Association.{association_bytes, granted_at, released_at};
 ghost use Rattle.dlms_client.specs.Calls.{fresh, with_link, Begins, Comes, ComesBy, HasFailed, OpensBy, ReleasesBy, TakesAt, GoesDownAt, GoesOn, AsksMore, HasNext, Starts, most_bytes, Sends, Leaves, TimesOut, CanTimeOut, IsFree, Asks, Releases};
 ghost use Rattle.dlms_client.specs.Plan.{IsPlan, plan_of};
 ghost use Rattle.dlms_client.specs.declared.stage.Asked.TheVariants.{Get, Set, Action};
 ghost use Rattle.dlms_client.specs.declared.stage.Stage.TheVariants.{Closed, Associating, Asking};
 
-use crate::addresses::{inward, is_ours, outward};
 use crate::ask_fault::AskFault;
 use crate::association::{association, granted, released};
 use crate::fault::Fault;
@@ -66,10 +64,11 @@ impl<A: Allocator + Copy> Client<A> {
         requires { IsPlan (plan_of plan) }
         ensures { result ≡ fresh (plan_of plan) }
     {
+        let link = ClientLink::between(plan.sap, plan.server);
         Client {
             alloc,
             plan,
-            link: ClientLink::new(dlms_frame::Client::Public),
+            link,
             stage: Stage::Closed,
             failed: None,
             granted: Granted {
@@ -90,9 +89,8 @@ impl<A: Allocator + Copy> Client<A> {
         }
         match self.stage {
             Stage::Closed => {
-                let frame = self.link.connect();
                 self.stage = Stage::Associating;
-                Some(outward(&self.plan, frame))
+                Some(self.link.connect())
             }
             _ => None,
         }
@@ -106,13 +104,13 @@ impl<A: Allocator + Copy> Client<A> {
         if let Some(fault) = self.failed {
             return Err(fault);
         }
-        if !self.link.is_waiting() || !is_ours(&self.plan, frame) {
+        if !self.link.is_waiting() {
             return Ok(Step::Nothing);
         }
-        self.hears(&inward(frame))
+        self.hears(frame)
     }
 
-    /// A frame of the plan's meter, with the addresses that the link knows.
+    /// A frame, while one of the client's own is out.
     fn hears(&mut self, frame: &Frame<'_>) -> Result<Step, Fault>
         requires whole { self.old.failed ≡ None }
         requires waits { IsSome self.old.link.waits }
@@ -125,7 +123,7 @@ impl<A: Allocator + Copy> Client<A> {
                 let request = association(&self.plan);
                 Ok(Step::Send(self.send(Stage::Associating, request.as_slice())))
             }
-            ClientOut::Send(frame) => Ok(Step::Send(outward(&self.plan, frame))),
+            ClientOut::Send(frame) => Ok(Step::Send(frame)),
             ClientOut::Apdu => self.take(),
             ClientOut::Down => self.down(),
         }
@@ -139,8 +137,7 @@ impl<A: Allocator + Copy> Client<A> {
         ensures { Sends self.old apdu.now stage result self.new }
     {
         self.stage = stage;
-        let frame = self.link.send(apdu);
-        outward(&self.plan, frame)
+        self.link.send(apdu)
     }
 
     /// It is over, for good.
@@ -251,8 +248,7 @@ impl<A: Allocator + Copy> Client<A> {
         ensures { Leaves self.old result self.new }
     {
         self.stage = Stage::Leaving;
-        let frame = self.link.disconnect();
-        outward(&self.plan, frame)
+        self.link.disconnect()
     }
 
     /// The link went down.
@@ -273,13 +269,14 @@ impl<A: Allocator + Copy> Client<A> {
     /// fault again.
     pub fn timeout(&mut self) -> Result<SentFrame, Fault>
         requires { CanTimeOut self.old }
-        ensures { TimesOut self.old result self.new }
+        ensures out { TimesOut self.old result self.new }
+        ensures sent { IfOk result (IsSentBy self.old.link.own self.old.link.server) }
     {
         if let Some(fault) = self.failed {
             return Err(fault);
         }
         match self.link.timeout() {
-            Ok(frame) => Ok(outward(&self.plan, frame)),
+            Ok(frame) => Ok(frame),
             Err(_) => {
                 self.failed = Some(Fault::Line);
                 Err(Fault::Line)

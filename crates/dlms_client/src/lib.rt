@@ -1,7 +1,6 @@
 //! One association with any meter, over the client's link.
 #![tactic(auto)]
 
-mod addresses;
 mod answer;
 mod ask_fault;
 mod association;

@@ -2,6 +2,7 @@ pub mod Numbers
 pub mod Reading
 pub mod Joining
 pub mod Rows
+pub mod PairLemmas
 pub mod Sound
 pub mod Steps
 pub mod InStep

@@ -3,16 +3,17 @@ use Rattle.std.proofs.Common.{◌≡◌, ◌≢◌, ℕ, ◌<◌, ◌==◌, if�
 use Rattle.std.proofs.lemmas.Bool.Decides.{nat_tests}
 use Rattle.dlms_frame.specs.Client.{sap_of}
 use Rattle.dlms_frame.specs.declared.client.Client.{Client}
-use Rattle.dlms_frame.specs.declared.frame.Address.TheVariants.{One}
+use Rattle.dlms_frame.specs.declared.frame.Address.{Address}
+use Rattle.dlms_frame.specs.declared.frame.Address.TheVariants.{One, Two, Four}
 use Rattle.dlms_frame.specs.Frame.{Parts}
 use Rattle.dlms_link.specs.declared.control.Control.TheVariants.{Information, Ready}
 use Rattle.dlms_link.specs.Octet.{control_of, information_octet, ready_octet, before}
 use Rattle.dlms_link.specs.Kept.{is_more}
 use Rattle.dlms_link.specs.Parameters.{size_of}
-use Rattle.dlms_link.specs.Server.{fresh_server, ServerRecord, row_of, to_client, was_information}
+use Rattle.dlms_link.specs.Server.{fresh_server, ServerRecord, row_of, was_information}
 use Rattle.dlms_link.specs.declared.server_row.ServerRow.{ServerRow}
 use Rattle.dlms_link.specs.declared.server_row.ServerRow.TheVariants.{Connects, Refuses, Disconnects, Keeps, HandsUp, Repeats, SendsNext}
-use Rattle.dlms_link.specs.Client.{ClientRecord, to_meter, way_of, is_answer}
+use Rattle.dlms_link.specs.Client.{ClientRecord, same_address, to_meter, way_of, is_answer}
 use Rattle.dlms_link.specs.declared.client_row.ClientRow.TheVariants.{Takes, LetsNext}
 use Rattle.dlms_link.proofs.Numbers.{control_of-information, control_of-ready, before_differs}
 
@@ -49,6 +50,11 @@ module _ (r : ServerRecord) (info : List ℕ) (segmented : Bool) where
       let here : (n == before r.send_next) ≡ true = grind (arith, nat_tests) in
       rw (same (sap_of r.client), up, control_of-ready n hn, apart, here, was) refl
 
+same_address-refl : (a : Address) → same_address a a ≡ true
+same_address-refl (One a) = same a
+same_address-refl (Two a b) = rw (same a, same b) refl
+same_address-refl (Four a b) = rw (same a, same b) refl
+
 either : (b : Bool) (x : ServerRow) → (if b then x else x) ≡ x
 either true x = refl
 either false x = refl
@@ -78,9 +84,9 @@ unfolding row_of
 ready_refused who n hn = (rw (same (sap_of who), control_of-ready n hn) refl, refl)
 
 module _ (c : ClientRecord) where
-  pub is_answer-to_client : (octet : ℕ) (segmented : Bool) (info : List ℕ) → is_answer c (to_client c.client (One 1) octet segmented info) ≡ true
+  pub is_answer-to_client : (octet : ℕ) (segmented : Bool) (info : List ℕ) → is_answer c (record { segmented = segmented; dest = One c.own; src = c.server; control = octet; info = info }) ≡ true
   unfolding is_answer
-  is_answer-to_client octet segmented info = rw (same (sap_of c.client)) refl
+  is_answer-to_client octet segmented info = rw (same c.own, same_address-refl c.server) refl
 
   pub way_of-expected : (s n : ℕ) → c.receive_next ≡ s → c.send_next ≡ n → way_of c (Information s n) ≡ Takes
   unfolding way_of

@@ -1,5 +1,6 @@
 -- The states that a run of both ends can reach.
 use Rattle.std.proofs.Common.{◌≡◌, ℕ, ◌<◌, ◌≤◌, ap, true, false, Bool, cond, List, [], ◌∷◌, ◌++◌, length, Option, None, Some}
+use Rattle.dlms_frame.specs.Client.{sap_of}
 use Rattle.dlms_frame.specs.declared.client.Client.{Client}
 use Rattle.dlms_frame.specs.declared.frame.Address.TheVariants.{One}
 use Rattle.dlms_frame.specs.Frame.{Parts}
@@ -21,7 +22,7 @@ abbrev pub server_at : Client → ℕ → ℕ → Answer → Bool → Kept → L
 server_at who n s last took k ap u size = record { client = who; up = true; send_next = n; receive_next = s; last = last; took_information = took; kept = k; apdu = ap; unsent = u; size = size; waits = None }
 
 abbrev pub client_at : Client → Phase → ℕ → ℕ → Option Parts → ℕ → Kept → List ℕ → List ℕ → ClientRecord
-client_at who phase s n waits t k x u = record { client = who; phase = phase; send_next = s; receive_next = n; waits = waits; repeats = t; kept = k; apdu = x; unsent = u }
+client_at who phase s n waits t k x u = record { own = sap_of who; server = One 1; phase = phase; send_next = s; receive_next = n; waits = waits; repeats = t; kept = k; apdu = x; unsent = u }
 
 -- the meter's end of this client's link, in any state
 abbrev pub at : Client → ServerRecord → ServerRecord

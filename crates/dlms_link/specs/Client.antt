@@ -15,12 +15,13 @@ use Rattle.dlms_link.specs.declared.client_row.ClientRow.{ClientRow}
 use Rattle.dlms_link.specs.declared.client_row.ClientRow.TheVariants.{Takes, TakenBefore, LetsNext, Leaves}
 use Rattle.dlms_link.specs.Octet.{control_of, information_octet, ready_octet, next, before}
 use Rattle.dlms_link.specs.Kept.{Kept, Fresh, Good, TooLong, BadStart, kept_after, llc, from_client, from_meter, is_more}
-use Rattle.dlms_link.specs.Server.{is_client}
 use Rattle.dlms_link.specs.declared.control.TheConstants.{SNRM, DISC}
 use Rattle.dlms_link.specs.declared.segments.TheConstants.{MOST_BYTES}
 
 pub record ClientRecord : Type 0 where
-  pub client : Client
+  -- the client's own service access point, and the address of its meter
+  pub own : ℕ
+  pub server : Address
   pub phase : Phase
   pub send_next : ℕ
   pub receive_next : ℕ
@@ -32,9 +33,11 @@ pub record ClientRecord : Type 0 where
   pub apdu : List ℕ
   pub unsent : List ℕ
 
-abbrev pub fresh_client : Client → ClientRecord
-fresh_client who = record {
-  client = who;
+-- a link of this client to the meter at this address
+abbrev pub fresh_between : ℕ → Address → ClientRecord
+fresh_between own server = record {
+  own = own;
+  server = server;
   phase = Closed;
   send_next = 0;
   receive_next = 0;
@@ -45,15 +48,28 @@ fresh_client who = record {
   unsent = [];
 }
 
--- a frame to the meter
-abbrev pub to_meter : Client → ℕ → Bool → List ℕ → Parts
-to_meter who octet segmented info = record {
+-- a link of one of this project's clients to this project's meter
+abbrev pub fresh_client : Client → ClientRecord
+fresh_client who = fresh_between (sap_of who) (One 1)
+
+-- a frame from this client to the meter at this address
+abbrev pub to_server : ℕ → Address → ℕ → Bool → List ℕ → Parts
+to_server own server octet segmented info = record {
   segmented = segmented;
-  dest = One 1;
-  src = One (sap_of who);
+  dest = server;
+  src = One own;
   control = octet;
   info = info;
 }
+
+-- such a frame, whatever it contains
+pub record IsSentBy (own : ℕ) (server : Address) (f : Parts) : Type 0 where
+  pub from : f.src ≡ One own
+  pub to : f.dest ≡ server
+
+-- a frame of one of this project's clients to this project's meter
+abbrev pub to_meter : Client → ℕ → Bool → List ℕ → Parts
+to_meter who octet segmented info = to_server (sap_of who) (One 1) octet segmented info
 
 -- no link
 abbrev pub closed : ClientRecord → ClientRecord
@@ -83,10 +99,10 @@ abbrev pub out : ClientRecord → Parts → ClientRecord
 out c f = record c { waits = Some f; repeats = 0 }
 
 abbrev pub snrm_of : ClientRecord → Parts
-snrm_of c = to_meter c.client SNRM false []
+snrm_of c = to_server c.own c.server SNRM false []
 
 abbrev pub disc_of : ClientRecord → Parts
-disc_of c = to_meter c.client DISC false []
+disc_of c = to_server c.own c.server DISC false []
 
 abbrev pub client_connect : ClientRecord → ClientRecord
 client_connect c = record (out c (snrm_of c)) { phase = Connecting }
@@ -96,7 +112,7 @@ client_disconnect c = record (out c (disc_of c)) { phase = Closing }
 
 -- the next unsent segment as an I
 abbrev pub client_segment : ClientRecord → Parts
-client_segment c = to_meter c.client (information_octet c.send_next c.receive_next)
+client_segment c = to_server c.own c.server (information_octet c.send_next c.receive_next)
     (is_more (drop MOST_BYTES c.unsent)) (take MOST_BYTES c.unsent)
 
 abbrev pub after_client_segment : ClientRecord → ClientRecord
@@ -117,7 +133,7 @@ client_send c apdu = (
 
 -- receive-ready, with the number that is expected
 abbrev pub client_ready : ClientRecord → Parts
-client_ready c = to_meter c.client (ready_octet c.receive_next) false []
+client_ready c = to_server c.own c.server (ready_octet c.receive_next) false []
 
 -- an I that is taken: if it is a segment, the client sends RR
 abbrev pub takes : ClientRecord → Bool → Kept → ClientRecord × ClientOut
@@ -180,13 +196,15 @@ on_control c f Disc = (c, Nothing)
 on_control c f NotReady = (c, Nothing)
 on_control c f Other = (c, Nothing)
 
-abbrev pub is_server : Address → Bool
-is_server (One upper) = upper == 1
-is_server (Two upper lower) = false
-is_server (Four upper lower) = false
+abbrev pub same_address : Address → Address → Bool
+same_address (One a) (One b) = a == b
+same_address (Two a b) (Two c d) = (a == c) && (b == d)
+same_address (Four a b) (Four c d) = (a == c) && (b == d)
+same_address _ _ = false
 
+-- a frame is for exactly this client, and from exactly its meter
 unfoldable pub is_answer : ClientRecord → Parts → Bool
-is_answer c f = is_client c.client f.dest && is_server f.src
+is_answer c f = same_address f.dest (One c.own) && same_address f.src c.server
 
 -- a frame comes: the rules of the client's link
 abbrev pub client_step : ClientRecord → Parts → ClientRecord × ClientOut

@@ -5,6 +5,7 @@ pub mod Parameters
 pub mod Server
 pub mod ServerView
 pub mod Client
+pub mod Readdressing
 pub mod ClientView
 pub mod World
 pub mod Segments

@@ -9,7 +9,7 @@ use Rattle.dlms_link.specs.declared.out.LinkOut.TheVariants.{Nothing, Reply, Apd
 use Rattle.dlms_link.specs.declared.out.ClientOut.{ClientOut}
 use Rattle.dlms_link.specs.declared.out.ClientOut.TheVariants.{Nothing as NothingTaken, Up as IsUp, Send, Apdu as ApduTaken, Down as IsDown}
 use Rattle.dlms_link.specs.Server.{ServerRecord, fresh_server, server_on, server_send}
-use Rattle.dlms_link.specs.Client.{ClientRecord, fresh_client, client_connect, client_disconnect, client_send, client_step, client_timeout, snrm_of, disc_of}
+use Rattle.dlms_link.specs.Client.{ClientRecord, fresh_between, fresh_client, client_connect, client_disconnect, client_send, client_step, client_timeout, snrm_of, disc_of}
 use Rattle.dlms_link.specs.declared.kept.TheConstants.{MOST_APDU}
 
 pub record LinkWorld : Type 0 where
@@ -150,7 +150,7 @@ intrudes w frame answer Open = w
 intrudes w frame answer Closing = w
 
 abbrev pub takes_over : LinkWorld → List Parts → List Parts → LinkWorld
-takes_over w [] [] = record w { client = fresh_client w.client.client }
+takes_over w [] [] = record w { client = fresh_between w.client.own w.client.server }
 takes_over w [] (g ∷ down) = w
 takes_over w (g ∷ up) down = w
 

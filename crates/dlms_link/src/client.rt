@@ -1,8 +1,10 @@
 //! The client's end of the link: one frame is out, and then it waits.
 
-ghost use Rattle.std.specs.Prelude.{◌≡◌, ◌≤◌, ◌<◌, ℕ, ◌↔◌, IsTrue, IsOk, IsSome, Some, IfOk, OnOk, OnErr, List, length, take, drop, MatchResult};
-ghost use Rattle.dlms_link.specs.Client.{IsDown, IsIdle, StandsAfter, fresh_client, to_meter, client_connect, client_disconnect, client_send, client_step, client_timeout, client_segment, after_client_segment, client_ready, snrm_of, disc_of, closed, connected, out, way_of, is_answer, is_server, takes, by_way, on_counted};
-ghost use Rattle.dlms_link.specs.Server.{is_client};
+ghost use Rattle.std.specs.Prelude.{◌≡◌, ◌≢◌, ◌≤◌, ◌<◌, ℕ, ◌↔◌, IsTrue, IsOk, IsSome, Some, IfOk, OnOk, OnErr, List, length, take, drop, MatchResult};
+ghost use Rattle.dlms_link.specs.Client.{IsDown, IsIdle, StandsAfter, IsSentBy, fresh_between, fresh_client, to_server, client_connect, client_disconnect, client_send, client_step, client_timeout, client_segment, after_client_segment, client_ready, snrm_of, disc_of, closed, connected, out, way_of, is_answer, same_address, takes, by_way, on_counted};
+ghost use Rattle.dlms_frame.specs.Frame.{IsAddress};
+ghost use Rattle.dlms_link.specs.declared.out.ClientOut.TheVariants.{Up};
+ghost use Rattle.dlms_link.specs.declared.phase.Phase.TheVariants.{Connecting};
 
 use crate::client_row::ClientRow;
 use crate::control::{Control, DISC, SNRM, before, information_octet, next, read, ready_octet};
@@ -10,7 +12,6 @@ use crate::kept::{Assembly, DESTINATION, FROM_CLIENT, FROM_METER, MOST_APDU, Pro
 use crate::out::ClientOut;
 use crate::phase::Phase;
 use crate::segments::{MOST_BYTES, cut};
-use crate::server::is_client;
 use arrayvec::ArrayVec;
 use dlms_frame::{Address, Client, Frame, SentFrame};
 use std::marker::Model;
@@ -22,7 +23,8 @@ pub struct LineFault;
 /// The client's end of the link.
 #[derive(Drop)]
 pub struct ClientLink {
-    client: Client,
+    own: u8,
+    server: Address,
     phase: Phase,
     send_next: u8,
     receive_next: u8,
@@ -45,27 +47,35 @@ impl Model for ClientLink {
     ghost invariant = { IsInRange };
 }
 
-/// A frame to the meter.
-fn to_meter(client: Client, control: u8, segmented: bool, bytes: &[u8]) -> SentFrame
-    requires { length bytes.now ≤ MOST_BYTES }
-    ensures { result ≡ to_meter client control segmented bytes.now }
+/// Whether two addresses are the same.
+fn same_address(first: Address, second: Address) -> bool
+    ensures { result ≡ same_address first second }
 {
-    SentFrame::new(
-        segmented,
-        Address::One(1),
-        Address::One(client.sap()),
-        control,
-        bytes,
-    )
+    match (first, second) {
+        (Address::One(a), Address::One(b)) => a == b,
+        (Address::Two(a, b), Address::Two(c, d)) => a == c && b == d,
+        (Address::Four(a, b), Address::Four(c, d)) => a == c && b == d,
+        _ => false,
+    }
 }
 
 impl ClientLink {
-    /// The end of this client, closed.
+    /// A closed link of this project's client to this project's meter.
     pub fn new(client: Client) -> Self
         ensures { result ≡ fresh_client client }
     {
+        ClientLink::between(client.sap(), Address::One(1))
+    }
+
+    /// A closed link from the client with this service access point to the meter at this address.
+    pub fn between(own: u8, server: Address) -> Self
+        requires own { own < 128 }
+        requires server { IsAddress server }
+        ensures { result ≡ fresh_between own server }
+    {
         ClientLink {
-            client,
+            own,
+            server,
             phase: Phase::Closed,
             send_next: 0,
             receive_next: 0,
@@ -75,6 +85,20 @@ impl ClientLink {
             apdu: ArrayVec::new(),
             unsent: ArrayVec::new(),
         }
+    }
+
+    /// A frame to the meter.
+    fn frame(&self, control: u8, segmented: bool, bytes: &[u8]) -> SentFrame
+        requires { length bytes.now ≤ MOST_BYTES }
+        ensures { result ≡ to_server self.now.own self.now.server control segmented bytes.now }
+    {
+        SentFrame::new(
+            segmented,
+            self.server,
+            Address::One(self.own),
+            control,
+            bytes,
+        )
     }
 
     /// The last APDU that was handed up.
@@ -112,7 +136,7 @@ impl ClientLink {
         ensures frame { result ≡ snrm_of self.old }
         ensures after { self.new ≡ client_connect self.old }
     {
-        let frame = to_meter(self.client, SNRM, false, &[]);
+        let frame = self.frame(SNRM, false, &[]);
         self.phase = Phase::Connecting;
         self.goes_out(&frame);
         frame
@@ -124,7 +148,7 @@ impl ClientLink {
         ensures frame { result ≡ disc_of self.old }
         ensures after { self.new ≡ client_disconnect self.old }
     {
-        let frame = to_meter(self.client, DISC, false, &[]);
+        let frame = self.frame(DISC, false, &[]);
         self.phase = Phase::Closing;
         self.goes_out(&frame);
         frame
@@ -153,7 +177,9 @@ impl ClientLink {
         ensures after { self.new ≡ (client_timeout self.old).0 }
         ensures counts { IsOk result ↔ (self.old.repeats < 3) }
         ensures again { IfOk result (λ f. self.old.waits ≡ Some f) }
+        ensures sent { IfOk result (IsSentBy self.old.own self.old.server) }
         ensures waiting { OnOk result (self.new.waits ≡ self.old.waits) }
+        ensures phase { OnOk result (self.new.phase ≡ self.old.phase) }
         ensures down { OnErr result (IsDown self.new) }
     {
         if self.repeats < 3 {
@@ -172,7 +198,8 @@ impl ClientLink {
         ensures out { result ≡ (client_step self.old frame.now).1 }
         ensures after { self.new ≡ (client_step self.old frame.now).0 }
         ensures stands { StandsAfter self.old result self.new }
-        ensures client { self.new.client ≡ self.old.client }
+        ensures comes_up { result ≡ Up → self.old.phase ≡ Connecting }
+        ensures addresses { (self.new.own ≡ self.old.own) × (self.new.server ≡ self.old.server) }
     {
         if !self.is_answer(frame) {
             return ClientOut::Nothing;
@@ -204,7 +231,7 @@ impl ClientLink {
     fn is_answer(&self, frame: &Frame<'_>) -> bool
         ensures { result ≡ is_answer self.now frame.now }
     {
-        is_client(self.client, frame.dest) && is_server(frame.src)
+        same_address(frame.dest, Address::One(self.own)) && same_address(frame.src, self.server)
     }
 
     /// How an open link handles an I or an RR.
@@ -235,6 +262,7 @@ impl ClientLink {
 
     fn by_way(&mut self, frame: &Frame<'_>, way: ClientRow) -> ClientOut
         ensures out { result ≡ (by_way self.old frame.now way).1 }
+        ensures stays { result ≢ Up }
         ensures after { self.new ≡ (by_way self.old frame.now way).0 }
     {
         match way {
@@ -251,6 +279,7 @@ impl ClientLink {
     /// A segment of an answer was kept.
     fn takes(&mut self, segmented: bool) -> ClientOut
         ensures out { result ≡ (takes self.old segmented self.old.kept).1 }
+        ensures stays { result ≢ Up }
         ensures after { self.new ≡ (takes self.old segmented self.old.kept).0 }
     {
         match self.kept.progress() {
@@ -280,8 +309,7 @@ impl ClientLink {
         ensures after { self.new ≡ after_client_segment self.old }
     {
         let (front, more) = cut(&mut self.unsent, MOST_BYTES);
-        let frame = to_meter(
-            self.client,
+        let frame = self.frame(
             information_octet(self.send_next, self.receive_next),
             more,
             front.as_slice(),
@@ -296,13 +324,14 @@ impl ClientLink {
         ensures frame { result ≡ client_ready self.old }
         ensures after { self.new ≡ out self.old (client_ready self.old) }
     {
-        let frame = to_meter(self.client, ready_octet(self.receive_next), false, &[]);
+        let frame = self.frame(ready_octet(self.receive_next), false, &[]);
         self.goes_out(&frame);
         frame
     }
 
     /// The frame is out.
     fn goes_out(&mut self, frame: &SentFrame)
+        requires { IsSentBy self.old.own self.old.server frame.now }
         ensures { self.new ≡ out self.old frame.now }
     {
         self.waits = Some(frame.copy());
@@ -320,16 +349,5 @@ impl ClientLink {
         self.repeats = 0;
         self.kept = Assembly::new();
         self.unsent.clear();
-    }
-}
-
-/// Whether an address is the meter's, as it answers this client.
-fn is_server(address: Address) -> bool
-    ensures { result ≡ is_server address }
-{
-    match address {
-        Address::One(upper) => upper == 1,
-        Address::Two(_, _) => false,
-        Address::Four(_, _) => false,
     }
 }

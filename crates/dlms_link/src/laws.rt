@@ -6,6 +6,7 @@ ghost use Rattle.dlms_link.specs.declared.server_row.ServerRow.TheVariants.{Hand
 ghost use Rattle.dlms_link.specs.declared.client_row.ClientRow.TheVariants.{Takes};
 ghost use Rattle.dlms_link.specs.Kept.{Fresh, BadStart, llc, from_meter, from_client, capped, apdu_of};
 ghost use Rattle.dlms_link.specs.Parameters.{Parameter, IsInformation, greatest_received, capped_size, size_of};
+ghost use Rattle.dlms_link.specs.Readdressing.{AddressesAreFree, Pair};
 ghost use Rattle.dlms_link.specs.Segments.{joined, kept_after_all, read_whole, IsSegmented, IsUnderWay};
 ghost use Rattle.dlms_link.specs.Between.{MeterGoes, GoesOn, BeginsAnew, IsAnew, IsByWay, Heard, ClientGoes, ClientGoesOn, ClientBeginsAnew, IsAnewForClient, client_hears};
 ghost use Rattle.dlms_frame.specs.Frame.{Parts};
@@ -34,6 +35,12 @@ pub fn the_line()
     ensures comes_up { ApdusComeUp }
     ensures silent { LineIsSilent }
     ensures one_frame { OneFrameAtMost }
+{}
+
+/// Between any two addresses a client's link does what it does between any others: it takes only the frames that its meter sends to
+/// it, and its own frames differ in their addresses alone.
+pub fn addresses_are_free()
+    ensures { (pair : Pair) (c : ClientRecord) → AddressesAreFree pair c }
 {}
 
 /// An APDU that is handed up and the answer that is sent for it are one row of the meter's table.

@@ -56,7 +56,7 @@ fn is_meter(address: Address) -> bool
 }
 
 /// Whether an address is this client's.
-pub(crate) fn is_client(client: Client, address: Address) -> bool
+fn is_client(client: Client, address: Address) -> bool
     ensures { result ≡ is_client client address }
 {
     match address {
