@@ -2,7 +2,7 @@ use Rattle.std.proofs.Common.{◌≡◌, false, sym, ◌∙◌, ap, Err}
 use Rattle.dlms_acse.specs.Reading.{is_longer}
 use Rattle.dlms_acse.proofs.Takes.{octets_within}
 use Rattle.dlms_acse.proofs.Shared.{ok_here, err_here, longer_here}
-use Rattle.dlms_acse.proofs.fields.counted.Goals as goal
+use Rattle.dlms_acse.proofs.fields.take_content.Goals as goal
 
 pub returns-then-is_longer-clause-exact : goal.returns-then-is_longer-clause-exact
 returns-then-is_longer-clause-exact c = longer_here c.args.most c.args.bytes.now (sym c.is_longer.ensures ∙ c.if-is_longer.true)

@@ -1,4 +1,4 @@
--- `loosened` hands the pointer back, where there is one. Assumes `Logic`.
+-- `take_kept` hands the pointer back, where there is one. Assumes `Logic`.
 use Rattle.std.proofs.Common.{◌≡◌, List, [], ◌∷◌, ◌++◌, refl, sym, ap, ◌∙◌, subst, lit<}
 use mathlib.Core.Bool.{Bool, true, false}
 use mir.Val.{Val, vptr, vcons, vnil}
@@ -34,10 +34,10 @@ use Rattle.dlms_c.proofs.Values.{al, both, Loose, loose_good, loose_in}
 use Rattle.dlms_c.proofs.PollerValues.{word, word_good, handle_out, either_kept}
 use Rattle.dlms_c.specs.contracts.kept_poller.KeptPoller.{the_row as kept_row}
 use Rattle.dlms_c.specs.contracts.poller_handle.PollerHandle as handle
-use Rattle.dlms_c.specs.contracts.poller_handle.loosened.{ended, clauses}
-use Rattle.dlms_c.specs.contracts.poller_handle.loosened.Key.{name as #self}
-use Rattle.dlms_c.proofs.poller_handle.loosened.Statement.{statement}
-use Rattle.dlms_c.proofs.poller_handle.loosened.Code as code
+use Rattle.dlms_c.specs.contracts.poller_handle.take_kept.{ended, clauses}
+use Rattle.dlms_c.specs.contracts.poller_handle.take_kept.Key.{name as #self}
+use Rattle.dlms_c.proofs.poller_handle.take_kept.Statement.{statement}
+use Rattle.dlms_c.proofs.poller_handle.take_kept.Code as code
 
 abbrev Z : RattleType
 Z = heap.the_row
@@ -48,8 +48,8 @@ Lr = Loose kept_row Z heap_laws.the_row_laws ghosts
 abbrev stayed : Stays ended.signature.params ended.kept
 stayed = (stay_dropped (plain (λ _. handle.the_row)) yes, (stay_dropped (plain (λ _. Z)) yes, tt))
 
-pub loosened_spec : {M : Type 1} → statement M
-loosened_spec 𝓤 𝓛 𝓜 𝓡 wired =
+pub take_kept_spec : {M : Type 1} → statement M
+take_kept_spec 𝓤 𝓛 𝓜 𝓡 wired =
     let H = 𝓛.H in let 𝓣 = tables 𝓤 H 𝓜 𝓡 𝓡.env in let c = clauses 𝓛 𝓜.mem 𝓡.returns in
     proved_at 𝓛 ended stayed c 𝓜 𝓡 (Goes-dropped 𝓛 0 (plain (λ _. handle.the_row)) yes (λ κs x f. refl), (Goes-dropped 𝓛 0 (plain (λ _. Z)) yes (λ κs x f. refl), tt)) #self code.function (code.unfolded 𝓤 H 𝓜 𝓡 wired) (λ z are.
     let Post : Val → SProp 𝓤 = (walk_of 𝓛 ended stayed c).post z in let Run : List Val → SProp 𝓤 = λ ws. WpFn 𝓤 H 𝓣.C 𝓣.Λ code.function ws Post in let Out : RattleType = type_at ended.signature.result z.0.0 in

@@ -4,7 +4,7 @@ use Rattle.dlms_data.specs.View.{values_of}
 use Rattle.dlms_headend.specs.declared.poll_fault.PollFault.TheVariants.{Memory}
 use Rattle.dlms_headend.specs.Rows.{IsReading, NoRows}
 use Rattle.dlms_headend.proofs.Values.{rows_more, no_rows-at, passed_on, filled, values_some}
-use Rattle.dlms_headend.proofs.buffer.collected.Goals as goal
+use Rattle.dlms_headend.proofs.buffer.collect_rows.Goals as goal
 
 pub loop-value-preserved : goal.loop-value-preserved
 loop-value-preserved g c =

@@ -1,7 +1,7 @@
 use Rattle.dlms_data.specs.View.{value_of}
 use Rattle.dlms_headend.specs.Rows.{NoEncoding}
 use Rattle.dlms_headend.proofs.Values.{encoded_ok, encoded_err, none_encoded, passed_on}
-use Rattle.dlms_headend.proofs.buffer.encoded.Goals as goal
+use Rattle.dlms_headend.proofs.buffer.read_rows.Goals as goal
 
 pub returns-clause-ok : goal.returns-clause-ok
 returns-clause-ok g c = encoded_ok c.args.bytes.now (value_of c.in_ok-value.value) c.rows.result (λ rows. rows.items) c.in_ok-value.ensures.ok c.rows.ensures.ok

@@ -1,6 +1,6 @@
 use Rattle.std.proofs.Common.{◌≡◌, ◌-◌, ℕ, length, drop, replicate, refl, ap, ◌∙◌}
 use Rattle.std.proofs.lemmas.List.{drop-replicate}
-use Rattle.dlms_journal.proofs.page.joined.Goals as goal
+use Rattle.dlms_journal.proofs.page.join_page.Goals as goal
 
 pub returns : goal.returns
 returns c =

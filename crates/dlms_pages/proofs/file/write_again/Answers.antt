@@ -8,7 +8,7 @@ pub returns-in_err-write_slot : goal.returns-in_err-write_slot
 returns-in_err-write_slot g c =
     let asked = g.F.SlotFile.slots in
     with_fault _ _ _ c.from_residual.result c.from_residual.ensures.0
-    (until_page (asked c.args.file.now) (asked c.loop-index.file) (asked c.write_slot.new.self) c.args.pages.now c.loop-index.index c.in-Some.content c.sealed.result c.loop-index-test.true c.in-Some.is c.sealed.ensures c.loop-index.invariant c.in_err-write_slot.ensures)
+    (until_page (asked c.args.file.now) (asked c.loop-index.file) (asked c.write_slot.new.self) c.args.pages.now c.loop-index.index c.in-Some.content c.seal_slot.result c.loop-index-test.true c.in-Some.is c.seal_slot.ensures c.loop-index.invariant c.in_err-write_slot.ensures)
 
 pub loop-index-preserved : goal.loop-index-preserved
 loop-index-preserved g c =

@@ -1,6 +1,6 @@
 use Rattle.std.proofs.Common.{rules}
 use Rattle.dlms_pages.proofs.Slots.{slot_is, seal_is}
-use Rattle.dlms_pages.proofs.seal.opened.Goals as goal
+use Rattle.dlms_pages.proofs.seal.open_slot.Goals as goal
 
 pub returns-then-has_seal : goal.returns-then-has_seal
 returns-then-has_seal c =

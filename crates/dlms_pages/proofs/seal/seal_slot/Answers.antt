@@ -1,6 +1,6 @@
 use Rattle.std.proofs.Common.{◌∙◌, refl}
 use Rattle.dlms_pages.proofs.Slots.{seal_behind}
-use Rattle.dlms_pages.proofs.seal.sealed.Goals as goal
+use Rattle.dlms_pages.proofs.seal.seal_slot.Goals as goal
 
 pub returns : goal.returns
 returns c =

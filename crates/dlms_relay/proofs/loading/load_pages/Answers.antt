@@ -2,7 +2,7 @@ use Rattle.std.proofs.Common.{rules, arith, ◌≡◌, ◌<◌, ◌++◌, ◌∷
 use Rattle.dlms_pages.specs.Memory.{Passes, disk_of}
 use Rattle.dlms_pages.specs.declared.memory.Call.TheVariants.{Write}
 use Rattle.dlms_relay.proofs.LoadLemmas.{loads_more, room}
-use Rattle.dlms_relay.proofs.loading.loaded.Goals as goal
+use Rattle.dlms_relay.proofs.loading.load_pages.Goals as goal
 
 pub write-requires : goal.write-requires
 write-requires g c = omega (arith, room c.loop-index.pages, c.loop-index.invariant.counted, c.loop-index-test.true)

@@ -6,7 +6,7 @@ use Rattle.dlms_pages.proofs.file.FilePages.read_page.Goals as goal
 pub returns-in-Ok-true-clause-file : goal.returns-in-Ok-true-clause-file
 returns-in-Ok-true-clause-file g c = record {
   page = search rules;
-  slot = λ none. (Slot c.read_slot.new.slot, search rules, ap Ok (page_read c.args.index c.read_slot.new.slot c.opened.result c.read_slot.array_long c.opened.ensures), search rules);
+  slot = λ none. (Slot c.read_slot.new.slot, search rules, ap Ok (page_read c.args.index c.read_slot.new.slot c.open_slot.result c.read_slot.array_long c.open_slot.ensures), search rules);
   unsynced = search rules;
   behind = search rules;
   faults = search rules;

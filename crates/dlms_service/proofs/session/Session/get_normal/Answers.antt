@@ -21,4 +21,4 @@ pub returns-in-Err : goal.returns-in-Err
 returns-in-Err g c E is =
     let client : c.self.inside.client ≡ c.args.self.now.client = ap (λ (s : SessionValue). s.client) (c.self.view_is ∙ c.end_get.ensures) in
     refusing E c.args.self.now c.args.association c.args.invoke c.args.descriptor (option_map (λ s. selection_of s.now) c.args.selector) c.self.inside.client c.in-Err.refusal
-    c.end_get.new.self c.refused.new.answer.items client c.end_get.ensures c.refused.ensures (c.in-Err.ensures.refusal E is)
+    c.end_get.new.self c.put_refusal.new.answer.items client c.end_get.ensures c.put_refusal.ensures (c.in-Err.ensures.refusal E is)
