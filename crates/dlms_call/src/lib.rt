@@ -7,5 +7,5 @@ mod fault;
 mod kept;
 
 pub use asking::{act, begin, end, get, set};
-pub use client_end::{ClientEnd, ClientTurn, MOST_BYTES};
+pub use client_end::{ClientEnd, ClientTurn};
 pub use fault::CallFault;

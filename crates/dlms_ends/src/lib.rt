@@ -10,6 +10,6 @@ mod polling;
 
 pub use end::{End, Heard, PIECE, bytes_of, put};
 pub use fault::RunFault;
-pub use head_end::{HeadEnd, MOST_BYTES, PollTurn, dial};
-pub use meter_end::{Taken, answer};
+pub use head_end::{HeadEnd, PollTurn, dial};
+pub use meter_end::Taken;
 pub use polling::{TURNS, poll, poller};

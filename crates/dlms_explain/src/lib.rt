@@ -31,4 +31,4 @@ pub use explainer::{Explainer, write_apdu};
 pub use fault::ExplainFault;
 pub use layout::Layout;
 pub use names_text::write_code;
-pub use session::{Form, MOST_LINE, explain};
+pub use session::{Form, explain};

@@ -4,5 +4,4 @@
 mod showing;
 mod text;
 
-pub use showing::{Expected, MOST, first_other, shown_text, shows};
-pub use text::text_in;
+pub use showing::{Expected, first_other, shown_text};

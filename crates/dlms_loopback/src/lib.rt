@@ -5,4 +5,4 @@ mod rounds;
 mod socket;
 
 pub use rounds::loopback;
-pub use socket::{Joining, Line, Socket, ends, sockets};
+pub use socket::{Joining, Line, Socket, sockets};

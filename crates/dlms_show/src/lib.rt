@@ -13,6 +13,5 @@ mod state;
 mod words;
 
 pub use fault::ShowFault;
-pub use file::{Bytes, MOST_BYTES, bytes_of};
 pub use report::{Curve, write_report};
 pub use show::show_file;

@@ -13,10 +13,9 @@ mod value;
 mod walk;
 
 pub use decimal::append_decimal;
-pub use entry::{Entry, class_in, elements, entry_of, right_of, six};
+pub use entry::{Entry, class_in, entry_of, right_of};
 pub use fault::ValueFault;
 pub use json::{append_json, append_number, append_pairs, append_quoted};
-pub use kind::{Kind, kind_of};
 pub use name::{Name, name_of};
 pub use server::server_of;
 pub use value::value_of;
