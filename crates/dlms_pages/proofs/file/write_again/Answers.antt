@@ -15,7 +15,7 @@ loop-index-preserved g c =
     let asked = g.F.SlotFile.slots in
     elim c.match-pages-index.branch [
       | in-Some+in_ok-write_slot w ↦ subst (λ f. Asks (asked c.args.file.now) (asked f) (written_again 0 (take (c.loop-index.index + 1) c.args.pages.now))) (sym w.file-is)
-          (one_more_asked (asked c.args.file.now) (asked c.loop-index.file) (asked w.write_slot.new.self) c.args.pages.now c.loop-index.index w.in-Some.content w.sealed.result c.loop-index-test.true w.in-Some.is w.sealed.ensures c.loop-index.invariant w.in_ok-write_slot.ensures)
+          (one_more_asked (asked c.args.file.now) (asked c.loop-index.file) (asked w.write_slot.new.self) c.args.pages.now c.loop-index.index w.in-Some.content w.seal_slot.result c.loop-index-test.true w.in-Some.is w.seal_slot.ensures c.loop-index.invariant w.in_ok-write_slot.ensures)
       | in_default w ↦ subst (λ f. Asks (asked c.args.file.now) (asked f) (written_again 0 (take (c.loop-index.index + 1) c.args.pages.now))) (sym w.file-is)
           (still_asked (asked c.args.file.now) (asked c.loop-index.file) c.args.pages.now c.loop-index.index c.loop-index-test.true w.in_default.is c.loop-index.invariant)
     ]
