@@ -8,7 +8,7 @@ use Rattle.dlms_wrapper.specs.declared.fault.HeaderFault.TheVariants.{Version, T
 use Rattle.dlms_wrapper.specs.Message.{Begins, IsHeader, IsAccepted, IsMessage, Parts, RefusesHeader, header_bytes, header_of, message_bytes}
 use Rattle.dlms_wrapper.specs.Stream.{HasNoMessage, IsRefused, IsRefusedFor, IsWhole, StopsAt}
 
--- two octets are one number
+-- two octets spell one number
 number : (m n : ℕ) → m / 256 ≡ n / 256 → m % 256 ≡ n % 256 → m ≡ n
 number m n high low = omega arith
 
@@ -18,7 +18,7 @@ head_is x y xs ys e = (cc, cc)
 abbrev pub header : ℕ → ℕ → ℕ → ℕ → Header
 header a b c d = record { version = a; source = b; dest = c; len = d }
 
--- octets have one header
+-- octets begin with one header at most
 pub one_header : (h g : Header) (xs ys : List ℕ) → header_bytes h ++ xs ≡ header_bytes g ++ ys → (h ≡ g) × (xs ≡ ys)
 one_header h g xs ys e =
     let a = head_is _ _ _ _ e in
@@ -41,7 +41,7 @@ begins_one bytes h g a b = (one_header h g (drop 8 bytes) (drop 8 bytes) (sym a.
 pub begins_of : (bytes xs : List ℕ) (h : Header) → IsHeader h → bytes ≡ header_bytes h ++ xs → Begins bytes h
 begins_of bytes xs h fits e = record { fits = fits; text = e ∙ ap (λ t. header_bytes h ++ t) (sym (ap (λ t. drop 8 t) e)) }
 
--- what begins so goes on so
+-- a header at the front stays there when more octets follow
 pub begins_more : (bytes more : List ℕ) (h : Header) → Begins bytes h → Begins (bytes ++ more) h
 begins_more bytes more h a = begins_of (bytes ++ more) (drop 8 bytes ++ more) h a.fits (ap (λ t. t ++ more) a.text)
 
@@ -81,9 +81,9 @@ one_message m n after rest e =
 pub length-message : (m : Parts) → length (message_bytes m) ≡ 8 + length m.apdu
 length-message m = grind arith
 
--- ---- what a reader decides
+-- ---- whether octets begin with a message
 
--- octets with a accepted header, and fewer than it says, begin with no message
+-- octets that are fewer than their accepted header announces begin with no message
 pub none_when_short : (limit : ℕ) (bytes : List ℕ) → limit ≤ 1024 → ((h : Header) → Begins bytes h → IsAccepted limit h → length bytes < 8 + h.len) → HasNoMessage limit bytes
 none_when_short limit bytes small short m after fits e =
     let less = short (header_of m) (message_begins limit m bytes after small fits e) (header_accepted limit m fits) in
@@ -106,7 +106,7 @@ whole_is limit bytes h whole =
     let same : h ≡ header_of (parts h.source h.dest (drop 8 bytes)) = ap (λ n. header n h.source h.dest h.len) accepted.version ∙ ap (λ n. header 1 h.source h.dest n) (sym rest) in
     (begins.text ∙ ap (λ g. header_bytes g ++ drop 8 bytes) same, record { source = begins.fits.source; dest = begins.fits.dest; short = omega (arith, rest, accepted.short) })
 
--- octets that begin with no message are fewer than their accepted header says
+-- octets that begin with no message are fewer than their accepted header announces
 pub no_message_short : (limit : ℕ) (bytes : List ℕ) (h : Header) → HasNoMessage limit bytes → Begins bytes h → IsAccepted limit h → length bytes < 8 + h.len
 no_message_short limit bytes h none begins accepted = elim (cases_lt (length bytes) (8 + h.len)) [ inl lt ↦ lt | inr ge ↦ absurd (too_many ge) ]
   where
@@ -120,7 +120,7 @@ no_message_short limit bytes h none begins accepted = elim (cases_lt (length byt
         let rest : drop 8 bytes ≡ m.apdu ++ drop h.len (drop 8 bytes) = sym (take-append-drop h.len (drop 8 bytes)) in
         none m (drop h.len (drop 8 bytes)) fits (begins.text ∙ (ap (λ g. header_bytes g ++ drop 8 bytes) same ∙ ap (λ t. header_bytes (header_of m) ++ t) rest))
 
--- so many octets more as the header says are no more than it says
+-- the rest of the message that the header announces is not more than it announces
 pub stops_at : (limit : ℕ) (kept : List ℕ) (g : Header) → Begins kept g → length kept ≤ 8 + g.len → StopsAt limit kept (8 + g.len - length kept)
 stops_at limit kept g begins within more h few there accepted =
     let same : h ≡ g = begins_one (kept ++ more) h g there (begins_more kept more g begins) in

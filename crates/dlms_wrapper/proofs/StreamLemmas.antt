@@ -1,4 +1,4 @@
--- One list of messages, whatever the cutting.
+-- A stream has one list of messages, however it is cut into pieces.
 use Rattle.std.proofs.Common.{◌≡◌, ℕ, List, [], ◌∷◌, ◌++◌, refl, sym, ap, subst, ◌∙◌, append_assoc, arith, Option, Some, None, All}
 use Rattle.std.proofs.lemmas.List.{append-nil}
 use Rattle.std.proofs.lemmas.List.Elements.{All-cons, All-head, All-tail}
@@ -50,7 +50,7 @@ one_list limit stream (m ∷ ms) (n ∷ ns) rest left a b =
     let others = one_list limit (stream_of ms ++ rest) ms ns rest left (record { text = refl; each = All-tail (IsMessage limit) m ms a.each; partial = a.partial }) (record { text = front.1; each = All-tail (IsMessage limit) n ns b.each; partial = b.partial }) in
     (ap (λ x. x ∷ ms) front.0 ∙ ap (λ xs. n ∷ xs) others.0, others.1)
 
--- ---- what is written is read again
+-- ---- written messages are read again
 
 pub written_again : (limit : ℕ) (ms : List Parts) (calls : List Call) (new : List ℕ) → All (IsMessage limit) ms → Feeds limit [] calls new → bytes_of calls ≡ stream_of ms → (messages_of calls ≡ ms) × (new ≡ [])
 written_again limit ms calls new each fed e =

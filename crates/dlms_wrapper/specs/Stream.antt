@@ -1,4 +1,4 @@
--- The messages of a stream: one after another, and then less than a whole one.
+-- The messages of a stream, one after another, and the rest, which begins with no whole message.
 use Rattle.std.specs.Prelude.{◌≡◌, ℕ, ◌+◌, ◌≤◌, List, [], ◌∷◌, ◌++◌, length, Option, Some, None, All}
 use Rattle.std.specs.List.{flat_map, filter_map}
 use Rattle.dlms_wrapper.specs.declared.fault.HeaderFault.{HeaderFault}
@@ -25,7 +25,7 @@ pub record IsRefusedFor (limit : ℕ) (bytes : List ℕ) (why : HeaderFault) : T
   pub begins : Begins bytes header
   pub refused : RefusesHeader limit header why
 
--- the stream is these messages, and then less than a whole message
+-- the stream is these messages, and a rest that begins with no whole message
 pub record Splits (limit : ℕ) (stream : List ℕ) (ms : List Parts) (rest : List ℕ) : Type 0 where
   pub text : stream ≡ stream_of ms ++ rest
   pub each : All (IsMessage limit) ms

@@ -7,7 +7,7 @@ use thiserror::Error;
 #[derive(Clone, Copy, Debug, PartialEq, Eq, Error)]
 pub enum HeaderFault {
     /// The header has this version in place of 1.
-    #[error("version {0} of the wrapper, where only version 1 is known")]
+    #[error("version {0} of the wrapper; only version 1 is known")]
     Version(u16),
     /// The header announces an APDU of `len` octets, which is more than the `limit` that the caller set.
     #[error("an APDU of {len} octets, above the limit of {limit}")]

@@ -60,6 +60,9 @@ fn streams_are_read_in_any_pieces(rt: HostRuntime) -> Result<(), Fail> {
     assert_eq!(rt; short.feed(&BOTH), 8);
     assert!(rt; short.fault() == Some(HeaderFault::TooLong { len: 31, limit: 30 }));
     assert_eq!(rt; short.feed(&BOTH), 0);
+    let mut other = MessageReader::new(MOST_APDU);
+    assert_eq!(rt; other.feed(&OTHER), 8);
+    assert!(rt; other.fault() == Some(HeaderFault::Version(2)));
     Ok(())
 }
 
@@ -84,7 +87,7 @@ fn datagrams_are_read_or_refused(rt: HostRuntime) -> Result<(), Fail> {
             &OTHER,
             31,
             Some(DatagramFault::Header(HeaderFault::Version(2))),
-            "version 2 of the wrapper, where only version 1 is known",
+            "version 2 of the wrapper; only version 1 is known",
         ),
         (
             &BOTH[..39],
