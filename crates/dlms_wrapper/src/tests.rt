@@ -1,5 +1,6 @@
-//! Messages of an independent source, the examples of the DLMS UA Green Book: the AARQ of the lowest security level from the public
-//! client (wPort 0x0010) to the management logical device (wPort 0x0001), and the AARE that answers it.
+//! Messages with the APDUs of an independent source, the examples of the DLMS UA Green Book: the AARQ of the lowest security level
+//! from the public client (wPort 0x0010) to the management logical device (wPort 0x0001), in the wrapper; and an AARE that answers
+//! it, whose header is the AARQ's with the ports swapped and its own length.
 
 use crate::fault::{DatagramFault, HeaderFault};
 use crate::message::{MOST_APDU, Message};
