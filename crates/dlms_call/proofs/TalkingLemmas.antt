@@ -6,10 +6,10 @@ use Rattle.std.proofs.lemmas.Bool.{cases_lt, false≢true}
 use Rattle.dlms_apdu.specs.Forms.{RequestForm}
 use Rattle.dlms_client.specs.Calls.{Asks, CanTimeOut, Comes, Leaves, TimesOut}
 use Rattle.dlms_client.specs.ClientValue.{ClientValue}
-use Rattle.dlms_client.specs.declared.ask_fault.AskFault.{AskFault}
-use Rattle.dlms_client.specs.declared.fault.Fault.{Fault}
-use Rattle.dlms_client.specs.declared.fault.Fault.TheVariants as fault
-use Rattle.dlms_client.specs.declared.stage.Asked.{Asked}
+use Rattle.dlms_association.specs.declared.ask_fault.AskFault.{AskFault}
+use Rattle.dlms_association.specs.declared.fault.Fault.{Fault}
+use Rattle.dlms_association.specs.declared.fault.Fault.TheVariants as fault
+use Rattle.dlms_association.specs.declared.stage.Asked.{Asked}
 use Rattle.dlms_client.specs.declared.step.Step.{Step}
 use Rattle.dlms_client.specs.declared.step.Step.TheVariants as step
 use Rattle.dlms_frame.specs.Frame.{Parts, spelling}

@@ -3,11 +3,11 @@ use Rattle.std.specs.Prelude.{◌≡◌, ◌<◌, ◌≤◌, ◌+◌, ℕ, List,
 use Rattle.dlms_apdu.specs.Forms.{RequestForm}
 use Rattle.dlms_client.specs.Calls.{Asks, Begins, Leaves}
 use Rattle.dlms_client.specs.ClientValue.{ClientValue}
-use Rattle.dlms_client.specs.declared.answer.Answer.{Answer}
-use Rattle.dlms_client.specs.declared.ask_fault.AskFault.{AskFault}
-use Rattle.dlms_client.specs.declared.ask_fault.AskFault.TheVariants as ask
-use Rattle.dlms_client.specs.declared.fault.Fault.TheVariants as fault
-use Rattle.dlms_client.specs.declared.stage.Asked.{Asked}
+use Rattle.dlms_association.specs.declared.answer.Answer.{Answer}
+use Rattle.dlms_association.specs.declared.ask_fault.AskFault.{AskFault}
+use Rattle.dlms_association.specs.declared.ask_fault.AskFault.TheVariants as ask
+use Rattle.dlms_association.specs.declared.fault.Fault.TheVariants as fault
+use Rattle.dlms_association.specs.declared.stage.Asked.{Asked}
 use Rattle.dlms_frame.specs.Frame.{Parts, spelling}
 use Rattle.dlms_ends.specs.Moments.{Moment, Adds, Breaks}
 use Rattle.dlms_ends.specs.Moments.Moment.{Went}
@@ -22,7 +22,7 @@ use Rattle.dlms_call.specs.declared.fault.CallFault.TheVariants.{Talk, TooLarge,
 
 -- how many octets of a value have come
 abbrev pub joined_in : TalkWorld → ℕ
-joined_in t = length t.client.blocks.joined
+joined_in t = length t.client.association.blocks.joined
 
 -- A turn after which no more octets of a value have come than allowed, with its outcome; or more have, and the value is reported as
 -- too large; or the turn failed.

@@ -5,8 +5,8 @@ use Rattle.std.specs.declared.io.Error.{Error}
 use Rattle.std.specs.declared.io.ErrorKind.TheVariants.{OutOfMemory}
 use Rattle.dlms_client.specs.Calls.{CanTimeOut, Comes, TimesOut}
 use Rattle.dlms_client.specs.ClientValue.{ClientValue}
-use Rattle.dlms_client.specs.declared.fault.Fault.{Fault}
-use Rattle.dlms_client.specs.declared.fault.Fault.TheVariants as fault
+use Rattle.dlms_association.specs.declared.fault.Fault.{Fault}
+use Rattle.dlms_association.specs.declared.fault.Fault.TheVariants as fault
 use Rattle.dlms_client.specs.declared.step.Step.{Step}
 use Rattle.dlms_client.specs.declared.step.Step.TheVariants as step
 use Rattle.dlms_frame.specs.Frame.{Parts, spelling}

@@ -7,8 +7,8 @@ ghost use Rattle.dlms_apdu.specs.View.{selection_of};
 ghost use Rattle.dlms_apdu.specs.Writing.{ParameterFits, SelectorFits};
 ghost use Rattle.dlms_client.specs.Calls.{Asks, Begins, CanTimeOut, Comes, IsFree, Leaves, TimesOut, fresh};
 ghost use Rattle.dlms_client.specs.Plan.{IsPlan, plan_of};
-ghost use Rattle.dlms_client.specs.declared.requests.TheConstants.{INVOKE};
-ghost use Rattle.dlms_client.specs.declared.stage.Asked.TheVariants.{Action, Get, Set};
+ghost use Rattle.dlms_association.specs.declared.requests.TheConstants.{INVOKE};
+ghost use Rattle.dlms_association.specs.declared.stage.Asked.TheVariants.{Action, Get, Set};
 ghost use Rattle.dlms_data.specs.View.{value_of};
 ghost use Rattle.dlms_data.specs.Writing.{Fits as FitsData};
 
@@ -173,7 +173,7 @@ impl<A: Allocator + Copy> KeptClient<A> {
     }
 
     pub fn value(&self) -> &[u8]
-        ensures { result.now ≡ self.now.blocks.joined }
+        ensures { result.now ≡ self.now.association.blocks.joined }
     {
         self.client.value()
     }

@@ -1,7 +1,7 @@
 -- The answer that a link awaits.
-use Rattle.std.proofs.Common.{◌≡◌, refl, subst, Bool, true, false, if◌then◌else◌, None, IsSome}
+use Rattle.std.proofs.Common.{◌≡◌, refl, Bool, true, false, if◌then◌else◌}
 use Rattle.dlms_frame.specs.Frame.{Parts}
-use Rattle.dlms_link.specs.Client.{ClientRecord, IsDown, IsIdle, client_step, on_control, on_counted, on_ua, by_way, takes, way_of, is_answer}
+use Rattle.dlms_link.specs.Client.{ClientRecord, IsIdle, client_step, on_control, on_counted, on_ua, by_way, takes, way_of, is_answer}
 use Rattle.dlms_link.specs.Kept.{Kept, Fresh, Good, TooLong, BadStart, kept_after, from_meter}
 use Rattle.dlms_link.specs.Octet.{control_of}
 use Rattle.dlms_link.specs.declared.client_row.ClientRow.{ClientRow}
@@ -12,10 +12,6 @@ use Rattle.dlms_link.specs.declared.out.ClientOut.{ClientOut}
 use Rattle.dlms_link.specs.declared.out.ClientOut.TheVariants as out
 use Rattle.dlms_link.specs.declared.phase.Phase.{Phase}
 use Rattle.dlms_link.specs.declared.phase.Phase.TheVariants.{Closed, Connecting, Open, Closing}
-
--- a link that is down awaits nothing
-pub never_closed : (c : ClientRecord) → IsSome c.waits → IsDown c → ⊥
-never_closed c h down = let none : IsSome {T = Parts} None = subst IsSome down.1 h in cc
 
 -- ---- behind an APDU that is handed up, nothing is awaited
 

@@ -1,4 +1,2 @@
 pub mod Idle
-pub mod Taken
-pub mod SaidLemmas
 pub mod Running

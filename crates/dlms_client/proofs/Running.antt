@@ -1,352 +1,195 @@
--- The calls of a client: what was joined is what came since its request.
-use Rattle.std.proofs.Common.{◌≡◌, ◌∙◌, refl, sym, ap, subst, inl, inr, ℕ, ◌+◌, ◌-◌, ◌==◌, IfSome, if◌then◌else◌, List, [], ◌∷◌, ◌++◌, append-nil, Bool, true, false, Option, Some, None, Result, Ok, Err}
+-- A run of a client is a run of its association.
+use Rattle.std.proofs.Common.{◌≡◌, ◌∙◌, refl, sym, ap, subst, ℕ, List, [], ◌∷◌, ◌++◌, append-nil, Option, Some, None, Result, Ok, Err, Bool, true, false}
 use Rattle.dlms_apdu.specs.Forms.{RequestForm}
-use Rattle.dlms_blocks.specs.Block.{BlockValue, is_last}
-use Rattle.dlms_blocks.specs.Going.{Going, beginning, answer, after}
-use Rattle.dlms_blocks.specs.declared.put_out.TheConstants.{PUT_HEAD}
-use Rattle.dlms_blocks.specs.Joining.{Joining, empty}
+use Rattle.dlms_association.specs.AssociationValue.{AssociationValue}
+use Rattle.dlms_association.specs.Calls.{Takes}
+use Rattle.dlms_association.specs.Run.{Call as Inner, Open, Take, Ask as AskOf, Release as ReleaseOf, Close, Break, Runs as RunsOf, Since, since_after as since_after_of, IsCall as IsCallOf, asked_of, nothing_yet, taken_at, taken_unless, IsAnswered as IsAnsweredOf}
+use Rattle.dlms_association.specs.Saying.{Says}
+use Rattle.dlms_association.specs.declared.answer.Answer.{Answer}
+use Rattle.dlms_association.specs.declared.ask_fault.AskFault.{AskFault}
+use Rattle.dlms_association.specs.declared.fault.Fault.{Fault}
+use Rattle.dlms_association.specs.declared.fault.Fault.TheVariants.{Down as WentDown, Line}
+use Rattle.dlms_association.specs.declared.stage.Stage.{Stage}
+use Rattle.dlms_association.specs.declared.stage.Stage.TheVariants.{Asking}
+use Rattle.dlms_association.specs.declared.step.Step.{Step as Made}
+use Rattle.dlms_association.specs.declared.step.Step.TheVariants as given
+use Rattle.dlms_association.proofs.Running.{answers_are_said as answers_of, blocks_are_of_the_request as blocks_of}
 use Rattle.dlms_frame.specs.Frame.{Parts}
-use Rattle.dlms_headend.specs.Asking.{next_bytes}
 use Rattle.dlms_link.specs.Client.{ClientRecord, IsIdle, client_step, client_timeout}
 use Rattle.dlms_link.specs.declared.out.ClientOut.{ClientOut}
 use Rattle.dlms_link.specs.declared.out.ClientOut.TheVariants as out
-use Rattle.dlms_client.specs.Association.{granted_at, released_at}
-use Rattle.dlms_client.specs.Calls.{with_link, fresh, HasFailed, IsPassedOver, BeginsAt, BeginsBy, OpensBy, ReleasesBy, Sends, GivesBlock, GivesNext, next_of_set, next_of_action, AsksMore, emptied, long_value, most_bytes, GoesOn, TakesAt, GoesDownAt, ComesBy, ComesWhile, ComesUnless, TimesOutBy, TimesOutUnless, IsFree, Asks}
+use Rattle.dlms_client.specs.Calls.{Begins, BreaksOver, Carries, ComesBy, ComesUnless, ComesWhile, Follows, GoesDown, IsFree, OpensOver, TakesOver, TimesOutBy, TimesOutUnless, fresh}
 use Rattle.dlms_client.specs.ClientValue.{ClientValue}
-use Rattle.dlms_client.specs.Hearing.{Hears}
-use Rattle.dlms_client.specs.Run.{Call, Next, On, Timeout, Ask, Release, Disconnect, asked_of, IsCall, handed_by, handed_while, handed_unless, handed, Since, nothing_yet, since_after, Runs, AnswersAreSaid, IsOfTheRequest, BlocksAreOfTheRequest}
-use Rattle.dlms_client.specs.Saying.{Says}
-use Rattle.dlms_client.specs.declared.answer.Answer.{Answer}
-use Rattle.dlms_client.specs.declared.ask_fault.AskFault.{AskFault}
-use Rattle.dlms_client.specs.declared.ask_fault.AskFault.TheVariants.{TooLong, Memory}
-use Rattle.dlms_client.specs.declared.fault.Fault.{Fault}
-use Rattle.dlms_client.specs.declared.granted.Granted.{Granted}
-use Rattle.dlms_client.specs.declared.hearing.Heard.{Heard}
-use Rattle.dlms_client.specs.declared.hearing.Heard.TheVariants.{More, Told}
-use Rattle.dlms_client.specs.declared.stage.Asked.{Asked}
-use Rattle.dlms_client.specs.declared.stage.Asked.TheVariants.{Get, Set, Action}
-use Rattle.dlms_client.specs.declared.stage.Stage.{Stage}
-use Rattle.dlms_client.specs.declared.stage.Stage.TheVariants.{Closed, Associating, Free, Asking, Releasing, Leaving}
+use Rattle.dlms_client.specs.Plan.{PlanValue, terms_in}
+use Rattle.dlms_client.specs.Run.{AnswersAreSaid, BlocksAreOfTheRequest, Call, Next, On, Timeout, Ask, Release, Disconnect, IsAnswered, IsCall, Runs, handed, handed_by, handed_unless, handed_while, since_after}
 use Rattle.dlms_client.specs.declared.step.Step.{Step}
 use Rattle.dlms_client.specs.declared.step.Step.TheVariants as step
-use Rattle.dlms_client.proofs.SaidLemmas.{AreOf, said, more_came}
 use Rattle.dlms_client.proofs.Idle.{apdu_idle}
 
--- the blocks that were joined are those that came since the request
-record HasJoined (asked : Asked) (blocks : Joining) (sent : Option Going) (since : Since) : Type 0 where
-  form : RequestForm
-  request : since.request ≡ Some form
-  same : asked ≡ asked_of form
-  come : AreOf asked since.taken blocks
-  goes : IfSome sent (λ going. long_value form ≡ Some going.encoding)
+-- some calls of the association lead from here to there
+record Leads (old : AssociationValue) (since : Since) (new : AssociationValue) (now : Since) : Type 0 where
+  calls : List Inner
+  runs : RunsOf old since calls new now
 
-abbrev FitsAt : Stage → Joining → Option Going → Since → Type 0
-FitsAt (Asking asked) blocks sent since = HasJoined asked blocks sent since
-FitsAt Closed blocks sent since = Unit {0}
-FitsAt Associating blocks sent since = Unit {0}
-FitsAt Free blocks sent since = Unit {0}
-FitsAt Releasing blocks sent since = Unit {0}
-FitsAt Leaving blocks sent since = Unit {0}
+runs_append : (xs ys : List Inner) (a b c : AssociationValue) (r s t : Since) → RunsOf a r xs b s → RunsOf b s ys c t → RunsOf a r (xs ++ ys) c t
+runs_append [] ys a b c r s t h k = subst (λ (x : Since). RunsOf a x ys c t) h.1 (subst (λ (x : AssociationValue). RunsOf x s ys c t) h.0 k)
+runs_append (x ∷ xs) ys a b c r s t h k = (h.0, h.1, runs_append xs ys h.0 b c (since_after_of a x r) s t h.2 k)
 
-abbrev FitsUnless : Option Fault → Stage → Joining → Option Going → Since → Type 0
-FitsUnless None stage blocks sent since = FitsAt stage blocks sent since
-FitsUnless (Some fault) stage blocks sent since = Unit {0}
+then_leads : (a b c : AssociationValue) (r s t : Since) → Leads a r b s → Leads b s c t → Leads a r c t
+then_leads a b c r s t h k = record { calls = h.calls ++ k.calls; runs = runs_append h.calls k.calls a b c r s t h.runs k.runs }
 
-abbrev Fits : ClientValue → Since → Type 0
-Fits c since = FitsUnless c.failed c.stage c.blocks c.sent since
+stays : (old new : AssociationValue) (since : Since) → new ≡ old → Leads old since new since
+stays old new since e = record { calls = []; runs = (e, refl) }
 
--- a client after which it still fits
-fits_at : (c d : ClientValue) (since : Since) → c ≡ d → Fits d since → Fits c since
-fits_at c d since e h = subst (λ (x : ClientValue). Fits x since) (sym e) h
+by_one : (old mid new : AssociationValue) (since now : Since) (call : Inner) → IsCallOf old call mid → new ≡ mid → now ≡ since_after_of old call since → Leads old since new now
+by_one old mid new since now call is e n = record { calls = call ∷ []; runs = (mid, is, (e, n)) }
 
--- nothing was taken
-same_since : (c : ClientValue) (since : Since) → Fits c since → Fits c (record since { taken = since.taken ++ [] })
-same_since c since h = subst (λ (l : List (List ℕ)). Fits c (record since { taken = l })) (sym (append-nil since.taken)) h
+none_more : (since : Since) → record since { taken = since.taken ++ [] } ≡ since
+none_more since = ap (λ (l : List (List ℕ)). let s : Since = record { request = since.request; taken = l } in s) (append-nil since.taken)
 
-failed_fits : {X : Type 0} (at new : ClientValue) (fault : Fault) (result : Result X Fault) (since : Since) → HasFailed at fault result new → Fits new since
-failed_fits at new fault result since h = fits_at new (record at { failed = Some fault }) since h.after tt
-
-free_fits : (failed : Option Fault) (blocks : Joining) (sent : Option Going) (since : Since) → FitsUnless failed Free blocks sent since
-free_fits None blocks sent since = tt
-free_fits (Some fault) blocks sent since = tt
-
-leaving_fits : (failed : Option Fault) (blocks : Joining) (sent : Option Going) (since : Since) → FitsUnless failed Leaving blocks sent since
-leaving_fits None blocks sent since = tt
-leaving_fits (Some fault) blocks sent since = tt
-
-releasing_fits : (failed : Option Fault) (blocks : Joining) (sent : Option Going) (since : Since) → FitsUnless failed Releasing blocks sent since
-releasing_fits None blocks sent since = tt
-releasing_fits (Some fault) blocks sent since = tt
-
-associating_fits : (failed : Option Fault) (blocks : Joining) (sent : Option Going) (since : Since) → FitsUnless failed Associating blocks sent since
-associating_fits None blocks sent since = tt
-associating_fits (Some fault) blocks sent since = tt
-
-closed_fits : (failed : Option Fault) (blocks : Joining) (sent : Option Going) (since : Since) → FitsUnless failed Closed blocks sent since
-closed_fits None blocks sent since = tt
-closed_fits (Some fault) blocks sent since = tt
-
--- ---- an APDU
-
-opens_fits : (granted : Result Granted Fault) (at new : ClientValue) (result : Result Step Fault) (since : Since) → OpensBy granted at result new → Fits new since
-opens_fits (Ok granted) at new result since h = fits_at new (record at { stage = Free; granted = granted }) since h.1 (free_fits at.failed at.blocks at.sent since)
-opens_fits (Err fault) at new result since h = failed_fits at new fault result since h
-
-releases_fits : (released : Result (Unit {0}) Fault) (at new : ClientValue) (result : Result Step Fault) (since : Since) → ReleasesBy released at result new → Fits new since
-releases_fits (Ok u) at new result since h = fits_at new _ since h.2.after (leaving_fits at.failed at.blocks at.sent since)
-releases_fits (Err fault) at new result since h = failed_fits at new fault result since h
-
-sends_fit : (asked : Asked) (at new : ClientValue) (apdu : List ℕ) (frame : Parts) (since : Since) → at.failed ≡ None → HasJoined asked at.blocks at.sent since → Sends at apdu (Asking asked) frame new → Fits new since
-sends_fit asked at new apdu frame since whole joined s = fits_at new _ since s.after (subst (λ (failed : Option Fault). FitsUnless failed (Asking asked) at.blocks at.sent since) (sym whole) joined)
-
-gives_fits : (block : Result BlockValue ℕ) (spelled : BlockValue → List ℕ) (asked : Asked) (at new : ClientValue) (result : Result Step Fault) (since : Since) → at.failed ≡ None → HasJoined asked at.blocks at.sent since → GivesBlock block spelled asked at result new
-    → Fits new since
-gives_fits (Ok b) spelled asked at new result since whole joined h = sends_fit asked at new (spelled b) h.0 since whole joined h.2
-gives_fits (Err code) spelled asked at new result since whole joined h = failed_fits at new _ result since h
-
-after-by : (g : Going) (over same : Bool) (given : ℕ) (last : Bool) → (if over then g else if same then record g { given = given; over = last } else record g { over = true }).encoding ≡ g.encoding
-after-by g true same given last = refl
-after-by g false true given last = refl
-after-by g false false given last = refl
-
-same_encoding : (g : Going) (number : ℕ) → (after g number).encoding ≡ g.encoding
-same_encoding g number = after-by g g.over (number == g.given) (g.given + 1) (is_last g.encoding g.room (g.given + 1))
-
-goes_after : (sent : Option Going) (going : Going) (number : ℕ) (form : RequestForm) → sent ≡ Some going → IfSome sent (λ g. long_value form ≡ Some g.encoding) → long_value form ≡ Some (after going number).encoding
-goes_after sent going number form e h = subst (λ (o : Option Going). IfSome o (λ g. long_value form ≡ Some g.encoding)) e h ∙ ap (λ (bytes : List ℕ). Some bytes) (sym (same_encoding going number))
-
-next_fits : (sent : Option Going) (number : ℕ) (spelled : BlockValue → List ℕ) (asked : Asked) (at new : ClientValue) (result : Result Step Fault) (since : Since) → at.sent ≡ sent → at.failed ≡ None → HasJoined asked at.blocks at.sent since
-    → GivesNext sent number spelled asked at result new → Fits new since
-next_fits None number spelled asked at new result since same whole joined h = failed_fits at new _ result since h
-next_fits (Some going) number spelled asked at new result since same whole joined h =
-    let here : HasJoined asked at.blocks (Some (after going number)) since = record { form = joined.form; request = joined.request; same = joined.same; come = joined.come; goes = goes_after at.sent going number joined.form same joined.goes } in
-    gives_fits (answer going number) spelled asked (record at { sent = Some (after going number) }) new result since whole here h
-
-more_fits : (asked : Asked) (number : ℕ) (at new : ClientValue) (result : Result Step Fault) (since : Since) → at.failed ≡ None → HasJoined asked at.blocks at.sent since → AsksMore asked number at result new → Fits new since
-more_fits Get number at new result since whole joined h = sends_fit Get at new (next_bytes number) h.0 since whole joined h.2
-more_fits Set number at new result since whole joined h = next_fits at.sent number next_of_set Set at new result since refl whole joined h
-more_fits Action number at new result since whole joined h = next_fits at.sent number next_of_action Action at new result since refl whole joined h
-
-answers_fit : (heard : Result Heard Fault) (blocks : Joining) (asked : Asked) (at new : ClientValue) (result : Result Step Fault) (since : Since) → at.failed ≡ None → HasJoined asked at.blocks at.sent since → Hears asked at.blocks at.link.apdu heard blocks
-    → GoesOn heard asked (record at { blocks = blocks }) result new → Fits new (record since { taken = since.taken ++ at.link.apdu ∷ [] })
-answers_fit (Ok (More number)) blocks asked at new result since whole joined hears goes =
-    let here : HasJoined asked blocks at.sent (record since { taken = since.taken ++ at.link.apdu ∷ [] }) = record { form = joined.form; request = joined.request; same = joined.same; come = more_came asked since.taken at.link.apdu at.blocks blocks number joined.come hears; goes = joined.goes } in
-    more_fits asked number (record at { blocks = blocks }) new result _ whole here goes
-answers_fit (Ok (Told answer)) blocks asked at new result since whole joined hears goes = fits_at new _ _ goes.1 (free_fits at.failed blocks at.sent _)
-answers_fit (Err fault) blocks asked at new result since whole joined hears goes = failed_fits (record at { blocks = blocks }) new fault result _ goes
-
-takes_fits : (stage : Stage) (at new : ClientValue) (result : Result Step Fault) (since : Since) → at.failed ≡ None → FitsAt stage at.blocks at.sent since → TakesAt stage at result new → Fits new (record since { taken = since.taken ++ at.link.apdu ∷ [] })
-takes_fits Associating at new result since whole fits h = opens_fits (granted_at at.link.apdu) at new result _ h
-takes_fits (Asking asked) at new result since whole fits h = answers_fit h.0 h.1 asked at new result since whole fits h.2 h.3
-takes_fits Releasing at new result since whole fits h = releases_fits (released_at at.link.apdu) at new result _ h
-takes_fits Closed at new result since whole fits h = failed_fits at new _ result _ h
-takes_fits Free at new result since whole fits h = failed_fits at new _ result _ h
-takes_fits Leaving at new result since whole fits h = failed_fits at new _ result _ h
-
-down_fits : (stage : Stage) (at new : ClientValue) (result : Result Step Fault) (since : Since) → GoesDownAt stage at result new → Fits new since
-down_fits Leaving at new result since h = fits_at new (record at { stage = Closed }) since h.1 (closed_fits at.failed at.blocks at.sent since)
-down_fits Closed at new result since h = failed_fits at new _ result since h
-down_fits Associating at new result since h = failed_fits at new _ result since h
-down_fits Free at new result since h = failed_fits at new _ result since h
-down_fits (Asking asked) at new result since h = failed_fits at new _ result since h
-down_fits Releasing at new result since h = failed_fits at new _ result since h
+association_of : (a b : ClientValue) → a ≡ b → a.association ≡ b.association
+association_of a b e = ap (λ (v : ClientValue). v.association) e
 
 -- ---- a frame
 
-passed_fits : (old new : ClientValue) (result : Result Step Fault) (since : Since) → Fits old since → IsPassedOver old result new → Fits new (record since { taken = since.taken ++ [] })
-passed_fits old new result since fits h = same_since new since (fits_at new old since h.after fits)
+breaks : (at new : ClientValue) (fault : Fault) (result : Result Step Fault) (since now : Since) → BreaksOver at fault result new → now ≡ since → Leads at.association since new.association now
+breaks at new fault result since now h n = by_one at.association h.association new.association since now (Break fault) h.breaks (association_of _ _ h.after) n
 
-comes_fits-by : (o : ClientOut) (link : ClientRecord) (old new : ClientValue) (result : Result Step Fault) (since : Since) → old.failed ≡ None → Fits old since → ComesBy o link old result new → Fits new (record since { taken = since.taken ++ handed_by o link })
-comes_fits-by out.Nothing link old new result since whole fits h = passed_fits old new result since fits h
-comes_fits-by out.Up link old new result since whole fits h = fits_at new _ _ h.2.after (associating_fits old.failed old.blocks old.sent _)
-comes_fits-by (out.Send frame) link old new result since whole fits h = same_since new since (fits_at new (with_link old link) since h.1 fits)
-comes_fits-by out.Apdu link old new result since whole fits h =
-    takes_fits old.stage (with_link old link) new result since whole (subst (λ (failed : Option Fault). FitsUnless failed old.stage old.blocks old.sent since) whole fits) h
-comes_fits-by out.Down link old new result since whole fits h = down_fits old.stage (with_link old link) new result _ h
+opens : (at new : ClientValue) (result : Result Step Fault) (since now : Since) → OpensOver at result new → now ≡ since → Leads at.association since new.association now
+opens at new result since now h n = by_one at.association h.association new.association since now (Open h.apdu) (h.closed, h.opens) (association_of _ _ h.sends.after) n
 
-comes_fits-while : (waits : Option Parts) (old new : ClientValue) (frame : Parts) (result : Result Step Fault) (since : Since) → old.failed ≡ None → Fits old since → ComesWhile waits old frame result new
-    → Fits new (record since { taken = since.taken ++ handed_while waits old frame })
-comes_fits-while (Some waits) old new frame result since whole fits h = comes_fits-by (client_step old.link frame).1 (client_step old.link frame).0 old new result since whole fits h
-comes_fits-while None old new frame result since whole fits h = passed_fits old new result since fits h
+-- what goes out for a step leaves the association as it is
+follows_same : (made : Result Made Fault) (at new : ClientValue) (result : Result Step Fault) → Follows made at result new → new.association ≡ at.association
+follows_same (Ok given.Nothing) at new result h = association_of _ _ h.1
+follows_same (Ok (given.Send apdu)) at new result h = association_of _ _ h.2.after
+follows_same (Ok given.Associated) at new result h = association_of _ _ h.1
+follows_same (Ok (given.Answered answer)) at new result h = association_of _ _ h.1
+follows_same (Ok given.Released) at new result h = association_of _ _ h.2.after
+follows_same (Err fault) at new result h = association_of _ _ h.1
 
-comes_fits-unless : (failed : Option Fault) (old new : ClientValue) (frame : Parts) (result : Result Step Fault) (since : Since) → old.failed ≡ failed → Fits old since → ComesUnless failed old frame result new
-    → Fits new (record since { taken = since.taken ++ handed_unless failed old frame })
-comes_fits-unless None old new frame result since whole fits h = comes_fits-while old.link.waits old new frame result since whole fits h
-comes_fits-unless (Some fault) old new frame result since over fits h = same_since new since (fits_at new old since h.1 fits)
+takes_leads : (at new : ClientValue) (result : Result Step Fault) (since : Since) → at.association.failed ≡ None → TakesOver at result new
+    → Leads at.association since new.association (record since { taken = since.taken ++ taken_at at.association.stage at.link.apdu })
+takes_leads at new result since whole h =
+    by_one at.association h.association new.association since _ (Take at.link.apdu h.made) h.takes (follows_same h.made _ new result h.follows)
+    (ap (λ (failed : Option Fault). let s : Since = record { request = since.request; taken = since.taken ++ taken_unless failed at.association.stage at.link.apdu } in s) (sym whole))
+
+down_leads : (leaving : Bool) (at new : ClientValue) (result : Result Step Fault) (since now : Since) → GoesDown leaving at result new → now ≡ since → Leads at.association since new.association now
+down_leads true at new result since now h n = by_one at.association h.association new.association since now Close h.closes (association_of _ _ h.after) n
+down_leads false at new result since now h n = breaks at new WentDown result since now h n
+
+comes_by : (o : ClientOut) (link : ClientRecord) (old new : ClientValue) (result : Result Step Fault) (since : Since) → old.association.failed ≡ None → ComesBy o link old result new
+    → Leads old.association since new.association (record since { taken = since.taken ++ handed_by o old.association.stage link })
+comes_by out.Nothing link old new result since whole h = subst (λ (s : Since). Leads old.association since new.association s) (sym (none_more since)) (stays old.association new.association since (association_of _ _ h.1))
+comes_by out.Up link old new result since whole h = opens (record old { link = link }) new result since _ h (none_more since)
+comes_by (out.Send frame) link old new result since whole h = subst (λ (s : Since). Leads old.association since new.association s) (sym (none_more since)) (stays old.association new.association since (association_of _ _ h.1))
+comes_by out.Apdu link old new result since whole h = takes_leads (record old { link = link }) new result since whole h
+comes_by out.Down link old new result since whole h = down_leads old.leaving (record old { link = link }) new result since _ h (none_more since)
+
+comes_while : (waits : Option Parts) (old new : ClientValue) (frame : Parts) (result : Result Step Fault) (since : Since) → old.association.failed ≡ None → ComesWhile waits old frame result new
+    → Leads old.association since new.association (record since { taken = since.taken ++ handed_while waits old frame })
+comes_while (Some waits) old new frame result since whole h = comes_by (client_step old.link frame).1 (client_step old.link frame).0 old new result since whole h
+comes_while None old new frame result since whole h = subst (λ (s : Since). Leads old.association since new.association s) (sym (none_more since)) (stays old.association new.association since (association_of _ _ h.1))
+
+comes_unless : (failed : Option Fault) (old new : ClientValue) (frame : Parts) (result : Result Step Fault) (since : Since) → old.association.failed ≡ failed → ComesUnless failed old frame result new
+    → Leads old.association since new.association (record since { taken = since.taken ++ handed_unless failed old frame })
+comes_unless None old new frame result since whole h = comes_while old.link.waits old new frame result since whole h
+comes_unless (Some fault) old new frame result since over h = subst (λ (s : Since). Leads old.association since new.association s) (sym (none_more since)) (stays old.association new.association since (association_of _ _ h.1))
 
 -- ---- the other calls
 
-begins_fits-at : (stage : Stage) (old new : ClientValue) (frame : Option Parts) (since : Since) → Fits old since → BeginsAt stage old frame new → Fits new since
-begins_fits-at Closed old new frame since fits h = fits_at new _ since h.1 (associating_fits old.failed old.blocks old.sent since)
-begins_fits-at Associating old new frame since fits h = fits_at new old since h.1 fits
-begins_fits-at Free old new frame since fits h = fits_at new old since h.1 fits
-begins_fits-at (Asking asked) old new frame since fits h = fits_at new old since h.1 fits
-begins_fits-at Releasing old new frame since fits h = fits_at new old since h.1 fits
-begins_fits-at Leaving old new frame since fits h = fits_at new old since h.1 fits
+begins_leads : (frame : Option Parts) (old new : ClientValue) (since : Since) → Begins old frame new → Leads old.association since new.association since
+begins_leads (Some frame) old new since h = stays old.association new.association since (association_of _ _ h.2)
+begins_leads None old new since h = stays old.association new.association since (association_of _ _ h.1)
 
-begins_fits : (failed : Option Fault) (old new : ClientValue) (frame : Option Parts) (since : Since) → Fits old since → BeginsBy failed old frame new → Fits new since
-begins_fits None old new frame since fits h = begins_fits-at old.stage old new frame since fits h
-begins_fits (Some fault) old new frame since fits h = fits_at new old since h.1 fits
+times_by : (done : ClientRecord × Option Parts) (old new : ClientValue) (result : Result Parts Fault) (since : Since) → TimesOutBy done old result new → Leads old.association since new.association since
+times_by (link, Some frame) old new result since h = stays old.association new.association since (association_of _ _ h.1)
+times_by (link, None) old new result since h = by_one old.association h.0 new.association since since (Break Line) h.1 (association_of _ _ h.3) refl
 
-times_out_fits-by : (done : ClientRecord × Option Parts) (old new : ClientValue) (result : Result Parts Fault) (since : Since) → Fits old since → TimesOutBy done old result new → Fits new since
-times_out_fits-by (link, Some frame) old new result since fits h = fits_at new (with_link old link) since h.1 fits
-times_out_fits-by (link, None) old new result since fits h = failed_fits (with_link old link) new _ result since h
+times_unless : (failed : Option Fault) (old new : ClientValue) (result : Result Parts Fault) (since : Since) → TimesOutUnless failed old result new → Leads old.association since new.association since
+times_unless None old new result since h = times_by (client_timeout old.link) old new result since h
+times_unless (Some fault) old new result since h = stays old.association new.association since (association_of _ _ h.1)
 
-times_out_fits : (failed : Option Fault) (old new : ClientValue) (result : Result Parts Fault) (since : Since) → Fits old since → TimesOutUnless failed old result new → Fits new since
-times_out_fits None old new result since fits h = times_out_fits-by (client_timeout old.link) old new result since fits h
-times_out_fits (Some fault) old new result since fits h = fits_at new old since h.1 fits
+call_leads : (call : Call) (old new : ClientValue) (since : Since) → IsCall old call new → Leads old.association since new.association (since_after old call since)
+call_leads (Next frame) old new since h = begins_leads frame old new since h
+call_leads (On frame result) old new since h = comes_unless old.association.failed old new frame result since refl h
+call_leads (Timeout result) old new since h = times_unless old.association.failed old new result since h.1
+call_leads (Ask form result) old new since h = by_given h.1.0 result h.1.2 h.1.3
+  where
+    by_given : (given : Result (List ℕ) AskFault) (result : Result Parts AskFault) → Rattle.dlms_association.specs.Calls.Asks (asked_of form) form old.association given h.1.1 → Carries given (record old { association = h.1.1 }) result new
+        → Leads old.association since new.association (since_after old (Ask form result) since)
+    by_given (Ok apdu) (Ok frame) asks c = by_one old.association h.1.1 new.association since _ (AskOf form (Ok apdu)) (h.0.association, asks) (association_of _ _ c.2.after) refl
+    by_given (Ok apdu) (Err fault) asks c = let clash = c.1 in cc
+    by_given (Err fault) (Ok frame) asks c = let clash = c.0 in cc
+    by_given (Err fault) (Err other) asks c = by_one old.association h.1.1 new.association since _ (AskOf form (Err fault)) (h.0.association, asks) (association_of _ _ c.1) refl
+call_leads (Release frame) old new since h = by_one old.association h.1.1 new.association since since (ReleaseOf h.1.0) (h.0.association, h.1.2) (association_of _ _ h.1.3.after) refl
+call_leads (Disconnect frame) old new since h = stays old.association new.association since (association_of _ _ h.1.after)
 
-none_of : (asked : Asked) → AreOf asked [] empty
-none_of Get = (refl, refl)
-none_of Set = refl
-none_of Action = refl
-
-begun_fits : (form : RequestForm) (at new : ClientValue) (apdu : List ℕ) (frame : Parts) (sent : Option Going) → at.failed ≡ None → IfSome sent (λ going. long_value form ≡ Some going.encoding)
-    → Sends (emptied at sent) apdu (Asking (asked_of form)) frame new → Fits new (record { request = Some form; taken = [] })
-begun_fits form at new apdu frame sent whole goes s =
-    sends_fit (asked_of form) (emptied at sent) new apdu frame (record { request = Some form; taken = [] }) whole (record { form = form; request = refl; same = refl; come = none_of (asked_of form); goes = goes }) s
-
-asks_fits : (form : RequestForm) (result : Result Parts AskFault) (old new : ClientValue) (since : Since) → IsFree old → Fits old since → Asks (asked_of form) form old result new → Fits new (since_after old (Ask form result) since)
-asks_fits form (Ok frame) old new since free fits (inl h) = begun_fits form old new _ frame None free.whole tt h.1
-asks_fits form (Ok frame) old new since free fits (inr h) =
-    let going : Going = beginning h.0 (most_bytes old - PUT_HEAD) in
-    begun_fits form old new _ frame (Some (after going 0)) free.whole (h.1.encodes ∙ ap (λ (bytes : List ℕ). Some bytes) (sym (same_encoding going 0))) h.2
-asks_fits form (Err TooLong) old new since free fits h = fits_at new old since h.2 fits
-asks_fits form (Err Memory) old new since free fits h = fits_at new old since h fits
-
-call_fits : (call : Call) (old new : ClientValue) (since : Since) → Fits old since → IsCall old call new → Fits new (since_after old call since)
-call_fits (Next frame) old new since fits h = begins_fits old.failed old new frame since fits h
-call_fits (On frame result) old new since fits h = comes_fits-unless old.failed old new frame result since refl fits h
-call_fits (Timeout result) old new since fits h = times_out_fits old.failed old new result since fits h.1
-call_fits (Ask form result) old new since fits h = asks_fits form result old new since h.0 fits h.1
-call_fits (Release frame) old new since fits h = fits_at new _ since h.1.after (releasing_fits old.failed old.blocks old.sent since)
-call_fits (Disconnect frame) old new since fits h = fits_at new _ since h.1.after (leaving_fits old.failed old.blocks old.sent since)
-
-runs_fits : (calls : List Call) (old new : ClientValue) (since now : Since) → Fits old since → Runs old since calls new now → Fits new now
-runs_fits [] old new since now fits h = subst (λ (s : Since). Fits new s) (sym h.1) (fits_at new old since h.0 fits)
-runs_fits (call ∷ calls) old new since now fits h = runs_fits calls h.0 new (since_after old call since) now (call_fits call old h.0 since fits h.1) h.2
+runs_lead : (calls : List Call) (old new : ClientValue) (since now : Since) → Runs old since calls new now → Leads old.association since new.association now
+runs_lead [] old new since now h = record { calls = []; runs = (association_of _ _ h.0, h.1) }
+runs_lead (call ∷ calls) old new since now h =
+    then_leads old.association h.0.association new.association since (since_after old call since) now (call_leads call old h.0 since h.1) (runs_lead calls h.0 new (since_after old call since) now h.2)
 
 -- ---- an answer
 
--- a result that is no answer
-abbrev NoAnswer : ClientValue → (Result Step Fault → Type 0) → Type 0
-NoAnswer new P = (answer : Answer) → P (Ok (step.Answered answer)) → ⊥
+-- an answer that a step brings is the association's
+record Brings (at : ClientValue) (answer : Answer) (new : ClientValue) : Type 0 where
+  association : AssociationValue
+  takes : Takes at.association at.link.apdu (Ok (given.Answered answer)) association
+  after : new ≡ record at { association = association }
 
-opens_none : (granted : Result Granted Fault) (at new : ClientValue) → NoAnswer new (λ result. OpensBy granted at result new)
-opens_none (Ok granted) at new answer h = let clash = h.0 in cc
-opens_none (Err fault) at new answer h = let clash = h.answer in cc
+followed : (made : Result Made Fault) (at new : ClientValue) (association : AssociationValue) (answer : Answer) → Takes at.association at.link.apdu made association → Follows made (record at { association = association }) (Ok (step.Answered answer)) new
+    → Brings at answer new
+followed (Ok given.Nothing) at new association answer takes h = let clash = h.0 in cc
+followed (Ok (given.Send apdu)) at new association answer takes h = let clash = h.1 in cc
+followed (Ok given.Associated) at new association answer takes h = let clash = h.0 in cc
+followed (Ok (given.Answered other)) at new association answer takes h =
+    let one = h.0 in
+    let same : other ≡ answer = cc in
+    record { association = association; takes = subst (λ (a : Answer). Takes at.association at.link.apdu (Ok (given.Answered a)) association) same takes; after = h.1 }
+followed (Ok given.Released) at new association answer takes h = let clash = h.1 in cc
+followed (Err fault) at new association answer takes h = let clash = h.0 in cc
 
-releases_none : (released : Result (Unit {0}) Fault) (at new : ClientValue) → NoAnswer new (λ result. ReleasesBy released at result new)
-releases_none (Ok u) at new answer h = let clash = h.1 in cc
-releases_none (Err fault) at new answer h = let clash = h.answer in cc
+stage_taken : (stage : Stage) (form : RequestForm) (apdu : List ℕ) → stage ≡ Asking (asked_of form) → taken_at stage apdu ≡ apdu ∷ []
+stage_taken stage form apdu e = ap (λ (s : Stage). taken_at s apdu) e
 
-failed_none : (fault : Fault) (at new : ClientValue) → NoAnswer new (λ result. HasFailed at fault result new)
-failed_none fault at new answer h = let clash = h.answer in cc
-
-passed_none : (old new : ClientValue) → NoAnswer new (λ result. IsPassedOver old result new)
-passed_none old new answer h = let clash = h.answer in cc
-
-down_none : (stage : Stage) (at new : ClientValue) → NoAnswer new (λ result. GoesDownAt stage at result new)
-down_none Leaving at new answer h = let clash = h.0 in cc
-down_none Closed at new answer h = failed_none _ at new answer h
-down_none Associating at new answer h = failed_none _ at new answer h
-down_none Free at new answer h = failed_none _ at new answer h
-down_none (Asking asked) at new answer h = failed_none _ at new answer h
-down_none Releasing at new answer h = failed_none _ at new answer h
-
-gives_none : (block : Result BlockValue ℕ) (spelled : BlockValue → List ℕ) (asked : Asked) (at new : ClientValue) → NoAnswer new (λ result. GivesBlock block spelled asked at result new)
-gives_none (Ok b) spelled asked at new answer h = let clash = h.1 in cc
-gives_none (Err code) spelled asked at new answer h = failed_none _ at new answer h
-
-next_none : (sent : Option Going) (number : ℕ) (spelled : BlockValue → List ℕ) (asked : Asked) (at new : ClientValue) → NoAnswer new (λ result. GivesNext sent number spelled asked at result new)
-next_none None number spelled asked at new answer h = failed_none _ at new answer h
-next_none (Some going) number spelled asked at new told h = gives_none (answer going number) spelled asked (record at { sent = Some (after going number) }) new told h
-
-more_none : (asked : Asked) (number : ℕ) (at new : ClientValue) → NoAnswer new (λ result. AsksMore asked number at result new)
-more_none Get number at new answer h = let clash = h.1 in cc
-more_none Set number at new answer h = next_none at.sent number next_of_set Set at new answer h
-more_none Action number at new answer h = next_none at.sent number next_of_action Action at new answer h
-
--- what an answer is, at an APDU that this link handed up
-record Tells (stage : Stage) (since : Since) (link : ClientRecord) (answer : Answer) (new : ClientValue) : Type 0 where
-  form : RequestForm
-  request : since.request ≡ Some form
-  awaited : stage ≡ Asking (asked_of form)
-  says : Says (asked_of form) since.taken link.apdu answer new.blocks.joined
-  whole : new.failed ≡ None
-  free : new.stage ≡ Free
-  link_is : new.link ≡ link
-
-answer_told : (heard : Result Heard Fault) (blocks : Joining) (asked : Asked) (at new : ClientValue) (answer : Answer) (since : Since) → at.failed ≡ None → HasJoined asked at.blocks at.sent since → Hears asked at.blocks at.link.apdu heard blocks
-    → GoesOn heard asked (record at { blocks = blocks }) (Ok (step.Answered answer)) new → Tells (Asking asked) since at.link answer new
-answer_told (Ok (More number)) blocks asked at new answer since whole joined hears goes = absurd (more_none asked number (record at { blocks = blocks }) new answer goes)
-answer_told (Ok (Told other)) blocks asked at new answer since whole joined hears goes =
-    let one = goes.0 in
-    let is : other ≡ answer = cc in
-    let spelled : Says asked since.taken at.link.apdu other blocks.joined = said since.taken at.link.apdu at.blocks blocks other asked joined.come hears in
-    let same : blocks.joined ≡ new.blocks.joined = sym (ap (λ (v : ClientValue). v.blocks.joined) goes.1) in
+answer_by : (o : ClientOut) (link : ClientRecord) (at new : ClientValue) (frame : Parts) (answer : Answer) (since : Since) (plan : PlanValue) → (o ≡ out.Apdu → IsIdle link) → handed at frame ≡ handed_by o at.association.stage link
+    → Leads (Rattle.dlms_association.specs.Calls.fresh (terms_in plan)) nothing_yet at.association since → ComesBy o link at (Ok (step.Answered answer)) new → IsAnswered since at frame answer new
+answer_by out.Nothing link at new frame answer since plan idle came leads h = let clash = h.0 in cc
+answer_by out.Up link at new frame answer since plan idle came leads h = let clash = h.answer in cc
+answer_by (out.Send sent) link at new frame answer since plan idle came leads h = let clash = h.0 in cc
+answer_by out.Apdu link at new frame answer since plan idle came leads h =
+    let brings : Brings (record at { link = link }) answer new = followed h.made (record at { link = link }) new h.association answer h.takes h.follows in
+    let said : IsAnsweredOf since at.association link.apdu answer brings.association = answers_of (terms_in plan) leads.calls at.association brings.association since link.apdu answer leads.runs brings.takes in
     record {
-      form = joined.form;
-      request = joined.request;
-      awaited = ap (λ (a : Asked). Asking a) joined.same;
-      says = subst (λ (a : Asked). Says a since.taken at.link.apdu answer new.blocks.joined) joined.same
-          (subst (λ (bytes : List ℕ). Says asked since.taken at.link.apdu answer bytes) same (subst (λ (a : Answer). Says asked since.taken at.link.apdu a blocks.joined) is spelled));
-      whole = ap (λ (v : ClientValue). v.failed) goes.1 ∙ whole;
-      free = ap (λ (v : ClientValue). v.stage) goes.1;
-      link_is = ap (λ (v : ClientValue). v.link) goes.1;
+      form = said.form;
+      apdu = link.apdu;
+      request = said.request;
+      awaited = said.awaited;
+      came = came ∙ stage_taken at.association.stage said.form link.apdu said.awaited;
+      says = subst (λ (v : ClientValue). Says (asked_of said.form) since.taken link.apdu answer v.association.blocks.joined) (sym brings.after) said.says;
+      free = subst (λ (v : ClientValue). IsFree v) (sym brings.after) (record { association = said.free; idle = idle refl });
     }
-answer_told (Err fault) blocks asked at new answer since whole joined hears goes = absurd (failed_none fault (record at { blocks = blocks }) new answer goes)
+answer_by out.Down link at new frame answer since plan idle came leads h = by_leaving at.leaving h
+  where
+    by_leaving : (leaving : Bool) → GoesDown leaving (record at { link = link }) (Ok (step.Answered answer)) new → IsAnswered since at frame answer new
+    by_leaving true x = let clash = x.answer in cc
+    by_leaving false x = let clash = x.answer in cc
 
-takes_told : (stage : Stage) (at new : ClientValue) (answer : Answer) (since : Since) → at.failed ≡ None → FitsAt stage at.blocks at.sent since → TakesAt stage at (Ok (step.Answered answer)) new → Tells stage since at.link answer new
-takes_told Associating at new answer since whole fits h = absurd (opens_none (granted_at at.link.apdu) at new answer h)
-takes_told (Asking asked) at new answer since whole fits h = answer_told h.0 h.1 asked at new answer since whole fits h.2 h.3
-takes_told Releasing at new answer since whole fits h = absurd (releases_none (released_at at.link.apdu) at new answer h)
-takes_told Closed at new answer since whole fits h = absurd (failed_none _ at new answer h)
-takes_told Free at new answer since whole fits h = absurd (failed_none _ at new answer h)
-takes_told Leaving at new answer since whole fits h = absurd (failed_none _ at new answer h)
+answer_while : (waits : Option Parts) (at new : ClientValue) (frame : Parts) (answer : Answer) (since : Since) (plan : PlanValue) → handed at frame ≡ handed_while waits at frame
+    → Leads (Rattle.dlms_association.specs.Calls.fresh (terms_in plan)) nothing_yet at.association since → ComesWhile waits at frame (Ok (step.Answered answer)) new → IsAnswered since at frame answer new
+answer_while (Some waits) at new frame answer since plan came leads h = answer_by (client_step at.link frame).1 (client_step at.link frame).0 at new frame answer since plan (apdu_idle at.link frame) came leads h
+answer_while None at new frame answer since plan came leads h = let clash = h.0 in cc
 
--- with the list of APDUs that the frame brought
-abbrev IsTold : Stage → Since → List (List ℕ) → Answer → ClientValue → Type 0
-IsTold stage since brought answer new =
-    (form : RequestForm) × (apdu : List ℕ) × (since.request ≡ Some form) × (stage ≡ Asking (asked_of form)) × (brought ≡ apdu ∷ []) × Says (asked_of form) since.taken apdu answer new.blocks.joined × IsFree new
-
-is_told : (stage : Stage) (since : Since) (link : ClientRecord) (answer : Answer) (new : ClientValue) → IsIdle link → Tells stage since link answer new → IsTold stage since (link.apdu ∷ []) answer new
-is_told stage since link answer new idle t = (t.form, link.apdu, t.request, t.awaited, refl, t.says, record { whole = t.whole; free = t.free; idle = subst IsIdle (sym t.link_is) idle })
-
-told-by : (o : ClientOut) (link : ClientRecord) (old new : ClientValue) (answer : Answer) (since : Since) → (o ≡ out.Apdu → IsIdle link) → old.failed ≡ None → Fits old since → ComesBy o link old (Ok (step.Answered answer)) new → IsTold old.stage since (handed_by o link) answer new
-told-by out.Nothing link old new answer since idle whole fits h = absurd (passed_none old new answer h)
-told-by out.Up link old new answer since idle whole fits h = let clash = h.1 in absurd (cc)
-told-by (out.Send frame) link old new answer since idle whole fits h = let clash = h.0 in absurd (cc)
-told-by out.Apdu link old new answer since idle whole fits h =
-    is_told old.stage since link answer new (idle refl)
-    (takes_told old.stage (with_link old link) new answer since whole (subst (λ (failed : Option Fault). FitsUnless failed old.stage old.blocks old.sent since) whole fits) h)
-told-by out.Down link old new answer since idle whole fits h = absurd (down_none old.stage (with_link old link) new answer h)
-
-told-while : (waits : Option Parts) (old new : ClientValue) (frame : Parts) (answer : Answer) (since : Since) → old.failed ≡ None → Fits old since → ComesWhile waits old frame (Ok (step.Answered answer)) new
-    → IsTold old.stage since (handed_while waits old frame) answer new
-told-while (Some waits) old new frame answer since whole fits h =
-    told-by (client_step old.link frame).1 (client_step old.link frame).0 old new answer since (apdu_idle old.link frame) whole fits h
-told-while None old new frame answer since whole fits h = absurd (passed_none old new answer h)
-
-told-unless : (failed : Option Fault) (old new : ClientValue) (frame : Parts) (answer : Answer) (since : Since) → old.failed ≡ failed → Fits old since → ComesUnless failed old frame (Ok (step.Answered answer)) new
-    → IsTold old.stage since (handed_unless failed old frame) answer new
-told-unless None old new frame answer since whole fits h = told-while old.link.waits old new frame answer since whole fits h
-told-unless (Some fault) old new frame answer since over fits h = let clash = h.0 in absurd (cc)
+answer_unless : (failed : Option Fault) (at new : ClientValue) (frame : Parts) (answer : Answer) (since : Since) (plan : PlanValue) → handed at frame ≡ handed_unless failed at frame
+    → Leads (Rattle.dlms_association.specs.Calls.fresh (terms_in plan)) nothing_yet at.association since → ComesUnless failed at frame (Ok (step.Answered answer)) new → IsAnswered since at frame answer new
+answer_unless None at new frame answer since plan came leads h = answer_while at.link.waits at new frame answer since plan came leads h
+answer_unless (Some fault) at new frame answer since plan came leads h = let clash = h.0 in cc
 
 pub answers_are_said : AnswersAreSaid
 answers_are_said plan calls at new since frame answer runs h =
-    let fits : Fits at since = runs_fits calls (fresh plan) at nothing_yet since tt runs in
-    let told : IsTold at.stage since (handed at frame) answer new = told-unless at.failed at new frame answer since refl fits h in
-    record { form = told.0; apdu = told.1; request = told.2; awaited = told.3; came = told.4; says = told.5; free = told.6 }
-
--- ---- blocks of a request
-
-blocks_at : (stage : Stage) (asked : Asked) (at : ClientValue) (since : Since) → stage ≡ Asking asked → FitsAt stage at.blocks at.sent since → IsOfTheRequest since at.sent
-blocks_at stage asked at since e h =
-    let joined : HasJoined asked at.blocks at.sent since = subst (λ (s : Stage). FitsAt s at.blocks at.sent since) e h in
-    record { form = joined.form; request = joined.request; goes = joined.goes }
+    answer_unless at.association.failed at new frame answer since plan refl (runs_lead calls (fresh plan) at nothing_yet since runs) h
 
 pub blocks_are_of_the_request : BlocksAreOfTheRequest
 blocks_are_of_the_request plan calls at since asked runs whole awaited =
-    let fits : Fits at since = runs_fits calls (fresh plan) at nothing_yet since tt runs in
-    blocks_at at.stage asked at since awaited (subst (λ (failed : Option Fault). FitsUnless failed at.stage at.blocks at.sent since) whole fits)
+    let leads : Leads (fresh plan).association nothing_yet at.association since = runs_lead calls (fresh plan) at nothing_yet since runs in
+    blocks_of (terms_in plan) leads.calls at.association since asked leads.runs whole awaited

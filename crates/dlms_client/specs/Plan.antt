@@ -3,6 +3,7 @@ use Rattle.std.specs.Prelude.{ℕ, ◌<◌, ◌≤◌, List, Option, option_map}
 use Rattle.dlms_blocks.specs.declared.block.TheConstants.{LEAST_SIZE, MOST_SIZE}
 use Rattle.dlms_frame.specs.declared.frame.Address.{Address}
 use Rattle.dlms_frame.specs.Frame.{IsAddress}
+use Rattle.dlms_association.specs.Terms.{TermsValue}
 use Rattle.dlms_client.specs.declared.plan.Plan.{Plan}
 
 pub record PlanValue : Type 0 where
@@ -26,3 +27,7 @@ pub record IsPlan (plan : PlanValue) : Type 0 where
   pub server : IsAddress plan.server
   pub least : LEAST_SIZE ≤ plan.size
   pub most : plan.size ≤ MOST_SIZE
+
+-- what its association proposes
+abbrev pub terms_in : PlanValue → TermsValue
+terms_in plan = record { secret = plan.secret; size = plan.size }

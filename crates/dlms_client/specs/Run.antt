@@ -1,22 +1,22 @@
 -- A client, call by call, whatever frames come and whichever are lost: each answer is what the APDUs say that were taken since its
 -- request.
-use Rattle.std.specs.Prelude.{◌≡◌, ℕ, Bool, true, false, List, [], ◌∷◌, ◌++◌, Option, Some, None, IfSome, Result, Ok, Err}
-use Rattle.dlms_apdu.specs.Forms.{RequestForm, get_normal, get_next, set_normal, set_first, set_block, action_normal, action_first, action_block}
-use Rattle.dlms_blocks.specs.Going.{Going}
+use Rattle.std.specs.Prelude.{◌≡◌, ℕ, List, [], ◌∷◌, ◌++◌, Option, Some, None, Result, Ok, Err}
+use Rattle.dlms_apdu.specs.Forms.{RequestForm}
+use Rattle.dlms_association.specs.Run.{IsOfTheRequest, Since, asked_of, nothing_yet, taken_unless}
+use Rattle.dlms_association.specs.Saying.{Says}
+use Rattle.dlms_association.specs.declared.answer.Answer.{Answer}
+use Rattle.dlms_association.specs.declared.ask_fault.AskFault.{AskFault}
+use Rattle.dlms_association.specs.declared.fault.Fault.{Fault}
+use Rattle.dlms_association.specs.declared.stage.Asked.{Asked}
+use Rattle.dlms_association.specs.declared.stage.Stage.{Stage}
+use Rattle.dlms_association.specs.declared.stage.Stage.TheVariants.{Asking}
 use Rattle.dlms_frame.specs.Frame.{Parts}
 use Rattle.dlms_link.specs.Client.{ClientRecord, client_step}
 use Rattle.dlms_link.specs.declared.out.ClientOut.{ClientOut}
 use Rattle.dlms_link.specs.declared.out.ClientOut.TheVariants as out
-use Rattle.dlms_client.specs.Calls.{fresh, Begins, Comes, TimesOut, CanTimeOut, IsFree, Asks, Releases, Leaves, long_value}
+use Rattle.dlms_client.specs.Calls.{Asks, Begins, CanTimeOut, Comes, IsFree, Leaves, Releases, TimesOut, fresh}
 use Rattle.dlms_client.specs.ClientValue.{ClientValue}
 use Rattle.dlms_client.specs.Plan.{PlanValue}
-use Rattle.dlms_client.specs.Saying.{Says}
-use Rattle.dlms_client.specs.declared.answer.Answer.{Answer}
-use Rattle.dlms_client.specs.declared.ask_fault.AskFault.{AskFault}
-use Rattle.dlms_client.specs.declared.fault.Fault.{Fault}
-use Rattle.dlms_client.specs.declared.stage.Asked.{Asked}
-use Rattle.dlms_client.specs.declared.stage.Asked.TheVariants.{Get, Set, Action}
-use Rattle.dlms_client.specs.declared.stage.Stage.TheVariants.{Asking}
 use Rattle.dlms_client.specs.declared.step.Step.{Step}
 use Rattle.dlms_client.specs.declared.step.Step.TheVariants as step
 
@@ -30,16 +30,6 @@ pub data Call : Type 0 where
   Release : (frame : Parts) → Call
   Disconnect : (frame : Parts) → Call
 
-abbrev pub asked_of : RequestForm → Asked
-asked_of (get_normal invoke d s) = Get
-asked_of (get_next invoke n) = Get
-asked_of (set_normal invoke d s v) = Set
-asked_of (set_first invoke d s last n raw) = Set
-asked_of (set_block invoke last n raw) = Set
-asked_of (action_normal invoke d p) = Action
-asked_of (action_first invoke d last n raw) = Action
-asked_of (action_block invoke last n raw) = Action
-
 -- what a call's contract says of the client before and after it
 abbrev pub IsCall : ClientValue → Call → ClientValue → Type 0
 IsCall old (Next frame) new = Begins old frame new
@@ -49,16 +39,16 @@ IsCall old (Ask form result) new = IsFree old × Asks (asked_of form) form old r
 IsCall old (Release frame) new = IsFree old × Releases old frame new
 IsCall old (Disconnect frame) new = IsFree old × Leaves old frame new
 
--- the APDU that the link hands up at a frame, if any
-abbrev pub handed_by : ClientOut → ClientRecord → List (List ℕ)
-handed_by out.Nothing link = []
-handed_by out.Up link = []
-handed_by (out.Send frame) link = []
-handed_by out.Apdu link = link.apdu ∷ []
-handed_by out.Down link = []
+-- the APDU that the link hands up at a frame, if one is awaited
+abbrev pub handed_by : ClientOut → Stage → ClientRecord → List (List ℕ)
+handed_by out.Nothing stage link = []
+handed_by out.Up stage link = []
+handed_by (out.Send frame) stage link = []
+handed_by out.Apdu stage link = taken_unless None stage link.apdu
+handed_by out.Down stage link = []
 
 abbrev pub handed_while : Option Parts → ClientValue → Parts → List (List ℕ)
-handed_while (Some waits) c frame = handed_by (client_step c.link frame).1
+handed_while (Some waits) c frame = handed_by (client_step c.link frame).1 c.association.stage
     (client_step c.link frame).0
 handed_while None c frame = []
 
@@ -67,15 +57,7 @@ handed_unless None c frame = handed_while c.link.waits c frame
 handed_unless (Some fault) c frame = []
 
 abbrev pub handed : ClientValue → Parts → List (List ℕ)
-handed c frame = handed_unless c.failed c frame
-
--- the last request that went out, and the APDUs that were taken since
-pub record Since : Type 0 where
-  pub request : Option RequestForm
-  pub taken : List (List ℕ)
-
-abbrev pub nothing_yet : Since
-nothing_yet = record { request = None; taken = [] }
+handed c frame = handed_unless c.association.failed c frame
 
 abbrev pub since_after : ClientValue → Call → Since → Since
 since_after c (Next frame) since = since
@@ -99,9 +81,9 @@ pub record IsAnswered (since : Since) (at : ClientValue) (frame : Parts) (answer
   pub form : RequestForm
   pub apdu : List ℕ
   pub request : since.request ≡ Some form
-  pub awaited : at.stage ≡ Asking (asked_of form)
+  pub awaited : at.association.stage ≡ Asking (asked_of form)
   pub came : handed at frame ≡ apdu ∷ []
-  pub says : Says (asked_of form) since.taken apdu answer new.blocks.joined
+  pub says : Says (asked_of form) since.taken apdu answer new.association.blocks.joined
   pub free : IsFree new
 
 -- The calls of a client, from a new one on, in any order and with any frames: so is each answer.
@@ -111,14 +93,8 @@ AnswersAreSaid = (plan : PlanValue) (calls : List Call) (at new : ClientValue) (
     → Comes at frame (Ok (step.Answered answer)) new
     → IsAnswered since at frame answer new
 
--- The blocks sent are those of the encoding of the value in the last request.
-pub record IsOfTheRequest (since : Since) (sent : Option Going) : Type 0 where
-  pub form : RequestForm
-  pub request : since.request ≡ Some form
-  pub goes : IfSome sent (λ going. long_value form ≡ Some going.encoding)
-
--- So it is while the answer to a request is awaited.
+-- The blocks sent while the answer to a request is awaited are those of the encoding of the value in the last request.
 abbrev pub BlocksAreOfTheRequest : Type 0
 BlocksAreOfTheRequest = (plan : PlanValue) (calls : List Call) (at : ClientValue) (since : Since)
-    (asked : Asked) → Runs (fresh plan) nothing_yet calls at since → at.failed ≡ None
-    → at.stage ≡ Asking asked → IsOfTheRequest since at.sent
+    (asked : Asked) → Runs (fresh plan) nothing_yet calls at since → at.association.failed ≡ None
+    → at.association.stage ≡ Asking asked → IsOfTheRequest since at.association.sent

@@ -1,6 +1,6 @@
 //! The outcome of a frame.
 
-use crate::answer::Answer;
+use dlms_association::Answer;
 use dlms_frame::SentFrame;
 
 /// How a client handled a frame.

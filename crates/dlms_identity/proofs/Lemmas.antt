@@ -10,9 +10,9 @@ use Rattle.dlms_call.specs.declared.fault.CallFault.{CallFault}
 use Rattle.dlms_client.specs.Calls.{IsFree}
 use Rattle.dlms_client.specs.ClientValue.{ClientValue}
 use Rattle.dlms_client.specs.Plan.{PlanValue}
-use Rattle.dlms_client.specs.declared.answer.Answer.{Answer}
-use Rattle.dlms_client.specs.declared.requests.TheConstants.{INVOKE}
-use Rattle.dlms_client.specs.declared.stage.Asked.TheVariants.{Get}
+use Rattle.dlms_association.specs.declared.answer.Answer.{Answer}
+use Rattle.dlms_association.specs.declared.requests.TheConstants.{INVOKE}
+use Rattle.dlms_association.specs.declared.stage.Asked.TheVariants.{Get}
 use Rattle.dlms_data.specs.Reading.{Fault}
 use Rattle.dlms_data.specs.Value.{Value, null}
 use Rattle.dlms_data.specs.Spelling.{IsSpelling}

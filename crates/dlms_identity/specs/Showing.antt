@@ -3,10 +3,10 @@ use Rattle.std.specs.Prelude.{◌≡◌, ◌≢◌, ◌⊎◌, ℕ, Bool, true, 
 use Rattle.dlms_apdu.specs.Forms.{get_normal}
 use Rattle.dlms_client.specs.Calls.{IsFree, fresh}
 use Rattle.dlms_client.specs.Plan.{PlanValue}
-use Rattle.dlms_client.specs.declared.answer.Answer.{Answer}
-use Rattle.dlms_client.specs.declared.answer.Answer.TheVariants as answer
-use Rattle.dlms_client.specs.declared.requests.TheConstants.{INVOKE}
-use Rattle.dlms_client.specs.declared.stage.Asked.TheVariants.{Get}
+use Rattle.dlms_association.specs.declared.answer.Answer.{Answer}
+use Rattle.dlms_association.specs.declared.answer.Answer.TheVariants as answer
+use Rattle.dlms_association.specs.declared.requests.TheConstants.{INVOKE}
+use Rattle.dlms_association.specs.declared.stage.Asked.TheVariants.{Get}
 use Rattle.dlms_data.specs.declared.descriptor.Descriptor.{Descriptor}
 use Rattle.dlms_ends.specs.Moments.{Moment}
 use Rattle.dlms_call.specs.Asking.{EndsTalk, FailsToOpen, Opens, Requests}
@@ -32,7 +32,7 @@ pub data IsRead (old new : Option (List Moment)) (name : List ℕ)
     (result : Result (Option (List ℕ)) CallFault) (t t' : TalkWorld) : Type 0 where
   IsAnswered : (given : Answer)
       → Requests MOST (IsFree t.client) Get (get_normal INVOKE (value_at name) None) old new
-      (Ok given) t t' → Says given t'.client.blocks.joined result
+      (Ok given) t t' → Says given t'.client.association.blocks.joined result
       → IsRead old new name result t t'
   IsNot : (why : CallFault) → Requests MOST (IsFree t.client) Get
       (get_normal INVOKE (value_at name) None) old new (Err why) t t' → result ≡ Err why

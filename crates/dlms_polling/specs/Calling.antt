@@ -16,7 +16,7 @@ use Rattle.dlms_headend.specs.PollRun.Call.{Next}
 use Rattle.dlms_headend.specs.PollerValue.{PollerValue}
 use Rattle.dlms_headend.specs.declared.poll_fault.PollFault.TheVariants as poll
 use Rattle.dlms_client.specs.Plan.{PlanValue as PlanOfClient}
-use Rattle.dlms_client.specs.declared.fault.Fault.TheVariants as asking
+use Rattle.dlms_association.specs.declared.fault.Fault.TheVariants as asking
 use Rattle.dlms_call.specs.declared.fault.CallFault.{CallFault}
 use Rattle.dlms_call.specs.declared.fault.CallFault.TheVariants.{Io as LineBroke, Talk}
 use Rattle.dlms_identity.specs.Showing.{ShowsAllBut}

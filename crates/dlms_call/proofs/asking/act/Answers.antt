@@ -2,8 +2,8 @@ use Rattle.std.proofs.Common.{refl, ap}
 use Rattle.std.specs.Prelude.{Ok, Err, option_map}
 use Rattle.dlms_apdu.specs.Forms.{action_normal}
 use Rattle.dlms_data.specs.View.{value_of}
-use Rattle.dlms_client.specs.declared.requests.TheConstants.{INVOKE}
-use Rattle.dlms_client.specs.declared.stage.Asked.TheVariants.{Action}
+use Rattle.dlms_association.specs.declared.requests.TheConstants.{INVOKE}
+use Rattle.dlms_association.specs.declared.stage.Asked.TheVariants.{Action}
 use Rattle.dlms_ends.proofs.MomentLemmas.{adds_none}
 use Rattle.dlms_call.specs.Asking.Requests.{IsMade, NotAsked, NotMade}
 use Rattle.dlms_call.specs.declared.fault.CallFault.{CallFault}

@@ -1,0 +1,4 @@
+mod Heads
+pub mod Taken
+pub mod SaidLemmas
+pub mod Running
