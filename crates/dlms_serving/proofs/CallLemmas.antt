@@ -10,7 +10,7 @@ use Rattle.dlms_pages.specs.declared.device.Pages.{Ghosts}
 use Rattle.dlms_state.specs.declared.event.Event.{Event}
 use Rattle.dlms_state.specs.declared.event.Event.TheVariants.{Pulses, Moment}
 use Rattle.dlms_store.specs.declared.fault.AddFault.{AddFault}
-use Rattle.dlms_serving.specs.Connection.{At, Arrives, ToRead, Behind, Checks, Connection, Unbegun, Begun, Doing, Reads, Answers, Doings, Nothing, Then, Ends, IsOver, LookEnds, ReadEnds, ReplyEnds, Tires, Gives, LookFails, NoClock, NoStore, LooksOnce, Looked}
+use Rattle.dlms_serving.specs.Connection.{At, Arrives, ToRead, Behind, Checks, Connection, Unbegun, Begun, Doing, Reads, Answers, Doings, Nothing, Then, Ends, IsOver, LookEnds, ReadEnds, ReplyEnds, Tires, Gives, LookFails, NoClock, NoStore, LooksOnce, Looked, Log, Timed, begins, log, timed, timed_of}
 use Rattle.dlms_serving.specs.Serving.{Visits, Unprepared, Prepared}
 use Rattle.dlms_serving.specs.Telling.{Tells, TellsEach}
 use Rattle.dlms_lines.specs.Watching.{Sight}
@@ -48,22 +48,22 @@ module _ {P A : Type 0} {ghosts : Ghosts P} where
   each_second a b said outcome [] is = subst (λ (m : Meter P A ghosts). Made a m) (sym is.0) ([], refl)
   each_second a b said outcome (second ∷ seconds) is = joined a is.2 b (one_second a is.2 second second.pulses is.1 refl is.3) (each_second is.2 b is.1 outcome seconds is.4)
 
-  looked_made : (step now : ℕ) (a b : Meter P A ghosts) (ticks ticks' : Ticks) → Looked step a ticks now b ticks' → Made a b
-  looked_made step now a b ticks ticks' look = each_second a b (Ok tt) look.outcome look.looks.1.seconds look.looks.1.each
+  looked_made : (step now : ℕ) (s t : Timed P A ghosts) → Looked step s now t → Made s.meter t.meter
+  looked_made step now s t look = each_second s.meter t.meter (Ok tt) look.outcome look.looks.1.seconds look.looks.1.each
 
-  failed_made : (step : ℕ) (a b : Meter P A ghosts) (ticks ticks' : Ticks) (fault : RunFault) (sights : List Sight) → LookFails step a ticks fault sights b ticks' → Made a b
-  failed_made step a b ticks ticks' fault sights (NoClock of_system) = ([], refl)
-  failed_made step a b ticks ticks' fault sights (NoStore now due why m t is_due looks tells) = each_second a b (Ok tt) (Err why) looks.1.seconds looks.1.each
+  failed_made : (step : ℕ) (s t : Timed P A ghosts) (fault : RunFault) (sights : List Sight) → LookFails step s fault sights t → Made s.meter t.meter
+  failed_made step s t fault sights (NoClock of_system) = ([], refl)
+  failed_made step s t fault sights (NoStore now due why new is_due looks tells) = each_second s.meter t.meter (Ok tt) (Err why) looks.1.seconds looks.1.each
 
-  pub look_made : (step : ℕ) (seen seen' : Option (List Sight)) (a b : Meter P A ghosts) (ticks ticks' : Ticks) (result : Result ℕ RunFault) → LooksOnce step seen seen' a ticks result b ticks' → Made a b
-  look_made step seen seen' a b ticks ticks' (Ok now) looks = looked_made step now a b ticks ticks' looks.1
-  look_made step seen seen' a b ticks ticks' (Err fault) looks = failed_made step a b ticks ticks' fault looks.0 looks.2
+  pub look_made : (step : ℕ) (seen seen' : Option (List Sight)) (a b : Meter P A ghosts) (ticks ticks' : Ticks) (result : Result ℕ RunFault) → LooksOnce step seen seen' (timed a ticks) result (timed b ticks') → Made a b
+  look_made step seen seen' a b ticks ticks' (Ok now) looks = looked_made step now (timed a ticks) (timed b ticks') looks.1
+  look_made step seen seen' a b ticks ticks' (Err fault) looks = failed_made step (timed a ticks) (timed b ticks') fault looks.0 looks.2
 
   gives_made : (s given : At P A ghosts) (reply : Option (List ℕ)) → Gives s reply given → Made s.meter given.meter
   gives_made s given reply gives = (Fed gives.taken reply ∷ [], (given.meter, gives.call, refl))
 
   checks_made : (rules : Rules) (s after : At P A ghosts) (is_answered : Bool) (now : ℕ) (sights : List Sight) → Checks rules s is_answered now sights after → Made s.meter after.meter
-  checks_made rules s after is_answered now sights checks = looked_made rules.tick now s.meter after.meter s.ticks after.ticks checks.look
+  checks_made rules s after is_answered now sights checks = looked_made rules.tick now (timed_of s) (timed_of after) checks.look
 
   doing_made : (rules : Rules) (s after : At P A ghosts) (moments : List LineMoment) (sights : List Sight) → Doing rules s moments sights after → Made s.meter after.meter
   doing_made rules s after moments sights (Reads now more mid moment bytes left checks tells read) = checks_made rules s mid _ now more checks
@@ -78,21 +78,28 @@ module _ {P A : Type 0} {ghosts : Ghosts P} where
   arrives_made s given moments is_answered (ToRead left) = ([], refl)
   arrives_made s given moments is_answered (Behind reply g gives) = gives_made s given reply gives
 
-  ends_made : (rules : Rules) (s : At P A ghosts) (result : Result Ending RunFault) (moments : List LineMoment) (sights : List Sight) (b : Meter P A ghosts) (ticks : Ticks) → Ends rules s result moments sights b ticks → Made s.meter b
-  ends_made rules s result moments sights b ticks (IsOver m is_answered given now more after why arrives checks tells) =
-      joined s.meter given.meter b (arrives_made s given m is_answered arrives) (checks_made rules given after is_answered now more checks)
-  ends_made rules s result moments sights b ticks (LookEnds m is_answered given fault more meter t arrives fails) =
-      joined s.meter given.meter b (arrives_made s given m is_answered arrives) (failed_made rules.tick given.meter b given.ticks ticks fault more fails)
-  ends_made rules s result moments sights b ticks (ReadEnds now more after error ending left checks tells of_read) = checks_made rules s after _ now more checks
-  ends_made rules s result moments sights b ticks (ReplyEnds reply part missing given error gives cut) = gives_made s given (Some reply) gives
-  ends_made rules s result moments sights b ticks (Tires left all) = ([], refl)
+  ends_made : (rules : Rules) (s : At P A ghosts) (result : Result Ending RunFault) (moments : List LineMoment) (sights : List Sight) (t : Timed P A ghosts) → Ends rules s result moments sights t → Made s.meter t.meter
+  ends_made rules s result moments sights t (IsOver m is_answered given now more after why arrives checks tells) =
+      joined s.meter given.meter t.meter (arrives_made s given m is_answered arrives) (checks_made rules given after is_answered now more checks)
+  ends_made rules s result moments sights t (LookEnds m is_answered given fault more new arrives fails) =
+      joined s.meter given.meter t.meter (arrives_made s given m is_answered arrives) (failed_made rules.tick (timed_of given) t fault more fails)
+  ends_made rules s result moments sights t (ReadEnds now more after error ending left checks tells of_read) = checks_made rules s after _ now more checks
+  ends_made rules s result moments sights t (ReplyEnds reply part missing given error gives cut) = gives_made s given (Some reply) gives
+  ends_made rules s result moments sights t (Tires left all) = ([], refl)
 
-  pub connection_made : (rules : Rules) (p q : Option (List LineMoment)) (v w : Option (List Sight)) (a b : Meter P A ghosts) (ticks ticks' : Ticks) (result : Result Ending RunFault) → Connection rules p q v w a ticks result b ticks' → Made a b
-  connection_made rules p q v w a b ticks ticks' result (Unbegun fault sights m t fails adds sees) = failed_made rules.tick a b ticks ticks' fault sights fails
-  connection_made rules p q v w a b ticks ticks' result (Begun first now mid after told ended r look sees ends) =
-      joined a mid b (looked_made rules.tick first a mid ticks told look)
-      (joined mid ends.last.meter b (doings_made rules _ ends.last ends.goes.moments ends.goes.sights ends.goes.does) (ends_made rules ends.last result ends.moments ends.sights b ticks' ends.ends))
+  connection_calls : (rules : Rules) (old new : Log) (s t : Timed P A ghosts) (result : Result Ending RunFault) → Connection rules old new s result t → Made s.meter t.meter
+  connection_calls rules old new s t result (Unbegun fault sights after fails extends) = failed_made rules.tick s t fault sights fails
+  connection_calls rules old new s t result (Begun first mid begun after r look extends ends) =
+      joined s.meter begun.meter t.meter (looked_made rules.tick first s begun look)
+      (joined begun.meter ends.last.meter t.meter (doings_made rules (begins begun first) ends.last ends.goes.moments ends.goes.sights ends.goes.does) (ends_made rules ends.last result ends.moments ends.sights t ends.ends))
 
-  pub visit_made : (rules : Rules) (v w : Option (List Sight)) (a b : Meter P A ghosts) (ticks ticks' : Ticks) (result : Result Ending RunFault) → Visits rules v w a ticks result b ticks' → Made a b
-  visit_made rules v w a b ticks ticks' result (Unprepared error sees) = ([], refl)
-  visit_made rules v w a b ticks ticks' result (Prepared now p q r m t sees connection) = connection_made rules p q now w a b ticks ticks' result connection
+  visit_calls : (rules : Rules) (v w : Option (List Sight)) (s t : Timed P A ghosts) (result : Result Ending RunFault) → Visits rules v w s result t → Made s.meter t.meter
+  visit_calls rules v w s t result (Unprepared error sees) = ([], refl)
+  visit_calls rules v w s t result (Prepared now p q r after sees connection) = connection_calls rules (log p now) (log q w) s t result connection
+
+  pub connection_made : (rules : Rules) (p q : Option (List LineMoment)) (v w : Option (List Sight)) (a b : Meter P A ghosts) (ticks ticks' : Ticks) (result : Result Ending RunFault)
+      → Connection rules (log p v) (log q w) (timed a ticks) result (timed b ticks') → Made a b
+  connection_made rules p q v w a b ticks ticks' result is = connection_calls rules (log p v) (log q w) (timed a ticks) (timed b ticks') result is
+
+  pub visit_made : (rules : Rules) (v w : Option (List Sight)) (a b : Meter P A ghosts) (ticks ticks' : Ticks) (result : Result Ending RunFault) → Visits rules v w (timed a ticks) result (timed b ticks') → Made a b
+  visit_made rules v w a b ticks ticks' result is = visit_calls rules v w (timed a ticks) (timed b ticks') result is

@@ -13,7 +13,7 @@ use Rattle.dlms_meter.specs.Steps.{IsCall}
 use Rattle.dlms_meter.specs.Steps.Call.{Fed}
 use Rattle.dlms_meter.specs.declared.meter.Meter.{Meter}
 use Rattle.dlms_pages.specs.declared.device.Pages.{Ghosts}
-use Rattle.dlms_serving.specs.Connection.{At, AnswersEach, Behind, ToRead, Checks, ChecksOnce, Connection, Unbegun, Begun, Counts, Doing, Reads, Answers, Doings, Nothing, Then, Ends, IsOver, LookEnds, ReadEnds, ReplyEnds, Tires, Gives, GivesFrame, Goes, GoesToEnd, IsOfRead, LooksOnce, ReadsPiece, Replied, begins, ending_at_reply, goes_out}
+use Rattle.dlms_serving.specs.Connection.{At, AnswersEach, Behind, ToRead, Checks, ChecksOnce, Connection, Unbegun, Begun, Counts, Doing, Reads, Answers, Doings, Nothing, Then, Ends, IsOver, LookEnds, ReadEnds, ReplyEnds, Tires, Gives, GivesFrame, Goes, GoesToEnd, IsOfRead, LooksOnce, ReadsPiece, Replied, Log, Timed, begins, log, timed, ending_at_reply, goes_out}
 use Rattle.dlms_serving.specs.Turns.{Tells}
 use Rattle.dlms_lines.specs.Watching.{Sight, Sees, has_any}
 use Rattle.dlms_lines.specs.Watching.Sight.{Second}
@@ -37,17 +37,16 @@ module _ {P A : Type 0} {ghosts : Ghosts P} where
 
   -- ---- it goes on
 
-  pub goes_nothing : (rules : Rules) (past : Option (List Moment)) (seen : Option (List Sight)) (s : At P A ghosts) → Goes rules past past seen seen s s
-  goes_nothing rules past seen s = record { moments = []; sights = []; does = Nothing; happened = adds_none past; watched = sees_nothing seen }
+  pub goes_nothing : (rules : Rules) (past : Option (List Moment)) (seen : Option (List Sight)) (s : At P A ghosts) → Goes rules (log past seen) (log past seen) s s
+  goes_nothing rules past seen s = record { moments = []; sights = []; does = Nothing; extends = (adds_none past, sees_nothing seen) }
 
   goes_and : (rules : Rules) (p q r : Option (List Moment)) (v w x : Option (List Sight)) (s mid after : At P A ghosts) (moments : List Moment) (sights : List Sight)
-      → Goes rules p q v w s mid → Doing rules mid moments sights after → Adds q r moments → Sees w x sights → Goes rules p r v x s after
+      → Goes rules (log p v) (log q w) s mid → Doing rules mid moments sights after → Adds q r moments → Sees w x sights → Goes rules (log p v) (log r x) s after
   goes_and rules p q r v w x s mid after moments sights goes doing adds sees = record {
     moments = goes.moments ++ moments;
     sights = goes.sights ++ sights;
     does = Then goes.moments moments goes.sights sights mid after goes.does doing;
-    happened = adds_more p q r goes.moments moments goes.happened adds;
-    watched = sees_more v w x goes.sights sights goes.watched sees;
+    extends = (adds_more p q r goes.moments moments goes.extends.0 adds, sees_more v w x goes.sights sights goes.extends.1 sees);
   }
 
   join_does : (rules : Rules) (s mid after : At P A ghosts) (xs ys : List Moment) (vs ws : List Sight) → Doings rules s xs vs mid → Doings rules mid ys ws after → Doings rules s (xs ++ ys) (vs ++ ws) after
@@ -58,13 +57,12 @@ module _ {P A : Type 0} {ghosts : Ghosts P} where
       (subst (λ (l : List Sight). Doings rules s ((xs ++ before) ++ moments) l after) (append_assoc vs asked sights)
       (Then (xs ++ before) moments (vs ++ asked) sights m after (join_does rules s mid m xs before vs asked first does) doing))
 
-  pub goes_on : (rules : Rules) (p q r : Option (List Moment)) (v w x : Option (List Sight)) (s mid after : At P A ghosts) → Goes rules p q v w s mid → Goes rules q r w x mid after → Goes rules p r v x s after
+  pub goes_on : (rules : Rules) (p q r : Option (List Moment)) (v w x : Option (List Sight)) (s mid after : At P A ghosts) → Goes rules (log p v) (log q w) s mid → Goes rules (log q w) (log r x) mid after → Goes rules (log p v) (log r x) s after
   goes_on rules p q r v w x s mid after first second = record {
     moments = first.moments ++ second.moments;
     sights = first.sights ++ second.sights;
     does = join_does rules s mid after first.moments second.moments first.sights second.sights first.does second.does;
-    happened = adds_more p q r first.moments second.moments first.happened second.happened;
-    watched = sees_more v w x first.sights second.sights first.watched second.watched;
+    extends = (adds_more p q r first.moments second.moments first.extends.0 second.extends.0, sees_more v w x first.sights second.sights first.extends.1 second.extends.1);
   }
 
   -- ---- bytes are given
@@ -117,10 +115,10 @@ module _ {P A : Type 0} {ghosts : Ghosts P} where
 
   -- the bytes are answered, and the turn is not over
   pub goes_answering : {E : Type 0} (rules : Rules) (p q r : Option (List Moment)) (v w x : Option (List Sight)) (s : At P A ghosts) (meter given meter' : Meter P A ghosts) (ticks ticks' : Ticks) (bytes rest : List ℕ) (state state' : TurnState)
-      (reads : ℕ) (tries : Tries) (taken : Taken) (found : Option Why) → 0 < length bytes → rest ≡ drop taken.count bytes → Goes rules p q v w s (at meter ticks bytes state reads)
+      (reads : ℕ) (tries : Tries) (taken : Taken) (found : Option Why) → 0 < length bytes → rest ≡ drop taken.count bytes → Goes rules (log p v) (log q w) s (at meter ticks bytes state reads)
       → GivesFrame {E = E} q r meter bytes state.turn.tries tries (Ok taken) given → found ≡ None
       → ChecksOnce rules w x (at given ticks rest (record state { turn = record state.turn { tries = tries } }) reads) taken.is_answered (Ok found) (at meter' ticks' rest state' reads)
-      → Goes rules p r v x s (at meter' ticks' rest state' reads)
+      → Goes rules (log p v) (log r x) s (at meter' ticks' rest state' reads)
   goes_answering {E} rules p q r v w x s meter given meter' ticks ticks' bytes rest state state' reads tries taken found some left goes is none (now, sights, sees, checks, tells) =
       let g = given_by {E = E} q r meter given ticks bytes rest state reads tries taken some left is in
       let mid = at given ticks rest (record state { turn = record state.turn { tries = tries } }) reads in
@@ -132,8 +130,8 @@ module _ {P A : Type 0} {ghosts : Ghosts P} where
   -- ---- a read
 
   reads_as : (rules : Rules) (p q r : Option (List Moment)) (v w x : Option (List Sight)) (s mid after : At P A ghosts) (now : ℕ) (sights : List Sight) (piece bytes : List ℕ) (count : ℕ) → mid.left ≡ []
-      → Goes rules p q v w s mid → Sees w x (Second (Some now) ∷ sights) → Checks rules mid false now sights after → Tells rules after.state.turn now None → bytes ≡ take count piece → ReadsPiece q r (Ok count) piece
-      → Goes rules p r v x s (record after { left = bytes; reads = after.reads + 1 })
+      → Goes rules (log p v) (log q w) s mid → Sees w x (Second (Some now) ∷ sights) → Checks rules mid false now sights after → Tells rules after.state.turn now None → bytes ≡ take count piece → ReadsPiece q r (Ok count) piece
+      → Goes rules (log p v) (log r x) s (record after { left = bytes; reads = after.reads + 1 })
   reads_as rules p q r v w x s mid after now sights piece bytes count given goes sees checks tells is (inl adds) =
       goes_and rules p q r v w x s mid (record after { left = bytes; reads = after.reads + 1 }) (Came (take count piece) ∷ []) (Second (Some now) ∷ sights) goes
       (Reads now sights after (Came (take count piece)) bytes given checks tells is) adds sees
@@ -142,62 +140,60 @@ module _ {P A : Type 0} {ghosts : Ghosts P} where
       (Reads now sights after Quiet bytes given checks tells (is ∙ ap (λ (n : ℕ). take n piece) none)) adds sees
 
   pub goes_reading : (rules : Rules) (p q r : Option (List Moment)) (v w x : Option (List Sight)) (s : At P A ghosts) (meter meter' : Meter P A ghosts) (ticks ticks' : Ticks) (state state' : TurnState) (reads : ℕ) (found : Option Why)
-      (piece bytes : List ℕ) (count : ℕ) → Goes rules p q v w s (at meter ticks [] state reads) → found ≡ None → ChecksOnce rules w x (at meter ticks [] state reads) false (Ok found) (at meter' ticks' [] state' reads)
-      → bytes ≡ take count piece → ReadsPiece q r (Ok count) piece → Goes rules p r v x s (at meter' ticks' bytes state' (reads + 1))
+      (piece bytes : List ℕ) (count : ℕ) → Goes rules (log p v) (log q w) s (at meter ticks [] state reads) → found ≡ None → ChecksOnce rules w x (at meter ticks [] state reads) false (Ok found) (at meter' ticks' [] state' reads)
+      → bytes ≡ take count piece → ReadsPiece q r (Ok count) piece → Goes rules (log p v) (log r x) s (at meter' ticks' bytes state' (reads + 1))
   goes_reading rules p q r v w x s meter meter' ticks ticks' state state' reads found piece bytes count goes none (now, sights, sees, checks, tells) is read =
       reads_as rules p q r v w x s (at meter ticks [] state reads) (at meter' ticks' [] state' reads) now sights piece bytes count refl goes sees checks (subst (λ (o : Option Why). Tells rules state'.turn now o) none tells) is read
 
   -- ---- it ends
 
   pub ends_behind : (rules : Rules) (p q r : Option (List Moment)) (v w x : Option (List Sight)) (s mid : At P A ghosts) (result : Result Ending RunFault) (meter : Meter P A ghosts) (ticks : Ticks)
-      → Goes rules p q v w s mid → GoesToEnd rules q r w x mid result meter ticks → GoesToEnd rules p r v x s result meter ticks
+      → Goes rules (log p v) (log q w) s mid → GoesToEnd rules (log q w) (log r x) mid result (timed meter ticks) → GoesToEnd rules (log p v) (log r x) s result (timed meter ticks)
   ends_behind rules p q r v w x s mid result meter ticks goes ends = record {
-    now = ends.now;
-    seen_now = ends.seen_now;
+    mid = ends.mid;
     last = ends.last;
-    goes = goes_on rules p q ends.now v w ends.seen_now s mid ends.last goes ends.goes;
+    goes = goes_on rules p q ends.mid.moments v w ends.mid.sights s mid ends.last goes ends.goes;
     moments = ends.moments;
     sights = ends.sights;
     ends = ends.ends;
-    happened = ends.happened;
-    watched = ends.watched;
+    extends = ends.extends;
   }
 
   ends_so : (rules : Rules) (p q r : Option (List Moment)) (v w x : Option (List Sight)) (s last : At P A ghosts) (result : Result Ending RunFault) (moments : List Moment) (sights : List Sight) (meter : Meter P A ghosts) (ticks : Ticks)
-      → Goes rules p q v w s last → Ends rules last result moments sights meter ticks → Adds q r moments → Sees w x sights → GoesToEnd rules p r v x s result meter ticks
+      → Goes rules (log p v) (log q w) s last → Ends rules last result moments sights (timed meter ticks) → Adds q r moments → Sees w x sights → GoesToEnd rules (log p v) (log r x) s result (timed meter ticks)
   ends_so rules p q r v w x s last result moments sights meter ticks goes ends adds sees =
-      record { now = q; seen_now = w; last = last; goes = goes; moments = moments; sights = sights; ends = ends; happened = adds; watched = sees }
+      record { mid = log q w; last = last; goes = goes; moments = moments; sights = sights; ends = ends; extends = (adds, sees) }
 
   -- before a read
   pub over_at_read : (rules : Rules) (p q : Option (List Moment)) (v w x : Option (List Sight)) (s : At P A ghosts) (meter meter' : Meter P A ghosts) (ticks ticks' : Ticks) (state state' : TurnState) (reads : ℕ) (found : Option Why) (why : Why)
-      → Goes rules p q v w s (at meter ticks [] state reads) → found ≡ Some why → ChecksOnce rules w x (at meter ticks [] state reads) false (Ok found) (at meter' ticks' [] state' reads)
-      → GoesToEnd rules p q v x s (Ok (Over why)) meter' ticks'
+      → Goes rules (log p v) (log q w) s (at meter ticks [] state reads) → found ≡ Some why → ChecksOnce rules w x (at meter ticks [] state reads) false (Ok found) (at meter' ticks' [] state' reads)
+      → GoesToEnd rules (log p v) (log q x) s (Ok (Over why)) (timed meter' ticks')
   over_at_read rules p q v w x s meter meter' ticks ticks' state state' reads found why goes is (now, sights, sees, checks, tells) =
       ends_so rules p q q v w x s (at meter ticks [] state reads) (Ok (Over why)) [] (Second (Some now) ∷ sights) meter' ticks' goes
       (IsOver [] false (at meter ticks [] state reads) now sights (at meter' ticks' [] state' reads) why (ToRead refl) checks (subst (λ (o : Option Why). Tells rules state'.turn now o) is tells)) (adds_none q) sees
 
   pub look_fails_at_read : (rules : Rules) (p q : Option (List Moment)) (v w x : Option (List Sight)) (s : At P A ghosts) (meter meter' : Meter P A ghosts) (ticks ticks' : Ticks) (state state' : TurnState) (reads : ℕ) (fault : RunFault)
-      → Goes rules p q v w s (at meter ticks [] state reads) → ChecksOnce rules w x (at meter ticks [] state reads) false (Err fault) (at meter' ticks' [] state' reads) → GoesToEnd rules p q v x s (Err fault) meter' ticks'
+      → Goes rules (log p v) (log q w) s (at meter ticks [] state reads) → ChecksOnce rules w x (at meter ticks [] state reads) false (Err fault) (at meter' ticks' [] state' reads) → GoesToEnd rules (log p v) (log q x) s (Err fault) (timed meter' ticks')
   look_fails_at_read rules p q v w x s meter meter' ticks ticks' state state' reads fault goes (sights, sees, fails, left, staying, counted) =
-      ends_so rules p q q v w x s (at meter ticks [] state reads) (Err fault) [] sights meter' ticks' goes (LookEnds [] false (at meter ticks [] state reads) fault sights meter' ticks' (ToRead refl) fails) (adds_none q) sees
+      ends_so rules p q q v w x s (at meter ticks [] state reads) (Err fault) [] sights meter' ticks' goes (LookEnds [] false (at meter ticks [] state reads) fault sights (timed meter' ticks') (ToRead refl) fails) (adds_none q) sees
 
   pub read_breaks : (rules : Rules) (p q r : Option (List Moment)) (v w x : Option (List Sight)) (s : At P A ghosts) (meter meter' : Meter P A ghosts) (ticks ticks' : Ticks) (state state' : TurnState) (reads : ℕ) (found : Option Why) (error : Error) (ending : Ending)
-      → Goes rules p q v w s (at meter ticks [] state reads) → found ≡ None → ChecksOnce rules w x (at meter ticks [] state reads) false (Ok found) (at meter' ticks' [] state' reads) → Adds q r (Unheard error ∷ []) → IsOfRead error ending
-      → GoesToEnd rules p r v x s (Ok ending) meter' ticks'
+      → Goes rules (log p v) (log q w) s (at meter ticks [] state reads) → found ≡ None → ChecksOnce rules w x (at meter ticks [] state reads) false (Ok found) (at meter' ticks' [] state' reads) → Adds q r (Unheard error ∷ []) → IsOfRead error ending
+      → GoesToEnd rules (log p v) (log r x) s (Ok ending) (timed meter' ticks')
   read_breaks rules p q r v w x s meter meter' ticks ticks' state state' reads found error ending goes none (now, sights, sees, checks, tells) adds of_read =
       ends_so rules p q r v w x s (at meter ticks [] state reads) (Ok ending) (Unheard error ∷ []) (Second (Some now) ∷ sights) meter' ticks' goes
       (ReadEnds now sights (at meter' ticks' [] state' reads) error ending refl checks (subst (λ (o : Option Why). Tells rules state'.turn now o) none tells) of_read) adds sees
 
   pub tires : (rules : Rules) (p q : Option (List Moment)) (v w : Option (List Sight)) (s : At P A ghosts) (meter : Meter P A ghosts) (ticks : Ticks) (state : TurnState) (reads : ℕ) → reads ≡ 2 ^ 64 - 1
-      → Goes rules p q v w s (at meter ticks [] state reads) → GoesToEnd rules p q v w s (Err Io) meter ticks
+      → Goes rules (log p v) (log q w) s (at meter ticks [] state reads) → GoesToEnd rules (log p v) (log q w) s (Err Io) (timed meter ticks)
   tires rules p q v w s meter ticks state reads all goes = ends_so rules p q q v w w s (at meter ticks [] state reads) (Err Io) [] [] meter ticks goes (Tires refl all) (adds_none q) (sees_nothing w)
 
   -- after bytes
   pub reply_breaks : {E : Type 0} (rules : Rules) (p q r : Option (List Moment)) (v w : Option (List Sight)) (s : At P A ghosts) (meter given : Meter P A ghosts) (ticks : Ticks) (bytes : List ℕ) (state : TurnState) (reads : ℕ) (tries : Tries) (e : E) (error : Error)
-      → 0 < length bytes → Goes rules p q v w s (at meter ticks bytes state reads) → GivesFrame {E = E} q r meter bytes state.turn.tries tries (Err e) given → GoesToEnd rules p r v w s (Ok (ending_at_reply tries error)) given ticks
+      → 0 < length bytes → Goes rules (log p v) (log q w) s (at meter ticks bytes state reads) → GivesFrame {E = E} q r meter bytes state.turn.tries tries (Err e) given → GoesToEnd rules (log p v) (log r w) s (Ok (ending_at_reply tries error)) (timed given ticks)
   reply_breaks {E} rules p q r v w s meter given ticks bytes state reads tries e error some goes is = by_reply is.reply is.call is.counts is.replies where
     by_reply : (reply : Option (List ℕ)) → IsCall meter (Fed (take is.count bytes) reply) given → Counts reply state.turn.tries tries → Replied {E = E} q r is.count reply (Err e)
-        → GoesToEnd rules p r v w s (Ok (ending_at_reply tries error)) given ticks
+        → GoesToEnd rules (log p v) (log r w) s (Ok (ending_at_reply tries error)) (timed given ticks)
     by_reply None call counts none = absurd none
     by_reply (Some reply) call counts (part, missing, joined, adds) =
         ends_so rules p q r v w w s (at meter ticks bytes state reads) (Ok (ending_at_reply tries error)) (Broke part ∷ []) [] given ticks goes
@@ -205,10 +201,10 @@ module _ {P A : Type 0} {ghosts : Ghosts P} where
         (gives_of meter given ticks bytes state reads is.count tries (Some reply) some is.some is.within call counts) joined) adds (sees_nothing w)
 
   pub over_behind : {E : Type 0} (rules : Rules) (p q r : Option (List Moment)) (v w x : Option (List Sight)) (s : At P A ghosts) (meter given meter' : Meter P A ghosts) (ticks ticks' : Ticks) (bytes rest : List ℕ) (state state' : TurnState)
-      (reads : ℕ) (tries : Tries) (taken : Taken) (found : Option Why) (why : Why) → 0 < length bytes → rest ≡ drop taken.count bytes → Goes rules p q v w s (at meter ticks bytes state reads)
+      (reads : ℕ) (tries : Tries) (taken : Taken) (found : Option Why) (why : Why) → 0 < length bytes → rest ≡ drop taken.count bytes → Goes rules (log p v) (log q w) s (at meter ticks bytes state reads)
       → GivesFrame {E = E} q r meter bytes state.turn.tries tries (Ok taken) given → found ≡ Some why
       → ChecksOnce rules w x (at given ticks rest (record state { turn = record state.turn { tries = tries } }) reads) taken.is_answered (Ok found) (at meter' ticks' rest state' reads)
-      → GoesToEnd rules p r v x s (Ok (Over why)) meter' ticks'
+      → GoesToEnd rules (log p v) (log r x) s (Ok (Over why)) (timed meter' ticks')
   over_behind {E} rules p q r v w x s meter given meter' ticks ticks' bytes rest state state' reads tries taken found why some left goes is told (now, sights, sees, checks, tells) =
       let g = given_by {E = E} q r meter given ticks bytes rest state reads tries taken some left is in
       let mid = at given ticks rest (record state { turn = record state.turn { tries = tries } }) reads in
@@ -218,65 +214,62 @@ module _ {P A : Type 0} {ghosts : Ghosts P} where
       (subst (λ (o : Option Why). Tells rules state'.turn now o) told tells)) g.adds sees
 
   pub look_fails_behind : {E : Type 0} (rules : Rules) (p q r : Option (List Moment)) (v w x : Option (List Sight)) (s : At P A ghosts) (meter given meter' : Meter P A ghosts) (ticks ticks' : Ticks) (bytes rest : List ℕ) (state state' : TurnState)
-      (reads : ℕ) (tries : Tries) (taken : Taken) (fault : RunFault) → 0 < length bytes → rest ≡ drop taken.count bytes → Goes rules p q v w s (at meter ticks bytes state reads)
+      (reads : ℕ) (tries : Tries) (taken : Taken) (fault : RunFault) → 0 < length bytes → rest ≡ drop taken.count bytes → Goes rules (log p v) (log q w) s (at meter ticks bytes state reads)
       → GivesFrame {E = E} q r meter bytes state.turn.tries tries (Ok taken) given
       → ChecksOnce rules w x (at given ticks rest (record state { turn = record state.turn { tries = tries } }) reads) taken.is_answered (Err fault) (at meter' ticks' rest state' reads)
-      → GoesToEnd rules p r v x s (Err fault) meter' ticks'
+      → GoesToEnd rules (log p v) (log r x) s (Err fault) (timed meter' ticks')
   look_fails_behind {E} rules p q r v w x s meter given meter' ticks ticks' bytes rest state state' reads tries taken fault some left goes is (sights, sees, fails, same, staying, counted) =
       let g = given_by {E = E} q r meter given ticks bytes rest state reads tries taken some left is in
       let mid = at given ticks rest (record state { turn = record state.turn { tries = tries } }) reads in
       ends_so rules p q r v w x s (at meter ticks bytes state reads) (Err fault) (goes_out g.reply) sights meter' ticks' goes
-      (LookEnds (goes_out g.reply) (has_any g.reply) mid fault sights meter' ticks' (Behind g.reply mid g.gives) fails) g.adds sees
+      (LookEnds (goes_out g.reply) (has_any g.reply) mid fault sights (timed meter' ticks') (Behind g.reply mid g.gives) fails) g.adds sees
 
   -- ---- from the beginning
 
-  pub unbegun : (rules : Rules) (past : Option (List Moment)) (v w : Option (List Sight)) (meter meter' : Meter P A ghosts) (ticks ticks' : Ticks) (fault : RunFault) → LooksOnce rules.tick v w meter ticks (Err fault) meter' ticks'
-      → Connection rules past past v w meter ticks (Err fault) meter' ticks'
-  unbegun rules past v w meter meter' ticks ticks' fault (sights, sees, fails) = Unbegun fault sights meter' ticks' fails (adds_none past) sees
+  pub unbegun : (rules : Rules) (past : Option (List Moment)) (v w : Option (List Sight)) (meter meter' : Meter P A ghosts) (ticks ticks' : Ticks) (fault : RunFault) → LooksOnce rules.tick v w (timed meter ticks) (Err fault) (timed meter' ticks')
+      → Connection rules (log past v) (log past w) (timed meter ticks) (Err fault) (timed meter' ticks')
+  unbegun rules past v w meter meter' ticks ticks' fault (sights, sees, fails) = Unbegun fault sights (timed meter' ticks') fails (adds_none past, sees)
 
   pub from_start : (rules : Rules) (p q : Option (List Moment)) (v w x : Option (List Sight)) (meter mid meter' : Meter P A ghosts) (ticks told ticks' : Ticks) (first : ℕ) (result : Result Ending RunFault)
-      → LooksOnce rules.tick v w meter ticks (Ok first) mid told → GoesToEnd rules p q w x (begins mid told first) result meter' ticks' → Connection rules p q v x meter ticks result meter' ticks'
-  from_start rules p q v w x meter mid meter' ticks told ticks' first result (sees, look) ends = Begun first w mid meter' told ticks' result look sees ends
+      → LooksOnce rules.tick v w (timed meter ticks) (Ok first) (timed mid told) → GoesToEnd rules (log p w) (log q x) (begins (timed mid told) first) result (timed meter' ticks') → Connection rules (log p v) (log q x) (timed meter ticks) result (timed meter' ticks')
+  from_start rules p q v w x meter mid meter' ticks told ticks' first result (sees, look) ends = Begun first (log p w) (timed mid told) (timed meter' ticks') result look (adds_none p, sees) ends
 
   pub each_ends : (rules : Rules) (p q : Option (List Moment)) (v w : Option (List Sight)) (s : At P A ghosts) (meter : Meter P A ghosts) (ticks : Ticks) (state : TurnState) (found : Option Ending) (ending : Ending) → found ≡ Some ending
-      → AnswersEach rules p q v w s (Ok found) meter ticks state → GoesToEnd rules p q v w s (Ok ending) meter ticks
-  each_ends rules p q v w s meter ticks state found ending is each = subst (λ (o : Option Ending). AnswersEach rules p q v w s (Ok o) meter ticks state) is each
+      → AnswersEach rules (log p v) (log q w) s (Ok found) (timed meter ticks) state → GoesToEnd rules (log p v) (log q w) s (Ok ending) (timed meter ticks)
+  each_ends rules p q v w s meter ticks state found ending is each = subst (λ (o : Option Ending). AnswersEach rules (log p v) (log q w) s (Ok o) (timed meter ticks) state) is each
 
   pub each_goes : (rules : Rules) (p q : Option (List Moment)) (v w : Option (List Sight)) (s : At P A ghosts) (meter : Meter P A ghosts) (ticks : Ticks) (state : TurnState) (found : Option Ending) → found ≡ None
-      → AnswersEach rules p q v w s (Ok found) meter ticks state → Goes rules p q v w s (at meter ticks [] state s.reads)
-  each_goes rules p q v w s meter ticks state found is each = subst (λ (o : Option Ending). AnswersEach rules p q v w s (Ok o) meter ticks state) is each
+      → AnswersEach rules (log p v) (log q w) s (Ok found) (timed meter ticks) state → Goes rules (log p v) (log q w) s (at meter ticks [] state s.reads)
+  each_goes rules p q v w s meter ticks state found is each = subst (λ (o : Option Ending). AnswersEach rules (log p v) (log q w) s (Ok o) (timed meter ticks) state) is each
 
   -- a connection of which so often was read
-  pub record Under (rules : Rules) (p q : Option (List Moment)) (v x : Option (List Sight)) (meter : Meter P A ghosts) (ticks : Ticks) (meter' : Meter P A ghosts) (ticks' : Ticks) (state : TurnState) (reads : ℕ) : Type 0 where
+  pub record Under (rules : Rules) (old new : Log) (s t : Timed P A ghosts) (state : TurnState) (reads : ℕ) : Type 0 where
     pub first : ℕ
     pub seen : Option (List Sight)
-    pub mid : Meter P A ghosts
-    pub told : Ticks
-    pub look : LooksOnce rules.tick v seen meter ticks (Ok first) mid told
-    pub goes : Goes rules p q seen x (begins mid told first) (at meter' ticks' [] state reads)
+    pub begun : Timed P A ghosts
+    pub look : LooksOnce rules.tick old.sights seen s (Ok first) begun
+    pub goes : Goes rules (log old.moments seen) new (begins begun first) (at t.meter t.ticks [] state reads)
 
   pub under_ends : (rules : Rules) (p q r : Option (List Moment)) (v w x : Option (List Sight)) (meter mid meter' : Meter P A ghosts) (ticks told ticks' : Ticks) (state : TurnState) (reads : ℕ) (result : Result Ending RunFault)
-      → (u : Under rules p q v w meter ticks mid told state reads) → GoesToEnd rules p r u.seen x (begins u.mid u.told u.first) result meter' ticks' → Connection rules p r v x meter ticks result meter' ticks'
-  under_ends rules p q r v w x meter mid meter' ticks told ticks' state reads result u ends = from_start rules p r v u.seen x meter u.mid meter' ticks u.told ticks' u.first result u.look ends
+      → (u : Under rules (log p v) (log q w) (timed meter ticks) (timed mid told) state reads) → GoesToEnd rules (log p u.seen) (log r x) (begins u.begun u.first) result (timed meter' ticks') → Connection rules (log p v) (log r x) (timed meter ticks) result (timed meter' ticks')
+  under_ends rules p q r v w x meter mid meter' ticks told ticks' state reads result u ends = from_start rules p r v u.seen x meter u.begun.meter meter' ticks u.begun.ticks ticks' u.first result u.look ends
 
-  pub under_begins : (rules : Rules) (p : Option (List Moment)) (v w : Option (List Sight)) (meter mid : Meter P A ghosts) (ticks told : Ticks) (first : ℕ) (state : TurnState) → LooksOnce rules.tick v w meter ticks (Ok first) mid told
-      → state ≡ record { turn = record { answered = first; held = first; waited = None; tries = record { refusals = 0; is_proved = false } }; asked = None } → Under rules p p v w meter ticks mid told state 0
+  pub under_begins : (rules : Rules) (p : Option (List Moment)) (v w : Option (List Sight)) (meter mid : Meter P A ghosts) (ticks told : Ticks) (first : ℕ) (state : TurnState) → LooksOnce rules.tick v w (timed meter ticks) (Ok first) (timed mid told)
+      → state ≡ record { turn = record { answered = first; held = first; waited = None; tries = record { refusals = 0; is_proved = false } }; asked = None } → Under rules (log p v) (log p w) (timed meter ticks) (timed mid told) state 0
   under_begins rules p v w meter mid ticks told first state look is = record {
     first = first;
     seen = w;
-    mid = mid;
-    told = told;
+    begun = timed mid told;
     look = look;
-    goes = subst (λ (t : TurnState). Goes rules p p w w (begins mid told first) (at mid told [] t 0)) (sym is) (goes_nothing rules p w (begins mid told first));
+    goes = subst (λ (t : TurnState). Goes rules (log p w) (log p w) (begins (timed mid told) first) (at mid told [] t 0)) (sym is) (goes_nothing rules p w (begins (timed mid told) first));
   }
 
   pub under_goes : (rules : Rules) (p q r : Option (List Moment)) (v w x : Option (List Sight)) (meter mid meter' : Meter P A ghosts) (ticks told ticks' : Ticks) (state state' : TurnState) (reads reads' : ℕ)
-      → (u : Under rules p q v w meter ticks mid told state reads) → Goes rules q r w x (at mid told [] state reads) (at meter' ticks' [] state' reads') → Under rules p r v x meter ticks meter' ticks' state' reads'
+      → (u : Under rules (log p v) (log q w) (timed meter ticks) (timed mid told) state reads) → Goes rules (log q w) (log r x) (at mid told [] state reads) (at meter' ticks' [] state' reads') → Under rules (log p v) (log r x) (timed meter ticks) (timed meter' ticks') state' reads'
   under_goes rules p q r v w x meter mid meter' ticks told ticks' state state' reads reads' u goes = record {
     first = u.first;
     seen = u.seen;
-    mid = u.mid;
-    told = u.told;
+    begun = u.begun;
     look = u.look;
-    goes = goes_on rules p q r u.seen w x (begins u.mid u.told u.first) (at mid told [] state reads) (at meter' ticks' [] state' reads') u.goes goes;
+    goes = goes_on rules p q r u.seen w x (begins u.begun u.first) (at mid told [] state reads) (at meter' ticks' [] state' reads') u.goes goes;
   }

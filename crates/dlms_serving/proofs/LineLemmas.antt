@@ -4,7 +4,7 @@ use Rattle.std.specs.Prelude.{if◌then◌else◌}
 use Rattle.dlms_ends.specs.Moments.{Moment}
 use Rattle.dlms_meter.specs.declared.meter.Meter.{Meter}
 use Rattle.dlms_pages.specs.declared.device.Pages.{Ghosts}
-use Rattle.dlms_serving.specs.Connection.{Connection}
+use Rattle.dlms_serving.specs.Connection.{Connection, log, timed}
 use Rattle.dlms_serving.specs.HangingUp.{HangsUp}
 use Rattle.dlms_serving.specs.Serving.{is_refused}
 use Rattle.dlms_serving.specs.ServingLine.{AllTurns, Lasts, ServesTurn, ServesTurns, TellsGone, rests}
@@ -21,11 +21,11 @@ rests_so old new ending refused is sees = subst (λ (b : Bool). Sees old new (if
 
 module _ {P A : Type 0} {ghosts : Ghosts P} where
   pub turn_lasts : (device : List ℕ) (rules : Rules) (o n : Option (List Moment)) (v w x y : Option (List Sight)) (a b d e : Meter P A ghosts) (ticks told ticks' : Ticks) (ending : Ending) → HangsUp a b
-      → Connection rules o n v w b ticks (Ok ending) d told → HangsUp d e → TellsGone device ending None → ticks' ≡ told → x ≡ w → Sees x y (rests ending) → ServesTurn device rules o n v y a ticks (Ok tt) e ticks'
+      → Connection rules (log o v) (log n w) (timed b ticks) (Ok ending) (timed d told) → HangsUp d e → TellsGone device ending None → ticks' ≡ told → x ≡ w → Sees x y (rests ending) → ServesTurn device rules (log o v) (log n y) (timed a ticks) (Ok tt) (timed e ticks')
   turn_lasts device rules o n v w x y a b d e ticks told ticks' ending first talks last tells same still rest =
-      subst (λ (t : Ticks). ServesTurn device rules o n v y a ticks (Ok tt) e t) (sym same)
-      (Lasts w b d e told ending first talks last tells (subst (λ (s : Option (List Sight)). Sees s y (rests ending)) still rest))
+      subst (λ (t : Ticks). ServesTurn device rules (log o v) (log n y) (timed a ticks) (Ok tt) (timed e t)) (sym same)
+      (Lasts w b e (timed d told) ending first talks last tells (subst (λ (s : Option (List Sight)). Sees s y (rests ending)) still rest))
 
   pub turns_until : (device : List ℕ) (rules : Rules) (o m n : Option (List Moment)) (v w x : Option (List Sight)) (a b d : Meter P A ghosts) (ticks told ticks' : Ticks) (count : ℕ) (fault : FieldFault)
-      → ServesTurns device rules o v a ticks count m w b told → ServesTurn device rules m n w x b told (Err fault) d ticks' → AllTurns {T = Unit {0}} device rules o n v x a ticks (Err fault) d ticks'
-  turns_until device rules o m n v w x a b d ticks told ticks' count fault turns ends = record { count = count; past = m; mid = w; was = b; told = told; turns = turns; ends = ends }
+      → ServesTurns device rules (log o v) (timed a ticks) count (log m w) (timed b told) → ServesTurn device rules (log m w) (log n x) (timed b told) (Err fault) (timed d ticks') → AllTurns {T = Unit {0}} device rules (log o v) (log n x) (timed a ticks) (Err fault) (timed d ticks')
+  turns_until device rules o m n v w x a b d ticks told ticks' count fault turns ends = record { count = count; mid = log m w; last = timed b told; turns = turns; ends = ends }

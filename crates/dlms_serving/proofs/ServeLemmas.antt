@@ -9,7 +9,7 @@ use Rattle.dlms_ends.specs.declared.fault.RunFault.{RunFault}
 use Rattle.dlms_ends.proofs.PollLemmas.{system_told}
 use Rattle.dlms_meter.specs.declared.meter.Meter.{Meter}
 use Rattle.dlms_pages.specs.declared.device.Pages.{Ghosts}
-use Rattle.dlms_serving.specs.Connection.{LooksOnce}
+use Rattle.dlms_serving.specs.Connection.{LooksOnce, timed}
 use Rattle.dlms_serving.specs.HangingUp.{HangsUp}
 use Rattle.dlms_lines.specs.Faults.{IsOther}
 use Rattle.dlms_serving.specs.Serving.{Bans, Closes, is_refused, IsSystem, Passes, ServesAll, ServesMany, ServesNext, NoLook, NoneCame, OneCame, HasPassed, PortFails, ServesOne, Served, TellsOther, Visits}
@@ -38,38 +38,38 @@ closes_in_vain address v w ending refused error r is so told sees = (λ refuses.
 
 module _ {P A : Type 0} {ghosts : Ghosts P} where
   pub served : (rules : Rules) (address : SocketAddr) (v w x : Option (List Sight)) (a begun ended after : Meter P A ghosts) (ticks ticks' ticks'' : Ticks) (ending : Ending) (result : Result (Unit {0}) RunFault) → HangsUp a begun
-      → Visits rules v w begun ticks (Ok ending) ended ticks' → HangsUp ended after → Closes address ending w x result → ticks'' ≡ ticks' → ServesOne rules address v x a ticks result after ticks''
+      → Visits rules v w (timed begun ticks) (Ok ending) (timed ended ticks') → HangsUp ended after → Closes address ending w x result → ticks'' ≡ ticks' → ServesOne rules address v x (timed a ticks) result (timed after ticks'')
   served rules address v w x a begun ended after ticks ticks' ticks'' ending result first visits last closes same =
-      subst (λ (t : Ticks). ServesOne rules address v x a ticks result after t) (sym same) (Served w begun ended after ticks' ending result first visits last closes)
+      subst (λ (t : Ticks). ServesOne rules address v x (timed a ticks) result (timed after t)) (sym same) (Served w begun after (timed ended ticks') ending result first visits last closes)
 
   -- ---- the next one, behind a look at the clock
 
-  pub no_look : (rules : Rules) (v w : Option (List Sight)) (a b : Meter P A ghosts) (ticks ticks' : Ticks) (fault : RunFault) (given : FieldFault) → IsOther given fault → LooksOnce rules.tick v w a ticks (Err fault) b ticks'
-      → ServesNext rules v w a ticks (Err given) b ticks'
-  no_look rules v w a b ticks ticks' fault given is looks = NoLook fault given looks.0 b ticks' is looks.2 looks.1
+  pub no_look : (rules : Rules) (v w : Option (List Sight)) (a b : Meter P A ghosts) (ticks ticks' : Ticks) (fault : RunFault) (given : FieldFault) → IsOther given fault → LooksOnce rules.tick v w (timed a ticks) (Err fault) (timed b ticks')
+      → ServesNext rules v w (timed a ticks) (Err given) (timed b ticks')
+  no_look rules v w a b ticks ticks' fault given is looks = NoLook fault given looks.0 (timed b ticks') is looks.2 looks.1
 
-  pub none_came : (rules : Rules) (v w x : Option (List Sight)) (a b : Meter P A ghosts) (ticks ticks' : Ticks) (now : ℕ) (came : Option SocketAddr) → LooksOnce rules.tick v w a ticks (Ok now) b ticks' → Sees w x (Next now (Ok came) ∷ [])
-      → came ≡ None → ServesNext rules v x a ticks (Ok tt) b ticks'
+  pub none_came : (rules : Rules) (v w x : Option (List Sight)) (a b : Meter P A ghosts) (ticks ticks' : Ticks) (now : ℕ) (came : Option SocketAddr) → LooksOnce rules.tick v w (timed a ticks) (Ok now) (timed b ticks') → Sees w x (Next now (Ok came) ∷ [])
+      → came ≡ None → ServesNext rules v x (timed a ticks) (Ok tt) (timed b ticks')
   none_came rules v w x a b ticks ticks' now came looks sees is =
-      NoneCame now b ticks' looks.1 (sees_more v w x (Second (Some now) ∷ []) (Next now (Ok None) ∷ []) looks.0 (subst (λ (c : Option SocketAddr). Sees w x (Next now (Ok c) ∷ [])) is sees))
+      NoneCame now (timed b ticks') looks.1 (sees_more v w x (Second (Some now) ∷ []) (Next now (Ok None) ∷ []) looks.0 (subst (λ (c : Option SocketAddr). Sees w x (Next now (Ok c) ∷ [])) is sees))
 
   pub one_came : (rules : Rules) (v w x y : Option (List Sight)) (a b d : Meter P A ghosts) (ticks told ticks' : Ticks) (now : ℕ) (address : SocketAddr) (came : Option SocketAddr) (outcome : Result (Unit {0}) RunFault) (result : Result (Unit {0}) FieldFault)
-      → LooksOnce rules.tick v w a ticks (Ok now) b told → Sees w x (Next now (Ok came) ∷ []) → came ≡ Some address → ServesOne rules address x y b told outcome d ticks' → TellsOther outcome result → ServesNext rules v y a ticks result d ticks'
+      → LooksOnce rules.tick v w (timed a ticks) (Ok now) (timed b told) → Sees w x (Next now (Ok came) ∷ []) → came ≡ Some address → ServesOne rules address x y (timed b told) outcome (timed d ticks') → TellsOther outcome result → ServesNext rules v y (timed a ticks) result (timed d ticks')
   one_came rules v w x y a b d ticks told ticks' now address came outcome result looks sees is serves tells =
-      OneCame now address x b d told ticks' outcome result looks.1 (sees_more v w x (Second (Some now) ∷ []) (Next now (Ok (Some address)) ∷ []) looks.0 (subst (λ (c : Option SocketAddr). Sees w x (Next now (Ok c) ∷ [])) is sees)) serves tells
+      OneCame now address x (timed b told) (timed d ticks') outcome result looks.1 (sees_more v w x (Second (Some now) ∷ []) (Next now (Ok (Some address)) ∷ []) looks.0 (subst (λ (c : Option SocketAddr). Sees w x (Next now (Ok c) ∷ [])) is sees)) serves tells
 
-  pub port_fails : (rules : Rules) (v w x : Option (List Sight)) (a b : Meter P A ghosts) (ticks ticks' : Ticks) (now : ℕ) (error : Error) (given : FieldFault) → LooksOnce rules.tick v w a ticks (Ok now) b ticks'
-      → Sees w x (Next now (Err error) ∷ []) → (Passes error → ⊥) → IsSystem given error → ServesNext rules v x a ticks (Err given) b ticks'
+  pub port_fails : (rules : Rules) (v w x : Option (List Sight)) (a b : Meter P A ghosts) (ticks ticks' : Ticks) (now : ℕ) (error : Error) (given : FieldFault) → LooksOnce rules.tick v w (timed a ticks) (Ok now) (timed b ticks')
+      → Sees w x (Next now (Err error) ∷ []) → (Passes error → ⊥) → IsSystem given error → ServesNext rules v x (timed a ticks) (Err given) (timed b ticks')
   port_fails rules v w x a b ticks ticks' now error given looks sees stays is =
-      PortFails now error given b ticks' looks.1 stays is (sees_more v w x (Second (Some now) ∷ []) (Next now (Err error) ∷ []) looks.0 sees)
+      PortFails now error given (timed b ticks') looks.1 stays is (sees_more v w x (Second (Some now) ∷ []) (Next now (Err error) ∷ []) looks.0 sees)
 
-  pub has_passed : (rules : Rules) (v w x y : Option (List Sight)) (a b : Meter P A ghosts) (ticks ticks' ticks'' : Ticks) (now : ℕ) (error : Error) → LooksOnce rules.tick v w a ticks (Ok now) b ticks' → Sees w x (Next now (Err error) ∷ [])
-      → ticks'' ≡ ticks' → (z : Option (List Sight)) → z ≡ x → Sees z y (Pauses ∷ []) → Passes error → ServesNext rules v y a ticks (Ok tt) b ticks''
+  pub has_passed : (rules : Rules) (v w x y : Option (List Sight)) (a b : Meter P A ghosts) (ticks ticks' ticks'' : Ticks) (now : ℕ) (error : Error) → LooksOnce rules.tick v w (timed a ticks) (Ok now) (timed b ticks') → Sees w x (Next now (Err error) ∷ [])
+      → ticks'' ≡ ticks' → (z : Option (List Sight)) → z ≡ x → Sees z y (Pauses ∷ []) → Passes error → ServesNext rules v y (timed a ticks) (Ok tt) (timed b ticks'')
   has_passed rules v w x y a b ticks ticks' ticks'' now error looks sees same z still waits passes =
       let pauses : Sees x y (Pauses ∷ []) = subst (λ (t : Option (List Sight)). Sees t y (Pauses ∷ [])) still waits in
-      subst (λ (t : Ticks). ServesNext rules v y a ticks (Ok tt) b t) (sym same)
-      (HasPassed now error b ticks' looks.1 passes (sees_more v w y (Second (Some now) ∷ []) (Next now (Err error) ∷ Pauses ∷ []) looks.0 (sees_more w x y (Next now (Err error) ∷ []) (Pauses ∷ []) sees pauses)))
+      subst (λ (t : Ticks). ServesNext rules v y (timed a ticks) (Ok tt) (timed b t)) (sym same)
+      (HasPassed now error (timed b ticks') looks.1 passes (sees_more v w y (Second (Some now) ∷ []) (Next now (Err error) ∷ Pauses ∷ []) looks.0 (sees_more w x y (Next now (Err error) ∷ []) (Pauses ∷ []) sees pauses)))
 
-  pub until : (rules : Rules) (v w x : Option (List Sight)) (a b d : Meter P A ghosts) (ticks told ticks' : Ticks) (count : ℕ) (fault : FieldFault) → ServesMany rules v a ticks count w b told
-      → ServesNext rules w x b told (Err fault) d ticks' → ServesAll {T = Unit {0}} rules v x a ticks (Err fault) d ticks'
-  until rules v w x a b d ticks told ticks' count fault many ends = record { count = count; mid = w; was = b; told = told; many = many; ends = ends }
+  pub until : (rules : Rules) (v w x : Option (List Sight)) (a b d : Meter P A ghosts) (ticks told ticks' : Ticks) (count : ℕ) (fault : FieldFault) → ServesMany rules v (timed a ticks) count w (timed b told)
+      → ServesNext rules w x (timed b told) (Err fault) (timed d ticks') → ServesAll {T = Unit {0}} rules v x (timed a ticks) (Err fault) (timed d ticks')
+  until rules v w x a b d ticks told ticks' count fault many ends = record { count = count; mid = w; last = timed b told; many = many; ends = ends }

@@ -14,7 +14,7 @@ use Rattle.dlms_meter.specs.Steps.Call.{Fed}
 use Rattle.dlms_meter.specs.declared.meter.Meter.{Meter}
 use Rattle.dlms_pages.specs.declared.device.Pages.{Ghosts}
 use Rattle.dlms_store.specs.declared.fault.AddFault.{AddFault}
-use Rattle.dlms_serving.specs.Connection.{Counts, GivesFrame, ChecksOnce, HasAssociation, turn_after_bytes, TellsStop, NoClock, NoStore, LooksOnce, Looked, IsDue, AsksFor, NotDue, Asks, AsksOnce, TellsOnce, behind_answer, behind_telling, told_of}
+use Rattle.dlms_serving.specs.Connection.{Counts, GivesFrame, ChecksOnce, HasAssociation, turn_after_bytes, TellsStop, NoClock, NoStore, LooksOnce, Looked, IsDue, AsksFor, NotDue, Asks, AsksOnce, TellsOnce, behind_answer, behind_telling, timed, told_of}
 use Rattle.dlms_serving.specs.Pace.{AreDue}
 use Rattle.dlms_serving.specs.Turns.{Tells}
 use Rattle.dlms_serving.specs.declared.talking.Rules.{Rules}
@@ -46,18 +46,18 @@ tells_one seen seen' state now is sees = (subst (λ (b : Bool). Sees seen seen' 
 
 module _ {P A : Type 0} {ghosts : Ghosts P} where
   pub no_clock : (step : ℕ) (seen seen' : Option (List Sight)) (meter : Meter P A ghosts) (ticks : Ticks) (error : Error) (r : Result ℕ RunFault) → IsErrAnd r (TellsError error) → Sees seen seen' (Second None ∷ [])
-      → LooksOnce step seen seen' meter ticks r meter ticks
+      → LooksOnce step seen seen' (timed meter ticks) r (timed meter ticks)
   no_clock step seen seen' meter ticks error (Ok now) told sees = absurd told
   no_clock step seen seen' meter ticks error (Err fault) told sees = (Second None ∷ [], sees, NoClock (system_told fault error told))
 
   pub no_store : (step now due : ℕ) (seen seen' : Option (List Sight)) (meter meter' : Meter P A ghosts) (ticks ticks' : Ticks) (why named : AddFault) (fault : RunFault) → why ≡ named → TellsStop named fault → Sees seen seen' (Second (Some now) ∷ [])
-      → AreDue (max step 1) now due → Looks due ticks meter (Err why) ticks' meter' → LooksOnce step seen seen' meter ticks (Err fault) meter' ticks'
+      → AreDue (max step 1) now due → Looks due ticks meter (Err why) ticks' meter' → LooksOnce step seen seen' (timed meter ticks) (Err fault) (timed meter' ticks')
   no_store step now due seen seen' meter meter' ticks ticks' why named fault is tells sees is_due looks =
-      (Second (Some now) ∷ [], sees, NoStore now due named meter' ticks' is_due (subst (λ (w : AddFault). Looks due ticks meter (Err w) ticks' meter') is looks) tells)
+      (Second (Some now) ∷ [], sees, NoStore now due named (timed meter' ticks') is_due (subst (λ (w : AddFault). Looks due ticks meter (Err w) ticks' meter') is looks) tells)
 
   -- a look, and the report on the turn then
   pub checks : (rules : Rules) (seen mid late seen' : Option (List Sight)) (meter meter' : Meter P A ghosts) (ticks ticks' : Ticks) (state told state' : TurnState) (is_answered : Bool) (now : ℕ) (associated : Bool) (turn : Turn) (why : Option Why)
-      → Sees seen mid (Second (Some now) ∷ []) → Looked rules.tick meter ticks now meter' ticks' → IsTrue associated ↔ HasAssociation meter' → turn ≡ turn_after_bytes state.turn is_answered now associated
+      → Sees seen mid (Second (Some now) ∷ []) → Looked rules.tick (timed meter ticks) now (timed meter' ticks') → IsTrue associated ↔ HasAssociation meter' → turn ≡ turn_after_bytes state.turn is_answered now associated
       → TellsOnce mid late (record state { turn = turn }) now told → AsksOnce late seen' told now state' → Tells rules state'.turn now why
       → (left : List ℕ) (reads : ℕ) → ChecksOnce rules seen seen' (record { meter = meter; ticks = ticks; left = left; state = state; reads = reads }) is_answered (Ok why)
       (record { meter = meter'; ticks = ticks'; left = left; state = state'; reads = reads })

@@ -35,15 +35,39 @@ use Rattle.dlms_serving.specs.declared.turns.Over.TheVariants as why
 use Rattle.dlms_serving.specs.declared.turns.Tries.{Tries}
 use Rattle.dlms_serving.specs.declared.turns.Turn.{Turn}
 
+-- ---- what is known of a meter that serves
+
+-- a meter, and how much of the clock it got
+pub record Timed (P A : Type 0) (ghosts : Ghosts P) : Type 0 where
+  pub meter : Meter P A ghosts
+  pub ticks : Ticks
+
+abbrev pub timed : {P A : Type 0} → {ghosts : Ghosts P} → Meter P A ghosts → Ticks
+    → Timed P A ghosts
+timed meter ticks = record { meter = meter; ticks = ticks }
+
+-- the events on the line, and the questions of the watch, as far as they are known
+pub record Log : Type 0 where
+  pub moments : Option (List Moment)
+  pub sights : Option (List Sight)
+
+abbrev pub log : Option (List Moment) → Option (List Sight) → Log
+log moments sights = record { moments = moments; sights = sights }
+
+-- these events and these questions came after the old ones
+abbrev pub Extends : Log → Log → List Moment → List Sight → Type 0
+Extends old new moments sights =
+    Adds old.moments new.moments moments × Sees old.sights new.sights sights
+
 -- ---- a look at the clock
 
 -- Some seconds have passed; the meter gets those that are due, and its store goes on.
-pub record Looked {P A : Type 0} {ghosts : Ghosts P} (step : ℕ) (meter : Meter P A ghosts)
-    (ticks : Ticks) (now : ℕ) (meter' : Meter P A ghosts) (ticks' : Ticks) : Type 0 where
+pub record Looked {P A : Type 0} {ghosts : Ghosts P} (step : ℕ) (old : Timed P A ghosts) (now : ℕ)
+    (new : Timed P A ghosts) : Type 0 where
   pub due : ℕ
   pub is_due : AreDue (max step 1) now due
   pub outcome : Result (Unit {0}) AddFault
-  pub looks : Looks due ticks meter outcome ticks' meter'
+  pub looks : Looks due old.ticks old.meter outcome new.ticks new.meter
   pub goes_on : GoesOn outcome
 
 -- the outcome that reports that a store does not go on
@@ -54,21 +78,20 @@ TellsStop add.Device fault = fault ≡ Add add.Device
 TellsStop add.Stopped fault = fault ≡ Add add.Device
 
 -- The clock failed; or the store did, when the meter got the seconds that are due.
-pub data LookFails {P A : Type 0} {ghosts : Ghosts P} (step : ℕ) (meter : Meter P A ghosts)
-    (ticks : Ticks) (fault : RunFault) : List Sight → Meter P A ghosts → Ticks → Type 0 where
-  NoClock : IsOfSystem fault → LookFails step meter ticks fault (Second None ∷ []) meter ticks
-  NoStore : (now due : ℕ) (why : AddFault) (meter' : Meter P A ghosts) (ticks' : Ticks)
-      → AreDue (max step 1) now due → Looks due ticks meter (Err why) ticks' meter'
+pub data LookFails {P A : Type 0} {ghosts : Ghosts P} (step : ℕ) (old : Timed P A ghosts)
+    (fault : RunFault) : List Sight → Timed P A ghosts → Type 0 where
+  NoClock : IsOfSystem fault → LookFails step old fault (Second None ∷ []) old
+  NoStore : (now due : ℕ) (why : AddFault) (new : Timed P A ghosts)
+      → AreDue (max step 1) now due → Looks due old.ticks old.meter (Err why) new.ticks new.meter
       → TellsStop why fault
-      → LookFails step meter ticks fault (Second (Some now) ∷ []) meter' ticks'
+      → LookFails step old fault (Second (Some now) ∷ []) new
 
 abbrev pub LooksOnce : {P A : Type 0} → {ghosts : Ghosts P} → ℕ → Option (List Sight)
-    → Option (List Sight) → Meter P A ghosts → Ticks → Result ℕ RunFault → Meter P A ghosts → Ticks
-    → Type 0
-LooksOnce step seen seen' meter ticks (Ok now) meter' ticks' =
-    Sees seen seen' (Second (Some now) ∷ []) × Looked step meter ticks now meter' ticks'
-LooksOnce step seen seen' meter ticks (Err fault) meter' ticks' = (sights : List Sight)
-    × Sees seen seen' sights × LookFails step meter ticks fault sights meter' ticks'
+    → Option (List Sight) → Timed P A ghosts → Result ℕ RunFault → Timed P A ghosts → Type 0
+LooksOnce step seen seen' old (Ok now) new =
+    Sees seen seen' (Second (Some now) ∷ []) × Looked step old now new
+LooksOnce step seen seen' old (Err fault) new = (sights : List Sight)
+    × Sees seen seen' sights × LookFails step old fault sights new
 
 -- ---- a connection as it stands
 
@@ -81,13 +104,15 @@ pub record At (P A : Type 0) (ghosts : Ghosts P) : Type 0 where
   pub state : TurnState
   pub reads : ℕ
 
+abbrev pub timed_of : {P A : Type 0} → {ghosts : Ghosts P} → At P A ghosts → Timed P A ghosts
+timed_of s = timed s.meter s.ticks
+
 -- a connection that begins at this second
-abbrev pub begins : {P A : Type 0} → {ghosts : Ghosts P} → Meter P A ghosts → Ticks → ℕ
-    → At P A ghosts
-begins meter ticks first =
+abbrev pub begins : {P A : Type 0} → {ghosts : Ghosts P} → Timed P A ghosts → ℕ → At P A ghosts
+begins old first =
     record {
-      meter = meter;
-      ticks = ticks;
+      meter = old.meter;
+      ticks = old.ticks;
       left = [];
       state = record {
         turn = record {
@@ -203,7 +228,7 @@ TellsOnce seen seen' state now state' = Sees seen seen' (told_of state now)
 -- A look at the clock, after bytes that were answered or were not, and at the turn at that second.
 pub record Checks {P A : Type 0} {ghosts : Ghosts P} (rules : Rules) (s : At P A ghosts)
     (is_answered : Bool) (now : ℕ) (sights : List Sight) (after : At P A ghosts) : Type 0 where
-  pub look : Looked rules.tick s.meter s.ticks now after.meter after.ticks
+  pub look : Looked rules.tick (timed_of s) now (timed_of after)
   pub associated : Bool
   pub has : IsTrue associated ↔ HasAssociation after.meter
   pub state : TurnState
@@ -224,7 +249,7 @@ ChecksOnce rules seen seen' s is_answered (Ok why) after =
     × Checks rules s is_answered now sights after × Tells rules after.state.turn now why
 ChecksOnce rules seen seen' s is_answered (Err fault) after =
     (sights : List Sight) × Sees seen seen' sights
-    × LookFails rules.tick s.meter s.ticks fault sights after.meter after.ticks
+    × LookFails rules.tick (timed_of s) fault sights (timed_of after)
     × (after.left ≡ s.left) × (after.state ≡ s.state) × (after.reads ≡ s.reads)
 
 -- ---- one thing after another
@@ -272,14 +297,13 @@ pub data Doings {P A : Type 0} {ghosts : Ghosts P} (rules : Rules) (s : At P A g
       → Doings rules s before asked mid → Doing rules mid moments sights after
       → Doings rules s (before ++ moments) (asked ++ sights) after
 
--- So it went on; this was seen on the line, and this was asked.
-pub record Goes {P A : Type 0} {ghosts : Ghosts P} (rules : Rules) (old new : Option (List Moment))
-    (seen seen' : Option (List Sight)) (s after : At P A ghosts) : Type 0 where
+-- So it went on, and this was added to what is known.
+pub record Goes {P A : Type 0} {ghosts : Ghosts P} (rules : Rules) (old new : Log)
+    (s after : At P A ghosts) : Type 0 where
   pub moments : List Moment
   pub sights : List Sight
   pub does : Doings rules s moments sights after
-  pub happened : Adds old new moments
-  pub watched : Sees seen seen' sights
+  pub extends : Extends old new moments sights
 
 -- ---- the end
 
@@ -303,72 +327,61 @@ ending_at_reply tries error = if nat_lt 0 tries.refusals then Over why.Refused e
 -- How it ends, and why: at a look at the clock its turn is over, or the look failed; a read failed; a reply did not go out whole; or it
 -- has read as often as it may.
 pub data Ends {P A : Type 0} {ghosts : Ghosts P} (rules : Rules)
-    (s : At P A ghosts) : Result Ending RunFault → List Moment → List Sight → Meter P A ghosts
-    → Ticks → Type 0 where
+    (s : At P A ghosts) : Result Ending RunFault → List Moment → List Sight → Timed P A ghosts
+    → Type 0 where
   IsOver : (moments : List Moment) (is_answered : Bool) (given : At P A ghosts) (now : ℕ)
       (sights : List Sight) (after : At P A ghosts) (why : Why)
       → Arrives s moments is_answered given
       → Checks rules given is_answered now sights after → Tells rules after.state.turn now (Some why)
-      → Ends rules s (Ok (Over why)) moments (Second (Some now) ∷ sights) after.meter after.ticks
+      → Ends rules s (Ok (Over why)) moments (Second (Some now) ∷ sights) (timed_of after)
   LookEnds : (moments : List Moment) (is_answered : Bool) (given : At P A ghosts)
-      (fault : RunFault) (sights : List Sight) (meter : Meter P A ghosts) (ticks : Ticks)
+      (fault : RunFault) (sights : List Sight) (new : Timed P A ghosts)
       → Arrives s moments is_answered given
-      → LookFails rules.tick given.meter given.ticks fault sights meter ticks
-      → Ends rules s (Err fault) moments sights meter ticks
+      → LookFails rules.tick (timed_of given) fault sights new
+      → Ends rules s (Err fault) moments sights new
   ReadEnds : (now : ℕ) (sights : List Sight) (after : At P A ghosts) (error : Error)
       (ending : Ending) → s.left ≡ [] → Checks rules s false now sights after
       → Tells rules after.state.turn now None → IsOfRead error ending
-      → Ends rules s (Ok ending) (Unheard error ∷ [])
-      (Second (Some now) ∷ sights) after.meter after.ticks
+      → Ends rules s (Ok ending) (Unheard error ∷ []) (Second (Some now) ∷ sights) (timed_of after)
   ReplyEnds : (reply part missing : List ℕ) (given : At P A ghosts) (error : Error)
       → Gives s (Some reply) given → part ++ missing ≡ reply
       → Ends rules s (Ok (ending_at_reply given.state.turn.tries error))
-      (Broke part ∷ []) [] given.meter given.ticks
-  Tires : s.left ≡ [] → s.reads ≡ 2 ^ 64 - 1 → Ends rules s (Err Io) [] [] s.meter s.ticks
+      (Broke part ∷ []) [] (timed_of given)
+  Tires : s.left ≡ [] → s.reads ≡ 2 ^ 64 - 1 → Ends rules s (Err Io) [] [] (timed_of s)
 
 -- From there it went on, and ended so.
-pub record GoesToEnd {P A : Type 0} {ghosts : Ghosts P} (rules : Rules)
-    (old new : Option (List Moment)) (seen seen' : Option (List Sight)) (s : At P A ghosts)
-    (result : Result Ending RunFault) (meter : Meter P A ghosts) (ticks : Ticks) : Type 0 where
-  pub now : Option (List Moment)
-  pub seen_now : Option (List Sight)
+pub record GoesToEnd {P A : Type 0} {ghosts : Ghosts P} (rules : Rules) (old new : Log)
+    (s : At P A ghosts) (result : Result Ending RunFault) (after : Timed P A ghosts) : Type 0 where
+  pub mid : Log
   pub last : At P A ghosts
-  pub goes : Goes rules old now seen seen_now s last
+  pub goes : Goes rules old mid s last
   pub moments : List Moment
   pub sights : List Sight
-  pub ends : Ends rules last result moments sights meter ticks
-  pub happened : Adds now new moments
-  pub watched : Sees seen_now seen' sights
+  pub ends : Ends rules last result moments sights after
+  pub extends : Extends mid new moments sights
 
 -- the frames among some bytes: all of them are answered, or the connection ends there
-abbrev pub AnswersEach : {P A : Type 0} → {ghosts : Ghosts P} → Rules → Option (List Moment)
-    → Option (List Moment) → Option (List Sight) → Option (List Sight) → At P A ghosts
-    → Result (Option Ending) RunFault
-    → Meter P A ghosts → Ticks → TurnState → Type 0
-AnswersEach rules old new seen seen' s (Ok None) meter ticks state =
-    Goes rules old new seen seen' s (record {
-      meter = meter;
-      ticks = ticks;
+abbrev pub AnswersEach : {P A : Type 0} → {ghosts : Ghosts P} → Rules → Log → Log → At P A ghosts
+    → Result (Option Ending) RunFault → Timed P A ghosts → TurnState → Type 0
+AnswersEach rules old new s (Ok None) after state =
+    Goes rules old new s (record {
+      meter = after.meter;
+      ticks = after.ticks;
       left = [];
       state = state;
       reads = s.reads;
     })
-AnswersEach rules old new seen seen' s (Ok (Some ending)) meter ticks state =
-    GoesToEnd rules old new seen seen' s (Ok ending) meter ticks
-AnswersEach rules old new seen seen' s (Err fault) meter ticks state =
-    GoesToEnd rules old new seen seen' s (Err fault) meter ticks
+AnswersEach rules old new s (Ok (Some ending)) after state =
+    GoesToEnd rules old new s (Ok ending) after
+AnswersEach rules old new s (Err fault) after state = GoesToEnd rules old new s (Err fault) after
 
 -- A connection, from its first look at the clock to its end.
-pub data Connection {P A : Type 0} {ghosts : Ghosts P} (rules : Rules)
-    (old new : Option (List Moment)) (seen seen' : Option (List Sight)) (meter : Meter P A ghosts)
-    (ticks : Ticks) : Result Ending RunFault
-    → Meter P A ghosts → Ticks → Type 0 where
-  Unbegun : (fault : RunFault) (sights : List Sight) (meter' : Meter P A ghosts) (ticks' : Ticks)
-      → LookFails rules.tick meter ticks fault sights meter' ticks' → Adds old new []
-      → Sees seen seen' sights
-      → Connection rules old new seen seen' meter ticks (Err fault) meter' ticks'
-  Begun : (first : ℕ) (now : Option (List Sight)) (mid after : Meter P A ghosts)
-      (told ended : Ticks) (result : Result Ending RunFault)
-      → Looked rules.tick meter ticks first mid told → Sees seen now (Second (Some first) ∷ [])
-      → GoesToEnd rules old new now seen' (begins mid told first) result after ended
-      → Connection rules old new seen seen' meter ticks result after ended
+pub data Connection {P A : Type 0} {ghosts : Ghosts P} (rules : Rules) (old new : Log)
+    (s : Timed P A ghosts) : Result Ending RunFault → Timed P A ghosts → Type 0 where
+  Unbegun : (fault : RunFault) (sights : List Sight) (after : Timed P A ghosts)
+      → LookFails rules.tick s fault sights after → Extends old new [] sights
+      → Connection rules old new s (Err fault) after
+  Begun : (first : ℕ) (mid : Log) (begun after : Timed P A ghosts) (result : Result Ending RunFault)
+      → Looked rules.tick s first begun → Extends old mid [] (Second (Some first) ∷ [])
+      → GoesToEnd rules mid new (begins begun first) result after
+      → Connection rules old new s result after

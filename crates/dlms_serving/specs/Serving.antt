@@ -11,7 +11,7 @@ use Rattle.dlms_meter.specs.Run.{MeterWorld, Stands, events_of}
 use Rattle.dlms_meter.specs.declared.meter.Meter.{Meter}
 use Rattle.dlms_pages.specs.declared.device.Pages.{Ghosts}
 use Rattle.dlms_state.specs.Events.{moment_after}
-use Rattle.dlms_serving.specs.Connection.{Connection, Looked, LookFails}
+use Rattle.dlms_serving.specs.Connection.{Connection, Looked, LookFails, Timed, log, timed}
 use Rattle.dlms_lines.specs.Faults.{IsOther}
 use Rattle.dlms_serving.specs.HangingUp.{HangsUp}
 use Rattle.dlms_lines.specs.Watching.{Sight, Sees}
@@ -28,15 +28,15 @@ use Rattle.dlms_serving.specs.declared.turns.Over.TheVariants.{Refused, Inactive
 
 -- It was made ready and talked with, or could not be made ready.
 pub data Visits {P A : Type 0} {ghosts : Ghosts P} (rules : Rules)
-    (seen seen' : Option (List Sight)) (meter : Meter P A ghosts)
-    (ticks : Ticks) : Result Ending RunFault → Meter P A ghosts → Ticks → Type 0 where
+    (seen seen' : Option (List Sight)) (s : Timed P A ghosts) : Result Ending RunFault
+    → Timed P A ghosts → Type 0 where
   Unprepared : (error : Error) → Sees seen seen' (Prepares (Some error) ∷ [])
-      → Visits rules seen seen' meter ticks (Ok (Failed error)) meter ticks
+      → Visits rules seen seen' s (Ok (Failed error)) s
   Prepared : (now : Option (List Sight)) (old new : Option (List Moment))
-      (result : Result Ending RunFault) (meter' : Meter P A ghosts) (ticks' : Ticks)
+      (result : Result Ending RunFault) (after : Timed P A ghosts)
       → Sees seen now (Prepares None ∷ [])
-      → Connection rules old new now seen' meter ticks result meter' ticks'
-      → Visits rules seen seen' meter ticks result meter' ticks'
+      → Connection rules (log old now) (log new seen') s result after
+      → Visits rules seen seen' s result after
 
 -- The watch hears of this address, whose association request was refused; the clock is looked at for that.
 abbrev pub Bans : {T : Type 0} → SocketAddr → Option (List Sight) → Option (List Sight)
@@ -63,16 +63,17 @@ Closes address ending seen seen' result = (is_refused ending ≡ true
 -- The links of all clients end, the connection from this address is talked with, and they end again; or the clock or the store failed in
 -- between.
 pub data ServesOne {P A : Type 0} {ghosts : Ghosts P} (rules : Rules) (address : SocketAddr)
-    (seen seen' : Option (List Sight)) (meter : Meter P A ghosts)
-    (ticks : Ticks) : Result (Unit {0}) RunFault → Meter P A ghosts → Ticks → Type 0 where
-  Served : (now : Option (List Sight)) (begun ended after : Meter P A ghosts) (ticks' : Ticks)
-      (ending : Ending) (result : Result (Unit {0}) RunFault) → HangsUp meter begun
-      → Visits rules seen now begun ticks (Ok ending) ended ticks' → HangsUp ended after
-      → Closes address ending now seen' result
-      → ServesOne rules address seen seen' meter ticks result after ticks'
-  Stopped : (begun after : Meter P A ghosts) (ticks' : Ticks) (fault : RunFault)
-      → HangsUp meter begun → Visits rules seen seen' begun ticks (Err fault) after ticks'
-      → ServesOne rules address seen seen' meter ticks (Err fault) after ticks'
+    (seen seen' : Option (List Sight)) (s : Timed P A ghosts) : Result (Unit {0}) RunFault
+    → Timed P A ghosts → Type 0 where
+  Served : (now : Option (List Sight)) (begun after : Meter P A ghosts) (ended : Timed P A ghosts)
+      (ending : Ending) (result : Result (Unit {0}) RunFault) → HangsUp s.meter begun
+      → Visits rules seen now (record s { meter = begun }) (Ok ending) ended
+      → HangsUp ended.meter after → Closes address ending now seen' result
+      → ServesOne rules address seen seen' s result (record ended { meter = after })
+  Stopped : (begun : Meter P A ghosts) (after : Timed P A ghosts) (fault : RunFault)
+      → HangsUp s.meter begun
+      → Visits rules seen seen' (record s { meter = begun }) (Err fault) after
+      → ServesOne rules address seen seen' s (Err fault) after
 
 -- ---- the next one
 
@@ -102,62 +103,52 @@ TellsOther (Err fault) result = MatchResult result (λ _. ⊥) (λ given. IsOthe
 -- A look at the clock, and then the connection that has come is served; or none has, or an error passes. It ends if the clock, the
 -- store or the port failed.
 pub data ServesNext {P A : Type 0} {ghosts : Ghosts P} (rules : Rules)
-    (seen seen' : Option (List Sight)) (meter : Meter P A ghosts)
-    (ticks : Ticks) : Result (Unit {0}) FieldFault → Meter P A ghosts → Ticks → Type 0 where
-  NoLook : (fault : RunFault) (given : FieldFault) (sights : List Sight)
-      (meter' : Meter P A ghosts) (ticks' : Ticks) → IsOther given fault
-      → LookFails rules.tick meter ticks fault sights meter' ticks' → Sees seen seen' sights
-      → ServesNext rules seen seen' meter ticks (Err given) meter' ticks'
-  NoneCame : (now : ℕ) (meter' : Meter P A ghosts) (ticks' : Ticks)
-      → Looked rules.tick meter ticks now meter' ticks'
+    (seen seen' : Option (List Sight)) (s : Timed P A ghosts) : Result (Unit {0}) FieldFault
+    → Timed P A ghosts → Type 0 where
+  NoLook : (fault : RunFault) (given : FieldFault) (sights : List Sight) (after : Timed P A ghosts)
+      → IsOther given fault → LookFails rules.tick s fault sights after → Sees seen seen' sights
+      → ServesNext rules seen seen' s (Err given) after
+  NoneCame : (now : ℕ) (after : Timed P A ghosts) → Looked rules.tick s now after
       → Sees seen seen' (Second (Some now) ∷ Next now (Ok None) ∷ [])
-      → ServesNext rules seen seen' meter ticks (Ok tt) meter' ticks'
+      → ServesNext rules seen seen' s (Ok tt) after
   OneCame : (now : ℕ) (address : SocketAddr) (mid : Option (List Sight))
-      (was after : Meter P A ghosts) (told ticks' : Ticks) (outcome : Result (Unit {0}) RunFault)
-      (result : Result (Unit {0}) FieldFault) → Looked rules.tick meter ticks now was told
+      (begun after : Timed P A ghosts) (outcome : Result (Unit {0}) RunFault)
+      (result : Result (Unit {0}) FieldFault) → Looked rules.tick s now begun
       → Sees seen mid (Second (Some now) ∷ Next now (Ok (Some address)) ∷ [])
-      → ServesOne rules address mid seen' was told outcome after ticks' → TellsOther outcome result
-      → ServesNext rules seen seen' meter ticks result after ticks'
-  HasPassed : (now : ℕ) (error : Error) (meter' : Meter P A ghosts) (ticks' : Ticks)
-      → Looked rules.tick meter ticks now meter' ticks' → Passes error
-      → Sees seen seen' (Second (Some now) ∷ Next now (Err error) ∷ Pauses ∷ [])
-      → ServesNext rules seen seen' meter ticks (Ok tt) meter' ticks'
-  PortFails : (now : ℕ) (error : Error) (given : FieldFault) (meter' : Meter P A ghosts)
-      (ticks' : Ticks) → Looked rules.tick meter ticks now meter' ticks' → (Passes error → ⊥)
-      → IsSystem given error
+      → ServesOne rules address mid seen' begun outcome after → TellsOther outcome result
+      → ServesNext rules seen seen' s result after
+  HasPassed : (now : ℕ) (error : Error) (after : Timed P A ghosts) → Looked rules.tick s now after
+      → Passes error → Sees seen seen' (Second (Some now) ∷ Next now (Err error) ∷ Pauses ∷ [])
+      → ServesNext rules seen seen' s (Ok tt) after
+  PortFails : (now : ℕ) (error : Error) (given : FieldFault) (after : Timed P A ghosts)
+      → Looked rules.tick s now after → (Passes error → ⊥) → IsSystem given error
       → Sees seen seen' (Second (Some now) ∷ Next now (Err error) ∷ [])
-      → ServesNext rules seen seen' meter ticks (Err given) meter' ticks'
+      → ServesNext rules seen seen' s (Err given) after
 
 -- ---- all of them
 
 -- so often went well, one after another
 pub data ServesMany {P A : Type 0} {ghosts : Ghosts P} (rules : Rules) (seen : Option (List Sight))
-    (meter : Meter P A ghosts) (ticks : Ticks) : ℕ → Option (List Sight) → Meter P A ghosts → Ticks
-    → Type 0 where
-  Begun : ServesMany rules seen meter ticks 0 seen meter ticks
-  Then : (count : ℕ) (mid now : Option (List Sight)) (was meter' : Meter P A ghosts)
-      (told ticks' : Ticks) → ServesMany rules seen meter ticks count mid was told
-      → ServesNext rules mid now was told (Ok tt) meter' ticks'
-      → ServesMany rules seen meter ticks (count + 1) now meter' ticks'
+    (s : Timed P A ghosts) : ℕ → Option (List Sight) → Timed P A ghosts → Type 0 where
+  Begun : ServesMany rules seen s 0 seen s
+  Then : (count : ℕ) (mid now : Option (List Sight)) (begun after : Timed P A ghosts)
+      → ServesMany rules seen s count mid begun → ServesNext rules mid now begun (Ok tt) after
+      → ServesMany rules seen s (count + 1) now after
 
 -- the one after them failed
 pub record ServesUntil {P A : Type 0} {ghosts : Ghosts P} (rules : Rules)
-    (seen seen' : Option (List Sight)) (meter : Meter P A ghosts) (ticks : Ticks)
-    (fault : FieldFault) (meter' : Meter P A ghosts) (ticks' : Ticks) : Type 0 where
+    (seen seen' : Option (List Sight)) (s : Timed P A ghosts) (fault : FieldFault)
+    (after : Timed P A ghosts) : Type 0 where
   pub count : ℕ
   pub mid : Option (List Sight)
-  pub was : Meter P A ghosts
-  pub told : Ticks
-  pub many : ServesMany rules seen meter ticks count mid was told
-  pub ends : ServesNext rules mid seen' was told (Err fault) meter' ticks'
+  pub last : Timed P A ghosts
+  pub many : ServesMany rules seen s count mid last
+  pub ends : ServesNext rules mid seen' last (Err fault) after
 
 abbrev pub ServesAll : {P A T : Type 0} → {ghosts : Ghosts P} → Rules → Option (List Sight)
-    → Option (List Sight) → Meter P A ghosts → Ticks → Result T FieldFault → Meter P A ghosts
-    → Ticks → Type 0
-ServesAll rules seen seen' meter ticks (Ok done) meter' ticks' =
-    ServesMany rules seen meter ticks (2 ^ 64 - 1) seen' meter' ticks'
-ServesAll rules seen seen' meter ticks (Err fault) meter' ticks' =
-    ServesUntil rules seen seen' meter ticks fault meter' ticks'
+    → Option (List Sight) → Timed P A ghosts → Result T FieldFault → Timed P A ghosts → Type 0
+ServesAll rules seen seen' s (Ok done) after = ServesMany rules seen s (2 ^ 64 - 1) seen' after
+ServesAll rules seen seen' s (Err fault) after = ServesUntil rules seen seen' s fault after
 
 -- this is the moment after the meter's events
 abbrev pub FollowsEvents : {P A : Type 0} → {ghosts : Ghosts P} → Meter P A ghosts → ℕ → Type 0
@@ -170,8 +161,8 @@ pub data Serves {P A : Type 0} {ghosts : Ghosts P} (rules : Rules) (load : ℕ)
   NotBegun : (given : FieldFault)
       → ((fault : RunFault) × IsOther given fault × IsOfSystem fault)
       ⊎ ((error : Error) × IsSystem given error) → Serves rules load meter (Err given) meter
-  HasServed : (seen seen' : Option (List Sight)) (ticks ticks' : Ticks)
-      (result : Result (Unit {0}) FieldFault) (meter' : Meter P A ghosts)
+  HasServed : (seen seen' : Option (List Sight)) (ticks : Ticks)
+      (result : Result (Unit {0}) FieldFault) (after : Timed P A ghosts)
       → FollowsEvents meter ticks.first → ticks.told ≡ 0 → ticks.watts ≡ load
-      → ServesAll rules seen seen' meter ticks result meter' ticks'
-      → Serves rules load meter result meter'
+      → ServesAll rules seen seen' (timed meter ticks) result after
+      → Serves rules load meter result after.meter

@@ -5,11 +5,10 @@ use Rattle.std.specs.IoError.{error_kind}
 use Rattle.std.specs.declared.io.Error.{Error}
 use Rattle.std.specs.declared.io.ErrorKind.TheVariants.{TimedOut, UnexpectedEof, WouldBlock}
 use Rattle.dlms_ends.specs.Faults.{IsOfSystem}
-use Rattle.dlms_ends.specs.Moments.{Moment}
 use Rattle.dlms_ends.specs.declared.fault.RunFault.{RunFault}
 use Rattle.dlms_meter.specs.declared.meter.Meter.{Meter}
 use Rattle.dlms_pages.specs.declared.device.Pages.{Ghosts}
-use Rattle.dlms_serving.specs.Connection.{Connection}
+use Rattle.dlms_serving.specs.Connection.{Connection, Log, Timed, timed}
 use Rattle.dlms_lines.specs.Faults.{IsOther, IsSystemAt}
 use Rattle.dlms_serving.specs.HangingUp.{HangsUp}
 use Rattle.dlms_serving.specs.Serving.{FollowsEvents, is_refused}
@@ -45,61 +44,51 @@ rests ending = if is_refused ending then (Pauses ∷ []) else []
 -- The links of all clients end, the line is talked over until the turn is over, and they end again; then the line is there, or it is gone.
 -- Or the clock or the store failed.
 pub data ServesTurn {P A : Type 0} {ghosts : Ghosts P} (device : List ℕ) (rules : Rules)
-    (old new : Option (List Moment)) (seen seen' : Option (List Sight)) (meter : Meter P A ghosts)
-    (ticks : Ticks) : Result (Unit {0}) FieldFault
-    → Meter P A ghosts → Ticks → Type 0 where
-  Lasts : (now : Option (List Sight)) (begun ended after : Meter P A ghosts) (ticks' : Ticks)
-      (ending : Ending) → HangsUp meter begun
-      → Connection rules old new seen now begun ticks (Ok ending) ended ticks' → HangsUp ended after
-      → TellsGone device ending None → Sees now seen' (rests ending)
-      → ServesTurn device rules old new seen seen' meter ticks (Ok tt) after ticks'
-  LineGone : (begun ended after : Meter P A ghosts) (ticks' : Ticks) (ending : Ending)
-      (given : FieldFault) → HangsUp meter begun
-      → Connection rules old new seen seen' begun ticks (Ok ending) ended ticks'
-      → HangsUp ended after
-      → TellsGone device ending (Some given)
-      → ServesTurn device rules old new seen seen' meter ticks (Err given) after ticks'
-  MeterFails : (begun after : Meter P A ghosts) (ticks' : Ticks) (fault : RunFault)
-      (given : FieldFault) → HangsUp meter begun
-      → Connection rules old new seen seen' begun ticks (Err fault) after ticks'
+    (old new : Log) (s : Timed P A ghosts) : Result (Unit {0}) FieldFault → Timed P A ghosts
+    → Type 0 where
+  Lasts : (now : Option (List Sight)) (begun after : Meter P A ghosts) (ended : Timed P A ghosts)
+      (ending : Ending) → HangsUp s.meter begun
+      → Connection rules old (record new { sights = now }) (record s { meter = begun }) (Ok ending)
+      ended → HangsUp ended.meter after
+      → TellsGone device ending None → Sees now new.sights (rests ending)
+      → ServesTurn device rules old new s (Ok tt) (record ended { meter = after })
+  LineGone : (begun after : Meter P A ghosts) (ended : Timed P A ghosts) (ending : Ending)
+      (given : FieldFault) → HangsUp s.meter begun
+      → Connection rules old new (record s { meter = begun }) (Ok ending) ended
+      → HangsUp ended.meter after → TellsGone device ending (Some given)
+      → ServesTurn device rules old new s (Err given) (record ended { meter = after })
+  MeterFails : (begun : Meter P A ghosts) (after : Timed P A ghosts) (fault : RunFault)
+      (given : FieldFault) → HangsUp s.meter begun
+      → Connection rules old new (record s { meter = begun }) (Err fault) after
       → IsOther given fault
-      → ServesTurn device rules old new seen seen' meter ticks (Err given) after ticks'
+      → ServesTurn device rules old new s (Err given) after
 
 -- ---- all of them
 
 -- so many went well, one after another
 pub data ServesTurns {P A : Type 0} {ghosts : Ghosts P} (device : List ℕ) (rules : Rules)
-    (old : Option (List Moment)) (seen : Option (List Sight)) (meter : Meter P A ghosts)
-    (ticks : Ticks) : ℕ → Option (List Moment)
-    → Option (List Sight) → Meter P A ghosts → Ticks → Type 0 where
-  Begun : ServesTurns device rules old seen meter ticks 0 old seen meter ticks
-  Then : (count : ℕ) (past new : Option (List Moment)) (mid now : Option (List Sight))
-      (was meter' : Meter P A ghosts) (told ticks' : Ticks)
-      → ServesTurns device rules old seen meter ticks count past mid was told
-      → ServesTurn device rules past new mid now was told (Ok tt) meter' ticks'
-      → ServesTurns device rules old seen meter ticks (count + 1) new now meter' ticks'
+    (old : Log) (s : Timed P A ghosts) : ℕ → Log → Timed P A ghosts → Type 0 where
+  Begun : ServesTurns device rules old s 0 old s
+  Then : (count : ℕ) (mid new : Log) (begun after : Timed P A ghosts)
+      → ServesTurns device rules old s count mid begun
+      → ServesTurn device rules mid new begun (Ok tt) after
+      → ServesTurns device rules old s (count + 1) new after
 
 -- the one after them failed
 pub record TurnsUntil {P A : Type 0} {ghosts : Ghosts P} (device : List ℕ) (rules : Rules)
-    (old new : Option (List Moment)) (seen seen' : Option (List Sight)) (meter : Meter P A ghosts)
-    (ticks : Ticks) (fault : FieldFault)
-    (meter' : Meter P A ghosts) (ticks' : Ticks) : Type 0 where
-  pub count : ℕ
-  pub past : Option (List Moment)
-  pub mid : Option (List Sight)
-  pub was : Meter P A ghosts
-  pub told : Ticks
-  pub turns : ServesTurns device rules old seen meter ticks count past mid was told
-  pub ends : ServesTurn device rules past new mid seen' was told (Err fault) meter' ticks'
+    (old new : Log) (s : Timed P A ghosts) (fault : FieldFault) (after : Timed P A ghosts) : Type 0
+  where
+    pub count : ℕ
+    pub mid : Log
+    pub last : Timed P A ghosts
+    pub turns : ServesTurns device rules old s count mid last
+    pub ends : ServesTurn device rules mid new last (Err fault) after
 
-abbrev pub AllTurns : {P A T : Type 0} → {ghosts : Ghosts P} → List ℕ → Rules → Option (List Moment)
-    → Option (List Moment) → Option (List Sight) → Option (List Sight) → Meter P A ghosts → Ticks
-    → Result T FieldFault
-    → Meter P A ghosts → Ticks → Type 0
-AllTurns device rules old new seen seen' meter ticks (Ok done) meter' ticks' =
-    ServesTurns device rules old seen meter ticks (2 ^ 64 - 1) new seen' meter' ticks'
-AllTurns device rules old new seen seen' meter ticks (Err fault) meter' ticks' =
-    TurnsUntil device rules old new seen seen' meter ticks fault meter' ticks'
+abbrev pub AllTurns : {P A T : Type 0} → {ghosts : Ghosts P} → List ℕ → Rules → Log → Log
+    → Timed P A ghosts → Result T FieldFault → Timed P A ghosts → Type 0
+AllTurns device rules old new s (Ok done) after =
+    ServesTurns device rules old s (2 ^ 64 - 1) new after
+AllTurns device rules old new s (Err fault) after = TurnsUntil device rules old new s fault after
 
 -- A meter is served from the moment after its events on, no second of the clock being told yet; or the clock, the device or the output failed
 -- before anything of it was.
@@ -109,8 +98,7 @@ pub data ServesLine {P A : Type 0} {ghosts : Ghosts P} (device : List ℕ) (rule
       → ((fault : RunFault) × IsOther given fault × IsOfSystem fault)
       ⊎ ((error : Error) × IsSystemAt device error given)
       → ServesLine device rules load meter (Err given) meter
-  HasServed : (old new : Option (List Moment)) (seen seen' : Option (List Sight))
-      (ticks ticks' : Ticks) (result : Result (Unit {0}) FieldFault) (meter' : Meter P A ghosts)
-      → FollowsEvents meter ticks.first → ticks.told ≡ 0 → ticks.watts ≡ load
-      → AllTurns device rules old new seen seen' meter ticks result meter' ticks'
-      → ServesLine device rules load meter result meter'
+  HasServed : (old new : Log) (ticks : Ticks) (result : Result (Unit {0}) FieldFault)
+      (after : Timed P A ghosts) → FollowsEvents meter ticks.first → ticks.told ≡ 0
+      → ticks.watts ≡ load → AllTurns device rules old new (timed meter ticks) result after
+      → ServesLine device rules load meter result after.meter

@@ -2,6 +2,7 @@
 
 ghost use Rattle.std.specs.Prelude.{◌≡◌, ◌↔◌, IsTrue, List};
 ghost use Rattle.dlms_meter.specs.Steps.{Call, Calls};
+ghost use Rattle.dlms_serving.specs.Connection.{timed};
 ghost use Rattle.dlms_serving.specs.Serving.{Closes, Passes, Serves, ServesAll, ServesNext, ServesOne, Visits, is_refused};
 
 use crate::hanging_up::hang_up;
@@ -106,8 +107,8 @@ fn visit<W: Watch + Drop, P: Pages, E: Write>(
     meter: &mut Meter<P>,
     stream: &mut W::Stream,
 ) -> Result<Ending, RunFault>
-    ensures { Visits rules (W.seen server.old.watch)
-        (W.seen server.new.watch) meter.old server.old.ticks result meter.new server.new.ticks }
+    ensures { Visits rules (W.seen server.old.watch) (W.seen server.new.watch)
+        (timed meter.old server.old.ticks) result (timed meter.new server.new.ticks) }
 {
     match server.watch.prepare(stream) {
         Ok(()) => server.talk(rules, meter, stream),
@@ -164,8 +165,8 @@ fn serve_one<W: Watch + Drop, P: Pages, E: Write>(
     meter: &mut Meter<P>,
     peer: Peer<W::Stream>,
 ) -> Result<(), RunFault>
-    ensures serves { ServesOne rules peer.address (W.seen server.old.watch)
-        (W.seen server.new.watch) meter.old server.old.ticks result meter.new server.new.ticks }
+    ensures serves { ServesOne rules peer.address (W.seen server.old.watch) (W.seen server.new.watch)
+        (timed meter.old server.old.ticks) result (timed meter.new server.new.ticks) }
     ensures calls { (calls : List Call) × Calls meter.old calls meter.new }
 {
     let Peer { stream, address } = peer;
@@ -225,8 +226,8 @@ fn serve_next<'f, W: Watch + Drop, P: Pages, E: Write>(
     meter: &mut Meter<P>,
     address: &'f str,
 ) -> Result<(), FieldFault<'f>>
-    ensures serves { ServesNext rules (W.seen server.old.watch)
-        (W.seen server.new.watch) meter.old server.old.ticks result meter.new server.new.ticks }
+    ensures serves { ServesNext rules (W.seen server.old.watch) (W.seen server.new.watch)
+        (timed meter.old server.old.ticks) result (timed meter.new server.new.ticks) }
     ensures calls { (calls : List Call) × Calls meter.old calls meter.new }
 {
     let now = match server.look(rules.tick, meter) {
@@ -261,8 +262,8 @@ pub fn serve_all<'f, W: Watch + Drop, P: Pages, E: Write>(
     meter: &mut Meter<P>,
     address: &'f str,
 ) -> Result<(), FieldFault<'f>>
-    ensures serves { ServesAll rules (W.seen server.old.watch)
-        (W.seen server.new.watch) meter.old server.old.ticks result meter.new server.new.ticks }
+    ensures serves { ServesAll rules (W.seen server.old.watch) (W.seen server.new.watch)
+        (timed meter.old server.old.ticks) result (timed meter.new server.new.ticks) }
     ensures calls { (calls : List Call) × Calls meter.old calls meter.new }
 {
     'connections: for _next in 0..u64::MAX {

@@ -2,6 +2,7 @@
 
 ghost use Rattle.std.specs.Prelude.{◌≡◌, ◌↔◌, IsTrue, List};
 ghost use Rattle.dlms_meter.specs.Steps.{Call, Calls};
+ghost use Rattle.dlms_serving.specs.Connection.{log, timed};
 ghost use Rattle.dlms_serving.specs.ServingLine.{AllTurns, IsSlow, ServesLine, ServesTurn, TellsGone, rests};
 ghost use Rattle.dlms_lines.specs.Watching.{Sees};
 
@@ -93,9 +94,9 @@ fn serve_turn<'f, W: Watch + Drop, T: End, P: Pages, E: Write>(
     line: &mut T,
     device: &'f str,
 ) -> Result<(), FieldFault<'f>>
-    ensures serves { ServesTurn device.now rules (T.past line.old) (T.past line.new)
-        (W.seen server.old.watch)
-        (W.seen server.new.watch) meter.old server.old.ticks result meter.new server.new.ticks }
+    ensures serves { ServesTurn device.now rules (log (T.past line.old) (W.seen server.old.watch))
+        (log (T.past line.new) (W.seen server.new.watch)) (timed meter.old server.old.ticks) result
+        (timed meter.new server.new.ticks) }
     ensures calls { (calls : List Call) × Calls meter.old calls meter.new }
 {
     hang_up(meter);
@@ -123,9 +124,9 @@ pub fn serve_turns<'f, W: Watch + Drop, T: End, P: Pages, E: Write>(
     line: &mut T,
     device: &'f str,
 ) -> Result<(), FieldFault<'f>>
-    ensures serves { AllTurns device.now rules (T.past line.old) (T.past line.new)
-        (W.seen server.old.watch)
-        (W.seen server.new.watch) meter.old server.old.ticks result meter.new server.new.ticks }
+    ensures serves { AllTurns device.now rules (log (T.past line.old) (W.seen server.old.watch))
+        (log (T.past line.new) (W.seen server.new.watch)) (timed meter.old server.old.ticks) result
+        (timed meter.new server.new.ticks) }
     ensures calls { (calls : List Call) × Calls meter.old calls meter.new }
 {
     'turns: for _turn in 0..u64::MAX {

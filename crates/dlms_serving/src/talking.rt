@@ -1,7 +1,7 @@
 //! A meter that serves talks with a client, from a connection's beginning to its end.
 
 ghost use Rattle.std.specs.Prelude.{◌≡◌, ◌≤◌, ◌↔◌, ℕ, List, Some, None, false, IfOk, IsTrue};
-ghost use Rattle.dlms_serving.specs.Connection.{AnswersEach, AsksOnce, At, ChecksOnce, Connection, Counts, GivesFrame, IsDue, IsOfRead, LooksOnce, ReadsPiece, TellsOnce, behind_answer, behind_outcome, ending_at_reply, turn_after_bytes};
+ghost use Rattle.dlms_serving.specs.Connection.{AnswersEach, AsksOnce, At, ChecksOnce, Connection, Counts, GivesFrame, IsDue, IsOfRead, LooksOnce, ReadsPiece, TellsOnce, behind_answer, behind_outcome, ending_at_reply, turn_after_bytes, log, timed};
 
 use crate::log::Log;
 use crate::pace::due;
@@ -255,8 +255,8 @@ impl<'e, W: Watch + Drop, E: Write> Server<'e, W, E> {
     /// Looks at the clock, and tells the meter of the seconds that are due, so many at most. The seconds of the clock since the
     /// beginning come back. A moment that is refused is said once, until one is taken again.
     pub fn look<P: Pages>(&mut self, step: u32, meter: &mut Meter<P>) -> Result<u64, RunFault>
-        ensures { LooksOnce step (W.seen self.old.watch)
-            (W.seen self.new.watch) meter.old self.old.ticks result meter.new self.new.ticks }
+        ensures { LooksOnce step (W.seen self.old.watch) (W.seen self.new.watch)
+            (timed meter.old self.old.ticks) result (timed meter.new self.new.ticks) }
     {
         let now = self.watch.seconds()?;
         let told = self.ticks.told;
@@ -315,15 +315,14 @@ impl<'e, W: Watch + Drop, E: Write> Server<'e, W, E> {
         state: &mut TurnState,
         bytes: &[u8],
     ) -> Result<Option<Ending>, RunFault>
-        ensures { (reads : ℕ) → AnswersEach rules (T.past stream.old) (T.past stream.new)
-            (W.seen self.old.watch) (W.seen self.new.watch)
-            (record {
+        ensures { (reads : ℕ) → AnswersEach rules (log (T.past stream.old) (W.seen self.old.watch))
+            (log (T.past stream.new) (W.seen self.new.watch)) (record {
               meter = meter.old;
               ticks = self.old.ticks;
               left = bytes.now;
               state = state.old;
               reads = reads;
-            }) result meter.new self.new.ticks state.new }
+            }) result (timed meter.new self.new.ticks) state.new }
     {
         let mut rest = bytes;
         while !rest.is_empty() {
@@ -349,8 +348,9 @@ impl<'e, W: Watch + Drop, E: Write> Server<'e, W, E> {
         meter: &mut Meter<P>,
         stream: &mut T,
     ) -> Result<Ending, RunFault>
-        ensures { Connection rules (T.past stream.old) (T.past stream.new) (W.seen self.old.watch)
-            (W.seen self.new.watch) meter.old self.old.ticks result meter.new self.new.ticks }
+        ensures { Connection rules (log (T.past stream.old) (W.seen self.old.watch))
+            (log (T.past stream.new) (W.seen self.new.watch))
+            (timed meter.old self.old.ticks) result (timed meter.new self.new.ticks) }
     {
         let mut piece = [0u8; PIECE];
         let first = match self.look(rules.tick, meter) {

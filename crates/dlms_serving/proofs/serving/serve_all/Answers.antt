@@ -1,4 +1,5 @@
 use Rattle.std.proofs.Common.{refl, [], ◌≡◌, ℕ, ◌-◌, ◌^◌, subst, arith}
+use Rattle.dlms_serving.specs.Connection.{timed}
 use Rattle.dlms_serving.specs.Serving.{Begun, Then, ServesMany}
 use Rattle.dlms_serving.proofs.CallLemmas.{joined}
 use Rattle.dlms_serving.proofs.ServeLemmas.{until}
@@ -15,14 +16,14 @@ returns-in-Err-clause-calls g c = joined _ _ _ c.connections.invariant.1 c.serve
 
 pub connections-preserved : goal.connections-preserved
 connections-preserved g c = (
-  Then c.connections._next (g.W.Watch.seen c.connections.server.watch) (g.W.Watch.seen c.serve_next.new.server.watch) c.connections.meter c.serve_next.new.meter c.connections.server.ticks c.serve_next.new.server.ticks c.connections.invariant.0 c.in-Ok.ensures.serves,
+  Then c.connections._next (g.W.Watch.seen c.connections.server.watch) (g.W.Watch.seen c.serve_next.new.server.watch) (timed c.connections.meter c.connections.server.ticks) (timed c.serve_next.new.meter c.serve_next.new.server.ticks) c.connections.invariant.0 c.in-Ok.ensures.serves,
   joined _ _ _ c.connections.invariant.1 c.serve_next.ensures.calls,
 )
 
 pub returns-clause-serves : goal.returns-clause-serves
 returns-clause-serves g c =
     let all : c.connections._next ≡ 2 ^ 64 - 1 = omega (arith, c.connections-test.false, c.connections.auto._next-end) in
-    subst (λ (n : ℕ). ServesMany c.args.rules (g.W.Watch.seen c.args.server.now.watch) c.args.meter.now c.args.server.now.ticks n (g.W.Watch.seen c.connections.server.watch) c.connections.meter c.connections.server.ticks) all c.connections.invariant.0
+    subst (λ (n : ℕ). ServesMany c.args.rules (g.W.Watch.seen c.args.server.now.watch) (timed c.args.meter.now c.args.server.now.ticks) n (g.W.Watch.seen c.connections.server.watch) (timed c.connections.meter c.connections.server.ticks)) all c.connections.invariant.0
 
 pub returns-clause-calls : goal.returns-clause-calls
 returns-clause-calls g c = c.connections.invariant.1

@@ -1,10 +1,11 @@
+use Rattle.dlms_serving.specs.Connection.{timed}
 use Rattle.dlms_serving.specs.Serving.{Stopped}
 use Rattle.dlms_serving.proofs.CallLemmas.{joined, visit_made}
 use Rattle.dlms_serving.proofs.ServeLemmas.{served}
 use Rattle.dlms_serving.proofs.serving.serve_one.Goals as goal
 
 pub returns-in-Err-clause-serves : goal.returns-in-Err-clause-serves
-returns-in-Err-clause-serves g c = Stopped c.hang_up.new.meter c.visit.new.meter c.visit.new.server.ticks c.in-Err.fault c.hang_up.ensures.hangs_up c.in-Err.ensures
+returns-in-Err-clause-serves g c = Stopped c.hang_up.new.meter (timed c.visit.new.meter c.visit.new.server.ticks) c.in-Err.fault c.hang_up.ensures.hangs_up c.in-Err.ensures
 
 pub returns-in-Err-clause-calls : goal.returns-in-Err-clause-calls
 returns-in-Err-clause-calls g c = joined _ _ _ c.hang_up.ensures.calls (visit_made _ _ _ _ _ _ _ _ c.visit.ensures)

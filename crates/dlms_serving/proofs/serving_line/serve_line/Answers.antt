@@ -1,6 +1,7 @@
 use Rattle.std.proofs.Common.{refl, ap, ◌∙◌, inl, inr}
 use Rattle.dlms_ends.proofs.PollLemmas.{system_told}
 use Rattle.dlms_meter.specs.Run.{events_of}
+use Rattle.dlms_serving.specs.Connection.{timed}
 use Rattle.dlms_serving.specs.ServingLine.{HasServed, NotBegun}
 use Rattle.dlms_lines.specs.declared.fault.FieldFault.TheVariants.{Other, System}
 use Rattle.dlms_serving.specs.declared.ticks.Ticks.{Ticks}
@@ -18,6 +19,6 @@ returns-in-Err-announce-clause-serves g c =
 
 pub returns-clause-serves : goal.returns-clause-serves
 returns-clause-serves g c =
-    HasServed _ _ _ _ c.new-server.result.ticks c.serve_turns.new.server.ticks c.serve_turns.result c.serve_turns.new.meter
+    HasServed _ _ c.new-server.result.ticks c.serve_turns.result (timed c.serve_turns.new.meter c.serve_turns.new.server.ticks)
     (λ w stands. ap (λ (t : Ticks). t.first) c.new-server.ensures ∙ c.new-ticks.ensures.first ∙ c.last.ensures.after (events_of w) (c.state.ensures w stands)) (ap (λ (t : Ticks). t.told) c.new-server.ensures ∙ c.new-ticks.ensures.none)
     (ap (λ (t : Ticks). t.watts) c.new-server.ensures ∙ c.new-ticks.ensures.watts) c.serve_turns.ensures.serves

@@ -1,4 +1,5 @@
 use Rattle.std.proofs.Common.{refl, [], ◌≡◌, ℕ, ◌-◌, ◌^◌, subst, arith}
+use Rattle.dlms_serving.specs.Connection.{log, timed}
 use Rattle.dlms_serving.specs.ServingLine.{Begun, Then, ServesTurns}
 use Rattle.dlms_serving.proofs.CallLemmas.{joined}
 use Rattle.dlms_serving.proofs.LineLemmas.{turns_until}
@@ -18,14 +19,14 @@ returns-in-Err-clause-calls g c = joined _ _ _ c.turns.invariant.1 c.serve_turn.
 
 pub turns-preserved : goal.turns-preserved
 turns-preserved g c = (
-  Then c.turns._turn (g.T.End.past c.turns.line) (g.T.End.past c.serve_turn.new.line) (g.W.Watch.seen c.turns.server.watch) (g.W.Watch.seen c.serve_turn.new.server.watch) c.turns.meter c.serve_turn.new.meter c.turns.server.ticks c.serve_turn.new.server.ticks c.turns.invariant.0 c.in-Ok.ensures.serves,
+  Then c.turns._turn (log (g.T.End.past c.turns.line) (g.W.Watch.seen c.turns.server.watch)) (log (g.T.End.past c.serve_turn.new.line) (g.W.Watch.seen c.serve_turn.new.server.watch)) (timed c.turns.meter c.turns.server.ticks) (timed c.serve_turn.new.meter c.serve_turn.new.server.ticks) c.turns.invariant.0 c.in-Ok.ensures.serves,
   joined _ _ _ c.turns.invariant.1 c.serve_turn.ensures.calls,
 )
 
 pub returns-clause-serves : goal.returns-clause-serves
 returns-clause-serves g c =
     let all : c.turns._turn ≡ 2 ^ 64 - 1 = omega (arith, c.turns-test.false, c.turns.auto._turn-end) in
-    subst (λ (n : ℕ). ServesTurns c.args.device.now c.args.rules (g.T.End.past c.args.line.now) (g.W.Watch.seen c.args.server.now.watch) c.args.meter.now c.args.server.now.ticks n (g.T.End.past c.turns.line) (g.W.Watch.seen c.turns.server.watch) c.turns.meter c.turns.server.ticks) all c.turns.invariant.0
+    subst (λ (n : ℕ). ServesTurns c.args.device.now c.args.rules (log (g.T.End.past c.args.line.now) (g.W.Watch.seen c.args.server.now.watch)) (timed c.args.meter.now c.args.server.now.ticks) n (log (g.T.End.past c.turns.line) (g.W.Watch.seen c.turns.server.watch)) (timed c.turns.meter c.turns.server.ticks)) all c.turns.invariant.0
 
 pub returns-clause-calls : goal.returns-clause-calls
 returns-clause-calls g c = c.turns.invariant.1
