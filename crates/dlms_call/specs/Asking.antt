@@ -61,12 +61,12 @@ pub data Settles (most : ℕ) (old new : Option (List Moment)) (result : Result 
       → Settles most old new result t t'
 
 -- the outcome of a requested association, of a request and of the link's end; anything else is of another form
-abbrev pub opened_in : Result ClientTurn CallFault → Result (Unit {0}) CallFault
-opened_in (Ok Sent) = Err (Talk fault.Form)
-opened_in (Ok Associated) = Ok tt
-opened_in (Ok (Answered answer)) = Err (Talk fault.Form)
-opened_in (Ok Down) = Err (Talk fault.Form)
-opened_in (Err fault) = Err fault
+abbrev pub opening_result : Result ClientTurn CallFault → Result (Unit {0}) CallFault
+opening_result (Ok Sent) = Err (Talk fault.Form)
+opening_result (Ok Associated) = Ok tt
+opening_result (Ok (Answered answer)) = Err (Talk fault.Form)
+opening_result (Ok Down) = Err (Talk fault.Form)
+opening_result (Err fault) = Err fault
 
 abbrev pub answer_in : Result ClientTurn CallFault → Result Answer CallFault
 answer_in (Ok Sent) = Err (Talk fault.Form)
@@ -75,12 +75,12 @@ answer_in (Ok (Answered answer)) = Ok answer
 answer_in (Ok Down) = Err (Talk fault.Form)
 answer_in (Err fault) = Err fault
 
-abbrev pub ended_in : Result ClientTurn CallFault → Result (Unit {0}) CallFault
-ended_in (Ok Sent) = Err (Talk fault.Form)
-ended_in (Ok Associated) = Err (Talk fault.Form)
-ended_in (Ok (Answered answer)) = Err (Talk fault.Form)
-ended_in (Ok Down) = Ok tt
-ended_in (Err fault) = Err fault
+abbrev pub release_result : Result ClientTurn CallFault → Result (Unit {0}) CallFault
+release_result (Ok Sent) = Err (Talk fault.Form)
+release_result (Ok Associated) = Err (Talk fault.Form)
+release_result (Ok (Answered answer)) = Err (Talk fault.Form)
+release_result (Ok Down) = Ok tt
+release_result (Err fault) = Err fault
 
 -- the settled outcome is returned
 pub record SettlesAs {X : Type 0} (most : ℕ) (told_in : Result ClientTurn CallFault
@@ -132,14 +132,14 @@ pub record Opens (old new : Option (List Moment)) (c : ClientValue) (t' : TalkWo
   pub now : Option (List Moment)
   pub mid : ClientValue
   pub dials : Dials old now c mid
-  pub opens : SettlesAs NO_BOUND opened_in now new (Ok tt) (first_world mid) t'
+  pub opens : SettlesAs NO_BOUND opening_result now new (Ok tt) (first_world mid) t'
 
 -- or why it is not
 pub data FailsToOpen (old new : Option (List Moment)) (c : ClientValue) (why : CallFault)
     : Type 0 where
   NotDialled : FailsToDial old new c why → FailsToOpen old new c why
   NotOpened : (now : Option (List Moment)) (mid : ClientValue) (after : TalkWorld)
-      → Dials old now c mid → SettlesAs NO_BOUND opened_in now new (Err why) (first_world mid) after
+      → Dials old now c mid → SettlesAs NO_BOUND opening_result now new (Err why) (first_world mid) after
       → FailsToOpen old new c why
 
 -- ---- a request
@@ -170,5 +170,5 @@ pub data EndsTalk (may : Type 0) (old new : Option (List Moment))
   NotEnded : (may → ⊥) → result ≡ Err (Talk fault.Form) → t' ≡ t → Adds old new []
       → EndsTalk may old new result t t'
   IsEnded : may → (frame : Parts) (mid : ClientValue) → Leaves t.client frame mid
-      → GoesOut NO_BOUND ended_in old new frame result (record t { client = mid }) t'
+      → GoesOut NO_BOUND release_result old new frame result (record t { client = mid }) t'
       → EndsTalk may old new result t t'

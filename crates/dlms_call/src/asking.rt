@@ -7,7 +7,7 @@ ghost use Rattle.dlms_client.specs.Calls.{IsFree, fresh};
 ghost use Rattle.dlms_client.specs.Plan.{IsPlan, plan_of};
 ghost use Rattle.dlms_association.specs.declared.requests.TheConstants.{INVOKE};
 ghost use Rattle.dlms_association.specs.declared.stage.Asked.TheVariants.{Action, Get, Set};
-ghost use Rattle.dlms_call.specs.Asking.{EndsTalk, FailsToOpen, GoesOut, Opens, Requests, Settles, TakesTurnWithin, answer_in, ended_in, opened_in};
+ghost use Rattle.dlms_call.specs.Asking.{EndsTalk, FailsToOpen, GoesOut, Opens, Requests, Settles, TakesTurnWithin, answer_in, release_result, opening_result};
 ghost use Rattle.dlms_call.specs.declared.fault.CallFault.TheVariants.{TooLarge};
 ghost use Rattle.dlms_call.specs.Talking.{IsIn, Leads, TalkWorld};
 ghost use Rattle.dlms_data.specs.View.{value_of};
@@ -76,8 +76,8 @@ fn settle<S: End, A: Allocator + Copy>(
 }
 
 /// The outcome of a requested association.
-fn opened_in(turn: Result<ClientTurn, CallFault>) -> Result<(), CallFault>
-    ensures { result ≡ opened_in turn }
+fn opening_result(turn: Result<ClientTurn, CallFault>) -> Result<(), CallFault>
+    ensures { result ≡ opening_result turn }
 {
     match turn {
         Ok(ClientTurn::Associated) => Ok(()),
@@ -102,8 +102,8 @@ fn answer_in(turn: Result<ClientTurn, CallFault>) -> Result<Answer, CallFault>
 }
 
 /// The outcome of the requested end of the link.
-fn ended_in(turn: Result<ClientTurn, CallFault>) -> Result<(), CallFault>
-    ensures { result ≡ ended_in turn }
+fn release_result(turn: Result<ClientTurn, CallFault>) -> Result<(), CallFault>
+    ensures { result ≡ release_result turn }
 {
     match turn {
         Ok(ClientTurn::Down) => Ok(()),
@@ -155,7 +155,7 @@ pub fn begin<S: End, A: Allocator + Copy>(
         Err(fault) => return Err(fault),
     };
     let turn = settle(line, &mut head, NO_BOUND);
-    match opened_in(turn) {
+    match opening_result(turn) {
         Ok(()) => Ok(head),
         Err(fault) => Err(fault),
     }
@@ -260,7 +260,7 @@ pub fn end<S: End, A: Allocator + Copy>(
     match send(line, &frame) {
         Ok(_) => {
             let turn = settle(line, head, NO_BOUND);
-            ended_in(turn)
+            release_result(turn)
         }
         Err(fault) => Err(fault),
     }

@@ -14,7 +14,7 @@ returns-in-Ok g c = λ t stands.
       u.0,
       u.1,
       IsEnded (c.is_free.ensures.0 c.if-not-is_free.false) c.disconnect-frame.result c.disconnect-frame.new.self (leaves_as _ _ _ _ stands.at.client c.disconnect-frame.ensures)
-          (Settled (g.S.End.past c.send.new.end) c.in-Ok.ensures.1 (record { turn = c.settle-turn.result; settles = u.2; told = c.ended_in.ensures })),
+          (Settled (g.S.End.past c.send.new.end) c.in-Ok.ensures.1 (record { turn = c.settle-turn.result; settles = u.2; told = c.release_result.ensures })),
     )
 
 pub returns-in-Err : goal.returns-in-Err
