@@ -1,5 +1,5 @@
 -- The deadline of a poll.
-use Rattle.std.specs.Prelude.{◌≡◌, ◌≤◌, ◌<◌, ◌-◌, ◌==◌, ℕ, Bool, true, false, min, Option, Some, None, if◌then◌else◌}
+use Rattle.std.specs.Prelude.{◌≡◌, ◌≤◌, ◌-◌, ◌==◌, ℕ, Bool, true, false, min, Option, Some, None, if◌then◌else◌}
 use Rattle.std.specs.declared.time.Instant.{Instant}
 use Rattle.dlms_lines.specs.Steady.{seconds_between}
 use Rattle.dlms_lines.specs.declared.deadline.Deadline.{Deadline}

@@ -4,7 +4,7 @@ use Rattle.std.specs.declared.io.Error.{Error}
 use Rattle.dlms_ends.specs.declared.fault.RunFault.{RunFault}
 use Rattle.dlms_lines.specs.declared.fault.ClockFault.{ClockFault}
 use Rattle.dlms_lines.specs.declared.fault.FieldFault.{FieldFault}
-use Rattle.dlms_lines.specs.declared.fault.FieldFault.TheVariants.{System, Secret, Late, Clock, Other}
+use Rattle.dlms_lines.specs.declared.fault.FieldFault.TheVariants.{System, Late, Clock, Other}
 
 -- the system failed at this file or address with this error
 abbrev pub IsSystemAt : List ℕ → Error → FieldFault → Type 0

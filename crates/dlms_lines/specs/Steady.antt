@@ -1,5 +1,5 @@
 -- A steady clock, what it says, and the time between two of its moments.
-use Rattle.std.specs.Prelude.{◌≡◌, ◌-◌, ◌/◌, ℕ, List, [], ◌∷◌, Option, Some, None, Result, Ok, Err}
+use Rattle.std.specs.Prelude.{◌≡◌, ◌-◌, ◌/◌, ℕ, Option, Some, Result, Ok, Err}
 use Rattle.std.specs.Time.{instant_nanos}
 use Rattle.std.specs.declared.io.Error.{Error}
 use Rattle.std.specs.declared.time.Instant.{Instant}

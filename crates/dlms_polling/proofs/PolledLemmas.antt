@@ -1,5 +1,5 @@
 -- A poll, from the secret to the file.
-use Rattle.std.proofs.Common.{refl, ◌≡◌, ℕ, List, Option, Result, Ok, Err, subst}
+use Rattle.std.proofs.Common.{◌≡◌, ℕ, List, Option, Result, Ok, Err, subst}
 use Rattle.std.specs.Prelude.{IfErr, IfOk}
 use Rattle.dlms_headend.specs.PollerValue.{PollerValue}
 use Rattle.dlms_headend.specs.Asking.{PlanValue}
@@ -9,7 +9,7 @@ use Rattle.dlms_filing.specs.Filing.{PlaceCall}
 use Rattle.dlms_polling.specs.Calling.{FailsCalled, HasDone, aim_of}
 use Rattle.dlms_polling.specs.Clocks.{Takes}
 use Rattle.dlms_polling.specs.Keeping.{FilesNone, FilesPolled}
-use Rattle.dlms_polling.specs.Polled.{IsDone, IsReady, Known, NotCalled, NotFiled, PollFails, Polls, PrintsNone, plan_behind, readings_of}
+use Rattle.dlms_polling.specs.Polled.{IsReady, Known, NotCalled, NotFiled, PollFails, Polls, PrintsNone, plan_behind, readings_of}
 use Rattle.dlms_lines.specs.Watching.{Sight}
 use Rattle.dlms_polling.specs.declared.clocks.Limit.{Limit}
 use Rattle.dlms_lines.specs.declared.fault.FieldFault.{FieldFault}

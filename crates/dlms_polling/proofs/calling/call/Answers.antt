@@ -1,4 +1,4 @@
-use Rattle.std.proofs.Common.{arith, refl, sym, subst, ◌≡◌, ℕ, Option, Ok, Err}
+use Rattle.std.proofs.Common.{arith, refl, sym, subst, ◌≡◌, ℕ, Option, Ok}
 use Rattle.dlms_headend.specs.PollerValue.{plan_of}
 use Rattle.dlms_ends.specs.BothEnds.{IsDonePoll}
 use Rattle.dlms_polling.specs.Calling.{Again, Begun, Fails, NoClock, NoWait, Tried, TriedOut, Waits, aim_of}

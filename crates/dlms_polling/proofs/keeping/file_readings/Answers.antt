@@ -1,5 +1,4 @@
-use Rattle.std.proofs.Common.{refl, subst, List}
-use Rattle.dlms_headend.specs.declared.row.Row.{Row}
+use Rattle.std.proofs.Common.{refl}
 use Rattle.dlms_polling.specs.Keeping.{Unkept}
 use Rattle.dlms_polling.proofs.keeping.file_readings.Goals as goal
 

@@ -1,4 +1,4 @@
-use Rattle.std.proofs.Common.{refl, ◌≡◌, ◌∙◌, ap, subst, ℕ, List, Option}
+use Rattle.std.proofs.Common.{refl, ◌≡◌, ap, subst, ℕ, List, Option}
 use Rattle.std.specs.Prelude.{IfErr, IfOk}
 use Rattle.dlms_headend.specs.Asking.{PlanValue}
 use Rattle.dlms_ends.specs.BothEnds.{IsDonePoll}

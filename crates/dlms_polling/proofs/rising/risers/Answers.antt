@@ -1,8 +1,7 @@
-use Rattle.std.proofs.Common.{refl, ◌≡◌, ◌∙◌, ap, sym, subst, take, List, length, arith, Option, ℕ, ◌+◌}
+use Rattle.std.proofs.Common.{refl, ◌∙◌, ap, sym, subst, take, Option, ℕ, ◌+◌}
 use Rattle.std.proofs.lemmas.List.{take_all}
 use Rattle.dlms_polling.proofs.RiserLemmas.{IsLatest, step_kept, step_same}
 use Rattle.dlms_polling.specs.Risers.{risers}
-use Rattle.dlms_headend.specs.declared.row.Row.{Row}
 use Rattle.dlms_polling.proofs.rising.risers.Goals as goal
 use Rattle.dlms_polling.proofs.rising.risers.Goals.{then-is_later+in_ok-push, else-is_later}
 
