@@ -1,5 +1,5 @@
 -- Refusals of addresses that have proved no secret are a second apart.
-use Rattle.std.proofs.Common.{refl, sym, ◌∙◌, ◌≡◌, ◌+◌, ◌<◌, ◌≤◌, ◌⊎◌, ℕ, Bool, true, false, arith, List, [], ◌∷◌, ◌++◌, length, min, Option, Some, None, Result, Ok, subst, ap}
+use Rattle.std.proofs.Common.{refl, sym, ◌∙◌, ◌≡◌, ◌+◌, ◌<◌, ◌≤◌, ◌⊎◌, ℕ, Bool, true, false, arith, List, [], ◌∷◌, ◌++◌, length, min, Option, Some, Ok, subst, ap}
 use Rattle.std.specs.Prelude.{All, nat_le, not, ◌&&◌, ◌||◌, if◌then◌else◌}
 use Rattle.std.proofs.lemmas.Bool.Decides.{nat_tests}
 use Rattle.std.proofs.lemmas.List.Elements.{All-head, All-tail}

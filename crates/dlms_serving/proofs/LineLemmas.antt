@@ -1,5 +1,5 @@
 -- A meter that serves a serial line.
-use Rattle.std.proofs.Common.{refl, sym, ap, ◌∙◌, ◌≡◌, ℕ, Bool, true, false, List, [], ◌∷◌, Option, Some, None, Result, Ok, Err, subst}
+use Rattle.std.proofs.Common.{sym, ◌∙◌, ◌≡◌, ℕ, Bool, List, [], ◌∷◌, Option, None, Ok, Err, subst}
 use Rattle.std.specs.Prelude.{if◌then◌else◌}
 use Rattle.dlms_ends.specs.Moments.{Moment}
 use Rattle.dlms_meter.specs.declared.meter.Meter.{Meter}

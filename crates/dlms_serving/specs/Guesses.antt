@@ -1,11 +1,10 @@
 -- Who tries secrets: from when on an address may try again whose association requests were refused. All of this is the project's own.
-use Rattle.std.specs.Prelude.{◌≡◌, ◌⊎◌, ◌+◌, ◌*◌, ◌-◌, ◌^◌, ◌<◌, ◌≤◌, ◌==◌, ◌&&◌, ◌||◌, ℕ, Bool, true, false, not, nat_le, min, List, [], ◌∷◌, ◌++◌, length, take, drop, filter, find, slice_index, Option, Some, None, option_map, unwrap_or, Result, is_ok, if◌then◌else◌}
+use Rattle.std.specs.Prelude.{◌≡◌, ◌⊎◌, ◌+◌, ◌*◌, ◌-◌, ◌^◌, ◌<◌, ◌≤◌, ◌==◌, ◌&&◌, ◌||◌, ℕ, Bool, true, false, not, nat_le, min, List, [], ◌∷◌, ◌++◌, length, take, drop, filter, find, Option, Some, None, option_map, unwrap_or, Result, is_ok, if◌then◌else◌}
 use Rattle.std.specs.List.{list_any}
 use Rattle.std.specs.Net.Addr.{IsIpv4Mapped, ipv4_bits, ipv4_octets, ipv6_segments, low_octets}
 use Rattle.std.specs.declared.net.ip_addr.IpAddr.{IpAddr}
 use Rattle.std.specs.declared.net.ip_addr.IpAddr.TheVariants.{V4, V6}
 use Rattle.std.specs.declared.net.ipv4_addr.Ipv4Addr.{Ipv4Addr}
-use Rattle.std.specs.declared.alloc.AllocError.{AllocError}
 use Rattle.dlms_serving.specs.declared.guesses.Guesses.{Guesses}
 use Rattle.dlms_serving.specs.declared.guesses.Mark.{Mark}
 use Rattle.dlms_serving.specs.declared.guesses.Proof.{Proof}

@@ -1,5 +1,5 @@
 -- Which of the connections that wait is served next, and which gives way where too many do. All of this is the project's own.
-use Rattle.std.specs.Prelude.{◌≡◌, ◌⊎◌, ◌+◌, ◌<◌, ◌≤◌, ◌&&◌, ℕ, Bool, true, false, not, nat_lt, IsTrue, List, [], length, map, count_by, slice_get, Option, Some, None, if◌then◌else◌}
+use Rattle.std.specs.Prelude.{◌≡◌, ◌⊎◌, ◌+◌, ◌<◌, ◌≤◌, ◌&&◌, ℕ, Bool, true, false, not, nat_lt, IsTrue, List, [], map, count_by, slice_get, Option, Some, None, if◌then◌else◌}
 use Rattle.dlms_serving.specs.Guesses.{have_passed, is_known, may_try, same_origin}
 use Rattle.dlms_serving.specs.declared.guesses.Guesses.{Guesses}
 use Rattle.dlms_serving.specs.declared.guesses.Origin.{Origin}

@@ -1,5 +1,5 @@
 -- What a reply of a meter says about an association that was asked for.
-use Rattle.std.specs.Prelude.{◌≡◌, ◌==◌, ◌&&◌, ℕ, Bool, false, List, [], ◌∷◌, MatchOption, Option, Some, None, nat_eq, option_and_then, option_map, unwrap_or, drop, slice_get, if◌then◌else◌}
+use Rattle.std.specs.Prelude.{◌≡◌, ◌==◌, ◌&&◌, ℕ, Bool, false, List, [], ◌∷◌, MatchOption, Option, None, nat_eq, option_and_then, option_map, unwrap_or, drop, slice_get, if◌then◌else◌}
 use Rattle.std.specs.List.{starts_with}
 use Rattle.dlms_frame.specs.Client.{client_of, has_secret}
 use Rattle.dlms_frame.specs.Frame.{Parts}
