@@ -1,2 +1,3 @@
+pub mod HdlcLemmas
 pub mod RunLemmas
 pub mod TcpLemmas

@@ -1,8 +1,9 @@
-//! Carries APDUs between a client's association and its meter: the trait `Carrier`, and the carrier over TCP.
+//! Carries APDUs between a client's association and its meter: the trait `Carrier`, and carriers over TCP and HDLC.
 #![tactic(auto)]
 
 mod carrier;
 mod event;
+mod hdlc;
 pub mod laws;
 mod phase;
 mod tcp;
@@ -11,5 +12,6 @@ mod tests;
 
 pub use carrier::Carrier;
 pub use event::{Event, Fed};
+pub use hdlc::HdlcCarrier;
 pub use phase::Phase;
 pub use tcp::TcpCarrier;

@@ -1,10 +1,12 @@
-//! One exchange over TCP, with the APDUs of an independent source, the examples of the DLMS UA Green Book: the AARQ of the lowest
+//! Exchanges over TCP and HDLC, with the APDUs of an independent source, the examples of the DLMS UA Green Book: the AARQ of the lowest
 //! security level from the public client (wPort 0x0010) to the management logical device (wPort 0x0001), and an AARE that answers
 //! it.
 
 use crate::carrier::Carrier;
 use crate::event::Event;
+use crate::hdlc::HdlcCarrier;
 use crate::tcp::TcpCarrier;
+use dlms_frame::Address;
 use dlms_wrapper::HeaderFault;
 use std::process::Abort;
 use std::test::Fail;
@@ -30,6 +32,36 @@ static OTHER: [u8; 9] = [0x00, 0x01, 0x00, 0x02, 0x00, 0x10, 0x00, 0x01, 0xd8];
 /// A header of version 2.
 static REFUSED: [u8; 8] = [0x00, 0x02, 0x00, 0x01, 0x00, 0x10, 0x00, 0x00];
 
+/// The client's SNRM.
+static SNRM: [u8; 9] = [0x7e, 0xa0, 0x07, 0x03, 0x21, 0x93, 0x0f, 0x01, 0x7e];
+
+/// The meter's UA, with the parameters of its link.
+static UA: [u8; 32] = [
+    0x7e, 0xa0, 0x1e, 0x21, 0x03, 0x73, 0xc3, 0x7a, 0x81, 0x80, 0x12, 0x05, 0x01, 0x80, 0x06, 0x01,
+    0x80, 0x07, 0x04, 0x00, 0x00, 0x00, 0x01, 0x08, 0x04, 0x00, 0x00, 0x00, 0x01, 0x53, 0x3b, 0x7e,
+];
+
+/// The AARQ's I frame.
+static OPENS: [u8; 45] = [
+    0x7e, 0xa0, 0x2b, 0x03, 0x21, 0x10, 0xfb, 0xaf, 0xe6, 0xe6, 0x00, 0x60, 0x1d, 0xa1, 0x09, 0x06,
+    0x07, 0x60, 0x85, 0x74, 0x05, 0x08, 0x01, 0x01, 0xbe, 0x10, 0x04, 0x0e, 0x01, 0x00, 0x00, 0x00,
+    0x06, 0x5f, 0x1f, 0x04, 0x00, 0x00, 0x7e, 0x1f, 0x04, 0xb0, 0xca, 0xea, 0x7e,
+];
+
+/// The I frame of the meter's AARE.
+static ACCEPTED: [u8; 57] = [
+    0x7e, 0xa0, 0x37, 0x21, 0x03, 0x30, 0x6c, 0x7c, 0xe6, 0xe7, 0x00, 0x61, 0x29, 0xa1, 0x09, 0x06,
+    0x07, 0x60, 0x85, 0x74, 0x05, 0x08, 0x01, 0x01, 0xa2, 0x03, 0x02, 0x01, 0x00, 0xa3, 0x05, 0xa1,
+    0x03, 0x02, 0x01, 0x00, 0xbe, 0x10, 0x04, 0x0e, 0x08, 0x00, 0x06, 0x5f, 0x1f, 0x04, 0x00, 0x00,
+    0x1c, 0x1d, 0x04, 0x00, 0x00, 0x07, 0xb6, 0xae, 0x7e,
+];
+
+/// The client's DISC.
+static DISC: [u8; 9] = [0x7e, 0xa0, 0x07, 0x03, 0x21, 0x53, 0x03, 0xc7, 0x7e];
+
+/// The meter's UA to it.
+static ENDS: [u8; 9] = [0x7e, 0xa0, 0x07, 0x21, 0x03, 0x73, 0x01, 0x40, 0x7e];
+
 /// Gives all octets to a carrier, and returns the last event.
 fn feed_all<C: Carrier>(carrier: &mut C, octets: &[u8]) -> Event {
     let mut rest = octets;
@@ -50,7 +82,6 @@ fn ask<C: Carrier>(rt: &impl Abort, carrier: &mut C) {
     if carrier.is_idle() {
         assert_eq!(rt; carrier.give(&AARQ[8..]), Event::Nothing);
     }
-    assert_eq!(rt; carrier.out(), &AARQ[..]);
     assert!(rt; carrier.is_waiting());
 }
 
@@ -60,6 +91,7 @@ fn an_answer_is_handed_up_once(rt: HostRuntime) -> Result<(), Fail> {
     assert_eq!(rt; carrier.begin(), Event::Up);
     assert!(rt; carrier.out().is_empty());
     ask(&rt, &mut carrier);
+    assert_eq!(rt; carrier.out(), &AARQ[..]);
     assert_eq!(rt; feed_all(&mut carrier, &OTHER), Event::Nothing);
     assert!(rt; carrier.out().is_empty());
     assert_eq!(rt; feed_all(&mut carrier, &AARE[..20]), Event::Nothing);
@@ -90,6 +122,34 @@ fn a_timeout_and_a_refused_header_end_it(rt: HostRuntime) -> Result<(), Fail> {
         feed_all(&mut carrier, &REFUSED),
         Event::Refused(HeaderFault::Version(2))
     );
+    assert!(rt; carrier.is_down());
+    Ok(())
+}
+
+#[test]
+fn a_link_opens_carries_and_closes(rt: HostRuntime) -> Result<(), Fail> {
+    let mut carrier = HdlcCarrier::new(0x10, Address::One(1));
+    if carrier.is_down() {
+        assert_eq!(rt; carrier.begin(), Event::Nothing);
+    }
+    assert_eq!(rt; carrier.out(), &SNRM[..]);
+    if carrier.is_waiting() {
+        assert_eq!(rt; carrier.wait(), Event::Nothing);
+    }
+    assert_eq!(rt; carrier.out(), &SNRM[..]);
+    assert_eq!(rt; feed_all(&mut carrier, &UA), Event::Up);
+    assert!(rt; carrier.out().is_empty());
+    ask(&rt, &mut carrier);
+    assert_eq!(rt; carrier.out(), &OPENS[..]);
+    assert_eq!(rt; feed_all(&mut carrier, &ACCEPTED[..20]), Event::Nothing);
+    assert_eq!(rt; feed_all(&mut carrier, &ACCEPTED[20..]), Event::Apdu);
+    assert_eq!(rt; carrier.apdu(), &ACCEPTED[11..54]);
+    assert_eq!(rt; feed_all(&mut carrier, &ACCEPTED), Event::Nothing);
+    if carrier.is_idle() {
+        assert_eq!(rt; carrier.end(), Event::Nothing);
+    }
+    assert_eq!(rt; carrier.out(), &DISC[..]);
+    assert_eq!(rt; feed_all(&mut carrier, &ENDS), Event::Down);
     assert!(rt; carrier.is_down());
     Ok(())
 }
