@@ -1,6 +1,6 @@
 -- Runs of the carrier over TCP.
-use Rattle.std.proofs.Common.{◌≡◌, ◌≢◌, ℕ, ◌+◌, ◌<◌, ◌≤◌, ◌^◌, List, [], ◌∷◌, ◌++◌, length, map, refl, sym, ap, subst, ◌∙◌, append_assoc, arith, Option, Some, None, All}
-use Rattle.std.proofs.lemmas.List.{append-nil}
+use Rattle.std.proofs.Common.{◌≡◌, ◌≢◌, ℕ, ◌+◌, ◌<◌, ◌≤◌, ◌^◌, List, [], ◌∷◌, ◌++◌, length, take, map, refl, sym, ap, subst, ◌∙◌, append_assoc, arith, Option, Some, None, All}
+use Rattle.std.proofs.lemmas.List.{append-nil, take_all}
 use Rattle.std.proofs.lemmas.List.Elements.{All-cons, All-head, All-tail}
 use Rattle.dlms_wrapper.specs.Message.{IsMessage, Parts, message_bytes}
 use Rattle.dlms_wrapper.specs.Stream.{HasNoMessage, IsFound, Kept, found_bytes, stream_of}
@@ -54,7 +54,7 @@ record Passes (input : Input) (c new : TcpValue) : Type 0 where
 passes_step : (input : Input) (result : Event) (c new : TcpValue) → Steps c input result new → Passes input c new
 passes_step Begin result c new h = record { own = ap (λ (v : TcpValue). v.own) h.2; server = ap (λ (v : TcpValue). v.server) h.2; text = ap (λ (v : TcpValue). v.text) h.2 }
 passes_step (Give apdu) result c new h = record { own = ap (λ (v : TcpValue). v.own) h.3; server = ap (λ (v : TcpValue). v.server) h.3; text = ap (λ (v : TcpValue). v.text) h.3 }
-passes_step (Feed octets) result c new h = let s = comes_stays result _ new h.comes in record { own = s.own; server = s.server; text = s.text }
+passes_step (Feed octets count) result c new h = let s = comes_stays result _ new h.comes in record { own = s.own; server = s.server; text = s.text }
 passes_step Wait result c new h = record { own = ap (λ (v : TcpValue). v.own) h.2; server = ap (λ (v : TcpValue). v.server) h.2; text = ap (λ (v : TcpValue). v.text) h.2 }
 passes_step End result c new h = record { own = ap (λ (v : TcpValue). v.own) h.2; server = ap (λ (v : TcpValue). v.server) h.2; text = ap (λ (v : TcpValue). v.text) h.2 }
 
@@ -65,7 +65,7 @@ sent_more : (input : Input) (result : Event) (out apdu : List ℕ) (calls : List
     → written (call_of input result out apdu ∷ calls) ≡ stream_of (map (message_of own server) (given (call_of input result out apdu ∷ calls)))
 sent_more Begin result out apdu calls own server e more = ap (λ o. o ++ written calls) e ∙ more
 sent_more (Give a) result out apdu calls own server e more = ap (λ o. o ++ written calls) e ∙ ap (λ w. message_bytes (message_of own server a) ++ w) more
-sent_more (Feed octets) result out apdu calls own server e more = ap (λ o. o ++ written calls) e ∙ more
+sent_more (Feed octets count) result out apdu calls own server e more = ap (λ o. o ++ written calls) e ∙ more
 sent_more Wait result out apdu calls own server e more = ap (λ o. o ++ written calls) e ∙ more
 sent_more End result out apdu calls own server e more = ap (λ o. o ++ written calls) e ∙ more
 
@@ -104,7 +104,7 @@ drops_comes TimedOut c new down h = absurd h
 drops_step : (input : Input) (result : Event) (c new : TcpValue) → c.phase ≡ Down → input ≢ Begin → Steps c input result new → Drops result c new
 drops_step Begin result c new down within h = absurd (within refl)
 drops_step (Give apdu) result c new down within h = let idle = h.0 in cc
-drops_step (Feed octets) result c new down within h =
+drops_step (Feed octets count) result c new down within h =
     let d = drops_comes result _ new down h.comes in
     record { event = d.event; phase = d.phase; reader = d.reader ∙ h.drops down }
 drops_step Wait result c new down within h = let waits = h.0 in cc
@@ -180,21 +180,21 @@ between_is source dest found b =
     b.whole ∙ ap Some (ap (λ s. message_of s b.message.dest b.message.apdu) b.from ∙ ap (λ d. message_of source d b.message.apdu) b.to)
 
 -- the calls after one that reads octets
-feed_more : (result : Event) (octets out apdu : List ℕ) (calls : List Call) (reader : Kept) (c mid new : TcpValue)
+feed_more : (result : Event) (arrived : List ℕ) (count : ℕ) (octets out apdu : List ℕ) (calls : List Call) (reader : Kept) (c mid new : TcpValue)
     → Comes (record c { reader = reader; text = [] }) result mid → apdu ≡ apdu_in reader.message
     → c.reader.bytes ++ octets ≡ found_bytes reader.message ++ reader.bytes → IsFound MOST_APDU reader.message
     → Brings c.own c.server reader.bytes (read calls) (handed_up calls) new
-    → Brings c.own c.server c.reader.bytes (octets ++ read calls) (handed_up (call_of (Feed octets) result out apdu ∷ calls)) new
-feed_more Nothing octets out apdu calls reader c mid new comes same e fits b = ignores c.own c.server c.reader.bytes octets reader.bytes (read calls) reader.message (handed_up calls) new e fits b
-feed_more (Refused why) octets out apdu calls reader c mid new comes same e fits b = ignores c.own c.server c.reader.bytes octets reader.bytes (read calls) reader.message (handed_up calls) new e fits b
-feed_more Apdu octets out apdu calls reader c mid new comes same e fits b =
+    → Brings c.own c.server c.reader.bytes (octets ++ read calls) (handed_up (call_of (Feed arrived count) result out apdu ∷ calls)) new
+feed_more Nothing arrived count octets out apdu calls reader c mid new comes same e fits b = ignores c.own c.server c.reader.bytes octets reader.bytes (read calls) reader.message (handed_up calls) new e fits b
+feed_more (Refused why) arrived count octets out apdu calls reader c mid new comes same e fits b = ignores c.own c.server c.reader.bytes octets reader.bytes (read calls) reader.message (handed_up calls) new e fits b
+feed_more Apdu arrived count octets out apdu calls reader c mid new comes same e fits b =
     let is = between_is c.server c.own reader.message comes.0.1 in
     let a : List ℕ = comes.0.1.message.apdu in
     let whole = hands c.own c.server c.reader.bytes octets reader.bytes (read calls) a (handed_up calls) new (subst (λ f. c.reader.bytes ++ octets ≡ found_bytes f ++ reader.bytes) is e) (subst (IsFound MOST_APDU) is fits) b in
     subst (λ x. Brings c.own c.server c.reader.bytes (octets ++ read calls) (x ∷ handed_up calls) new) (sym (same ∙ ap apdu_in is)) whole
-feed_more Up octets out apdu calls reader c mid new comes same e fits b = absurd comes
-feed_more event.Down octets out apdu calls reader c mid new comes same e fits b = absurd comes
-feed_more TimedOut octets out apdu calls reader c mid new comes same e fits b = absurd comes
+feed_more Up arrived count octets out apdu calls reader c mid new comes same e fits b = absurd comes
+feed_more event.Down arrived count octets out apdu calls reader c mid new comes same e fits b = absurd comes
+feed_more TimedOut arrived count octets out apdu calls reader c mid new comes same e fits b = absurd comes
 
 -- what a carrier keeps between two calls
 record IsSound (c : TcpValue) : Type 0 where
@@ -216,7 +216,7 @@ sound_reads c mid octets reader e reads sound = record {
 sound_step : (input : Input) (result : Event) (c mid : TcpValue) → c.phase ≢ Down → input ≢ Begin → Steps c input result mid → IsSound c → IsSound mid
 sound_step Begin result c mid up within h sound = absurd (within refl)
 sound_step (Give apdu) result c mid up within h sound = sound_reader c mid (ap (λ (v : TcpValue). v.reader) h.3) sound
-sound_step (Feed octets) result c mid up within h sound = sound_reads c mid octets h.reader (comes_stays result _ mid h.comes).reader (h.reads up) sound
+sound_step (Feed octets count) result c mid up within h sound = sound_reads c mid (take count octets) h.reader (comes_stays result _ mid h.comes).reader (h.reads up) sound
 sound_step Wait result c mid up within h sound = sound_reader c mid (ap (λ (v : TcpValue). v.reader) h.2) sound
 sound_step End result c mid up within h sound = sound_reader c mid (ap (λ (v : TcpValue). v.reader) h.2) sound
 
@@ -240,12 +240,12 @@ up_more Wait result out apdu calls c mid new up within sound h same b =
     let is = h.1 in quiet Wait result out apdu calls c mid new (λ e. cc) refl (ap (λ (v : TcpValue). v.reader) h.2) b
 up_more End result out apdu calls c mid new up within sound h same b =
     let is = h.1 in quiet End result out apdu calls c mid new (λ e. cc) refl (ap (λ (v : TcpValue). v.reader) h.2) b
-up_more (Feed octets) result out apdu calls c mid new up within sound h same b =
+up_more (Feed octets count) result out apdu calls c mid new up within sound h same b =
     let stays = comes_stays result _ mid h.comes in
     let reads = h.reads up in
     let fits = subst (λ l. IsFound l h.reader.message) sound.limit reads.takes.message in
     let by_reader = subst (λ (r : Kept). Brings c.own c.server r.bytes (read calls) (handed_up calls) new) stays.reader b in
-    feed_more result octets out apdu calls h.reader c mid new h.comes (same ∙ ap (λ (r : Kept). apdu_in r.message) stays.reader) reads.takes.text fits by_reader
+    feed_more result octets count (take count octets) out apdu calls h.reader c mid new h.comes (same ∙ ap (λ (r : Kept). apdu_in r.message) stays.reader) reads.takes.text fits by_reader
 
 -- no octet was read
 nothing_read : (own server : ℕ) (octets : List ℕ) (c new : TcpValue) → IsSound c → new.reader ≡ c.reader → (new.phase ≢ Down → octets ≡ []) → Brings own server c.reader.bytes octets [] new
@@ -299,7 +299,7 @@ no_octets limit m after fits e = cc
 begun : (input : Input) (result : Event) (old mid : TcpValue) → input ≡ Begin → Steps old input result mid → mid ≡ record old { phase = Idle; reader = at_start; text = [] }
 begun Begin result old mid e h = h.2
 begun (Give apdu) result old mid e h = cc
-begun (Feed octets) result old mid e h = cc
+begun (Feed octets count) result old mid e h = cc
 begun Wait result old mid e h = cc
 begun End result old mid e h = cc
 
@@ -320,15 +320,15 @@ pending Waiting = 1
 pending_at : (p : Phase) (c new : TcpValue) → new ≡ record c { phase = p } → pending new.phase ≡ pending p
 pending_at p c new e = ap (λ (v : TcpValue). pending v.phase) e
 
-count_heard : (result : Event) (c mid : TcpValue) (apdu : List ℕ) (calls : List Call) (octets out : List ℕ) (given_later after : ℕ) → Comes c result mid
+count_heard : (result : Event) (c mid : TcpValue) (apdu : List ℕ) (calls : List Call) (octets : List ℕ) (count : ℕ) (out : List ℕ) (given_later after : ℕ) → Comes c result mid
     → length (handed_up calls) + after ≤ given_later + pending mid.phase
-    → length (handed_up (call_of (Feed octets) result out apdu ∷ calls)) + after ≤ given_later + pending c.phase
-count_heard Nothing c mid apdu calls octets out given_later after h more = let e = ap (λ (v : TcpValue). pending v.phase) h.2 in omega (arith, e, more)
-count_heard Apdu c mid apdu calls octets out given_later after h more = let e = pending_at Idle c mid h.2 in let f = ap pending h.0.0 in omega (arith, e, f, more)
-count_heard (Refused why) c mid apdu calls octets out given_later after h more = let e = pending_at Down c mid h.2 in omega (arith, e, more)
-count_heard Up c mid apdu calls octets out given_later after h more = absurd h
-count_heard event.Down c mid apdu calls octets out given_later after h more = absurd h
-count_heard TimedOut c mid apdu calls octets out given_later after h more = absurd h
+    → length (handed_up (call_of (Feed octets count) result out apdu ∷ calls)) + after ≤ given_later + pending c.phase
+count_heard Nothing c mid apdu calls octets count out given_later after h more = let e = ap (λ (v : TcpValue). pending v.phase) h.2 in omega (arith, e, more)
+count_heard Apdu c mid apdu calls octets count out given_later after h more = let e = pending_at Idle c mid h.2 in let f = ap pending h.0.0 in omega (arith, e, f, more)
+count_heard (Refused why) c mid apdu calls octets count out given_later after h more = let e = pending_at Down c mid h.2 in omega (arith, e, more)
+count_heard Up c mid apdu calls octets count out given_later after h more = absurd h
+count_heard event.Down c mid apdu calls octets count out given_later after h more = absurd h
+count_heard TimedOut c mid apdu calls octets count out given_later after h more = absurd h
 
 count_more : (input : Input) (result : Event) (out apdu : List ℕ) (calls : List Call) (c mid : TcpValue) (after : ℕ) → Steps c input result mid
     → length (handed_up calls) + after ≤ length (given calls) + pending mid.phase
@@ -339,7 +339,7 @@ count_more Begin result out apdu calls c mid after h more =
 count_more (Give a) result out apdu calls c mid after h more =
     let e = ap (λ (v : TcpValue). pending v.phase) h.3 in
     let none = ap length (unheard (Give a) result out apdu calls (λ is. let up = h.2 in cc)) in omega (arith, e, none, more)
-count_more (Feed octets) result out apdu calls c mid after h more = count_heard result _ mid apdu calls octets out (length (given calls)) after h.comes more
+count_more (Feed octets count) result out apdu calls c mid after h more = count_heard result _ mid apdu calls octets count out (length (given calls)) after h.comes more
 count_more Wait result out apdu calls c mid after h more =
     let e = ap (λ (v : TcpValue). pending v.phase) h.2 in
     let none = ap length (unheard Wait result out apdu calls (λ is. let up = h.1 in cc)) in omega (arith, e, none, more)
@@ -367,12 +367,13 @@ exchange own server apdu answer port meter short fits =
     let done : TcpValue = record asked { phase = Idle; reader = got; text = [] } in
     let begins : Call = call_of Begin Up [] [] in
     let gives : Call = call_of (Give apdu) Nothing (message_bytes (message_of own server apdu)) [] in
-    let hears : Call = call_of (Feed (message_bytes m)) Apdu [] answer in
-    let reads : Reads at_start (message_bytes m) got = record {
+    let hears : Call = call_of (Feed (message_bytes m) (length (message_bytes m))) Apdu [] answer in
+    let all : take (length (message_bytes m)) (message_bytes m) ≡ message_bytes m = take_all (length (message_bytes m)) (message_bytes m) (omega arith) in
+    let reads : Reads at_start (take (length (message_bytes m)) (message_bytes m)) got = record {
       limit = refl;
-      takes = record { text = sym (append-nil (message_bytes m)); message = record { source = meter; dest = port; short = fits }; rest = no_octets MOST_APDU };
+      takes = record { text = all ∙ sym (append-nil (message_bytes m)); message = record { source = meter; dest = port; short = fits }; rest = no_octets MOST_APDU };
     } in
-    let heard : Hears asked (message_bytes m) Apdu done = record {
+    let heard : Hears asked (take (length (message_bytes m)) (message_bytes m)) Apdu done = record {
       reader = got;
       reads = λ open_. reads;
       drops = λ down. cc;

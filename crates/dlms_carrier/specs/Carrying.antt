@@ -1,14 +1,14 @@
 -- The calls of a carrier, and a run of them.
-use Rattle.std.specs.Prelude.{◌≡◌, ℕ, List, [], ◌∷◌, Option, Some, None}
+use Rattle.std.specs.Prelude.{◌≡◌, ℕ, List, [], ◌∷◌, take, Option, Some, None}
 use Rattle.std.specs.List.{flat_map, filter_map}
 use Rattle.dlms_carrier.specs.declared.event.Event.{Event}
 use Rattle.dlms_carrier.specs.declared.event.Event.TheVariants.{Nothing, Up, Apdu, Down, TimedOut, Refused}
 
--- which method is called, and with which argument
+-- which method is called, and with which argument; of the octets that arrived the first `count` are read
 pub data Input : Type 0 where
   Begin : Input
   Give : (apdu : List ℕ) → Input
-  Feed : (octets : List ℕ) → Input
+  Feed : (octets : List ℕ) (count : ℕ) → Input
   Wait : Input
   End : Input
 
@@ -33,14 +33,14 @@ Runs {C} steps out_of apdu_of old (call ∷ calls) new = (mid : C) × Does steps
 abbrev pub given_by : Input → Option (List ℕ)
 given_by Begin = None
 given_by (Give apdu) = Some apdu
-given_by (Feed octets) = None
+given_by (Feed octets count) = None
 given_by Wait = None
 given_by End = None
 
 abbrev pub read_by : Input → List ℕ
 read_by Begin = []
 read_by (Give apdu) = []
-read_by (Feed octets) = octets
+read_by (Feed octets count) = take count octets
 read_by Wait = []
 read_by End = []
 

@@ -1,5 +1,5 @@
 -- The carrier over an HDLC link: the frames of a stream (IEC 62056-46), as the client's link handles them.
-use Rattle.std.specs.Prelude.{◌≡◌, ℕ, ◌≤◌, List, [], ◌++◌, length, Option, Some, None, IsSome, IsNone}
+use Rattle.std.specs.Prelude.{◌≡◌, ℕ, ◌≤◌, List, [], length, take, Option, Some, None, IsSome, IsNone}
 use Rattle.dlms_frame.specs.Frame.{FrameSpelling, Parts}
 use Rattle.dlms_frame.specs.Stream.{Fits, Takes}
 use Rattle.dlms_frame.specs.declared.frame.Address.{Address}
@@ -50,27 +50,25 @@ Reports (out.Send frame) result text = (result ≡ event.Nothing) × FrameSpelli
 Reports out.Apdu result text = (result ≡ event.Apdu) × (text ≡ [])
 Reports out.Down result text = (result ≡ event.Down) × (text ≡ [])
 
--- after an output the octets that were read are dropped, with those that arrived with them
-abbrev pub DropsAfter : ClientOut → List ℕ → List ℕ → HdlcValue → Type 0
-DropsAfter out.Nothing kept dropped new = (dropped ≡ []) × (new.kept ≡ kept)
-DropsAfter out.Up kept dropped new = IsClear new
-DropsAfter (out.Send frame) kept dropped new = IsClear new
-DropsAfter out.Apdu kept dropped new = IsClear new
-DropsAfter out.Down kept dropped new = IsClear new
+-- after an output the other octets that arrived with the frame are dropped
+abbrev pub IsReadAfter : ClientOut → (kept : List ℕ) → (taken count arrived : ℕ) → HdlcValue → Type 0
+IsReadAfter out.Nothing kept taken count arrived new = (count ≡ taken) × (new.kept ≡ kept)
+IsReadAfter out.Up kept taken count arrived new = (count ≡ arrived) × IsClear new
+IsReadAfter (out.Send frame) kept taken count arrived new = (count ≡ arrived) × IsClear new
+IsReadAfter out.Apdu kept taken count arrived new = (count ≡ arrived) × IsClear new
+IsReadAfter out.Down kept taken count arrived new = (count ≡ arrived) × IsClear new
 
--- Octets arrived: the deframer reads them up to the end of the next frame, which the link handles. An APDU is handed up only while a
+-- Octets arrived: the deframer takes them up to the end of the next frame, which the link handles. An APDU is handed up only while a
 -- frame is out, and then the link is idle.
-pub record Hears (c : HdlcValue) (octets : List ℕ) (result : Event) (new : HdlcValue) : Type 0 where
-  pub taken : List ℕ
-  pub dropped : List ℕ
+pub record Hears (c : HdlcValue) (octets : List ℕ) (count : ℕ) (result : Event) (new : HdlcValue) : Type 0 where
+  pub taken : ℕ
   pub kept : List ℕ
   pub frame : Option Parts
   pub output : ClientOut
-  pub text : octets ≡ taken ++ dropped
-  pub takes : Takes c.kept taken frame kept
+  pub takes : Takes c.kept (take taken octets) frame kept
   pub handles : Handles frame c.link output new.link
   pub reports : Reports output result new.text
-  pub drops : DropsAfter output kept dropped new
+  pub reads : IsReadAfter output kept taken count (length octets) new
   pub answers : result ≡ event.Apdu → IsSome c.link.waits × IsIdle new.link
 
 -- a timeout: the frame goes out again, or the link is down
@@ -110,6 +108,6 @@ pub record Ends (c : HdlcValue) (result : Event) (new : HdlcValue) : Type 0 wher
 abbrev pub Steps : HdlcValue → Input → Event → HdlcValue → Type 0
 Steps c Begin result new = Begins c result new
 Steps c (Give apdu) result new = Gives c apdu result new
-Steps c (Feed octets) result new = Hears c octets result new
+Steps c (Feed octets count) result new = Hears c octets count result new
 Steps c Wait result new = TimesOut c result new
 Steps c End result new = Ends c result new

@@ -1,5 +1,5 @@
 -- The carrier over TCP: each APDU is a message of the wrapper (IEC 62056-47) between the client's port and the meter's.
-use Rattle.std.specs.Prelude.{◌≡◌, ◌≢◌, ℕ, ◌≤◌, List, [], ◌∷◌, ◌++◌, length, Option, Some, None}
+use Rattle.std.specs.Prelude.{◌≡◌, ◌≢◌, ℕ, ◌≤◌, List, [], ◌∷◌, ◌++◌, length, take, Option, Some, None}
 use Rattle.dlms_wrapper.specs.Message.{Parts, message_bytes}
 use Rattle.dlms_wrapper.specs.Stream.{IsRefused, IsRefusedFor, Kept, Splits, Takes}
 use Rattle.dlms_wrapper.specs.declared.message.TheConstants.{MOST_APDU}
@@ -91,7 +91,7 @@ Steps c Begin result new = (c.phase ≡ Down) × (result ≡ event.Up) × (new �
 Steps c (Give apdu) result new =
     (c.phase ≡ Idle) × (length apdu ≤ MOST_APDU) × (result ≡ event.Nothing)
     × (new ≡ record c { phase = Waiting; text = message_bytes (message_of c.own c.server apdu) })
-Steps c (Feed octets) result new = Hears c octets result new
+Steps c (Feed octets count) result new = Hears c (take count octets) result new
 Steps c Wait result new = (c.phase ≡ Waiting) × (result ≡ event.TimedOut) × (new ≡ record c { phase = Down; text = [] })
 Steps c End result new = (c.phase ≡ Idle) × (result ≡ event.Down) × (new ≡ record c { phase = Down; text = [] })
 

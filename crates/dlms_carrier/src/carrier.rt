@@ -1,9 +1,9 @@
 //! What carries APDUs between a client and its meter.
 
-ghost use Rattle.std.specs.Prelude.{◌≡◌, ◌<◌, ◌≤◌, ◌↔◌, ℕ, List, length, take, IsTrue};
+ghost use Rattle.std.specs.Prelude.{◌≡◌, ◌<◌, ◌≤◌, ◌↔◌, ℕ, List, length, IsTrue};
 ghost use Rattle.dlms_wrapper.specs.declared.message.TheConstants.{MOST_APDU};
 ghost use Rattle.dlms_carrier.specs.declared.event.Event.{Event as EventOf};
-ghost use Rattle.dlms_carrier.specs.declared.event.Event.TheVariants.{Apdu};
+ghost use Rattle.dlms_carrier.specs.declared.event.Event.TheVariants.{Apdu, Up};
 ghost use Rattle.dlms_carrier.specs.Carrying.{Input, Begin, Give, Feed, Wait, End};
 
 use crate::event::{Event, Fed};
@@ -45,10 +45,11 @@ pub trait Carrier {
     fn is_waiting(&self) -> bool
         ensures { IsTrue result ↔ is_waiting self.now };
 
-    /// Requests a connection. The caller has checked `is_down`.
+    /// Requests a connection. The caller has checked `is_down`. Once the event is `Up`, here or of `feed`, an APDU may be given.
     fn begin(&mut self) -> Event
         requires { is_down self.old }
-        ensures { steps self.old Begin result self.new };
+        ensures steps { steps self.old Begin result self.new }
+        ensures up { result ≡ Up → is_idle self.new };
 
     /// Sends an APDU of at most 1,024 octets to the meter. The caller has checked `is_idle`.
     fn give(&mut self, apdu: &[u8]) -> Event
@@ -60,7 +61,8 @@ pub trait Carrier {
     fn feed(&mut self, octets: &[u8]) -> Fed
         ensures len { result.count ≤ length octets.now }
         ensures some { 0 < length octets.now → 0 < result.count }
-        ensures steps { steps self.old (Feed (take result.count octets.now)) result.event self.new };
+        ensures steps { steps self.old (Feed octets.now result.count) result.event self.new }
+        ensures up { result.event ≡ Up → is_idle self.new };
 
     /// No octet arrived for as long as the caller waits. The caller has checked `is_waiting`.
     fn wait(&mut self) -> Event
@@ -81,8 +83,10 @@ pub trait Carrier {
         ensures { result.now ≡ apdu_of self.now };
 
     /// An APDU is handed up only while an answer is awaited.
-    ghost awaited: { (old new : Self) (octets : List ℕ) → steps old (Feed octets) Apdu new → is_waiting old };
+    ghost awaited: { (old new : Self) (octets : List ℕ) (count : ℕ) →
+        steps old (Feed octets count) Apdu new → is_waiting old };
 
     /// Then the connection is idle.
-    ghost settled: { (old new : Self) (octets : List ℕ) → steps old (Feed octets) Apdu new → is_idle new };
+    ghost settled: { (old new : Self) (octets : List ℕ) (count : ℕ) →
+        steps old (Feed octets count) Apdu new → is_idle new };
 }

@@ -2,7 +2,7 @@
 
 ghost use Rattle.std.specs.Prelude.{◌≡◌, [], IsSome};
 ghost use Rattle.dlms_link.specs.Client.{IsIdle};
-ghost use Rattle.dlms_link.specs.declared.out.ClientOut.TheVariants.{Apdu};
+ghost use Rattle.dlms_link.specs.declared.out.ClientOut.TheVariants.{Apdu, Up};
 ghost use Rattle.dlms_carrier.specs.Hdlc.{Handles, Reports};
 
 use crate::carrier::Carrier;
@@ -55,6 +55,7 @@ impl HdlcCarrier {
 fn handle(link: &mut ClientLink, deframer: &Deframer) -> ClientOut
     ensures handles { Handles deframer.now.frame link.old result link.new }
     ensures answers { result ≡ Apdu → IsSome link.old.waits × IsIdle link.new }
+    ensures up { result ≡ Up → IsIdle link.new }
 {
     match deframer.frame() {
         Some(frame) if link.is_waiting() => link.on(&frame),
@@ -96,9 +97,9 @@ impl Carrier for HdlcCarrier {
 
     ghost is_waiting = { λ c. IsSome c.link.waits };
 
-    ghost awaited = { λ old new octets h. (h.answers refl).0 };
+    ghost awaited = { λ old new octets count h. (h.answers refl).0 };
 
-    ghost settled = { λ old new octets h. (h.answers refl).1 };
+    ghost settled = { λ old new octets count h. (h.answers refl).1 };
 
     fn is_down(&self) -> bool {
         self.link.is_down()

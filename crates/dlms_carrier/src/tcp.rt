@@ -82,9 +82,9 @@ impl Carrier for TcpCarrier {
 
     ghost is_waiting = { λ c. c.phase ≡ Waiting };
 
-    ghost awaited = { λ old new octets h. h.comes.0.0 };
+    ghost awaited = { λ old new octets count h. h.comes.0.0 };
 
-    ghost settled = { λ old new octets h. ap (λ c. c.phase) h.comes.2 };
+    ghost settled = { λ old new octets count h. ap (λ c. c.phase) h.comes.2 };
 
     fn is_down(&self) -> bool {
         self.phase == Phase::Down
