@@ -57,7 +57,8 @@ pub trait Carrier {
         requires short { length apdu.now ≤ MOST_APDU }
         ensures { steps self.old (Give apdu.now) result self.new };
 
-    /// Reads octets that arrived, at most up to the first event. If it is given any, it reads at least one.
+    /// Reads octets that arrived, up to the first event; pass the others to the next call. A carrier may drop those after the event,
+    /// and then counts them as read. If it is given any, it reads at least one.
     fn feed(&mut self, octets: &[u8]) -> Fed
         ensures len { result.count ≤ length octets.now }
         ensures some { 0 < length octets.now → 0 < result.count }
