@@ -1,3 +1,4 @@
+pub mod AnyLemmas
 pub mod HdlcLemmas
 pub mod RunLemmas
 pub mod TcpLemmas

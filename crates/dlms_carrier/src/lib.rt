@@ -1,6 +1,7 @@
 //! Carries APDUs between a client's association and its meter: the trait `Carrier`, and carriers over TCP and HDLC.
 #![tactic(auto)]
 
+mod any;
 mod carrier;
 mod event;
 mod hdlc;
@@ -10,6 +11,7 @@ mod tcp;
 #[cfg(test)]
 mod tests;
 
+pub use any::{AnyCarrier, Route};
 pub use carrier::Carrier;
 pub use event::{Event, Fed};
 pub use hdlc::HdlcCarrier;

@@ -1,0 +1,154 @@
+//! A carrier that is chosen while the program runs.
+
+ghost use Rattle.std.specs.Prelude.{◌≡◌, ◌↔◌, IsTrue};
+ghost use Rattle.dlms_frame.specs.Frame.{IsAddress};
+ghost use Rattle.dlms_carrier.specs.Any.{IsFresh, IsRoute};
+
+use crate::carrier::Carrier;
+use crate::event::{Event, Fed};
+use crate::hdlc::HdlcCarrier;
+use crate::tcp::TcpCarrier;
+use dlms_frame::Address;
+
+/// Which carrier leads to a meter, and both addresses on it.
+#[derive(Clone, Copy, Debug, PartialEq, Eq)]
+pub enum Route {
+    /// An HDLC link, from the client with this service access point, 1 to 127, to the meter at this address.
+    Hdlc(u8, Address),
+    /// The TCP wrapper, from this wrapper port of the client, which is not 0, to this one of the meter.
+    Tcp(u16, u16),
+}
+
+/// Whether each part of an address has its bits.
+fn is_address(address: Address) -> bool
+    ensures { IsTrue result ↔ IsAddress address }
+{
+    match address {
+        Address::One(part) => part < 128,
+        Address::Two(high, low) => high < 128 && low < 128,
+        Address::Four(high, low) => high < 16_384 && low < 16_384,
+    }
+}
+
+impl Route {
+    /// Whether the addresses are in their ranges: a carrier may be made for this route.
+    pub fn is_lawful(&self) -> bool
+        ensures { IsTrue result ↔ IsRoute self.now }
+    {
+        match *self {
+            Route::Hdlc(own, server) => 0 < own && own < 128 && is_address(server),
+            Route::Tcp(own, _) => 0 < own,
+        }
+    }
+}
+
+/// The carrier of a route.
+#[derive(Drop)]
+pub enum AnyCarrier {
+    Hdlc(HdlcCarrier),
+    Tcp(TcpCarrier),
+}
+
+impl AnyCarrier {
+    /// The carrier of this route, without a connection.
+    #[inline(never)]
+    pub fn new(route: Route) -> Self
+        requires { IsRoute route }
+        ensures { IsFresh route result }
+    {
+        match route {
+            Route::Hdlc(own, server) => AnyCarrier::Hdlc(HdlcCarrier::new(own, server)),
+            Route::Tcp(own, server) => AnyCarrier::Tcp(TcpCarrier::new(own, server)),
+        }
+    }
+}
+
+impl Carrier for AnyCarrier {
+    ghost use Rattle.dlms_carrier.specs.Any.{Steps, apdu_of, awaited, is_down, is_idle, is_waiting, out_of, settled};
+
+    ghost steps = { Steps };
+
+    ghost out_of = { out_of };
+
+    ghost apdu_of = { apdu_of };
+
+    ghost is_down = { is_down };
+
+    ghost is_idle = { is_idle };
+
+    ghost is_waiting = { is_waiting };
+
+    ghost awaited = { awaited };
+
+    ghost settled = { settled };
+
+    fn is_down(&self) -> bool {
+        match self {
+            AnyCarrier::Hdlc(carrier) => carrier.is_down(),
+            AnyCarrier::Tcp(carrier) => carrier.is_down(),
+        }
+    }
+
+    fn is_idle(&self) -> bool {
+        match self {
+            AnyCarrier::Hdlc(carrier) => carrier.is_idle(),
+            AnyCarrier::Tcp(carrier) => carrier.is_idle(),
+        }
+    }
+
+    fn is_waiting(&self) -> bool {
+        match self {
+            AnyCarrier::Hdlc(carrier) => carrier.is_waiting(),
+            AnyCarrier::Tcp(carrier) => carrier.is_waiting(),
+        }
+    }
+
+    fn begin(&mut self) -> Event {
+        match self {
+            AnyCarrier::Hdlc(carrier) => carrier.begin(),
+            AnyCarrier::Tcp(carrier) => carrier.begin(),
+        }
+    }
+
+    fn give(&mut self, apdu: &[u8]) -> Event {
+        match self {
+            AnyCarrier::Hdlc(carrier) => carrier.give(apdu),
+            AnyCarrier::Tcp(carrier) => carrier.give(apdu),
+        }
+    }
+
+    fn feed(&mut self, octets: &[u8]) -> Fed {
+        match self {
+            AnyCarrier::Hdlc(carrier) => carrier.feed(octets),
+            AnyCarrier::Tcp(carrier) => carrier.feed(octets),
+        }
+    }
+
+    fn wait(&mut self) -> Event {
+        match self {
+            AnyCarrier::Hdlc(carrier) => carrier.wait(),
+            AnyCarrier::Tcp(carrier) => carrier.wait(),
+        }
+    }
+
+    fn end(&mut self) -> Event {
+        match self {
+            AnyCarrier::Hdlc(carrier) => carrier.end(),
+            AnyCarrier::Tcp(carrier) => carrier.end(),
+        }
+    }
+
+    fn out(&self) -> &[u8] {
+        match self {
+            AnyCarrier::Hdlc(carrier) => carrier.out(),
+            AnyCarrier::Tcp(carrier) => carrier.out(),
+        }
+    }
+
+    fn apdu(&self) -> &[u8] {
+        match self {
+            AnyCarrier::Hdlc(carrier) => carrier.apdu(),
+            AnyCarrier::Tcp(carrier) => carrier.apdu(),
+        }
+    }
+}
