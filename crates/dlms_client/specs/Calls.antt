@@ -1,179 +1,200 @@
--- What each call of a client does: a call of its association, a call of its link, or both.
-use Rattle.std.specs.Prelude.{◌≡◌, Bool, true, false, List, ℕ, Option, Some, None, Result, Ok, Err, IsSome}
+-- What each call of a client does: a call of its carrier, a call of its association, or both. `steps`, `apdu_of` and `is_idle` are
+-- the carrier's own meaning.
+use Rattle.std.specs.Prelude.{◌≡◌, Bool, true, false, List, ℕ, length, Option, Some, None, Result, Ok, Err}
 use Rattle.dlms_apdu.specs.Forms.{RequestForm}
 use Rattle.dlms_association.specs.AssociationValue.{AssociationValue}
 use Rattle.dlms_association.specs.Calls.{Breaks, Closes, IsClosed, Opens, Takes, Asks as AsksOf, IsFree as IsFreeOf, Releases as ReleasesOf, fresh as fresh_association}
+use Rattle.dlms_association.specs.Terms.{TermsValue}
 use Rattle.dlms_association.specs.declared.ask_fault.AskFault.{AskFault}
 use Rattle.dlms_association.specs.declared.fault.Fault.{Fault}
-use Rattle.dlms_association.specs.declared.fault.Fault.TheVariants.{Down as WentDown, Line}
+use Rattle.dlms_association.specs.declared.fault.Fault.TheVariants.{Down as WentDown, Form, Line}
 use Rattle.dlms_association.specs.declared.stage.Asked.{Asked}
-use Rattle.dlms_association.specs.declared.step.Step.{Step as AssociationStep}
-use Rattle.dlms_association.specs.declared.step.Step.TheVariants as given
-use Rattle.dlms_frame.specs.Frame.{Parts}
-use Rattle.dlms_link.specs.Client.{ClientRecord, IsDown, IsIdle, fresh_between, snrm_of, disc_of, client_connect, client_disconnect, client_send, client_step, client_timeout}
-use Rattle.dlms_link.specs.declared.out.ClientOut.{ClientOut}
-use Rattle.dlms_link.specs.declared.out.ClientOut.TheVariants as out
+use Rattle.dlms_association.specs.declared.step.Step.{Step}
+use Rattle.dlms_association.specs.declared.step.Step.TheVariants as step
+use Rattle.dlms_carrier.specs.Carrying.{Input, Begin, Give, Feed, Wait, End}
+use Rattle.dlms_carrier.specs.declared.event.Event.{Event}
+use Rattle.dlms_carrier.specs.declared.event.Event.TheVariants as event
 use Rattle.dlms_client.specs.ClientValue.{ClientValue}
-use Rattle.dlms_client.specs.Plan.{PlanValue, terms_in}
-use Rattle.dlms_client.specs.declared.step.Step.{Step}
-use Rattle.dlms_client.specs.declared.step.Step.TheVariants as step
+use Rattle.dlms_client.specs.declared.outcome.Outcome.{Outcome}
+use Rattle.dlms_client.specs.declared.outcome.Outcome.TheVariants as outcome
 
-abbrev pub fresh : PlanValue → ClientValue
-fresh plan = record {
-  association = fresh_association (terms_in plan);
-  link = fresh_between plan.sap plan.server;
+-- the meaning of a carrier's call: the carrier before it, the call, its event, the carrier after it
+abbrev pub StepsOf : Type 0 → Type 1
+StepsOf C = C → Input → Event → C → Type 0
+
+-- a client over this carrier, with a closed association
+abbrev pub fresh : {C : Type 0} → C → TermsValue → ClientValue C
+fresh carrier terms = record {
+  carrier = carrier;
+  association = fresh_association terms;
   leaving = false;
 }
 
--- ---- the first frame
+-- ---- what the client does after a call of its carrier or its association
 
--- nothing is under way
-pub record CanBegin (c : ClientValue) : Type 0 where
-  pub closed : IsClosed c.association
-  pub down : IsDown c.link
+-- an APDU of the association goes out
+pub record Sends {C : Type 0} (steps : StepsOf C) (at : ClientValue C) (apdu : List ℕ) (new : ClientValue C) : Type 0 where
+  pub event : Event
+  pub carrier : C
+  pub gives : steps at.carrier (Give apdu) event carrier
+  pub after : new ≡ record at { carrier = carrier }
 
--- the link is requested
-abbrev pub Begins : ClientValue → Option Parts → ClientValue → Type 0
-Begins old (Some frame) new = CanBegin old × (frame ≡ snrm_of old.link)
-    × (new ≡ record old { link = client_connect old.link })
-Begins old None new = (CanBegin old → ⊥) × (new ≡ old)
-
--- ---- a frame
-
--- an APDU of the association goes out over the link
-pub record Sends (at : ClientValue) (association : AssociationValue) (apdu : List ℕ) (frame : Parts)
-    (new : ClientValue) : Type 0 where
-  pub goes_out : frame ≡ (client_send at.link apdu).1
-  pub after : new ≡ record at { association = association; link = (client_send at.link apdu).0 }
-
--- the link's end is requested
-pub record Leaves (at : ClientValue) (frame : Parts) (new : ClientValue) : Type 0 where
-  pub goes_out : frame ≡ disc_of at.link
-  pub after : new ≡ record at { link = client_disconnect at.link; leaving = true }
-
--- the link came up: the association, still closed, sends its request
-pub record OpensOver (at : ClientValue) (result : Result Step Fault) (new : ClientValue)
-    : Type 0 where
-  pub closed : IsClosed at.association
-  pub association : AssociationValue
-  pub apdu : List ℕ
-  pub frame : Parts
-  pub opens : Opens at.association apdu association
-  pub answer : result ≡ Ok (step.Send frame)
-  pub sends : Sends at association apdu frame new
-
--- after the association's step
-abbrev pub Follows : Result AssociationStep Fault → ClientValue → Result Step Fault → ClientValue
-    → Type 0
-Follows (Ok given.Nothing) at result new = (result ≡ Ok step.Nothing) × (new ≡ at)
-Follows (Ok (given.Send apdu)) at result new = (frame : Parts) × (result ≡ Ok (step.Send frame))
-    × Sends at at.association apdu frame new
-Follows (Ok given.Associated) at result new = (result ≡ Ok step.Associated) × (new ≡ at)
-Follows (Ok (given.Answered answer)) at result new = (result ≡ Ok (step.Answered answer))
-    × (new ≡ at)
-Follows (Ok given.Released) at result new = (frame : Parts) × (result ≡ Ok (step.Send frame))
-    × Leaves at frame new
-Follows (Err fault) at result new = (result ≡ Err fault) × (new ≡ at)
-
--- the link hands an APDU up
-pub record TakesOver (at : ClientValue) (result : Result Step Fault) (new : ClientValue)
-    : Type 0 where
-  pub made : Result AssociationStep Fault
-  pub association : AssociationValue
-  pub takes : Takes at.association at.link.apdu made association
-  pub follows : Follows made (record at { association = association }) result new
-
--- the association is over for good
-pub record BreaksOver (at : ClientValue) (fault : Fault) (result : Result Step Fault)
-    (new : ClientValue) : Type 0 where
+-- the connection failed, and the association is over for good
+pub record BreaksOver {C : Type 0} (at : ClientValue C) (fault : Fault) (result : Result Outcome Fault) (new : ClientValue C) : Type 0 where
   pub association : AssociationValue
   pub breaks : Breaks at.association fault association
   pub answer : result ≡ Err fault
   pub after : new ≡ record at { association = association }
 
--- the link went down as requested: another association may begin
-pub record ClosesOver (at : ClientValue) (result : Result Step Fault) (new : ClientValue)
-    : Type 0 where
+-- the connection ended as requested: another association may begin
+pub record ClosesOver {C : Type 0} (at : ClientValue C) (result : Result Outcome Fault) (new : ClientValue C) : Type 0 where
   pub association : AssociationValue
   pub closes : Closes at.association association
-  pub down : IsDown at.link
-  pub answer : result ≡ Ok step.Down
+  pub answer : result ≡ Ok outcome.Down
   pub after : new ≡ record at { association = association; leaving = false }
 
-abbrev pub GoesDown : Bool → ClientValue → Result Step Fault → ClientValue → Type 0
+-- nothing else happens
+pub record Stays {C : Type 0} (at : ClientValue C) (outcome : Outcome) (result : Result Outcome Fault) (new : ClientValue C) : Type 0 where
+  pub answer : result ≡ Ok outcome
+  pub after : new ≡ at
+
+abbrev pub GoesDown : {C : Type 0} → Bool → ClientValue C → Result Outcome Fault → ClientValue C → Type 0
 GoesDown true at result new = ClosesOver at result new
 GoesDown false at result new = BreaksOver at WentDown result new
 
--- by how the link handles the frame
-abbrev pub ComesBy : ClientOut → ClientRecord → ClientValue → Result Step Fault → ClientValue
-    → Type 0
-ComesBy out.Nothing link old result new = (result ≡ Ok step.Nothing) × (new ≡ old)
-ComesBy out.Up link old result new = OpensOver (record old { link = link }) result new
-ComesBy (out.Send frame) link old result new = (result ≡ Ok (step.Send frame))
-    × (new ≡ record old { link = link })
-ComesBy out.Apdu link old result new = TakesOver (record old { link = link }) result new
-ComesBy out.Down link old result new = GoesDown old.leaving (record old { link = link }) result new
+-- the end of the connection is requested, and may come at once
+abbrev pub LeavesBy : {C : Type 0} → Event → ClientValue C → Result Outcome Fault → ClientValue C → Type 0
+LeavesBy event.Down at result new = ClosesOver at result new
+LeavesBy event.Nothing at result new = Stays at outcome.Nothing result new
+LeavesBy event.Up at result new = Stays at outcome.Nothing result new
+LeavesBy event.Apdu at result new = Stays at outcome.Nothing result new
+LeavesBy event.TimedOut at result new = Stays at outcome.Nothing result new
+LeavesBy (event.Refused why) at result new = Stays at outcome.Nothing result new
 
--- while nothing is awaited a frame is ignored
-abbrev pub ComesWhile : Option Parts → ClientValue → Parts → Result Step Fault → ClientValue
-    → Type 0
-ComesWhile (Some waits) old frame result new = ComesBy (client_step old.link frame).1
-    (client_step old.link frame).0 old result new
-ComesWhile None old frame result new = (result ≡ Ok step.Nothing) × (new ≡ old)
+pub record Leaves {C : Type 0} (steps : StepsOf C) (at : ClientValue C) (result : Result Outcome Fault) (new : ClientValue C) : Type 0 where
+  pub event : Event
+  pub carrier : C
+  pub ends : steps at.carrier End event carrier
+  pub leaves : LeavesBy event (record at { carrier = carrier; leaving = true }) result new
 
--- after a fault it is the same fault again
-abbrev pub ComesUnless : Option Fault → ClientValue → Parts → Result Step Fault → ClientValue
-    → Type 0
-ComesUnless None old frame result new = ComesWhile old.link.waits old frame result new
-ComesUnless (Some fault) old frame result new = (result ≡ Err fault) × (new ≡ old)
+-- the connection is up: the association, still closed, sends its request
+pub record OpensOver {C : Type 0} (steps : StepsOf C) (at new : ClientValue C) : Type 0 where
+  pub closed : IsClosed at.association
+  pub association : AssociationValue
+  pub apdu : List ℕ
+  pub opens : Opens at.association apdu association
+  pub sends : Sends steps (record at { association = association }) apdu new
 
-abbrev pub Comes : ClientValue → Parts → Result Step Fault → ClientValue → Type 0
-Comes old frame result new = ComesUnless old.association.failed old frame result new
+-- an association that is not closed cannot be opened
+pub data ComesUp {C : Type 0} (steps : StepsOf C) (at : ClientValue C) (result : Result Outcome Fault) (new : ClientValue C) : Type 0 where
+  IsOpened : OpensOver steps at new → result ≡ Ok outcome.Nothing → ComesUp steps at result new
+  IsNotClosed : (IsClosed at.association → ⊥) → BreaksOver at Form result new → ComesUp steps at result new
 
--- ---- a time-out
+-- after the association's step
+abbrev pub Follows : {C : Type 0} → StepsOf C → Result Step Fault → ClientValue C → Result Outcome Fault → ClientValue C → Type 0
+Follows steps (Ok step.Nothing) at result new = Stays at outcome.Nothing result new
+Follows steps (Ok (step.Send apdu)) at result new = (result ≡ Ok outcome.Nothing) × Sends steps at apdu new
+Follows steps (Ok step.Associated) at result new = Stays at outcome.Associated result new
+Follows steps (Ok (step.Answered answer)) at result new = Stays at (outcome.Answered answer) result new
+Follows steps (Ok step.Released) at result new = Leaves steps at result new
+Follows steps (Err fault) at result new = (result ≡ Err fault) × (new ≡ at)
 
-abbrev pub TimesOutBy : ClientRecord × Option Parts → ClientValue → Result Parts Fault → ClientValue
-    → Type 0
-TimesOutBy (link, Some frame) old result new = (result ≡ Ok frame)
-    × (new ≡ record old { link = link })
-TimesOutBy (link, None) old result new = (association : AssociationValue)
-    × Breaks old.association Line association × (result ≡ Err Line)
-    × (new ≡ record old { association = association; link = link })
+-- the carrier hands an APDU up
+pub record TakesOver {C : Type 0} (steps : StepsOf C) (at : ClientValue C) (apdu : List ℕ) (result : Result Outcome Fault) (new : ClientValue C) : Type 0 where
+  pub made : Result Step Fault
+  pub association : AssociationValue
+  pub takes : Takes at.association apdu made association
+  pub follows : Follows steps made (record at { association = association }) result new
 
-abbrev pub TimesOutUnless : Option Fault → ClientValue → Result Parts Fault → ClientValue → Type 0
-TimesOutUnless None old result new = TimesOutBy (client_timeout old.link) old result new
-TimesOutUnless (Some fault) old result new = (result ≡ Err fault) × (new ≡ old)
+-- by the carrier's event
+abbrev pub ComesBy : {C : Type 0} → StepsOf C → Event → List ℕ → ClientValue C → Result Outcome Fault → ClientValue C → Type 0
+ComesBy steps event.Nothing apdu at result new = Stays at outcome.Nothing result new
+ComesBy steps event.Up apdu at result new = ComesUp steps at result new
+ComesBy steps event.Apdu apdu at result new = TakesOver steps at apdu result new
+ComesBy steps event.Down apdu at result new = GoesDown at.leaving at result new
+ComesBy steps event.TimedOut apdu at result new = BreaksOver at Line result new
+ComesBy steps (event.Refused why) apdu at result new = BreaksOver at Form result new
 
-abbrev pub TimesOut : ClientValue → Result Parts Fault → ClientValue → Type 0
-TimesOut old result new = TimesOutUnless old.association.failed old result new
+-- ---- the connection is requested
 
--- a frame is out, or it is over
-abbrev pub CanTimeOutUnless : Option Fault → ClientValue → Type 0
-CanTimeOutUnless None c = IsSome c.link.waits
-CanTimeOutUnless (Some fault) c = Unit {0}
+-- there is no connection, and the association is closed
+pub record CanBegin {C : Type 0} (is_down : C → Type 0) (c : ClientValue C) : Type 0 where
+  pub closed : IsClosed c.association
+  pub down : is_down c.carrier
 
-abbrev pub CanTimeOut : ClientValue → Type 0
-CanTimeOut c = CanTimeOutUnless c.association.failed c
+-- it may come up at once
+abbrev pub BeginsBy : {C : Type 0} → StepsOf C → Event → ClientValue C → ClientValue C → Type 0
+BeginsBy steps event.Up at new = OpensOver steps at new
+BeginsBy steps event.Nothing at new = new ≡ at
+BeginsBy steps event.Apdu at new = new ≡ at
+BeginsBy steps event.Down at new = new ≡ at
+BeginsBy steps event.TimedOut at new = new ≡ at
+BeginsBy steps (event.Refused why) at new = new ≡ at
+
+pub record Begins {C : Type 0} (steps : StepsOf C) (old new : ClientValue C) : Type 0 where
+  pub event : Event
+  pub carrier : C
+  pub begins : steps old.carrier Begin event carrier
+  pub follows : BeginsBy steps event (record old { carrier = carrier }) new
+
+-- ---- octets arrive, or none do
+
+-- Octets are read, up to the carrier's first event, and the association handles it.
+pub record Hears {C : Type 0} (steps : StepsOf C) (apdu_of : C → List ℕ) (old : ClientValue C) (octets : List ℕ) (count : ℕ) (result : Result Outcome Fault) (new : ClientValue C) : Type 0 where
+  pub event : Event
+  pub carrier : C
+  pub feeds : steps old.carrier (Feed octets count) event carrier
+  pub comes : ComesBy steps event (apdu_of carrier) (record old { carrier = carrier }) result new
+
+-- after a fault it is the same fault again, and the octets are dropped
+abbrev pub HearsUnless : {C : Type 0} → StepsOf C → (C → List ℕ) → Option Fault → ClientValue C → List ℕ → ℕ → Result Outcome Fault → ClientValue C → Type 0
+HearsUnless steps apdu_of None old octets count result new = Hears steps apdu_of old octets count result new
+HearsUnless steps apdu_of (Some fault) old octets count result new = (count ≡ length octets) × (result ≡ Err fault) × (new ≡ old)
+
+abbrev pub Feeds : {C : Type 0} → StepsOf C → (C → List ℕ) → ClientValue C → List ℕ → ℕ → Result Outcome Fault → ClientValue C → Type 0
+Feeds steps apdu_of old octets count result new = HearsUnless steps apdu_of old.association.failed old octets count result new
+
+-- a timeout: the carrier sends again what is out, or the connection is over
+abbrev pub TimesOutBy : {C : Type 0} → Event → ClientValue C → Result Outcome Fault → ClientValue C → Type 0
+TimesOutBy event.TimedOut at result new = BreaksOver at Line result new
+TimesOutBy event.Nothing at result new = Stays at outcome.Nothing result new
+TimesOutBy event.Up at result new = Stays at outcome.Nothing result new
+TimesOutBy event.Apdu at result new = Stays at outcome.Nothing result new
+TimesOutBy event.Down at result new = Stays at outcome.Nothing result new
+TimesOutBy (event.Refused why) at result new = Stays at outcome.Nothing result new
+
+pub record TimesOut {C : Type 0} (steps : StepsOf C) (old : ClientValue C) (result : Result Outcome Fault) (new : ClientValue C) : Type 0 where
+  pub event : Event
+  pub carrier : C
+  pub waits : steps old.carrier Wait event carrier
+  pub follows : TimesOutBy event (record old { carrier = carrier }) result new
+
+-- while the meter's answer is awaited a timeout may come, and otherwise it is a fault of the line that changes nothing
+pub data Waits {C : Type 0} (steps : StepsOf C) (is_waiting : C → Type 0) (old : ClientValue C) (result : Result Outcome Fault) (new : ClientValue C) : Type 0 where
+  HasFailed : (fault : Fault) → old.association.failed ≡ Some fault → result ≡ Err fault → new ≡ old → Waits steps is_waiting old result new
+  NoneIsOut : old.association.failed ≡ None → (is_waiting old.carrier → ⊥) → result ≡ Err Line → new ≡ old → Waits steps is_waiting old result new
+  IsAwaited : old.association.failed ≡ None → is_waiting old.carrier → TimesOut steps old result new → Waits steps is_waiting old result new
 
 -- ---- requests
 
 -- a request may be made
-pub record IsFree (c : ClientValue) : Type 0 where
+pub record IsFree {C : Type 0} (is_idle : C → Type 0) (c : ClientValue C) : Type 0 where
   pub association : IsFreeOf c.association
-  pub idle : IsIdle c.link
+  pub idle : is_idle c.carrier
 
 -- the association's APDU goes out, or its fault is returned
-abbrev pub Carries : Result (List ℕ) AskFault → ClientValue → Result Parts AskFault → ClientValue
-    → Type 0
-Carries (Ok apdu) at result new = (frame : Parts) × (result ≡ Ok frame)
-    × Sends at at.association apdu frame new
-Carries (Err fault) at result new = (result ≡ Err fault) × (new ≡ at)
+abbrev pub Carries : {C : Type 0} → StepsOf C → Result (List ℕ) AskFault → ClientValue C → Result (Unit {0}) AskFault → ClientValue C → Type 0
+Carries steps (Ok apdu) at result new = (result ≡ Ok tt) × Sends steps at apdu new
+Carries steps (Err fault) at result new = (result ≡ Err fault) × (new ≡ at)
 
-abbrev pub Asks : Asked → RequestForm → ClientValue → Result Parts AskFault → ClientValue → Type 0
-Asks asked form old result new = (given : Result (List ℕ) AskFault)
-    × (association : AssociationValue) × AsksOf asked form old.association given association
-    × Carries given (record old { association = association }) result new
+pub record Asks {C : Type 0} (steps : StepsOf C) (asked : Asked) (form : RequestForm) (old : ClientValue C) (result : Result (Unit {0}) AskFault) (new : ClientValue C) : Type 0 where
+  pub given : Result (List ℕ) AskFault
+  pub association : AssociationValue
+  pub asks : AsksOf asked form old.association given association
+  pub carries : Carries steps given (record old { association = association }) result new
 
-abbrev pub Releases : ClientValue → Parts → ClientValue → Type 0
-Releases old frame new = (apdu : List ℕ) × (association : AssociationValue)
-    × ReleasesOf old.association apdu association × Sends old association apdu frame new
+pub record Releases {C : Type 0} (steps : StepsOf C) (old new : ClientValue C) : Type 0 where
+  pub apdu : List ℕ
+  pub association : AssociationValue
+  pub releases : ReleasesOf old.association apdu association
+  pub sends : Sends steps (record old { association = association }) apdu new

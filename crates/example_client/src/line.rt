@@ -1,42 +1,35 @@
-//! A client and a meter, and the frames between them.
+//! A client and a meter, and the octets between them.
 
-use dlms_client::{Client, Step};
-use dlms_frame::{Deframer, SentFrame};
+use dlms_carrier::HdlcCarrier;
+use dlms_client::{Client, Outcome};
 use dlms_meter::Meter;
 use dlms_pages::MemoryPages;
 use std::alloc::Global;
 
-/// The most frames of an answer.
-const FRAMES: u16 = 400;
+/// The most exchanges until a request has its outcome.
+const EXCHANGES: u16 = 400;
 
 /// A client and a meter.
 #[derive(Drop)]
 pub struct Bench {
     pub alloc: Global,
     pub meter: Meter<MemoryPages<Global>, Global>,
-    pub client: Client<Global>,
+    pub client: Client<HdlcCarrier, Global>,
 }
 
-/// The meter's reply to a frame.
-fn reply_to(bench: &mut Bench, frame: &SentFrame) -> Option<SentFrame> {
-    let bytes = frame.put();
-    let (_, reply) = bench.meter.feed(bytes.as_slice());
+/// The outcome of the meter's reply to the client's octets; none if the meter is silent or the client fails.
+fn exchange(bench: &mut Bench) -> Option<Outcome> {
+    let (_, reply) = bench.meter.feed(bench.client.out());
     let reply = reply?;
-    let mut deframer = Deframer::new();
-    let _taken = deframer.feed(reply.as_slice());
-    let frame = deframer.frame()?;
-    frame.owned()
+    bench.client.feed(reply.as_slice()).result.ok()
 }
 
-/// The outcome of a frame and all that follow it; none if the meter is silent or the client fails.
-pub fn settled(bench: &mut Bench, first: SentFrame) -> Option<Step> {
-    let mut frame = first;
-    for _ in 0..FRAMES {
-        let reply = reply_to(bench, &frame)?;
-        match bench.client.on(&reply.lent()) {
-            Ok(Step::Send(next)) => frame = next,
-            Ok(step) => return Some(step),
-            Err(_) => return None,
+/// The outcome of the client's last call, after the exchanges that it takes; none if the meter is silent or the client fails.
+pub fn settled(bench: &mut Bench) -> Option<Outcome> {
+    for _ in 0..EXCHANGES {
+        match exchange(bench)? {
+            Outcome::Nothing => {}
+            outcome => return Some(outcome),
         }
     }
     None

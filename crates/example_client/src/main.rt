@@ -5,7 +5,9 @@ mod line;
 
 use anyhow::{Result, anyhow};
 use arrayvec::ArrayVec;
-use dlms_client::{Answer, Client, Plan, Step};
+use dlms_association::Terms;
+use dlms_carrier::HdlcCarrier;
+use dlms_client::{Answer, Client, Outcome, Plan, Route};
 use dlms_data::{Data, Descriptor, fits, octet_string_of, octets, read, secs};
 use dlms_frame::Address;
 use dlms_meter::Meter;
@@ -54,9 +56,9 @@ fn value_of(bench: &mut Bench, attribute: Descriptor) -> Result<Data<Global>> {
     if !bench.client.is_free() {
         return Err(anyhow!("the client is not free"));
     }
-    let frame = bench.client.get::<Global>(attribute, None)?;
-    match settled(bench, frame) {
-        Some(Step::Answered(Answer::Value)) => match read(bench.alloc, bench.client.value()) {
+    bench.client.get::<Global>(attribute, None)?;
+    match settled(bench) {
+        Some(Outcome::Answered(Answer::Value)) => match read(bench.alloc, bench.client.value()) {
             Ok((value, _)) => Ok(value),
             Err(_) => Err(anyhow!("no value")),
         },
@@ -70,9 +72,9 @@ fn set(bench: &mut Bench, attribute: Descriptor, value: Data<Global>) -> Result<
         drop(value);
         return Err(anyhow!("the client is not free"));
     }
-    let frame = bench.client.set(attribute, None, value)?;
-    match settled(bench, frame) {
-        Some(Step::Answered(Answer::Result(code))) => Ok(code),
+    bench.client.set(attribute, None, value)?;
+    match settled(bench) {
+        Some(Outcome::Answered(Answer::Result(code))) => Ok(code),
         _ => Err(anyhow!("no result came")),
     }
 }
@@ -83,9 +85,9 @@ fn act(bench: &mut Bench, method: Descriptor, parameter: Data<Global>) -> Result
         drop(parameter);
         return Err(anyhow!("the client is not free"));
     }
-    let frame = bench.client.act(method, Some(parameter))?;
-    match settled(bench, frame) {
-        Some(Step::Answered(Answer::Result(code))) => Ok(code),
+    bench.client.act(method, Some(parameter))?;
+    match settled(bench) {
+        Some(Outcome::Answered(Answer::Result(code))) => Ok(code),
         _ => Err(anyhow!("no result came")),
     }
 }
@@ -112,8 +114,7 @@ fn management(server: Address, size: u16) -> Plan {
     let mut secret = ArrayVec::new();
     let _fits = secret.try_extend_from_slice(b"12345678");
     Plan {
-        sap: 1,
-        server,
+        route: Route::Hdlc(1, server),
         secret: Some(secret),
         size,
     }
@@ -195,38 +196,57 @@ fn meter_of(alloc: Global) -> Result<Meter<MemoryPages>> {
     }
 }
 
-/// A meter in memory, and a client by this plan.
-fn bench_of(alloc: Global, plan: Plan) -> Result<Bench> {
+/// A client by this plan, over an HDLC link.
+fn client_of(alloc: Global, plan: Plan) -> Result<Client<HdlcCarrier, Global>> {
     if !plan.is_lawful() {
         drop(plan);
         return Err(anyhow!("no such plan"));
     }
+    let Plan {
+        route,
+        secret,
+        size,
+    } = plan;
+    match route {
+        Route::Hdlc(sap, server) => Ok(Client::new(
+            alloc,
+            HdlcCarrier::new(sap, server),
+            Terms { secret, size },
+        )),
+        Route::Tcp(_, _) => Err(anyhow!("not over HDLC")),
+    }
+}
+
+/// A meter in memory, and a client by this plan.
+fn bench_of(alloc: Global, plan: Plan) -> Result<Bench> {
+    let client = client_of(alloc, plan)?;
     match meter_of(alloc) {
         Ok(meter) => Ok(Bench {
             alloc,
             meter,
-            client: Client::new(alloc, plan),
+            client,
         }),
         Err(fault) => {
-            drop(plan);
+            drop(client);
             Err(fault)
         }
     }
 }
 
-/// The client's talk, from its first frame to the link's end.
+/// The client's session, from its request for a connection to the connection's end.
 fn converse<R: Print>(rt: &R, bench: &mut Bench) -> Result<()> {
-    let Some(frame) = bench.client.next() else {
-        return Err(anyhow!("no first frame"));
-    };
-    match settled(bench, frame) {
-        Some(Step::Associated) => session(rt, bench)?,
+    if !bench.client.can_begin() {
+        return Err(anyhow!("the client cannot begin"));
+    }
+    bench.client.begin();
+    match settled(bench) {
+        Some(Outcome::Associated) => session(rt, bench)?,
         _ => println!(rt; "no association")?,
     }
     leave(rt, bench)
 }
 
-/// A client by this plan, from its first frame to the link's end.
+/// A client by this plan, from its request for a connection to the connection's end.
 fn talk<R: Print + AllocGlobal>(rt: &R, plan: Plan) -> Result<()> {
     let mut bench = bench_of(rt.alloc(), plan)?;
     let talked = converse(rt, &mut bench);
@@ -239,9 +259,9 @@ fn leave<R: Print>(rt: &R, bench: &mut Bench) -> Result<()> {
     if !bench.client.is_free() {
         return Err(anyhow!("the client is not free"));
     }
-    let frame = bench.client.release();
-    match settled(bench, frame) {
-        Some(Step::Down) => println!(rt; "down")?,
+    bench.client.release();
+    match settled(bench) {
+        Some(Outcome::Down) => println!(rt; "down")?,
         _ => println!(rt; "not down")?,
     }
     Ok(())
