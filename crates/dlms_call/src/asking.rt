@@ -1,87 +1,33 @@
-//! One association over a line: requests, and what they bring.
+//! One association over a line: requests, and their outcomes.
 
-ghost use Rattle.std.specs.Prelude.{◌≡◌, ◌<◌, ◌≤◌, ◌↔◌, Err, IfErr, IfOk, IsTrue, None, Ok, option_map};
+ghost use Rattle.std.specs.Prelude.{◌≡◌, ◌↔◌, IfErr, IfOk, IsTrue, None, Ok, Some, option_map};
 ghost use Rattle.dlms_apdu.specs.Forms.{action_normal, get_normal, set_normal};
+ghost use Rattle.dlms_apdu.specs.View.{selection_of};
 ghost use Rattle.dlms_apdu.specs.Writing.{ParameterFits};
-ghost use Rattle.dlms_client.specs.Calls.{IsFree, fresh};
 ghost use Rattle.dlms_client.specs.Plan.{IsPlan, plan_of};
 ghost use Rattle.dlms_association.specs.declared.requests.TheConstants.{INVOKE};
 ghost use Rattle.dlms_association.specs.declared.stage.Asked.TheVariants.{Action, Get, Set};
-ghost use Rattle.dlms_call.specs.Asking.{EndsTalk, FailsToOpen, GoesOut, Opens, Requests, Settles, TakesTurnWithin, answer_in, release_result, opening_result};
-ghost use Rattle.dlms_call.specs.declared.fault.CallFault.TheVariants.{TooLarge};
-ghost use Rattle.dlms_call.specs.Talking.{IsIn, Leads, TalkWorld};
+ghost use Rattle.dlms_call.specs.Asking.{EndsTalk, FailsToOpen, GoesOut, IsFree, Opens, Requests, answer_in, opening_result, release_result};
 ghost use Rattle.dlms_data.specs.View.{value_of};
 ghost use Rattle.dlms_data.specs.Writing.{Fits};
 
-use crate::client_end::{ClientEnd, ClientTurn, send};
+use crate::client_end::ClientEnd;
 use crate::fault::CallFault;
-use crate::kept::KeptClient;
-use dlms_client::{Answer, Fault, Plan};
-use dlms_data::{Data, Descriptor, fits};
+use dlms_client::{Answer, Fault, Outcome, Plan};
+use dlms_data::{Data, Descriptor, Selector, fits};
 use dlms_ends::End;
-use dlms_frame::SentFrame;
 use std::alloc::{Allocator, Global};
 
-/// Where the octets that come are not counted.
+/// The octets of a value are not limited.
 const NO_BOUND: usize = usize::MAX;
 
-/// The most turns of one request.
-const TURNS: u32 = 65_536;
-
-/// A turn, if at most this many octets are joined; otherwise `TooLarge`.
-fn check_size(turn: ClientTurn, joined: usize, most: usize) -> Result<ClientTurn, CallFault>
-    ensures beyond { most < joined → result ≡ Err TooLarge }
-    ensures within { joined ≤ most → result ≡ Ok turn }
-{
-    if joined > most {
-        Err(CallFault::TooLarge)
-    } else {
-        Ok(turn)
-    }
-}
-
-/// A turn; where more octets are joined than so many, it is `TooLarge`.
-fn turn_within<S: End, A: Allocator + Copy>(
-    line: &mut S,
-    head: &mut ClientEnd<A>,
-    most: usize,
-) -> Result<ClientTurn, CallFault>
-    ensures { Leads head.old head.new
-        (TakesTurnWithin most (S.past line.old) (S.past line.new) result) }
-{
-    match head.turn(line) {
-        Ok(turn) => check_size(turn, head.client.value().len(), most),
-        Err(fault) => Err(fault),
-    }
-}
-
-/// Turns, until more has come than a frame's turn to go out, or more octets are joined than so many.
-fn settle<S: End, A: Allocator + Copy>(
-    line: &mut S,
-    head: &mut ClientEnd<A>,
-    most: usize,
-) -> Result<ClientTurn, CallFault>
-    ensures { Leads head.old head.new (Settles most (S.past line.old) (S.past line.new) result) }
-{
-    'turns: for _turn in 0..TURNS {
-        match turn_within(line, head, most) {
-            Ok(ClientTurn::Sent) => {}
-            Ok(ClientTurn::Associated) => return Ok(ClientTurn::Associated),
-            Ok(ClientTurn::Answered(answer)) => return Ok(ClientTurn::Answered(answer)),
-            Ok(ClientTurn::Down) => return Ok(ClientTurn::Down),
-            Err(fault) => return Err(fault),
-        }
-    }
-    Err(CallFault::Talk(Fault::Line))
-}
-
 /// The outcome of a requested association.
-fn opening_result(turn: Result<ClientTurn, CallFault>) -> Result<(), CallFault>
-    ensures { result ≡ opening_result turn }
+fn opening_result(told: Result<Outcome, CallFault>) -> Result<(), CallFault>
+    ensures { result ≡ opening_result told }
 {
-    match turn {
-        Ok(ClientTurn::Associated) => Ok(()),
-        Ok(ClientTurn::Sent | ClientTurn::Answered(_) | ClientTurn::Down) => Err(CallFault::Talk(
+    match told {
+        Ok(Outcome::Associated) => Ok(()),
+        Ok(Outcome::Nothing | Outcome::Answered(_) | Outcome::Down) => Err(CallFault::Talk(
             Fault::Form,
         )),
         Err(fault) => Err(fault),
@@ -89,45 +35,56 @@ fn opening_result(turn: Result<ClientTurn, CallFault>) -> Result<(), CallFault>
 }
 
 /// The outcome of a request.
-fn answer_in(turn: Result<ClientTurn, CallFault>) -> Result<Answer, CallFault>
-    ensures { result ≡ answer_in turn }
+fn answer_in(told: Result<Outcome, CallFault>) -> Result<Answer, CallFault>
+    ensures { result ≡ answer_in told }
 {
-    match turn {
-        Ok(ClientTurn::Answered(answer)) => Ok(answer),
-        Ok(ClientTurn::Sent | ClientTurn::Associated | ClientTurn::Down) => Err(CallFault::Talk(
+    match told {
+        Ok(Outcome::Answered(answer)) => Ok(answer),
+        Ok(Outcome::Nothing | Outcome::Associated | Outcome::Down) => Err(CallFault::Talk(
             Fault::Form,
         )),
         Err(fault) => Err(fault),
     }
 }
 
-/// The outcome of the requested end of the link.
-fn release_result(turn: Result<ClientTurn, CallFault>) -> Result<(), CallFault>
-    ensures { result ≡ release_result turn }
+/// The outcome of the requested end of the connection.
+fn release_result(told: Result<Outcome, CallFault>) -> Result<(), CallFault>
+    ensures { result ≡ release_result told }
 {
-    match turn {
-        Ok(ClientTurn::Down) => Ok(()),
-        Ok(ClientTurn::Sent | ClientTurn::Associated | ClientTurn::Answered(_)) => Err(
-            CallFault::Talk(Fault::Form),
-        ),
+    match told {
+        Ok(Outcome::Down) => Ok(()),
+        Ok(Outcome::Nothing | Outcome::Associated | Outcome::Answered(_)) => Err(CallFault::Talk(
+            Fault::Form,
+        )),
         Err(fault) => Err(fault),
     }
 }
 
-/// A request's first frame goes out, and its answer is awaited.
+/// The client's request for an association goes out, and its outcome is awaited.
+fn open<S: End, A: Allocator + Copy>(line: &mut S, head: &mut ClientEnd<A>) -> Result<(), CallFault>
+    ensures { GoesOut NO_BOUND opening_result (S.past line.old) (S.past line.new) head.old result head.new }
+{
+    match head.send(line) {
+        Ok(()) => {
+            let told = head.settle(line, NO_BOUND);
+            opening_result(told)
+        }
+        Err(fault) => Err(fault),
+    }
+}
+
+/// A request goes out, and its answer is awaited.
 fn request_answer<S: End, A: Allocator + Copy>(
     line: &mut S,
     head: &mut ClientEnd<A>,
-    frame: &SentFrame,
     most: usize,
 ) -> Result<Answer, CallFault>
-    ensures { Leads head.old head.new
-        (GoesOut most answer_in (S.past line.old) (S.past line.new) frame.now result) }
+    ensures { GoesOut most answer_in (S.past line.old) (S.past line.new) head.old result head.new }
 {
-    match send(line, frame) {
-        Ok(_) => {
-            let turn = settle(line, head, most);
-            answer_in(turn)
+    match head.send(line) {
+        Ok(()) => {
+            let told = head.settle(line, most);
+            answer_in(told)
         }
         Err(fault) => Err(fault),
     }
@@ -141,21 +98,15 @@ pub fn begin<S: End, A: Allocator + Copy>(
     plan: Plan,
 ) -> Result<ClientEnd<A>, CallFault>
     requires { IsPlan (plan_of plan) }
-    ensures opens { IfOk result (λ head. (t : TalkWorld) × IsIn head t
-        × Opens (S.past line.old) (S.past line.new) (fresh (plan_of plan)) t) }
-    ensures fails { IfErr result (FailsToOpen (S.past line.old) (S.past line.new)
-        (fresh (plan_of plan))) }
+    ensures opens { IfOk result (Opens (S.past line.old) (S.past line.new) (plan_of plan) (Ok tt)) }
+    ensures fails { IfErr result (FailsToOpen (S.past line.old) (S.past line.new) (plan_of plan)) }
 {
-    let client = match KeptClient::new(alloc, plan) {
-        Ok(client) => client,
-        Err(_) => return Err(CallFault::Memory),
-    };
-    let mut head = match ClientEnd::begin(alloc, line, client) {
+    let mut head = match ClientEnd::new(alloc, plan) {
         Ok(head) => head,
         Err(fault) => return Err(fault),
     };
-    let turn = settle(line, &mut head, NO_BOUND);
-    match opening_result(turn) {
+    head.begin();
+    match open(line, &mut head) {
         Ok(()) => Ok(head),
         Err(fault) => Err(fault),
     }
@@ -180,31 +131,57 @@ pub fn get<S: End, A: Allocator + Copy>(
     attribute: Descriptor,
     most: usize,
 ) -> Result<Answer, CallFault>
-    ensures { Leads head.old head.new
-        (Requests most (IsFree head.old.client) Get (get_normal INVOKE attribute None)
-        (S.past line.old) (S.past line.new) result) }
+    ensures { Requests most (IsFree head.old) Get (get_normal INVOKE attribute None)
+        (S.past line.old) (S.past line.new) head.old result head.new }
 {
-    if !head.client.is_free() {
+    if !head.is_free() {
         return Err(CallFault::Talk(Fault::Form));
     }
-    match head.client.get::<A>(attribute, None) {
-        Ok(frame) => request_answer(line, head, &frame, most),
+    match head.get(attribute) {
+        Ok(()) => request_answer(line, head, most),
         Err(fault) => Err(CallFault::from(fault)),
     }
 }
 
-/// Sets an attribute, as `get` asks for one. A value that has no spelling is not sent, and `Form` too.
+/// Requests a part of an attribute (Blue Book, selective access), as `get` requests all of it. A selector that has no spelling is not
+/// sent, and it is `Form` too.
+pub fn get_part<S: End, A: Allocator + Copy>(
+    line: &mut S,
+    head: &mut ClientEnd<A>,
+    attribute: Descriptor,
+    selector: Selector<A>,
+    most: usize,
+) -> Result<Answer, CallFault>
+    ensures { Requests most (IsFree head.old × Fits (value_of selector.value)) Get
+        (get_normal INVOKE attribute (Some (selection_of selector))) (S.past line.old)
+        (S.past line.new) head.old result head.new }
+{
+    if !head.is_free() {
+        drop(selector);
+        return Err(CallFault::Talk(Fault::Form));
+    }
+    if !fits(&selector.value) {
+        drop(selector);
+        return Err(CallFault::Talk(Fault::Form));
+    }
+    match head.get_part(attribute, selector) {
+        Ok(()) => request_answer(line, head, most),
+        Err(fault) => Err(CallFault::from(fault)),
+    }
+}
+
+/// Sets an attribute, as `get` requests one. A value that has no spelling is not sent, and it is `Form` too.
 pub fn set<S: End, A: Allocator + Copy>(
     line: &mut S,
     head: &mut ClientEnd<A>,
     attribute: Descriptor,
     value: Data<A>,
 ) -> Result<Answer, CallFault>
-    ensures { Leads head.old head.new (Requests NO_BOUND (IsFree head.old.client
-        × Fits (value_of value)) Set (set_normal INVOKE attribute None (value_of value))
-        (S.past line.old) (S.past line.new) result) }
+    ensures { Requests NO_BOUND (IsFree head.old × Fits (value_of value)) Set
+        (set_normal INVOKE attribute None (value_of value)) (S.past line.old) (S.past line.new)
+        head.old result head.new }
 {
-    if !head.client.is_free() {
+    if !head.is_free() {
         drop(value);
         return Err(CallFault::Talk(Fault::Form));
     }
@@ -212,8 +189,8 @@ pub fn set<S: End, A: Allocator + Copy>(
         drop(value);
         return Err(CallFault::Talk(Fault::Form));
     }
-    match head.client.set::<A>(attribute, None, value) {
-        Ok(frame) => request_answer(line, head, &frame, NO_BOUND),
+    match head.set(attribute, value) {
+        Ok(()) => request_answer(line, head, NO_BOUND),
         Err(fault) => Err(CallFault::from(fault)),
     }
 }
@@ -225,12 +202,11 @@ pub fn act<S: End, A: Allocator + Copy>(
     method: Descriptor,
     parameter: Option<Data<A>>,
 ) -> Result<Answer, CallFault>
-    ensures { Leads head.old head.new (Requests NO_BOUND (IsFree head.old.client
-        × ParameterFits (option_map value_of parameter)) Action
-        (action_normal INVOKE method (option_map value_of parameter)) (S.past line.old)
-        (S.past line.new) result) }
+    ensures { Requests NO_BOUND (IsFree head.old × ParameterFits (option_map value_of parameter))
+        Action (action_normal INVOKE method (option_map value_of parameter)) (S.past line.old)
+        (S.past line.new) head.old result head.new }
 {
-    if !head.client.is_free() {
+    if !head.is_free() {
         drop(parameter);
         return Err(CallFault::Talk(Fault::Form));
     }
@@ -238,30 +214,31 @@ pub fn act<S: End, A: Allocator + Copy>(
         drop(parameter);
         return Err(CallFault::Talk(Fault::Form));
     }
-    match head.client.act(method, parameter) {
-        Ok(frame) => request_answer(line, head, &frame, NO_BOUND),
+    match head.act(method, parameter) {
+        Ok(()) => request_answer(line, head, NO_BOUND),
         Err(fault) => Err(CallFault::from(fault)),
     }
 }
 
-/// Ends the link, and with it the association.
+/// Ends the connection, and with it the association. The caller then closes the line.
 #[inline(never)]
 pub fn end<S: End, A: Allocator + Copy>(
     line: &mut S,
     head: &mut ClientEnd<A>,
 ) -> Result<(), CallFault>
-    ensures { Leads head.old head.new
-        (EndsTalk (IsFree head.old.client) (S.past line.old) (S.past line.new) result) }
+    ensures { EndsTalk (IsFree head.old) (S.past line.old) (S.past line.new) head.old result head.new }
 {
-    if !head.client.is_free() {
+    if !head.is_free() {
         return Err(CallFault::Talk(Fault::Form));
     }
-    let frame = head.client.disconnect();
-    match send(line, &frame) {
-        Ok(_) => {
-            let turn = settle(line, head, NO_BOUND);
-            release_result(turn)
-        }
-        Err(fault) => Err(fault),
+    match head.disconnect() {
+        Outcome::Down => Ok(()),
+        _ => match head.send(line) {
+            Ok(()) => {
+                let told = head.settle(line, NO_BOUND);
+                release_result(told)
+            }
+            Err(fault) => Err(fault),
+        },
     }
 }

@@ -1,44 +1,51 @@
-//! A client's end of a line.
+//! A client at its end of a line: it reads what arrives, and what it gives goes out.
 
-ghost use Rattle.std.specs.Prelude.{◌≡◌, ◌≤◌, ◌<◌, ◌-◌, [], false, IfErr, IfOk, IsTrue};
-ghost use Rattle.dlms_frame.specs.Stream.{Fits};
-ghost use Rattle.dlms_call.specs.Asking.{Dials, DialsFirst, FailsToDial};
-ghost use Rattle.dlms_call.specs.Talking.{IsAt, IsIn, Leads, Repeats, SendsFrame, TakesFrame, TakesPiece, TakesTurn, TalkWorld, TellsError, first_world};
+ghost use Rattle.std.specs.Prelude.{◌≡◌, ◌-◌, ◌<◌, ◌≤◌, ◌↔◌, IfErr, IfOk, IsTrue, None, Ok, Some, false, length, option_map};
+ghost use Rattle.dlms_apdu.specs.Forms.{action_normal, get_normal, set_normal};
+ghost use Rattle.dlms_apdu.specs.View.{selection_of};
+ghost use Rattle.dlms_apdu.specs.Writing.{ParameterFits};
+ghost use Rattle.dlms_association.specs.declared.requests.TheConstants.{INVOKE};
+ghost use Rattle.dlms_association.specs.declared.stage.Asked.TheVariants.{Action, Get, Set};
+ghost use Rattle.dlms_carrier.specs.Any.{IsFresh, Steps, is_down, out_of};
+ghost use Rattle.dlms_carrier.specs.declared.any.AnyCarrier.{AnyCarrier as AnyCarrierOf};
+ghost use Rattle.dlms_client.specs.Calls.{Asks, Begins, CanBegin, Leaves, fresh};
+ghost use Rattle.dlms_data.specs.View.{value_of};
+ghost use Rattle.dlms_data.specs.Writing.{Fits};
+ghost use Rattle.dlms_client.specs.Plan.{IsPlan, plan_of, terms_in};
+ghost use Rattle.dlms_call.specs.Asking.{IsFree, IsNew};
+ghost use Rattle.dlms_call.specs.declared.fault.CallFault.TheVariants.{Memory};
+ghost use Rattle.dlms_call.specs.Talking.{Goes, IsOneRead, Listens, Settles, TakesPiece, TakesTimeout, TellsError, later};
 
 use crate::fault::CallFault;
-use crate::kept::{KeptClient, KeptDeframer};
-use dlms_client::{Answer, Fault, Step};
+use dlms_association::Terms;
+use dlms_carrier::AnyCarrier;
+use dlms_client::{AskFault, Client, Fault, Granted, Outcome, Plan};
+use dlms_data::{Data, Descriptor, Selector};
 use dlms_ends::{End, Heard, PIECE, bytes_of};
-use dlms_frame::{Frame, SentFrame};
-use std::alloc::{Allocator, Global};
+use std::alloc::{AllocError, Allocator, Global};
 use std::io;
 use std::io::ErrorKind;
+use std::marker::Model;
 
 /// The most bytes that may come in one talk.
 pub const MOST_BYTES: usize = 16_777_216;
 
-/// The most reads of one turn.
-const READS: u32 = 4_096;
+/// The most reads of the line until an outcome.
+const READS: u32 = 16_777_216;
 
-/// The outcome of a client's turn.
-#[derive(Clone, Copy, Debug, PartialEq, Eq)]
-pub enum ClientTurn {
-    /// A frame is out.
-    Sent,
-    /// The association is open.
-    Associated,
-    /// The request has this answer.
-    Answered(Answer),
-    /// The link is down, as was asked for.
-    Down,
-}
-
-/// A client, what came of a frame that is not whole yet, and how many bytes may still come.
+/// A client at its end of a line, on the heap, and how many bytes may still come.
 #[derive(Drop)]
 pub struct ClientEnd<A: Allocator = Global> {
-    deframer: KeptDeframer<A>,
+    client: Box<Client<AnyCarrier, A>, A>,
     left: usize,
-    pub client: KeptClient<A>,
+}
+
+impl<A: Allocator> Model for ClientEnd<A> {
+    ghost use Rattle.dlms_call.specs.Talking.{TalkValue};
+
+    ghost Value = { TalkValue };
+
+    ghost view = { λ head. record { client = head.client.value; left = head.left } };
 }
 
 /// The fault of an error of the system: `Memory` if an allocation failed, otherwise `Io`.
@@ -52,103 +59,116 @@ fn of_system(error: &io::Error) -> CallFault
     }
 }
 
-/// A frame goes out.
-pub fn send<W: End>(end: &mut W, frame: &SentFrame) -> Result<ClientTurn, CallFault>
-    ensures { SendsFrame (W.past end.old) (W.past end.new) frame.now result }
+/// Octets go out, if there are any.
+fn send<W: End>(end: &mut W, octets: &[u8]) -> Result<(), CallFault>
+    ensures { Goes (W.past end.old) (W.past end.new) octets.now result }
 {
-    match end.put(frame.put().as_slice()) {
-        Ok(()) => Ok(ClientTurn::Sent),
+    if octets.is_empty() {
+        return Ok(());
+    }
+    match end.put(octets) {
+        Ok(()) => Ok(()),
         Err(error) => Err(of_system(&error)),
     }
 }
 
-/// Gives a frame to the client; none if it has no outcome.
-fn take_frame<W: End, A: Allocator + Copy>(
-    client: &mut KeptClient<A>,
-    end: &mut W,
-    frame: Frame<'_>,
-) -> Option<Result<ClientTurn, CallFault>>
-    ensures { TakesFrame (W.past end.old)
-        (W.past end.new) client.old frame.entry client.new result }
+/// The second outcome, or the first if the second is none.
+fn later(first: Outcome, second: Outcome) -> Outcome
+    ensures { result ≡ later first second }
 {
-    match client.on(&frame) {
-        Ok(Step::Nothing) => None,
-        Ok(Step::Send(next)) => Some(send(end, &next)),
-        Ok(Step::Associated) => Some(Ok(ClientTurn::Associated)),
-        Ok(Step::Answered(answer)) => Some(Ok(ClientTurn::Answered(answer))),
-        Ok(Step::Down) => Some(Ok(ClientTurn::Down)),
-        Err(fault) => Some(Err(CallFault::Talk(fault))),
+    match second {
+        Outcome::Nothing => first,
+        second => second,
     }
 }
 
-/// The client's first frame goes out, if it gives one.
-fn dial<W: End, A: Allocator + Copy>(
-    client: &mut KeptClient<A>,
-    end: &mut W,
-) -> Result<(), CallFault>
-    ensures { DialsFirst (W.past end.old) (W.past end.new) client.old client.new result }
+/// A client by this plan. It is made in a frame of its own, so that no other call has it on the stack.
+#[inline(never)]
+fn new_client<A: Allocator + Copy>(
+    alloc: A,
+    plan: Plan,
+) -> Result<Box<Client<AnyCarrier, A>, A>, AllocError>
+    requires { IsPlan (plan_of plan) }
+    ensures { IfOk result (λ kept. (carrier : AnyCarrierOf) × IsFresh (plan_of plan).route carrier
+        × (kept.value ≡ fresh carrier (terms_in (plan_of plan)))) }
 {
-    match client.next() {
-        Some(frame) => match send(end, &frame) {
-            Ok(_) => Ok(()),
-            Err(fault) => Err(fault),
-        },
-        None => Ok(()),
-    }
+    let terms = Terms {
+        secret: plan.secret,
+        size: plan.size,
+    };
+    let client = Box::new(
+        alloc,
+        Client::new(alloc, AnyCarrier::new(plan.route), terms),
+    )?;
+    Ok(client)
 }
 
 impl<A: Allocator + Copy> ClientEnd<A> {
-    /// Sends the client's first frame. Without memory for incoming data, nothing is sent.
-    #[tactic(auto, using(crate::proofs::TalkingLemmas::no_room, crate::proofs::TalkingLemmas::is_broken))]
-    pub fn begin<W: End>(alloc: A, end: &mut W, client: KeptClient<A>) -> Result<Self, CallFault>
-        ensures dials { IfOk result (λ head. Dials (W.past end.old)
-            (W.past end.new) client head.client) }
-        ensures stands { IfOk result (λ head. IsIn head (first_world head.client)) }
-        ensures fails { IfErr result (FailsToDial (W.past end.old) (W.past end.new) client) }
+    /// A client by this plan, to which nothing has come.
+    pub(crate) fn new(alloc: A, plan: Plan) -> Result<Self, CallFault>
+        requires { IsPlan (plan_of plan) }
+        ensures is_new { IfOk result (IsNew (plan_of plan)) }
+        ensures fails { IfErr result (λ fault. fault ≡ Memory) }
     {
-        let deframer = match KeptDeframer::new(alloc) {
-            Ok(deframer) => deframer,
-            Err(_) => return Err(CallFault::Memory),
-        };
-        let mut client = client;
-        match dial(&mut client, end) {
-            Ok(()) => Ok(ClientEnd {
-                deframer,
-                left: MOST_BYTES,
+        match new_client(alloc, plan) {
+            Ok(client) => Ok(ClientEnd {
                 client,
+                left: MOST_BYTES,
             }),
-            Err(fault) => Err(fault),
+            Err(_) => Err(CallFault::Memory),
         }
     }
 
-    /// Takes the frames among the bytes, up to the one that is answered or has an outcome. Bytes after it arrived before the
-    /// request that is out now, and are dropped.
-    fn take<W: End>(&mut self, end: &mut W, bytes: &[u8]) -> Option<Result<ClientTurn, CallFault>>
-        ensures { (t : TalkWorld) → IsAt self.old t → t.inflow.rest ≡ bytes.now
-            → TakesPiece (W.past end.old) (W.past end.new) t self.new result }
+    /// What the client gives goes out.
+    pub(crate) fn send<W: End>(&mut self, end: &mut W) -> Result<(), CallFault>
+        ensures goes { Goes (W.past end.old) (W.past end.new) (out_of self.old.client.carrier) result }
+        ensures same { self.new ≡ self.old }
+    {
+        send(end, self.client.out())
+    }
+
+    /// One call of the client with octets that arrived: how many it read, and its outcome. More octets of a value than `most` are
+    /// the fault `TooLarge`.
+    fn read(&mut self, octets: &[u8], most: usize) -> (usize, Result<Outcome, CallFault>)
+        ensures len { result.0 ≤ length octets.now }
+        ensures some { 0 < length octets.now → 0 < result.0 }
+        ensures reads { IsOneRead most self.old.client octets.now result.0 result.1 self.new.client }
+        ensures left { self.new.left ≡ self.old.left }
+    {
+        let heard = self.client.feed(octets);
+        match heard.result {
+            Err(fault) => (heard.count, Err(CallFault::Talk(fault))),
+            Ok(_) if self.client.value().len() > most => (heard.count, Err(CallFault::TooLarge)),
+            Ok(outcome) => (heard.count, Ok(outcome)),
+        }
+    }
+
+    /// The client reads a piece, and what it gives goes out after each call. The outcome is the last one of these calls.
+    fn take<W: End>(&mut self, end: &mut W, bytes: &[u8], most: usize) -> Result<Outcome, CallFault>
+        ensures piece { TakesPiece most (W.past end.old) (W.past end.new) self.old.client bytes.now result self.new.client }
+        ensures left { self.new.left ≡ self.old.left }
     {
         let mut rest = bytes;
-        'frames: while !rest.is_empty() {
-            let taken = self.deframer.feed(rest);
-            match self.deframer.frame() {
-                Some(frame) => match take_frame(&mut self.client, end, frame) {
-                    Some(turn) => {
-                        self.deframer.idle();
-                        return Some(turn);
-                    }
-                    None => {}
-                },
-                None => {}
+        let mut last = Outcome::Nothing;
+        'calls: while !rest.is_empty() {
+            let (count, result) = self.read(rest, most);
+            let outcome = match result {
+                Ok(outcome) => outcome,
+                Err(fault) => return Err(fault),
+            };
+            match self.send(end) {
+                Ok(()) => {}
+                Err(fault) => return Err(fault),
             }
-            rest = &rest[taken..];
+            last = later(last, outcome);
+            rest = &rest[count..];
         }
-        None
+        Ok(last)
     }
 
     /// Whether this many more bytes may arrive; if so they are counted.
     fn counts(&mut self, bytes: usize) -> bool
-        ensures counted { IsTrue result
-            → (bytes ≤ self.old.left)
+        ensures counted { IsTrue result → (bytes ≤ self.old.left)
             × (self.new ≡ record self.old { left = self.old.left - bytes }) }
         ensures more { result ≡ false → (self.old.left < bytes) × (self.new ≡ self.old) }
     {
@@ -161,44 +181,142 @@ impl<A: Allocator + Copy> ClientEnd<A> {
         }
     }
 
-    /// Nothing came: the frame that is out goes again, and the fourth time-out in a row is a fault.
-    fn repeat<W: End>(&mut self, end: &mut W) -> Result<ClientTurn, CallFault>
-        ensures again { Repeats (W.past end.old)
-            (W.past end.new) self.old.client self.new.client result }
-        ensures idle { Fits self.new.deframer.bytes [] 0 }
+    /// Nothing came in time: the client is told, and what it gives goes out.
+    fn repeat<W: End>(&mut self, end: &mut W) -> Result<Outcome, CallFault>
+        ensures told { TakesTimeout (W.past end.old) (W.past end.new) self.old.client result self.new.client }
         ensures left { self.new.left ≡ self.old.left }
     {
-        self.deframer.idle();
-        if !self.client.is_waiting() {
-            return Err(CallFault::Talk(Fault::Line));
-        }
-        match self.client.timeout() {
-            Ok(frame) => send(end, &frame),
+        match self.client.wait() {
             Err(fault) => Err(CallFault::Talk(fault)),
+            Ok(outcome) => match self.send(end) {
+                Ok(()) => Ok(outcome),
+                Err(fault) => Err(fault),
+            },
         }
     }
 
-    /// The client takes what comes, until a frame of its own is out or something has come. What comes in more than so many pieces
-    /// without one is a fault of the line.
-    pub fn turn<S: End>(&mut self, end: &mut S) -> Result<ClientTurn, CallFault>
-        ensures { Leads self.old self.new (TakesTurn (S.past end.old) (S.past end.new) result) }
+    /// Reads the line once.
+    fn listen<S: End>(
+        &mut self,
+        end: &mut S,
+        piece: &mut [u8; PIECE],
+        most: usize,
+    ) -> Result<Outcome, CallFault>
+        ensures { Listens most (S.past end.old) (S.past end.new) self.old result self.new }
+    {
+        match end.hear(piece) {
+            Err(error) => Err(of_system(&error)),
+            Ok(Heard::Silence) => self.repeat(end),
+            Ok(Heard::Bytes(count)) => {
+                if !self.counts(count) {
+                    return Err(CallFault::Talk(Fault::Form));
+                }
+                self.take(end, bytes_of(piece, count), most)
+            }
+        }
+    }
+
+    /// Reads the line until an outcome for the caller. More octets of a value than `most` are the fault `TooLarge`, and no request
+    /// for more of it goes out.
+    pub(crate) fn settle<S: End>(&mut self, end: &mut S, most: usize) -> Result<Outcome, CallFault>
+        ensures { Settles most (S.past end.old) (S.past end.new) self.old result self.new }
     {
         let mut piece = [0u8; PIECE];
         'reads: for _read in 0..READS {
-            match end.hear(&mut piece) {
-                Err(error) => return Err(of_system(&error)),
-                Ok(Heard::Silence) => return self.repeat(end),
-                Ok(Heard::Bytes(count)) => {
-                    if !self.counts(count) {
-                        return Err(CallFault::Talk(Fault::Form));
-                    }
-                    match self.take(end, bytes_of(&piece, count)) {
-                        Some(turn) => return turn,
-                        None => {}
-                    }
-                }
+            match self.listen(end, &mut piece, most) {
+                Ok(Outcome::Nothing) => {}
+                Ok(Outcome::Associated) => return Ok(Outcome::Associated),
+                Ok(Outcome::Answered(answer)) => return Ok(Outcome::Answered(answer)),
+                Ok(Outcome::Down) => return Ok(Outcome::Down),
+                Err(fault) => return Err(fault),
             }
         }
         Err(CallFault::Talk(Fault::Line))
+    }
+
+    /// Whether a request may be made.
+    pub fn is_free(&self) -> bool
+        ensures { IsTrue result ↔ IsFree self.now }
+    {
+        self.client.is_free()
+    }
+
+    /// The client requests its connection. The caller has checked that it can.
+    pub(crate) fn begin(&mut self)
+        requires { CanBegin is_down self.old.client }
+        ensures begins { Begins Steps self.old.client self.new.client }
+        ensures left { self.new.left ≡ self.old.left }
+    {
+        self.client.begin();
+    }
+
+    /// The client requests an attribute.
+    pub(crate) fn get(&mut self, attribute: Descriptor) -> Result<(), AskFault>
+        requires { IsFree self.old }
+        ensures asks { Asks Steps Get (get_normal INVOKE attribute None) self.old.client result self.new.client }
+        ensures left { self.new.left ≡ self.old.left }
+    {
+        self.client.get::<A>(attribute, None)
+    }
+
+    /// The client requests a part of an attribute.
+    pub(crate) fn get_part(
+        &mut self,
+        attribute: Descriptor,
+        selector: Selector<A>,
+    ) -> Result<(), AskFault>
+        requires free { IsFree self.old }
+        requires fits { Fits (value_of selector.value) }
+        ensures asks { Asks Steps Get (get_normal INVOKE attribute (Some (selection_of selector))) self.old.client result self.new.client }
+        ensures left { self.new.left ≡ self.old.left }
+    {
+        self.client.get::<A>(attribute, Some(selector))
+    }
+
+    /// The client sets an attribute.
+    pub(crate) fn set(&mut self, attribute: Descriptor, value: Data<A>) -> Result<(), AskFault>
+        requires free { IsFree self.old }
+        requires fits { Fits (value_of value) }
+        ensures asks { Asks Steps Set (set_normal INVOKE attribute None (value_of value)) self.old.client result self.new.client }
+        ensures left { self.new.left ≡ self.old.left }
+    {
+        self.client.set::<A>(attribute, None, value)
+    }
+
+    /// The client calls a method.
+    pub(crate) fn act(
+        &mut self,
+        method: Descriptor,
+        parameter: Option<Data<A>>,
+    ) -> Result<(), AskFault>
+        requires free { IsFree self.old }
+        requires fits { ParameterFits (option_map value_of parameter) }
+        ensures asks { Asks Steps Action (action_normal INVOKE method (option_map value_of parameter)) self.old.client result self.new.client }
+        ensures left { self.new.left ≡ self.old.left }
+    {
+        self.client.act(method, parameter)
+    }
+
+    /// The client requests the connection's end.
+    pub(crate) fn disconnect(&mut self) -> Outcome
+        requires { IsFree self.old }
+        ensures leaves { Leaves Steps self.old.client (Ok result) self.new.client }
+        ensures left { self.new.left ≡ self.old.left }
+    {
+        self.client.disconnect()
+    }
+
+    /// The encoding of the last GET's value, as far as it was joined: all of it once the answer was returned.
+    pub fn value(&self) -> &[u8]
+        ensures { result.now ≡ self.now.client.association.blocks.joined }
+    {
+        self.client.value()
+    }
+
+    /// The services and size that the meter granted.
+    pub fn granted(&self) -> Granted
+        ensures { result ≡ self.now.client.association.granted }
+    {
+        self.client.granted()
     }
 }

@@ -4,8 +4,7 @@
 mod asking;
 mod client_end;
 mod fault;
-mod kept;
 
-pub use asking::{act, begin, end, get, set};
-pub use client_end::{ClientEnd, ClientTurn};
+pub use asking::{act, begin, end, get, get_part, set};
+pub use client_end::ClientEnd;
 pub use fault::CallFault;

@@ -1,7 +1,7 @@
 //! Which meter a new file of readings begins with.
 
 use dlms_call::CallFault;
-use dlms_client::Plan;
+use dlms_client::{Plan, Route};
 use dlms_data::Bytes;
 use dlms_ends::End;
 use dlms_frame::{Address, Client};
@@ -29,8 +29,7 @@ pub fn is_new<H: Files<File = File>>(host: &H, file: &str) -> bool {
 #[inline(never)]
 fn name_over<S: End>(alloc: Global, line: &mut S) -> Result<Option<Bytes<Global>>, CallFault> {
     let plan = Plan {
-        sap: Client::Public.sap(),
-        server: Address::One(1),
+        route: Route::Hdlc(Client::Public.sap(), Address::One(1)),
         secret: None,
         size: SIZE,
     };

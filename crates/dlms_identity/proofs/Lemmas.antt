@@ -4,11 +4,9 @@ use Rattle.std.specs.Prelude.{IfSome, IsTrue}
 use Rattle.std.proofs.lemmas.Bool.{false≢true}
 use Rattle.std.proofs.lemmas.List.{append-nil, take_more, take-append-drop}
 use Rattle.dlms_apdu.specs.Forms.{get_normal}
-use Rattle.dlms_call.specs.Asking.{EndsTalk, Requests}
-use Rattle.dlms_call.specs.Talking.{TalkWorld}
+use Rattle.dlms_call.specs.Asking.{Requests}
+use Rattle.dlms_call.specs.Talking.{TalkValue}
 use Rattle.dlms_call.specs.declared.fault.CallFault.{CallFault}
-use Rattle.dlms_client.specs.Calls.{IsFree}
-use Rattle.dlms_client.specs.ClientValue.{ClientValue}
 use Rattle.dlms_client.specs.Plan.{PlanValue}
 use Rattle.dlms_association.specs.declared.answer.Answer.{Answer}
 use Rattle.dlms_association.specs.declared.requests.TheConstants.{INVOKE}
@@ -43,16 +41,11 @@ read_text octets w n text spelled only is = (
   some_or text spelled,
 )
 
--- ---- a request, as another client makes it of the same object
+-- ---- a request of the same object
 
-pub requests_as : (most : ℕ) (one other : ClientValue) (d e : Descriptor) (old new : Option (List Moment)) (result : Result Answer CallFault) (t t' : TalkWorld) → one ≡ other → d ≡ e
-    → Requests most (IsFree one) Get (get_normal INVOKE d None) old new result t t' → Requests most (IsFree other) Get (get_normal INVOKE e None) old new result t t'
-requests_as most one other d e old new result t t' same is requests =
-    subst (λ (c : ClientValue). Requests most (IsFree c) Get (get_normal INVOKE e None) old new result t t') same
-    (subst (λ (x : Descriptor). Requests most (IsFree one) Get (get_normal INVOKE x None) old new result t t') is requests)
-
-pub ends_as : (one other : ClientValue) (old new : Option (List Moment)) (result : Result (Unit {0}) CallFault) (t t' : TalkWorld) → one ≡ other → EndsTalk (IsFree one) old new result t t' → EndsTalk (IsFree other) old new result t t'
-ends_as one other old new result t t' same ends = subst (λ (c : ClientValue). EndsTalk (IsFree c) old new result t t') same ends
+pub requests_as : (most : ℕ) (may : Type 0) (d e : Descriptor) (old new : Option (List Moment)) (t : TalkValue) (result : Result Answer CallFault) (t' : TalkValue) → d ≡ e
+    → Requests most may Get (get_normal INVOKE d None) old new t result t' → Requests most may Get (get_normal INVOKE e None) old new t result t'
+requests_as most may d e old new t result t' is requests = subst (λ (x : Descriptor). Requests most may Get (get_normal INVOKE x None) old new t result t') is requests
 
 -- ---- what is told of a talk
 

@@ -1,7 +1,6 @@
 -- The texts that a meter's objects show, each read in an association of its own.
 use Rattle.std.specs.Prelude.{◌≡◌, ◌≢◌, ◌⊎◌, ℕ, Bool, true, false, List, [], ◌∷◌, ◌++◌, Option, Some, None, Result, Ok, Err}
 use Rattle.dlms_apdu.specs.Forms.{get_normal}
-use Rattle.dlms_client.specs.Calls.{IsFree, fresh}
 use Rattle.dlms_client.specs.Plan.{PlanValue}
 use Rattle.dlms_association.specs.declared.answer.Answer.{Answer}
 use Rattle.dlms_association.specs.declared.answer.Answer.TheVariants as answer
@@ -9,8 +8,8 @@ use Rattle.dlms_association.specs.declared.requests.TheConstants.{INVOKE}
 use Rattle.dlms_association.specs.declared.stage.Asked.TheVariants.{Get}
 use Rattle.dlms_data.specs.declared.descriptor.Descriptor.{Descriptor}
 use Rattle.dlms_ends.specs.Moments.{Moment}
-use Rattle.dlms_call.specs.Asking.{EndsTalk, FailsToOpen, Opens, Requests}
-use Rattle.dlms_call.specs.Talking.{TalkWorld}
+use Rattle.dlms_call.specs.Asking.{EndsTalk, FailsToOpen, IsFree, Opens, Requests}
+use Rattle.dlms_call.specs.Talking.{TalkValue}
 use Rattle.dlms_call.specs.declared.fault.CallFault.{CallFault}
 use Rattle.dlms_call.specs.declared.fault.CallFault.TheVariants.{Memory}
 use Rattle.dlms_identity.specs.Text.{IsText}
@@ -28,35 +27,34 @@ Says answer.Value octets (Err fault) = fault ≡ Memory
 Says _ octets result = result ≡ Ok None
 
 -- Over an open association the object's value was asked for, and this was answered; or that failed.
-pub data IsRead (old new : Option (List Moment)) (name : List ℕ)
-    (result : Result (Option (List ℕ)) CallFault) (t t' : TalkWorld) : Type 0 where
+pub data IsRead (old new : Option (List Moment)) (name : List ℕ) (t : TalkValue)
+    (result : Result (Option (List ℕ)) CallFault) (t' : TalkValue) : Type 0 where
   IsAnswered : (given : Answer)
-      → Requests MOST (IsFree t.client) Get (get_normal INVOKE (value_at name) None) old new
-      (Ok given) t t' → Says given t'.client.association.blocks.joined result
-      → IsRead old new name result t t'
-  IsNot : (why : CallFault) → Requests MOST (IsFree t.client) Get
-      (get_normal INVOKE (value_at name) None) old new (Err why) t t' → result ≡ Err why
-      → IsRead old new name result t t'
+      → Requests MOST (IsFree t) Get (get_normal INVOKE (value_at name) None) old new t (Ok given) t'
+      → Says given t'.client.association.blocks.joined result → IsRead old new name t result t'
+  IsNot : (why : CallFault)
+      → Requests MOST (IsFree t) Get (get_normal INVOKE (value_at name) None) old new t (Err why) t'
+      → result ≡ Err why → IsRead old new name t result t'
 
 -- An association was opened by this plan, the value was asked for, and then the link's end, whatever came of that.
 pub record Talks (old new : Option (List Moment)) (plan : PlanValue) (name : List ℕ)
     (result : Result (Option (List ℕ)) CallFault) : Type 0 where
   pub opened : Option (List Moment)
   pub told : Option (List Moment)
-  pub first : TalkWorld
-  pub mid : TalkWorld
-  pub last : TalkWorld
+  pub first : TalkValue
+  pub mid : TalkValue
+  pub last : TalkValue
   pub ended : Result (Unit {0}) CallFault
-  pub opens : Opens old opened (fresh plan) first
-  pub reads : IsRead opened told name result first mid
-  pub ends : EndsTalk (IsFree mid.client) told new ended mid last
+  pub opens : Opens old opened plan (Ok tt) first
+  pub reads : IsRead opened told name first result mid
+  pub ends : EndsTalk (IsFree mid) told new mid ended last
 
 -- so it was; or no association was opened
 abbrev pub Tells : Option (List Moment) → Option (List Moment) → PlanValue → List ℕ
     → Result (Option (List ℕ)) CallFault → Type 0
 Tells old new plan name (Ok text) = Talks old new plan name (Ok text)
 Tells old new plan name (Err why) = Talks old new plan name (Err why)
-    ⊎ FailsToOpen old new (fresh plan) why
+    ⊎ FailsToOpen old new plan why
 
 -- The object shows its text; or it shows another text or none; or it could not be asked.
 abbrev pub Shows : Option (List Moment) → Option (List Moment) → PlanValue → Expected

@@ -1,7 +1,6 @@
 //! The texts that a meter's objects show, each read in an association of its own.
 
 ghost use Rattle.std.specs.Prelude.{◌≡◌, ◌↔◌, IsTrue, Some};
-ghost use Rattle.dlms_call.specs.Talking.{Leads};
 ghost use Rattle.dlms_client.specs.Plan.{IsPlan, plan_of};
 ghost use Rattle.dlms_identity.specs.Showing.{IsRead, Shows, ShowsAllBut, Tells, value_at};
 
@@ -48,10 +47,10 @@ fn ask_text<S: End>(
     head: &mut ClientEnd<Global>,
     name: [u8; 6],
 ) -> Result<Option<Bytes<Global>>, CallFault>
-    ensures { Leads head.old head.new (IsRead (S.past line.old) (S.past line.new) name result) }
+    ensures { IsRead (S.past line.old) (S.past line.new) name head.old result head.new }
 {
     match get(line, head, value_at(name), MOST) {
-        Ok(Answer::Value) => match text_in(alloc, head.client.value()) {
+        Ok(Answer::Value) => match text_in(alloc, head.value()) {
             Ok(text) => Ok(text),
             Err(_) => Err(CallFault::Memory),
         },
@@ -126,8 +125,7 @@ fn again(plan: &Plan) -> Plan
         None => None,
     };
     Plan {
-        sap: plan.sap,
-        server: plan.server,
+        route: plan.route,
         secret,
         size: plan.size,
     }

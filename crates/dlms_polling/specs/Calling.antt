@@ -15,6 +15,7 @@ use Rattle.dlms_headend.specs.PollRun.{IsCall}
 use Rattle.dlms_headend.specs.PollRun.Call.{Next}
 use Rattle.dlms_headend.specs.PollerValue.{PollerValue}
 use Rattle.dlms_headend.specs.declared.poll_fault.PollFault.TheVariants as poll
+use Rattle.dlms_carrier.specs.declared.any.Route.TheVariants.{Hdlc}
 use Rattle.dlms_client.specs.Plan.{PlanValue as PlanOfClient}
 use Rattle.dlms_association.specs.declared.fault.Fault.TheVariants as asking
 use Rattle.dlms_call.specs.declared.fault.CallFault.{CallFault}
@@ -106,8 +107,7 @@ secret_by Reader secret = Some secret
 -- the client of a poll's plan, as it asks for texts, of the meter at the address 1
 abbrev pub asker_of : PlanValue → PlanOfClient
 asker_of plan = record {
-  sap = sap_of plan.client;
-  server = One 1;
+  route = Hdlc (sap_of plan.client) (One 1);
   secret = secret_by plan.client plan.secret;
   size = SIZE;
 }

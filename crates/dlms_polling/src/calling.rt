@@ -15,7 +15,7 @@ use crate::poll_inputs::PollInputs;
 use crate::polling::Polling;
 use arrayvec::ArrayVec;
 use dlms_call::CallFault;
-use dlms_client::Fault;
+use dlms_client::{Fault, Route};
 use dlms_ends::{End, HeadEnd, PollTurn, RunFault, TURNS, dial};
 use dlms_frame::{Address, Client};
 use dlms_headend::{Plan, PollFault, Poller};
@@ -109,8 +109,7 @@ fn asker(plan: &Plan) -> dlms_client::Plan
     ensures lawful { IsPlan (asking_plan result) }
 {
     dlms_client::Plan {
-        sap: plan.client.sap(),
-        server: Address::One(1),
+        route: Route::Hdlc(plan.client.sap(), Address::One(1)),
         secret: secret_by(plan.client, &plan.secret),
         size: SIZE,
     }

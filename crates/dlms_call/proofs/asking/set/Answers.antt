@@ -1,29 +1,11 @@
-use Rattle.std.proofs.Common.{refl, ap}
-use Rattle.std.specs.Prelude.{Ok, Err, None}
-use Rattle.dlms_apdu.specs.Forms.{set_normal}
-use Rattle.dlms_data.specs.View.{value_of}
-use Rattle.dlms_association.specs.declared.requests.TheConstants.{INVOKE}
-use Rattle.dlms_association.specs.declared.stage.Asked.TheVariants.{Set}
+use Rattle.std.proofs.Common.{ap, Err}
 use Rattle.dlms_ends.proofs.MomentLemmas.{adds_none}
-use Rattle.dlms_call.specs.Asking.Requests.{IsMade, NotAsked, NotMade}
+use Rattle.dlms_call.specs.Asking.Requests.{IsMade, NotMade}
 use Rattle.dlms_call.specs.declared.fault.CallFault.{CallFault}
-use Rattle.dlms_call.proofs.TalkingLemmas.{asked_in, asks_as, is_false}
 use Rattle.dlms_call.proofs.asking.set.Goals as goal
 
-pub returns-then-not-is_free : goal.returns-then-not-is_free
-returns-then-not-is_free g c = λ t stands. (t, stands, NotAsked (λ may. is_false c.is_free.result c.if-not-is_free.true c.is_free.ensures may.0) refl refl (adds_none (g.S.End.past c.args.line.now)))
-
-pub returns-then-not-fits : goal.returns-then-not-fits
-returns-then-not-fits g c = λ t stands. (t, stands, NotAsked (λ may. is_false c.fits.result c.if-not-fits.true c.fits.ensures may.1) refl refl (adds_none (g.S.End.past c.args.line.now)))
-
 pub returns-in-Ok : goal.returns-in-Ok
-returns-in-Ok g c = λ t stands.
-    let u = c.request_answer.ensures (record t { client = c.set.new.self }) (asked_in c.args.head.now _ t c.set.new.self refl refl refl stands) in
-    (u.0, u.1, IsMade (c.is_free.ensures.0 c.if-not-is_free.false, c.fits.ensures.0 c.if-not-fits.false) c.in-Ok.frame c.set.new.self (asks_as Set (set_normal INVOKE c.args.attribute None (value_of c.args.value)) c.args.head.now.client t.client (Ok c.in-Ok.frame) c.set.new.self stands.at.client c.in-Ok.ensures) u.2)
+returns-in-Ok g c = IsMade (c.is_free.ensures.0 c.if-not-is_free.false, c.fits.ensures.0 c.if-not-fits.false) c.set.new.self c.in-Ok.ensures.asks c.in-Ok.ensures.left c.request_answer.ensures
 
 pub returns-in-Err : goal.returns-in-Err
-returns-in-Err g c = λ t stands. (
-  record t { client = c.set.new.self },
-  asked_in c.args.head.now _ t c.set.new.self refl refl refl stands,
-  NotMade (c.is_free.ensures.0 c.if-not-is_free.false, c.fits.ensures.0 c.if-not-fits.false) c.in-Err.fault (asks_as Set (set_normal INVOKE c.args.attribute None (value_of c.args.value)) c.args.head.now.client t.client (Err c.in-Err.fault) c.set.new.self stands.at.client c.in-Err.ensures) refl (ap (λ (f : CallFault). Err f) c.from.ensures) (adds_none (g.S.End.past c.args.line.now)),
-)
+returns-in-Err g c = NotMade (c.is_free.ensures.0 c.if-not-is_free.false, c.fits.ensures.0 c.if-not-fits.false) c.in-Err.fault c.in-Err.ensures.asks c.in-Err.ensures.left (ap (λ (fault : CallFault). Err fault) c.from.ensures) (adds_none _)

@@ -1,5 +1,5 @@
 use Rattle.std.proofs.Common.{inr}
-use Rattle.dlms_identity.proofs.Lemmas.{ends_as, tells_so}
+use Rattle.dlms_identity.proofs.Lemmas.{tells_so}
 use Rattle.dlms_identity.proofs.showing.shown_text.Goals as goal
 
 pub returns-in-Err : goal.returns-in-Err
@@ -7,18 +7,15 @@ returns-in-Err g c = inr c.in-Err.ensures.fails
 
 pub returns : goal.returns
 returns g c =
-    let o = c.in-Ok.ensures.opens in
-    let u = c.ask_text-text.ensures o.0 o.1 in
-    let e = c.end-ended.ensures u.0 u.1 in
     tells_so _ _ _ c.args.name c.ask_text-text.result
     (record {
       opened = g.S.End.past c.begin.new.line;
       told = g.S.End.past c.ask_text-text.new.line;
-      first = o.0;
-      mid = u.0;
-      last = e.0;
+      first = c.in-Ok.head;
+      mid = c.ask_text-text.new.head;
+      last = c.end-ended.new.head;
       ended = c.end-ended.result;
-      opens = o.2;
-      reads = u.2;
-      ends = ends_as _ _ _ _ c.end-ended.result u.0 e.0 u.1.at.client e.2;
+      opens = c.in-Ok.ensures.opens;
+      reads = c.ask_text-text.ensures;
+      ends = c.end-ended.ensures;
     })

@@ -1,34 +1,23 @@
-use Rattle.std.proofs.Common.{rules, refl, sym, ◌∙◌}
-use Rattle.dlms_ends.proofs.EndLemmas.{taken_and_left}
-use Rattle.dlms_call.proofs.TalkingLemmas.{end_start, fed_all, fed_none, fed_skip, fed_some, found_as}
+use Rattle.std.proofs.Common.{rules, ap, refl, ◌∙◌}
+use Rattle.dlms_call.specs.Talking.{TalkValue}
+use Rattle.dlms_call.proofs.TalkingLemmas.{all_is_read, breaks_at, ends_with, none_yet, one_more}
 use Rattle.dlms_call.proofs.client_end.ClientEnd.take.Goals as goal
-use Rattle.dlms_call.proofs.client_end.ClientEnd.take.Goals.{in-Some+in-None-take_frame, in-None}
 
-pub frames-init : goal.frames-init
-frames-init g c = end_start _ c.args.self.now _
+pub calls-init : goal.calls-init
+calls-init g c = (none_yet _ _ _ _, refl)
 
-pub returns-in-Some-take_frame : goal.returns-in-Some-take_frame
-returns-in-Some-take_frame g c = λ t at taken.
-    fed_some (g.W.End.past c.args.end.now) (g.W.End.past c.frames.end) (g.W.End.past c.take_frame.new.end) c.args.self.now c.frames.self
-    (record { deframer = c.idle.new.self; client = c.take_frame.new.client; left = c.frames.self.left }) c.args.bytes.now c.frames.rest.now _ _ _ _ c.in-Some-take_frame.turn
-    (taken_and_left c.feed-taken.result c.frames.rest.now) c.frames.invariant (found_as _ _ _ _ _ (sym c.frame.ensures ∙ c.in-Some.is) c.feed-taken.ensures.takes)
-    c.in-Some-take_frame.ensures c.idle.ensures.bytes refl t at taken
+pub returns-in-Err-clause-piece : goal.returns-in-Err-clause-piece
+returns-in-Err-clause-piece g c = ends_with c.args.most _ _ _ _ _ _ _ _ _ c.in-Err.fault _ c.in-Err.is c.calls.invariant.0 c.read-count.ensures.reads
 
-pub frames-preserved : goal.frames-preserved
-frames-preserved g c =
-    elim c.match-frame.branch [
-      | in-Some+in-None-take_frame w ↦
-          rw (w.self-is, w.end-is)
-          (fed_none (g.W.End.past c.args.end.now) (g.W.End.past c.frames.end) (g.W.End.past w.take_frame.new.end) c.args.self.now c.frames.self
-          (record { deframer = c.feed-taken.new.self; client = w.take_frame.new.client; left = c.frames.self.left }) c.args.bytes.now c.frames.rest.now _ _ _ _
-          (taken_and_left c.feed-taken.result c.frames.rest.now) c.frames.invariant (found_as _ _ _ _ _ (sym c.frame.ensures ∙ w.in-Some.is) c.feed-taken.ensures.takes)
-          w.in-None-take_frame.ensures refl refl)
-      | in-None w ↦
-          rw (w.self-is, w.end-is)
-          (fed_skip (g.W.End.past c.args.end.now) (g.W.End.past c.frames.end) c.args.self.now c.frames.self
-          (record { deframer = c.feed-taken.new.self; client = c.frames.self.client; left = c.frames.self.left }) c.args.bytes.now c.frames.rest.now _ _
-          (taken_and_left c.feed-taken.result c.frames.rest.now) c.frames.invariant (found_as _ _ _ _ _ (sym c.frame.ensures ∙ w.in-None.is) c.feed-taken.ensures.takes) refl refl)
-    ]
+pub returns-in-Err-send-clause-piece : goal.returns-in-Err-send-clause-piece
+returns-in-Err-send-clause-piece g c =
+    breaks_at c.args.most _ _ _ _ _ _ _ _ _ _ c.in-Ok.outcome _ c.in-Err-send.fault _ c.in-Ok.is c.calls.invariant.0 c.read-count.ensures.reads c.in-Err-send.ensures.goes (ap (λ (t : TalkValue). t.client) c.in-Err-send.ensures.same)
 
-pub returns : goal.returns
-returns g c = λ t at taken. fed_all (g.W.End.past c.args.end.now) (g.W.End.past c.frames.end) c.args.self.now c.frames.self c.args.bytes.now c.frames.rest.now (search rules) c.frames.invariant t at taken
+pub calls-preserved : goal.calls-preserved
+calls-preserved g c = (
+  one_more c.args.most _ _ _ _ _ _ _ _ _ _ c.in-Ok.outcome _ _ _ c.in-Ok.is c.calls.invariant.0 c.read-count.ensures.reads c.in-Ok-send.ensures.goes (ap (λ (t : TalkValue). t.client) c.in-Ok-send.ensures.same) c.later-last.ensures,
+  ap (λ (t : TalkValue). t.left) c.in-Ok-send.ensures.same ∙ c.read-count.ensures.left ∙ c.calls.invariant.1,
+)
+
+pub returns-clause-piece : goal.returns-clause-piece
+returns-clause-piece g c = all_is_read c.args.most _ _ _ _ _ _ _ c.calls.invariant.0 (search rules)

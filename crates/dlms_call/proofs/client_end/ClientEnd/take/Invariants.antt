@@ -1,9 +1,9 @@
-use Rattle.std.proofs.Common.{length}
-use Rattle.dlms_call.proofs.TalkingLemmas.{EndFed}
+use Rattle.std.proofs.Common.{◌≡◌, length}
+use Rattle.dlms_call.proofs.TalkingLemmas.{SoFar}
 use Rattle.dlms_call.proofs.client_end.ClientEnd.take.Given as goal
 
-abbrev pub invariant-frames : goal.invariant-frames
-invariant-frames g l = EndFed (g.W.End.past l.fn.end) (g.W.End.past l.end) l.fn.self l.self l.fn.bytes l.rest
+abbrev pub invariant-calls : goal.invariant-calls
+invariant-calls g l = SoFar l.fn.most (g.W.End.past l.fn.end) (g.W.End.past l.end) l.fn.self.client l.fn.bytes l.self.client l.rest l.last × (l.self.left ≡ l.fn.self.left)
 
-abbrev pub decreases-frames : goal.decreases-frames
-decreases-frames g l = length l.rest
+abbrev pub decreases-calls : goal.decreases-calls
+decreases-calls g l = length l.rest
