@@ -6,8 +6,7 @@ use Rattle.dlms_association.specs.declared.ask_fault.AskFault.{AskFault}
 use Rattle.dlms_association.specs.declared.ask_fault.AskFault.TheVariants as ask
 use Rattle.dlms_association.specs.declared.fault.Fault.TheVariants as fault
 use Rattle.dlms_association.specs.declared.stage.Asked.{Asked}
-use Rattle.dlms_carrier.specs.Any.{IsFresh, Steps, is_idle, out_of}
-use Rattle.dlms_carrier.specs.declared.any.AnyCarrier.{AnyCarrier}
+use Rattle.dlms_carrier.specs.Any.{AnyValue, IsFresh, Steps, is_idle, out_of}
 use Rattle.dlms_client.specs.Calls.{Asks, Begins, Leaves, fresh, IsFree as IsFreeOver}
 use Rattle.dlms_client.specs.Plan.{PlanValue, terms_in}
 use Rattle.dlms_client.specs.declared.outcome.Outcome.{Outcome}
@@ -55,7 +54,7 @@ pub data GoesOut {X : Type 0} (most : ℕ) (told_in : Result Outcome CallFault �
 
 -- a client by this plan, to which nothing has come
 pub record IsNew (plan : PlanValue) (t : TalkValue) : Type 0 where
-  pub carrier : AnyCarrier
+  pub carrier : AnyValue
   pub route : IsFresh plan.route carrier
   pub client : t.client ≡ fresh carrier (terms_in plan)
   pub left : t.left ≡ MOST_BYTES

@@ -6,8 +6,7 @@ use Rattle.std.specs.declared.io.Error.{Error}
 use Rattle.std.specs.declared.io.ErrorKind.TheVariants.{OutOfMemory}
 use Rattle.dlms_association.specs.declared.fault.Fault.{Fault}
 use Rattle.dlms_association.specs.declared.fault.Fault.TheVariants as fault
-use Rattle.dlms_carrier.specs.Any.{Steps, apdu_of, is_waiting, out_of}
-use Rattle.dlms_carrier.specs.declared.any.AnyCarrier.{AnyCarrier}
+use Rattle.dlms_carrier.specs.Any.{AnyValue, Steps, apdu_of, is_waiting, out_of}
 use Rattle.dlms_client.specs.Calls.{Feeds, Waits}
 use Rattle.dlms_client.specs.ClientValue.{ClientValue}
 use Rattle.dlms_client.specs.declared.outcome.Outcome.{Outcome}
@@ -20,7 +19,7 @@ use Rattle.dlms_call.specs.declared.fault.CallFault.TheVariants.{Talk, Io, Memor
 
 -- a client over the carrier of its route
 abbrev pub ClientAt : Type 0
-ClientAt = ClientValue AnyCarrier
+ClientAt = ClientValue AnyValue
 
 -- the client, and how many octets may still come
 pub record TalkValue : Type 0 where

@@ -6,8 +6,7 @@ ghost use Rattle.dlms_apdu.specs.View.{selection_of};
 ghost use Rattle.dlms_apdu.specs.Writing.{ParameterFits};
 ghost use Rattle.dlms_association.specs.declared.requests.TheConstants.{INVOKE};
 ghost use Rattle.dlms_association.specs.declared.stage.Asked.TheVariants.{Action, Get, Set};
-ghost use Rattle.dlms_carrier.specs.Any.{IsFresh, Steps, is_down, out_of};
-ghost use Rattle.dlms_carrier.specs.declared.any.AnyCarrier.{AnyCarrier as AnyCarrierOf};
+ghost use Rattle.dlms_carrier.specs.Any.{AnyValue, IsFresh, Steps, is_down, out_of};
 ghost use Rattle.dlms_client.specs.Calls.{Asks, Begins, CanBegin, Leaves, fresh};
 ghost use Rattle.dlms_data.specs.View.{value_of};
 ghost use Rattle.dlms_data.specs.Writing.{Fits};
@@ -36,7 +35,7 @@ const READS: u32 = 16_777_216;
 /// A client at its end of a line, on the heap, and how many bytes may still come.
 #[derive(Drop)]
 pub struct ClientEnd<A: Allocator = Global> {
-    client: Box<Client<AnyCarrier, A>, A>,
+    client: Box<Client<AnyCarrier<A>, A>, A>,
     left: usize,
 }
 
@@ -82,24 +81,22 @@ fn later(first: Outcome, second: Outcome) -> Outcome
     }
 }
 
-/// A client by this plan. It is made in a frame of its own, so that no other call has it on the stack.
+/// A client by this plan. It is made in a function of its own, so that no other call has it on the stack.
 #[inline(never)]
 fn new_client<A: Allocator + Copy>(
     alloc: A,
     plan: Plan,
-) -> Result<Box<Client<AnyCarrier, A>, A>, AllocError>
+) -> Result<Box<Client<AnyCarrier<A>, A>, A>, AllocError>
     requires { IsPlan (plan_of plan) }
-    ensures { IfOk result (λ kept. (carrier : AnyCarrierOf) × IsFresh (plan_of plan).route carrier
+    ensures { IfOk result (λ kept. (carrier : AnyValue) × IsFresh (plan_of plan).route carrier
         × (kept.value ≡ fresh carrier (terms_in (plan_of plan)))) }
 {
+    let carrier = AnyCarrier::new(alloc, plan.route)?;
     let terms = Terms {
         secret: plan.secret,
         size: plan.size,
     };
-    let client = Box::new(
-        alloc,
-        Client::new(alloc, AnyCarrier::new(plan.route), terms),
-    )?;
+    let client = Box::new(alloc, Client::new(alloc, carrier, terms))?;
     Ok(client)
 }
 

@@ -19,7 +19,7 @@ pub record HdlcValue : Type 0 where
   -- the octets to write after the last call
   pub text : List ℕ
 
-abbrev pub value_of : Inside → HdlcValue
+abbrev pub value_of : {A : Type 0} → Inside A → HdlcValue
 value_of c = record { kept = c.deframer.bytes; link = c.link; text = c.text.items }
 
 -- no octet was read

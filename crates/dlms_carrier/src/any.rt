@@ -1,6 +1,6 @@
 //! A carrier that is chosen while the program runs.
 
-ghost use Rattle.std.specs.Prelude.{◌≡◌, ◌↔◌, IsTrue};
+ghost use Rattle.std.specs.Prelude.{◌↔◌, IfOk, IsTrue};
 ghost use Rattle.dlms_frame.specs.Frame.{IsAddress};
 ghost use Rattle.dlms_carrier.specs.Any.{IsFresh, IsRoute};
 
@@ -9,6 +9,8 @@ use crate::event::{Event, Fed};
 use crate::hdlc::HdlcCarrier;
 use crate::tcp::TcpCarrier;
 use dlms_frame::Address;
+use std::alloc::{AllocError, Allocator, Global};
+use std::marker::Model;
 
 /// Which carrier leads to a meter, and both addresses on it.
 #[derive(Clone, Copy, Debug, PartialEq, Eq)]
@@ -42,28 +44,51 @@ impl Route {
     }
 }
 
-/// The carrier of a route.
+/// The carriers of the routes.
 #[derive(Drop)]
-pub enum AnyCarrier {
-    Hdlc(HdlcCarrier),
+enum Chosen<A: Allocator> {
+    Hdlc(HdlcCarrier<A>),
     Tcp(TcpCarrier),
 }
 
-impl AnyCarrier {
-    /// The carrier of this route, without a connection.
-    #[inline(never)]
-    pub fn new(route: Route) -> Self
+/// The carrier of a route.
+#[derive(Drop)]
+pub struct AnyCarrier<A: Allocator = Global> {
+    chosen: Chosen<A>,
+}
+
+impl<A: Allocator> Model for AnyCarrier<A> {
+    ghost use Rattle.dlms_carrier.specs.Any.{AnyValue, value_of};
+
+    ghost Value = { AnyValue };
+
+    ghost view = { value_of };
+}
+
+impl<A: Allocator> AnyCarrier<A> {
+    /// The carrier of this route, without a connection. Only one over HDLC allocates.
+    pub fn new(alloc: A, route: Route) -> Result<Self, AllocError>
         requires { IsRoute route }
-        ensures { IsFresh route result }
+        ensures { IfOk result (IsFresh route) }
     {
         match route {
-            Route::Hdlc(own, server) => AnyCarrier::Hdlc(HdlcCarrier::new(own, server)),
-            Route::Tcp(own, server) => AnyCarrier::Tcp(TcpCarrier::new(own, server)),
+            Route::Hdlc(own, server) => {
+                let carrier = HdlcCarrier::new(alloc, own, server)?;
+                Ok(AnyCarrier {
+                    chosen: Chosen::Hdlc(carrier),
+                })
+            }
+            Route::Tcp(own, server) => {
+                drop(alloc);
+                Ok(AnyCarrier {
+                    chosen: Chosen::Tcp(TcpCarrier::new(own, server)),
+                })
+            }
         }
     }
 }
 
-impl Carrier for AnyCarrier {
+impl<A: Allocator> Carrier for AnyCarrier<A> {
     ghost use Rattle.dlms_carrier.specs.Any.{Steps, apdu_of, awaited, is_down, is_idle, is_waiting, out_of, settled};
 
     ghost steps = { Steps };
@@ -83,72 +108,72 @@ impl Carrier for AnyCarrier {
     ghost settled = { settled };
 
     fn is_down(&self) -> bool {
-        match self {
-            AnyCarrier::Hdlc(carrier) => carrier.is_down(),
-            AnyCarrier::Tcp(carrier) => carrier.is_down(),
+        match &self.chosen {
+            Chosen::Hdlc(carrier) => carrier.is_down(),
+            Chosen::Tcp(carrier) => carrier.is_down(),
         }
     }
 
     fn is_idle(&self) -> bool {
-        match self {
-            AnyCarrier::Hdlc(carrier) => carrier.is_idle(),
-            AnyCarrier::Tcp(carrier) => carrier.is_idle(),
+        match &self.chosen {
+            Chosen::Hdlc(carrier) => carrier.is_idle(),
+            Chosen::Tcp(carrier) => carrier.is_idle(),
         }
     }
 
     fn is_waiting(&self) -> bool {
-        match self {
-            AnyCarrier::Hdlc(carrier) => carrier.is_waiting(),
-            AnyCarrier::Tcp(carrier) => carrier.is_waiting(),
+        match &self.chosen {
+            Chosen::Hdlc(carrier) => carrier.is_waiting(),
+            Chosen::Tcp(carrier) => carrier.is_waiting(),
         }
     }
 
     fn begin(&mut self) -> Event {
-        match self {
-            AnyCarrier::Hdlc(carrier) => carrier.begin(),
-            AnyCarrier::Tcp(carrier) => carrier.begin(),
+        match &mut self.chosen {
+            Chosen::Hdlc(carrier) => carrier.begin(),
+            Chosen::Tcp(carrier) => carrier.begin(),
         }
     }
 
     fn give(&mut self, apdu: &[u8]) -> Event {
-        match self {
-            AnyCarrier::Hdlc(carrier) => carrier.give(apdu),
-            AnyCarrier::Tcp(carrier) => carrier.give(apdu),
+        match &mut self.chosen {
+            Chosen::Hdlc(carrier) => carrier.give(apdu),
+            Chosen::Tcp(carrier) => carrier.give(apdu),
         }
     }
 
     fn feed(&mut self, octets: &[u8]) -> Fed {
-        match self {
-            AnyCarrier::Hdlc(carrier) => carrier.feed(octets),
-            AnyCarrier::Tcp(carrier) => carrier.feed(octets),
+        match &mut self.chosen {
+            Chosen::Hdlc(carrier) => carrier.feed(octets),
+            Chosen::Tcp(carrier) => carrier.feed(octets),
         }
     }
 
     fn wait(&mut self) -> Event {
-        match self {
-            AnyCarrier::Hdlc(carrier) => carrier.wait(),
-            AnyCarrier::Tcp(carrier) => carrier.wait(),
+        match &mut self.chosen {
+            Chosen::Hdlc(carrier) => carrier.wait(),
+            Chosen::Tcp(carrier) => carrier.wait(),
         }
     }
 
     fn end(&mut self) -> Event {
-        match self {
-            AnyCarrier::Hdlc(carrier) => carrier.end(),
-            AnyCarrier::Tcp(carrier) => carrier.end(),
+        match &mut self.chosen {
+            Chosen::Hdlc(carrier) => carrier.end(),
+            Chosen::Tcp(carrier) => carrier.end(),
         }
     }
 
     fn out(&self) -> &[u8] {
-        match self {
-            AnyCarrier::Hdlc(carrier) => carrier.out(),
-            AnyCarrier::Tcp(carrier) => carrier.out(),
+        match &self.chosen {
+            Chosen::Hdlc(carrier) => carrier.out(),
+            Chosen::Tcp(carrier) => carrier.out(),
         }
     }
 
     fn apdu(&self) -> &[u8] {
-        match self {
-            AnyCarrier::Hdlc(carrier) => carrier.apdu(),
-            AnyCarrier::Tcp(carrier) => carrier.apdu(),
+        match &self.chosen {
+            Chosen::Hdlc(carrier) => carrier.apdu(),
+            Chosen::Tcp(carrier) => carrier.apdu(),
         }
     }
 }

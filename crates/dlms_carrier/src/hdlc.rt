@@ -7,9 +7,11 @@ ghost use Rattle.dlms_carrier.specs.Hdlc.{Handles, Reports};
 
 use crate::carrier::Carrier;
 use crate::event::{Event, Fed};
+use crate::kept::KeptDeframer;
 use arrayvec::ArrayVec;
-use dlms_frame::{Address, Deframer, MOST_TEXT};
+use dlms_frame::{Address, MOST_TEXT};
 use dlms_link::{ClientLink, ClientOut};
+use std::alloc::{AllocError, Allocator, Global};
 use std::marker::Model;
 
 /// Carries APDUs over an HDLC link with window 1 (IEC 62056-46). The caller opens and closes the line itself.
@@ -18,13 +20,13 @@ use std::marker::Model;
 /// is ignored. Octets that were read together with a frame that changed something, and after it, are dropped: they arrived before
 /// the next frame went out.
 #[derive(Drop)]
-pub struct HdlcCarrier {
-    deframer: Deframer,
+pub struct HdlcCarrier<A: Allocator = Global> {
+    deframer: KeptDeframer<A>,
     link: ClientLink,
     text: ArrayVec<u8, MOST_TEXT>,
 }
 
-impl Model for HdlcCarrier {
+impl<A: Allocator> Model for HdlcCarrier<A> {
     ghost use Rattle.dlms_carrier.specs.Hdlc.{HdlcValue, value_of};
 
     ghost Value = { HdlcValue };
@@ -32,27 +34,28 @@ impl Model for HdlcCarrier {
     ghost view = { value_of };
 }
 
-impl HdlcCarrier {
-    ghost use Rattle.std.specs.Prelude.{◌<◌};
+impl<A: Allocator> HdlcCarrier<A> {
+    ghost use Rattle.std.specs.Prelude.{◌<◌, IfOk};
     ghost use Rattle.dlms_frame.specs.Frame.{IsAddress};
     ghost use Rattle.dlms_carrier.specs.Hdlc.{IsFresh};
 
     /// A carrier from the client with this service access point to the meter at this address, without a connection.
-    pub fn new(own: u8, server: Address) -> Self
+    pub fn new(alloc: A, own: u8, server: Address) -> Result<Self, AllocError>
         requires own { own < 128 }
         requires server { IsAddress server }
-        ensures { IsFresh own server result }
+        ensures { IfOk result (IsFresh own server) }
     {
-        HdlcCarrier {
-            deframer: Deframer::new(),
+        let deframer = KeptDeframer::new(alloc)?;
+        Ok(HdlcCarrier {
+            deframer,
             link: ClientLink::between(own, server),
             text: ArrayVec::new(),
-        }
+        })
     }
 }
 
 /// The link's output for the frame that the deframer found, if it found one.
-fn handle(link: &mut ClientLink, deframer: &Deframer) -> ClientOut
+fn handle<A: Allocator>(link: &mut ClientLink, deframer: &KeptDeframer<A>) -> ClientOut
     ensures handles { Handles deframer.now.frame link.old result link.new }
     ensures answers { result ≡ Apdu → IsSome link.old.waits × IsIdle link.new }
     ensures up { result ≡ Up → IsIdle link.new }
@@ -80,7 +83,7 @@ fn report(text: &mut ArrayVec<u8, MOST_TEXT>, output: ClientOut) -> Event
     }
 }
 
-impl Carrier for HdlcCarrier {
+impl<A: Allocator> Carrier for HdlcCarrier<A> {
     ghost use Rattle.std.specs.Prelude.{IsSome, refl};
     ghost use Rattle.dlms_link.specs.Client.{IsDown, IsIdle};
     ghost use Rattle.dlms_carrier.specs.Hdlc.{Steps};

@@ -5,6 +5,7 @@ mod any;
 mod carrier;
 mod event;
 mod hdlc;
+mod kept;
 pub mod laws;
 mod phase;
 mod tcp;

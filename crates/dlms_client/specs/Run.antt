@@ -13,9 +13,8 @@ use Rattle.dlms_association.specs.declared.stage.Asked.{Asked}
 use Rattle.dlms_association.specs.declared.stage.Stage.TheVariants.{Asking}
 use Rattle.dlms_association.specs.declared.step.Step.{Step}
 use Rattle.dlms_association.specs.declared.step.Step.TheVariants as step
-use Rattle.dlms_carrier.specs.Any.{Steps, apdu_of, out_of}
+use Rattle.dlms_carrier.specs.Any.{AnyValue, Steps, apdu_of, out_of}
 use Rattle.dlms_carrier.specs.Carrying.{Input, Begin as BeginOf, Give, Feed as FeedOf, Wait as WaitOf, End, Call as CarrierCall, Runs as CarrierRuns, given, handed_at, handed_up, read}
-use Rattle.dlms_carrier.specs.declared.any.AnyCarrier.{AnyCarrier}
 use Rattle.dlms_carrier.specs.declared.event.Event.TheVariants as event
 use Rattle.dlms_client.specs.Calls.{Asks, Begins, Feeds, Leaves, Releases, StepsOf, Waits, fresh}
 use Rattle.dlms_client.specs.ClientValue.{ClientValue}
@@ -220,4 +219,4 @@ BlocksAreOfTheRequest {C} m = (carrier : C) (terms : TermsValue) (calls : List C
 
 -- The carriers of a route hand an APDU up only as they read octets.
 abbrev pub NoOtherIsHandedUp : Type 0
-NoOtherIsHandedUp = (old new : AnyCarrier) (carried : List CarrierCall) → CarrierRuns Steps out_of apdu_of old carried new → heard carried ≡ handed_up carried
+NoOtherIsHandedUp = (old new : AnyValue) (carried : List CarrierCall) → CarrierRuns Steps out_of apdu_of old carried new → heard carried ≡ handed_up carried

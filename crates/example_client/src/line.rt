@@ -14,7 +14,7 @@ const EXCHANGES: u16 = 400;
 pub struct Bench {
     pub alloc: Global,
     pub meter: Meter<MemoryPages<Global>, Global>,
-    pub client: Client<HdlcCarrier, Global>,
+    pub client: Client<HdlcCarrier>,
 }
 
 /// The outcome of the meter's reply to the client's octets; none if the meter is silent or the client fails.

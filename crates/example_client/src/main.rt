@@ -197,7 +197,7 @@ fn meter_of(alloc: Global) -> Result<Meter<MemoryPages>> {
 }
 
 /// A client by this plan, over an HDLC link.
-fn client_of(alloc: Global, plan: Plan) -> Result<Client<HdlcCarrier, Global>> {
+fn client_of(alloc: Global, plan: Plan) -> Result<Client<HdlcCarrier>> {
     if !plan.is_lawful() {
         drop(plan);
         return Err(anyhow!("no such plan"));
@@ -210,7 +210,7 @@ fn client_of(alloc: Global, plan: Plan) -> Result<Client<HdlcCarrier, Global>> {
     match route {
         Route::Hdlc(sap, server) => Ok(Client::new(
             alloc,
-            HdlcCarrier::new(sap, server),
+            HdlcCarrier::new(alloc, sap, server)?,
             Terms { secret, size },
         )),
         Route::Tcp(_, _) => Err(anyhow!("not over HDLC")),

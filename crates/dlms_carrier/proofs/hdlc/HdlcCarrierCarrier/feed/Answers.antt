@@ -3,11 +3,11 @@ use Rattle.dlms_carrier.proofs.HdlcLemmas.{heard_none, heard_some, is_up}
 use Rattle.dlms_carrier.proofs.hdlc.HdlcCarrierCarrier.feed.Goals as goal
 
 pub returns-in-Nothing-clause-steps : goal.returns-in-Nothing-clause-steps
-returns-in-Nothing-clause-steps c =
+returns-in-Nothing-clause-steps g c =
     heard_none _ _ _ c.args.octets.now c.feed-count.result c.feed-count.new.self.frame c.feed-count.new.self.bytes c.self.view_is c.feed-count.ensures.takes c.in-Nothing.ensures.handles c.clear.ensures refl
 
 pub returns-in_default : goal.returns-in_default
-returns-in_default c = record {
+returns-in_default g c = record {
   len = omega arith;
   some = λ some. some;
   steps =
