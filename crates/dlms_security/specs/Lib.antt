@@ -1,0 +1,6 @@
+pub mod Form
+pub mod Body
+pub mod Keyed
+pub mod Security
+pub mod Run
+pub mod Encoding

@@ -1,0 +1,19 @@
+//! The protection of the APDUs of one association under security suite 0 (IEC 62056-5-3; Green Book 9.2.7). It turns APDUs
+//! into messages for a carrier, and messages into APDUs. It allocates nothing, and does no input or output.
+#![tactic(auto)]
+
+mod body;
+mod fault;
+mod form;
+pub mod laws;
+mod policy;
+mod security;
+mod stored;
+#[cfg(test)]
+mod tests;
+
+pub use fault::{ProtectFault, UnprotectFault};
+pub use form::{Form, MOST_APDU, MOST_MESSAGE};
+pub use policy::Policy;
+pub use security::Security;
+pub use stored::StoredState;
