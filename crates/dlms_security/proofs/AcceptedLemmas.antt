@@ -1,4 +1,4 @@
--- What a message that is accepted is.
+-- A message is accepted exactly if it is acceptable.
 use Rattle.std.proofs.Common.{arith, refl, ap, ◌∙◌, subst, ◌≡◌, ◌==◌, ℕ, Bool, true, false, List, Option, Some, None, Result, Ok, Err, if◌then◌else◌}
 use Rattle.std.proofs.lemmas.Bool.Decides.{nat_tests}
 use Rattle.dlms_security.specs.declared.form.Head.{Head}
@@ -14,7 +14,7 @@ use Rattle.dlms_security.proofs.RoundLemmas.{accepted_back}
 pub accepted_is : (s : SecurityState) (message : List ℕ) (a : AcceptedApdu) → acceptance s message ≡ Ok a → IsAcceptable s message a
 accepted_is s message a took = by_parts (parts message) refl took
   where
-    by_service : (title : List ℕ) (head : Head) (body apdu : List ℕ) → (b : Bool) → is_of head.tag apdu ≡ b
+    by_service : (title : List ℕ) (head : Head) (body apdu : List ℕ) → (b : Bool) → is_of s.kind head.tag apdu ≡ b
         → s.peer ≡ Some title → parts message ≡ Ok (head, body) → is_from head.title title ≡ true → head.control ≡ control_of s.policy → is_above s.accepted head.counter ≡ true
         → open_body s.policy (peer_use s title head.counter) body ≡ Ok apdu
         → (if b then Ok (record { counter = head.counter; apdu = apdu }) else Err AnotherService) ≡ Ok a → IsAcceptable s message a
@@ -40,20 +40,20 @@ accepted_is s message a took = by_parts (parts message) refl took
 
     by_opened : (title : List ℕ) (head : Head) (body : List ℕ) → (o : Result (List ℕ) UnprotectFault) → open_body s.policy (peer_use s title head.counter) body ≡ o
         → s.peer ≡ Some title → parts message ≡ Ok (head, body) → is_from head.title title ≡ true → head.control ≡ control_of s.policy → is_above s.accepted head.counter ≡ true
-        → of_service head o ≡ Ok a → IsAcceptable s message a
-    by_opened title head body (Ok apdu) opens peer read named control above e = by_service title head body apdu (is_of head.tag apdu) refl peer read named control above opens e
+        → of_service s.kind head o ≡ Ok a → IsAcceptable s message a
+    by_opened title head body (Ok apdu) opens peer read named control above e = by_service title head body apdu (is_of s.kind head.tag apdu) refl peer read named control above opens e
     by_opened title head body (Err f) opens peer read named control above e = absurd cc
 
     by_above : (title : List ℕ) (head : Head) (body : List ℕ) → (b : Bool) → is_above s.accepted head.counter ≡ b
         → s.peer ≡ Some title → parts message ≡ Ok (head, body) → is_from head.title title ≡ true → head.control ≡ control_of s.policy
-        → (if b then of_service head (open_body s.policy (peer_use s title head.counter) body) else Err OldCounter) ≡ Ok a → IsAcceptable s message a
+        → (if b then of_service s.kind head (open_body s.policy (peer_use s title head.counter) body) else Err OldCounter) ≡ Ok a → IsAcceptable s message a
     by_above title head body true above peer read named control e =
         by_opened title head body (open_body s.policy (peer_use s title head.counter) body) refl peer read named control above e
     by_above title head body false above peer read named control e = absurd cc
 
     by_control : (title : List ℕ) (head : Head) (body : List ℕ) → (b : Bool) → (head.control == control_of s.policy) ≡ b
         → s.peer ≡ Some title → parts message ≡ Ok (head, body) → is_from head.title title ≡ true
-        → (if b then (if is_above s.accepted head.counter then of_service head (open_body s.policy (peer_use s title head.counter) body) else Err OldCounter) else Err AnotherControl) ≡ Ok a → IsAcceptable s message a
+        → (if b then (if is_above s.accepted head.counter then of_service s.kind head (open_body s.policy (peer_use s title head.counter) body) else Err OldCounter) else Err AnotherControl) ≡ Ok a → IsAcceptable s message a
     by_control title head body true t peer read named e =
         let control : head.control ≡ control_of s.policy = grind (arith, nat_tests) in
         by_above title head body (is_above s.accepted head.counter) refl peer read named control e
@@ -61,7 +61,7 @@ accepted_is s message a took = by_parts (parts message) refl took
 
     by_named : (title : List ℕ) (head : Head) (body : List ℕ) → (b : Bool) → is_from head.title title ≡ b
         → s.peer ≡ Some title → parts message ≡ Ok (head, body)
-        → (if b then (if head.control == control_of s.policy then (if is_above s.accepted head.counter then of_service head (open_body s.policy (peer_use s title head.counter) body) else Err OldCounter) else Err AnotherControl) else Err AnotherTitle) ≡ Ok a → IsAcceptable s message a
+        → (if b then (if head.control == control_of s.policy then (if is_above s.accepted head.counter then of_service s.kind head (open_body s.policy (peer_use s title head.counter) body) else Err OldCounter) else Err AnotherControl) else Err AnotherTitle) ≡ Ok a → IsAcceptable s message a
     by_named title head body true named peer read e = by_control title head body (head.control == control_of s.policy) refl peer read named e
     by_named title head body false named peer read e = absurd cc
 
@@ -73,7 +73,7 @@ accepted_is s message a took = by_parts (parts message) refl took
     by_parts (Ok found) read e = by_peer found.0 found.1 s.peer refl read e
     by_parts (Err f) read e = absurd cc
 
--- what is acceptable is accepted
+-- an acceptable message is accepted
 acceptable_is : (s : SecurityState) (message : List ℕ) (a : AcceptedApdu) → IsAcceptable s message a → acceptance s message ≡ Ok a
 acceptable_is s message a ok =
     let p = ok.is in

@@ -6,11 +6,11 @@ use Rattle.std.proofs.lemmas.Nat.{be_bytes_4}
 use Rattle.std.proofs.lemmas.Bool.Decides.{nat_tests}
 use Rattle.dlms_security.specs.declared.form.Head.{Head}
 use Rattle.dlms_security.specs.declared.fault.UnprotectFault.TheVariants.{NotProtected}
-use Rattle.dlms_security.specs.Form.{is_glo, exactly, content, content_of, content_of_one, content_of_two, header, service, titled_parts, general, or_short, parts}
+use Rattle.dlms_security.specs.Form.{is_form_tag, is_general, exactly, content, content_of, content_of_one, content_of_two, header, service, titled_parts, general, or_short, parts}
 use Rattle.dlms_security.specs.Encoding.{IsLength, IsFront, IsEncoding, AreBytes, ReadExactly}
-use Rattle.dlms_security.proofs.FormLemmas.{exactly_back, by_two, by_one, header_back, general_is, parts_service}
+use Rattle.dlms_security.proofs.FormLemmas.{exactly_back, by_two, by_one, header_back, general_is, parts_service, parts_general}
 
--- ---- encoded, so read
+-- ---- an encoding is read
 
 content_any : (n : ℕ) (size inner : List ℕ) → n ≡ length inner → IsLength n size → content_of (size ++ inner) ≡ Some inner
 content_any n size inner e (inl one) =
@@ -27,15 +27,8 @@ header_of tag title head body t n fits =
     ∙ ap (λ (k : ℕ). Some (record { tag = k; title = title; control = head.control; counter = head.counter }, body)) (sym t)
     ∙ ap (λ (o : Option (List ℕ)). Some (record { tag = head.tag; title = o; control = head.control; counter = head.counter }, body)) (sym n)
 
-glo_is_other : (tag : ℕ) → is_glo tag ≡ true → (tag == 0xDB) ≡ false
-glo_is_other tag glo = by_test (tag == 0xDB) refl
-  where
-    by_test : (b : Bool) → (tag == 0xDB) ≡ b → (tag == 0xDB) ≡ false
-    by_test false t = t
-    by_test true t = absurd (
-        let is : tag ≡ 0xDB = grind (arith, nat_tests) in
-        let no : false ≡ true = ap is_glo (sym is) ∙ glo in
-        cc)
+form_is_other : (tag : ℕ) → is_form_tag tag ≡ true → is_general tag ≡ false
+form_is_other tag form = grind (arith, nat_tests)
 
 read_of : (message : List ℕ) (head : Head) (body : List ℕ) → IsEncoding message head body → parts message ≡ Ok (head, body)
 read_of message head body s = ap parts s.whole ∙ by_title head.title refl s.in_front
@@ -47,17 +40,17 @@ read_of message head body s = ap parts s.whole ∙ by_title head.title refl s.in
         ap (option_and_then (header head.tag None)) (content_any (length (content head.control head.counter body)) s.size (content head.control head.counter body) refl s.sized)
         ∙ header_of head.tag None head body refl t s.counter in
         ap (λ (l : List ℕ). parts (l ++ s.size ++ content head.control head.counter body)) front
-        ∙ parts_service head.tag rest (head, body) (glo_is_other head.tag glo) glo found
+        ∙ parts_service head.tag rest (head, body) (form_is_other head.tag glo) glo found
     by_title (Some title) t (eight, tag, front) =
         let rest = s.size ++ content head.control head.counter body in
-        let found : titled_parts title rest ≡ Some (head, body) =
-        ap (option_and_then (header 0xDB (Some title))) (content_any (length (content head.control head.counter body)) s.size (content head.control head.counter body) refl s.sized)
-        ∙ header_of 0xDB (Some title) head body tag t s.counter in
+        let found : titled_parts head.tag title rest ≡ Some (head, body) =
+        ap (option_and_then (header head.tag (Some title))) (content_any (length (content head.control head.counter body)) s.size (content head.control head.counter body) refl s.sized)
+        ∙ header_of head.tag (Some title) head body refl t s.counter in
         ap (λ (l : List ℕ). parts (l ++ s.size ++ content head.control head.counter body)) front
-        ∙ ap (λ (l : List ℕ). or_short (general (8 ∷ l))) (append_assoc title s.size (content head.control head.counter body))
-        ∙ ap or_short (general_is title rest eight ∙ found)
+        ∙ ap (λ (l : List ℕ). parts (head.tag ∷ 8 ∷ l)) (append_assoc title s.size (content head.control head.counter body))
+        ∙ parts_general head.tag (8 ∷ (title ++ rest)) (head, body) tag (general_is head.tag title rest eight ∙ found)
 
--- ---- read, so encoded
+-- ---- a message that is read is an encoding
 
 exactly_is : (n : ℕ) (rest inner : List ℕ) → exactly n rest ≡ Some inner → (n ≡ length inner) × (rest ≡ inner)
 exactly_is n rest inner e = by_test (n == length rest) refl
@@ -155,21 +148,22 @@ header_is tag title (a ∷ b ∷ c ∷ []) head body bytes e = absurd cc
 header_is tag title (a ∷ b ∷ c ∷ d ∷ []) head body bytes e = absurd cc
 header_is tag title (control ∷ a ∷ b ∷ c ∷ d ∷ rest) head body bytes e =
     let found : Head = record { tag = tag; title = title; control = control; counter = from_be_bytes w32 (a ∷ b ∷ c ∷ d ∷ []) } in
-    let both : Some (found, rest) ≡ Some (head, body) = e in
-    let pair : (found, rest) ≡ (head, body) = cc in
-    let same_head : found ≡ head = ap (λ (p : Head × List ℕ). p.0) pair in
-    let same_body : rest ≡ body = ap (λ (p : Head × List ℕ). p.1) pair in
     let a_byte : a < 256 = bytes 1 in
     let b_byte : b < 256 = bytes 2 in
     let c_byte : c < 256 = bytes 3 in
     let d_byte : d < 256 = bytes 4 in
+    let fits : from_be_bytes w32 (a ∷ b ∷ c ∷ d ∷ []) < 2 ^ 32 = omega arith in
+    let both : Some (found, rest) ≡ Some (head, body) = e in
+    let pair : (found, rest) ≡ (head, body) = cc in
+    let same_head : found ≡ head = ap (λ (p : Head × List ℕ). p.0) pair in
+    let same_body : rest ≡ body = ap (λ (p : Head × List ℕ). p.1) pair in
     let written : to_be_bytes w32 (from_be_bytes w32 (a ∷ b ∷ c ∷ d ∷ [])) ≡ a ∷ b ∷ c ∷ d ∷ [] =
     be_bytes_4 (a ∷ b ∷ c ∷ d ∷ []) (from_be_bytes w32 (a ∷ b ∷ c ∷ d ∷ [])) refl (four_bytes a b c d a_byte b_byte c_byte d_byte) refl in
     subst (λ (h : Head). Headed tag title (control ∷ a ∷ b ∷ c ∷ d ∷ rest) h body) same_head
     (subst (λ (l : List ℕ). Headed tag title (control ∷ a ∷ b ∷ c ∷ d ∷ rest) found l) same_body (record {
       same_tag = refl;
       same_title = refl;
-      fits = omega arith;
+      fits = fits;
       whole = ap (λ (l : List ℕ). control ∷ (l ++ rest)) (sym written);
     }))
 
@@ -201,27 +195,27 @@ from_short : (o : Option (Head × List ℕ)) (p : Head × List ℕ) → or_short
 from_short None p e = absurd cc
 from_short (Some q) p e = (let same : q ≡ p = cc in ap (λ (x : Head × List ℕ). Some x) same)
 
--- general-glo-ciphering, after its tag
-record Titled (octets : List ℕ) (head : Head) (body : List ℕ) : Type 0 where
+-- a general ciphered form, after its tag
+record Titled (tag : ℕ) (octets : List ℕ) (head : Head) (body : List ℕ) : Type 0 where
   title : List ℕ
   rest : List ℕ
   eight : length title ≡ 8
   whole : octets ≡ 8 ∷ (title ++ rest)
-  counted : Counted 0xDB (Some title) rest head body
+  counted : Counted tag (Some title) rest head body
 
-general_found : (octets : List ℕ) (head : Head) (body : List ℕ) → AreBytes octets → general octets ≡ Some (head, body) → Titled octets head body
-general_found ([]) head body bytes e = absurd cc
-general_found (n ∷ []) head body bytes e = absurd cc
-general_found (n ∷ a ∷ []) head body bytes e = absurd cc
-general_found (n ∷ a ∷ b ∷ []) head body bytes e = absurd cc
-general_found (n ∷ a ∷ b ∷ c ∷ []) head body bytes e = absurd cc
-general_found (n ∷ a ∷ b ∷ c ∷ d ∷ []) head body bytes e = absurd cc
-general_found (n ∷ a ∷ b ∷ c ∷ d ∷ f ∷ []) head body bytes e = absurd cc
-general_found (n ∷ a ∷ b ∷ c ∷ d ∷ f ∷ g ∷ []) head body bytes e = absurd cc
-general_found (n ∷ a ∷ b ∷ c ∷ d ∷ f ∷ g ∷ h ∷ []) head body bytes e = absurd cc
-general_found (n ∷ a ∷ b ∷ c ∷ d ∷ f ∷ g ∷ h ∷ i ∷ rest) head body bytes e = by_eight (n == 8) refl e
+general_found : (tag : ℕ) (octets : List ℕ) (head : Head) (body : List ℕ) → AreBytes octets → general tag octets ≡ Some (head, body) → Titled tag octets head body
+general_found tag ([]) head body bytes e = absurd cc
+general_found tag (n ∷ []) head body bytes e = absurd cc
+general_found tag (n ∷ a ∷ []) head body bytes e = absurd cc
+general_found tag (n ∷ a ∷ b ∷ []) head body bytes e = absurd cc
+general_found tag (n ∷ a ∷ b ∷ c ∷ []) head body bytes e = absurd cc
+general_found tag (n ∷ a ∷ b ∷ c ∷ d ∷ []) head body bytes e = absurd cc
+general_found tag (n ∷ a ∷ b ∷ c ∷ d ∷ f ∷ []) head body bytes e = absurd cc
+general_found tag (n ∷ a ∷ b ∷ c ∷ d ∷ f ∷ g ∷ []) head body bytes e = absurd cc
+general_found tag (n ∷ a ∷ b ∷ c ∷ d ∷ f ∷ g ∷ h ∷ []) head body bytes e = absurd cc
+general_found tag (n ∷ a ∷ b ∷ c ∷ d ∷ f ∷ g ∷ h ∷ i ∷ rest) head body bytes e = by_eight (n == 8) refl e
   where
-    by_eight : (t : Bool) → (n == 8) ≡ t → (if t then titled_parts (a ∷ b ∷ c ∷ d ∷ f ∷ g ∷ h ∷ i ∷ []) rest else None) ≡ Some (head, body) → Titled (n ∷ a ∷ b ∷ c ∷ d ∷ f ∷ g ∷ h ∷ i ∷ rest) head body
+    by_eight : (t : Bool) → (n == 8) ≡ t → (if t then titled_parts tag (a ∷ b ∷ c ∷ d ∷ f ∷ g ∷ h ∷ i ∷ []) rest else None) ≡ Some (head, body) → Titled tag (n ∷ a ∷ b ∷ c ∷ d ∷ f ∷ g ∷ h ∷ i ∷ rest) head body
     by_eight true t h2 =
         let is : n ≡ 8 = grind (arith, nat_tests) in
         record {
@@ -229,7 +223,7 @@ general_found (n ∷ a ∷ b ∷ c ∷ d ∷ f ∷ g ∷ h ∷ i ∷ rest) head 
           rest = rest;
           eight = refl;
           whole = ap (λ (k : ℕ). k ∷ a ∷ b ∷ c ∷ d ∷ f ∷ g ∷ h ∷ i ∷ rest) is;
-          counted = counted_is 0xDB (Some (a ∷ b ∷ c ∷ d ∷ f ∷ g ∷ h ∷ i ∷ [])) rest head body (λ k. bytes (suc (suc (suc (suc (suc (suc (suc (suc (suc k)))))))))) h2;
+          counted = counted_is tag (Some (a ∷ b ∷ c ∷ d ∷ f ∷ g ∷ h ∷ i ∷ [])) rest head body (λ k. bytes (suc (suc (suc (suc (suc (suc (suc (suc (suc k)))))))))) h2;
         }
     by_eight false t h2 = absurd cc
 
@@ -251,24 +245,23 @@ encoding_of message front rest inner tag title head body in_front whole sized he
 
 encoding_is : (message : List ℕ) (head : Head) (body : List ℕ) → AreBytes message → parts message ≡ Ok (head, body) → IsEncoding message head body
 encoding_is [] head body bytes e = absurd cc
-encoding_is (tag ∷ rest) head body bytes e = by_general (tag == 0xDB) refl e
+encoding_is (tag ∷ rest) head body bytes e = by_general (is_general tag) refl e
   where
     tail : AreBytes rest
     tail i = bytes (suc i)
 
-    by_glo : (b : Bool) → is_glo tag ≡ b → (if b then or_short (service tag rest) else Err NotProtected) ≡ Ok (head, body) → IsEncoding (tag ∷ rest) head body
-    by_glo true t h =
+    by_form : (b : Bool) → is_form_tag tag ≡ b → (if b then or_short (service tag rest) else Err NotProtected) ≡ Ok (head, body) → IsEncoding (tag ∷ rest) head body
+    by_form true t h =
         let c = counted_is tag None rest head body tail (from_short (service tag rest) (head, body) h) in
         encoding_of (tag ∷ rest) (tag ∷ []) rest c.inner tag None head body (t, refl) refl c.sized c.headed
-    by_glo false t h = absurd cc
+    by_form false t h = absurd cc
 
-    by_general : (b : Bool) → (tag == 0xDB) ≡ b → (if b then or_short (general rest) else if is_glo tag then or_short (service tag rest) else Err NotProtected) ≡ Ok (head, body) → IsEncoding (tag ∷ rest) head body
+    by_general : (b : Bool) → is_general tag ≡ b → (if b then or_short (general tag rest) else if is_form_tag tag then or_short (service tag rest) else Err NotProtected) ≡ Ok (head, body) → IsEncoding (tag ∷ rest) head body
     by_general true t h =
-        let is : tag ≡ 0xDB = grind (arith, nat_tests) in
-        let g = general_found rest head body tail (from_short (general rest) (head, body) h) in
-        let whole : tag ∷ rest ≡ (0xDB ∷ 8 ∷ g.title) ++ g.rest = ap (λ (k : ℕ). k ∷ rest) is ∙ ap (λ (l : List ℕ). 0xDB ∷ l) g.whole in
-        encoding_of (tag ∷ rest) (0xDB ∷ 8 ∷ g.title) g.rest g.counted.inner 0xDB (Some g.title) head body (g.eight, refl, refl) whole g.counted.sized g.counted.headed
-    by_general false t h = by_glo (is_glo tag) refl h
+        let g = general_found tag rest head body tail (from_short (general tag rest) (head, body) h) in
+        let whole : tag ∷ rest ≡ (tag ∷ 8 ∷ g.title) ++ g.rest = ap (λ (l : List ℕ). tag ∷ l) g.whole in
+        encoding_of (tag ∷ rest) (tag ∷ 8 ∷ g.title) g.rest g.counted.inner tag (Some g.title) head body (g.eight, t, refl) whole g.counted.sized g.counted.headed
+    by_general false t h = by_form (is_form_tag tag) refl h
 
 pub read_exactly : ReadExactly
 read_exactly message head body bytes = (encoding_is message head body bytes, read_of message head body)

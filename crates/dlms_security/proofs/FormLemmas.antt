@@ -3,7 +3,9 @@ use Rattle.std.proofs.Common.{arith, refl, ap, ◌∙◌, sym, subst, ◌≡◌,
 use Rattle.std.proofs.lemmas.Nat.{from_be_bytes-to_be_bytes_4}
 use Rattle.std.proofs.lemmas.Bool.Decides.{nat_tests}
 use Rattle.dlms_security.specs.declared.form.Head.{Head}
-use Rattle.dlms_security.specs.Form.{glo_of, is_glo, length_octets, exactly, content, content_of, header, service, titled_parts, general, or_short, message_of, parts}
+use Rattle.dlms_security.specs.declared.kind.KeyKind.{KeyKind}
+use Rattle.dlms_security.specs.declared.kind.KeyKind.TheVariants.{Global, Dedicated}
+use Rattle.dlms_security.specs.Form.{form_tag, is_form_tag, general_tag, is_general, length_octets, exactly, content, content_of, header, service, titled_parts, general, or_short, message_of, parts}
 use Rattle.dlms_security.specs.declared.fault.UnprotectFault.TheVariants.{NotProtected}
 
 pub exactly_back : (n : ℕ) (xs : List ℕ) → n ≡ length xs → exactly n xs ≡ Some xs
@@ -46,35 +48,48 @@ service_is tag control counter body fits =
     let inner = content control counter body in
     rw (content_back (length inner) inner refl) (header_back tag None control counter body fits)
 
-pub parts_service : (tag : ℕ) (rest : List ℕ) (found : Head × List ℕ) → (tag == 0xDB) ≡ false → is_glo tag ≡ true → service tag rest ≡ Some found → parts (tag ∷ rest) ≡ Ok found
+pub parts_service : (tag : ℕ) (rest : List ℕ) (found : Head × List ℕ) → is_general tag ≡ false → is_form_tag tag ≡ true → service tag rest ≡ Some found
+    → parts (tag ∷ rest) ≡ Ok found
 parts_service tag rest found other glo e =
-    ap (λ (b : Bool). if b then or_short (general rest) else if is_glo tag then or_short (service tag rest) else Err NotProtected) other
+    ap (λ (b : Bool). if b then or_short (general tag rest) else if is_form_tag tag then or_short (service tag rest) else Err NotProtected) other
     ∙ ap (λ (b : Bool). if b then or_short (service tag rest) else Err NotProtected) glo
     ∙ ap or_short e
 
-pub service_back : (tag control counter : ℕ) (body : List ℕ) → counter < 2 ^ 32 → (tag == 0xDB) ≡ false → is_glo tag ≡ true
+pub service_back : (tag control counter : ℕ) (body : List ℕ) → counter < 2 ^ 32 → is_general tag ≡ false → is_form_tag tag ≡ true
     → parts (message_of (tag ∷ []) (content control counter body)) ≡ Ok (record { tag = tag; title = None; control = control; counter = counter }, body)
 service_back tag control counter body fits other glo =
     let inner = content control counter body in
     parts_service tag (length_octets (length inner) ++ inner) (record { tag = tag; title = None; control = control; counter = counter }, body) other glo (service_is tag control counter body fits)
 
-titled_back : (title : List ℕ) (control counter : ℕ) (body : List ℕ) → counter < 2 ^ 32
-    → titled_parts title (length_octets (length (content control counter body)) ++ content control counter body) ≡ Some (record { tag = 0xDB; title = Some title; control = control; counter = counter }, body)
-titled_back title control counter body fits =
+titled_back : (tag : ℕ) (title : List ℕ) (control counter : ℕ) (body : List ℕ) → counter < 2 ^ 32
+    → titled_parts tag title (length_octets (length (content control counter body)) ++ content control counter body) ≡ Some (record { tag = tag; title = Some title; control = control; counter = counter }, body)
+titled_back tag title control counter body fits =
     let inner = content control counter body in
-    rw (content_back (length inner) inner refl) (header_back 0xDB (Some title) control counter body fits)
+    rw (content_back (length inner) inner refl) (header_back tag (Some title) control counter body fits)
 
-pub general_is : (own rest : List ℕ) → length own ≡ 8 → general (8 ∷ (own ++ rest)) ≡ titled_parts own rest
-general_is (a ∷ b ∷ c ∷ d ∷ e ∷ f ∷ g ∷ h ∷ []) rest eight = refl
-general_is own rest eight = absurd (omega arith)
+pub general_is : (tag : ℕ) (own rest : List ℕ) → length own ≡ 8 → general tag (8 ∷ (own ++ rest)) ≡ titled_parts tag own rest
+general_is tag (a ∷ b ∷ c ∷ d ∷ e ∷ f ∷ g ∷ h ∷ []) rest eight = refl
+general_is tag own rest eight = absurd (omega arith)
 
-pub general_back : (own : List ℕ) (control counter : ℕ) (body : List ℕ) → length own ≡ 8 → counter < 2 ^ 32
-    → parts (message_of (0xDB ∷ 8 ∷ own) (content control counter body)) ≡ Ok (record { tag = 0xDB; title = Some own; control = control; counter = counter }, body)
-general_back own control counter body eight fits =
+pub parts_general : (tag : ℕ) (rest : List ℕ) (found : Head × List ℕ) → is_general tag ≡ true → general tag rest ≡ Some found → parts (tag ∷ rest) ≡ Ok found
+parts_general tag rest found is e =
+    ap (λ (b : Bool). if b then or_short (general tag rest) else if is_form_tag tag then or_short (service tag rest) else Err NotProtected) is ∙ ap or_short e
+
+pub general_back : (tag : ℕ) (own : List ℕ) (control counter : ℕ) (body : List ℕ) → is_general tag ≡ true → length own ≡ 8 → counter < 2 ^ 32
+    → parts (message_of (tag ∷ 8 ∷ own) (content control counter body)) ≡ Ok (record { tag = tag; title = Some own; control = control; counter = counter }, body)
+general_back tag own control counter body is eight fits =
     let inner = content control counter body in
     let front = length_octets (length inner) in
-    ap (λ (l : List ℕ). or_short (general (8 ∷ l))) (append_assoc own front inner)
-    ∙ ap or_short (general_is own (front ++ inner) eight ∙ titled_back own control counter body fits)
+    ap (λ (l : List ℕ). parts (tag ∷ 8 ∷ l)) (append_assoc own front inner)
+    ∙ parts_general tag (8 ∷ (own ++ (front ++ inner))) (record { tag = tag; title = Some own; control = control; counter = counter }, body) is
+    (general_is tag own (front ++ inner) eight ∙ titled_back tag own control counter body fits)
 
-pub glo_found : (tag glo : ℕ) → glo_of tag ≡ Some glo → ((glo == 0xDB) ≡ false) × (is_glo glo ≡ true)
-glo_found tag glo e = (grind (arith, nat_tests), grind (arith, nat_tests))
+pub tag_is_general : (kind : KeyKind) → is_general (general_tag kind) ≡ true
+tag_is_general Global = refl
+tag_is_general Dedicated = refl
+
+-- the tag of a service's ciphered form is read as one, and is not a general one
+pub form_found : (kind : KeyKind) (tag form : ℕ) → form_tag kind tag ≡ Some form
+    → (is_general form ≡ false) × (is_form_tag form ≡ true) × ((form == general_tag kind) ≡ false)
+form_found Global tag form e = (grind (arith, nat_tests), grind (arith, nat_tests), grind (arith, nat_tests))
+form_found Dedicated tag form e = (grind (arith, nat_tests), grind (arith, nat_tests), grind (arith, nat_tests))

@@ -1,4 +1,4 @@
--- Lengths of texts and tags; bodies opened.
+-- Lengths of texts and tags; opening bodies.
 use Rattle.std.proofs.lemmas.Bool.Decides.{nat_tests}
 use Rattle.std.proofs.Common.{arith, refl, ap, ◌∙◌, sym, ◌≡◌, ◌-◌, ◌≤◌, nat_lt, ℕ, Bool, true, false, List, ◌++◌, length, take, Ok, Err, length-append, if◌then◌else◌, subst}
 use Rattle.std.specs.Str.{bytes_eq}
@@ -49,7 +49,7 @@ tag_after xs tag e = grind (arith, common_steps)
 long_enough : (xs tag : List ℕ) → length tag ≡ 12 → nat_lt (length (xs ++ tag)) 12 ≡ false
 long_enough xs tag e = below_false (length (xs ++ tag)) 12 (omega (arith, length-append xs tag))
 
--- a body is opened as the APDU that it was made of
+-- the body of an APDU opens as that APDU
 pub opened_back : (policy : Policy) (u : Use) (apdu : List ℕ) → length apdu ≤ 1024 → open_body policy u (body_of policy u apdu) ≡ Ok apdu
 opened_back Authenticated u apdu short =
     let tag = signature_of u apdu in
@@ -65,7 +65,7 @@ opened_back AuthenticatedEncrypted u apdu short =
     rw (long_enough text tag twelve, text_before text tag twelve, tag_after text tag twelve)
     (sealed_ok u text tag (omega (arith, text_long u apdu)) refl ∙ ap (λ (l : List ℕ). Ok l) (text_back u apdu))
 
--- ---- a body that is opened is the body of its APDU
+-- ---- a body that opens is the body of its APDU
 
 signed_is : (u : Use) (text tag apdu : List ℕ) → signed_apdu u text tag ≡ Ok apdu → (apdu ≡ text) × (tag ≡ signature_of u text) × (length text ≤ 1024)
 signed_is u text tag apdu e = by_long (nat_lt 1024 (length text)) refl

@@ -7,7 +7,9 @@ use Rattle.dlms_cipher.specs.Dlms.{answer_of}
 use Rattle.std.proofs.lemmas.Nat.{from_be_bytes-to_be_bytes_4}
 use Rattle.std.proofs.lemmas.Bool.Decides.{nat_tests}
 use Rattle.std.proofs.lemmas.List.Elements.{All-cons, All-nil}
+use Rattle.dlms_security.specs.declared.kind.KeyKind.{KeyKind}
 use Rattle.dlms_security.specs.declared.form.Form.{Form}
+use Rattle.dlms_security.specs.Form.{is_of}
 use Rattle.dlms_security.specs.declared.policy.Policy.{Policy}
 use Rattle.dlms_security.specs.declared.fault.ProtectFault.{ProtectFault}
 use Rattle.dlms_security.specs.declared.stored.StoredState.{StoredState}
@@ -38,10 +40,11 @@ rises_at low (c ∷ d ∷ cs) h (suc k) l = rises_at (c + 1) (d ∷ cs) h.1 k (o
 increasing : (low : ℕ) (cs : List ℕ) → Rises low cs → IsStrictlyIncreasing cs
 increasing low cs h k l = subst (λ (n : ℕ). get_or cs k 0 < get_or cs n 0) (sym (add-one k)) (rises_at low cs h k (omega arith))
 
--- ---- what stays
+-- ---- parts of the state that do not change
 
--- own title, keys and policy never change
+-- the kind of key, own title, keys and policy never change
 record SameKeys (s t : SecurityState) : Type 0 where
+  kind : t.kind ≡ s.kind
   own : t.own ≡ s.own
   encryption : t.encryption ≡ s.encryption
   authentication : t.authentication ≡ s.authentication
@@ -49,24 +52,25 @@ record SameKeys (s t : SecurityState) : Type 0 where
 
 joined_keys : (s t u : SecurityState) → SameKeys s t → SameKeys t u → SameKeys s u
 joined_keys s t u a b = record {
+  kind = b.kind ∙ a.kind;
   own = b.own ∙ a.own;
   encryption = b.encryption ∙ a.encryption;
   authentication = b.authentication ∙ a.authentication;
   policy = b.policy ∙ a.policy;
 }
 
--- what one event keeps
+-- one event keeps these facts
 record Keeps (s t : SecurityState) : Type 0 where
   keys : SameKeys s t
   state : IsState s → IsState t
   low : IsState s → s.next ≤ t.next
 
 keeps_all : (s : SecurityState) → Keeps s s
-keeps_all s = record { keys = record { own = refl; encryption = refl; authentication = refl; policy = refl }; state = λ i. i; low = λ i. omega arith }
+keeps_all s = record { keys = record { kind = refl; own = refl; encryption = refl; authentication = refl; policy = refl }; state = λ i. i; low = λ i. omega arith }
 
 keeps_protect : (s : SecurityState) (form : Form) (apdu : List ℕ) (r : Result (List ℕ) ProtectFault) → message_for s form apdu ≡ r → Keeps s (after_protect s r)
 keeps_protect s form apdu (Ok message) e = record {
-  keys = record { own = refl; encryption = refl; authentication = refl; policy = refl };
+  keys = record { kind = refl; own = refl; encryption = refl; authentication = refl; policy = refl };
   state = λ i. (let below : s.next < s.reserved = (goes_out s form apdu message i e).reserved in record { title = i.title; below = omega arith; fits = i.fits });
   low = λ i. omega arith;
 }
@@ -74,7 +78,7 @@ keeps_protect s form apdu (Err f) e = keeps_all s
 
 keeps_answer : (s : SecurityState) (challenge : List ℕ) (r : Result (List ℕ) ProtectFault) → answer_for s challenge ≡ r → Keeps s (after_protect s r)
 keeps_answer s challenge (Ok answer) e = record {
-  keys = record { own = refl; encryption = refl; authentication = refl; policy = refl };
+  keys = record { kind = refl; own = refl; encryption = refl; authentication = refl; policy = refl };
   state = λ i. (let below : s.next < s.reserved = (answer_out s challenge answer e).1 in record { title = i.title; below = omega arith; fits = i.fits });
   low = λ i. omega arith;
 }
@@ -82,7 +86,7 @@ keeps_answer s challenge (Err f) e = keeps_all s
 
 keeps_unprotect : (s : SecurityState) (r : Result AcceptedApdu UnprotectFault) → Keeps s (after_unprotect s r)
 keeps_unprotect s (Ok a) = record {
-  keys = record { own = refl; encryption = refl; authentication = refl; policy = refl };
+  keys = record { kind = refl; own = refl; encryption = refl; authentication = refl; policy = refl };
   state = λ i. record { title = i.title; below = i.below; fits = i.fits };
   low = λ i. omega arith;
 }
@@ -90,7 +94,7 @@ keeps_unprotect s (Err f) = keeps_all s
 
 keeps_reserve : (s : SecurityState) (upto : ℕ) → upto < 2 ^ 32 → (b : Bool) → nat_lt s.reserved upto ≡ b → Keeps s (if b then record s { reserved = upto } else s)
 keeps_reserve s upto fits true t = record {
-  keys = record { own = refl; encryption = refl; authentication = refl; policy = refl };
+  keys = record { kind = refl; own = refl; encryption = refl; authentication = refl; policy = refl };
   state = λ i. (let below : s.next ≤ s.reserved = i.below in let above : s.reserved < upto = grind (arith, nat_tests) in record { title = i.title; below = omega arith; fits = fits });
   low = λ i. omega arith;
 }
@@ -99,7 +103,7 @@ keeps_reserve s upto fits false t = keeps_all s
 keeps_title : (s : SecurityState) (title : List ℕ) (b : Bool) → Keeps s (if b then s else record s { peer = Some title })
 keeps_title s title true = keeps_all s
 keeps_title s title false = record {
-  keys = record { own = refl; encryption = refl; authentication = refl; policy = refl };
+  keys = record { kind = refl; own = refl; encryption = refl; authentication = refl; policy = refl };
   state = λ i. record { title = i.title; below = i.below; fits = i.fits };
   low = λ i. omega arith;
 }
@@ -110,7 +114,7 @@ keeps_learn s (Some known) title = keeps_all s
 
 keeps_stop : (s : SecurityState) (stored : StoredState) → s.reserved ≤ stored.reserved → stored.reserved < 2 ^ 32 → Keeps s (after_stop s stored)
 keeps_stop s stored l fits = record {
-  keys = record { own = refl; encryption = refl; authentication = refl; policy = refl };
+  keys = record { kind = refl; own = refl; encryption = refl; authentication = refl; policy = refl };
   state = λ i. record { title = i.title; below = omega arith; fits = fits };
   low = λ i. (let below : s.next ≤ s.reserved = i.below in omega arith);
 }
@@ -123,7 +127,7 @@ keeps s t (Learns title) step = subst (λ (x : SecurityState). Keeps s x) (sym s
 keeps s t (Answers challenge result) step = subst (λ (x : SecurityState). Keeps s x) (sym step.1) (keeps_answer s challenge (answer_for s challenge) refl)
 keeps s t (Stops stored) step = subst (λ (x : SecurityState). Keeps s x) (sym step.2) (keeps_stop s stored step.0 step.1)
 
--- what is protected under the keys of one state is so under those of another one with the same
+-- a message protected under one state is protected under every state with the same keys
 moved : (base s : SecurityState) (title : List ℕ) (counter : ℕ) (x : Exchange) → SameKeys base s → IsProtected s title counter x → IsProtected base title counter x
 moved base s title counter x same p = record {
   head = p.head;
@@ -132,7 +136,7 @@ moved base s title counter x same p = record {
   control = p.control ∙ ap control_of same.policy;
   counted = p.counted;
   named = p.named;
-  service = p.service;
+  service = ap (λ (k : KeyKind). is_of k p.head.tag x.apdu) (sym same.kind) ∙ p.service;
   exact =
       p.exact
       ∙ ap (λ (q : Policy). body_of q (record { encryption = s.encryption; authentication = s.authentication; title = title; counter = counter }) x.apdu) same.policy
@@ -144,13 +148,13 @@ moved base s title counter x same p = record {
 counter_is : (s : SecurityState) (title : List ℕ) (counter : ℕ) (x : Exchange) → IsProtected s title counter x → counter_in x ≡ counter
 counter_is s title counter x p = ap counter_of p.read ∙ p.counted
 
--- ---- what goes out
+-- ---- messages and answers that go out
 
 answer_counter_is : (encryption authentication title : List ℕ) (counter : ℕ) (challenge : List ℕ) → counter < 2 ^ 32
     → answer_counter (answer_of encryption authentication title counter challenge) ≡ counter
 answer_counter_is encryption authentication title counter challenge fits = from_be_bytes-to_be_bytes_4 counter fits
 
--- the counters rise, and each message is the protected form of its APDU under the keys of a state with the same
+-- the counters rise, and each message is the protected form of its APDU under the same keys
 record GoOut (base s : SecurityState) (out : List Exchange) (counters : List ℕ) : Type 0 where
   rise : Rises s.next counters
   are : All (λ x. IsProtected base base.own (counter_in x) x) out
@@ -210,7 +214,7 @@ never_twice s t events state steps = increasing s.next (used_counters events) (g
 pub never_in_the_clear : NeverInTheClear
 never_in_the_clear s t events state steps = (go_out s s t events (keeps_all s).keys state steps).are
 
--- ---- what is accepted
+-- ---- messages that are accepted
 
 abbrev low_of : Option ℕ → ℕ
 low_of None = 0
@@ -229,7 +233,7 @@ all_first P e es all = all 0 e (omega arith)
 all_rest : (P : Event → Type 0) (e : Event) (es : List Event) → All P (e ∷ es) → All P es
 all_rest P e es all = λ k d l. all (suc k) d (omega arith)
 
--- an event that is no stop and accepts nothing
+-- an event that is not a stop and accepts nothing
 record Stays (s t : SecurityState) : Type 0 where
   accepted : t.accepted ≡ s.accepted
   peer : (title : List ℕ) → s.peer ≡ Some title → t.peer ≡ Some title

@@ -1,7 +1,7 @@
 -- The encoding of a ciphered form, byte by byte (the ASN.1 of the ciphered APDUs in Green Book 9.5; lengths in A-XDR, IEC 61334-6).
 use Rattle.std.specs.Prelude.{◌≡◌, ◌↔◌, ℕ, ◌+◌, ◌*◌, ◌^◌, ◌<◌, ◌⊎◌, true, List, [], ◌∷◌, ◌++◌, length, slice_index, Option, Some, None, Ok}
 use Rattle.dlms_security.specs.declared.form.Head.{Head}
-use Rattle.dlms_security.specs.Form.{is_glo, content, parts}
+use Rattle.dlms_security.specs.Form.{is_form_tag, is_general, content, parts}
 
 -- a length below 128 in one byte
 abbrev pub InOne : ℕ → List ℕ → Type 0
@@ -24,10 +24,11 @@ pub record InThree (n : ℕ) (size : List ℕ) : Type 0 where
 abbrev pub IsLength : ℕ → List ℕ → Type 0
 IsLength n size = InOne n size ⊎ InTwo n size ⊎ InThree n size
 
--- the start of a message: the tag of a service's ciphered form, or the tag of general-glo-ciphering and a title of eight bytes
+-- the start of a message: the tag of a service's ciphered form; or the tag of general-glo-ciphering or general-ded-ciphering, and a
+-- title of eight bytes
 abbrev pub IsFront : ℕ → Option (List ℕ) → List ℕ → Type 0
-IsFront tag None front = (is_glo tag ≡ true) × (front ≡ tag ∷ [])
-IsFront tag (Some title) front = (length title ≡ 8) × (tag ≡ 0xDB) × (front ≡ 0xDB ∷ 8 ∷ title)
+IsFront tag None front = (is_form_tag tag ≡ true) × (front ≡ tag ∷ [])
+IsFront tag (Some title) front = (length title ≡ 8) × (is_general tag ≡ true) × (front ≡ tag ∷ 8 ∷ title)
 
 -- the message encodes this header and this body
 pub record IsEncoding (message : List ℕ) (head : Head) (body : List ℕ) : Type 0 where

@@ -1,7 +1,10 @@
--- The ciphered forms of an APDU (IEC 62056-5-3; Green Book 9.2.7.2 and 9.5): tag; in general-glo-ciphering the sender's system title;
--- length in A-XDR; security header, which is the security control byte and the invocation counter; protected body.
+-- The ciphered forms of an APDU (IEC 62056-5-3; Green Book 9.2.7.2 and 9.5): tag; in general-glo-ciphering and general-ded-ciphering
+-- the sender's system title; length in A-XDR; security header, which is the security control byte and the invocation counter;
+-- protected body.
 use Rattle.std.specs.Prelude.{ℕ, ◌+◌, ◌*◌, ◌/◌, ◌%◌, ◌==◌, ◌||◌, nat_lt, if◌then◌else◌, Bool, true, false, List, [], ◌∷◌, ◌++◌, length, Option, Some, None, Result, Ok, Err, option_map, option_and_then}
 use Rattle.std.specs.Int.{w32, to_be_bytes, from_be_bytes}
+use Rattle.dlms_security.specs.declared.kind.KeyKind.{KeyKind}
+use Rattle.dlms_security.specs.declared.kind.KeyKind.TheVariants.{Global, Dedicated}
 use Rattle.dlms_security.specs.declared.form.Form.{Form}
 use Rattle.dlms_security.specs.declared.form.Form.TheVariants.{Service, General}
 use Rattle.dlms_security.specs.declared.form.Head.{Head}
@@ -18,25 +21,50 @@ is_initiate tag = (tag == 0x01) || ((tag == 0x08) || (tag == 0x0E))
 abbrev pub is_service : ℕ → Bool
 is_service tag = (tag == 0xC0) || ((tag == 0xC1) || ((tag == 0xC2) || ((tag == 0xC3) || ((tag == 0xC4) || ((tag == 0xC5) || (tag == 0xC7))))))
 
--- the tag of the ciphered form of the APDUs with this tag, if there is one
-abbrev pub glo_of : ℕ → Option ℕ
-glo_of tag = if is_initiate tag then Some (tag + 0x20) else if is_service tag then Some (tag + 8) else None
+-- the tag of the ciphered form of the APDUs with this tag, if there is one: glo- or ded-
+abbrev pub form_tag : KeyKind → ℕ → Option ℕ
+form_tag Global tag = if is_initiate tag then Some (tag + 0x20) else if is_service tag then Some (tag + 8) else None
+form_tag Dedicated tag = if is_service tag then Some (tag + 0x10) else None
 
--- the tags of all these ciphered forms
+-- the tags of the glo- forms, and of the ded- forms
 abbrev pub is_glo : ℕ → Bool
-is_glo tag = (tag == 0x21) || ((tag == 0x28) || ((tag == 0x2E) || ((tag == 0xC8) || ((tag == 0xC9) || ((tag == 0xCA) || ((tag == 0xCB) || ((tag == 0xCC) || ((tag == 0xCD) || (tag == 0xCF)))))))))
+is_glo tag =
+    (tag == 0x21) || ((tag == 0x28) || ((tag == 0x2E) || ((tag == 0xC8) || ((tag == 0xC9) || ((tag == 0xCA)
+    || ((tag == 0xCB) || ((tag == 0xCC) || ((tag == 0xCD) || (tag == 0xCF)))))))))
+
+abbrev pub is_ded : ℕ → Bool
+is_ded tag = (tag == 0xD0) || ((tag == 0xD1) || ((tag == 0xD2) || ((tag == 0xD3) || ((tag == 0xD4) || ((tag == 0xD5) || (tag == 0xD7))))))
+
+abbrev pub is_form_tag : ℕ → Bool
+is_form_tag tag = is_glo tag || is_ded tag
+
+-- the tag of general-glo-ciphering or general-ded-ciphering
+abbrev pub general_tag : KeyKind → ℕ
+general_tag Global = 0xDB
+general_tag Dedicated = 0xDC
+
+abbrev pub is_general : ℕ → Bool
+is_general tag = (tag == 0xDB) || (tag == 0xDC)
+
+-- the kind of key that a message with this tag is protected by, if it is protected
+abbrev pub kind_of_tag : ℕ → Option KeyKind
+kind_of_tag tag = if (tag == 0xDB) || is_glo tag then Some Global else if (tag == 0xDC) || is_ded tag then Some Dedicated else None
+
+abbrev pub kind_of : List ℕ → Option KeyKind
+kind_of [] = None
+kind_of (tag ∷ rest) = kind_of_tag tag
 
 abbrev pub is_some_of : ℕ → Option ℕ → Bool
 is_some_of tag None = false
 is_some_of tag (Some glo) = glo == tag
 
-abbrev pub begins_as : ℕ → List ℕ → Bool
-begins_as tag [] = false
-begins_as tag (first ∷ rest) = is_some_of tag (glo_of first)
+abbrev pub begins_as : KeyKind → ℕ → List ℕ → Bool
+begins_as kind tag [] = false
+begins_as kind tag (first ∷ rest) = is_some_of tag (form_tag kind first)
 
--- a message with this tag may contain the APDU: general-glo-ciphering any, and the others those of their service
-abbrev pub is_of : ℕ → List ℕ → Bool
-is_of tag apdu = if tag == 0xDB then true else begins_as tag apdu
+-- A message with this tag may contain the APDU under this kind of key: a general one any APDU, the others those of their service.
+abbrev pub is_of : KeyKind → ℕ → List ℕ → Bool
+is_of kind tag apdu = if tag == general_tag kind then true else begins_as kind tag apdu
 
 -- ---- writing
 
@@ -48,13 +76,13 @@ length_octets n =
     else 0x82 ∷ n / 256 ∷ n % 256 ∷ []
 
 -- the start of a message, in front of the length
-abbrev pub service_front : List ℕ → Option (List ℕ)
-service_front [] = None
-service_front (first ∷ rest) = option_map (λ glo. glo ∷ []) (glo_of first)
+abbrev pub service_front : KeyKind → List ℕ → Option (List ℕ)
+service_front kind [] = None
+service_front kind (first ∷ rest) = option_map (λ tag. tag ∷ []) (form_tag kind first)
 
-abbrev pub front_of : Form → List ℕ → List ℕ → Option (List ℕ)
-front_of Service title apdu = service_front apdu
-front_of General title apdu = Some (0xDB ∷ 8 ∷ title)
+abbrev pub front_of : KeyKind → Form → List ℕ → List ℕ → Option (List ℕ)
+front_of kind Service title apdu = service_front kind apdu
+front_of kind General title apdu = Some (general_tag kind ∷ 8 ∷ title)
 
 -- the bytes that the length counts
 abbrev pub content : ℕ → ℕ → List ℕ → List ℕ
@@ -96,12 +124,12 @@ header tag title _ = None
 abbrev pub service : ℕ → List ℕ → Option (Head × List ℕ)
 service tag octets = option_and_then (header tag None) (content_of octets)
 
-abbrev pub titled_parts : List ℕ → List ℕ → Option (Head × List ℕ)
-titled_parts title octets = option_and_then (header 0xDB (Some title)) (content_of octets)
+abbrev pub titled_parts : ℕ → List ℕ → List ℕ → Option (Head × List ℕ)
+titled_parts tag title octets = option_and_then (header tag (Some title)) (content_of octets)
 
-abbrev pub general : List ℕ → Option (Head × List ℕ)
-general (n ∷ a ∷ b ∷ c ∷ d ∷ e ∷ f ∷ g ∷ h ∷ rest) = if n == 8 then titled_parts (a ∷ b ∷ c ∷ d ∷ e ∷ f ∷ g ∷ h ∷ []) rest else None
-general _ = None
+abbrev pub general : ℕ → List ℕ → Option (Head × List ℕ)
+general tag (n ∷ a ∷ b ∷ c ∷ d ∷ e ∷ f ∷ g ∷ h ∷ rest) = if n == 8 then titled_parts tag (a ∷ b ∷ c ∷ d ∷ e ∷ f ∷ g ∷ h ∷ []) rest else None
+general tag _ = None
 
 abbrev pub or_short : Option (Head × List ℕ) → Result (Head × List ℕ) UnprotectFault
 or_short None = Err Short
@@ -111,6 +139,6 @@ or_short (Some found) = Ok found
 abbrev pub parts : List ℕ → Result (Head × List ℕ) UnprotectFault
 parts [] = Err Short
 parts (tag ∷ rest) =
-    if tag == 0xDB then or_short (general rest)
-    else if is_glo tag then or_short (service tag rest)
+    if is_general tag then or_short (general tag rest)
+    else if is_form_tag tag then or_short (service tag rest)
     else Err NotProtected

@@ -140,7 +140,7 @@ pub record IsProtected (s : SecurityState) (title : List ℕ) (counter : ℕ) (x
   pub control : head.control ≡ control_of s.policy
   pub counted : head.counter ≡ counter
   pub named : is_from head.title title ≡ true
-  pub service : is_of head.tag x.apdu ≡ true
+  pub service : is_of s.kind head.tag x.apdu ≡ true
   pub exact : body ≡ body_of s.policy (peer_use s title counter) x.apdu
 
 -- The message is the protected form of the APDU under the peer's title, with a counter above the last accepted one.
@@ -163,7 +163,9 @@ NeverTwice = (s t : SecurityState) (events : List Event) → IsState s → AreSt
 
 -- No message goes out in the clear: each is the protected form of the APDU that the caller passed.
 abbrev pub NeverInTheClear : Type 0
-NeverInTheClear = (s t : SecurityState) (events : List Event) → IsState s → AreSteps s events t → All (λ x. IsProtected s s.own (counter_in x) x) (outgoing events)
+NeverInTheClear =
+    (s t : SecurityState) (events : List Event) → IsState s → AreSteps s events t
+    → All (λ x. IsProtected s s.own (counter_in x) x) (outgoing events)
 
 -- No message is accepted twice: over all calls, and stops after which the last accepted counter is read back, the counters of
 -- accepted messages rise.
@@ -178,6 +180,7 @@ Authentic =
 
 -- two ends of an association: equal keys and policy, and the receiver knows the sender's title
 pub record ArePeers (s r : SecurityState) : Type 0 where
+  pub kind : r.kind ≡ s.kind
   pub encryption : r.encryption ≡ s.encryption
   pub authentication : r.authentication ≡ s.authentication
   pub policy : r.policy ≡ s.policy
@@ -186,5 +189,5 @@ pub record ArePeers (s r : SecurityState) : Type 0 where
 -- The peer accepts a message that goes out as the APDU that the caller passed, if its counter is above the last accepted one.
 abbrev pub RoundTrip : Type 0
 RoundTrip =
-    (s r : SecurityState) (form : Form) (apdu message : List ℕ) → IsState s → ArePeers s r → is_above r.accepted s.next ≡ true → message_for s form apdu ≡ Ok message
-    → acceptance r message ≡ Ok (record { counter = s.next; apdu = apdu })
+    (s r : SecurityState) (form : Form) (apdu message : List ℕ) → IsState s → ArePeers s r → is_above r.accepted s.next ≡ true
+    → message_for s form apdu ≡ Ok message → acceptance r message ≡ Ok (record { counter = s.next; apdu = apdu })

@@ -3,6 +3,7 @@ use Rattle.std.specs.Prelude.{ℕ, ◌+◌, ◌-◌, ◌^◌, ◌==◌, nat_lt, 
 use Rattle.std.specs.Str.{bytes_eq}
 use Rattle.dlms_cipher.specs.Dlms.{answer_of, IsAnswer}
 use Rattle.dlms_security.specs.declared.form.TheConstants.{MOST_APDU}
+use Rattle.dlms_security.specs.declared.kind.KeyKind.{KeyKind}
 use Rattle.dlms_security.specs.declared.form.Form.{Form}
 use Rattle.dlms_security.specs.declared.form.Head.{Head}
 use Rattle.dlms_security.specs.declared.policy.Policy.{Policy}
@@ -14,9 +15,10 @@ use Rattle.dlms_security.specs.declared.fault.UnprotectFault.TheVariants.{Unknow
 use Rattle.dlms_security.specs.Form.{front_of, content, message_of, is_of, parts}
 use Rattle.dlms_security.specs.Body.{Use, control_of, body_of, open_body}
 
--- Both system titles, both keys and the policy; the next own counter; the end of the reservation, which is the first counter that is
--- not reserved; the last accepted counter of the peer.
+-- The kind of the encryption key; both system titles, both keys and the policy; the next own counter; the end of the reservation,
+-- which is the first counter that is not reserved; the last accepted counter of the peer.
 pub record SecurityState : Type 0 where
+  pub kind : KeyKind
   pub own : List ℕ
   pub peer : Option (List ℕ)
   pub encryption : List ℕ
@@ -63,7 +65,7 @@ message_with s (Some front) apdu = with_counter (counter_for s) (message_of fron
 abbrev pub message_for : SecurityState → Form → List ℕ → Result (List ℕ) ProtectFault
 message_for s form apdu =
     if nat_lt MOST_APDU (length apdu) then Err protect_fault.Long
-    else message_with s (front_of form s.own apdu) apdu
+    else message_with s (front_of s.kind form s.own apdu) apdu
 
 -- the answer to a challenge under authentication mechanism 5 (Green Book 9.2.7.4); it uses the same counters as messages
 abbrev pub answer_for : SecurityState → List ℕ → Result (List ℕ) ProtectFault
@@ -98,17 +100,17 @@ abbrev pub is_above : Option ℕ → ℕ → Bool
 is_above None counter = true
 is_above (Some last) counter = nat_lt last counter
 
--- the APDU is accepted if the tag of the message is that of its service
-abbrev pub of_service : Head → Result (List ℕ) UnprotectFault → Result AcceptedApdu UnprotectFault
-of_service head (Err fault) = Err fault
-of_service head (Ok apdu) = if is_of head.tag apdu then Ok (record { counter = head.counter; apdu = apdu }) else Err AnotherService
+-- the APDU is accepted if the tag of the message is that of its service under this kind of key
+abbrev pub of_service : KeyKind → Head → Result (List ℕ) UnprotectFault → Result AcceptedApdu UnprotectFault
+of_service kind head (Err fault) = Err fault
+of_service kind head (Ok apdu) = if is_of kind head.tag apdu then Ok (record { counter = head.counter; apdu = apdu }) else Err AnotherService
 
 -- the checks of a message of the peer with this title, in their order
 abbrev pub check_from : SecurityState → List ℕ → Head → List ℕ → Result AcceptedApdu UnprotectFault
 check_from s title head body =
     if is_from head.title title then
     (if head.control == control_of s.policy then
-    (if is_above s.accepted head.counter then of_service head (open_body s.policy (peer_use s title head.counter) body)
+    (if is_above s.accepted head.counter then of_service s.kind head (open_body s.policy (peer_use s title head.counter) body)
     else Err OldCounter)
     else Err AnotherControl)
     else Err AnotherTitle

@@ -2,6 +2,7 @@
 //! events that the laws speak of.
 ghost use Rattle.std.specs.Prelude.{◌≡◌, ◌≤◌, MatchResult, Ok, Err};
 ghost use Rattle.dlms_cipher.specs.Keys.{encryption_key, authentication_key};
+ghost use Rattle.dlms_security.specs.declared.kind.KeyKind.TheVariants.{Global};
 ghost use Rattle.dlms_security.specs.Security.{SecurityState};
 ghost use Rattle.dlms_security.specs.Encoding.{ReadExactly};
 ghost use Rattle.dlms_security.specs.Run.{IsState, IsStep, Protects, Unprotects, Reserves, Learns, Answers, Stops};
@@ -85,10 +86,11 @@ pub fn answer_is_a_step(security: &mut Security, challenge: &[u8]) -> Result<[u8
     security.answer(challenge)
 }
 
-/// `Security::new` gives the state after a stop, if the stored reservation is not below that of the state before it.
+/// Under the global key `Security::new` gives the state after a stop, if the stored reservation is not below that of the state
+/// before it.
 pub fn new_is_a_step(own: [u8; 8], keys: Keys, policy: Policy, stored: StoredState) -> Security
-    ensures { (s : SecurityState) → s.own ≡ own → s.encryption ≡ encryption_key keys → s.authentication ≡ authentication_key keys
-        → s.policy ≡ policy → s.reserved ≤ stored.reserved → IsStep s (Stops stored) result }
+    ensures { (s : SecurityState) → s.kind ≡ Global → s.own ≡ own → s.encryption ≡ encryption_key keys
+        → s.authentication ≡ authentication_key keys → s.policy ≡ policy → s.reserved ≤ stored.reserved → IsStep s (Stops stored) result }
 {
     Security::new(own, keys, policy, stored)
 }

@@ -5,6 +5,7 @@
 mod body;
 mod fault;
 mod form;
+mod kind;
 pub mod laws;
 mod policy;
 mod security;
@@ -13,7 +14,8 @@ mod stored;
 mod tests;
 
 pub use fault::{ProtectFault, UnprotectFault};
-pub use form::{Form, MOST_APDU, MOST_MESSAGE};
+pub use form::{Form, MOST_APDU, MOST_MESSAGE, kind_of};
+pub use kind::KeyKind;
 pub use policy::Policy;
 pub use security::Security;
 pub use stored::StoredState;

@@ -1,6 +1,7 @@
 //! The protection of one association.
-ghost use Rattle.std.specs.Prelude.{◌≡◌, ◌↔◌, ◌≤◌, ◌<◌, ◌+◌, ◌-◌, length, IsTrue, IfOk, OnErr, MatchResult, Ok, Err, Some, None};
+ghost use Rattle.std.specs.Prelude.{◌≡◌, ◌↔◌, ◌≤◌, ◌<◌, ◌+◌, ◌-◌, ◌^◌, length, IsTrue, IfOk, OnErr, MatchResult, Ok, Err, Some, None};
 ghost use Rattle.dlms_cipher.specs.Keys.{encryption_key, authentication_key};
+ghost use Rattle.dlms_security.specs.declared.kind.KeyKind.TheVariants.{Global, Dedicated};
 ghost use Rattle.dlms_security.specs.Run.{IsState};
 ghost use Rattle.dlms_security.specs.Security.{SecurityState, counter_for, answer_for, IsAnswerOf, message_for, after_protect, after_reserved};
 ghost use Rattle.dlms_security.specs.Security.{is_from, is_above, check, acceptance, apdu_in, after_unprotect, after_learn};
@@ -8,18 +9,20 @@ ghost use Rattle.dlms_security.specs.Security.{is_from, is_above, check, accepta
 use crate::body::{body_of, open_body};
 use crate::fault::{ProtectFault, UnprotectFault};
 use crate::form::{Form, Head, MOST_APDU, MOST_MESSAGE, front_of, is_of, message_of, parts};
+use crate::kind::KeyKind;
 use crate::policy::Policy;
 use crate::stored::StoredState;
 use arrayvec::ArrayVec;
 use dlms_cipher::Keys;
 use std::marker::Model;
 
-/// The protection of one association of a client with a meter, at either end.
+/// The protection of one association of a client with a meter, at either end, under the global or a dedicated key.
 ///
 /// A CALLER MUST NOT have two values with the same own title and encryption key, and must not lose a reservation: either
 /// would use a counter twice. The titles of both ends must differ. Dropping the value does not wipe its keys.
 #[derive(Drop)]
 pub struct Security {
+    kind: KeyKind,
     own: [u8; 8],
     peer: Option<[u8; 8]>,
     keys: Keys,
@@ -37,6 +40,7 @@ impl Model for Security {
     ghost Value = { SecurityState };
 
     ghost view = { λ s. record {
+      kind = s.kind;
       own = s.own;
       peer = s.peer;
       encryption = encryption_key s.keys;
@@ -71,11 +75,12 @@ fn is_above(accepted: Option<u32>, counter: u32) -> bool
 }
 
 impl Security {
-    /// The state at the start of an association, or after a restart: the own system title, both keys, the policy that both
-    /// ends agreed on, and the stored state. Own counters continue at the end of the stored reservation, so none is left:
+    /// The state under the global key at the start of an association, or after a restart: the own system title, both keys, the
+    /// policy that both ends agreed on, and the stored state. Own counters continue at the end of the stored reservation, so none is left:
     /// store a higher reservation and call `extend_reservation` before the first message.
     pub fn new(own: [u8; 8], keys: Keys, policy: Policy, stored: StoredState) -> Security
         ensures { result ≡ record {
+          kind = Global;
           own = own;
           peer = stored.peer;
           encryption = encryption_key keys;
@@ -87,6 +92,7 @@ impl Security {
         } }
     {
         Security {
+            kind: KeyKind::Global,
             own,
             peer: stored.peer,
             keys,
@@ -94,6 +100,34 @@ impl Security {
             next: stored.reserved,
             reserved: stored.reserved,
             accepted: stored.accepted,
+        }
+    }
+
+    /// The state under a dedicated key, at the start of an association. `keys` has the dedicated key as its encryption key, and
+    /// the same authentication key as under the global one (Green Book 9.2.7.2). Counters begin at 0, and nothing is stored. A
+    /// CALLER MUST NOT use a dedicated key in a second association or a second value: the client makes a random one for each.
+    pub fn with_dedicated_key(own: [u8; 8], peer: [u8; 8], keys: Keys, policy: Policy) -> Security
+        ensures { result ≡ record {
+          kind = Dedicated;
+          own = own;
+          peer = Some peer;
+          encryption = encryption_key keys;
+          authentication = authentication_key keys;
+          policy = policy;
+          next = 0;
+          reserved = 2 ^ 32 - 1;
+          accepted = None;
+        } }
+    {
+        Security {
+            kind: KeyKind::Dedicated,
+            own,
+            peer: Some(peer),
+            keys,
+            policy,
+            next: 0,
+            reserved: u32::MAX,
+            accepted: None,
         }
     }
 
@@ -182,7 +216,7 @@ impl Security {
         if MOST_APDU < apdu.len() {
             return Err(ProtectFault::Long);
         }
-        let Some(front) = front_of(form, &self.own, apdu) else {
+        let Some(front) = front_of(self.kind, form, &self.own, apdu) else {
             return Err(ProtectFault::Service);
         };
         let counter = self.counter()?;
@@ -214,7 +248,7 @@ impl Security {
             return Err(UnprotectFault::OldCounter);
         }
         let apdu = open_body(self.policy, &self.keys, &title, head.counter, body)?;
-        if is_of(head.tag, apdu.as_slice()) {
+        if is_of(self.kind, head.tag, apdu.as_slice()) {
             Ok(apdu)
         } else {
             Err(UnprotectFault::AnotherService)

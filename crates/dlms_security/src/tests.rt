@@ -4,7 +4,8 @@ mod vectors;
 
 use self::vectors::{EXAMPLES, Example};
 use crate::fault::{ProtectFault, UnprotectFault};
-use crate::form::{Form, MOST_APDU};
+use crate::form::{Form, MOST_APDU, kind_of};
+use crate::kind::KeyKind;
 use crate::policy::Policy;
 use crate::security::Security;
 use crate::stored::StoredState;
@@ -112,6 +113,43 @@ fn incoming(rt: HostRuntime) {
     }
     assert!(rt; meter.last_accepted() == Some(0x0123_4567));
     assert!(rt; meter.unprotect(&GLO_GET_REQUEST).err() == Some(UnprotectFault::OldCounter));
+}
+
+/// The Green Book's get request under a dedicated key, in both forms, against Python's `cryptography`.
+#[test]
+fn dedicated_key(rt: HostRuntime) {
+    let key = [
+        0xf0, 0xf1, 0xf2, 0xf3, 0xf4, 0xf5, 0xf6, 0xf7, 0xf8, 0xf9, 0xfa, 0xfb, 0xfc, 0xfd, 0xfe,
+        0xff,
+    ];
+    let service = [
+        0xd0, 0x1e, 0x30, 0x00, 0x00, 0x00, 0x00, 0x12, 0xf6, 0xec, 0xbc, 0xb1, 0x59, 0x13, 0xfb,
+        0x4d, 0xb6, 0x2f, 0x68, 0x8a, 0x1a, 0x11, 0xc0, 0x94, 0x18, 0x16, 0x41, 0x5e, 0x1c, 0xff,
+        0x1c, 0xa3,
+    ];
+    let general = [
+        0xdc, 0x08, 0x4d, 0x4d, 0x4d, 0x00, 0x00, 0xbc, 0x61, 0x4e, 0x1e, 0x30, 0x00, 0x00, 0x00,
+        0x01, 0x5a, 0x67, 0x6f, 0xb8, 0x92, 0x39, 0x92, 0xae, 0x5d, 0x54, 0xd4, 0x33, 0xbb, 0x96,
+        0x2f, 0xb6, 0xff, 0xf3, 0xb2, 0xfc, 0xfa, 0x3f, 0xec, 0xe4, 0x30,
+    ];
+    let policy = Policy::AuthenticatedEncrypted;
+    let keys = Keys::new(key, AUTHENTICATION);
+    let mut client = Security::with_dedicated_key(TITLE, OTHER, keys, policy);
+    match client.protect(Form::Service, &GET_REQUEST) {
+        Ok(message) => assert!(rt; message.as_slice() == service.as_slice()),
+        Err(_) => assert!(rt; false),
+    }
+    match client.protect(Form::General, &GET_REQUEST) {
+        Ok(message) => assert!(rt; message.as_slice() == general.as_slice()),
+        Err(_) => assert!(rt; false),
+    }
+    let keys = Keys::new(key, AUTHENTICATION);
+    let mut meter = Security::with_dedicated_key(OTHER, TITLE, keys, policy);
+    assert!(rt; meter.unprotect(&service).is_ok());
+    assert!(rt; meter.unprotect(&general).is_ok());
+    assert!(rt; kind_of(&service) == Some(KeyKind::Dedicated));
+    assert!(rt; kind_of(&GLO_GET_REQUEST) == Some(KeyKind::Global));
+    assert!(rt; kind_of(&GET_REQUEST) == None);
 }
 
 /// An APDU with this tag, and the numbers from 1 on after it.
