@@ -22,12 +22,13 @@ affine_bit b i = (bit_at b i + bit_at b ((i + 4) % 8) + bit_at b ((i + 5) % 8) +
 unfoldable pub affine : ℕ → ℕ
 affine b = sum (map (λ i. affine_bit b i * 2 ^ i) (0 ∷ 1 ∷ 2 ∷ 3 ∷ 4 ∷ 5 ∷ 6 ∷ 7 ∷ []))
 
+-- the S-box
 unfoldable pub sbox : ℕ → ℕ
 sbox a = affine (inverse a)
 
 -- ---- the steps of a round (5.1)
 
--- (5.1.1)
+-- every octet substituted (5.1.1)
 abbrev pub sub_bytes : List ℕ → List ℕ
 sub_bytes s = map sbox s
 
@@ -51,6 +52,7 @@ mix_column a b c d =
     ∷ sum_of_four a b (octet_product 2 c) (octet_product 3 d)
     ∷ sum_of_four (octet_product 3 a) b c (octet_product 2 d) ∷ []
 
+-- every column multiplied
 abbrev pub mix_columns : List ℕ → List ℕ
 mix_columns s =
     mix_column (slice_index s 0) (slice_index s 1) (slice_index s 2) (slice_index s 3)
@@ -88,8 +90,8 @@ abbrev pub schedule_word : List ℕ → ℕ → List ℕ
 schedule_word key constant =
     bit_xor (sbox (slice_index key 13)) constant ∷ sbox (slice_index key 14) ∷ sbox (slice_index key 15) ∷ sbox (slice_index key 12) ∷ []
 
--- each word of the next round key is the sum of the word four places before it and a last one: the word just before it, for the
--- first word rotated and substituted
+-- Each word of the next round key is the sum of the word four places before it and the word just before it. For the first word the
+-- latter is rotated and substituted.
 abbrev pub next_key : List ℕ → ℕ → List ℕ
 next_key key constant =
     let first = xor_octets (key_word key 0) (schedule_word key constant) in

@@ -54,9 +54,10 @@ abbrev pub kind_of : List ℕ → Option KeyKind
 kind_of [] = None
 kind_of (tag ∷ rest) = kind_of_tag tag
 
+-- the APDU is of a service whose ciphered form has this tag
 abbrev pub is_some_of : ℕ → Option ℕ → Bool
 is_some_of tag None = false
-is_some_of tag (Some glo) = glo == tag
+is_some_of tag (Some form) = form == tag
 
 abbrev pub begins_as : KeyKind → ℕ → List ℕ → Bool
 begins_as kind tag [] = false
@@ -98,6 +99,7 @@ message_of front inner = front ++ length_octets (length inner) ++ inner
 abbrev pub exactly : ℕ → List ℕ → Option (List ℕ)
 exactly n rest = if n == length rest then Some rest else None
 
+-- the same, after 0x81 and after 0x82
 abbrev pub content_of_one : List ℕ → Option (List ℕ)
 content_of_one (a ∷ rest) = exactly a rest
 content_of_one _ = None
@@ -121,16 +123,20 @@ header tag title (control ∷ a ∷ b ∷ c ∷ d ∷ body) =
     Some (record { tag = tag; title = title; control = control; counter = from_be_bytes w32 (a ∷ b ∷ c ∷ d ∷ []) }, body)
 header tag title _ = None
 
+-- the same, of a service's ciphered form after its tag
 abbrev pub service : ℕ → List ℕ → Option (Head × List ℕ)
 service tag octets = option_and_then (header tag None) (content_of octets)
 
+-- the same, of a general form after its title
 abbrev pub titled_parts : ℕ → List ℕ → List ℕ → Option (Head × List ℕ)
 titled_parts tag title octets = option_and_then (header tag (Some title)) (content_of octets)
 
+-- the same, of a general form after its tag
 abbrev pub general : ℕ → List ℕ → Option (Head × List ℕ)
 general tag (n ∷ a ∷ b ∷ c ∷ d ∷ e ∷ f ∷ g ∷ h ∷ rest) = if n == 8 then titled_parts tag (a ∷ b ∷ c ∷ d ∷ e ∷ f ∷ g ∷ h ∷ []) rest else None
 general tag _ = None
 
+-- a message without these parts is cut off, or has a wrong length
 abbrev pub or_short : Option (Head × List ℕ) → Result (Head × List ℕ) UnprotectFault
 or_short None = Err Short
 or_short (Some found) = Ok found

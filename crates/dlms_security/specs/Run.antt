@@ -67,6 +67,7 @@ RestoresTitle title _ = Unit {0}
 
 -- ---- messages that went out, and that were accepted
 
+-- a message and its APDU
 pub record Exchange : Type 0 where
   pub message : List ℕ
   pub apdu : List ℕ

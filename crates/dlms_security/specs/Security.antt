@@ -82,6 +82,7 @@ after_reserved s upto = if nat_lt s.reserved upto then record s { reserved = upt
 
 -- ---- messages that come in
 
+-- an accepted APDU, with the counter of its message
 pub record AcceptedApdu : Type 0 where
   pub counter : ℕ
   pub apdu : List ℕ

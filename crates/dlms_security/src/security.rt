@@ -105,7 +105,8 @@ impl Security {
 
     /// The state under a dedicated key, at the start of an association. `keys` has the dedicated key as its encryption key, and
     /// the same authentication key as under the global one (Green Book 9.2.7.2). Counters begin at 0, and nothing is stored. A
-    /// CALLER MUST NOT use a dedicated key in a second association or a second value: the client makes a random one for each.
+    /// CALLER MUST NOT use a dedicated key in a second association, or twice at one end: the client makes a random one for
+    /// each association.
     pub fn with_dedicated_key(own: [u8; 8], peer: [u8; 8], keys: Keys, policy: Policy) -> Security
         ensures { result ≡ record {
           kind = Dedicated;
@@ -175,9 +176,12 @@ impl Security {
         Ok(self.next)
     }
 
-    /// Returns the answer to the peer's challenge under authentication mechanism 5 (Green Book 9.2.7.4): control byte 0x10,
-    /// counter, tag. It uses a counter up, as a message does. The peer sent the challenge, and the caller has refused one that
-    /// equals its own. Errors: `Exhausted`, `Reserve`.
+    /// Returns the answer to the peer's challenge of 8 to 64 bytes under authentication mechanism 5 (Green Book 9.2.7.4):
+    /// control byte 0x10, counter, tag. It uses a counter up, as a message does. Only the global key answers challenges.
+    ///
+    /// The caller has refused a challenge that equals its own. The tag in the answer is also that of a message under
+    /// `Policy::Authenticated` whose APDU is the challenge: under that policy a caller also refuses a challenge that is an
+    /// APDU. Errors: `Exhausted`, `Reserve`.
     pub fn answer(&mut self, challenge: &[u8]) -> Result<[u8; 17], ProtectFault>
         ensures answer { MatchResult result (λ answer. answer_for self.old challenge.now ≡ Ok answer)
             (λ f. answer_for self.old challenge.now ≡ Err f) }
@@ -190,8 +194,9 @@ impl Security {
     }
 
     /// Whether these bytes are the peer's answer to a challenge, under some counter; no, if the peer's title is not known.
-    /// The caller made the challenge at random for this association: only that makes the answer fresh. Its counter is not
-    /// compared, since the message that carries the answer has a higher one and was accepted first.
+    /// Only the global key answers challenges. The caller made the challenge at random for this association: that alone makes
+    /// the answer fresh. Its counter is not compared, since the message that carries the answer has a higher one and was
+    /// accepted first.
     pub fn is_answer(&self, challenge: &[u8], answer: &[u8; 17]) -> bool
         ensures { IsTrue result ↔ IsAnswerOf self.now self.now.peer challenge.now answer.now }
     {
