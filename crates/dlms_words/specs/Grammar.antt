@@ -110,9 +110,9 @@ poll_command = with_rules (new_app (codes "poll"))
 -- the meter to ask, the client that asks, whether the frames are explained, and the longest value
 abbrev pub asking_rules : List Rule
 asking_rules =
-    option_rule (codes "server") ∷ flag_rule (codes "wide") ∷ number_rule (codes "client") 1 127
-    ∷ option_rule (codes "secret-file") ∷ short_flag_rule (codes "verbose") 118
-    ∷ number_rule (codes "most") 1 16777216 ∷ []
+    option_rule (codes "server") ∷ flag_rule (codes "wide") ∷ flag_rule (codes "wrapper")
+    ∷ number_rule (codes "client") 1 127 ∷ option_rule (codes "secret-file")
+    ∷ short_flag_rule (codes "verbose") 118 ∷ number_rule (codes "most") 1 16777216 ∷ []
 
 abbrev pub get_command : App
 get_command = with_rules

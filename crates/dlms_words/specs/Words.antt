@@ -100,6 +100,7 @@ pub record IsAsking (rows : List Row) (asking : Asking) : Type 0 where
   pub place : asking.place.now ≡ unwrap_or (first_of (codes "PLACE") rows) []
   pub server : option_map (λ s. s.now) asking.server ≡ first_of (codes "server") rows
   pub wide : IsSaid (first_of (codes "wide") rows) asking.wide
+  pub wrapper : IsSaid (first_of (codes "wrapper") rows) asking.wrapper
   pub client : IsSaidFor (codes "client") rows CLIENT asking.client
   pub secret : option_map (λ f. f.now) asking.secret_file ≡ first_of (codes "secret-file") rows
   pub verbose : IsSaid (first_of (codes "verbose") rows) asking.verbose
@@ -191,9 +192,15 @@ NamesTwoPlaces met = (rows : List Row) × (met ≡ Some (codes "serve", rows))
     × IsTrue (is_some (first_of (codes "listen") rows))
     × IsTrue (is_some (first_of (codes "line") rows))
 
+-- a wrapper port, which has two octets, is to be sent in four
+abbrev pub WidensPort : Met → Type 0
+WidensPort met = (command : Text) × (rows : List Row) × (met ≡ Some (command, rows))
+    × (first_of (codes "wide") rows ≡ Some (codes "true"))
+    × (first_of (codes "wrapper") rows ≡ Some (codes "true"))
+
 -- two are given and one is wanted
 abbrev pub AsksBoth : Met → Type 0
-AsksBoth met = AsksTwoClients met ⊎ NamesTwoPlaces met
+AsksBoth met = AsksTwoClients met ⊎ NamesTwoPlaces met ⊎ WidensPort met
 
 -- a place, unless it is the device of a serial line
 abbrev pub unless_device : Option Text → Option Text

@@ -11,6 +11,8 @@ pub struct Asking<'a> {
     pub server: Option<&'a str>,
     /// Whether its address has four octets in any case.
     pub wide: bool,
+    /// Whether the line carries the TCP wrapper in place of HDLC.
+    pub wrapper: bool,
     /// The client's address, 1 to 127.
     pub client: u32,
     /// The file of the client's secret; without one no secret is sent.

@@ -32,12 +32,17 @@ const ASKING: &[Argument] = &[
     Argument {
         name: "server",
         kind: Kind::Option("UPPER[/LOWER]"),
-        help: "The meter's address [default: 1]",
+        help: "The meter's address, or with --wrapper its wrapper port, 0 to 65535 [default: 1]",
     },
     Argument {
         name: "wide",
         kind: Kind::Flag,
         help: "Sends the meter's address in four octets",
+    },
+    Argument {
+        name: "wrapper",
+        kind: Kind::Flag,
+        help: "Speaks the TCP wrapper (IEC 62056-47) in place of HDLC",
     },
     Argument {
         name: "client",
@@ -250,7 +255,7 @@ const COMMANDS: [CommandWords; 12] = [
             Argument {
                 name: "class",
                 kind: Kind::Number("CLASS", 1, 65_535),
-                help: "The class of the objects, 1 to 65535; without it, the meter's object list is read first",
+                help: "The class of the objects, 1 to 65535; without it, the meter's object list says it",
             },
             Argument {
                 name: "raw",
@@ -308,7 +313,7 @@ const COMMANDS: [CommandWords; 12] = [
             Argument {
                 name: "class",
                 kind: Kind::Number("CLASS", 1, 65_535),
-                help: "The class of the objects, 1 to 65535; without it, the meter's object list is read first",
+                help: "The class of the objects, 1 to 65535; without it, the meter's object list says it",
             },
         ],
         more: ASKING,
@@ -337,7 +342,7 @@ const COMMANDS: [CommandWords; 12] = [
             Argument {
                 name: "class",
                 kind: Kind::Number("CLASS", 1, 65_535),
-                help: "The class of the objects, 1 to 65535; without it, the meter's object list is read first",
+                help: "The class of the objects, 1 to 65535; without it, the meter's object list says it",
             },
         ],
         more: ASKING,

@@ -95,32 +95,31 @@ before it; dlms: ahead N if row N is too far past the system's clock, of the pol
 if the meter does not show an expected TEXT; dlms: memory); 2 for invalid arguments, and for this help.";
 
 /// What `get` does, for its help.
-pub const GET_ABOUT: &str =
-    "Asks the meter at PLACE over HDLC for attributes, and prints their values.
+pub const GET_ABOUT: &str = "Asks the meter at PLACE for attributes, and prints their values.
 
-PLACE is HOST:PORT for TCP, or a path that begins with / for a serial line. Set the line up first, as with \"stty -F /dev/ttyUSB0 9600 raw -echo\"; no other program may be using it.
+PLACE is HOST:PORT for TCP, or a path that begins with / for a serial line. The meter is asked over HDLC, or with --wrapper over the TCP wrapper (IEC 62056-47). PLACE may also say which, as hdlc://HOST:PORT, wrapper://HOST:PORT or serial:///dev/ttyUSB0. Set a serial line up first, as with \"stty -F /dev/ttyUSB0 9600 raw -echo\"; no other program may be using it.
 
-NAMES is a logical name with the number of an attribute after a slash, 2 without one: 1.0.1.8.0.255, 1.0.99.1.0.255/3; or several of them with commas between them. The class of an object comes from the meter's object list, which is read first, unless --class gives it. Prints one line for each value, as explain prints them, and the elements of an array or a structure below it; for a register its number with its scaler and unit, as 0.042 kWh, with energies in thousands of their unit. With --raw it prints the value's encoding in pairs of hexadecimal digits, whatever else is given; with --json an object of JSON with name, attribute, class and value, and for a register scaler and unit if it has them. Asks as the public client, 16, or as the client of --client, with the secret in the file of --secret-file, or without one. --server gives the meter's address [default: 1]: UPPER, in one octet, or UPPER/LOWER, in two octets if both are below 128 and in four otherwise; with --wide it always has four. With -v each frame is explained on standard error. A value whose encoding has more than 4194304 octets, or more than --most, is not printed: its next block is not asked for. A frame without an answer within two seconds is sent again, at most three times.
+NAMES is a logical name with the number of an attribute after a slash, 2 without one: 1.0.1.8.0.255, 1.0.99.1.0.255/3; or several of them with commas between them. The class of an object is the one that --class gives. Without it, 0.0.1.0.0.255 is the clock, 0.0.40.0.0.255, 0.0.41.0.0.255 and 0.0.42.0.0.255 have the classes 15, 17 and 1, and any other is looked up in the meter's object list. Prints one line for each value, as explain prints them, and the elements of an array or a structure below it; for a register its number with its scaler and unit, as 0.042 kWh, with energies in thousands of their unit. If there are several names, each value comes after its name, and a name that the meter refuses or does not have does not stop the others. With --raw it prints the value's encoding in pairs of hexadecimal digits, whatever else is given; with --json an object of JSON with name, attribute, class and value, and for a register scaler and unit if it has them. Asks as the public client, 16, or as the client of --client, with the secret in the file of --secret-file, or without one. --server gives the meter's address [default: 1]: UPPER, in one octet, or UPPER/LOWER, in two octets if both are below 128 and in four otherwise; with --wide it always has four. Over the wrapper --server is the meter's wrapper port, 0 to 65535, and --client the client's. With -v each frame, or each message of the wrapper, is explained on standard error. A value whose encoding has more than 4194304 octets, or more than --most, is not printed: its next block is not asked for. A frame without an answer within two seconds is sent again, at most three times; over the wrapper nothing is sent again, and a silence of two seconds is dlms: line.
 
-Exit status: 0; 1 after a fault (dlms: io, with PLACE or the file and the system's message on a second line; dlms: name or dlms: server for an invalid name or address; dlms: class for an object that is not in the list; dlms: secret for a secret of more than 16 bytes; dlms: large for a value of more octets than allowed; dlms: line, dlms: protocol, dlms: refused N, dlms: denied N or dlms: result N for the exchange; dlms: memory); 2 for invalid arguments, and for this help.";
+Exit status: 0; 1 after a fault (dlms: io, with PLACE or the file and the system's message on a second line; dlms: name or dlms: server for an invalid name or address; dlms: place if PLACE does not fit the options; dlms: class for an object that is not in the list; dlms: secret for a secret of more than 16 bytes; dlms: large for a value of more octets than allowed; dlms: line, dlms: protocol, dlms: refused N, dlms: denied N or dlms: result N for the exchange; dlms: memory); 2 for invalid arguments, and for this help.";
 
 /// What `list` does, for its help.
 pub const LIST_ABOUT: &str =
-    "Asks the meter at PLACE over HDLC for the objects of this association, and lists them.
+    "Asks the meter at PLACE for the objects of this association, and lists them.
 
 Prints one line for each object: its logical name, its class and version, the names of both, and the rights of this association: after the number of an attribute r if it may be read, w if it may be set, rw for both; after the number of a method x if it may be called; a before these if authentication is required, and - if nothing may be done. With --json it prints an array of objects with name, class, version, attributes and methods. PLACE and the options for the meter and the client are the same as in get.
 
 Exit status: the same as for get.";
 
 /// What `set` does, for its help.
-pub const SET_ABOUT: &str = "Sets an attribute of the meter at PLACE over HDLC.
+pub const SET_ABOUT: &str = "Sets an attribute of the meter at PLACE.
 
 NAME is given as in get. VALUE is a number as u8:, u16:, u32:, u64:, i8:, i16:, i32:, i64: or enum:, as u32:900; bool:true or bool:false; an octet-string as text:.. or as pairs of hexadecimal digits, hex:2e2e; visible:.. or utf8:.. for texts of these types; the encoding of any value, raw:0202..; null; or now, the date-time of the system's clock in UTC. The octet-string may also come from a file: text-file:PATH, without the end of its last line, or octets-file:PATH, with all its bytes, at most 65536. Give a secret this way, since other users can read a command line. Setting the capture period or the columns of a load profile empties its buffer. Prints what was set; for a clock also what it showed before, and what it shows now. PLACE and the options for the meter and the client are the same as in get.
 
 Exit status: the same as for get; dlms: value for an invalid VALUE; dlms: now if no meter's clock can show the system's time; dlms: io, with PATH and the system's message, for a file that cannot be read; dlms: long for a file of more bytes, or a value that is longer than the meter accepts; dlms: result N if the meter does not set it.";
 
 /// What `act` does, for its help.
-pub const ACT_ABOUT: &str = "Calls a method of the meter at PLACE over HDLC.
+pub const ACT_ABOUT: &str = "Calls a method of the meter at PLACE.
 
 NAME has the number of the method after a slash, as 0.0.1.0.0.255/3. VALUE is given as in set; without VALUE the method gets no parameter. Prints what was called, and the value that it returns, if it does; for a method of a clock also what the clock showed before, and what it shows now. PLACE and the options for the meter and the client are the same as in get.
 

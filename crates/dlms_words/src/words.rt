@@ -3,7 +3,7 @@ ghost use Rattle.std.specs.Prelude.{◌≡◌, ◌⊎◌, ◌↔◌, [], List, S
 ghost use Rattle.clap.specs.Values.{kind_of};
 ghost use Rattle.clap.specs.Words.{all_of, fault_of, first_of, Row, FailsBy, HasKind, subcommand_rows_of, subcommand_of};
 ghost use Rattle.dlms_words.specs.Grammar.{dlms};
-ghost use Rattle.dlms_words.specs.Words.{asker as client_by, address_in, Asks, AsksBoth, AsksTwoClients, IsAsking, IsClear, IsExpecting, IsUnclear, NamesNoAddress, NamesTwoPlaces, nth_of, output_format, IsSaid, IsSaidFor, Says, SaysAhead, SaysStops, unless_device, value_format};
+ghost use Rattle.dlms_words.specs.Words.{asker as client_by, address_in, Asks, AsksBoth, AsksTwoClients, IsAsking, IsClear, IsExpecting, IsUnclear, NamesNoAddress, NamesTwoPlaces, nth_of, output_format, IsSaid, IsSaidFor, Says, SaysAhead, SaysStops, WidensPort, unless_device, value_format};
 
 use crate::addresses::{is_address, is_device};
 use crate::commands::{
@@ -49,6 +49,9 @@ const TWO_CLIENTS: &str = "the argument '--public' cannot be used with '--reader
 
 /// The message if a port and a serial line are given.
 const TWO_PLACES: &str = "the argument '--listen' cannot be used with '--line'";
+
+/// The message if a wrapper port is to be sent in four octets.
+const WIDE_PORT: &str = "the argument '--wide' cannot be used with '--wrapper'";
 
 /// The message if an address is invalid.
 const NO_ADDRESS: &str = "an address is expected as HOST:PORT, with a port of 0 to 65535";
@@ -294,11 +297,13 @@ fn asking<'a>(matches: &ArgMatches<'a>, command: &str) -> Asking<'a>
         → IsAsking rows result }
 {
     let wide = is_given(value_for(matches, command, "wide"));
+    let wrapper = is_given(value_for(matches, command, "wrapper"));
     let verbose = is_given(value_for(matches, command, "verbose"));
     Asking {
         place: value_for(matches, command, "PLACE").unwrap_or(""),
         server: value_for(matches, command, "server"),
         wide,
+        wrapper,
         client: number_for(matches, command, "client", CLIENT),
         secret_file: value_for(matches, command, "secret-file"),
         verbose,
@@ -391,6 +396,18 @@ fn names_two_places(matches: &ArgMatches<'_>) -> bool
     listen && line
 }
 
+/// Whether a wrapper port is to be sent in four octets, as an address of HDLC may be.
+fn widens_port(matches: &ArgMatches<'_>) -> bool
+    ensures { IsTrue result ↔ WidensPort (subcommand_rows_of matches.now) }
+{
+    let Some(command) = matches.subcommand_name() else {
+        return false;
+    };
+    let is_wide = is_given(value_for(matches, command, "wide"));
+    let is_wrapped = is_given(value_for(matches, command, "wrapper"));
+    is_wide && is_wrapped
+}
+
 /// The message if two are given and one is wanted.
 fn conflict(matches: &ArgMatches<'_>) -> Option<&'static str>
     ensures some { OnSome result (AsksBoth (subcommand_rows_of matches.now)) }
@@ -401,6 +418,9 @@ fn conflict(matches: &ArgMatches<'_>) -> Option<&'static str>
     }
     if names_two_places(matches) {
         return Some(TWO_PLACES);
+    }
+    if widens_port(matches) {
+        return Some(WIDE_PORT);
     }
     None
 }
@@ -475,8 +495,8 @@ fn clear<'a>(alloc: Global, words: &'a [&'a str]) -> Result<ArgMatches<'a>, Erro
 }
 
 /// The job of this command line, whose first word is the program's own name: its command and its values are those that `clap`
-/// finds. A fault is `clap`'s, or out of memory, or that two clients or two places are given, or that an address is invalid; if
-/// there is none of these, it is out of memory.
+/// finds. A fault is `clap`'s, or out of memory, or that two options are given that exclude each other, or that an address is
+/// invalid; if there is none of these, it is out of memory.
 #[inline(never)]
 pub fn job<'a>(alloc: Global, words: &'a [&'a str]) -> Result<Job<'a>, Error>
     ensures ok { IfOk result (Asks (subcommand_of dlms (map (λ word. word.now) words.entry.now))) }
