@@ -2,13 +2,13 @@
 
 ghost use Rattle.dlms_client.specs.Plan.{IsPlan, plan_of};
 
-use crate::explained_stream::ExplainedStream;
+use crate::explained_stream::{ExplainedStream, Explanation};
 use crate::fault::Fault;
 use crate::given::value_given;
 use crate::requests::{MeterSession, read_name};
 use arrayvec::ArrayVec;
 use dlms_call::{CallFault, ClientEnd, begin};
-use dlms_client::Plan;
+use dlms_client::{Plan, Route};
 use dlms_data::Data;
 use dlms_ends::End;
 use dlms_frame::{Address, Client};
@@ -55,7 +55,59 @@ pub enum Request<'a> {
     },
 }
 
-/// The meter's address.
+/// A call of a meter: the address or the device of the line to it, and the association on that line.
+#[derive(Drop)]
+struct Call<'a> {
+    line: &'a str,
+    plan: Plan,
+}
+
+/// What carries the APDUs over a line.
+#[derive(Clone, Copy, PartialEq, Eq)]
+enum Carrier {
+    Hdlc,
+    Wrapper,
+}
+
+/// The carrier to a place, and the address or the device of the line. The place may name its carrier, as `wrapper://HOST:PORT`;
+/// otherwise an option does.
+fn line_of<'a>(asking: &Asking<'a>) -> Result<(Carrier, &'a str), Fault<'a>> {
+    let (carrier, line) = match asking.place.split_once("://") {
+        Some((carrier, line)) => (carrier, line),
+        None if asking.wrapper => ("wrapper", asking.place),
+        None => ("hdlc", asking.place),
+    };
+    let is_device = line.starts_with('/');
+    if carrier == "wrapper" && !is_device && !asking.wide {
+        Ok((Carrier::Wrapper, line))
+    } else if (carrier == "hdlc" || carrier == "serial" && is_device) && !asking.wrapper {
+        Ok((Carrier::Hdlc, line))
+    } else {
+        Err(Fault::Place(asking.place))
+    }
+}
+
+/// The meter's wrapper port.
+fn port<'a>(asking: &Asking<'a>) -> Result<u16, Fault<'a>> {
+    let Some(text) = asking.server else {
+        return Ok(1);
+    };
+    match text.parse::<u16>() {
+        Ok(port) if !text.starts_with('+') => Ok(port),
+        _ => Err(Fault::Port(text)),
+    }
+}
+
+/// The route from the client to the meter by this carrier.
+fn route<'a>(asking: &Asking<'a>, carrier: Carrier) -> Result<Route, Fault<'a>> {
+    let client = u8::try_from(asking.client).unwrap_or(0);
+    match carrier {
+        Carrier::Hdlc => Ok(Route::Hdlc(client, server(asking)?)),
+        Carrier::Wrapper => Ok(Route::Tcp(u16::from(client), port(asking)?)),
+    }
+}
+
+/// The meter's address on an HDLC link.
 fn server<'a>(asking: &Asking<'a>) -> Result<Address, Fault<'a>> {
     match asking.server {
         None => Ok(Address::One(1)),
@@ -147,6 +199,7 @@ fn exchange<'a, S: End, W: Write>(
     line: &mut S,
     request: Request<'a>,
     output: &mut W,
+    refused: &mut Vec<Fault<'a>>,
 ) -> Result<(), Fault<'a>> {
     let place = asking.place;
     let head = match open_association(alloc, place, plan, line) {
@@ -162,6 +215,7 @@ fn exchange<'a, S: End, W: Write>(
         line,
         head,
         most: asking.most,
+        refused,
     };
     let outcome = run_request(&mut talk, request, output);
     talk.end();
@@ -196,9 +250,14 @@ fn look<'a>(request: &Request<'a>) -> Result<(), Fault<'a>> {
     Ok(())
 }
 
-/// Connects a line to the meter at a place.
-fn connect<'a, L: Dialling>(alloc: Global, line: &mut L, place: &'a str) -> Result<(), Fault<'a>> {
-    match line.connect(place, CONNECT_SECONDS) {
+/// Connects a line to the meter at a place, by the address or the device of it.
+fn connect<'a, L: Dialling>(
+    alloc: Global,
+    line: &mut L,
+    place: &'a str,
+    address: &str,
+) -> Result<(), Fault<'a>> {
+    match line.connect(address, CONNECT_SECONDS) {
         Ok(true) => Ok(()),
         Ok(false) => Err(Fault::Late(place, CONNECT_SECONDS)),
         Err(error) => Err(Fault::of_system(alloc, place, &error)),
@@ -210,9 +269,10 @@ fn connect<'a, L: Dialling>(alloc: Global, line: &mut L, place: &'a str) -> Resu
 fn line_to<'a, 'r, H: Net + Files<File = File> + Clock + AllocGlobal>(
     host: &'r H,
     place: &'a str,
+    address: &str,
 ) -> Result<MeterLine<'r, H>, Fault<'a>> {
     let mut line = MeterLine::new(host);
-    match connect(host.alloc(), &mut line, place) {
+    match connect(host.alloc(), &mut line, place, address) {
         Ok(()) => Ok(line),
         Err(fault) => {
             drop(line);
@@ -221,36 +281,50 @@ fn line_to<'a, 'r, H: Net + Files<File = File> + Clock + AllocGlobal>(
     }
 }
 
+/// What passes over a line of this route, if it is to be explained.
+fn explanation(is_verbose: bool, route: Route) -> Explanation {
+    match route {
+        _ if !is_verbose => Explanation::Nothing,
+        Route::Hdlc(..) => Explanation::Frames,
+        Route::Tcp(..) => Explanation::Messages,
+    }
+}
+
 /// The line to a meter, explained on standard error if that is asked for.
 fn explained_line_to<'a, 'r, 'e, H: Net + Files<File = File> + Clock + AllocGlobal, E: Write>(
     host: &'r H,
     asking: &Asking<'a>,
+    address: &str,
+    explanation: Explanation,
     errors: &'e mut E,
 ) -> Result<ExplainedStream<'e, MeterLine<'r, H>, E>, Fault<'a>> {
-    let line = match line_to(host, asking.place) {
+    let line = match line_to(host, asking.place, address) {
         Ok(line) => line,
         Err(fault) => return Err(fault),
     };
-    match ExplainedStream::new(host.alloc(), line, asking.verbose, errors) {
+    match ExplainedStream::new(host.alloc(), line, explanation, errors) {
         Ok(line) => Ok(line),
         Err(error) => Err(Fault::from(error)),
     }
 }
 
-/// The association that is asked for, if the request's names are valid.
-fn plan_of<'a, H: Files + Clock + AllocGlobal>(
+/// The call that is asked for, if the request's names are valid.
+fn call_of<'a, H: Files + Clock + AllocGlobal>(
     host: &H,
     asking: &Asking<'a>,
     request: &Request<'a>,
-) -> Result<Plan, Fault<'a>> {
+) -> Result<Call<'a>, Fault<'a>> {
     look(request)?;
-    let server = server(asking)?;
+    let (carrier, line) = line_of(asking)?;
+    let route = route(asking, carrier)?;
     let secret = secret(host, host.alloc(), asking)?;
-    Ok(Plan {
-        sap: u8::try_from(asking.client).unwrap_or(0),
-        server,
-        secret,
-        size: SIZE,
+    Ok(Call {
+        line,
+        plan: Plan {
+            route,
+            secret,
+            size: SIZE,
+        },
     })
 }
 
@@ -289,31 +363,65 @@ fn ask_over<'a, 'r, 'e, H: Net + Files<File = File> + Clock + AllocGlobal, W: Wr
     line: ExplainedStream<'e, MeterLine<'r, H>, E>,
     request: Request<'a>,
     output: &mut W,
+    refused: &mut Vec<Fault<'a>>,
 ) -> Result<(), Fault<'a>> {
     let mut line = line;
-    let talked = exchange(host.alloc(), asking, plan, &mut line, request, output);
+    let talked = exchange(
+        host.alloc(),
+        asking,
+        plan,
+        &mut line,
+        request,
+        output,
+        refused,
+    );
     let told = with_system_error(host.alloc(), asking.place, talked, line.stream.failure());
     close(line);
     told
 }
 
-/// Asks a meter by the association that is asked for.
+/// The result of a request in which these names failed: its last fault, after the others went to standard error.
+fn with_refused<'a, E: Write>(
+    refused: Vec<Fault<'a>>,
+    talked: Result<(), Fault<'a>>,
+    errors: &mut E,
+) -> Result<(), Fault<'a>> {
+    let mut refused = refused;
+    let last = match talked {
+        Ok(()) => refused.pop(),
+        Err(fault) => Some(fault),
+    };
+    for fault in &refused {
+        let _written = writeln!(errors, "dlms: {fault}");
+    }
+    drop(refused);
+    match last {
+        Some(fault) => Err(fault),
+        None => Ok(()),
+    }
+}
+
+/// Makes a call of a meter.
 fn ask_by<'a, H: Net + Files<File = File> + Clock + AllocGlobal, W: Write, E: Write>(
     host: &H,
     asking: &Asking<'a>,
-    plan: Plan,
+    call: Call<'a>,
     request: Request<'a>,
     output: &mut W,
     errors: &mut E,
 ) -> Result<(), Fault<'a>> {
-    let line = match explained_line_to(host, asking, errors) {
+    let Call { line, plan } = call;
+    let explanation = explanation(asking.verbose, plan.route);
+    let line = match explained_line_to(host, asking, line, explanation, errors) {
         Ok(line) => line,
         Err(fault) => {
             drop(request);
             return Err(fault);
         }
     };
-    ask_over(host, asking, plan, line, request, output)
+    let mut refused = Vec::new(host.alloc());
+    let talked = ask_over(host, asking, plan, line, request, output, &mut refused);
+    with_refused(refused, talked, errors)
 }
 
 /// Asks a meter.
@@ -325,8 +433,8 @@ fn ask<'a, H: Net + Files<File = File> + Clock + AllocGlobal, W: Write, E: Write
     output: &mut W,
     errors: &mut E,
 ) -> Result<(), Fault<'a>> {
-    match plan_of(host, asking, &request) {
-        Ok(plan) => ask_by(host, asking, plan, request, output, errors),
+    match call_of(host, asking, &request) {
+        Ok(call) => ask_by(host, asking, call, request, output, errors),
         Err(fault) => {
             drop(request);
             Err(fault)

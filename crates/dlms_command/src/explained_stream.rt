@@ -1,23 +1,41 @@
 //! A line, with an explanation of the bytes that pass over it.
 
-use dlms_explain::{Explainer, Form};
+use crate::explained_messages::Messages;
+use dlms_explain::{Explainer, Form, Side};
 use dlms_text::append_pairs;
 use std::alloc::{AllocError, Global};
 use std::io;
 use std::io::{ErrorKind, Read, Write};
+
+/// What passes over a line, if it is explained.
+#[derive(Clone, Copy)]
+pub enum Explanation {
+    Nothing,
+    Frames,
+    Messages,
+}
+
+/// What explains the bytes of a line.
+#[derive(Drop)]
+enum Explaining {
+    Nothing,
+    Frames(Box<Explainer<Global>>),
+    Messages(Messages),
+}
 
 /// A stream whose bytes are explained if that is asked for.
 #[derive(Drop)]
 pub struct ExplainedStream<'e, S: Drop, E> {
     pub stream: S,
     alloc: Global,
-    explainer: Option<Box<Explainer<Global>>>,
+    explaining: Explaining,
     errors: &'e mut E,
 }
 
 /// A line of a transcript.
-fn transcript(alloc: Global, side: &[u8], bytes: &[u8]) -> Result<Vec<u8>, AllocError> {
-    let mut line = Vec::from_slice(alloc, side)?;
+fn transcript(alloc: Global, side: Side, bytes: &[u8]) -> Result<Vec<u8>, AllocError> {
+    let mark: &[u8] = if side == Side::Client { b"> " } else { b"< " };
+    let mut line = Vec::from_slice(alloc, mark)?;
     append_pairs(&mut line, bytes)?;
     Ok(line)
 }
@@ -29,37 +47,40 @@ fn explainer(alloc: Global) -> Result<Box<Explainer<Global>>, AllocError> {
 }
 
 impl<'e, S: Drop, E: Write> ExplainedStream<'e, S, E> {
-    /// A stream, explained among the errors where `is_told` is set.
+    /// A stream, explained among the errors.
     pub fn new(
         alloc: Global,
         stream: S,
-        is_told: bool,
+        explanation: Explanation,
         errors: &'e mut E,
     ) -> Result<Self, AllocError> {
-        let explainer = if is_told {
-            Some(explainer(alloc)?)
-        } else {
-            None
+        let explaining = match explanation {
+            Explanation::Nothing => Explaining::Nothing,
+            Explanation::Frames => Explaining::Frames(explainer(alloc)?),
+            Explanation::Messages => Explaining::Messages(Messages::new(alloc)),
         };
         Ok(ExplainedStream {
             stream,
             alloc,
-            explainer,
+            explaining,
             errors,
         })
     }
 
     /// Appends to the text the explanation of the bytes of this side.
-    fn explain(&mut self, side: &[u8], bytes: &[u8], text: &mut String) -> Result<(), AllocError> {
-        let Some(explainer) = &mut self.explainer else {
-            return Ok(());
-        };
-        let line = transcript(self.alloc, side, bytes)?;
-        explainer.line(line.as_slice(), text)
+    fn explain(&mut self, side: Side, bytes: &[u8], text: &mut String) -> Result<(), AllocError> {
+        match &mut self.explaining {
+            Explaining::Nothing => Ok(()),
+            Explaining::Frames(explainer) => {
+                let line = transcript(self.alloc, side, bytes)?;
+                explainer.line(line.as_slice(), text)
+            }
+            Explaining::Messages(messages) => messages.explain(side, bytes, text),
+        }
     }
 
     /// Explains bytes of this side.
-    fn tell(&mut self, side: &[u8], bytes: &[u8]) -> io::Result<()> {
+    fn tell(&mut self, side: Side, bytes: &[u8]) -> io::Result<()> {
         let mut text = String::new(self.alloc);
         match self.explain(side, bytes, &mut text) {
             Ok(()) => self.errors.write_all(text.as_bytes()),
@@ -72,7 +93,7 @@ impl<S: Read + Drop, E: Write> Read for ExplainedStream<'_, S, E> {
     fn read(&mut self, buf: &mut [u8]) -> io::Result<usize> {
         let count = self.stream.read(buf)?;
         match buf.get(..count) {
-            Some(bytes) => self.tell(b"< ", bytes)?,
+            Some(bytes) => self.tell(Side::Meter, bytes)?,
             None => {}
         }
         Ok(count)
@@ -83,7 +104,7 @@ impl<S: Write + Drop, E: Write> Write for ExplainedStream<'_, S, E> {
     fn write(&mut self, buf: &[u8]) -> io::Result<usize> {
         let count = self.stream.write(buf)?;
         match buf.get(..count) {
-            Some(bytes) => self.tell(b"> ", bytes)?,
+            Some(bytes) => self.tell(Side::Client, bytes)?,
             None => {}
         }
         Ok(count)

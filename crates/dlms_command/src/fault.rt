@@ -55,6 +55,10 @@ pub enum Fault<'a> {
     Name(&'a str),
     /// This is no address of a meter.
     Server(&'a str),
+    /// This is no wrapper port of a meter.
+    Port(&'a str),
+    /// This place names a carrier that is unknown, that the line cannot have, or that the options exclude.
+    Place(&'a str),
     /// This is no value.
     Value(&'a str),
     /// The object of this name is not in the object list.
@@ -181,8 +185,8 @@ impl From<AllocError> for Fault<'_> {
     }
 }
 
-impl From<AllocFailed<u8>> for Fault<'_> {
-    fn from(_e: AllocFailed<u8>) -> Self {
+impl<T: Drop> From<AllocFailed<T>> for Fault<'_> {
+    fn from(_e: AllocFailed<T>) -> Self {
         Fault::MEMORY
     }
 }
@@ -403,6 +407,14 @@ impl fmt::Display for Fault<'_> {
             Fault::Server(text) => write!(
                 f,
                 "server\n  {text}: an address is expected as UPPER or UPPER/LOWER"
+            ),
+            Fault::Port(text) => write!(
+                f,
+                "server\n  {text}: a wrapper port is expected, 0 to 65535"
+            ),
+            Fault::Place(text) => write!(
+                f,
+                "place\n  {text}: its carrier is unknown, or does not fit the line or the options\n  known are hdlc://HOST:PORT, wrapper://HOST:PORT and serial:///dev/ttyUSB0"
             ),
             Fault::Value(text) => write!(
                 f,

@@ -36,6 +36,7 @@ mod asking;
 mod columns;
 mod demo;
 mod expected;
+mod explained_messages;
 mod explained_stream;
 mod fault;
 mod given;
@@ -673,7 +674,7 @@ pub fn run<H: Net + Files<File = File> + Clock + AllocGlobal, R: Read + Drop, W:
     errors: &mut E,
 ) -> io::Result<u8>
     // Arguments that ask for nothing give the status 2 (or 1 if memory runs out), and no others give 2: those that clap refuses, those with
-    // two clients, and those without a valid address.
+    // two options that exclude each other, and those without a valid address.
     ensures done { IfOk result (λ status. status ≡ DONE
         → (fault_of dlms (map (λ word. word.now) words.now) ≡ [])
         × IsClear (subcommand_of dlms (map (λ word. word.now) words.now))) }

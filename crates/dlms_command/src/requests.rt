@@ -43,6 +43,11 @@ const ENUM: u8 = 22;
 
 const DATE_TIME: u8 = 25;
 
+/// The classes Data and SAP assignment.
+const DATA: u16 = 1;
+
+const ASSIGNMENT: u16 = 17;
+
 /// The class Clock, whose time its attribute 2 is.
 const CLOCK: u16 = 8;
 
@@ -61,7 +66,26 @@ pub fn second_of(seconds: u64) -> Option<u32>
     }
 }
 
-/// A talk with a meter: its place, its line, the client, and how many octets a value may have.
+/// The class of a name that means the same object in each meter: the clock, the current association, the SAP assignment and the
+/// logical device name (IEC 62056-6-1).
+fn class_by_name(code: [u8; 6]) -> Option<u16> {
+    match code {
+        [0, 0, 1, 0, 0, 255] => Some(CLOCK),
+        CURRENT => Some(ASSOCIATION),
+        [0, 0, 41, 0, 0, 255] => Some(ASSIGNMENT),
+        [0, 0, 42, 0, 0, 255] => Some(DATA),
+        _ => None,
+    }
+}
+
+/// How values are printed, and whether each has its name in front.
+#[derive(Clone, Copy)]
+struct Printing {
+    format: ValueFormat,
+    is_named: bool,
+}
+
+/// A talk with a meter: its place, its line, the client, how many octets a value may have, and the faults of single names.
 #[derive(Drop)]
 pub struct MeterSession<'a, 's, S: End> {
     pub alloc: Global,
@@ -69,6 +93,7 @@ pub struct MeterSession<'a, 's, S: End> {
     pub line: &'s mut S,
     pub head: Box<ClientEnd<Global>>,
     pub most: u32,
+    pub refused: &'s mut Vec<Fault<'a>>,
 }
 
 /// The name that a text writes.
@@ -110,6 +135,11 @@ fn scaler_of(attribute: Descriptor) -> Option<Descriptor> {
     Some(Descriptor { id, ..attribute })
 }
 
+/// Whether a fault is of one name, after which others can be asked for.
+fn is_of_name(fault: &Fault<'_>) -> bool {
+    is_answer(fault) || matches!(fault, Fault::Class(_))
+}
+
 /// Whether a fault is the meter's answer to a request, after which the association goes on.
 fn is_answer(fault: &Fault<'_>) -> bool {
     matches!(fault, Fault::Result(..) | Fault::Denied(..))
@@ -140,7 +170,7 @@ impl<'a, S: End> MeterSession<'a, '_, S> {
 
     /// A copy of the encoding that came last.
     fn copy_value(&self) -> Result<Vec<u8>, Fault<'a>> {
-        Ok(Vec::from_slice(self.alloc, self.head.client.value())?)
+        Ok(Vec::from_slice(self.alloc, self.head.value())?)
     }
 
     /// Asks for the object list.
@@ -153,25 +183,26 @@ impl<'a, S: End> MeterSession<'a, '_, S> {
         self.fetch("0.0.40.0.0.255/2", attribute)
     }
 
-    /// The encoding of the object list, if no class is given.
-    fn list_unless(&mut self, said: u16) -> Result<Option<Vec<u8>>, Fault<'a>> {
-        if said > 0 {
-            return Ok(None);
+    /// Reads the object list, unless that was tried before. One that the meter refuses is empty.
+    fn need_list(&mut self, list: &mut Option<Vec<u8>>) -> Result<(), Fault<'a>> {
+        if list.is_some() {
+            return Ok(());
         }
+        *list = Some(Vec::new(self.alloc));
         self.fetch_list()?;
-        Ok(Some(self.copy_value()?))
+        *list = Some(self.copy_value()?);
+        Ok(())
     }
 
-    /// The class of an object: what is said, or what the object list says.
-    fn class(
+    /// The class of an object by the object list.
+    fn class_listed(
         &self,
         list: &Option<Vec<u8>>,
         text: &'a str,
         name: Name,
-        said: u16,
     ) -> Result<u16, Fault<'a>> {
         let Some(list) = list else {
-            return Ok(said);
+            return Err(Fault::Class(text));
         };
         match class_named(self.alloc, list.as_slice(), name.code) {
             Ok(Some(class)) => Ok(class),
@@ -180,10 +211,29 @@ impl<'a, S: End> MeterSession<'a, '_, S> {
         }
     }
 
+    /// The class of an object: the given one, the one of its name in each meter, or the one in the object list, which is read when
+    /// it is first needed.
+    fn class(
+        &mut self,
+        list: &mut Option<Vec<u8>>,
+        text: &'a str,
+        name: Name,
+        given: u16,
+    ) -> Result<u16, Fault<'a>> {
+        if given > 0 {
+            return Ok(given);
+        }
+        if let Some(class) = class_by_name(name.code) {
+            return Ok(class);
+        }
+        self.need_list(list)?;
+        self.class_listed(list, text, name)
+    }
+
     /// The scaler and the unit of a register's value, if it has them.
     fn scaler_unit(&mut self, said: &'a str, scaler: Descriptor) -> Option<(i8, u8)> {
         match self.fetch(said, scaler) {
-            Ok(()) => scale_of(self.head.client.value()),
+            Ok(()) => scale_of(self.head.value()),
             Err(fault) => {
                 drop(fault);
                 None
@@ -193,8 +243,8 @@ impl<'a, S: End> MeterSession<'a, '_, S> {
 
     /// An attribute by its name: the value if no number is given.
     fn attribute(
-        &self,
-        list: &Option<Vec<u8>>,
+        &mut self,
+        list: &mut Option<Vec<u8>>,
         said: &'a str,
         name: Name,
         class: u16,
@@ -208,28 +258,34 @@ impl<'a, S: End> MeterSession<'a, '_, S> {
         })
     }
 
-    /// The same by the meter's object list, which is read if no class is given.
+    /// The same for a single name.
     fn attribute_of(
         &mut self,
         said: &'a str,
         name: Name,
         class: u16,
     ) -> Result<Descriptor, Fault<'a>> {
-        let list = self.list_unless(class)?;
-        let attribute = self.attribute(&list, said, name, class);
+        let mut list = None;
+        let attribute = self.attribute(&mut list, said, name, class);
         drop(list);
         attribute
     }
 
-    /// Prints the value of an attribute that came last, as it is.
-    fn put_plain<W: Write>(
+    /// Prints the value of an attribute, after its name if that is wanted, and with its scaler and unit if it has them.
+    fn put<W: Write>(
         &self,
+        said: &str,
         attribute: Descriptor,
-        format: ValueFormat,
+        value: &[u8],
+        scaled: Option<(i8, u8)>,
+        printing: Printing,
         output: &mut W,
     ) -> Result<(), Fault<'a>> {
         let mut teller = Teller::new(self.alloc, self.place, output);
-        teller.put_value(attribute, self.head.client.value(), format, None)
+        if printing.is_named {
+            teller.put_name(said)?;
+        }
+        teller.put_value(attribute, value, printing.format, scaled)
     }
 
     /// Prints the value of a register that came last, with its scaler and its unit.
@@ -238,14 +294,12 @@ impl<'a, S: End> MeterSession<'a, '_, S> {
         said: &'a str,
         attribute: Descriptor,
         scaler: Descriptor,
-        format: ValueFormat,
+        printing: Printing,
         output: &mut W,
     ) -> Result<(), Fault<'a>> {
         let value = self.copy_value()?;
         let scaled = self.scaler_unit(said, scaler);
-        let mut teller = Teller::new(self.alloc, self.place, output);
-        let told = teller.put_value(attribute, value.as_slice(), format, scaled);
-        drop(teller);
+        let told = self.put(said, attribute, value.as_slice(), scaled, printing, output);
         drop(value);
         told
     }
@@ -253,29 +307,40 @@ impl<'a, S: End> MeterSession<'a, '_, S> {
     /// Prints the value of an attribute.
     fn get_one<W: Write>(
         &mut self,
-        list: &Option<Vec<u8>>,
+        list: &mut Option<Vec<u8>>,
         said: &'a str,
         class: u16,
-        format: ValueFormat,
+        printing: Printing,
         output: &mut W,
     ) -> Result<(), Fault<'a>> {
         let attribute = self.attribute(list, said, read_name(said)?, class)?;
         self.fetch(said, attribute)?;
         match scaler_of(attribute) {
-            Some(scaler) if format != ValueFormat::Encoding => {
-                self.put_scaled(said, attribute, scaler, format, output)
+            Some(scaler) if printing.format != ValueFormat::Encoding => {
+                self.put_scaled(said, attribute, scaler, printing, output)
             }
-            _ => self.put_plain(attribute, format, output),
+            _ => self.put(said, attribute, self.head.value(), None, printing, output),
         }
     }
 
-    /// Prints the values of attributes; if no class is given, their classes come from an object list.
+    /// Keeps the fault of one name, so that the others are asked for all the same. Any other fault is returned.
+    fn keep(&mut self, told: Result<(), Fault<'a>>) -> Result<(), Fault<'a>> {
+        match told {
+            Err(fault) if is_of_name(&fault) => {
+                self.refused.push(fault)?;
+                Ok(())
+            }
+            told => told,
+        }
+    }
+
+    /// Prints the values of attributes, with an object list that is read when it is first needed.
     fn get_each<W: Write>(
         &mut self,
-        list: &Option<Vec<u8>>,
+        list: &mut Option<Vec<u8>>,
         names: &'a str,
         class: u16,
-        format: ValueFormat,
+        printing: Printing,
         output: &mut W,
     ) -> Result<(), Fault<'a>> {
         let mut rest = names;
@@ -284,7 +349,8 @@ impl<'a, S: End> MeterSession<'a, '_, S> {
                 Some((said, behind)) => (said, Some(behind)),
                 None => (rest, None),
             };
-            self.get_one(list, said, class, format, output)?;
+            let told = self.get_one(list, said, class, printing, output);
+            self.keep(told)?;
             match behind {
                 Some(behind) => rest = behind,
                 None => return Ok(()),
@@ -293,7 +359,8 @@ impl<'a, S: End> MeterSession<'a, '_, S> {
         Ok(())
     }
 
-    /// Prints the values of attributes.
+    /// Prints the values of attributes, each after its name if there are several. A name that the meter refuses or lacks is kept
+    /// with its fault.
     #[inline(never)]
     pub fn get_all<W: Write>(
         &mut self,
@@ -302,8 +369,13 @@ impl<'a, S: End> MeterSession<'a, '_, S> {
         format: ValueFormat,
         output: &mut W,
     ) -> Result<(), Fault<'a>> {
-        let list = self.list_unless(class)?;
-        let told = self.get_each(&list, names, class, format, output);
+        let several = names.split_once(',').is_some();
+        let printing = Printing {
+            format,
+            is_named: several && format != ValueFormat::Json,
+        };
+        let mut list = None;
+        let told = self.get_each(&mut list, names, class, printing, output);
         drop(list);
         told
     }
@@ -317,7 +389,7 @@ impl<'a, S: End> MeterSession<'a, '_, S> {
     ) -> Result<(), Fault<'a>> {
         self.fetch_list()?;
         let mut teller = Teller::new(self.alloc, self.place, output);
-        teller.put_objects(self.head.client.value(), format)
+        teller.put_objects(self.head.value(), format)
     }
 
     /// The attribute that a text names.
@@ -345,7 +417,7 @@ impl<'a, S: End> MeterSession<'a, '_, S> {
             return Ok(None);
         };
         match self.fetch(said, clock) {
-            Ok(()) => Ok(clock_in(self.head.client.value())),
+            Ok(()) => Ok(clock_in(self.head.value())),
             Err(fault) => {
                 if is_answer(&fault) {
                     drop(fault);
@@ -461,7 +533,7 @@ impl<'a, S: End> MeterSession<'a, '_, S> {
 
     /// Prints what a method returned, if it is a value.
     fn put_returned<W: Write>(&self, output: &mut W) -> Result<(), Fault<'a>> {
-        let value = self.head.client.value();
+        let value = self.head.value();
         if value.is_empty() {
             return Ok(());
         }

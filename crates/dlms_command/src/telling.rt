@@ -276,6 +276,13 @@ impl<'a, 'o, W: Write> Teller<'a, 'o, W> {
         put(self.output, b"\n")
     }
 
+    /// Puts a name in front of the value that is printed next.
+    pub fn put_name(&mut self, name: &str) -> Result<(), Fault<'a>> {
+        self.text.extend_from_slice(name.as_bytes())?;
+        self.text.extend_from_slice(b" ")?;
+        Ok(())
+    }
+
     /// Prints a number with its scaler and its unit, another value in words.
     fn put_scaled(&mut self, bytes: &[u8], scaler: i8, unit: u8) -> Result<(), Fault<'a>> {
         let number = match front_of(bytes) {
