@@ -1,19 +1,19 @@
-"""Frames of a client's side, and a meter that answers as it is told to, for the scripts that drive the program (IEC 62056-46)."""
+"""Frames of a client (IEC 62056-46), and a fake meter that answers one poll, for the scripts that drive the program."""
 import datetime
 
 
 def check(data):
-    """The frame check sequence of some bytes, low byte first."""
-    rest = 0xFFFF
+    """Returns the frame check sequence of the bytes, low byte first."""
+    register = 0xFFFF
     for byte in data:
-        rest ^= byte
+        register ^= byte
         for _ in range(8):
-            rest = (rest >> 1) ^ 0x8408 if rest & 1 else rest >> 1
-    return (rest ^ 0xFFFF).to_bytes(2, "little")
+            register = (register >> 1) ^ 0x8408 if register & 1 else register >> 1
+    return (register ^ 0xFFFF).to_bytes(2, "little")
 
 
 def frame(source, control, information=b"", to=0x03):
-    """A frame to the meter's one-byte address, or to another."""
+    """Returns a frame, by default to the meter's one-byte address."""
     length = 2 + 2 + 1 + 2 + (2 + len(information) if information else 0)
     head = (0xA000 | length).to_bytes(2, "big") + bytes([to, source, control])
     body = head + check(head) + information if information else head
@@ -21,7 +21,7 @@ def frame(source, control, information=b"", to=0x03):
 
 
 class Client:
-    """One client's numbers: each APDU in its own frame, answered before the next."""
+    """Makes a client's frames, one APDU in each. Its sequence numbers assume that each frame is answered before the next is sent."""
 
     PUBLIC, MANAGEMENT = 0x21, 0x03
     OPEN_PUBLIC = bytes.fromhex("601da109060760857405080101be10040e01000000065f1f0400007e1f04b0")
@@ -47,25 +47,25 @@ def line(octets):
     return "> " + octets.hex() + "\n"
 
 
-def frames_in(came):
-    """The frames among the bytes, without their flags, and what is left of them."""
+def frames_in(data):
+    """Returns the complete frames in the data, without their flags, and the bytes after the last of them."""
     found = []
     while True:
-        came = came[came.find(b"\x7e"):] if b"\x7e" in came else b""
-        while came[1:2] == b"\x7e":
-            came = came[1:]
-        if len(came) < 3:
-            return found, came
-        length = int.from_bytes(came[1:3], "big") & 0x7FF
-        if len(came) < length + 2:
-            return found, came
-        found.append(came[1:length + 1])
-        came = came[length + 1:]
+        data = data[data.find(b"\x7e"):] if b"\x7e" in data else b""
+        while data[1:2] == b"\x7e":
+            data = data[1:]
+        if len(data) < 3:
+            return found, data
+        length = int.from_bytes(data[1:3], "big") & 0x7FF
+        if len(data) < length + 2:
+            return found, data
+        found.append(data[1:length + 1])
+        data = data[length + 1:]
 
 
-class FalseMeter:
-    """A meter's side of one poll: whatever is asked, its buffer has these rows, each a second of its clock and three registers, and
-    its columns are those of the first list, and behind the rows those of the second: class, name, attribute and data index."""
+class FakeMeter:
+    """Answers one poll, whatever the requests are. A row has a clock in seconds and three registers. The first list of columns is sent
+    before the rows, the second after them; a column has a class, a logical name, an attribute and a data index."""
 
     ACCEPTED = bytes.fromhex("6129a109060760857405080101a203020100a305a103020100be10040e0800065f1f0400001c1d04000007")
     BEGIN = datetime.datetime(2000, 1, 1)
@@ -75,8 +75,8 @@ class FalseMeter:
     def __init__(self, rows, source=0x03, columns=(COLUMNS, COLUMNS)):
         self.source, self.rows, self.columns = source, rows, columns
 
-    def told(self, columns):
-        """The answer that has these columns."""
+    def columns_response(self, columns):
+        """Returns the GET response with these columns."""
         each = b"".join(b"\x02\x04\x12" + of_class.to_bytes(2, "big") + b"\x09\x06" + bytes.fromhex(name)
                         + b"\x0f" + bytes([attribute]) + b"\x12" + index.to_bytes(2, "big") for of_class, name, attribute, index in columns)
         return b"\xc4\x01\xc1\x00\x01" + bytes([len(columns)]) + each
@@ -97,24 +97,24 @@ class FalseMeter:
         return b"\x7e" + body + check(body) + b"\x7e"
 
     def apdu(self, number, apdu):
-        """The answer to the information frame of this number."""
+        """Returns an APDU in a frame that answers the client's information frame with this number."""
         return self.frame((number + 1) % 8 << 5 | 0x10 | number << 1, b"\xe6\xe7\x00" + apdu)
 
     def answers(self):
-        """All the frames of a poll, in their order."""
-        before, behind = (self.told(it) for it in self.columns)
-        apdus = [self.ACCEPTED, before, self.buffer(), behind, bytes.fromhex("6303800100")]
+        """Returns the answers of a whole poll, in order."""
+        before, after = (self.columns_response(it) for it in self.columns)
+        apdus = [self.ACCEPTED, before, self.buffer(), after, bytes.fromhex("6303800100")]
         return [self.frame(0x73), *(self.apdu(number, apdu) for number, apdu in enumerate(apdus)), self.frame(0x73)]
 
     def serve(self, line):
-        """Answers one question after another."""
-        came = b""
+        """Sends the next answer after each frame received."""
+        rest = b""
         for answer in self.answers():
             found = []
             while not found:
                 more = line.recv(4096)
                 if not more:
                     return
-                found, came = frames_in(came + more)
+                found, rest = frames_in(rest + more)
             line.sendall(answer)
         line.recv(1)
