@@ -1,5 +1,5 @@
-//! What `dlms` is measured against: a plain program of the same first path, written for speed and with no proof, no store and few
-//! refusals. It is built by the machine's rustc for `.ci/bench/measure`, and is no part of the product.
+//! The plain program that `.ci/bench/measure` compares `dlms` with. It answers the same frames, is written for speed, and has no proofs, no
+//! store and few checks. The machine's rustc builds it; it is not part of the product.
 use std::io::{BufRead, Read, Write};
 
 const FLAG: u8 = 0x7e;
@@ -20,7 +20,7 @@ impl Check {
         !octets.iter().fold(0xffff, |sum: u16, &octet| (sum >> 8) ^ self.0[usize::from((sum as u8) ^ octet)])
     }
 
-    fn fits(&self, octets: &[u8], sum: &[u8]) -> bool {
+    fn matches(&self, octets: &[u8], sum: &[u8]) -> bool {
         self.of(octets).to_le_bytes() == *sum
     }
 }
@@ -31,25 +31,25 @@ struct Frame<'a> {
     info: &'a [u8],
 }
 
-/// The frame between its flags, with addresses of one octet.
+/// Reads a frame with addresses of one octet; the text has no flags.
 fn frame<'a>(check: &Check, text: &'a [u8]) -> Option<Frame<'a>> {
     let length = usize::from(*text.first()? & 7) << 8 | usize::from(*text.get(1)?);
     if text.len() < 7 || text.len() != length || text[0] >> 4 != 0xa {
         return None;
     }
     let (body, sum) = text.split_at(length - 2);
-    if !check.fits(body, sum) {
+    if !check.matches(body, sum) {
         return None;
     }
     let info = match body.len() {
         5 => &[][..],
-        7.. if check.fits(&body[..5], &body[5..7]) => &body[7..],
+        7.. if check.matches(&body[..5], &body[5..7]) => &body[7..],
         _ => return None,
     };
     Some(Frame { source: body[3] >> 1, control: body[4], info })
 }
 
-fn spelled(check: &Check, out: &mut Vec<u8>, dest: u8, control: u8, info: &[u8]) {
+fn write_frame(check: &Check, out: &mut Vec<u8>, dest: u8, control: u8, info: &[u8]) {
     let length = if info.is_empty() { 7 } else { 9 + info.len() };
     let from = out.len() + 1;
     out.extend([FLAG, 0xa0 | (length >> 8) as u8, length as u8, dest << 1 | 1, 3, control]);
@@ -63,35 +63,35 @@ fn spelled(check: &Check, out: &mut Vec<u8>, dest: u8, control: u8, info: &[u8])
     out.push(FLAG);
 }
 
-/// The octets of a stretch that may still begin a frame.
+/// Finds frames in a stream of octets; the buffer contains those that may still be part of a frame.
 struct Deframer {
-    kept: Vec<u8>,
+    buffer: Vec<u8>,
 }
 
 impl Deframer {
-    /// Takes octets through the first closing flag of a frame, and says how many, and where the frame stands between its flags.
+    /// Reads octets through the first closing flag of a frame. Returns their number, and the frame's range in the buffer, without its flags.
     fn feed(&mut self, check: &Check, octets: &[u8]) -> (usize, Option<std::ops::Range<usize>>) {
         for (at, &octet) in octets.iter().enumerate() {
-            self.kept.push(octet);
+            self.buffer.push(octet);
             if octet != FLAG {
                 continue;
             }
-            let end = self.kept.len() - 1;
+            let end = self.buffer.len() - 1;
             for from in end.saturating_sub(2048)..end {
-                if self.kept[from] == FLAG && frame(check, &self.kept[from + 1..end]).is_some() {
+                if self.buffer[from] == FLAG && frame(check, &self.buffer[from + 1..end]).is_some() {
                     return (at + 1, Some(from + 1..end));
                 }
             }
         }
-        if self.kept.len() > 8192 {
-            self.kept.drain(..self.kept.len() - 2049);
+        if self.buffer.len() > 8192 {
+            self.buffer.drain(..self.buffer.len() - 2049);
         }
         (octets.len(), None)
     }
 
-    fn behind(&mut self) {
-        self.kept.clear();
-        self.kept.push(FLAG);
+    fn start_after_frame(&mut self) {
+        self.buffer.clear();
+        self.buffer.push(FLAG);
     }
 }
 
@@ -130,13 +130,13 @@ impl Meter {
             0x93 => {
                 *self = Meter { registers: self.registers, second: self.second, up: true, ..Meter::default() };
                 let window = [0x81, 0x80, 0x12, 5, 1, 0x80, 6, 1, 0x80, 7, 4, 0, 0, 0, 1, 8, 4, 0, 0, 0, 1];
-                spelled(check, out, frame.source, 0x73, &window);
+                write_frame(check, out, frame.source, 0x73, &window);
             }
             control if self.up && control & 1 == 0 && control >> 1 & 7 == self.taken && control >> 5 == self.sent => {
                 info.clear();
                 self.answer(frame.info.strip_prefix(&[0xe6, 0xe6, 0]).unwrap_or(&[]), info);
                 self.taken = (self.taken + 1) & 7;
-                spelled(check, out, frame.source, self.taken << 5 | 0x10 | self.sent << 1, info);
+                write_frame(check, out, frame.source, self.taken << 5 | 0x10 | self.sent << 1, info);
                 self.sent = (self.sent + 1) & 7;
             }
             _ => {}
@@ -171,9 +171,9 @@ fn numbers(line: &[u8]) -> impl Iterator<Item = u32> + '_ {
     line[1..].split(|&each| each == b' ').filter(|word| !word.is_empty()).map(|word| word.iter().fold(0, |number: u32, each| number.wrapping_mul(10).wrapping_add(u32::from(each - b'0'))))
 }
 
-/// Lines of a transcript on a meter.
+/// Runs the lines of a transcript on a meter.
 fn replay(input: &mut impl BufRead, output: &mut impl Write) -> std::io::Result<()> {
-    let (check, mut meter, mut deframer) = (Check::new(), Meter::default(), Deframer { kept: Vec::new() });
+    let (check, mut meter, mut deframer) = (Check::new(), Meter::default(), Deframer { buffer: Vec::new() });
     let (mut line, mut octets, mut info, mut reply, mut out) = (Vec::new(), Vec::new(), Vec::new(), Vec::new(), Vec::new());
     while input.read_until(b'\n', &mut line)? > 0 {
         let text = line.strip_suffix(b"\n").unwrap_or(&line);
@@ -186,10 +186,10 @@ fn replay(input: &mut impl BufRead, output: &mut impl Write) -> std::io::Result<
                     rest = &rest[taken..];
                     if let Some(place) = found {
                         reply.clear();
-                        if let Some(frame) = frame(&check, &deframer.kept[place]) {
+                        if let Some(frame) = frame(&check, &deframer.buffer[place]) {
                             meter.on(&check, &frame, &mut info, &mut reply);
                         }
-                        deframer.behind();
+                        deframer.start_after_frame();
                         if !reply.is_empty() {
                             out.clear();
                             out.extend(b"< ");
@@ -215,9 +215,9 @@ fn replay(input: &mut impl BufRead, output: &mut impl Write) -> std::io::Result<
     output.flush()
 }
 
-/// A line for each frame in a text of octets, one line or many.
+/// Prints a line for each frame in lines of octets.
 fn frames(input: &mut impl BufRead, output: &mut impl Write) -> std::io::Result<()> {
-    let (check, mut deframer) = (Check::new(), Deframer { kept: Vec::new() });
+    let (check, mut deframer) = (Check::new(), Deframer { buffer: Vec::new() });
     let (mut line, mut octets) = (Vec::new(), Vec::new());
     while input.read_until(b'\n', &mut line)? > 0 {
         octets_of(&line[1..], &mut octets);
@@ -226,10 +226,10 @@ fn frames(input: &mut impl BufRead, output: &mut impl Write) -> std::io::Result<
             let (taken, found) = deframer.feed(&check, rest);
             rest = &rest[taken..];
             if let Some(place) = found {
-                if let Some(frame) = frame(&check, &deframer.kept[place]) {
+                if let Some(frame) = frame(&check, &deframer.buffer[place]) {
                     writeln!(output, "{} {:02x} {:02x?}", frame.source, frame.control, frame.info)?;
                 }
-                deframer.behind();
+                deframer.start_after_frame();
             }
         }
         line.clear();
@@ -237,7 +237,7 @@ fn frames(input: &mut impl BufRead, output: &mut impl Write) -> std::io::Result<
     output.flush()
 }
 
-/// Turns of so many octets each way over TCP on this machine.
+/// Sends 32 octets and gets this number of octets back, `count` times, over TCP on this machine.
 fn turns(count: usize, octets: usize) -> std::io::Result<()> {
     let listener = std::net::TcpListener::bind("127.0.0.1:0")?;
     let mut head = std::net::TcpStream::connect(listener.local_addr()?)?;
@@ -254,7 +254,7 @@ fn turns(count: usize, octets: usize) -> std::io::Result<()> {
     Ok(())
 }
 
-/// A file read whole, and the sum of each of its slots of 544 octets.
+/// Reads a file, and prints the check sequence of each of its slots of 544 octets.
 fn slots(path: &str) -> std::io::Result<()> {
     let octets = std::fs::read(path)?;
     let check = Check::new();
@@ -265,10 +265,10 @@ fn slots(path: &str) -> std::io::Result<()> {
 }
 
 fn main() -> std::io::Result<()> {
-    let words: Vec<String> = std::env::args().skip(1).collect();
+    let arguments: Vec<String> = std::env::args().skip(1).collect();
     let input = &mut std::io::BufReader::with_capacity(1 << 16, std::io::stdin().lock());
     let output = &mut std::io::BufWriter::with_capacity(1 << 16, std::io::stdout().lock());
-    match words.iter().map(String::as_str).collect::<Vec<_>>()[..] {
+    match arguments.iter().map(String::as_str).collect::<Vec<_>>()[..] {
         ["replay"] => replay(input, output),
         ["frames"] => frames(input, output),
         ["turns", count, octets] => turns(count.parse().unwrap_or(0), octets.parse().unwrap_or(0)),
