@@ -1,12 +1,12 @@
 -- Runs of the carrier over TCP.
-use Rattle.std.proofs.Common.{◌≡◌, ◌≢◌, ℕ, ◌+◌, ◌<◌, ◌≤◌, ◌^◌, List, [], ◌∷◌, ◌++◌, length, take, map, refl, sym, ap, subst, ◌∙◌, append_assoc, arith, Option, Some, None, All}
+use Rattle.std.proofs.Common.{◌≡◌, ◌≢◌, ℕ, ◌+◌, ◌<◌, ◌≤◌, ◌^◌, List, [], ◌∷◌, ◌++◌, length, take, map, refl, sym, ap, subst, ◌∙◌, append_assoc, arith, Option, Some, None, All, false}
 use Rattle.std.proofs.lemmas.List.{append-nil, take_all}
 use Rattle.std.proofs.lemmas.List.Elements.{All-cons, All-head, All-tail}
 use Rattle.dlms_wrapper.specs.Message.{IsMessage, Parts, message_bytes}
 use Rattle.dlms_wrapper.specs.Stream.{HasNoMessage, IsFound, Kept, found_bytes, stream_of}
 use Rattle.dlms_wrapper.specs.declared.message.TheConstants.{MOST_APDU}
 use Rattle.dlms_carrier.specs.Carrying.{Call, Does, Input, Begin, Give, Feed, Wait, End, given, given_by, handed_up, read, read_by, written}
-use Rattle.dlms_carrier.specs.Tcp.{Brings, Comes, HandedUp, Hears, Ignored, IsBetween, IsWithin, NoMessage, Reads, Steps, TcpRuns, TcpValue, apdu_in, at_start, fresh, last_apdu, message_of}
+use Rattle.dlms_carrier.specs.Tcp.{Brings, Comes, HandedUp, Hears, Ignored, IsBetween, IsWithin, NoMessage, Reads, Steps, TcpRuns, TcpValue, apdu_in, at_start, fresh, is_notification, last_apdu, message_of}
 use Rattle.dlms_carrier.proofs.TcpLemmas.{none_is_refused}
 use Rattle.dlms_carrier.specs.declared.event.Event.{Event}
 use Rattle.dlms_carrier.specs.declared.event.Event.TheVariants.{Nothing, Up, Apdu, TimedOut, Refused}
@@ -156,9 +156,9 @@ ignores own server kept octets left more (Some m) apdus new e fits b = record {
 
 -- octets complete the message that is handed up
 hands : (own server : ℕ) (kept octets left more apdu : List ℕ) (apdus : List (List ℕ)) (new : TcpValue)
-    → kept ++ octets ≡ message_bytes (message_of server own apdu) ++ left → IsMessage MOST_APDU (message_of server own apdu) → Brings own server left more apdus new
-    → Brings own server kept (octets ++ more) (apdu ∷ apdus) new
-hands own server kept octets left more apdu apdus new e fits b =
+    → kept ++ octets ≡ message_bytes (message_of server own apdu) ++ left → IsMessage MOST_APDU (message_of server own apdu) → is_notification apdu ≡ false
+    → Brings own server left more apdus new → Brings own server kept (octets ++ more) (apdu ∷ apdus) new
+hands own server kept octets left more apdu apdus new e fits answers b =
     let m : Parts = message_of server own apdu in
     record {
       stream = octets ++ b.stream;
@@ -170,7 +170,7 @@ hands own server kept octets left more apdu apdus new e fits b =
         each = All-cons (IsMessage MOST_APDU) m b.messages fits b.splits.each;
         partial = b.splits.partial;
       };
-      among = HandedUp apdu apdus b.messages b.among;
+      among = HandedUp apdu apdus b.messages answers b.among;
       none = b.none;
     }
 
@@ -190,7 +190,7 @@ feed_more (Refused why) arrived count octets out apdu calls reader c mid new com
 feed_more Apdu arrived count octets out apdu calls reader c mid new comes same e fits b =
     let is = between_is c.server c.own reader.message comes.0.1 in
     let a : List ℕ = comes.0.1.message.apdu in
-    let whole = hands c.own c.server c.reader.bytes octets reader.bytes (read calls) a (handed_up calls) new (subst (λ f. c.reader.bytes ++ octets ≡ found_bytes f ++ reader.bytes) is e) (subst (IsFound MOST_APDU) is fits) b in
+    let whole = hands c.own c.server c.reader.bytes octets reader.bytes (read calls) a (handed_up calls) new (subst (λ f. c.reader.bytes ++ octets ≡ found_bytes f ++ reader.bytes) is e) (subst (IsFound MOST_APDU) is fits) comes.0.1.answers b in
     subst (λ x. Brings c.own c.server c.reader.bytes (octets ++ read calls) (x ∷ handed_up calls) new) (sym (same ∙ ap apdu_in is)) whole
 feed_more Up arrived count octets out apdu calls reader c mid new comes same e fits b = absurd comes
 feed_more event.Down arrived count octets out apdu calls reader c mid new comes same e fits b = absurd comes
@@ -357,9 +357,9 @@ one_each own server calls new run = omega (arith, counted calls (fresh own serve
 
 -- ---- one exchange
 
-pub exchange : (own server : ℕ) (apdu answer : List ℕ) → own < 2 ^ 16 → server < 2 ^ 16 → length apdu ≤ MOST_APDU → length answer ≤ MOST_APDU
+pub exchange : (own server : ℕ) (apdu answer : List ℕ) → own < 2 ^ 16 → server < 2 ^ 16 → length apdu ≤ MOST_APDU → length answer ≤ MOST_APDU → is_notification answer ≡ false
     → (calls : List Call) × (new : TcpValue) × TcpRuns (fresh own server) calls new × (given calls ≡ apdu ∷ []) × (handed_up calls ≡ answer ∷ [])
-exchange own server apdu answer port meter short fits =
+exchange own server apdu answer port meter short fits answers =
     let m : Parts = message_of server own answer in
     let got : Kept = record { limit = MOST_APDU; bytes = []; message = Some m } in
     let up : TcpValue = record (fresh own server) { phase = Idle; reader = at_start; text = [] } in
@@ -377,7 +377,7 @@ exchange own server apdu answer port meter short fits =
       reader = got;
       reads = λ open_. reads;
       drops = λ down. cc;
-      comes = ((refl, record { message = m; whole = refl; from = refl; to = refl }), none_is_refused MOST_APDU, refl);
+      comes = ((refl, record { message = m; whole = refl; from = refl; to = refl; answers = answers }), none_is_refused MOST_APDU, refl);
     } in
     let first : Does Steps (λ c. c.text) last_apdu (fresh own server) begins up = record { step = (refl, refl, refl); out = refl; apdu = refl } in
     let second : Does Steps (λ c. c.text) last_apdu up gives asked = record { step = (refl, short, refl, refl); out = refl; apdu = refl } in

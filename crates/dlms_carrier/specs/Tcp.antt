@@ -1,5 +1,5 @@
 -- The carrier over TCP: each APDU is a message of the wrapper (IEC 62056-47) between the client's port and the meter's.
-use Rattle.std.specs.Prelude.{◌≡◌, ◌≢◌, ℕ, ◌≤◌, List, [], ◌∷◌, ◌++◌, length, take, Option, Some, None}
+use Rattle.std.specs.Prelude.{◌≡◌, ◌≢◌, ℕ, ◌≤◌, List, [], ◌∷◌, ◌++◌, length, take, Option, Some, None, Bool, false, nat_eq, ◌||◌}
 use Rattle.dlms_wrapper.specs.Message.{Parts, message_bytes}
 use Rattle.dlms_wrapper.specs.Stream.{IsRefused, IsRefusedFor, Kept, Splits, Takes}
 use Rattle.dlms_wrapper.specs.declared.message.TheConstants.{MOST_APDU}
@@ -51,12 +51,18 @@ apdu_in (Some m) = m.apdu
 abbrev pub last_apdu : TcpValue → List ℕ
 last_apdu c = apdu_in c.reader.message
 
--- the message that was completed, if any, is from one port to the other
+-- A data notification or an event notification, which a meter sends unasked (Green Book 9, tags 15 and 194): it is no answer.
+abbrev pub is_notification : List ℕ → Bool
+is_notification [] = false
+is_notification (tag ∷ rest) = nat_eq tag 15 || nat_eq tag 194
+
+-- the message that was completed, if any, is from one port to the other, and no notification
 pub record IsBetween (source dest : ℕ) (found : Option Parts) : Type 0 where
   pub message : Parts
   pub whole : found ≡ Some message
   pub from : message.source ≡ source
   pub to : message.dest ≡ dest
+  pub answers : is_notification message.apdu ≡ false
 
 -- an answer is awaited, and a message from the meter to the client is whole
 abbrev pub HasAnswer : TcpValue → Type 0
@@ -103,11 +109,12 @@ TcpRuns old calls new = Runs Steps (λ c. c.text) last_apdu old calls new
 abbrev pub IsWithin : Call → Type 0
 IsWithin call = call.input ≢ Begin
 
--- These APDUs are of these messages, in their order: each is of a message from port `source` to port `dest`. The APDUs of other messages
--- are left out.
+-- These APDUs are of these messages, in their order: each is of a message from port `source` to port `dest`, and no notification. The
+-- APDUs of other messages are left out.
 pub data AreAmong (source dest : ℕ) : List (List ℕ) → List Parts → Type 0 where
   NoMessage : AreAmong source dest [] []
-  HandedUp : (apdu : List ℕ) (apdus : List (List ℕ)) (ms : List Parts) → AreAmong source dest apdus ms
+  HandedUp : (apdu : List ℕ) (apdus : List (List ℕ)) (ms : List Parts) → is_notification apdu ≡ false
+      → AreAmong source dest apdus ms
       → AreAmong source dest (apdu ∷ apdus) (message_of source dest apdu ∷ ms)
   Ignored : (m : Parts) (apdus : List (List ℕ)) (ms : List Parts) → AreAmong source dest apdus ms → AreAmong source dest apdus (m ∷ ms)
 

@@ -1,10 +1,10 @@
 //! Laws of runs. Nobody needs to call these functions: their contracts are the laws.
 
-ghost use Rattle.std.specs.Prelude.{◌≡◌, ◌<◌, ◌≤◌, ◌^◌, ℕ, All, List, [], ◌∷◌, length, map};
+ghost use Rattle.std.specs.Prelude.{◌≡◌, ◌<◌, ◌≤◌, ◌^◌, ℕ, All, false, List, [], ◌∷◌, length, map};
 ghost use Rattle.dlms_wrapper.specs.Stream.{stream_of};
 ghost use Rattle.dlms_wrapper.specs.declared.message.TheConstants.{MOST_APDU};
 ghost use Rattle.dlms_carrier.specs.Carrying.{Begin, Call, given, handed_up, read, written};
-ghost use Rattle.dlms_carrier.specs.Tcp.{Brings, IsWithin, fresh, TcpRuns, TcpValue, message_of};
+ghost use Rattle.dlms_carrier.specs.Tcp.{Brings, IsWithin, fresh, is_notification, TcpRuns, TcpValue, message_of};
 
 /// The octets that go out in a run over TCP are the messages of the APDUs that were given, from the client's port to the meter's,
 /// in their order, each once.
@@ -27,10 +27,11 @@ pub fn one_answer_each()
         length (handed_up calls) ≤ length (given calls) }
 {}
 
-/// There is such a run: for any two APDUs one is given, and the other is handed up.
+/// There is such a run: for any two APDUs of which the second is no notification, one is given, and the other is handed up.
 pub fn exchanges_exist()
     ensures { (own server : ℕ) (apdu answer : List ℕ) →
         own < 2 ^ 16 → server < 2 ^ 16 → length apdu ≤ MOST_APDU → length answer ≤ MOST_APDU →
+        is_notification answer ≡ false →
         (calls : List Call) × (new : TcpValue) × TcpRuns (fresh own server) calls new
         × (given calls ≡ apdu ∷ []) × (handed_up calls ≡ answer ∷ []) }
 {}

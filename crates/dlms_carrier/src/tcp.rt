@@ -1,7 +1,7 @@
 //! The carrier over TCP.
 
-ghost use Rattle.std.specs.Prelude.{◌↔◌, IsTrue};
-ghost use Rattle.dlms_carrier.specs.Tcp.{IsBetween};
+ghost use Rattle.std.specs.Prelude.{◌≡◌, ◌↔◌, IsTrue};
+ghost use Rattle.dlms_carrier.specs.Tcp.{IsBetween, is_notification};
 
 use crate::carrier::Carrier;
 use crate::event::{Event, Fed};
@@ -14,7 +14,7 @@ use std::marker::Model;
 /// `begin` once it is open, and closes it after each event `Down`, `TimedOut` or `Refused`.
 ///
 /// One timeout ends the connection, since an answer that arrives later could be taken for the answer to the next request. A message
-/// between other ports is ignored, and so is one that arrives while no answer is awaited, as a data notification. A header that the
+/// between other ports is ignored, and so are a notification and a message that arrives while no answer is awaited. A header that the
 /// wrapper refuses ends the connection. Octets that arrive after the end are dropped.
 #[derive(Drop)]
 pub struct TcpCarrier {
@@ -54,12 +54,29 @@ impl TcpCarrier {
     }
 }
 
-/// Whether the last call of the reader completed a message from one port to the other.
+/// The tag of a data notification, and of an event notification (Green Book 9).
+const DATA_NOTIFICATION: u8 = 15;
+
+const EVENT_NOTIFICATION: u8 = 194;
+
+/// Whether an APDU is a notification, which a meter sends unasked.
+fn is_notification(apdu: &[u8]) -> bool
+    ensures { result ≡ is_notification apdu.now }
+{
+    match apdu {
+        [tag, ..] => *tag == DATA_NOTIFICATION || *tag == EVENT_NOTIFICATION,
+        [] => false,
+    }
+}
+
+/// Whether the last call of the reader completed a message from one port to the other that is no notification.
 fn is_between(source: u16, dest: u16, reader: &MessageReader) -> bool
     ensures { IsTrue result ↔ IsBetween source dest reader.now.message }
 {
     match reader.message() {
-        Some(message) => message.source == source && message.dest == dest,
+        Some(message) => {
+            message.source == source && message.dest == dest && !is_notification(message.apdu)
+        }
         None => false,
     }
 }
