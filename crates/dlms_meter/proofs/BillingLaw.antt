@@ -18,7 +18,7 @@ use Rattle.dlms_meter.proofs.StoreLaw.{turns_run, stores_in_turn}
 use Rattle.dlms_meter.proofs.LifeLaw.{leg_found}
 
 -- these events are settled, and so none of them can be lost
-abbrev Holds : List Event → StoreWorld → Type 0
+abbrev pub Holds : List Event → StoreWorld → Type 0
 Holds events (Runs s p) = IsBeginning events s
 Holds events (InDoubt s p) = IsBeginning events s
 Holds events (Rests e) = IsBeginning events e
@@ -29,7 +29,7 @@ longer events s more (rest, is) = (rest ++ more, sym (append_assoc events rest m
 between : (events s p found : List Event) → IsBeginning events s → IsBetween s p found → IsBeginning events found
 between events s p found h (n, is) = subst (λ (l : List Event). IsBeginning events l) (sym is) (longer events s (take n p) h)
 
-at : (events : List Event) (mid now : StoreWorld) → mid ≡ now → Holds events now → Holds events mid
+pub at : (events : List Event) (mid now : StoreWorld) → mid ≡ now → Holds events now → Holds events mid
 at events mid now same holds = subst (λ (w : StoreWorld). Holds events w) (sym same) holds
 
 -- each step keeps them
@@ -66,13 +66,13 @@ step_holds events (Rests e) Fails mid none h = absurd none
 step_holds events (Rests e) Closes mid none h = absurd none
 step_holds events (Rests e) ClosesInDoubt mid none h = absurd none
 
-run_holds : (events : List Event) (steps : List StoreStep) (before now : StoreWorld) → StoreRun before steps now → Holds events before → Holds events now
+pub run_holds : (events : List Event) (steps : List StoreStep) (before now : StoreWorld) → StoreRun before steps now → Holds events before → Holds events now
 run_holds events [] before now same h = at events now before same h
 run_holds events (step ∷ steps) before now (mid, next, run) h = run_holds events steps mid now run (step_holds events before step mid next h)
 
 -- ---- an answer of success leaves all settled
 
-none_pending : (events : List Event) (store : StoreWorld) → pending_in store ≡ [] → events_in store ≡ events → Holds events store
+pub none_pending : (events : List Event) (store : StoreWorld) → pending_in store ≡ [] → events_in store ≡ events → Holds events store
 none_pending events (Runs s p) none is = ([], append-nil events ∙ sym is ∙ ap (λ (l : List Event). s ++ l) none ∙ append-nil s)
 none_pending events (InDoubt s p) none is = ([], append-nil events ∙ sym is ∙ ap (λ (l : List Event). s ++ l) none ∙ append-nil s)
 none_pending events (Rests e) none is = ([], append-nil events ∙ sym is)
@@ -100,7 +100,7 @@ turns_hold w (turn ∷ turns) replies w' events (is_turn, rest, is, answers) (in
     run_holds events (steps_of turns) turn.store w'.store (turns_run (after_turn w turn) turns rest w' answers) (turn_holds w turn events is_turn here)
 turns_hold w (turn ∷ turns) replies w' events (is_turn, rest, is, answers) (inr later) = turns_hold (after_turn w turn) turns rest w' events answers later
 
-answer_holds : (w : MeterWorld) (step : Step) (w' : MeterWorld) (leads : Leads w step w') (events : List Event) → AnswersIn w step w' leads events → Holds events w'.store
+pub answer_holds : (w : MeterWorld) (step : Step) (w' : MeterWorld) (leads : Leads w step w') (events : List Event) → AnswersIn w step w' leads events → Holds events w'.store
 answer_holds w (Piece bytes replies) w' leads events one = turns_hold (grown w bytes) leads.turns replies w' events leads.answers one
 answer_holds w Silence w' leads events none = absurd none
 answer_holds w (Happens event outcome) w' leads events none = absurd none

@@ -9,7 +9,7 @@ use Rattle.dlms_meter.specs.Steps.{AllMayChoose, Call, Calls, HasCauses, Run, st
 use Rattle.dlms_meter.proofs.RunLemmas.{none_ended}
 
 -- a call of feed, with its frame if it ended one
-fed : {P A : Type 0} {ghosts : Ghosts P} (old new : Meter P A ghosts) (steps : List StoreStep) (w : MeterWorld) (taken : List ℕ) (reply : Option (List ℕ)) (w' : MeterWorld)
+pub fed : {P A : Type 0} {ghosts : Ghosts P} (old new : Meter P A ghosts) (steps : List StoreStep) (w : MeterWorld) (taken : List ℕ) (reply : Option (List ℕ)) (w' : MeterWorld)
     → Fed (MayChoose old.store new.store) w taken reply steps w' → Stands new w' → (comes : Comes w taken (listed reply) w') × AllMayChoose old.store new.store comes.turns
 fed old new steps w taken reply w' (inl (free, none, no_steps, is)) stands = (record { turns = []; answers = (free, ap listed none, is) }, tt)
 fed old new steps w taken reply w' (inr (turn, is_turn, may, promise, ends, told, took, is)) stands =

@@ -23,7 +23,7 @@ use Rattle.dlms_store.specs.Going.{Goes}
 use Rattle.dlms_store.proofs.Going.{none}
 use Rattle.dlms_meter.specs.ClientRecord.{ClientRecord}
 use Rattle.dlms_meter.specs.declared.meter.Meter.{Meter}
-use Rattle.dlms_meter.specs.Run.{MeterWorld, Records, Turn, Choice, Served, DeviceFails, Handled, Handles, Answered, Takes, IsSettling, StoredFor, Stored, pending_in, Feeds, Stands, Handling, Replies, MayChoose, client_at, is_same, record_for, with_record, after_turn, grown, events_of}
+use Rattle.dlms_meter.specs.Run.{MeterWorld, Records, Turn, Choice, Served, DeviceFails, Does, Handled, Handles, Answered, Takes, IsSettling, StoredFor, Stored, pending_in, Feeds, Stands, Handling, Replies, MayChoose, client_at, is_same, record_for, with_record, after_turn, grown, events_of}
 use Rattle.dlms_meter.proofs.Apart.{same-is, not_same}
 use Rattle.dlms_meter.proofs.RunLemmas.{none_ended}
 
@@ -49,6 +49,9 @@ unsaid_by s (Set invoke) = refl
 unsaid_by s (SetLast invoke number) = refl
 unsaid_by s (Action invoke) = refl
 
+pub unsaid_answer : (kept : Bool) (wanted E : List Event) (s : SessionValue) (apdu : List ℕ) (o : Outcome) → Does (DeviceFails kept wanted) E s apdu o → is_success o.answer ≡ false
+unsaid_answer kept wanted E s apdu o ((form, read, would, leads, told, same), wants) = ap (λ (x : Outcome). is_success x.answer) same ∙ unsaid_by s (stake_of form)
+
 pub unsaid : (kept : Bool) (wanted : List Event) (E : List Event) (r : ServerRecord) (s : SessionValue) (out : LinkOut) (h : Handled) → Answered (DeviceFails kept wanted) E r s out h → IsUnsaid h.answer
 unsaid kept wanted E r s Nothing h is = absurd is
 unsaid kept wanted E r s (Reply frame) h is = absurd is
@@ -56,8 +59,7 @@ unsaid kept wanted E r s (Up frame) h is = absurd is
 unsaid kept wanted E r s (Down frame) h is = absurd is
 unsaid kept wanted E r s Oversize h is = absurd is
 unsaid kept wanted E r s BadLlc h is = absurd is
-unsaid kept wanted E r s Apdu h (o, ((form, read, would, leads, told, same), wants), is) =
-    subst (λ (x : Handled). IsUnsaid x.answer) (sym is) (ap (λ (x : Outcome). is_success x.answer) same ∙ unsaid_by s (stake_of form))
+unsaid kept wanted E r s Apdu h (o, does, is) = subst (λ (x : Handled). IsUnsaid x.answer) (sym is) (unsaid_answer kept wanted E s r.apdu o does)
 
 pub promised : (choice : Choice) (answer : Option (List ℕ)) (accepted : List Event) (steps : List StoreStep) (before now : StoreWorld) → ((kept : Bool) (wanted : List Event) → choice ≡ DeviceFails kept wanted → IsUnsaid answer)
     → Stored choice answer accepted steps → StoreRun before steps now → IfSome answer (λ bytes. is_success bytes ≡ true → pending_in now ≡ [])
@@ -94,7 +96,7 @@ promised_by own f reply w old new own' h =
     h.stored h.goes.run
 
 -- each client's record, if one of them changed
-own_records : {P A : Type 0} {ghosts : Ghosts P} (who : Client) (w : MeterWorld) (old new : Meter P A ghosts) → Stands old w → ((other : Client) → other ≢ who → record_for new other ≡ record_for old other)
+pub own_records : {P A : Type 0} {ghosts : Ghosts P} (who : Client) (w : MeterWorld) (old new : Meter P A ghosts) → Stands old w → ((other : Client) → other ≢ who → record_for new other ≡ record_for old other)
     → (c : Client) → with_record w.records who (record_for new who) c ≡ record_for new c
 own_records who w old new stands others c = by_test (is_same who c) refl
   where

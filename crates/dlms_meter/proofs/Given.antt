@@ -39,7 +39,7 @@ use Rattle.dlms_service.specs.Shown.{asked, Gives, block_form, in_blocks, goes_o
 use Rattle.dlms_service.specs.Blocks.{Steps, ContinuesFor, open_for, taken_form, ended_form, code_for}
 use Rattle.dlms_service.specs.Serves.{Choice, FindsMemory, LacksMemoryToRead, LacksMemoryToAnswer, Asks, LacksToAnswer, Permitted, Requested, Read, Within, Released, Associated, secret_for, associated, permits, begins_with}
 use Rattle.dlms_meter.specs.Run.{Choice as Chosen, Served, DeviceFails, Does}
-use Rattle.dlms_meter.specs.Transfers.{Own, Cleared, Asked, Exchange, InTurn, own_of, is_get_normal, is_block, begins, NoneBegins, blocks_in, Block, spelled, joined, has_last, GoesOut, BlocksJoin, NoBlockUnasked}
+use Rattle.dlms_meter.specs.Transfers.{Own, Cleared, Asked, Exchange, InTurn, own_of, is_get_normal, is_block, begins, NoneBegins, blocks_in, Block, spelled, joined, has_last, GoesOut, JoinBlocks, BlocksJoin, NoBlockUnasked}
 use Rattle.dlms_meter.proofs.InTurn.{in_turn}
 
 -- ---- one APDU
@@ -410,11 +410,9 @@ first_of_them x s begun one =
       | inr (inr first) ↦ first
     ]
 
-pub blocks_join : BlocksJoin
-blocks_join who w w' steps run before behind x own is begun none =
-    let s : SessionValue = (w.records who).session in
-    let parts : Parted s (w'.records who).session before x behind =
-    parted before x behind s (w'.records who).session (subst (λ (xs : List Own). InTurn s xs (w'.records who).session) is (in_turn who w w' steps run)) in
+pub join_blocks : (who : Client) (s s' : SessionValue) (all : List Own) → InTurn s all s' → JoinBlocks who s all
+join_blocks who s s' all in_turn before behind x own is begun none =
+    let parts : Parted s s' before x behind = parted before x behind s s' (subst (λ (xs : List Own). InTurn s xs s') is in_turn) in
     let first : First x.before (request_at x.apdu) parts.session x.outcome = first_of_them x parts.session begun (moved x parts.session parts.does) in
     let out : GoesOut who s before x = record {
       invoke = first.invoke;
@@ -436,7 +434,7 @@ blocks_join who w w' steps run before behind x own is begun none =
     let begun_with : SoFar text size (Some (further g)) (b ∷ []) =
     grow text size first.invoke g [] refl (record { bytes = refl; final = λ e. not_both refl e; stands = (refl, refl, refl, λ e. not_both refl e) }) in
     let rest : Gave text size (b ∷ []) behind =
-    all_given behind text size x.outcome.own (w'.records who).session (b ∷ [])
+    all_given behind text size x.outcome.own s' (b ∷ [])
     (subst (λ (o : Outcome). SoFar text size o.own.getting (b ∷ [])) (sym first.leads) begun_with) parts.from none in
     let whole : Gave text size [] (Asked x ∷ behind) = gave_more text size [] b x behind (ap (λ (o : Outcome). o.answer) first.leads) rest in (
       out,
@@ -446,6 +444,10 @@ blocks_join who w w' steps run before behind x own is begun none =
       λ e. whole.bytes ∙ whole_of text size (length whole.blocks) (whole.final e),
     )
 
+pub blocks_join : BlocksJoin
+blocks_join who w w' steps run =
+    join_blocks who (w.records who).session (w'.records who).session (own_of who w steps w' run) (in_turn who w w' steps run)
+
 -- ---- without a transfer
 
 still_none : (before after : Option Going) → before ≡ None → Quiet before after → after ≡ None
@@ -453,7 +455,7 @@ still_none before after none (inl gone) = gone
 still_none before after none (inr (inl same)) = same ∙ none
 still_none before after none (inr (inr (g, was, is))) = absurd cc
 
-no_block_given : (xs : List Own) (s s' : SessionValue) → s.getting ≡ None → InTurn s xs s' → NoneBegins xs → blocks_in xs ≡ []
+pub no_block_given : (xs : List Own) (s s' : SessionValue) → s.getting ≡ None → InTurn s xs s' → NoneBegins xs → blocks_in xs ≡ []
 no_block_given [] s s' gone run none = refl
 no_block_given (Cleared ∷ xs) s s' gone run none = no_block_given xs (fresh s.client) s' refl run none
 no_block_given (Asked x ∷ xs) s s' gone (does, run) (other, none) =

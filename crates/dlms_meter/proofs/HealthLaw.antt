@@ -17,7 +17,7 @@ use Rattle.dlms_meter.specs.Healthy.{IsHealthy, AreHealthy, IsServed, AreServed,
 use Rattle.dlms_meter.proofs.RunLemmas.{none_ended}
 
 -- a choice that such a call may take
-served : {P A : Type 0} {ghosts : Ghosts P} (old new : Store P A ghosts) (choice : Choice) → IsHealthy old new → MayChoose old new choice → IsServed choice
+pub served : {P A : Type 0} {ghosts : Ghosts P} (old new : Store P A ghosts) (choice : Choice) → IsHealthy old new → MayChoose old new choice → IsServed choice
 served old new (Served memory) healthy may = tt
 served old new (DeviceFails kept wanted) healthy (inl rose) = healthy.steady rose
 served old new (DeviceFails kept wanted) healthy (inr (inl stopped)) = healthy.running stopped
@@ -41,7 +41,7 @@ stopped store (Runs s p) knows is = absurd is
 stopped store (InDoubt s p) knows is = knows.0
 stopped store (Rests events) knows is = absurd knows
 
-decided : {P A : Type 0} {ghosts : Ghosts P} (old new : Meter P A ghosts) (event : Event) (outcome : Result (Unit {0}) AddFault) (step : StoreStep) (w w' : MeterWorld) → IsHealthy old.store new.store → Stands old w
+pub decided : {P A : Type 0} {ghosts : Ghosts P} (old new : Meter P A ghosts) (event : Event) (outcome : Result (Unit {0}) AddFault) (step : StoreStep) (w w' : MeterWorld) → IsHealthy old.store new.store → Stands old w
     → Judged w event outcome step w' → JudgedFor event outcome old.store new.store → IsDecided outcome
 decided old new event (Ok done) step w w' healthy stands judged cause = tt
 decided old new event (Err (Refused why)) step w w' healthy stands judged cause = tt

@@ -19,3 +19,6 @@ pub mod CauseLaw
 pub mod HealthLaw
 pub mod FileLaw
 pub mod Sparing
+pub mod Requesting
+pub mod HistoryLemmas
+pub mod HistoryOwn

@@ -46,7 +46,7 @@ answered_keeps choice E r s Apdu h (o, does, is) = ap (λ (x : Handled). x.own.l
 answered_keeps choice E r s Oversize h is = ap (λ (x : Handled). x.own.link.client) (by_link choice is)
 answered_keeps choice E r s BadLlc h is = ap (λ (x : Handled). x.own.link.client) (by_link choice is)
 
-handled_keeps : (choice : Choice) (E : List Event) (own : ClientRecord) (frame : Parts) (h : Handled) → Handles choice E own frame h → h.own.link.client ≡ own.link.client
+pub handled_keeps : (choice : Choice) (E : List Event) (own : ClientRecord) (frame : Parts) (h : Handled) → Handles choice E own frame h → h.own.link.client ≡ own.link.client
 handled_keeps choice E own frame h handles =
     answered_keeps choice E (server_on own.link frame).0 own.session (server_on own.link frame).1 h handles ∙ row_keeps own.link frame (row_of own.link frame)
 

@@ -38,7 +38,7 @@ judged_run w event (Err add.Stopped) step w' (at, is, same) = refused w w' step 
 judged_run w event (Err add.Exhausted) step w' (at, free, is, same) = refused w w' step (inl at) is same
 judged_run w event (Err (add.Refused cause)) step w' (at, told, is, same) = refused w w' step (inl at) is same
 
-step_run : (w : MeterWorld) (step : Step) (w' : MeterWorld) (leads : Leads w step w') → StoreRun w.store (steps_in w step w' leads) w'.store
+pub step_run : (w : MeterWorld) (step : Step) (w' : MeterWorld) (leads : Leads w step w') → StoreRun w.store (steps_in w step w' leads) w'.store
 step_run w (Piece bytes replies) w' leads = turns_run (grown w bytes) leads.turns replies w' leads.answers
 step_run w Silence w' leads = ap (λ (x : MeterWorld). x.store) leads
 step_run w (Happens event outcome) w' leads = judged_run w event outcome leads.0 w' leads.1

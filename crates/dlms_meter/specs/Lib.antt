@@ -1,4 +1,5 @@
 pub mod Run
+pub mod Messages
 pub mod Steps
 pub mod ClientRecord
 pub mod Independence
@@ -12,3 +13,4 @@ pub mod Own
 pub mod Billing
 pub mod Filed
 pub mod Healthy
+pub mod Histories

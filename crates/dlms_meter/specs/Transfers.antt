@@ -171,19 +171,23 @@ pub record GoesOut (who : Client) (s : SessionValue) (before : List Own) (x : Ex
       (asked who association descriptor selector) (Ok value)
   pub leads : x.outcome ≡ in_blocks (without_get session) association invoke (canonical value)
 
--- In every run, if a GET of a client was answered by a block, and no other GET of it that was answered so came afterwards: the raw
--- bytes of the blocks that it got, joined, are blocks of the attribute's encoding at its request, and all of it once the last is
--- returned. This is so whatever else came between: other APDUs, out of memory, a device that fails, a link that goes down and comes
--- up, frames of other clients, pulses and moments.
-abbrev pub BlocksJoin : Type 0
-BlocksJoin =
-    (who : Client) (w w' : MeterWorld) (steps : List Step) (run : Run w steps w')
-    (before behind : List Own) (x : Exchange) → (w.records who).session.client ≡ who
-    → own_of who w steps w' run ≡ before ++ Asked x ∷ behind → begins x ≡ true → NoneBegins behind
-    → (out : GoesOut who (w.records who).session before x) × (blocks : List Block)
+-- Among these of a client's APDUs, if a GET was answered by a block, and no other GET that was answered so came afterwards: the raw
+-- bytes of the blocks that the client got, joined, are blocks of the attribute's encoding at its request, and all of it once the
+-- last is returned.
+abbrev pub JoinBlocks : Client → SessionValue → List Own → Type 0
+JoinBlocks who s own =
+    (before behind : List Own) (x : Exchange) → s.client ≡ who → own ≡ before ++ Asked x ∷ behind
+    → begins x ≡ true → NoneBegins behind
+    → (out : GoesOut who s before x) × (blocks : List Block)
     × (map spelled blocks ≡ blocks_in (Asked x ∷ behind))
     × (joined blocks ≡ take (length blocks * (out.association.size - GET_HEAD))
     (canonical out.value)) × (has_last blocks ≡ true → joined blocks ≡ canonical out.value)
+
+-- So it is in every run, whatever else comes between: other APDUs, out of memory, a device that fails, a link that goes down and
+-- comes up, frames of other clients, pulses and moments.
+abbrev pub BlocksJoin : Type 0
+BlocksJoin = (who : Client) (w w' : MeterWorld) (steps : List Step) (run : Run w steps w')
+    → JoinBlocks who (w.records who).session (own_of who w steps w' run)
 
 -- In every run that begins without a transfer, as each does from a formatted meter and after a recovery: no block is returned if no
 -- GET began.

@@ -4,7 +4,10 @@ ghost use Rattle.std.specs.Prelude.{◌≡◌, ◌≤◌, ◌<◌, ◌↔◌, Is
 ghost use Rattle.dlms_frame.specs.Stream.{Fits, Takes};
 ghost use Rattle.dlms_frame.specs.declared.client.Client.TheVariants as ClientOf;
 ghost use Rattle.dlms_meter.specs.ClientRecord.{fresh_record};
+ghost use Rattle.dlms_meter.specs.declared.connection.TheConstants.{MOST_OCTETS};
+ghost use Rattle.dlms_meter.specs.Messages.{Responding, disconnected_record};
 ghost use Rattle.dlms_meter.specs.Run.{Handling};
+ghost use Rattle.dlms_service.specs.Session.{not_possible};
 ghost use Rattle.dlms_meter.specs.Sparing.{SparesSlots};
 ghost use Rattle.dlms_store.specs.Going.{Knows};
 ghost use Rattle.dlms_store.specs.Later.{IsLater};
@@ -13,6 +16,7 @@ ghost use Rattle.dlms_store.specs.World.{StoreWorld};
 use crate::connection::{Connection, Reply};
 use dlms_frame::{Client, Deframer, Frame};
 use dlms_pages::Pages;
+use dlms_service::Answer;
 use dlms_store::Store;
 use std::alloc::{AllocError, Allocator};
 use std::marker::Model;
@@ -97,6 +101,28 @@ impl<A: Allocator + Copy> KeptConnection<A> {
         ensures { IsTrue result ↔ IsSome self.now.session.opened }
     {
         self.connection.is_associated()
+    }
+
+    /// Ends the association and the transfers. The link stays as it is.
+    pub fn disconnect(&mut self)
+        ensures { self.new ≡ disconnected_record self.old }
+    {
+        self.connection.disconnect();
+    }
+
+    /// The answer to an APDU that came in a message, and in the store the event that it led to.
+    pub fn request<P: Pages>(&mut self, alloc: A, store: &mut Store<P, A>, apdu: &[u8]) -> Answer
+        ensures served { length apdu.now ≤ MOST_OCTETS → (before : StoreWorld) → Knows store.old before
+            → Responding self.old.session apdu.now result.items self.new.session before store.old store.new }
+        ensures too_long { MOST_OCTETS < length apdu.now
+            → (result.items ≡ (not_possible self.old.session).answer)
+            × (self.new ≡ self.old) × (store.new ≡ store.old) }
+        ensures short { length result.items ≤ MOST_OCTETS }
+        ensures link { self.new.link ≡ self.old.link }
+        ensures spares { SparesSlots store.old store.new }
+        ensures later { IsLater store.old store.new }
+    {
+        self.connection.request(alloc, store, apdu)
     }
 
     /// The reply to a frame, and in the store the event that it led to.

@@ -19,12 +19,14 @@ ghost use Rattle.dlms_store.specs.World.{StoreWorld};
 ghost use Rattle.dlms_store.specs.World.StoreWorld.{Runs};
 ghost use Rattle.dlms_store.specs.World.StoreStep.{Closes, ClosesInDoubt};
 ghost use Rattle.dlms_meter.specs.Run.{Stands, Feeds, EndsFrame, Judges, MeterWorld, first_world, recovered, silent, client_at, Replies, events_of, record_for};
+ghost use Rattle.dlms_meter.specs.Messages.{KeepsOthers, Requests, disconnected};
 ghost use Rattle.dlms_meter.specs.Sparing.{SparesSlots};
 
 use crate::connection::Reply;
 use crate::kept::{KeptConnection, KeptDeframer, Lines};
 use dlms_frame::{Address, Client};
 use dlms_pages::Pages;
+use dlms_service::Answer;
 use dlms_state::{Event, State};
 use dlms_store::{AddFault, OpenFault, Store};
 use std::alloc::{Allocator, Global};
@@ -235,6 +237,37 @@ impl<P: Pages, A: Allocator + Copy> Meter<P, A> {
                 (taken, reply)
             }
             None => (taken, None),
+        }
+    }
+
+    /// Answers one APDU of a client, which came in a message, without a link (IEC 62056-47: the wrapper's port is the client's
+    /// service access point). The answer is the one that the APDU has over a link. It changes what the meter keeps of that client
+    /// alone, and the store by one event at most. An APDU of more than 1024 octets is answered with exception-response, not
+    /// possible. Call `disconnect` when the connection that brings the messages ends.
+    pub fn request(&mut self, who: Client, apdu: &[u8]) -> Answer
+        ensures requests { Requests self.old who apdu.now result.items self.new }
+        ensures others { KeepsOthers who self.old self.new }
+        ensures spares { SparesSlots self.old.store self.new.store }
+        ensures later { IsLater self.old.store self.new.store }
+    {
+        match who {
+            Client::Public => self.public.request(self.alloc, &mut self.store, apdu),
+            Client::Management => self.management.request(self.alloc, &mut self.store, apdu),
+            Client::Reader => self.reader.request(self.alloc, &mut self.store, apdu),
+        }
+    }
+
+    /// Ends a client's association and its transfers: the connection that brought its messages is lost. Its link, if it has one,
+    /// stays as it is.
+    pub fn disconnect(&mut self, who: Client)
+        ensures run { (w : MeterWorld) → Stands self.old w → Stands self.new (disconnected w who) }
+        ensures others { KeepsOthers who self.old self.new }
+        ensures store { self.new.store ≡ self.old.store }
+    {
+        match who {
+            Client::Public => self.public.disconnect(),
+            Client::Management => self.management.disconnect(),
+            Client::Reader => self.reader.disconnect(),
         }
     }
 

@@ -1,30 +1,12 @@
-use Rattle.std.proofs.Common.{◌≡◌, ◌≢◌, ◌∙◌, sym, ap, subst, refl, Option, Some, None, take, option_map}
+use Rattle.std.proofs.Common.{◌≡◌, ◌∙◌, sym, ap, subst, refl, Option, Some, None, take, option_map}
 use Rattle.dlms_frame.specs.Frame.{Parts}
-use Rattle.dlms_frame.specs.Stream.{Kept, Takes}
+use Rattle.dlms_frame.specs.Stream.{Takes}
 use Rattle.dlms_frame.specs.declared.client.Client.{Client}
 use Rattle.dlms_frame.specs.declared.client.Client.TheVariants.{Public, Management, Reader}
-use Rattle.dlms_pages.specs.declared.device.Pages.{Ghosts}
-use Rattle.dlms_store.specs.declared.store.Store.{Store}
-use Rattle.dlms_meter.specs.ClientRecord.{ClientRecord}
-use Rattle.dlms_meter.specs.declared.meter.Meter.{Meter}
-use Rattle.dlms_meter.specs.Run.{Replies, client_at, record_for}
+use Rattle.dlms_meter.specs.Run.{Replies, client_at}
 use Rattle.dlms_meter.proofs.Feeding.{fed_none, fed_one, with_kept}
+use Rattle.dlms_meter.proofs.Requesting.{others, with_management, with_public, with_reader}
 use Rattle.dlms_meter.proofs.meter.Meter.feed.Goals as goal
-
-others : {P A : Type 0} {ghosts : Ghosts P} (who : Client) (old new : Meter P A ghosts) → (who ≢ Public → new.public ≡ old.public) → (who ≢ Management → new.management ≡ old.management) → (who ≢ Reader → new.reader ≡ old.reader)
-    → (other : Client) → other ≢ who → record_for new other ≡ record_for old other
-others who old new p m r Public ne = p (λ e. ne (sym e))
-others who old new p m r Management ne = m (λ e. ne (sym e))
-others who old new p m r Reader ne = r (λ e. ne (sym e))
-
-abbrev with_public : {P A : Type 0} {ghosts : Ghosts P} → Meter P A ghosts → Kept → ClientRecord → Store P A ghosts → Meter P A ghosts
-with_public m kept own store = record { alloc = m.alloc; deframer = kept; public = own; management = m.management; reader = m.reader; store = store }
-
-abbrev with_management : {P A : Type 0} {ghosts : Ghosts P} → Meter P A ghosts → Kept → ClientRecord → Store P A ghosts → Meter P A ghosts
-with_management m kept own store = record { alloc = m.alloc; deframer = kept; public = m.public; management = own; reader = m.reader; store = store }
-
-abbrev with_reader : {P A : Type 0} {ghosts : Ghosts P} → Meter P A ghosts → Kept → ClientRecord → Store P A ghosts → Meter P A ghosts
-with_reader m kept own store = record { alloc = m.alloc; deframer = kept; public = m.public; management = m.management; reader = own; store = store }
 
 pub returns-in_default-clause-feeds : goal.returns-in_default-clause-feeds
 returns-in_default-clause-feeds g c =
