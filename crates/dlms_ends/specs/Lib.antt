@@ -4,3 +4,4 @@ pub mod Serving
 pub mod Inflow
 pub mod Calling
 pub mod BothEnds
+pub mod PollEnds

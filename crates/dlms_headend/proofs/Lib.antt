@@ -7,5 +7,8 @@ pub mod Requests
 pub mod HeardLemmas
 pub mod TalkLemmas
 pub mod Told
+pub mod DueLemmas
 pub mod PollLemmas
 pub mod Running
+pub mod CarrierLemmas
+pub mod CarrierRunning

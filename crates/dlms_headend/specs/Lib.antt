@@ -8,9 +8,13 @@ pub mod Listed
 pub mod Form
 pub mod Asking
 pub mod Poll
+pub mod Due
 pub mod Heard
 pub mod TalkValue
 pub mod Talk
 pub mod PollerValue
 pub mod Polling
 pub mod PollRun
+pub mod CarrierPollValue
+pub mod CarrierPolling
+pub mod CarrierRun

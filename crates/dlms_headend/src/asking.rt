@@ -6,7 +6,6 @@ ghost use Rattle.dlms_data.specs.Building.{IsTime};
 ghost use Rattle.dlms_data.specs.Value.{Value};
 ghost use Rattle.dlms_data.specs.Writing.{canonical};
 ghost use Rattle.dlms_headend.specs.Asking.{columns_bytes, next_bytes, IsBufferRequest};
-ghost use Rattle.dlms_link.specs.declared.kept.TheConstants.{MOST_APDU};
 
 use arrayvec::ArrayVec;
 use dlms_data::{LAST_SECOND, octets};
@@ -17,11 +16,11 @@ pub const INVOKE: u8 = 0xc1;
 /// The clock's logical name.
 pub const CLOCK: [u8; 6] = [0, 0, 1, 0, 0, 255];
 
-/// The most octets of a GET of the buffer: those of the first one.
-const MOST_OCTETS: usize = 64;
+/// The most octets of a request.
+const MOST_OCTETS: usize = 128;
 
-/// A GET of the buffer, or of one of its blocks.
-pub type BufferRequest = ArrayVec<u8, MOST_OCTETS>;
+/// A request of a poll.
+pub type Request = ArrayVec<u8, MOST_OCTETS>;
 
 /// The GET of a range of the buffer, up to the first date-time: a GET (C0 01) with the invoke octet, of attribute 2 of class 7,
 /// 1.0.99.1.0.255, with selector 1 (01 01); of that a structure of four (02 04), and its column, a structure of four (02 04): class 8
@@ -34,11 +33,16 @@ const RANGE_HEAD: [u8; 34] = [
 /// All columns: an array (01) of none.
 const ALL_COLUMNS: [u8; 2] = [0x01, 0x00];
 
+/// The GET of the capture objects, attribute 3.
+const COLUMNS_GET: [u8; 13] = [
+    0xc0, 0x01, INVOKE, 0x00, 0x07, 1, 0, 99, 1, 0, 255, 0x03, 0x00,
+];
+
 /// The tag and the length of a date-time as an octet-string.
 const TIME_HEAD: [u8; 2] = [0x09, 0x0c];
 
 /// Appends octets.
-fn append(request: &mut BufferRequest, octets: &[u8])
+fn append(request: &mut Request, octets: &[u8])
     requires { array_vec_len request.old + length octets.now ≤ MOST_OCTETS }
     ensures items { request.new.items ≡ request.old.items ++ octets.now }
     ensures len { array_vec_len request.new ≡ array_vec_len request.old + length octets.now }
@@ -49,7 +53,7 @@ fn append(request: &mut BufferRequest, octets: &[u8])
 }
 
 /// Appends a second's date-time, as an octet-string.
-fn append_time(request: &mut BufferRequest, second: u32)
+fn append_time(request: &mut Request, second: u32)
     requires second { second ≤ LAST_SECOND }
     requires room { array_vec_len request.old + 14 ≤ MOST_OCTETS }
     ensures time { (time : Value) × IsTime second time
@@ -63,10 +67,10 @@ fn append_time(request: &mut BufferRequest, second: u32)
 
 /// The GET of the rows from that second on; from 0 if there is none. It takes no memory.
 #[tactic(auto, using(crate::proofs::Requests::request_is_short))]
-pub fn buffer_request(after: Option<u32>) -> BufferRequest
+pub fn buffer_request(after: Option<u32>) -> Request
     requires { IfSome after (λ second. second ≤ LAST_SECOND) }
     ensures asks { IsBufferRequest after result.items }
-    ensures short { length result.items ≤ MOST_APDU }
+    ensures short { length result.items ≤ MOST_OCTETS }
 {
     let mut request = ArrayVec::new();
     append(&mut request, RANGE_HEAD.as_slice());
@@ -77,18 +81,19 @@ pub fn buffer_request(after: Option<u32>) -> BufferRequest
 }
 
 /// The GET of the load profile's capture objects: class 7, 1.0.99.1.0.255, attribute 3, no selector. It takes no memory.
-pub fn columns_request() -> [u8; 13]
-    ensures { result ≡ columns_bytes }
+pub fn columns_request() -> Request
+    ensures asks { result.items ≡ columns_bytes }
+    ensures short { length result.items ≤ MOST_OCTETS }
 {
-    [
-        0xc0, 0x01, INVOKE, 0x00, 0x07, 1, 0, 99, 1, 0, 255, 0x03, 0x00,
-    ]
+    let mut request = ArrayVec::new();
+    append(&mut request, COLUMNS_GET.as_slice());
+    request
 }
 
 /// The GET of the block after the one with this number: C0 02, the invoke octet, the number. It takes no memory.
-pub fn next_request(number: u32) -> BufferRequest
+pub fn next_request(number: u32) -> Request
     ensures asks { result.items ≡ next_bytes number }
-    ensures short { length result.items ≤ MOST_APDU }
+    ensures short { length result.items ≤ MOST_OCTETS }
 {
     let mut request = ArrayVec::new();
     append(&mut request, &[0xc0, 0x02, INVOKE]);

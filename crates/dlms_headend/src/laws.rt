@@ -5,7 +5,12 @@ ghost use Rattle.dlms_headend.specs.declared.plan.Columns.{Columns};
 ghost use Rattle.dlms_headend.specs.declared.row.Row.{Row};
 ghost use Rattle.dlms_headend.specs.Poll.{HasReleased};
 ghost use Rattle.dlms_headend.specs.PollRun.{CallsAreAPoll, DoneIsTold};
+ghost use Rattle.dlms_headend.specs.Asking.{PlanValue};
+ghost use Rattle.dlms_headend.specs.CarrierRun.{PollsLead, meaning};
+ghost use Rattle.dlms_headend.specs.Due.{AsksTheSame};
 ghost use Rattle.dlms_headend.specs.declared.answer.TheConstants.{EXCEPTION};
+
+use dlms_carrier::Carrier;
 
 /// The APDUs that a poll took tell its rows.
 pub fn rows_are_told()
@@ -19,6 +24,19 @@ pub fn rows_are_told()
 pub fn calls_are_a_poll()
     ensures run { CallsAreAPoll }
     ensures done { DoneIsTold }
+{}
+
+/// The calls of a poll over a carrier, from a new one on and in any order, are a run of its carrier. In it requests and answers pass in
+/// turn: each request is what the poll asks once it took the answers before it. If the poll is done, these are an acceptance, answers
+/// that spell its rows, and the answer to the release; if its terms ask for the columns, an answer with them came before the rows, and
+/// another one after them.
+pub fn polls_lead<C: Carrier>()
+    ensures { PollsLead (meaning C.steps C.out_of C.apdu_of C.is_waiting) }
+{}
+
+/// A poll over the client's link asks the same as a poll over any carrier.
+pub fn requests_are_the_same()
+    ensures { (plan : PlanValue) → AsksTheSame plan }
 {}
 
 /// The number that clauses cite by name for an exception response.

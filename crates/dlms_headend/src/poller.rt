@@ -15,26 +15,18 @@ ghost use Rattle.dlms_headend.specs.Talk.{FitsTalk, CanTake, Ends};
 ghost use Rattle.dlms_headend.specs.Polling.{IsDone, fresh_poll, IsGet, IsDue, Fits, FitsIn, Begins, TimesOut, CanTimeOut, HasFailed, Continues, Answers, GoesDown, PollsEarly, PollsBy, Polls, WantsBy, WantsMemory, with_link};
 ghost use Rattle.dlms_link.specs.declared.kept.TheConstants.{MOST_APDU};
 
-use crate::asking::{BufferRequest, buffer_request, columns_request, next_request};
+use crate::due::due_apdu;
 use crate::plan::Plan;
 use crate::poll_fault::PollFault;
 use crate::row::Row;
 use crate::stage::{Course, Stage};
 use crate::step::PollStep;
 use crate::talk::Talk;
-use arrayvec::ArrayVec;
-use dlms_acse::{Conformance, write_aarq, write_rlrq};
 use dlms_data::LAST_SECOND;
 use dlms_frame::{Frame, SentFrame};
 use dlms_link::{ClientLink, ClientOut};
 use std::alloc::{Allocator, Global};
 use std::marker::Model;
-
-/// The services that are proposed.
-const PROPOSED: Conformance = Conformance(0x007e1f);
-
-/// The size in bytes of the largest APDU that the poller receives.
-const SIZE: u16 = 1200;
 
 /// A poll of the load profile: it connects, associates, reads the columns if its plan asks for them, the buffer, and the columns
 /// again, releases and disconnects.
@@ -56,38 +48,15 @@ impl<A: Allocator> Model for Poller<A> {
     ghost invariant = { λ p. IsStanding p.plan p.link p.course };
 }
 
-/// The association request.
-fn association(plan: &Plan) -> ArrayVec<u8, 128>
-    ensures { result.items ≡ association_bytes (plan_of plan.now) }
-{
-    write_aarq(plan.client, plan.secret.as_slice(), PROPOSED, SIZE)
-}
-
-/// The GET after so many blocks. It takes no memory.
-fn get_request(plan: &Plan, taken: u32) -> BufferRequest
-    requires { IfSome plan.now.after (λ second. second ≤ LAST_SECOND) }
-    ensures asks { IsGet (plan_of plan.now) taken result.items }
-    ensures short { length result.items ≤ MOST_APDU }
-{
-    if taken == 0 {
-        buffer_request(plan.after)
-    } else {
-        next_request(taken)
-    }
-}
-
 /// The frame that goes out at this stage. It takes no memory.
 fn due(plan: &Plan, link: &mut ClientLink, stage: Stage) -> SentFrame
     requires idle { IsIdle link.old }
     requires after { IfSome plan.now.after (λ second. second ≤ LAST_SECOND) }
     ensures { IsDue (plan_of plan.now) stage link.old result link.new }
 {
-    match stage {
-        Stage::Associating => link.send(association(plan).as_slice()),
-        Stage::Naming | Stage::Checking => link.send(columns_request().as_slice()),
-        Stage::Getting(taken) => link.send(get_request(plan, taken).as_slice()),
-        Stage::Releasing => link.send(write_rlrq().as_slice()),
-        Stage::Leaving => link.disconnect(),
+    match due_apdu(plan.sent_secret(), plan.after, stage) {
+        Some(request) => link.send(request.as_slice()),
+        None => link.disconnect(),
     }
 }
 

@@ -31,3 +31,18 @@ pub enum Course {
     /// It ended with this fault, for good.
     Failed(PollFault),
 }
+
+/// Where a poll over a carrier stands.
+#[derive(Clone, Copy, Debug, PartialEq, Eq)]
+pub enum PollCourse {
+    /// Nothing was sent yet.
+    Ready,
+    /// The connection was requested.
+    Connecting,
+    /// The connection is up, and an answer or the connection's end is awaited.
+    Running,
+    /// It ended with its rows.
+    Done,
+    /// It ended with this fault, for good.
+    Failed(PollFault),
+}

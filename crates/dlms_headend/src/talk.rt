@@ -1,6 +1,6 @@
 //! The content of the answers so far.
 
-ghost use Rattle.std.specs.Prelude.{◌≡◌, ◌++◌, ◌∷◌, [], List, ℕ};
+ghost use Rattle.std.specs.Prelude.{◌≡◌, ◌++◌, ◌∷◌, ◌↔◌, [], List, ℕ, IsTrue};
 ghost use Rattle.dlms_headend.specs.declared.stage.Stage.TheVariants.{Associating, Naming, Getting, Checking};
 ghost use Rattle.dlms_headend.specs.Rows.{AreReadings};
 ghost use Rattle.dlms_headend.specs.Talk.{fresh_talk, behind_acceptance, behind_rows, FitsTalk, CanTake, Takes};
@@ -75,6 +75,16 @@ impl<A: Allocator + Copy> Talk<A> {
         ensures { result ≡ self.now.stage }
     {
         self.stage
+    }
+
+    /// Whether an answer is awaited.
+    pub fn awaits(&self) -> bool
+        ensures { IsTrue result ↔ CanTake self.now.stage }
+    {
+        match self.stage {
+            Stage::Leaving => false,
+            _ => true,
+        }
     }
 
     /// The rows that were brought; none before an answer that has them.
