@@ -1,0 +1,4 @@
+pub mod Stepping
+pub mod Walking
+pub mod Appending
+pub mod Packing

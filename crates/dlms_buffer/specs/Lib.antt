@@ -1,0 +1,9 @@
+pub mod Rows
+pub mod View
+pub mod Steps
+pub mod Columns
+pub mod Selecting
+pub mod Clock
+pub mod Texts
+pub mod Packed
+pub mod CellTexts

@@ -1,0 +1,4 @@
+pub mod Scan
+pub mod Takes
+pub mod Next
+pub mod WholeLaws
