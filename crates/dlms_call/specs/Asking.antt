@@ -1,4 +1,4 @@
--- Requests over a line: each goes out, and then the line is read until its outcome.
+-- Requests over a line: each is sent, and then the line is read until its outcome.
 use Rattle.std.specs.Prelude.{◌≡◌, ℕ, List, [], Option, Result, Ok, Err}
 use Rattle.dlms_apdu.specs.Forms.{RequestForm}
 use Rattle.dlms_association.specs.declared.answer.Answer.{Answer}
@@ -59,7 +59,7 @@ pub record IsNew (plan : PlanValue) (t : TalkValue) : Type 0 where
   pub client : t.client ≡ fresh carrier (terms_in plan)
   pub left : t.left ≡ MOST_BYTES
 
--- it requests the connection, what it gives goes out, and this is its outcome
+-- it requests the connection, its octets are written, and this is its outcome
 pub record Opens (old new : Option (List Moment)) (plan : PlanValue) (result : Result (Unit {0}) CallFault)
     (t' : TalkValue) : Type 0 where
   pub first : TalkValue
@@ -85,7 +85,7 @@ abbrev pub told_of : AskFault → CallFault
 told_of ask.TooLong = TooLong
 told_of ask.Memory = Memory
 
--- If it may be requested, the client makes the request and it goes out, and the answer is returned; or the client does not make it.
+-- If it may be requested, the client makes the request and it is sent, and the answer is returned; or the client does not make it.
 -- If it may not, nothing happens.
 pub data Requests (most : ℕ) (may : Type 0) (asked : Asked) (form : RequestForm)
     (old new : Option (List Moment)) (t : TalkValue) (result : Result Answer CallFault) (t' : TalkValue)
@@ -101,7 +101,7 @@ pub data Requests (most : ℕ) (may : Type 0) (asked : Asked) (form : RequestFor
 
 -- ---- the connection's end
 
--- If it may be requested, the client requests it: it comes at once, or what the client gives goes out, and the outcome is returned.
+-- If it may be requested, the client requests it: it comes at once, or the octets of the client are written, and the outcome is returned.
 pub data EndsTalk (may : Type 0) (old new : Option (List Moment)) (t : TalkValue)
     (result : Result (Unit {0}) CallFault) (t' : TalkValue) : Type 0 where
   NotEnded : (may → ⊥) → result ≡ Err (Talk fault.Form) → t' ≡ t → Adds old new []

@@ -41,7 +41,7 @@ TellsError error fault = ((error_kind error ≡ OutOfMemory) × (fault ≡ Memor
 abbrev pub IsOfSystem : CallFault → Type 0
 IsOfSystem fault = (fault ≡ Memory) ⊎ (fault ≡ Io)
 
--- ---- what goes out after a call
+-- ---- the octets to write after a call
 
 -- the octets to write, if there are any, go out at one moment
 abbrev pub went : List ℕ → List Moment
@@ -101,8 +101,8 @@ abbrev pub last_outcome : List Reading → Outcome
 last_outcome [] = Nothing
 last_outcome (call ∷ calls) = later call.outcome (last_outcome calls)
 
--- The client reads a piece, and what it gives goes out after each call. The piece is read to its end; or a call ends the talk,
--- and nothing goes out after it; or the line breaks at what goes out after a call.
+-- The client reads a piece, and its octets are written after each call. The piece is read to its end; or a call ends the talk,
+-- and nothing is written after it; or the line breaks as octets are written.
 pub data TakesPiece (most : ℕ) (old new : Option (List Moment)) (c : ClientAt) (octets : List ℕ)
     (result : Result Outcome CallFault) (c' : ClientAt) : Type 0 where
   IsRead : (calls : List Reading) → AllRead most c octets calls c' [] → Adds old new (moments_of calls)
@@ -117,7 +117,7 @@ pub data TakesPiece (most : ℕ) (old new : Option (List Moment)) (c : ClientAt)
 
 -- ---- a timeout
 
--- the client is told, and what it gives goes out; or it reports a fault; or the line breaks
+-- the client handles the timeout, and its octets are written; or it reports a fault; or the line breaks
 pub data TakesTimeout (old new : Option (List Moment)) (c : ClientAt) (result : Result Outcome CallFault)
     (c' : ClientAt) : Type 0 where
   IsTold : (outcome : Outcome) → Waits Steps is_waiting c (Ok outcome) c'

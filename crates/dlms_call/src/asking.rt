@@ -60,7 +60,7 @@ fn release_result(told: Result<Outcome, CallFault>) -> Result<(), CallFault>
     }
 }
 
-/// The client's request for an association goes out, and its outcome is awaited.
+/// The client's request for an association is sent, and its outcome is awaited.
 fn open<S: End, A: Allocator + Copy>(line: &mut S, head: &mut ClientEnd<A>) -> Result<(), CallFault>
     ensures { GoesOut NO_BOUND opening_result (S.past line.old) (S.past line.new) head.old result head.new }
 {
@@ -73,7 +73,7 @@ fn open<S: End, A: Allocator + Copy>(line: &mut S, head: &mut ClientEnd<A>) -> R
     }
 }
 
-/// A request goes out, and its answer is awaited.
+/// A request is sent, and its answer is awaited.
 fn request_answer<S: End, A: Allocator + Copy>(
     line: &mut S,
     head: &mut ClientEnd<A>,

@@ -1,4 +1,4 @@
-//! A client at its end of a line: it reads what arrives, and what it gives goes out.
+//! A client at its end of a line: it reads what arrives, and its octets are written.
 
 ghost use Rattle.std.specs.Prelude.{◌≡◌, ◌-◌, ◌<◌, ◌≤◌, ◌↔◌, IfErr, IfOk, IsTrue, None, Ok, Some, false, length, option_map};
 ghost use Rattle.dlms_apdu.specs.Forms.{action_normal, get_normal, set_normal};
@@ -116,7 +116,7 @@ impl<A: Allocator + Copy> ClientEnd<A> {
         }
     }
 
-    /// What the client gives goes out.
+    /// The client's octets are written.
     pub(crate) fn send<W: End>(&mut self, end: &mut W) -> Result<(), CallFault>
         ensures goes { Goes (W.past end.old) (W.past end.new) (out_of self.old.client.carrier) result }
         ensures same { self.new ≡ self.old }
@@ -140,7 +140,7 @@ impl<A: Allocator + Copy> ClientEnd<A> {
         }
     }
 
-    /// The client reads a piece, and what it gives goes out after each call. The outcome is the last one of these calls.
+    /// The client reads a piece, and its octets are written after each call. The outcome is the last one of these calls.
     fn take<W: End>(&mut self, end: &mut W, bytes: &[u8], most: usize) -> Result<Outcome, CallFault>
         ensures piece { TakesPiece most (W.past end.old) (W.past end.new) self.old.client bytes.now result self.new.client }
         ensures left { self.new.left ≡ self.old.left }
@@ -178,7 +178,7 @@ impl<A: Allocator + Copy> ClientEnd<A> {
         }
     }
 
-    /// Nothing came in time: the client is told, and what it gives goes out.
+    /// Nothing came in time: the client handles the timeout, and its octets are written.
     fn repeat<W: End>(&mut self, end: &mut W) -> Result<Outcome, CallFault>
         ensures told { TakesTimeout (W.past end.old) (W.past end.new) self.old.client result self.new.client }
         ensures left { self.new.left ≡ self.old.left }

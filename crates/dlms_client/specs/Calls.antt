@@ -32,38 +32,44 @@ fresh carrier terms = record {
 
 -- ---- what the client does after a call of its carrier or its association
 
--- an APDU of the association goes out
-pub record Sends {C : Type 0} (steps : StepsOf C) (at : ClientValue C) (apdu : List ℕ) (new : ClientValue C) : Type 0 where
+-- the carrier is given an APDU of the association
+pub record Sends {C : Type 0} (steps : StepsOf C) (at : ClientValue C) (apdu : List ℕ)
+    (new : ClientValue C) : Type 0 where
   pub event : Event
   pub carrier : C
   pub gives : steps at.carrier (Give apdu) event carrier
   pub after : new ≡ record at { carrier = carrier }
 
 -- the connection failed, and the association is over for good
-pub record BreaksOver {C : Type 0} (at : ClientValue C) (fault : Fault) (result : Result Outcome Fault) (new : ClientValue C) : Type 0 where
+pub record BreaksOver {C : Type 0} (at : ClientValue C) (fault : Fault)
+    (result : Result Outcome Fault) (new : ClientValue C) : Type 0 where
   pub association : AssociationValue
   pub breaks : Breaks at.association fault association
   pub answer : result ≡ Err fault
   pub after : new ≡ record at { association = association }
 
 -- the connection ended as requested: another association may begin
-pub record ClosesOver {C : Type 0} (at : ClientValue C) (result : Result Outcome Fault) (new : ClientValue C) : Type 0 where
+pub record ClosesOver {C : Type 0} (at : ClientValue C) (result : Result Outcome Fault)
+    (new : ClientValue C) : Type 0 where
   pub association : AssociationValue
   pub closes : Closes at.association association
   pub answer : result ≡ Ok outcome.Down
   pub after : new ≡ record at { association = association; leaving = false }
 
 -- nothing else happens
-pub record Stays {C : Type 0} (at : ClientValue C) (outcome : Outcome) (result : Result Outcome Fault) (new : ClientValue C) : Type 0 where
+pub record Stays {C : Type 0} (at : ClientValue C) (outcome : Outcome)
+    (result : Result Outcome Fault) (new : ClientValue C) : Type 0 where
   pub answer : result ≡ Ok outcome
   pub after : new ≡ at
 
-abbrev pub GoesDown : {C : Type 0} → Bool → ClientValue C → Result Outcome Fault → ClientValue C → Type 0
+abbrev pub GoesDown : {C : Type 0} → Bool → ClientValue C → Result Outcome Fault → ClientValue C
+    → Type 0
 GoesDown true at result new = ClosesOver at result new
 GoesDown false at result new = BreaksOver at WentDown result new
 
 -- the end of the connection is requested, and may come at once
-abbrev pub LeavesBy : {C : Type 0} → Event → ClientValue C → Result Outcome Fault → ClientValue C → Type 0
+abbrev pub LeavesBy : {C : Type 0} → Event → ClientValue C → Result Outcome Fault → ClientValue C
+    → Type 0
 LeavesBy event.Down at result new = ClosesOver at result new
 LeavesBy event.Nothing at result new = Stays at outcome.Nothing result new
 LeavesBy event.Up at result new = Stays at outcome.Nothing result new
@@ -71,7 +77,8 @@ LeavesBy event.Apdu at result new = Stays at outcome.Nothing result new
 LeavesBy event.TimedOut at result new = Stays at outcome.Nothing result new
 LeavesBy (event.Refused why) at result new = Stays at outcome.Nothing result new
 
-pub record Leaves {C : Type 0} (steps : StepsOf C) (at : ClientValue C) (result : Result Outcome Fault) (new : ClientValue C) : Type 0 where
+pub record Leaves {C : Type 0} (steps : StepsOf C) (at : ClientValue C)
+    (result : Result Outcome Fault) (new : ClientValue C) : Type 0 where
   pub event : Event
   pub carrier : C
   pub ends : steps at.carrier End event carrier
@@ -86,28 +93,35 @@ pub record OpensOver {C : Type 0} (steps : StepsOf C) (at new : ClientValue C) :
   pub sends : Sends steps (record at { association = association }) apdu new
 
 -- an association that is not closed cannot be opened
-pub data ComesUp {C : Type 0} (steps : StepsOf C) (at : ClientValue C) (result : Result Outcome Fault) (new : ClientValue C) : Type 0 where
+pub data ComesUp {C : Type 0} (steps : StepsOf C) (at : ClientValue C)
+    (result : Result Outcome Fault) (new : ClientValue C) : Type 0 where
   IsOpened : OpensOver steps at new → result ≡ Ok outcome.Nothing → ComesUp steps at result new
-  IsNotClosed : (IsClosed at.association → ⊥) → BreaksOver at Form result new → ComesUp steps at result new
+  IsNotClosed : (IsClosed at.association → ⊥) → BreaksOver at Form result new
+      → ComesUp steps at result new
 
 -- after the association's step
-abbrev pub Follows : {C : Type 0} → StepsOf C → Result Step Fault → ClientValue C → Result Outcome Fault → ClientValue C → Type 0
+abbrev pub Follows : {C : Type 0} → StepsOf C → Result Step Fault → ClientValue C
+    → Result Outcome Fault → ClientValue C → Type 0
 Follows steps (Ok step.Nothing) at result new = Stays at outcome.Nothing result new
-Follows steps (Ok (step.Send apdu)) at result new = (result ≡ Ok outcome.Nothing) × Sends steps at apdu new
+Follows steps (Ok (step.Send apdu)) at result new = (result ≡ Ok outcome.Nothing)
+    × Sends steps at apdu new
 Follows steps (Ok step.Associated) at result new = Stays at outcome.Associated result new
-Follows steps (Ok (step.Answered answer)) at result new = Stays at (outcome.Answered answer) result new
+Follows steps (Ok (step.Answered answer)) at result new = Stays at
+    (outcome.Answered answer) result new
 Follows steps (Ok step.Released) at result new = Leaves steps at result new
 Follows steps (Err fault) at result new = (result ≡ Err fault) × (new ≡ at)
 
 -- the carrier hands an APDU up
-pub record TakesOver {C : Type 0} (steps : StepsOf C) (at : ClientValue C) (apdu : List ℕ) (result : Result Outcome Fault) (new : ClientValue C) : Type 0 where
+pub record TakesOver {C : Type 0} (steps : StepsOf C) (at : ClientValue C) (apdu : List ℕ)
+    (result : Result Outcome Fault) (new : ClientValue C) : Type 0 where
   pub made : Result Step Fault
   pub association : AssociationValue
   pub takes : Takes at.association apdu made association
   pub follows : Follows steps made (record at { association = association }) result new
 
 -- by the carrier's event
-abbrev pub ComesBy : {C : Type 0} → StepsOf C → Event → List ℕ → ClientValue C → Result Outcome Fault → ClientValue C → Type 0
+abbrev pub ComesBy : {C : Type 0} → StepsOf C → Event → List ℕ → ClientValue C
+    → Result Outcome Fault → ClientValue C → Type 0
 ComesBy steps event.Nothing apdu at result new = Stays at outcome.Nothing result new
 ComesBy steps event.Up apdu at result new = ComesUp steps at result new
 ComesBy steps event.Apdu apdu at result new = TakesOver steps at apdu result new
@@ -140,22 +154,30 @@ pub record Begins {C : Type 0} (steps : StepsOf C) (old new : ClientValue C) : T
 -- ---- octets arrive, or none do
 
 -- Octets are read, up to the carrier's first event, and the association handles it.
-pub record Hears {C : Type 0} (steps : StepsOf C) (apdu_of : C → List ℕ) (old : ClientValue C) (octets : List ℕ) (count : ℕ) (result : Result Outcome Fault) (new : ClientValue C) : Type 0 where
+pub record Hears {C : Type 0} (steps : StepsOf C) (apdu_of : C → List ℕ) (old : ClientValue C)
+    (octets : List ℕ) (count : ℕ) (result : Result Outcome Fault)
+    (new : ClientValue C) : Type 0 where
   pub event : Event
   pub carrier : C
   pub feeds : steps old.carrier (Feed octets count) event carrier
   pub comes : ComesBy steps event (apdu_of carrier) (record old { carrier = carrier }) result new
 
 -- after a fault it is the same fault again, and the octets are dropped
-abbrev pub HearsUnless : {C : Type 0} → StepsOf C → (C → List ℕ) → Option Fault → ClientValue C → List ℕ → ℕ → Result Outcome Fault → ClientValue C → Type 0
-HearsUnless steps apdu_of None old octets count result new = Hears steps apdu_of old octets count result new
-HearsUnless steps apdu_of (Some fault) old octets count result new = (count ≡ length octets) × (result ≡ Err fault) × (new ≡ old)
+abbrev pub HearsUnless : {C : Type 0} → StepsOf C → (C → List ℕ) → Option Fault → ClientValue C
+    → List ℕ → ℕ → Result Outcome Fault → ClientValue C → Type 0
+HearsUnless steps apdu_of None old octets count result new = Hears steps apdu_of old octets count
+    result new
+HearsUnless steps apdu_of (Some fault) old octets count result new = (count ≡ length octets)
+    × (result ≡ Err fault) × (new ≡ old)
 
-abbrev pub Feeds : {C : Type 0} → StepsOf C → (C → List ℕ) → ClientValue C → List ℕ → ℕ → Result Outcome Fault → ClientValue C → Type 0
-Feeds steps apdu_of old octets count result new = HearsUnless steps apdu_of old.association.failed old octets count result new
+abbrev pub Feeds : {C : Type 0} → StepsOf C → (C → List ℕ) → ClientValue C → List ℕ → ℕ
+    → Result Outcome Fault → ClientValue C → Type 0
+Feeds steps apdu_of old octets count result new = HearsUnless steps apdu_of old.association.failed
+    old octets count result new
 
--- a timeout: the carrier sends again what is out, or the connection is over
-abbrev pub TimesOutBy : {C : Type 0} → Event → ClientValue C → Result Outcome Fault → ClientValue C → Type 0
+-- a timeout: the carrier repeats its frame, or the connection is over
+abbrev pub TimesOutBy : {C : Type 0} → Event → ClientValue C → Result Outcome Fault → ClientValue C
+    → Type 0
 TimesOutBy event.TimedOut at result new = BreaksOver at Line result new
 TimesOutBy event.Nothing at result new = Stays at outcome.Nothing result new
 TimesOutBy event.Up at result new = Stays at outcome.Nothing result new
@@ -163,17 +185,22 @@ TimesOutBy event.Apdu at result new = Stays at outcome.Nothing result new
 TimesOutBy event.Down at result new = Stays at outcome.Nothing result new
 TimesOutBy (event.Refused why) at result new = Stays at outcome.Nothing result new
 
-pub record TimesOut {C : Type 0} (steps : StepsOf C) (old : ClientValue C) (result : Result Outcome Fault) (new : ClientValue C) : Type 0 where
+pub record TimesOut {C : Type 0} (steps : StepsOf C) (old : ClientValue C)
+    (result : Result Outcome Fault) (new : ClientValue C) : Type 0 where
   pub event : Event
   pub carrier : C
   pub waits : steps old.carrier Wait event carrier
   pub follows : TimesOutBy event (record old { carrier = carrier }) result new
 
 -- while the meter's answer is awaited a timeout may come, and otherwise it is a fault of the line that changes nothing
-pub data Waits {C : Type 0} (steps : StepsOf C) (is_waiting : C → Type 0) (old : ClientValue C) (result : Result Outcome Fault) (new : ClientValue C) : Type 0 where
-  HasFailed : (fault : Fault) → old.association.failed ≡ Some fault → result ≡ Err fault → new ≡ old → Waits steps is_waiting old result new
-  NoneIsOut : old.association.failed ≡ None → (is_waiting old.carrier → ⊥) → result ≡ Err Line → new ≡ old → Waits steps is_waiting old result new
-  IsAwaited : old.association.failed ≡ None → is_waiting old.carrier → TimesOut steps old result new → Waits steps is_waiting old result new
+pub data Waits {C : Type 0} (steps : StepsOf C) (is_waiting : C → Type 0) (old : ClientValue C)
+    (result : Result Outcome Fault) (new : ClientValue C) : Type 0 where
+  HasFailed : (fault : Fault) → old.association.failed ≡ Some fault → result ≡ Err fault → new ≡ old
+      → Waits steps is_waiting old result new
+  NoneIsOut : old.association.failed ≡ None → (is_waiting old.carrier → ⊥) → result ≡ Err Line
+      → new ≡ old → Waits steps is_waiting old result new
+  IsAwaited : old.association.failed ≡ None → is_waiting old.carrier → TimesOut steps old result new
+      → Waits steps is_waiting old result new
 
 -- ---- requests
 
@@ -182,12 +209,14 @@ pub record IsFree {C : Type 0} (is_idle : C → Type 0) (c : ClientValue C) : Ty
   pub association : IsFreeOf c.association
   pub idle : is_idle c.carrier
 
--- the association's APDU goes out, or its fault is returned
-abbrev pub Carries : {C : Type 0} → StepsOf C → Result (List ℕ) AskFault → ClientValue C → Result (Unit {0}) AskFault → ClientValue C → Type 0
+-- the association's APDU is sent, or its fault is returned
+abbrev pub Carries : {C : Type 0} → StepsOf C → Result (List ℕ) AskFault → ClientValue C
+    → Result (Unit {0}) AskFault → ClientValue C → Type 0
 Carries steps (Ok apdu) at result new = (result ≡ Ok tt) × Sends steps at apdu new
 Carries steps (Err fault) at result new = (result ≡ Err fault) × (new ≡ at)
 
-pub record Asks {C : Type 0} (steps : StepsOf C) (asked : Asked) (form : RequestForm) (old : ClientValue C) (result : Result (Unit {0}) AskFault) (new : ClientValue C) : Type 0 where
+pub record Asks {C : Type 0} (steps : StepsOf C) (asked : Asked) (form : RequestForm)
+    (old : ClientValue C) (result : Result (Unit {0}) AskFault) (new : ClientValue C) : Type 0 where
   pub given : Result (List ℕ) AskFault
   pub association : AssociationValue
   pub asks : AsksOf asked form old.association given association

@@ -28,8 +28,10 @@ pub record Meaning (C : Type 0) : Type 1 where
   pub apdu_of : C → List ℕ
   pub is_waiting : C → Type 0
 
-abbrev pub meaning : {C : Type 0} → StepsOf C → (C → List ℕ) → (C → List ℕ) → (C → Type 0) → Meaning C
-meaning steps out_of apdu_of is_waiting = record { steps = steps; out_of = out_of; apdu_of = apdu_of; is_waiting = is_waiting }
+abbrev pub meaning : {C : Type 0} → StepsOf C → (C → List ℕ) → (C → List ℕ) → (C → Type 0)
+    → Meaning C
+meaning steps out_of apdu_of is_waiting = record
+    { steps = steps; out_of = out_of; apdu_of = apdu_of; is_waiting = is_waiting }
 
 -- a call, its arguments and its result; of the octets that arrived the first `count` are read
 pub data Call : Type 0 where
@@ -45,14 +47,16 @@ abbrev pub IsCall : {C : Type 0} → Meaning C → ClientValue C → Call → Cl
 IsCall m old Begin new = IsClosed old.association × Begins m.steps old new
 IsCall m old (Feed octets count result) new = Feeds m.steps m.apdu_of old octets count result new
 IsCall m old (Wait result) new = Waits m.steps m.is_waiting old result new
-IsCall m old (Ask form result) new = IsFree old.association × Asks m.steps (asked_of form) form old result new
+IsCall m old (Ask form result) new = IsFree old.association
+    × Asks m.steps (asked_of form) form old result new
 IsCall m old Release new = IsFree old.association × Releases m.steps old new
 IsCall m old (Disconnect outcome) new = IsFree old.association × Leaves m.steps old (Ok outcome) new
 
 -- the calls, one after another
 abbrev pub Runs : {C : Type 0} → Meaning C → ClientValue C → List Call → ClientValue C → Type 0
 Runs m old [] new = new ≡ old
-Runs {C} m old (call ∷ calls) new = (mid : ClientValue C) × IsCall m old call mid × Runs m mid calls new
+Runs {C} m old (call ∷ calls) new = (mid : ClientValue C) × IsCall m old call mid
+    × Runs m mid calls new
 
 -- ---- the client's requests and octets
 
@@ -158,20 +162,24 @@ pub record Share : Type 0 where
 
 -- Both lead from the client before its call to the client after it, with the same APDUs, and with the octets and the request of the
 -- client's call.
-pub record IsShare {C : Type 0} (m : Meaning C) (old : ClientValue C) (call : Call) (share : Share) (new : ClientValue C) : Type 0 where
+pub record IsShare {C : Type 0} (m : Meaning C) (old : ClientValue C) (call : Call) (share : Share)
+    (new : ClientValue C) : Type 0 where
   pub is_call : IsCall m old call new
   pub carrier : CarrierRuns m.steps m.out_of m.apdu_of old.carrier share.carried new.carrier
-  pub association : (since : Since) → (now : Since) × InnerRuns old.association since share.made new.association now
+  pub association : (since : Since) → (now : Since)
+      × InnerRuns old.association since share.made new.association now
   pub apdus : SameApdus share.carried share.made
   pub octets : read share.carried ≡ passed old.association.failed call
   pub request : asked share.made ≡ requests (call ∷ [])
 
 -- the share of each call
-abbrev pub AreShares : {C : Type 0} → Meaning C → ClientValue C → List Call → List Share → ClientValue C → Type 0
+abbrev pub AreShares : {C : Type 0} → Meaning C → ClientValue C → List Call → List Share
+    → ClientValue C → Type 0
 AreShares m old [] [] new = new ≡ old
 AreShares m old [] (share ∷ shares) new = ⊥
 AreShares m old (call ∷ calls) [] new = ⊥
-AreShares {C} m old (call ∷ calls) (share ∷ shares) new = (mid : ClientValue C) × IsShare m old call share mid × AreShares m mid calls shares new
+AreShares {C} m old (call ∷ calls) (share ∷ shares) new = (mid : ClientValue C)
+    × IsShare m old call share mid × AreShares m mid calls shares new
 
 -- all calls of the carrier, and all of the association
 abbrev pub carried_in : List Share → List CarrierCall
@@ -182,7 +190,8 @@ made_in shares = flat_map (λ share. share.made) shares
 
 -- Beside a run of a client: the run of its carrier and that of its association, which its calls make up. They have the same APDUs,
 -- and the association has the client's requests.
-pub record Beside {C : Type 0} (m : Meaning C) (old : ClientValue C) (since : Since) (calls : List Call) (new : ClientValue C) : Type 0 where
+pub record Beside {C : Type 0} (m : Meaning C) (old : ClientValue C) (since : Since)
+    (calls : List Call) (new : ClientValue C) : Type 0 where
   pub shares : List Share
   pub each : AreShares m old calls shares new
   pub carrier : CarrierRuns m.steps m.out_of m.apdu_of old.carrier (carried_in shares) new.carrier
@@ -195,28 +204,36 @@ pub record Beside {C : Type 0} (m : Meaning C) (old : ClientValue C) (since : Si
 -- ---- the laws, over a carrier with this meaning
 
 abbrev pub RunsLead : {C : Type 0} → Meaning C → Type 0
-RunsLead {C} m = (old new : ClientValue C) (since : Since) (calls : List Call) → Runs m old calls new → Beside m old since calls new
+RunsLead {C} m = (old new : ClientValue C) (since : Since) (calls : List Call)
+    → Runs m old calls new → Beside m old since calls new
 
 -- At an answer: it was awaited, and is what the APDUs say that the association took since the last request, and the one that the
 -- carrier hands up now. Another request may be made.
-pub record IsAnswered {C : Type 0} (m : Meaning C) (old : ClientValue C) (calls : List Call) (at : ClientValue C) (call : Input) (answer : Answer) (new : ClientValue C) : Type 0 where
+pub record IsAnswered {C : Type 0} (m : Meaning C) (old : ClientValue C) (calls : List Call)
+    (at : ClientValue C) (call : Input) (answer : Answer) (new : ClientValue C) : Type 0 where
   pub beside : Beside m old nothing_yet calls at
   pub handed : m.steps at.carrier call event.Apdu new.carrier
   pub said : IsAnsweredBy beside.now at.association (m.apdu_of new.carrier) answer new.association
 
 -- In a run of a new client each answer is so.
 abbrev pub AnswersAreSaid : {C : Type 0} → Meaning C → Type 0
-AnswersAreSaid {C} m = (carrier : C) (terms : TermsValue) (calls : List Call) (at new : ClientValue C) (octets : List ℕ) (count : ℕ) (answer : Answer)
-    → Runs m (fresh carrier terms) calls at → Feeds m.steps m.apdu_of at octets count (Ok (Answered answer)) new
+AnswersAreSaid {C} m = (carrier : C) (terms : TermsValue) (calls : List Call)
+    (at new : ClientValue C) (octets : List ℕ) (count : ℕ) (answer : Answer)
+    → Runs m (fresh carrier terms) calls at
+    → Feeds m.steps m.apdu_of at octets count (Ok (Answered answer)) new
     → IsAnswered m (fresh carrier terms) calls at (FeedOf octets count) answer new
 
 -- In a run of a new client the blocks sent, while the answer to a request is awaited, are those of the encoding of the value in the
 -- last request.
 abbrev pub BlocksAreOfTheRequest : {C : Type 0} → Meaning C → Type 0
-BlocksAreOfTheRequest {C} m = (carrier : C) (terms : TermsValue) (calls : List Call) (at : ClientValue C) (asked : Asked)
-    → Runs m (fresh carrier terms) calls at → at.association.failed ≡ None → at.association.stage ≡ Asking asked
-    → (beside : Beside m (fresh carrier terms) nothing_yet calls at) × IsOfTheRequest beside.now at.association.sent
+BlocksAreOfTheRequest {C} m = (carrier : C) (terms : TermsValue) (calls : List Call)
+    (at : ClientValue C) (asked : Asked)
+    → Runs m (fresh carrier terms) calls at → at.association.failed ≡ None
+    → at.association.stage ≡ Asking asked
+    → (beside : Beside m (fresh carrier terms) nothing_yet calls at)
+    × IsOfTheRequest beside.now at.association.sent
 
 -- The carriers of a route hand an APDU up only as they read octets.
 abbrev pub NoOtherIsHandedUp : Type 0
-NoOtherIsHandedUp = (old new : AnyValue) (carried : List CarrierCall) → CarrierRuns Steps out_of apdu_of old carried new → heard carried ≡ handed_up carried
+NoOtherIsHandedUp = (old new : AnyValue) (carried : List CarrierCall)
+    → CarrierRuns Steps out_of apdu_of old carried new → heard carried ≡ handed_up carried

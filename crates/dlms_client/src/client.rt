@@ -317,7 +317,7 @@ impl<C: Carrier + Drop, A: Allocator + Copy> Client<C, A> {
         self.leave()
     }
 
-    /// The octets to write after the last call; none if nothing goes out.
+    /// The octets to write after the last call, if there are any.
     pub fn out(&self) -> &[u8]
         ensures { result.now ≡ C.out_of self.now.carrier }
     {

@@ -23,7 +23,7 @@ pub fn answers_are_said<C: Carrier>()
     laws::answers_are_said();
 }
 
-/// In a run of a new client what goes out in blocks is the encoding of the value in the last request; `dlms_blocks` says that its
+/// In a run of a new client the blocks sent are those of the encoding of the value in the last request; `dlms_blocks` says that its
 /// blocks, joined, are all of it once the last one has gone.
 pub fn blocks_are_of_the_request<C: Carrier>()
     ensures { BlocksAreOfTheRequest (meaning C.steps C.out_of C.apdu_of C.is_waiting) }
