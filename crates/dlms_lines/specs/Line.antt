@@ -8,16 +8,16 @@ use Rattle.std.specs.declared.time.Instant.{Instant}
 use Rattle.dlms_lines.specs.Deadline.{left_at}
 use Rattle.dlms_lines.specs.Steady.{seconds_between}
 use Rattle.dlms_lines.specs.declared.deadline.Deadline.{Deadline}
-use Rattle.dlms_lines.specs.declared.line.TheConstants.{WAIT_SECONDS}
 
 -- a deadline is over at a moment, if there is one
 abbrev pub is_late : Option Deadline → Instant → Bool
 is_late None now = false
 is_late (Some deadline) now = left_at deadline now == 0
 
--- Nothing more is waited for at a moment: two seconds have gone by since something was sent, whatever has come since; or the deadline is over.
-abbrev pub is_silent : (sent : Instant) (until : Option Deadline) (now : Instant) → Bool
-is_silent sent until now = nat_le WAIT_SECONDS (seconds_between sent now) || is_late until now
+-- Nothing more is waited for at a moment: this many seconds have passed since something was sent, whatever has come since; or the
+-- deadline is over.
+abbrev pub is_silent : (sent : Instant) (wait : ℕ) (until : Option Deadline) (now : Instant) → Bool
+is_silent sent wait until now = nat_le wait (seconds_between sent now) || is_late until now
 
 -- what a read tells: a stream that has ended is an error
 abbrev pub IsHeard : Result ℕ Error → Result ℕ Error → Type 0
@@ -40,14 +40,14 @@ failure_behind failure (Err e) = if is_failure (error_kind e) then Some e else f
 -- A read at this time: if nothing more is waited for, it reports that, and the stream is not read; otherwise it is, and an error is
 -- kept.
 abbrev pub ReadsAt : {S : Type 0}
-    → (sent : Instant) (until : Option Deadline) (said : Result Instant Error) (stream : S)
+    → (sent : Instant) (wait : ℕ) (until : Option Deadline) (said : Result Instant Error) (stream : S)
     (failure : Option Error) → Result ℕ Error → (stream' : S) (failure' : Option Error) → Type 0
-ReadsAt sent until (Ok now) stream failure result stream' failure' =
-    (is_silent sent until now ≡ true
+ReadsAt sent wait until (Ok now) stream failure result stream' failure' =
+    (is_silent sent wait until now ≡ true
     → IsErrAnd result (λ e. error_kind e ≡ TimedOut) × (stream' ≡ stream)
     × (failure' ≡ failure))
-    × (is_silent sent until now ≡ false → failure' ≡ failure_behind failure result)
-ReadsAt sent until (Err e) stream failure result stream' failure' = (result ≡ Err e)
+    × (is_silent sent wait until now ≡ false → failure' ≡ failure_behind failure result)
+ReadsAt sent wait until (Err e) stream failure result stream' failure' = (result ≡ Err e)
     × (stream' ≡ stream) × (failure' ≡ failure)
 
 -- A write at this time: the time for an answer begins then, and an error is kept.

@@ -15,16 +15,17 @@ use std::io;
 use std::io::{ErrorKind, Read, Write};
 use std::time::Instant;
 
-/// For how many seconds an answer is waited for.
+/// For how many seconds an answer is waited for, unless the caller says otherwise.
 pub const WAIT_SECONDS: u64 = 2;
 
-/// A stream that reports silence two seconds after something was sent, whatever comes that is not an answer, and at once after a
+/// A stream that reports silence so many seconds after something was sent, whatever comes that is not an answer, and at once after a
 /// deadline.
 #[derive(Drop)]
 pub struct Line<T, S> {
     clock: T,
     stream: S,
     sent: Instant,
+    wait: u64,
     until: Option<Deadline>,
     failure: Option<io::Error>,
 }
@@ -40,10 +41,10 @@ fn is_late(until: Option<Deadline>, now: Instant) -> bool
 }
 
 /// Whether nothing more is waited for at a moment.
-fn is_silent(sent: Instant, until: Option<Deadline>, now: Instant) -> bool
-    ensures { result ≡ is_silent sent until now }
+fn is_silent(sent: Instant, wait: u64, until: Option<Deadline>, now: Instant) -> bool
+    ensures { result ≡ is_silent sent wait until now }
 {
-    seconds_between(sent, now) >= WAIT_SECONDS || is_late(until, now)
+    seconds_between(sent, now) >= wait || is_late(until, now)
 }
 
 /// The result of a read: a stream that has ended is an error.
@@ -84,12 +85,13 @@ fn failure_behind(failure: Option<io::Error>, called: io::Result<usize>) -> Opti
 }
 
 impl<T: Steady, S> Line<T, S> {
-    /// A line over a stream, whose reads give `WouldBlock` or `TimedOut` if nothing comes for two seconds.
-    pub fn new(clock: T, stream: S, sent: Instant, until: Option<Deadline>) -> Self
+    /// A line over a stream, whose reads give `WouldBlock` or `TimedOut` if nothing comes for this many seconds.
+    pub fn new(clock: T, stream: S, sent: Instant, wait: u64, until: Option<Deadline>) -> Self
         ensures { result ≡ record {
           clock = clock;
           stream = stream;
           sent = sent;
+          wait = wait;
           until = until;
           failure = None;
         } }
@@ -98,6 +100,7 @@ impl<T: Steady, S> Line<T, S> {
             clock,
             stream,
             sent,
+            wait,
             until,
             failure: None,
         }
@@ -118,16 +121,17 @@ impl<T: Steady, S: Read + Drop> Read for Line<T, S> {
         ensures bound { ReadsAtMost result buf.new }
         ensures bytes { ReadConsumes (S.remaining self.old.stream)
             (S.remaining self.new.stream) result buf.new }
-        ensures kept { (self.new.sent ≡ self.old.sent) × (self.new.until ≡ self.old.until) }
+        ensures kept { (self.new.sent ≡ self.old.sent) × (self.new.wait ≡ self.old.wait)
+            × (self.new.until ≡ self.old.until) }
         ensures reads { (said : Result InstantOf Error)
             × Called (T.said self.old.clock) (T.said self.new.clock) (said ∷ [])
-            × ReadsAt self.old.sent self.old.until said self.old.stream self.old.failure result self.new.stream self.new.failure }
+            × ReadsAt self.old.sent self.old.wait self.old.until said self.old.stream self.old.failure result self.new.stream self.new.failure }
     {
         let now = match self.clock.moment() {
             Ok(now) => now,
             Err(error) => return Err(error),
         };
-        if is_silent(self.sent, self.until, now) {
+        if is_silent(self.sent, self.wait, self.until, now) {
             return Err(ErrorKind::TimedOut.into());
         }
         let read = count_or_end(self.stream.read(buf));
@@ -143,7 +147,7 @@ impl<T: Steady, S: Write + Drop> Write for Line<T, S> {
         ensures bound { WritesAtMost result buf.now }
         ensures bytes { WriteAppends (S.contents self.old.stream)
             (S.contents self.new.stream) result buf.now }
-        ensures until { self.new.until ≡ self.old.until }
+        ensures kept { (self.new.wait ≡ self.old.wait) × (self.new.until ≡ self.old.until) }
         ensures writes { (said : Result InstantOf Error)
             × Called (T.said self.old.clock) (T.said self.new.clock) (said ∷ [])
             × WritesAt self.old.sent said self.old.stream self.old.failure result self.new.sent self.new.stream self.new.failure }
@@ -160,7 +164,7 @@ impl<T: Steady, S: Write + Drop> Write for Line<T, S> {
     fn flush(&mut self) -> io::Result<()>
         ensures bytes { Keeps (S.contents self.old.stream) (S.contents self.new.stream) }
         ensures sent { self.new.sent ≡ self.old.sent }
-        ensures until { self.new.until ≡ self.old.until }
+        ensures kept { (self.new.wait ≡ self.old.wait) × (self.new.until ≡ self.old.until) }
         ensures failure { self.new.failure ≡ self.old.failure }
     {
         self.stream.flush()

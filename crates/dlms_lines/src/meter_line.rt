@@ -57,19 +57,22 @@ fn quiet<S: Read + Write>(stream: &mut S) -> io::Result<()> {
 }
 
 /// The stream gives up after a while, sends bytes at once, and has nothing to be read.
-fn prepare<S: Read + Write + OpenStream>(stream: &mut S) -> io::Result<()> {
+fn prepare<S: Read + Write + OpenStream>(stream: &mut S, wait: u64) -> io::Result<()> {
     stream.set_nodelay(true)?;
     stream.set_read_timeout(Some(Duration::from_millis(QUIET_MILLISECONDS)))?;
     quiet(stream)?;
-    stream.set_read_timeout(Some(Duration::from_secs(WAIT_SECONDS)))?;
-    stream.set_write_timeout(Some(Duration::from_secs(WAIT_SECONDS)))
+    stream.set_read_timeout(Some(Duration::from_secs(wait)))?;
+    stream.set_write_timeout(Some(Duration::from_secs(wait)))
 }
 
 /// A connection that is no standard stream, and is ready.
-fn make_ready<S: Read + Write + OpenStream + AsRawFd + Drop>(stream: S) -> io::Result<S> {
+fn make_ready<S: Read + Write + OpenStream + AsRawFd + Drop>(
+    stream: S,
+    wait: u64,
+) -> io::Result<S> {
     refuse_standard(stream.as_raw_fd())?;
     let mut stream = stream;
-    prepare(&mut stream)?;
+    prepare(&mut stream, wait)?;
     Ok(stream)
 }
 
@@ -115,11 +118,12 @@ fn connect_first<R: Net + Clock>(
 fn open_device<R: Net + Files<File = File> + AllocGlobal>(
     rt: &R,
     device: &str,
+    wait: u64,
 ) -> io::Result<Serial> {
     let mut line = Serial::open(rt, device)?;
     line.waits(Duration::from_millis(QUIET_MILLISECONDS));
     quiet(&mut line)?;
-    line.waits(Duration::from_secs(WAIT_SECONDS));
+    line.waits(Duration::from_secs(wait));
     Ok(line)
 }
 
@@ -128,6 +132,7 @@ fn open_device<R: Net + Files<File = File> + AllocGlobal>(
 pub struct MeterLine<'r, R: Net + Clock> {
     rt: &'r R,
     line: Option<Line<HostClock<'r, R>, Wire<R::Stream>>>,
+    wait: u64,
     has_deadline: bool,
 }
 
@@ -137,6 +142,7 @@ impl<'r, R: Net + Clock> MeterLine<'r, R> {
         MeterLine {
             rt,
             line: None,
+            wait: WAIT_SECONDS,
             has_deadline: false,
         }
     }
@@ -146,8 +152,19 @@ impl<'r, R: Net + Clock> MeterLine<'r, R> {
         MeterLine {
             rt,
             line: None,
+            wait: WAIT_SECONDS,
             has_deadline: true,
         }
+    }
+
+    /// The same, which waits for so many seconds for an answer, and for a write.
+    pub fn waiting(self, seconds: u32) -> Self
+        ensures wait { result.wait ≡ seconds }
+        ensures deadline { result.has_deadline ≡ self.entry.has_deadline }
+    {
+        let mut line = self;
+        line.wait = u64::from(seconds);
+        line
     }
 }
 
@@ -177,24 +194,25 @@ impl<R: Net + Clock> Write for MeterLine<'_, R> {
 }
 
 impl<R: Net + Files<File = File> + Clock + AllocGlobal> Dialling for MeterLine<'_, R> {
-    /// A path that begins at the root is the serial line of that device. Bytes go out at once, and no call waits for more than two
-    /// seconds.
+    /// A path that begins at the root is the serial line of that device. Bytes go out at once, and no call waits for longer than the
+    /// line does.
     fn connect(&mut self, address: &str, seconds: u32) -> io::Result<bool>
         ensures { IfOk result (λ is_connected. IsTrue is_connected
-            → MatchOption self.new.line ⊥ (λ line. IsUntil self.old.has_deadline seconds line.until)) }
+            → MatchOption self.new.line ⊥ (λ line. IsUntil self.old.has_deadline seconds line.until
+            × (line.wait ≡ self.old.wait))) }
     {
         let deadline = Deadline::new(Instant::now(self.rt)?, seconds);
         let wire = if is_device(address) {
-            Wire::Serial(open_device(self.rt, address)?)
+            Wire::Serial(open_device(self.rt, address, self.wait)?)
         } else {
             let Some(stream) = connect_first(self.rt, address, deadline)? else {
                 return Ok(false);
             };
-            Wire::Socket(make_ready(stream)?)
+            Wire::Socket(make_ready(stream, self.wait)?)
         };
         let now = Instant::now(self.rt)?;
         let until = until_of(self.has_deadline, deadline);
-        self.line = Some(Line::new(HostClock::new(self.rt), wire, now, until));
+        self.line = Some(Line::new(HostClock::new(self.rt), wire, now, self.wait, until));
         Ok(true)
     }
 

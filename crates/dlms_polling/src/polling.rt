@@ -59,12 +59,12 @@ impl<'r, R: Net + Files<File = File> + Clock> PollSetup<
     FilePlace<HostDisk<'r, R>>,
     MeterLine<'r, R>,
 > {
-    /// The system's clocks and files, and a line that is not connected yet.
-    pub fn of(rt: &'r R) -> Self {
+    /// The system's clocks and files, and a line that is not connected yet, which waits for so many seconds for an answer.
+    pub fn of(rt: &'r R, wait: u32) -> Self {
         PollSetup {
             inputs: HostPollInputs::new(rt),
             place: FilePlace::of(rt),
-            line: MeterLine::until(rt),
+            line: MeterLine::until(rt).waiting(wait),
         }
     }
 }
