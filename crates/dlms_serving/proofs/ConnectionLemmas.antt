@@ -9,16 +9,18 @@ use Rattle.dlms_ends.specs.declared.fault.RunFault.{RunFault}
 use Rattle.dlms_ends.specs.declared.fault.RunFault.TheVariants.{Io}
 use Rattle.dlms_ends.specs.declared.meter_end.Taken.{Taken}
 use Rattle.dlms_ends.proofs.MomentLemmas.{adds_none, adds_more}
-use Rattle.dlms_meter.specs.Steps.{IsCall}
-use Rattle.dlms_meter.specs.Steps.Call.{Fed}
 use Rattle.dlms_meter.specs.declared.meter.Meter.{Meter}
 use Rattle.dlms_pages.specs.declared.device.Pages.{Ghosts}
-use Rattle.dlms_serving.specs.Connection.{At, AnswersEach, Behind, ToRead, Checks, ChecksOnce, Connection, Unbegun, Begun, Counts, Doing, Reads, Answers, Doings, Nothing, Then, Ends, IsOver, LookEnds, ReadEnds, ReplyEnds, Tires, Gives, GivesFrame, Goes, GoesToEnd, IsOfRead, LooksOnce, ReadsPiece, Replied, Log, Timed, begins, log, timed, ending_at_reply, goes_out}
+use Rattle.dlms_wrapper.specs.Stream.{Kept}
+use Rattle.dlms_wrapper.specs.declared.message.TheConstants.{MOST_APDU}
+use Rattle.dlms_serving.specs.Carrying.{Carries}
+use Rattle.dlms_serving.specs.declared.carrier.Carrier.{Carrier}
+use Rattle.dlms_serving.specs.Connection.{At, AnswersEach, Behind, ToRead, Checks, ChecksOnce, Connection, Unbegun, Begun, Counts, Doing, Reads, Answers, Doings, Nothing, Then, Ends, IsOver, LookEnds, ReadEnds, ReplyEnds, Tires, Gives, GivesFrame, GivesOrEnds, MessageEnds, turned, Goes, GoesToEnd, IsOfRead, LooksOnce, ReadsPiece, Replied, Log, Timed, begins, log, timed, ending_at_reply, goes_out}
 use Rattle.dlms_serving.specs.Turns.{Tells}
 use Rattle.dlms_lines.specs.Watching.{Sight, Sees, has_any}
 use Rattle.dlms_lines.specs.Watching.Sight.{Second}
 use Rattle.dlms_serving.specs.declared.talking.Ending.{Ending}
-use Rattle.dlms_serving.specs.declared.talking.Ending.TheVariants.{Over}
+use Rattle.dlms_serving.specs.declared.talking.Ending.TheVariants.{BadMessage, Over}
 use Rattle.dlms_serving.specs.declared.talking.Rules.{Rules}
 use Rattle.dlms_serving.specs.declared.talking.TurnState.{TurnState}
 use Rattle.dlms_serving.specs.declared.ticks.Ticks.{Ticks}
@@ -68,60 +70,56 @@ module _ {P A : Type 0} {ghosts : Ghosts P} where
   -- ---- bytes are given
 
   -- what a call that went well did
-  record Given (q r : Option (List Moment)) (s given : At P A ghosts) (is_answered : Bool) : Type 0 where
+  record Given (carrier : Carrier) (q r : Option (List Moment)) (s given : At P A ghosts) (is_answered : Bool) : Type 0 where
     reply : Option (List ℕ)
-    gives : Gives s reply given
+    gives : Gives carrier s reply given
     adds : Adds q r (goes_out reply)
     same : is_answered ≡ has_any reply
 
-  gives_of : (meter meter' : Meter P A ghosts) (ticks : Ticks) (bytes : List ℕ) (state : TurnState) (reads count : ℕ) (tries : Tries) (reply : Option (List ℕ)) → 0 < length bytes → (0 < length bytes → 0 < count) → count ≤ length bytes
-      → IsCall meter (Fed (take count bytes) reply) meter' → Counts reply state.turn.tries tries → Gives (at meter ticks bytes state reads) reply (at meter' ticks (drop count bytes) (record state { turn = record state.turn { tries = tries } }) reads)
-  gives_of meter meter' ticks bytes state reads count tries reply some gave within call counts = record {
+  gives_of : (carrier : Carrier) (meter meter' : Meter P A ghosts) (ticks : Ticks) (bytes rest : List ℕ) (state passed : TurnState) (reads count : ℕ) (tries : Tries) (reader : Kept) (reply : Option (List ℕ))
+      → 0 < length bytes → (0 < length bytes → 0 < count) → count ≤ length bytes → rest ≡ drop count bytes → Carries carrier state.reader meter (take count bytes) reply reader meter'
+      → Counts carrier reply state.turn.tries tries → passed ≡ turned state tries reader → Gives carrier (at meter ticks bytes state reads) reply (at meter' ticks rest passed reads)
+  gives_of carrier meter meter' ticks bytes rest state passed reads count tries reader reply some gave within left call counts is = record {
     taken = take count bytes;
-    behind = drop count bytes;
+    behind = rest;
     tries = tries;
-    cut = sym (take-append-drop count bytes);
+    reader = reader;
+    cut = subst (λ (l : List ℕ). bytes ≡ take count bytes ++ l) (sym left) (sym (take-append-drop count bytes));
     some = omega (arith, gave some, length-take-le count bytes within);
     call = call;
     counts = counts;
-    same = refl;
+    same = ap (λ (t : TurnState). at meter' ticks rest t reads) is;
   }
 
-  given_by : {E : Type 0} (q r : Option (List Moment)) (meter meter' : Meter P A ghosts) (ticks : Ticks) (bytes rest : List ℕ) (state : TurnState) (reads : ℕ) (tries : Tries) (taken : Taken) → 0 < length bytes → rest ≡ drop taken.count bytes
-      → GivesFrame {E = E} q r meter bytes state.turn.tries tries (Ok taken) meter'
-      → Given q r (at meter ticks bytes state reads) (at meter' ticks rest (record state { turn = record state.turn { tries = tries } }) reads) taken.is_answered
-  given_by {E} q r meter meter' ticks bytes rest state reads tries taken some left is =
+  given_by : {E : Type 0} (carrier : Carrier) (q r : Option (List Moment)) (meter meter' : Meter P A ghosts) (ticks : Ticks) (bytes rest : List ℕ) (state : TurnState) (reads : ℕ) (passed : TurnState) (taken : Taken) → 0 < length bytes → rest ≡ drop taken.count bytes
+      → GivesFrame {E = E} carrier q r meter bytes state passed (Ok taken) meter'
+      → Given carrier q r (at meter ticks bytes state reads) (at meter' ticks rest passed reads) taken.is_answered
+  given_by {E} carrier q r meter meter' ticks bytes rest state reads passed taken some left is =
       by_reply is.reply is.call is.counts is.replies where
-        by_reply : (reply : Option (List ℕ)) → IsCall meter (Fed (take is.count bytes) reply) meter' → Counts reply state.turn.tries tries → Replied {E = E} q r is.count reply (Ok taken)
-            → Given q r (at meter ticks bytes state reads) (at meter' ticks rest (record state { turn = record state.turn { tries = tries } }) reads) taken.is_answered
-        by_reply None call counts (same, adds) =
-            let same_rest : rest ≡ drop is.count bytes = left ∙ ap (λ (t : Taken). drop t.count bytes) same in
-            record {
-              reply = None;
-              gives = subst (λ (l : List ℕ). Gives (at meter ticks bytes state reads) None (at meter' ticks l (record state { turn = record state.turn { tries = tries } }) reads)) (sym same_rest)
-                  (gives_of meter meter' ticks bytes state reads is.count tries None some is.some is.within call counts);
-              adds = adds;
-              same = ap (λ (t : Taken). t.is_answered) same;
-            }
-        by_reply (Some reply) call counts (same, adds) =
-            let same_rest : rest ≡ drop is.count bytes = left ∙ ap (λ (t : Taken). drop t.count bytes) same in
-            record {
-              reply = Some reply;
-              gives = subst (λ (l : List ℕ). Gives (at meter ticks bytes state reads) (Some reply) (at meter' ticks l (record state { turn = record state.turn { tries = tries } }) reads)) (sym same_rest)
-                  (gives_of meter meter' ticks bytes state reads is.count tries (Some reply) some is.some is.within call counts);
-              adds = adds;
-              same = ap (λ (t : Taken). t.is_answered) same;
-            }
+        by_reply : (reply : Option (List ℕ)) → Carries carrier state.reader meter (take is.count bytes) reply is.reader meter' → Counts carrier reply state.turn.tries is.tries → Replied {E = E} q r is.count reply (Ok taken)
+            → Given carrier q r (at meter ticks bytes state reads) (at meter' ticks rest passed reads) taken.is_answered
+        by_reply None call counts (same, adds) = record {
+          reply = None;
+          gives = gives_of carrier meter meter' ticks bytes rest state passed reads is.count is.tries is.reader None some is.some is.within (left ∙ ap (λ (t : Taken). drop t.count bytes) same) call counts is.turned;
+          adds = adds;
+          same = ap (λ (t : Taken). t.is_answered) same;
+        }
+        by_reply (Some reply) call counts (same, adds) = record {
+          reply = Some reply;
+          gives = gives_of carrier meter meter' ticks bytes rest state passed reads is.count is.tries is.reader (Some reply) some is.some is.within (left ∙ ap (λ (t : Taken). drop t.count bytes) same) call counts is.turned;
+          adds = adds;
+          same = ap (λ (t : Taken). t.is_answered) same;
+        }
 
   -- the bytes are answered, and the turn is not over
   pub goes_answering : {E : Type 0} (rules : Rules) (p q r : Option (List Moment)) (v w x : Option (List Sight)) (s : At P A ghosts) (meter given meter' : Meter P A ghosts) (ticks ticks' : Ticks) (bytes rest : List ℕ) (state state' : TurnState)
-      (reads : ℕ) (tries : Tries) (taken : Taken) (found : Option Why) → 0 < length bytes → rest ≡ drop taken.count bytes → Goes rules (log p v) (log q w) s (at meter ticks bytes state reads)
-      → GivesFrame {E = E} q r meter bytes state.turn.tries tries (Ok taken) given → found ≡ None
-      → ChecksOnce rules w x (at given ticks rest (record state { turn = record state.turn { tries = tries } }) reads) taken.is_answered (Ok found) (at meter' ticks' rest state' reads)
+      (reads : ℕ) (passed : TurnState) (taken : Taken) (found : Option Why) → 0 < length bytes → rest ≡ drop taken.count bytes → Goes rules (log p v) (log q w) s (at meter ticks bytes state reads)
+      → GivesFrame {E = E} rules.carrier q r meter bytes state passed (Ok taken) given → found ≡ None
+      → ChecksOnce rules w x (at given ticks rest passed reads) taken.is_answered (Ok found) (at meter' ticks' rest state' reads)
       → Goes rules (log p v) (log r x) s (at meter' ticks' rest state' reads)
-  goes_answering {E} rules p q r v w x s meter given meter' ticks ticks' bytes rest state state' reads tries taken found some left goes is none (now, sights, sees, checks, tells) =
-      let g = given_by {E = E} q r meter given ticks bytes rest state reads tries taken some left is in
-      let mid = at given ticks rest (record state { turn = record state.turn { tries = tries } }) reads in
+  goes_answering {E} rules p q r v w x s meter given meter' ticks ticks' bytes rest state state' reads passed taken found some left goes is none (now, sights, sees, checks, tells) =
+      let g = given_by {E = E} rules.carrier q r meter given ticks bytes rest state reads passed taken some left is in
+      let mid = at given ticks rest passed reads in
       let after = at meter' ticks' rest state' reads in
       goes_and rules p q r v w x s (at meter ticks bytes state reads) after (goes_out g.reply) (Second (Some now) ∷ sights) goes
       (Answers g.reply mid now sights after g.gives (subst (λ (b : Bool). Checks rules mid b now sights after) g.same checks) (subst (λ (o : Option Why). Tells rules state'.turn now o) none tells))
@@ -189,38 +187,51 @@ module _ {P A : Type 0} {ghosts : Ghosts P} where
   tires rules p q v w s meter ticks state reads all goes = ends_so rules p q q v w w s (at meter ticks [] state reads) (Err Io) [] [] meter ticks goes (Tires refl all) (adds_none q) (sees_nothing w)
 
   -- after bytes
-  pub reply_breaks : {E : Type 0} (rules : Rules) (p q r : Option (List Moment)) (v w : Option (List Sight)) (s : At P A ghosts) (meter given : Meter P A ghosts) (ticks : Ticks) (bytes : List ℕ) (state : TurnState) (reads : ℕ) (tries : Tries) (e : E) (error : Error)
-      → 0 < length bytes → Goes rules (log p v) (log q w) s (at meter ticks bytes state reads) → GivesFrame {E = E} q r meter bytes state.turn.tries tries (Err e) given → GoesToEnd rules (log p v) (log r w) s (Ok (ending_at_reply tries error)) (timed given ticks)
-  reply_breaks {E} rules p q r v w s meter given ticks bytes state reads tries e error some goes is = by_reply is.reply is.call is.counts is.replies where
-    by_reply : (reply : Option (List ℕ)) → IsCall meter (Fed (take is.count bytes) reply) given → Counts reply state.turn.tries tries → Replied {E = E} q r is.count reply (Err e)
-        → GoesToEnd rules (log p v) (log r w) s (Ok (ending_at_reply tries error)) (timed given ticks)
+  reply_breaks : {E : Type 0} (rules : Rules) (p q r : Option (List Moment)) (v w : Option (List Sight)) (s : At P A ghosts) (meter given : Meter P A ghosts) (ticks : Ticks) (bytes : List ℕ) (state passed : TurnState) (reads : ℕ) (e : E) (error : Error)
+      → 0 < length bytes → Goes rules (log p v) (log q w) s (at meter ticks bytes state reads) → GivesFrame {E = E} rules.carrier q r meter bytes state passed (Err e) given
+      → GoesToEnd rules (log p v) (log r w) s (Ok (ending_at_reply passed.turn.tries error)) (timed given ticks)
+  reply_breaks {E} rules p q r v w s meter given ticks bytes state passed reads e error some goes is = by_reply is.reply is.call is.counts is.replies where
+    by_reply : (reply : Option (List ℕ)) → Carries rules.carrier state.reader meter (take is.count bytes) reply is.reader given → Counts rules.carrier reply state.turn.tries is.tries → Replied {E = E} q r is.count reply (Err e)
+        → GoesToEnd rules (log p v) (log r w) s (Ok (ending_at_reply passed.turn.tries error)) (timed given ticks)
     by_reply None call counts none = absurd none
     by_reply (Some reply) call counts (part, missing, joined, adds) =
-        ends_so rules p q r v w w s (at meter ticks bytes state reads) (Ok (ending_at_reply tries error)) (Broke part ∷ []) [] given ticks goes
-        (ReplyEnds reply part missing (at given ticks (drop is.count bytes) (record state { turn = record state.turn { tries = tries } }) reads) error
-        (gives_of meter given ticks bytes state reads is.count tries (Some reply) some is.some is.within call counts) joined) adds (sees_nothing w)
+        ends_so rules p q r v w w s (at meter ticks bytes state reads) (Ok (ending_at_reply passed.turn.tries error)) (Broke part ∷ []) [] given ticks goes
+        (ReplyEnds reply part missing (at given ticks (drop is.count bytes) passed reads) error
+        (gives_of rules.carrier meter given ticks bytes (drop is.count bytes) state passed reads is.count is.tries is.reader (Some reply) some is.some is.within refl call counts is.turned) joined) adds (sees_nothing w)
+
+  -- a reply did not go out whole, or no message can be answered any more
+  pub giving_ends : (rules : Rules) (p q r : Option (List Moment)) (v w : Option (List Sight)) (s : At P A ghosts) (meter given : Meter P A ghosts) (ticks : Ticks) (bytes : List ℕ) (state passed : TurnState) (reads : ℕ) (ending : Ending)
+      → 0 < length bytes → Goes rules (log p v) (log q w) s (at meter ticks bytes state reads) → GivesOrEnds rules.carrier q r meter bytes state passed (Err ending) given
+      → GoesToEnd rules (log p v) (log r w) s (Ok ending) (timed given ticks)
+  giving_ends rules p q r v w s meter given ticks bytes state passed reads ending some goes (inl (error, is, told)) =
+      subst (λ (e : Ending). GoesToEnd rules (log p v) (log r w) s (Ok e) (timed given ticks)) (sym told)
+      (reply_breaks {E = Error} rules p q r v w s meter given ticks bytes state passed reads error error some goes is)
+  giving_ends rules p q r v w s meter given ticks bytes state passed reads ending some goes (inr (bad, told, adds, same)) =
+      subst (λ (e : Ending). GoesToEnd rules (log p v) (log r w) s (Ok e) (timed given ticks)) (sym told)
+      (subst (λ (m : Meter P A ghosts). GoesToEnd rules (log p v) (log r w) s (Ok BadMessage) (timed m ticks)) (sym same)
+      (ends_so rules p q r v w w s (at meter ticks bytes state reads) (Ok BadMessage) [] [] meter ticks goes (MessageEnds bad) adds (sees_nothing w)))
 
   pub over_behind : {E : Type 0} (rules : Rules) (p q r : Option (List Moment)) (v w x : Option (List Sight)) (s : At P A ghosts) (meter given meter' : Meter P A ghosts) (ticks ticks' : Ticks) (bytes rest : List ℕ) (state state' : TurnState)
-      (reads : ℕ) (tries : Tries) (taken : Taken) (found : Option Why) (why : Why) → 0 < length bytes → rest ≡ drop taken.count bytes → Goes rules (log p v) (log q w) s (at meter ticks bytes state reads)
-      → GivesFrame {E = E} q r meter bytes state.turn.tries tries (Ok taken) given → found ≡ Some why
-      → ChecksOnce rules w x (at given ticks rest (record state { turn = record state.turn { tries = tries } }) reads) taken.is_answered (Ok found) (at meter' ticks' rest state' reads)
+      (reads : ℕ) (passed : TurnState) (taken : Taken) (found : Option Why) (why : Why) → 0 < length bytes → rest ≡ drop taken.count bytes → Goes rules (log p v) (log q w) s (at meter ticks bytes state reads)
+      → GivesFrame {E = E} rules.carrier q r meter bytes state passed (Ok taken) given → found ≡ Some why
+      → ChecksOnce rules w x (at given ticks rest passed reads) taken.is_answered (Ok found) (at meter' ticks' rest state' reads)
       → GoesToEnd rules (log p v) (log r x) s (Ok (Over why)) (timed meter' ticks')
-  over_behind {E} rules p q r v w x s meter given meter' ticks ticks' bytes rest state state' reads tries taken found why some left goes is told (now, sights, sees, checks, tells) =
-      let g = given_by {E = E} q r meter given ticks bytes rest state reads tries taken some left is in
-      let mid = at given ticks rest (record state { turn = record state.turn { tries = tries } }) reads in
+  over_behind {E} rules p q r v w x s meter given meter' ticks ticks' bytes rest state state' reads passed taken found why some left goes is told (now, sights, sees, checks, tells) =
+      let g = given_by {E = E} rules.carrier q r meter given ticks bytes rest state reads passed taken some left is in
+      let mid = at given ticks rest passed reads in
       let after = at meter' ticks' rest state' reads in
       ends_so rules p q r v w x s (at meter ticks bytes state reads) (Ok (Over why)) (goes_out g.reply) (Second (Some now) ∷ sights) meter' ticks' goes
       (IsOver (goes_out g.reply) (has_any g.reply) mid now sights after why (Behind g.reply mid g.gives) (subst (λ (b : Bool). Checks rules mid b now sights after) g.same checks)
       (subst (λ (o : Option Why). Tells rules state'.turn now o) told tells)) g.adds sees
 
   pub look_fails_behind : {E : Type 0} (rules : Rules) (p q r : Option (List Moment)) (v w x : Option (List Sight)) (s : At P A ghosts) (meter given meter' : Meter P A ghosts) (ticks ticks' : Ticks) (bytes rest : List ℕ) (state state' : TurnState)
-      (reads : ℕ) (tries : Tries) (taken : Taken) (fault : RunFault) → 0 < length bytes → rest ≡ drop taken.count bytes → Goes rules (log p v) (log q w) s (at meter ticks bytes state reads)
-      → GivesFrame {E = E} q r meter bytes state.turn.tries tries (Ok taken) given
-      → ChecksOnce rules w x (at given ticks rest (record state { turn = record state.turn { tries = tries } }) reads) taken.is_answered (Err fault) (at meter' ticks' rest state' reads)
+      (reads : ℕ) (passed : TurnState) (taken : Taken) (fault : RunFault) → 0 < length bytes → rest ≡ drop taken.count bytes → Goes rules (log p v) (log q w) s (at meter ticks bytes state reads)
+      → GivesFrame {E = E} rules.carrier q r meter bytes state passed (Ok taken) given
+      → ChecksOnce rules w x (at given ticks rest passed reads) taken.is_answered (Err fault) (at meter' ticks' rest state' reads)
       → GoesToEnd rules (log p v) (log r x) s (Err fault) (timed meter' ticks')
-  look_fails_behind {E} rules p q r v w x s meter given meter' ticks ticks' bytes rest state state' reads tries taken fault some left goes is (sights, sees, fails, same, staying, counted) =
-      let g = given_by {E = E} q r meter given ticks bytes rest state reads tries taken some left is in
-      let mid = at given ticks rest (record state { turn = record state.turn { tries = tries } }) reads in
+  look_fails_behind {E} rules p q r v w x s meter given meter' ticks ticks' bytes rest state state' reads passed taken fault some left goes is (sights, sees, fails, same, staying, counted) =
+      let g = given_by {E = E} rules.carrier q r meter given ticks bytes rest state reads passed taken some left is in
+      let mid = at given ticks rest passed reads in
       ends_so rules p q r v w x s (at meter ticks bytes state reads) (Err fault) (goes_out g.reply) sights meter' ticks' goes
       (LookEnds (goes_out g.reply) (has_any g.reply) mid fault sights (timed meter' ticks') (Behind g.reply mid g.gives) fails) g.adds sees
 
@@ -255,7 +266,7 @@ module _ {P A : Type 0} {ghosts : Ghosts P} where
   under_ends rules p q r v w x meter mid meter' ticks told ticks' state reads result u ends = from_start rules p r v u.seen x meter u.begun.meter meter' ticks u.begun.ticks ticks' u.first result u.look ends
 
   pub under_begins : (rules : Rules) (p : Option (List Moment)) (v w : Option (List Sight)) (meter mid : Meter P A ghosts) (ticks told : Ticks) (first : ℕ) (state : TurnState) → LooksOnce rules.tick v w (timed meter ticks) (Ok first) (timed mid told)
-      → state ≡ record { turn = record { answered = first; held = first; waited = None; tries = record { refusals = 0; is_proved = false } }; asked = None } → Under rules (log p v) (log p w) (timed meter ticks) (timed mid told) state 0
+      → state ≡ record { turn = record { answered = first; held = first; waited = None; tries = record { refusals = 0; is_proved = false } }; asked = None; reader = record { limit = MOST_APDU; bytes = []; message = None } } → Under rules (log p v) (log p w) (timed meter ticks) (timed mid told) state 0
   under_begins rules p v w meter mid ticks told first state look is = record {
     first = first;
     seen = w;

@@ -9,3 +9,4 @@ pub mod ServeLemmas
 pub mod LineLemmas
 pub mod QueueLemmas
 pub mod GuessLemmas
+pub mod WrapperLemmas

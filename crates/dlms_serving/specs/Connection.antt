@@ -11,20 +11,22 @@ use Rattle.dlms_ends.specs.declared.fault.RunFault.{RunFault}
 use Rattle.dlms_ends.specs.declared.fault.RunFault.TheVariants.{Add, Io}
 use Rattle.dlms_ends.specs.declared.meter_end.Taken.{Taken}
 use Rattle.dlms_meter.specs.Run.{record_for}
-use Rattle.dlms_meter.specs.Steps.{IsCall}
-use Rattle.dlms_meter.specs.Steps.Call.{Fed}
 use Rattle.dlms_meter.specs.declared.meter.Meter.{Meter}
 use Rattle.dlms_pages.specs.declared.device.Pages.{Ghosts}
 use Rattle.dlms_store.specs.declared.fault.AddFault.{AddFault}
 use Rattle.dlms_store.specs.declared.fault.AddFault.TheVariants as add
 use Rattle.dlms_serving.specs.Pace.{AreDue}
-use Rattle.dlms_serving.specs.Refusals.{SaysFirst}
+use Rattle.dlms_wrapper.specs.Stream.{IsRefused, Kept}
+use Rattle.dlms_wrapper.specs.declared.message.TheConstants.{MOST_APDU}
+use Rattle.dlms_serving.specs.Carrying.{Carries, IsBad, ReadsInto, Says}
+use Rattle.dlms_serving.specs.declared.carrier.Carrier.{Carrier}
+use Rattle.dlms_serving.specs.declared.carrier.Carrier.TheVariants.{Wrapper}
 use Rattle.dlms_serving.specs.Telling.{GoesOn, Looks}
 use Rattle.dlms_serving.specs.Turns.{Tells}
 use Rattle.dlms_lines.specs.Watching.{Sight, Sees, has_any}
 use Rattle.dlms_lines.specs.Watching.Sight.{Second, Another, Trusts}
 use Rattle.dlms_serving.specs.declared.talking.Ending.{Ending}
-use Rattle.dlms_serving.specs.declared.talking.Ending.TheVariants.{Closed, Failed, Over}
+use Rattle.dlms_serving.specs.declared.talking.Ending.TheVariants.{BadMessage, Closed, Failed, Over}
 use Rattle.dlms_serving.specs.declared.talking.Rules.{Rules}
 use Rattle.dlms_serving.specs.declared.talking.TurnState.{TurnState}
 use Rattle.dlms_serving.specs.declared.refusals.Outcome.{Outcome}
@@ -122,6 +124,7 @@ begins old first =
           tries = record { refusals = 0; is_proved = false };
         };
         asked = None;
+        reader = record { limit = MOST_APDU; bytes = []; message = None };
       };
       reads = 0;
     }
@@ -135,25 +138,31 @@ behind_outcome (Some Proved) tries = record tries { is_proved = true }
 behind_outcome (Some Opened) tries = tries
 behind_outcome None tries = tries
 
-abbrev pub Counts : Option (List ℕ) → Tries → Tries → Type 0
-Counts None before after = after ≡ before
-Counts (Some reply) before after = (outcome : Option Outcome) × SaysFirst reply outcome
+abbrev pub Counts : Carrier → Option (List ℕ) → Tries → Tries → Type 0
+Counts carrier None before after = after ≡ before
+Counts carrier (Some reply) before after = (outcome : Option Outcome) × Says carrier reply outcome
     × (after ≡ behind_outcome outcome before)
 
--- The meter gets some of the bytes in one call, and its reply is counted.
-pub record Gives {P A : Type 0} {ghosts : Ghosts P} (s : At P A ghosts) (reply : Option (List ℕ))
-    (given : At P A ghosts) : Type 0 where
+-- the turn with these tries, and with this of a message that has begun
+abbrev pub turned : TurnState → Tries → Kept → TurnState
+turned state tries reader =
+    record state { turn = record state.turn { tries = tries }; reader = reader }
+
+-- The meter gets some of the bytes by the carrier, and its reply is counted.
+pub record Gives {P A : Type 0} {ghosts : Ghosts P} (carrier : Carrier) (s : At P A ghosts)
+    (reply : Option (List ℕ)) (given : At P A ghosts) : Type 0 where
   pub taken : List ℕ
   pub behind : List ℕ
   pub tries : Tries
+  pub reader : Kept
   pub cut : s.left ≡ taken ++ behind
   pub some : 0 < length taken
-  pub call : IsCall s.meter (Fed taken reply) given.meter
-  pub counts : Counts reply s.state.turn.tries tries
+  pub call : Carries carrier s.state.reader s.meter taken reply reader given.meter
+  pub counts : Counts carrier reply s.state.turn.tries tries
   pub same : given ≡ record s {
     meter = given.meter;
     left = behind;
-    state = record s.state { turn = record s.state.turn { tries = tries } };
+    state = turned s.state tries reader;
   }
 
 -- the whole reply goes out, and it learns the number of bytes taken and whether there was a reply; or the line breaks at it
@@ -169,16 +178,47 @@ Replied old new count (Some reply) (Ok taken) = (taken ≡ record {
 Replied old new count (Some reply) (Err e) = Breaks old new reply
 
 -- the same of one call, as its caller sees it
-pub record GivesFrame {P A E : Type 0} {ghosts : Ghosts P} (old new : Option (List Moment))
-    (before : Meter P A ghosts) (bytes : List ℕ) (tries tries' : Tries) (result : Result Taken E)
-    (after : Meter P A ghosts) : Type 0 where
+pub record GivesFrame {P A E : Type 0} {ghosts : Ghosts P} (carrier : Carrier)
+    (old new : Option (List Moment)) (before : Meter P A ghosts) (bytes : List ℕ)
+    (state state' : TurnState) (result : Result Taken E) (after : Meter P A ghosts) : Type 0 where
   pub count : ℕ
   pub reply : Option (List ℕ)
+  pub tries : Tries
+  pub reader : Kept
   pub some : 0 < length bytes → 0 < count
   pub within : count ≤ length bytes
-  pub call : IsCall before (Fed (take count bytes) reply) after
-  pub counts : Counts reply tries tries'
+  pub call : Carries carrier state.reader before (take count bytes) reply reader after
+  pub counts : Counts carrier reply state.turn.tries tries
+  pub turned : state' ≡ turned state tries reader
   pub replies : Replied old new count reply result
+
+-- the end that an error at a reply is: whose association request is refused need not take the reply for that to count
+abbrev pub ending_at_reply : Tries → Error → Ending
+ending_at_reply tries error = if nat_lt 0 tries.refusals then Over why.Refused else Failed error
+
+-- Over the wrapper some of the bytes were read, and no message can be answered any more: a header is refused, now or before, or a
+-- message has no octets.
+pub record ReadsBad (carrier : Carrier) (bytes : List ℕ) (state : TurnState) : Type 0 where
+  pub taken : List ℕ
+  pub behind : List ℕ
+  pub reader : Kept
+  pub by_wrapper : carrier ≡ Wrapper
+  pub cut : bytes ≡ taken ++ behind
+  pub reads : ReadsInto state.reader taken reader
+  pub bad : IsBad reader ⊎ IsRefused state.reader.limit state.reader.bytes
+
+-- the same of one call, with the end that an error at the reply is; or no message can be answered any more
+abbrev pub GivesOrEnds : {P A : Type 0} → {ghosts : Ghosts P} → Carrier → Option (List Moment)
+    → Option (List Moment) → Meter P A ghosts → List ℕ → TurnState → TurnState → Result Taken Ending
+    → Meter P A ghosts → Type 0
+GivesOrEnds carrier old new before bytes state state' (Ok taken) after =
+    GivesFrame {E = Error} carrier old new before bytes state state' (Ok taken) after
+GivesOrEnds carrier old new before bytes state state' (Err ending) after =
+    ((error : Error)
+    × GivesFrame {E = Error} carrier old new before bytes state state' (Err error) after
+    × (ending ≡ ending_at_reply state'.turn.tries error))
+    ⊎ (ReadsBad carrier bytes state × (ending ≡ BadMessage) × Adds old new []
+    × (after ≡ before))
 
 -- ---- the turn
 
@@ -237,6 +277,7 @@ pub record Checks {P A : Type 0} {ghosts : Ghosts P} (rules : Rules) (s : At P A
   pub asks : AsksFor (behind_telling state) now asked_for after.state.turn
   pub all : sights ≡ told_of state now ++ asked_for
   pub asked : after.state.asked ≡ Some now
+  pub reader : after.state.reader ≡ s.state.reader
   pub left : after.left ≡ s.left
   pub reads : after.reads ≡ s.reads
 
@@ -284,7 +325,7 @@ pub data Doing {P A : Type 0} {ghosts : Ghosts P} (rules : Rules) (s : At P A gh
         reads = mid.reads + 1;
       })
   Answers : (reply : Option (List ℕ)) (given : At P A ghosts) (now : ℕ) (sights : List Sight)
-      (after : At P A ghosts) → Gives s reply given
+      (after : At P A ghosts) → Gives rules.carrier s reply given
       → Checks rules given (has_any reply) now sights after
       → Tells rules after.state.turn now None
       → Doing rules s (goes_out reply) (Second (Some now) ∷ sights) after
@@ -308,35 +349,32 @@ pub record Goes {P A : Type 0} {ghosts : Ghosts P} (rules : Rules) (old new : Lo
 -- ---- the end
 
 -- It comes to a look at the clock: before a read, or after bytes that the meter was given, whose reply went out.
-pub data Arrives {P A : Type 0} {ghosts : Ghosts P} (s : At P A ghosts) : List Moment → Bool
-    → At P A ghosts → Type 0 where
-  ToRead : s.left ≡ [] → Arrives s [] false s
-  Behind : (reply : Option (List ℕ)) (given : At P A ghosts) → Gives s reply given
-      → Arrives s (goes_out reply) (has_any reply) given
+pub data Arrives {P A : Type 0} {ghosts : Ghosts P} (carrier : Carrier) (s : At P A ghosts)
+    : List Moment → Bool → At P A ghosts → Type 0 where
+  ToRead : s.left ≡ [] → Arrives carrier s [] false s
+  Behind : (reply : Option (List ℕ)) (given : At P A ghosts) → Gives carrier s reply given
+      → Arrives carrier s (goes_out reply) (has_any reply) given
 
 -- the report on a read that failed: that the other end closed the connection if the stream has ended, otherwise the error
 abbrev pub IsOfRead : Error → Ending → Type 0
 IsOfRead error Closed = error_kind error ≡ UnexpectedEof
 IsOfRead error (Failed told) = (error_kind error ≢ UnexpectedEof) × (told ≡ error)
 IsOfRead error (Over why) = ⊥
+IsOfRead error BadMessage = ⊥
 
--- the end that an error at a reply is: whose association request is refused need not take the reply for that to count
-abbrev pub ending_at_reply : Tries → Error → Ending
-ending_at_reply tries error = if nat_lt 0 tries.refusals then Over why.Refused else Failed error
-
--- How it ends, and why: at a look at the clock its turn is over, or the look failed; a read failed; a reply did not go out whole; or it
--- has read as often as it may.
+-- How it ends, and why: at a look at the clock its turn is over, or the look failed; a read failed; a reply did not go out whole; no message
+-- can be answered any more; or it has read as often as it may.
 pub data Ends {P A : Type 0} {ghosts : Ghosts P} (rules : Rules)
     (s : At P A ghosts) : Result Ending RunFault → List Moment → List Sight → Timed P A ghosts
     → Type 0 where
   IsOver : (moments : List Moment) (is_answered : Bool) (given : At P A ghosts) (now : ℕ)
       (sights : List Sight) (after : At P A ghosts) (why : Why)
-      → Arrives s moments is_answered given
+      → Arrives rules.carrier s moments is_answered given
       → Checks rules given is_answered now sights after → Tells rules after.state.turn now (Some why)
       → Ends rules s (Ok (Over why)) moments (Second (Some now) ∷ sights) (timed_of after)
   LookEnds : (moments : List Moment) (is_answered : Bool) (given : At P A ghosts)
       (fault : RunFault) (sights : List Sight) (new : Timed P A ghosts)
-      → Arrives s moments is_answered given
+      → Arrives rules.carrier s moments is_answered given
       → LookFails rules.tick (timed_of given) fault sights new
       → Ends rules s (Err fault) moments sights new
   ReadEnds : (now : ℕ) (sights : List Sight) (after : At P A ghosts) (error : Error)
@@ -344,9 +382,11 @@ pub data Ends {P A : Type 0} {ghosts : Ghosts P} (rules : Rules)
       → Tells rules after.state.turn now None → IsOfRead error ending
       → Ends rules s (Ok ending) (Unheard error ∷ []) (Second (Some now) ∷ sights) (timed_of after)
   ReplyEnds : (reply part missing : List ℕ) (given : At P A ghosts) (error : Error)
-      → Gives s (Some reply) given → part ++ missing ≡ reply
+      → Gives rules.carrier s (Some reply) given → part ++ missing ≡ reply
       → Ends rules s (Ok (ending_at_reply given.state.turn.tries error))
       (Broke part ∷ []) [] (timed_of given)
+  MessageEnds : ReadsBad rules.carrier s.left s.state
+      → Ends rules s (Ok BadMessage) [] [] (timed_of s)
   Tires : s.left ≡ [] → s.reads ≡ 2 ^ 64 - 1 → Ends rules s (Err Io) [] [] (timed_of s)
 
 -- From there it went on, and ended so.

@@ -11,3 +11,4 @@ pub mod ServingLine
 pub mod Guesses
 pub mod Queue
 pub mod GuessRuns
+pub mod Carrying

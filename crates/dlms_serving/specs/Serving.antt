@@ -19,7 +19,7 @@ use Rattle.dlms_lines.specs.Watching.Sight.{Second, Next, Prepares, Bars, Pauses
 use Rattle.dlms_lines.specs.declared.fault.FieldFault.{FieldFault}
 use Rattle.dlms_lines.specs.declared.fault.FieldFault.TheVariants.{System}
 use Rattle.dlms_serving.specs.declared.talking.Ending.{Ending}
-use Rattle.dlms_serving.specs.declared.talking.Ending.TheVariants.{Closed, Over, Failed}
+use Rattle.dlms_serving.specs.declared.talking.Ending.TheVariants.{BadMessage, Closed, Over, Failed}
 use Rattle.dlms_serving.specs.declared.talking.Rules.{Rules}
 use Rattle.dlms_serving.specs.declared.ticks.Ticks.{Ticks}
 use Rattle.dlms_serving.specs.declared.turns.Over.TheVariants.{Refused, Inactive, Idle, Long}
@@ -52,6 +52,7 @@ is_refused (Over Inactive) = false
 is_refused (Over Idle) = false
 is_refused (Over Long) = false
 is_refused Closed = false
+is_refused BadMessage = false
 is_refused (Failed error) = false
 
 abbrev pub Closes : {T : Type 0} → SocketAddr → Ending → Option (List Sight) → Option (List Sight)

@@ -16,7 +16,7 @@ use Rattle.dlms_lines.specs.Watching.{Sight, Sees}
 use Rattle.dlms_lines.specs.Watching.Sight.{Pauses}
 use Rattle.dlms_lines.specs.declared.fault.FieldFault.{FieldFault}
 use Rattle.dlms_serving.specs.declared.talking.Ending.{Ending}
-use Rattle.dlms_serving.specs.declared.talking.Ending.TheVariants.{Closed, Over, Failed}
+use Rattle.dlms_serving.specs.declared.talking.Ending.TheVariants.{BadMessage, Closed, Over, Failed}
 use Rattle.dlms_serving.specs.declared.talking.Rules.{Rules}
 use Rattle.dlms_serving.specs.declared.ticks.Ticks.{Ticks}
 
@@ -31,6 +31,8 @@ IsSlow error = (error_kind error ≡ TimedOut) ⊎ (error_kind error ≡ WouldBl
 abbrev pub TellsGone : List ℕ → Ending → Option FieldFault → Type 0
 TellsGone device (Over why) None = Unit {0}
 TellsGone device (Over why) (Some given) = ⊥
+TellsGone device BadMessage None = Unit {0}
+TellsGone device BadMessage (Some given) = ⊥
 TellsGone device Closed None = ⊥
 TellsGone device Closed (Some given) = (error : Error) × (error_kind error ≡ UnexpectedEof)
     × IsSystemAt device error given

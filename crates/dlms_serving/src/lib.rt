@@ -1,6 +1,7 @@
 //! A meter that serves a TCP port or a serial line.
 #![tactic(auto)]
 
+mod carrier;
 pub mod guess_laws;
 mod guesses;
 mod hanging_up;
@@ -18,7 +19,9 @@ mod telling;
 mod ticks;
 mod turns;
 mod watch;
+mod wrapped;
 
+pub use carrier::Carrier;
 pub use log::Log;
 pub use serving::{Serving, serve, serve_all};
 pub use serving_line::{serve_line, serve_turns};

@@ -1,6 +1,8 @@
 //! What a reply of the meter says about an association that was asked for.
 
-ghost use Rattle.std.specs.Prelude.{◌≡◌, ℕ, option_map};
+ghost use Rattle.std.specs.Prelude.{◌≡◌, ◌∷◌, ℕ, Some, option_map};
+ghost use Rattle.dlms_frame.specs.Client.{client_of};
+ghost use Rattle.dlms_frame.specs.declared.frame.Address.TheVariants.{One};
 ghost use Rattle.dlms_serving.specs.Refusals.{SaysFirst, is_guarded, outcome_of, result_of};
 
 use dlms_filing::bytes_behind;
@@ -72,6 +74,45 @@ fn said_by(info: &[u8], address: Address) -> Option<Outcome>
 {
     match result_of(info) {
         Some(number) => Some(outcome_of(number, address)),
+        None => None,
+    }
+}
+
+/// The place of the result's field in an APDU: the frame's, without the LLC's three octets.
+const APDU_FIELD: usize = 13;
+
+/// The result in an APDU of the meter, if it is the response to an association request.
+fn result_in(apdu: &[u8]) -> Option<u8>
+    ensures { result ≡ result_of (0xE6 ∷ 0xE7 ∷ 0x00 ∷ apdu.now) }
+{
+    if apdu.starts_with(&[0x61]) && bytes_behind(apdu, APDU_FIELD).starts_with(&RESULT) {
+        apdu.get(APDU_FIELD + RESULT.len()).copied()
+    } else {
+        None
+    }
+}
+
+/// The outcome that a result has for a client.
+fn outcome_for(number: u8, who: Client) -> Outcome
+    ensures { (sap : ℕ) → client_of sap ≡ Some who → result ≡ outcome_of number (One sap) }
+{
+    if number == 0 && who.has_secret() {
+        Outcome::Proved
+    } else if number == 0 {
+        Outcome::Opened
+    } else {
+        Outcome::Refused
+    }
+}
+
+/// The outcome of an association in an APDU of the meter to this client, if it has one.
+pub fn outcome_in_apdu(apdu: &[u8], who: Client) -> Option<Outcome>
+    ensures { (sap : ℕ) → client_of sap ≡ Some who
+        → result ≡ option_map (λ (number : ℕ). outcome_of number (One sap))
+        (result_of (0xE6 ∷ 0xE7 ∷ 0x00 ∷ apdu.now)) }
+{
+    match result_in(apdu) {
+        Some(number) => Some(outcome_for(number, who)),
         None => None,
     }
 }

@@ -1,10 +1,11 @@
 //! A meter that serves a TCP port, one client after another.
 
-ghost use Rattle.std.specs.Prelude.{◌≡◌, ◌↔◌, IsTrue, List};
-ghost use Rattle.dlms_meter.specs.Steps.{Call, Calls};
+ghost use Rattle.std.specs.Prelude.{◌≡◌, ◌↔◌, IsTrue};
+ghost use Rattle.dlms_serving.specs.Carrying.{Made};
 ghost use Rattle.dlms_serving.specs.Connection.{timed};
 ghost use Rattle.dlms_serving.specs.Serving.{Closes, Passes, Serves, ServesAll, ServesNext, ServesOne, Visits, is_refused};
 
+use crate::carrier::Carrier;
 use crate::hanging_up::hang_up;
 use crate::log::Log;
 use crate::port_watch::PortWatch;
@@ -40,6 +41,8 @@ pub struct Serving<'a> {
     pub tick: u32,
     /// After how many seconds a connection's turn is over.
     pub times: Times,
+    /// What brings the APDUs of a connection; a serial line has HDLC alone.
+    pub carrier: Carrier,
     /// Whether nothing is said of connections, of seconds that are refused, and of errors that pass.
     pub quiet: bool,
     /// The descriptor of the errors, if there is one: a line that it does not take at once is dropped.
@@ -96,6 +99,10 @@ pub fn tell_end<E: Write, D: Display + Drop>(
             errors,
             "closed {address}: another has waited for {longest} seconds"
         ),
+        Ending::BadMessage => writeln!(
+            errors,
+            "closed {address}: not a message of version 1 with 1 to 1024 octets"
+        ),
         Ending::Failed(error) => writeln!(errors, "closed {address}: {error}"),
     };
 }
@@ -125,7 +132,7 @@ pub fn is_refused(ending: Ending) -> bool
             Over::Refused => true,
             Over::Inactive | Over::Idle | Over::Long => false,
         },
-        Ending::Closed | Ending::Failed(_) => false,
+        Ending::Closed | Ending::BadMessage | Ending::Failed(_) => false,
     }
 }
 
@@ -167,7 +174,7 @@ fn serve_one<W: Watch + Drop, P: Pages, E: Write>(
 ) -> Result<(), RunFault>
     ensures serves { ServesOne rules peer.address (W.seen server.old.watch) (W.seen server.new.watch)
         (timed meter.old server.old.ticks) result (timed meter.new server.new.ticks) }
-    ensures calls { (calls : List Call) × Calls meter.old calls meter.new }
+    ensures calls { Made rules.carrier meter.old meter.new }
 {
     let Peer { stream, address } = peer;
     let mut stream = stream;
@@ -228,7 +235,7 @@ fn serve_next<'f, W: Watch + Drop, P: Pages, E: Write>(
 ) -> Result<(), FieldFault<'f>>
     ensures serves { ServesNext rules (W.seen server.old.watch) (W.seen server.new.watch)
         (timed meter.old server.old.ticks) result (timed meter.new server.new.ticks) }
-    ensures calls { (calls : List Call) × Calls meter.old calls meter.new }
+    ensures calls { Made rules.carrier meter.old meter.new }
 {
     let now = match server.look(rules.tick, meter) {
         Ok(now) => now,
@@ -264,7 +271,7 @@ pub fn serve_all<'f, W: Watch + Drop, P: Pages, E: Write>(
 ) -> Result<(), FieldFault<'f>>
     ensures serves { ServesAll rules (W.seen server.old.watch) (W.seen server.new.watch)
         (timed meter.old server.old.ticks) result (timed meter.new server.new.ticks) }
-    ensures calls { (calls : List Call) × Calls meter.old calls meter.new }
+    ensures calls { Made rules.carrier meter.old meter.new }
 {
     'connections: for _next in 0..u64::MAX {
         match serve_next(server, rules, meter, address) {
@@ -291,8 +298,9 @@ pub fn serve<'a, R: Net + Clock + AllocGlobal, P: Pages, W: Write, E: Write>(
       tick = serving.now.tick;
       times = serving.now.times;
       refusals = PORT_REFUSALS;
+      carrier = serving.now.carrier;
     }) serving.now.load meter.old result meter.new }
-    ensures calls { (calls : List Call) × Calls meter.old calls meter.new }
+    ensures calls { Made serving.now.carrier meter.old meter.new }
 {
     let start = match Instant::now(rt) {
         Ok(start) => start,
@@ -311,6 +319,7 @@ pub fn serve<'a, R: Net + Clock + AllocGlobal, P: Pages, W: Write, E: Write>(
         tick: serving.tick,
         times: serving.times,
         refusals: PORT_REFUSALS,
+        carrier: serving.carrier,
     };
     let mut server = Server::new(
         PortWatch::new(rt, rt.alloc(), start, listener),

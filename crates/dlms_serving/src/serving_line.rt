@@ -2,10 +2,13 @@
 
 ghost use Rattle.std.specs.Prelude.{◌≡◌, ◌↔◌, IsTrue, List};
 ghost use Rattle.dlms_meter.specs.Steps.{Call, Calls};
+ghost use Rattle.dlms_serving.specs.Carrying.{Made};
+ghost use Rattle.dlms_serving.specs.declared.carrier.Carrier.TheVariants as CarrierOf;
 ghost use Rattle.dlms_serving.specs.Connection.{log, timed};
 ghost use Rattle.dlms_serving.specs.ServingLine.{AllTurns, IsSlow, ServesLine, ServesTurn, TellsGone, rests};
 ghost use Rattle.dlms_lines.specs.Watching.{Sees};
 
+use crate::carrier::Carrier;
 use crate::hanging_up::hang_up;
 use crate::serial_watch::SerialWatch;
 use crate::serving::{Serving, is_refused, log_of, tell_end};
@@ -41,7 +44,7 @@ fn fault_of_line(device: &str, ending: Ending) -> Option<FieldFault<'_>>
     ensures { TellsGone device.now ending result }
 {
     match ending {
-        Ending::Over(_) => None,
+        Ending::Over(_) | Ending::BadMessage => None,
         Ending::Closed => Some(FieldFault::System(device, ErrorKind::UnexpectedEof.into())),
         Ending::Failed(error) => {
             if is_slow(error) {
@@ -97,7 +100,7 @@ fn serve_turn<'f, W: Watch + Drop, T: End, P: Pages, E: Write>(
     ensures serves { ServesTurn device.now rules (log (T.past line.old) (W.seen server.old.watch))
         (log (T.past line.new) (W.seen server.new.watch)) (timed meter.old server.old.ticks) result
         (timed meter.new server.new.ticks) }
-    ensures calls { (calls : List Call) × Calls meter.old calls meter.new }
+    ensures calls { Made rules.carrier meter.old meter.new }
 {
     hang_up(meter);
     let ending = match server.talk(rules, meter, line) {
@@ -127,7 +130,7 @@ pub fn serve_turns<'f, W: Watch + Drop, T: End, P: Pages, E: Write>(
     ensures serves { AllTurns device.now rules (log (T.past line.old) (W.seen server.old.watch))
         (log (T.past line.new) (W.seen server.new.watch)) (timed meter.old server.old.ticks) result
         (timed meter.new server.new.ticks) }
-    ensures calls { (calls : List Call) × Calls meter.old calls meter.new }
+    ensures calls { Made rules.carrier meter.old meter.new }
 {
     'turns: for _turn in 0..u64::MAX {
         match serve_turn(server, rules, meter, line, device) {
@@ -174,8 +177,8 @@ pub fn serve_line<
     ensures serves { ServesLine serving.now.address.now (record {
       tick = serving.now.tick;
       times = serving.now.times;
-      refusals =
-          LINE_REFUSALS;
+      refusals = LINE_REFUSALS;
+      carrier = CarrierOf.Hdlc;
     }) serving.now.load meter.old result meter.new }
     ensures calls { (calls : List Call) × Calls meter.old calls meter.new }
 {
@@ -196,6 +199,7 @@ pub fn serve_line<
         tick: serving.tick,
         times: serving.times,
         refusals: LINE_REFUSALS,
+        carrier: Carrier::Hdlc,
     };
     let mut server = Server::new(SerialWatch::new(rt, rt.alloc(), start), ticks, log, errors);
     serve_turns(&mut server, rules, meter, &mut line, serving.address)

@@ -1,20 +1,25 @@
 //! A meter that serves talks with a client, from a connection's beginning to its end.
 
-ghost use Rattle.std.specs.Prelude.{◌≡◌, ◌≤◌, ◌↔◌, ℕ, List, Some, None, false, IfOk, IsTrue};
-ghost use Rattle.dlms_serving.specs.Connection.{AnswersEach, AsksOnce, At, ChecksOnce, Connection, Counts, GivesFrame, IsDue, IsOfRead, LooksOnce, ReadsPiece, TellsOnce, behind_answer, behind_outcome, ending_at_reply, turn_after_bytes, log, timed};
+ghost use Rattle.std.specs.Prelude.{◌≡◌, ◌≤◌, ◌↔◌, ℕ, List, [], Some, None, false, IfOk, IsTrue};
+ghost use Rattle.dlms_serving.specs.declared.carrier.Carrier.TheVariants as CarrierOf;
+ghost use Rattle.dlms_wrapper.specs.declared.message.TheConstants.{MOST_APDU};
+ghost use Rattle.dlms_serving.specs.Connection.{AnswersEach, AsksOnce, At, ChecksOnce, Connection, Counts, GivesFrame, GivesOrEnds, IsDue, IsOfRead, LooksOnce, ReadsPiece, TellsOnce, behind_answer, ending_at_reply, turn_after_bytes, log, timed};
 
+use crate::carrier::Carrier;
 use crate::log::Log;
 use crate::pace::due;
-use crate::refusals::{Outcome, outcome_in};
+use crate::refusals::outcome_in;
 use crate::telling;
 use crate::ticks::Ticks;
-use crate::turns::{Over, Times, Tries, Turn};
+use crate::turns::{Over, Times, Tries, Turn, behind_outcome};
 use crate::watch::Watch;
+use crate::wrapped::{deliver, is_bad};
 use dlms_ends::{End, Heard, PIECE, RunFault, Taken, bytes_of};
 use dlms_filing::bytes_behind;
 use dlms_meter::Meter;
 use dlms_pages::Pages;
 use dlms_store::AddFault;
+use dlms_wrapper::{MOST_APDU, MessageReader};
 use std::alloc::Global;
 use std::io;
 use std::io::{ErrorKind, Write};
@@ -28,6 +33,8 @@ pub struct Rules {
     pub times: Times,
     /// Behind so many refused association requests it is over.
     pub refusals: u8,
+    /// What brings the APDUs of a connection.
+    pub carrier: Carrier,
 }
 
 /// How a connection ended.
@@ -37,15 +44,19 @@ pub enum Ending {
     Closed,
     /// Its turn was over.
     Over(Over),
+    /// The header of its next message is refused, or the message has no octets (IEC 62056-47).
+    BadMessage,
     /// The system's call failed.
     Failed(io::Error),
 }
 
-/// A connection's turn, and the second in which it was asked last whether another connection waits.
-#[derive(Clone, Copy, Debug)]
+/// A connection's turn, the second in which it was asked last whether another connection waits, and what is kept of a message
+/// that has begun.
+#[derive(Drop)]
 pub struct TurnState {
     turn: Turn,
     asked: Option<u64>,
+    reader: MessageReader,
 }
 
 /// What a meter is served with: the world besides the line, the seconds of the clock that the meter got, and where events are
@@ -73,26 +84,9 @@ fn read_piece<T: End>(stream: &mut T, piece: &mut [u8; PIECE]) -> io::Result<usi
     }
 }
 
-/// The tries after this outcome of an association that was asked for, if there was one.
-fn behind_outcome(outcome: Option<Outcome>, tries: Tries) -> Tries
-    ensures { result ≡ behind_outcome outcome tries }
-{
-    match outcome {
-        Some(Outcome::Refused) => Tries {
-            refusals: tries.refusals.saturating_add(1),
-            ..tries
-        },
-        Some(Outcome::Proved) => Tries {
-            is_proved: true,
-            ..tries
-        },
-        Some(Outcome::Opened) | None => tries,
-    }
-}
-
 /// Counts what a reply says of an association that was asked for.
 fn count_outcome(reply: &[u8], tries: Tries) -> Tries
-    ensures { Counts (Some reply.now) tries result }
+    ensures { Counts CarrierOf.Hdlc (Some reply.now) tries result }
 {
     behind_outcome(outcome_in(reply), tries)
 }
@@ -103,15 +97,15 @@ fn answer<T: End, P: Pages>(
     end: &mut T,
     meter: &mut Meter<P>,
     bytes: &[u8],
-    tries: &mut Tries,
+    state: &mut TurnState,
 ) -> io::Result<Taken>
-    ensures { GivesFrame (T.past end.old)
-        (T.past end.new) meter.old bytes.now tries.old tries.new result meter.new }
+    ensures { GivesFrame CarrierOf.Hdlc (T.past end.old)
+        (T.past end.new) meter.old bytes.now state.old state.new result meter.new }
 {
     let (count, reply) = meter.feed(bytes);
     match reply {
         Some(reply) => {
-            *tries = count_outcome(reply.as_slice(), *tries);
+            state.turn.tries = count_outcome(reply.as_slice(), state.turn.tries);
             end.put(reply.as_slice())?;
             Ok(Taken {
                 count,
@@ -122,6 +116,59 @@ fn answer<T: End, P: Pages>(
             count,
             is_answered: false,
         }),
+    }
+}
+
+/// Reads bytes through one message at most, gives it to the meter, counts what the answer says of an association, and puts it.
+fn answer_message<T: End, P: Pages>(
+    end: &mut T,
+    meter: &mut Meter<P>,
+    bytes: &[u8],
+    state: &mut TurnState,
+) -> Result<Taken, Ending>
+    ensures { GivesOrEnds CarrierOf.Wrapper (T.past end.old)
+        (T.past end.new) meter.old bytes.now state.old state.new result meter.new }
+{
+    let is_refused = state.reader.fault().is_some();
+    let count = state.reader.feed(bytes);
+    if is_refused {
+        return Err(Ending::BadMessage);
+    }
+    if is_bad(&state.reader) {
+        return Err(Ending::BadMessage);
+    }
+    match deliver(meter, &state.reader, &mut state.turn.tries) {
+        Some(reply) => match end.put(reply.as_slice()) {
+            Ok(()) => Ok(Taken {
+                count,
+                is_answered: true,
+            }),
+            Err(error) => Err(ending_at_reply(state.turn.tries, error)),
+        },
+        None => Ok(Taken {
+            count,
+            is_answered: false,
+        }),
+    }
+}
+
+/// The same by either carrier.
+fn answer_by<T: End, P: Pages>(
+    carrier: Carrier,
+    end: &mut T,
+    meter: &mut Meter<P>,
+    bytes: &[u8],
+    state: &mut TurnState,
+) -> Result<Taken, Ending>
+    ensures { GivesOrEnds carrier (T.past end.old)
+        (T.past end.new) meter.old bytes.now state.old state.new result meter.new }
+{
+    match carrier {
+        Carrier::Hdlc => match answer(end, meter, bytes, state) {
+            Ok(taken) => Ok(taken),
+            Err(error) => Err(ending_at_reply(state.turn.tries, error)),
+        },
+        Carrier::Wrapper => answer_message(end, meter, bytes, state),
     }
 }
 
@@ -158,11 +205,13 @@ impl TurnState {
             tries = record { refusals = 0; is_proved = false };
           };
           asked = None;
+          reader = record { limit = MOST_APDU; bytes = []; message = None };
         } }
     {
         TurnState {
             turn: Turn::begins(now),
             asked: None,
+            reader: MessageReader::new(MOST_APDU),
         }
     }
 
@@ -187,7 +236,8 @@ impl TurnState {
 
     /// Asks once in each second whether another connection waits, unless one is known to.
     fn asks<W: Watch>(&mut self, watch: &mut W, now: u64)
-        ensures { AsksOnce (W.seen watch.old) (W.seen watch.new) self.old now self.new }
+        ensures asks { AsksOnce (W.seen watch.old) (W.seen watch.new) self.old now self.new }
+        ensures reader { self.new.reader ≡ self.old.reader }
     {
         let is_due = self.is_due(now);
         self.asked = Some(now);
@@ -326,9 +376,9 @@ impl<'e, W: Watch + Drop, E: Write> Server<'e, W, E> {
     {
         let mut rest = bytes;
         while !rest.is_empty() {
-            let taken = match answer(stream, meter, rest, &mut state.turn.tries) {
+            let taken = match answer_by(rules.carrier, stream, meter, rest, state) {
                 Ok(taken) => taken,
-                Err(error) => return Ok(Some(ending_at_reply(state.turn.tries, error))),
+                Err(ending) => return Ok(Some(ending)),
             };
             rest = bytes_behind(rest, taken.count);
             match self.check(rules, meter, state, taken.is_answered) {

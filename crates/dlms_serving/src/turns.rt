@@ -1,8 +1,10 @@
 //! When a connection's turn on the meter's line is over.
 
 ghost use Rattle.std.specs.Prelude.{◌≡◌, ◌≤◌, ◌+◌, ◌↔◌, IsTrue, None, false, if◌then◌else◌};
+ghost use Rattle.dlms_serving.specs.Connection.{behind_outcome};
 ghost use Rattle.dlms_serving.specs.Turns.{Tells};
 
+use crate::refusals::Outcome;
 use crate::talking::Rules;
 
 /// Behind so many refused association requests the turn of a connection is over, so that each of them is counted before the next,
@@ -55,6 +57,23 @@ pub enum Over {
     Idle,
     /// Another connection has waited for so long.
     Long,
+}
+
+/// The tries after this outcome of an association that was asked for, if there was one.
+pub fn behind_outcome(outcome: Option<Outcome>, tries: Tries) -> Tries
+    ensures { result ≡ behind_outcome outcome tries }
+{
+    match outcome {
+        Some(Outcome::Refused) => Tries {
+            refusals: tries.refusals.saturating_add(1),
+            ..tries
+        },
+        Some(Outcome::Proved) => Tries {
+            is_proved: true,
+            ..tries
+        },
+        Some(Outcome::Opened) | None => tries,
+    }
 }
 
 /// Whether this many seconds have passed since then.

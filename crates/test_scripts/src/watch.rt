@@ -8,7 +8,9 @@ use crate::noted::{Noted, are_numbered};
 use dlms_lines::FieldFault;
 use dlms_meter::Meter;
 use dlms_pages::MemoryPages;
-use dlms_serving::{Log, Peer, Rules, Server, Ticks, Times, Watch, serve_all, serve_turns};
+use dlms_serving::{
+    Carrier, Log, Peer, Rules, Server, Ticks, Times, Watch, serve_all, serve_turns,
+};
 use dlms_store::PAGES;
 use std::alloc::Global;
 use std::io;
@@ -116,6 +118,7 @@ impl<'a, R: Abort> Watch for Porch<'a, R> {
 #[test]
 fn a_connection_is_served(rt: HostRuntime) {
     let rules = Rules {
+        carrier: Carrier::Hdlc,
         tick: 1,
         times: Times {
             inactivity: 120,
@@ -154,6 +157,7 @@ fn a_connection_is_served(rt: HostRuntime) {
 #[test]
 fn a_line_is_served(rt: HostRuntime) {
     let rules = Rules {
+        carrier: Carrier::Hdlc,
         tick: 1,
         times: Times {
             inactivity: 3,

@@ -1,12 +1,12 @@
-use Rattle.std.proofs.Common.{refl, [], ◌≡◌, ℕ, ◌-◌, ◌^◌, subst, arith}
+use Rattle.std.proofs.Common.{◌≡◌, ℕ, ◌-◌, ◌^◌, subst, arith}
 use Rattle.dlms_serving.specs.Connection.{log, timed}
 use Rattle.dlms_serving.specs.ServingLine.{Begun, Then, ServesTurns}
-use Rattle.dlms_serving.proofs.CallLemmas.{joined}
+use Rattle.dlms_serving.proofs.CallLemmas.{joined, none_made}
 use Rattle.dlms_serving.proofs.LineLemmas.{turns_until}
 use Rattle.dlms_serving.proofs.serving_line.serve_turns.Goals as goal
 
 pub turns-init : goal.turns-init
-turns-init g c = (Begun, ([], refl))
+turns-init g c = (Begun, none_made c.args.rules.carrier _)
 
 pub returns-in-Err-clause-serves : goal.returns-in-Err-clause-serves
 returns-in-Err-clause-serves g c =
@@ -15,12 +15,12 @@ returns-in-Err-clause-serves g c =
     c.in-Err.ensures.serves
 
 pub returns-in-Err-clause-calls : goal.returns-in-Err-clause-calls
-returns-in-Err-clause-calls g c = joined _ _ _ c.turns.invariant.1 c.serve_turn.ensures.calls
+returns-in-Err-clause-calls g c = joined c.args.rules.carrier _ _ _ c.turns.invariant.1 c.serve_turn.ensures.calls
 
 pub turns-preserved : goal.turns-preserved
 turns-preserved g c = (
   Then c.turns._turn (log (g.T.End.past c.turns.line) (g.W.Watch.seen c.turns.server.watch)) (log (g.T.End.past c.serve_turn.new.line) (g.W.Watch.seen c.serve_turn.new.server.watch)) (timed c.turns.meter c.turns.server.ticks) (timed c.serve_turn.new.meter c.serve_turn.new.server.ticks) c.turns.invariant.0 c.in-Ok.ensures.serves,
-  joined _ _ _ c.turns.invariant.1 c.serve_turn.ensures.calls,
+  joined c.args.rules.carrier _ _ _ c.turns.invariant.1 c.serve_turn.ensures.calls,
 )
 
 pub returns-clause-serves : goal.returns-clause-serves
