@@ -5,6 +5,7 @@ ghost use Rattle.dlms_client.specs.Plan.{IsPlan, plan_of};
 use crate::explained_stream::{ExplainedStream, Explanation};
 use crate::fault::Fault;
 use crate::given::value_given;
+use crate::profile::{ProfileRequest, request_of};
 use crate::requests::{MeterSession, read_name};
 use arrayvec::ArrayVec;
 use dlms_call::{CallFault, ClientEnd, begin};
@@ -16,7 +17,8 @@ use dlms_lines::{Dialling, FieldFault, MeterLine};
 use dlms_polling::{HostPollInputs, secret_of};
 use dlms_text::server_of;
 use dlms_words::{
-    ActOptions, Asking, GetOptions, ListOptions, OutputFormat, SetOptions, ValueFormat,
+    ActOptions, Asking, GetOptions, ListOptions, OutputFormat, ProfileOptions, SetOptions,
+    ValueFormat,
 };
 use std::alloc::Global;
 use std::fs::File;
@@ -53,6 +55,7 @@ pub enum Request<'a> {
         value: Option<Data<Global>>,
         class: u16,
     },
+    Profile(ProfileRequest<'a>),
 }
 
 /// A call of a meter: the address or the device of the line to it, and the association on that line.
@@ -118,6 +121,12 @@ fn server<'a>(asking: &Asking<'a>) -> Result<Address, Fault<'a>> {
     }
 }
 
+/// The route to the meter, and the address or the device of the line.
+fn route_of<'a>(asking: &Asking<'a>) -> Result<(Route, &'a str), Fault<'a>> {
+    let (carrier, line) = line_of(asking)?;
+    Ok((route(asking, carrier)?, line))
+}
+
 /// The secret in the file, if a file is given.
 #[inline(never)]
 fn secret<'a, H: Files + Clock>(
@@ -152,6 +161,7 @@ fn run_request<'a, S: End, W: Write>(
         Request::List { format } => talk.list_all(format, output),
         Request::Set { name, value, class } => talk.set_one(name, value, class, output),
         Request::Act { name, value, class } => talk.act_one(name, value, class, output),
+        Request::Profile(profile) => talk.profile_one(profile, output),
     }
 }
 
@@ -228,6 +238,10 @@ fn look<'a>(request: &Request<'a>) -> Result<(), Fault<'a>> {
         Request::Get { names, .. } => names,
         Request::List { .. } => return Ok(()),
         Request::Set { name, .. } => name,
+        Request::Profile(profile) => {
+            read_name(profile.name())?;
+            return Ok(());
+        }
         Request::Act { name, .. } => {
             return if read_name(name)?.number.is_some() {
                 Ok(())
@@ -268,11 +282,11 @@ fn connect<'a, L: Dialling>(
 #[inline(never)]
 fn line_to<'a, 'r, H: Net + Files<File = File> + Clock + AllocGlobal>(
     host: &'r H,
-    place: &'a str,
+    asking: &Asking<'a>,
     address: &str,
 ) -> Result<MeterLine<'r, H>, Fault<'a>> {
-    let mut line = MeterLine::new(host);
-    match connect(host.alloc(), &mut line, place, address) {
+    let mut line = MeterLine::new(host).waiting(asking.timeout);
+    match connect(host.alloc(), &mut line, asking.place, address) {
         Ok(()) => Ok(line),
         Err(fault) => {
             drop(line);
@@ -298,7 +312,7 @@ fn explained_line_to<'a, 'r, 'e, H: Net + Files<File = File> + Clock + AllocGlob
     explanation: Explanation,
     errors: &'e mut E,
 ) -> Result<ExplainedStream<'e, MeterLine<'r, H>, E>, Fault<'a>> {
-    let line = match line_to(host, asking.place, address) {
+    let line = match line_to(host, asking, address) {
         Ok(line) => line,
         Err(fault) => return Err(fault),
     };
@@ -315,8 +329,7 @@ fn call_of<'a, H: Files + Clock + AllocGlobal>(
     request: &Request<'a>,
 ) -> Result<Call<'a>, Fault<'a>> {
     look(request)?;
-    let (carrier, line) = line_of(asking)?;
-    let route = route(asking, carrier)?;
+    let (route, line) = route_of(asking)?;
     let secret = secret(host, host.alloc(), asking)?;
     Ok(Call {
         line,
@@ -474,6 +487,18 @@ pub fn ask_to_list<'a, H: Net + Files<File = File> + Clock + AllocGlobal, W: Wri
     let request = Request::List {
         format: options.format,
     };
+    ask(host, &options.asking, request, output, errors)
+}
+
+/// Asks a meter for rows of a profile, and prints them.
+#[inline(never)]
+pub fn ask_for_profile<'a, H: Net + Files<File = File> + Clock + AllocGlobal, W: Write, E: Write>(
+    host: &H,
+    options: &ProfileOptions<'a>,
+    output: &mut W,
+    errors: &mut E,
+) -> Result<(), Fault<'a>> {
+    let request = Request::Profile(request_of(options)?);
     ask(host, &options.asking, request, output, errors)
 }
 

@@ -1,6 +1,7 @@
 //! Why a run ended early, and its message: its name in the first line, where and why in the second, and in a third what to do, if
 //! something can be done.
 use crate::columns::Columns;
+use dlms_buffer::BufferFault;
 use dlms_call::CallFault;
 use dlms_client::{Denial, Fault as Talked};
 use dlms_ends::RunFault;
@@ -75,6 +76,12 @@ pub enum Fault<'a> {
     File(&'a str),
     /// The system's clock shows what no meter's clock can.
     Now,
+    /// This is no time.
+    Time(&'a str),
+    /// The profile of this name has no clock among its columns.
+    NoClock(&'a str),
+    /// The columns or the rows of the profile of this name cannot be read.
+    Buffer(&'a str, BufferFault),
 }
 
 impl<'a> Fault<'a> {
@@ -89,6 +96,14 @@ impl<'a> Fault<'a> {
         match format!(in alloc; "{error}") {
             Ok(words) => Fault::System(place, words),
             Err(_) => Fault::MEMORY,
+        }
+    }
+
+    /// The fault of a profile's columns or rows.
+    pub fn of_buffer(name: &'a str, fault: BufferFault) -> Fault<'a> {
+        match fault {
+            BufferFault::Memory => Fault::MEMORY,
+            fault => Fault::Buffer(name, fault),
         }
     }
 
@@ -444,6 +459,15 @@ impl fmt::Display for Fault<'_> {
                 )
             }
             Fault::File(file) => write!(f, "long\n  {file}: more than 65536 bytes"),
+            Fault::Time(text) => write!(
+                f,
+                "time\n  {text}: a time is expected, as 2026-01-31, 2026-01-31T12:00 or 2026-01-31T12:00:00"
+            ),
+            Fault::NoClock(name) => write!(
+                f,
+                "protocol\n  {name}: the profile has no clock among its columns, so it cannot be asked for by time"
+            ),
+            Fault::Buffer(name, fault) => write!(f, "protocol\n  {name}: {fault}"),
             Fault::Now => f.write_str(
                 "now\n  the system's clock is before 2000-01-01 or after 2099-12-31, which no meter's clock shows",
             ),

@@ -15,7 +15,7 @@ use dlms_pages::{FilePages, MemoryPages, Pages};
 use dlms_plot::{Form, plot_readings};
 use dlms_polling::{PollSetup, Polling, poll};
 use dlms_program::{Buffered, Sink, Source, replay};
-use dlms_serving::{Serving, Times, serve, serve_line};
+use dlms_serving::{Carrier, Serving, Times, serve, serve_line};
 use dlms_show::{Curve, ShowFault, show_file};
 use dlms_store::{AddFault, OpenFault, PAGES};
 use dlms_words::{
@@ -33,6 +33,7 @@ use std::time::Clock;
 use std::{fs, io};
 
 mod asking;
+mod buffer_rows;
 mod columns;
 mod demo;
 mod expected;
@@ -43,12 +44,14 @@ mod given;
 mod introduced;
 mod objects;
 mod occupant;
+mod profile;
 mod requests;
 mod streams;
+mod table;
 mod telling;
 mod watched;
 
-use asking::{ask_to_act, ask_to_get, ask_to_list, ask_to_set};
+use asking::{ask_for_profile, ask_to_act, ask_to_get, ask_to_list, ask_to_set};
 use expected::expected_of;
 pub use fault::Fault;
 use introduced::{introduce, is_new};
@@ -359,6 +362,11 @@ fn run_meter<'a, H: Net + Files<File = File> + Clock + AllocGlobal, P: Pages, W:
 fn serving_by<'a>(options: &ServeOptions<'a>) -> Serving<'a> {
     Serving {
         address: options.line.unwrap_or(options.listen.unwrap_or(LISTEN)),
+        carrier: if options.wrapper {
+            Carrier::Wrapper
+        } else {
+            Carrier::Hdlc
+        },
         load: options.load,
         tick: options.tick,
         times: Times {
@@ -400,11 +408,12 @@ fn run_serve<'a, H: Net + Files<File = File> + Clock + AllocGlobal, W: Write, E:
 fn run_poll_of<'a, H: Net + Files<File = File> + Clock + AllocGlobal, W: Write, E: Write>(
     host: &H,
     polling: &Polling<'a, '_>,
+    timeout: u32,
     output: &mut W,
     errors: &mut E,
 ) -> Result<(), Fault<'a>> {
     let new_file = polling.readings.filter(|file| is_new(host, *file));
-    let mut setup = PollSetup::of(host);
+    let mut setup = PollSetup::of(host, timeout);
     let told = match poll(host.alloc(), &mut setup, polling, output, errors) {
         Ok(()) => Ok(()),
         Err(fault) => Err(Fault::of_field(
@@ -443,7 +452,7 @@ fn run_poll<'a, H: Net + Files<File = File> + Clock + AllocGlobal, W: Write, E: 
         strict: options.strict,
         expected: expected.as_slice(),
     };
-    let told = run_poll_of(host, &polling, output, errors);
+    let told = run_poll_of(host, &polling, options.timeout, output, errors);
     drop(expected);
     told
 }
@@ -620,6 +629,7 @@ fn run_job<
         Job::Explain(options) => run_explain(host, &options, input, output),
         Job::Get(options) => unread(ask_to_get(host, &options, output, errors), input),
         Job::List(options) => unread(ask_to_list(host, &options, output, errors), input),
+        Job::Profile(options) => unread(ask_for_profile(host, &options, output, errors), input),
         Job::Set(options) => unread(ask_to_set(host, &options, output, errors), input),
         Job::Act(options) => unread(ask_to_act(host, &options, output, errors), input),
         Job::Show(options) => unread(run_show(host, &options, output), input),
@@ -632,7 +642,7 @@ fn run_job<
 fn may_be_cut(job: &Job<'_>) -> bool {
     matches!(
         job,
-        Job::Explain(_) | Job::List(_) | Job::Show(_) | Job::Plot(_)
+        Job::Explain(_) | Job::List(_) | Job::Profile(_) | Job::Show(_) | Job::Plot(_)
     )
 }
 

@@ -126,7 +126,7 @@ fn scale_of(bytes: &[u8]) -> Option<(i8, u8)> {
 }
 
 /// The attribute with the scaler and the unit of a register's value; `None` if it has none.
-fn scaler_of(attribute: Descriptor) -> Option<Descriptor> {
+pub fn scaler_of(attribute: Descriptor) -> Option<Descriptor> {
     let id = match (attribute.class, attribute.id) {
         (REGISTER, 2) | (EXTENDED, 2) => 3,
         (DEMAND, 2) | (DEMAND, 3) => 4,
@@ -141,13 +141,13 @@ fn is_of_name(fault: &Fault<'_>) -> bool {
 }
 
 /// Whether a fault is the meter's answer to a request, after which the association goes on.
-fn is_answer(fault: &Fault<'_>) -> bool {
+pub fn is_answer(fault: &Fault<'_>) -> bool {
     matches!(fault, Fault::Result(..) | Fault::Denied(..))
 }
 
 impl<'a, S: End> MeterSession<'a, '_, S> {
     /// The result that an answer reports for the object of this name: nothing more for a success.
-    fn judge(
+    pub fn judge(
         &self,
         name: &'a str,
         is_action: bool,
@@ -163,7 +163,7 @@ impl<'a, S: End> MeterSession<'a, '_, S> {
     }
 
     /// Asks for an attribute. Its encoding is the client's value then.
-    fn fetch(&mut self, name: &'a str, attribute: Descriptor) -> Result<(), Fault<'a>> {
+    pub fn fetch(&mut self, name: &'a str, attribute: Descriptor) -> Result<(), Fault<'a>> {
         let answer = get(self.line, &mut self.head, attribute, self.most as usize);
         self.judge(name, false, answer)
     }
@@ -231,7 +231,7 @@ impl<'a, S: End> MeterSession<'a, '_, S> {
     }
 
     /// The scaler and the unit of a register's value, if it has them.
-    fn scaler_unit(&mut self, said: &'a str, scaler: Descriptor) -> Option<(i8, u8)> {
+    pub fn scaler_unit(&mut self, said: &'a str, scaler: Descriptor) -> Option<(i8, u8)> {
         match self.fetch(said, scaler) {
             Ok(()) => scale_of(self.head.value()),
             Err(fault) => {

@@ -88,10 +88,10 @@ other_name name met found is not_it has = not_it (ap (option_map (λ p. p.0)) (i
 -- the command line of a job with another name than the others
 pub polls_else : (words : List Text) (met : Option (Text × List Row)) → fault_of dlms words ≡ [] → met ≡ subcommand_of dlms words
     → IsNot (codes "format") met → IsNot (codes "replay") met → IsNot (codes "loopback") met → IsNot (codes "serve") met
-    → IsNot (codes "get") met → IsNot (codes "list") met → IsNot (codes "set") met → IsNot (codes "act") met
+    → IsNot (codes "get") met → IsNot (codes "list") met → IsNot (codes "profile") met → IsNot (codes "set") met → IsNot (codes "act") met
     → IsNot (codes "explain") met → IsNot (codes "show") met → IsNot (codes "plot") met
     → (rows : List Row) × (subcommand_of dlms words ≡ Some (codes "poll", rows))
-polls_else words met none is formats replays loops serves gets lists sets acts explains shows plots =
+polls_else words met none is formats replays loops serves gets lists profiles sets acts explains shows plots =
     let found = subcommand_of dlms words in
     elim (command_met words none) [
       | inl has ↦ absurd (other_name _ met found is formats has)
@@ -108,16 +108,19 @@ polls_else words met none is formats replays loops serves gets lists sets acts e
                 | inr rest ↦ elim rest [
                   | inl has ↦ absurd (other_name _ met found is lists has)
                   | inr rest ↦ elim rest [
-                    | inl has ↦ absurd (other_name _ met found is sets has)
+                    | inl has ↦ absurd (other_name _ met found is profiles has)
                     | inr rest ↦ elim rest [
-                      | inl has ↦ absurd (other_name _ met found is acts has)
+                      | inl has ↦ absurd (other_name _ met found is sets has)
                       | inr rest ↦ elim rest [
-                        | inl has ↦ absurd (other_name _ met found is explains has)
+                        | inl has ↦ absurd (other_name _ met found is acts has)
                         | inr rest ↦ elim rest [
-                          | inl has ↦ absurd (other_name _ met found is shows has)
+                          | inl has ↦ absurd (other_name _ met found is explains has)
                           | inr rest ↦ elim rest [
-                            | inl has ↦ absurd (other_name _ met found is plots has)
-                            | inr no_more ↦ absurd no_more
+                            | inl has ↦ absurd (other_name _ met found is shows has)
+                            | inr rest ↦ elim rest [
+                              | inl has ↦ absurd (other_name _ met found is plots has)
+                              | inr no_more ↦ absurd no_more
+                            ]
                           ]
                         ]
                       ]

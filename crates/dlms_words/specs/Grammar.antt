@@ -93,6 +93,7 @@ loopback_command = with_rules (new_app (codes "loopback"))
 abbrev pub serve_command : App
 serve_command = with_rules (new_app (codes "serve"))
     (wanted_rule (codes "FILE") ∷ option_rule (codes "listen") ∷ option_rule (codes "line")
+    ∷ flag_rule (codes "wrapper")
     ∷ number_rule (codes "load") 0 1000000 ∷ number_rule (codes "tick") 1 60
     ∷ flag_rule (codes "quiet")
     ∷ number_rule (codes "idle") 1 86400 ∷ number_rule (codes "turn") 1 86400
@@ -105,12 +106,13 @@ poll_command = with_rules (new_app (codes "poll"))
     ∷ flag_rule (codes "reader")
     ∷ number_rule (codes "deadline") 1 86400 ∷ flag_rule (codes "check-clock")
     ∷ number_rule (codes "ahead") 0 31536000 ∷ flag_rule (codes "strict")
-    ∷ options_rule (codes "expect") ∷ [])
+    ∷ options_rule (codes "expect") ∷ number_rule (codes "timeout") 1 3600 ∷ [])
 
 -- the meter to ask, the client that asks, whether the frames are explained, and the longest value
 abbrev pub asking_rules : List Rule
 asking_rules =
     option_rule (codes "server") ∷ flag_rule (codes "wide") ∷ flag_rule (codes "wrapper")
+    ∷ number_rule (codes "timeout") 1 3600
     ∷ number_rule (codes "client") 1 127 ∷ option_rule (codes "secret-file")
     ∷ short_flag_rule (codes "verbose") 118 ∷ number_rule (codes "most") 1 16777216 ∷ []
 
@@ -124,6 +126,14 @@ get_command = with_rules
 abbrev pub list_command : App
 list_command = with_rules (with_rules (new_app (codes "list"))
     (wanted_rule (codes "PLACE") ∷ flag_rule (codes "json") ∷ [])) asking_rules
+
+abbrev pub profile_command : App
+profile_command = with_rules
+    (with_rules (new_app (codes "profile"))
+    (wanted_rule (codes "PLACE") ∷ value_rule (codes "NAME") ∷ option_rule (codes "from")
+    ∷ option_rule (codes "to") ∷ number_rule (codes "last") 1 1000000 ∷ flag_rule (codes "csv")
+    ∷ flag_rule (codes "json") ∷ flag_rule (codes "raw") ∷ []))
+    asking_rules
 
 abbrev pub set_command : App
 set_command = with_rules
@@ -165,8 +175,8 @@ top = record (new_app (codes "dlms")) {
 
 abbrev pub commands : List App
 commands = format_command ∷ replay_command ∷ loopback_command ∷ serve_command ∷ poll_command
-    ∷ get_command ∷ list_command ∷ set_command ∷ act_command ∷ explain_command ∷ show_command
-    ∷ plot_command ∷ []
+    ∷ get_command ∷ list_command ∷ profile_command ∷ set_command ∷ act_command ∷ explain_command
+    ∷ show_command ∷ plot_command ∷ []
 
 abbrev pub dlms : App
 dlms = with_commands top commands

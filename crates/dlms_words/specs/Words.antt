@@ -1,21 +1,23 @@
 -- The job of a parsed command line.
 use Rattle.std.specs.Str.{bytes_eq}
 use Rattle.std.specs.Str.Parse.{without_leading_plus}
-use Rattle.std.specs.Prelude.{◌≡◌, ◌⊎◌, if◌then◌else◌, ◌<◌, ◌↔◌, ◌^◌, ℕ, [], List, Option, Some, None, codes, cond, option_map, unwrap_or, Bool, true, false, is_some, IsTrue, slice_get}
+use Rattle.std.specs.Prelude.{◌≡◌, ◌⊎◌, if◌then◌else◌, ◌<◌, ◌↔◌, ◌^◌, ℕ, [], ◌∷◌, List, Option, Some, None, codes, cond, option_map, unwrap_or, Bool, true, false, is_some, IsTrue, slice_get}
 use Rattle.clap.specs.Values.{kind_of}
 use Rattle.clap.specs.Words.{Row, Text, all_of, first_of}
 use Rattle.clap.specs.declared.error.Error.{Error}
 use Rattle.clap.specs.declared.error.kind.ErrorKind.TheVariants.{ArgumentConflict, InvalidValue}
 use Rattle.dlms_words.specs.declared.commands.Job.{Job}
-use Rattle.dlms_words.specs.declared.commands.Job.TheVariants.{Format, Replay, Loopback, Serve, Poll, Get, List as ListOf, Set, Act, Explain, Show, Plot}
+use Rattle.dlms_words.specs.declared.commands.Job.TheVariants.{Format, Replay, Loopback, Serve, Poll, Get, List as ListOf, Profile, Set, Act, Explain, Show, Plot}
 use Rattle.dlms_words.specs.declared.commands.Asking.{Asking}
 use Rattle.dlms_words.specs.declared.commands.Expecting.{Expecting}
 use Rattle.dlms_words.specs.declared.commands.OutputFormat.{OutputFormat}
 use Rattle.dlms_words.specs.declared.commands.OutputFormat.TheVariants as output
+use Rattle.dlms_words.specs.declared.commands.TableFormat.{TableFormat}
+use Rattle.dlms_words.specs.declared.commands.TableFormat.TheVariants as table
 use Rattle.dlms_words.specs.declared.commands.ValueFormat.{ValueFormat}
 use Rattle.dlms_words.specs.declared.commands.ValueFormat.TheVariants as value
 use Rattle.dlms_words.specs.declared.commands.ValueFormat.TheVariants.{Encoding}
-use Rattle.dlms_words.specs.declared.words.TheConstants.{AHEAD, CLIENT, DEADLINE, IDLE, INACTIVITY, MOST, TICK, TURN}
+use Rattle.dlms_words.specs.declared.words.TheConstants.{AHEAD, CLIENT, DEADLINE, IDLE, INACTIVITY, MOST, TICK, TIMEOUT, TURN}
 use Rattle.dlms_words.specs.Addresses.{IsAddress, is_device}
 use Rattle.dlms_words.specs.Numbers.{IsNumberOf}
 use Rattle.dlms_frame.specs.declared.client.Client.{Client}
@@ -50,6 +52,14 @@ SaysStops = Says 8 0
 
 abbrev pub IsSaidFor : List ℕ → List Row → (other number : ℕ) → Type 0
 IsSaidFor name rows other number = Says 32 other (first_of name rows) number
+
+-- the number of the text, if one is given
+abbrev pub MaySay : Option Text → Option ℕ → Type 0
+MaySay None number = number ≡ None
+MaySay (Some text) number = (n : ℕ) × (number ≡ Some n) × Numbers 32 text n
+
+abbrev pub MaySayFor : List ℕ → List Row → Option ℕ → Type 0
+MaySayFor name rows number = MaySay (first_of name rows) number
 
 -- a flag was given: clap finds the word `true` for it then, and else `false`
 abbrev pub IsSaid : Option Text → Bool → Type 0
@@ -91,6 +101,16 @@ ChoosesValueFormat rows format = (raw : Bool) × (json : Bool)
     × IsSaid (first_of (codes "raw") rows) raw
     × IsSaid (first_of (codes "json") rows) json × (format ≡ value_format raw json)
 
+abbrev pub table_format : (csv json : Bool) → TableFormat
+table_format csv true = table.Json
+table_format true false = table.Csv
+table_format false false = table.Table
+
+abbrev pub ChoosesTable : List Row → TableFormat → Type 0
+ChoosesTable rows format = (csv : Bool) × (json : Bool)
+    × IsSaid (first_of (codes "csv") rows) csv
+    × IsSaid (first_of (codes "json") rows) json × (format ≡ table_format csv json)
+
 abbrev pub ChoosesFormat : List Row → OutputFormat → Type 0
 ChoosesFormat rows format = (json : Bool) × IsSaid (first_of (codes "json") rows) json
     × (format ≡ output_format json)
@@ -105,6 +125,7 @@ pub record IsAsking (rows : List Row) (asking : Asking) : Type 0 where
   pub secret : option_map (λ f. f.now) asking.secret_file ≡ first_of (codes "secret-file") rows
   pub verbose : IsSaid (first_of (codes "verbose") rows) asking.verbose
   pub most : IsSaidFor (codes "most") rows MOST asking.most
+  pub timeout : IsSaidFor (codes "timeout") rows TIMEOUT asking.timeout
 
 -- the text at this place among those that were given, if so many were
 abbrev pub nth_of : ℕ → Option (List Text) → Option Text
@@ -140,12 +161,14 @@ Asks met (Serve options) = (rows : List Row) × (met ≡ Some (codes "serve", ro
     × IsSaidFor (codes "idle") rows IDLE options.idle
     × IsSaidFor (codes "turn") rows TURN options.turn
     × IsSaidFor (codes "inactivity") rows INACTIVITY options.inactivity
+    × IsSaid (first_of (codes "wrapper") rows) options.wrapper
 Asks met (Poll options) = (rows : List Row) × (met ≡ Some (codes "poll", rows))
     × (options.address.now ≡ unwrap_or (first_of (codes "PLACE") rows) [])
     × (option_map (λ f. f.now) options.readings ≡ first_of (codes "readings") rows)
     × (option_map (λ f. f.now) options.secret_file ≡ first_of (codes "secret-file") rows)
     × IsAsker rows options.client
     × IsSaidFor (codes "deadline") rows DEADLINE options.deadline
+    × IsSaidFor (codes "timeout") rows TIMEOUT options.timeout
     × ChecksClock rows options.ahead
     × IsSaid (first_of (codes "strict") rows) options.strict
     × IsExpecting (all_of (codes "expect") rows) options.expecting
@@ -156,6 +179,14 @@ Asks met (Get options) = (rows : List Row) × (met ≡ Some (codes "get", rows))
     × ChoosesValueFormat rows options.format
 Asks met (ListOf options) = (rows : List Row) × (met ≡ Some (codes "list", rows))
     × IsAsking rows options.asking × ChoosesFormat rows options.format
+Asks met (Profile options) = (rows : List Row) × (met ≡ Some (codes "profile", rows))
+    × IsAsking rows options.asking
+    × (option_map (λ n. n.now) options.name ≡ first_of (codes "NAME") rows)
+    × (option_map (λ t. t.now) options.from ≡ first_of (codes "from") rows)
+    × (option_map (λ t. t.now) options.to ≡ first_of (codes "to") rows)
+    × MaySayFor (codes "last") rows options.last
+    × ChoosesTable rows options.format
+    × IsSaid (first_of (codes "raw") rows) options.raw
 Asks met (Set options) = (rows : List Row) × (met ≡ Some (codes "set", rows))
     × IsAsking rows options.asking
     × (options.name.now ≡ unwrap_or (first_of (codes "NAME") rows) [])
@@ -178,6 +209,15 @@ Asks met (Plot options) = (rows : List Row) × (met ≡ Some (codes "plot", rows
     × (options.readings.now ≡ unwrap_or (first_of (codes "READINGS") rows) [])
     × IsSaid (first_of (codes "svg") rows) options.svg
 
+-- the commands that make a request of any meter
+abbrev pub requests : List Text
+requests = codes "get" ∷ codes "list" ∷ codes "profile" ∷ codes "set" ∷ codes "act" ∷ []
+
+-- what was found is none of these commands
+abbrev pub IsNoneOf : List Text → Met → Type 0
+IsNoneOf [] met = Unit {0}
+IsNoneOf (name ∷ names) met = (option_map (λ p. p.0) met ≡ Some name → ⊥) × IsNoneOf names met
+
 -- ---- words that clap takes, and that ask for nothing all the same
 
 -- two clients are asked for at once
@@ -192,6 +232,12 @@ NamesTwoPlaces met = (rows : List Row) × (met ≡ Some (codes "serve", rows))
     × IsTrue (is_some (first_of (codes "listen") rows))
     × IsTrue (is_some (first_of (codes "line") rows))
 
+-- a serial line, which carries HDLC, is to carry the wrapper
+abbrev pub WrapsLine : Met → Type 0
+WrapsLine met = (rows : List Row) × (met ≡ Some (codes "serve", rows))
+    × IsTrue (is_some (first_of (codes "line") rows))
+    × (first_of (codes "wrapper") rows ≡ Some (codes "true"))
+
 -- a wrapper port, which has two octets, is to be sent in four
 abbrev pub WidensPort : Met → Type 0
 WidensPort met = (command : Text) × (rows : List Row) × (met ≡ Some (command, rows))
@@ -200,7 +246,7 @@ WidensPort met = (command : Text) × (rows : List Row) × (met ≡ Some (command
 
 -- two are given and one is wanted
 abbrev pub AsksBoth : Met → Type 0
-AsksBoth met = AsksTwoClients met ⊎ NamesTwoPlaces met ⊎ WidensPort met
+AsksBoth met = AsksTwoClients met ⊎ NamesTwoPlaces met ⊎ WrapsLine met ⊎ WidensPort met
 
 -- a place, unless it is the device of a serial line
 abbrev pub unless_device : Option Text → Option Text

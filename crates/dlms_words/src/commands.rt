@@ -21,6 +21,8 @@ pub struct Asking<'a> {
     pub verbose: bool,
     /// How many octets the encoding of a value from the meter has at most.
     pub most: u32,
+    /// For how many seconds an answer is waited for.
+    pub timeout: u32,
 }
 
 /// The texts of an option that was given several times, in order. `fifth` exists to be refused: at most four are accepted.
@@ -38,6 +40,14 @@ pub struct Expecting<'a> {
 pub enum ValueFormat {
     Text,
     Encoding,
+    Json,
+}
+
+/// How a profile is printed: as a table, as CSV, or as JSON.
+#[derive(Clone, Copy, PartialEq, Eq)]
+pub enum TableFormat {
+    Table,
+    Csv,
     Json,
 }
 
@@ -77,6 +87,8 @@ pub struct ServeOptions<'a> {
     pub listen: Option<&'a str>,
     /// The device of the serial line, if one is given.
     pub line: Option<&'a str>,
+    /// Whether the port carries the TCP wrapper in place of HDLC.
+    pub wrapper: bool,
     /// The load in watts, which makes pulses.
     pub load: u32,
     /// The seconds of the clock are reported to the meter in steps of this many.
@@ -104,6 +116,8 @@ pub struct PollOptions<'a> {
     pub client: Client,
     /// How many seconds the poll may take.
     pub deadline: u32,
+    /// For how many seconds an answer is waited for.
+    pub timeout: u32,
     /// By how many seconds a row's clock may be ahead of the system's, if that is checked.
     pub ahead: Option<u32>,
     /// Whether each row has to be later than the one before it.
@@ -128,6 +142,23 @@ pub struct GetOptions<'a> {
 pub struct ListOptions<'a> {
     pub asking: Asking<'a>,
     pub format: OutputFormat,
+}
+
+/// The options of `profile`.
+#[derive(Clone, Copy)]
+pub struct ProfileOptions<'a> {
+    pub asking: Asking<'a>,
+    /// The name of the profile, if one is given.
+    pub name: Option<&'a str>,
+    /// The time of the first row, if one is given.
+    pub from: Option<&'a str>,
+    /// The time of the last row, if one is given.
+    pub to: Option<&'a str>,
+    /// How many of the last rows are printed, if not all of them are.
+    pub last: Option<u32>,
+    pub format: TableFormat,
+    /// Whether values are printed as the meter sends them, without their scalers and units.
+    pub raw: bool,
 }
 
 /// The options of `set`.
@@ -203,6 +234,8 @@ pub enum Job<'a> {
     Get(GetOptions<'a>),
     /// Lists a meter's objects.
     List(ListOptions<'a>),
+    /// Prints rows of a meter's profile.
+    Profile(ProfileOptions<'a>),
     /// Sets an attribute of a meter.
     Set(SetOptions<'a>),
     /// Calls a method of a meter.

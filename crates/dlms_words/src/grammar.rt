@@ -8,7 +8,7 @@ ghost use Rattle.dlms_words.specs.Grammar.{AreAllLocal, app_for, dlms, top};
 use crate::arguments::{Argument, Kind, with_arguments, with_commands};
 use crate::help::{
     ABOUT, ACT_ABOUT, EXPLAIN_ABOUT, FORMAT_ABOUT, GET_ABOUT, LIST_ABOUT, LOOPBACK_ABOUT,
-    PLOT_ABOUT, POLL_ABOUT, REPLAY_ABOUT, SERVE_ABOUT, SET_ABOUT, SHOW_ABOUT,
+    PLOT_ABOUT, POLL_ABOUT, PROFILE_ABOUT, REPLAY_ABOUT, SERVE_ABOUT, SET_ABOUT, SHOW_ABOUT,
 };
 use clap::Command;
 use std::alloc::{AllocError, Global};
@@ -27,6 +27,19 @@ struct CommandWords {
     more: &'static [Argument],
 }
 
+/// What several commands may be given.
+const WRAPPER: Argument = Argument {
+    name: "wrapper",
+    kind: Kind::Flag,
+    help: "Speaks the TCP wrapper (IEC 62056-47) in place of HDLC",
+};
+
+const TIMEOUT: Argument = Argument {
+    name: "timeout",
+    kind: Kind::Number("SECONDS", 1, 3_600),
+    help: "For how long an answer is waited for, 1 to 3600 [default: 2]",
+};
+
 /// The meter to ask, the client that asks, whether the frames are explained, and the longest value.
 const ASKING: &[Argument] = &[
     Argument {
@@ -39,11 +52,8 @@ const ASKING: &[Argument] = &[
         kind: Kind::Flag,
         help: "Sends the meter's address in four octets",
     },
-    Argument {
-        name: "wrapper",
-        kind: Kind::Flag,
-        help: "Speaks the TCP wrapper (IEC 62056-47) in place of HDLC",
-    },
+    WRAPPER,
+    TIMEOUT,
     Argument {
         name: "client",
         kind: Kind::Number("SAP", 1, 127),
@@ -67,7 +77,7 @@ const ASKING: &[Argument] = &[
 ];
 
 /// The program's commands.
-const COMMANDS: [CommandWords; 12] = [
+const COMMANDS: [CommandWords; 13] = [
     CommandWords {
         name: "format",
         about: "Makes a new meter in FILE",
@@ -144,6 +154,7 @@ const COMMANDS: [CommandWords; 12] = [
                 kind: Kind::Option("DEVICE"),
                 help: "The serial line to serve instead of a port",
             },
+            WRAPPER,
             Argument {
                 name: "load",
                 kind: Kind::Number("WATTS", 0, 1_000_000),
@@ -233,6 +244,7 @@ const COMMANDS: [CommandWords; 12] = [
                 kind: Kind::Options("NAME=TEXT"),
                 help: "Polls only a meter whose object NAME shows TEXT; may be given up to four times",
             },
+            TIMEOUT,
         ],
         more: &[],
     },
@@ -285,6 +297,55 @@ const COMMANDS: [CommandWords; 12] = [
                 name: "json",
                 kind: Kind::Flag,
                 help: "Prints JSON",
+            },
+        ],
+        more: ASKING,
+    },
+    CommandWords {
+        name: "profile",
+        about: "Prints rows of a profile of the meter at PLACE",
+        long_about: PROFILE_ABOUT,
+        example: "Example:\n  dlms profile 127.0.0.1:4059 --from 2026-01-01 --csv",
+        arguments: &[
+            Argument {
+                name: "PLACE",
+                kind: Kind::Wanted,
+                help: "Where the meter is, HOST:PORT or a serial line",
+            },
+            Argument {
+                name: "NAME",
+                kind: Kind::Value,
+                help: "The profile [default: 1.0.99.1.0.255]",
+            },
+            Argument {
+                name: "from",
+                kind: Kind::Option("TIME"),
+                help: "Prints only rows at or after this time, as 2026-01-31 or 2026-01-31T12:00:00",
+            },
+            Argument {
+                name: "to",
+                kind: Kind::Option("TIME"),
+                help: "Prints only rows at or before this time",
+            },
+            Argument {
+                name: "last",
+                kind: Kind::Number("N", 1, 1_000_000),
+                help: "Prints only the last N rows, 1 to 1000000",
+            },
+            Argument {
+                name: "csv",
+                kind: Kind::Flag,
+                help: "Prints CSV",
+            },
+            Argument {
+                name: "json",
+                kind: Kind::Flag,
+                help: "Prints JSON",
+            },
+            Argument {
+                name: "raw",
+                kind: Kind::Flag,
+                help: "Prints the numbers of the meter, without scalers and units",
             },
         ],
         more: ASKING,

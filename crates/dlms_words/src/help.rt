@@ -49,6 +49,9 @@ a poll; dlms: memory); 2 for invalid arguments, and for this help.";
 pub const SERVE_ABOUT: &str =
     "Serves the meter in FILE on a TCP port, one client after another, or on a serial line, until it is killed.
 
+With --wrapper the port carries the TCP wrapper (IEC 62056-47) in place of HDLC: the meter's wrapper port is 1, a client's is its \
+address, and messages to or from others are dropped.
+
 Recovers the meter, listens on 127.0.0.1:4059 unless --listen gives another address, and prints \"listening on ADDRESS:PORT\"; \
 for port 0 the system chooses a port. With --line it prints \"listening on DEVICE\" instead. Set the device up first, as with \
 \"stty -F /dev/ttyUSB0 9600 raw -echo\"; no other program may be using it. The meter's running second goes on from the last one \
@@ -85,7 +88,7 @@ the deadline, a connection that is refused or lost is made again, and a meter th
 later. With --expect NAME=TEXT the meter is polled only if its object NAME of class Data shows TEXT, as in \
 --expect 0.0.42.0.0.255=RTL0000000000001; up to four may be given, and if one differs, nothing is filed. Without --expect the \
 first poll into a new FILE writes on standard error what the meter calls itself. Only one poll at a time uses FILE, by a lock on \
-FILE.lock, which stays there. A frame without an answer within two seconds is sent again, at most three times.
+FILE.lock, which stays there. A frame without an answer within two seconds, or --timeout, is sent again, at most three times.
 
 Exit status: 0; 1 after a fault (dlms: io, with the file or PLACE and the system's message on a second line; dlms: line N \
 for a line of FILE that is not a line of readings; dlms: secret for a secret of more than 16 bytes; dlms: line if nobody answers, \
@@ -99,7 +102,7 @@ pub const GET_ABOUT: &str = "Asks the meter at PLACE for attributes, and prints 
 
 PLACE is HOST:PORT for TCP, or a path that begins with / for a serial line. The meter is asked over HDLC, or with --wrapper over the TCP wrapper (IEC 62056-47). PLACE may also say which, as hdlc://HOST:PORT, wrapper://HOST:PORT or serial:///dev/ttyUSB0. Set a serial line up first, as with \"stty -F /dev/ttyUSB0 9600 raw -echo\"; no other program may be using it.
 
-NAMES is a logical name with the number of an attribute after a slash, 2 without one: 1.0.1.8.0.255, 1.0.99.1.0.255/3; or several of them with commas between them. The class of an object is the one that --class gives. Without it, 0.0.1.0.0.255 is the clock, 0.0.40.0.0.255, 0.0.41.0.0.255 and 0.0.42.0.0.255 have the classes 15, 17 and 1, and any other is looked up in the meter's object list. Prints one line for each value, as explain prints them, and the elements of an array or a structure below it; for a register its number with its scaler and unit, as 0.042 kWh, with energies in thousands of their unit. If there are several names, each value comes after its name, and a name that the meter refuses or does not have does not stop the others. With --raw it prints the value's encoding in pairs of hexadecimal digits, whatever else is given; with --json an object of JSON with name, attribute, class and value, and for a register scaler and unit if it has them. Asks as the public client, 16, or as the client of --client, with the secret in the file of --secret-file, or without one. --server gives the meter's address [default: 1]: UPPER, in one octet, or UPPER/LOWER, in two octets if both are below 128 and in four otherwise; with --wide it always has four. Over the wrapper --server is the meter's wrapper port, 0 to 65535, and --client the client's. With -v each frame, or each message of the wrapper, is explained on standard error. A value whose encoding has more than 4194304 octets, or more than --most, is not printed: its next block is not asked for. A frame without an answer within two seconds is sent again, at most three times; over the wrapper nothing is sent again, and a silence of two seconds is dlms: line.
+NAMES is a logical name with the number of an attribute after a slash, 2 without one: 1.0.1.8.0.255, 1.0.99.1.0.255/3; or several of them with commas between them. The class of an object is the one that --class gives. Without it, 0.0.1.0.0.255 is the clock, 0.0.40.0.0.255, 0.0.41.0.0.255 and 0.0.42.0.0.255 have the classes 15, 17 and 1, and any other is looked up in the meter's object list. Prints one line for each value, as explain prints them, and the elements of an array or a structure below it; for a register its number with its scaler and unit, as 0.042 kWh, with energies in thousands of their unit. If there are several names, each value comes after its name, and a name that the meter refuses or does not have does not stop the others. With --raw it prints the value's encoding in pairs of hexadecimal digits, whatever else is given; with --json an object of JSON with name, attribute, class and value, and for a register scaler and unit if it has them. Asks as the public client, 16, or as the client of --client, with the secret in the file of --secret-file, or without one. --server gives the meter's address [default: 1]: UPPER, in one octet, or UPPER/LOWER, in two octets if both are below 128 and in four otherwise; with --wide it always has four. Over the wrapper --server is the meter's wrapper port, 0 to 65535, and --client the client's. With -v each frame, or each message of the wrapper, is explained on standard error. A value whose encoding has more than 4194304 octets, or more than --most, is not printed: its next block is not asked for. A frame without an answer within two seconds, or --timeout, is sent again, at most three times; over the wrapper nothing is sent again, and such a silence is dlms: line.
 
 Exit status: 0; 1 after a fault (dlms: io, with PLACE or the file and the system's message on a second line; dlms: name or dlms: server for an invalid name or address; dlms: place if PLACE does not fit the options; dlms: class for an object that is not in the list; dlms: secret for a secret of more than 16 bytes; dlms: large for a value of more octets than allowed; dlms: line, dlms: protocol, dlms: refused N, dlms: denied N or dlms: result N for the exchange; dlms: memory); 2 for invalid arguments, and for this help.";
 
@@ -110,6 +113,19 @@ pub const LIST_ABOUT: &str =
 Prints one line for each object: its logical name, its class and version, the names of both, and the rights of this association: after the number of an attribute r if it may be read, w if it may be set, rw for both; after the number of a method x if it may be called; a before these if authentication is required, and - if nothing may be done. With --json it prints an array of objects with name, class, version, attributes and methods. PLACE and the options for the meter and the client are the same as in get.
 
 Exit status: the same as for get.";
+
+/// What `profile` does, for its help.
+pub const PROFILE_ABOUT: &str = "Reads rows of a profile of the meter at PLACE, and prints them.
+
+NAME is the logical name of an object of class Profile generic [default: 1.0.99.1.0.255, the load profile]. Reads its capture \
+objects, their scalers and units, and its rows: all of them, those from --from to --to by the clock in the first such column, or \
+the last N with --last. A TIME is 2026-01-31, 2026-01-31T12:00 or 2026-01-31T12:00:00, in the meter's own time; a date alone means \
+all of that day. Prints a table with a column for each capture object, times as 2026-01-31T12:00:00, and numbers with their scalers \
+and units; with --csv a line of names and a line for each row; with --json an object with columns and rows. With --raw numbers are \
+printed as the meter sends them. A null is printed as the value that it stands for: that of the row before, or for a clock the time \
+one capture period later. PLACE and the options for the meter and the client are the same as in get.
+
+Exit status: the same as for get; dlms: time for an invalid TIME.";
 
 /// What `set` does, for its help.
 pub const SET_ABOUT: &str = "Sets an attribute of the meter at PLACE.

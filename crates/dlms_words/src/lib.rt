@@ -12,8 +12,8 @@ mod words;
 
 pub use commands::{
     ActOptions, Asking, Expecting, ExplainOptions, FormatOptions, GetOptions, Job, ListOptions,
-    LoopbackOptions, OutputFormat, PlotOptions, PollOptions, ServeOptions, SetOptions, ShowOptions,
-    ValueFormat,
+    LoopbackOptions, OutputFormat, PlotOptions, PollOptions, ProfileOptions, ServeOptions,
+    SetOptions, ShowOptions, TableFormat, ValueFormat,
 };
 pub use numbers::number;
 pub use words::job;

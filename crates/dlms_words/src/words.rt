@@ -1,15 +1,15 @@
 //! The job that the command line asks for.
-ghost use Rattle.std.specs.Prelude.{◌≡◌, ◌⊎◌, ◌↔◌, [], List, Some, option_map, OnOk, IfErr, IfNone, IfOk, OnSome, IsTrue, codes, is_some, map, slice_get};
+ghost use Rattle.std.specs.Prelude.{◌≡◌, ◌⊎◌, ◌↔◌, [], List, None, Some, option_map, OnOk, IfErr, IfNone, IfOk, IfSome, OnSome, IsTrue, codes, is_some, map, slice_get};
 ghost use Rattle.clap.specs.Values.{kind_of};
 ghost use Rattle.clap.specs.Words.{all_of, fault_of, first_of, Row, FailsBy, HasKind, subcommand_rows_of, subcommand_of};
 ghost use Rattle.dlms_words.specs.Grammar.{dlms};
-ghost use Rattle.dlms_words.specs.Words.{asker as client_by, address_in, Asks, AsksBoth, AsksTwoClients, IsAsking, IsClear, IsExpecting, IsUnclear, NamesNoAddress, NamesTwoPlaces, nth_of, output_format, IsSaid, IsSaidFor, Says, SaysAhead, SaysStops, WidensPort, unless_device, value_format};
+ghost use Rattle.dlms_words.specs.Words.{asker as client_by, address_in, Asks, AsksBoth, AsksTwoClients, WrapsLine, MaySay, MaySayFor, table_format, IsAsking, IsClear, IsExpecting, IsNoneOf, IsUnclear, NamesNoAddress, NamesTwoPlaces, nth_of, output_format, requests, IsSaid, IsSaidFor, Says, SaysAhead, SaysStops, WidensPort, unless_device, value_format};
 
 use crate::addresses::{is_address, is_device};
 use crate::commands::{
     ActOptions, Asking, Expecting, ExplainOptions, FormatOptions, GetOptions, Job, ListOptions,
-    LoopbackOptions, OutputFormat, PlotOptions, PollOptions, ServeOptions, SetOptions, ShowOptions,
-    ValueFormat,
+    LoopbackOptions, OutputFormat, PlotOptions, PollOptions, ProfileOptions, ServeOptions,
+    SetOptions, ShowOptions, TableFormat, ValueFormat,
 };
 use crate::grammar::program;
 use clap::error::ErrorKind;
@@ -19,6 +19,9 @@ use std::alloc::{AllocError, Global};
 
 /// The default number of seconds that a poll may take.
 const DEADLINE: u32 = 300;
+
+/// The default number of seconds for which an answer is waited for.
+const TIMEOUT: u32 = 2;
 
 /// The default step, in seconds, in which a serving meter learns of the clock.
 const TICK: u32 = 1;
@@ -46,6 +49,9 @@ const MOST: u32 = 4_194_304;
 
 /// The message if two clients are given.
 const TWO_CLIENTS: &str = "the argument '--public' cannot be used with '--reader'";
+
+/// The message if a serial line is to carry the wrapper.
+const WRAPPED_LINE: &str = "the argument '--line' cannot be used with '--wrapper'";
 
 /// The message if a port and a serial line are given.
 const TWO_PLACES: &str = "the argument '--listen' cannot be used with '--line'";
@@ -117,6 +123,24 @@ fn number_for(matches: &ArgMatches<'_>, command: &str, id: &str, other: u32) -> 
     number(value_for(matches, command, id), other)
 }
 
+/// The number, if one was given.
+fn given_number(said: Option<&str>) -> Option<u32>
+    ensures { MaySay (option_map (λ text. text.now) said.entry) result }
+{
+    match said {
+        Some(_) => Some(number(said, 0)),
+        None => None,
+    }
+}
+
+/// The number given for one of a command's values, if one was.
+fn given_number_for(matches: &ArgMatches<'_>, command: &str, id: &str) -> Option<u32>
+    ensures { (rows : List Row) → subcommand_rows_of matches.now ≡ Some (command.now, rows)
+        → MaySayFor id.now rows result }
+{
+    given_number(value_for(matches, command, id))
+}
+
 /// By how many seconds a row may be past the system's clock, if that is checked.
 fn ahead(checks: bool, said: Option<&str>) -> Option<u32>
     ensures { SaysAhead checks (option_map (λ text. text.now) said.entry) result }
@@ -143,6 +167,17 @@ fn value_format(raw: bool, json: bool) -> ValueFormat
         (true, _) => ValueFormat::Encoding,
         (false, true) => ValueFormat::Json,
         (false, false) => ValueFormat::Text,
+    }
+}
+
+/// How a profile is printed, by the flags that were given: `json` comes before `csv`.
+fn table_format(csv: bool, json: bool) -> TableFormat
+    ensures { result ≡ table_format csv json }
+{
+    match (csv, json) {
+        (_, true) => TableFormat::Json,
+        (true, false) => TableFormat::Csv,
+        (false, false) => TableFormat::Table,
     }
 }
 
@@ -188,10 +223,12 @@ fn serve_job<'a>(matches: &ArgMatches<'a>) -> Job<'a>
         → Asks (Some (codes "serve", rows)) result }
 {
     let quiet = is_given(value_for(matches, "serve", "quiet"));
+    let wrapper = is_given(value_for(matches, "serve", "wrapper"));
     Job::Serve(ServeOptions {
         file: value_for(matches, "serve", "FILE").unwrap_or(""),
         listen: value_for(matches, "serve", "listen"),
         line: value_for(matches, "serve", "line"),
+        wrapper,
         load: number_for(matches, "serve", "load", 0),
         tick: number_for(matches, "serve", "tick", TICK),
         quiet,
@@ -243,6 +280,7 @@ fn poll_job<'a>(matches: &ArgMatches<'a>) -> Job<'a>
         secret_file: value_for(matches, "poll", "secret-file"),
         client: asker(public, reader),
         deadline: number_for(matches, "poll", "deadline", DEADLINE),
+        timeout: number_for(matches, "poll", "timeout", TIMEOUT),
         ahead: ahead(checks, value_for(matches, "poll", "ahead")),
         strict,
         expecting: expecting(matches),
@@ -308,6 +346,7 @@ fn asking<'a>(matches: &ArgMatches<'a>, command: &str) -> Asking<'a>
         secret_file: value_for(matches, command, "secret-file"),
         verbose,
         most: number_for(matches, command, "most", MOST),
+        timeout: number_for(matches, command, "timeout", TIMEOUT),
     }
 }
 
@@ -338,6 +377,25 @@ fn list_job<'a>(matches: &ArgMatches<'a>) -> Job<'a>
     })
 }
 
+/// The values of `profile`.
+fn profile_job<'a>(matches: &ArgMatches<'a>) -> Job<'a>
+    ensures { (rows : List Row) → subcommand_rows_of matches.now ≡ Some (codes "profile", rows)
+        → Asks (Some (codes "profile", rows)) result }
+{
+    let csv = is_given(value_for(matches, "profile", "csv"));
+    let json = is_given(value_for(matches, "profile", "json"));
+    let raw = is_given(value_for(matches, "profile", "raw"));
+    Job::Profile(ProfileOptions {
+        asking: asking(matches, "profile"),
+        name: value_for(matches, "profile", "NAME"),
+        from: value_for(matches, "profile", "from"),
+        to: value_for(matches, "profile", "to"),
+        last: given_number_for(matches, "profile", "last"),
+        format: table_format(csv, json),
+        raw,
+    })
+}
+
 /// The values of `set`.
 fn set_job<'a>(matches: &ArgMatches<'a>) -> Job<'a>
     ensures { (rows : List Row) → subcommand_rows_of matches.now ≡ Some (codes "set", rows)
@@ -364,6 +422,29 @@ fn act_job<'a>(matches: &ArgMatches<'a>) -> Job<'a>
     })
 }
 
+/// The request of any meter that is asked for, if one is.
+fn request_job<'a>(matches: &ArgMatches<'a>) -> Option<Job<'a>>
+    ensures some { IfSome result (Asks (subcommand_rows_of matches.now)) }
+    ensures none { result ≡ None → IsNoneOf requests (subcommand_rows_of matches.now) }
+{
+    if matches.subcommand_name() == Some("get") {
+        return Some(get_job(matches));
+    }
+    if matches.subcommand_name() == Some("list") {
+        return Some(list_job(matches));
+    }
+    if matches.subcommand_name() == Some("profile") {
+        return Some(profile_job(matches));
+    }
+    if matches.subcommand_name() == Some("set") {
+        return Some(set_job(matches));
+    }
+    if matches.subcommand_name() == Some("act") {
+        return Some(act_job(matches));
+    }
+    None
+}
+
 /// Whether two clients are asked for at once.
 fn asks_two_clients(matches: &ArgMatches<'_>) -> bool
     ensures { IsTrue result ↔ AsksTwoClients (subcommand_rows_of matches.now) }
@@ -382,6 +463,18 @@ fn is_named(matches: &ArgMatches<'_>, command: &str, id: &str) -> bool
         → result ≡ is_some (first_of id.now rows) }
 {
     value_for(matches, command, id).is_some()
+}
+
+/// Whether a serial line, which carries HDLC, is to carry the wrapper.
+fn wraps_line(matches: &ArgMatches<'_>) -> bool
+    ensures { IsTrue result ↔ WrapsLine (subcommand_rows_of matches.now) }
+{
+    if matches.subcommand_name() != Some("serve") {
+        return false;
+    }
+    let line = is_named(matches, "serve", "line");
+    let wrapper = is_given(value_for(matches, "serve", "wrapper"));
+    line && wrapper
 }
 
 /// Whether a port and a serial line are named at once.
@@ -418,6 +511,9 @@ fn conflict(matches: &ArgMatches<'_>) -> Option<&'static str>
     }
     if names_two_places(matches) {
         return Some(TWO_PLACES);
+    }
+    if wraps_line(matches) {
+        return Some(WRAPPED_LINE);
     }
     if widens_port(matches) {
         return Some(WIDE_PORT);
@@ -521,17 +617,9 @@ pub fn job<'a>(alloc: Global, words: &'a [&'a str]) -> Result<Job<'a>, Error>
     if matches.subcommand_name() == Some("serve") {
         return Ok(serve_job(&matches));
     }
-    if matches.subcommand_name() == Some("get") {
-        return Ok(get_job(&matches));
-    }
-    if matches.subcommand_name() == Some("list") {
-        return Ok(list_job(&matches));
-    }
-    if matches.subcommand_name() == Some("set") {
-        return Ok(set_job(&matches));
-    }
-    if matches.subcommand_name() == Some("act") {
-        return Ok(act_job(&matches));
+    match request_job(&matches) {
+        Some(job) => return Ok(job),
+        None => {}
     }
     if matches.subcommand_name() == Some("explain") {
         return Ok(explain_job(&matches));

@@ -15,5 +15,6 @@ returns c = λ rows met.
       client = c.number_for.ensures rows met;
       secret = c.value_for-6.ensures rows met;
       most = c.number_for-2.ensures rows met;
+      timeout = c.number_for-3.ensures rows met;
       verbose = subst (λ (said : Option Text). IsSaid said c.is_given-verbose.result) (c.value_for-3.ensures rows met) c.is_given-verbose.ensures;
     }

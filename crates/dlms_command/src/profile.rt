@@ -1,0 +1,328 @@
+//! Rows of a profile: the requests for its columns and its buffer.
+
+use crate::fault::Fault;
+use crate::requests::{MeterSession, is_answer, read_name, scaler_of};
+use crate::table::{ColumnShape, Table};
+use dlms_buffer::{BufferFault, Column, by_range, column_of, first_of_last, from_entry};
+use dlms_call::{CallFault, get_part};
+use dlms_data::{Descriptor, LAST_SECOND, Selector, octets, secs};
+use dlms_ends::End;
+use dlms_values::{Value, read};
+use dlms_words::{ProfileOptions, TableFormat, number};
+use std::alloc::Global;
+use std::io::Write;
+
+/// The name of the load profile (IEC 62056-6-1).
+const LOAD_PROFILE: &str = "1.0.99.1.0.255";
+
+/// The class Profile generic, and its attributes (IEC 62056-6-2, Blue Book 4.3.6).
+const PROFILE: u16 = 7;
+
+const BUFFER: u8 = 2;
+
+const CAPTURE_OBJECTS: u8 = 3;
+
+const CAPTURE_PERIOD: u8 = 4;
+
+const ENTRIES_IN_USE: u8 = 7;
+
+/// The first octet of a deviation that is left open.
+const OPEN_DEVIATION: u8 = 0x80;
+
+/// The first and the last second of a day.
+const MIDNIGHT: &str = "00:00:00";
+
+const LAST_OF_DAY: &str = "23:59:59";
+
+/// From one time of the meter's clock to another, both included, as date-times.
+#[derive(Clone, Copy)]
+pub struct TimeRange {
+    from: [u8; 12],
+    to: [u8; 12],
+}
+
+/// Which rows of a profile are printed, and how.
+#[derive(Clone, Copy)]
+pub struct ProfileRequest<'a> {
+    name: &'a str,
+    range: Option<TimeRange>,
+    last: Option<u32>,
+    format: TableFormat,
+    raw: bool,
+}
+
+/// The number of one or two digits.
+fn octet_of(digits: &str) -> Option<u8> {
+    u8::try_from(number(digits.as_bytes())?).ok()
+}
+
+/// The year, the month and the day of a date as `2026-01-31`.
+fn date_of(text: &str) -> Option<(u16, u8, u8)> {
+    let (year, rest) = text.split_once('-')?;
+    let (month, day) = rest.split_once('-')?;
+    let year = u16::try_from(number(year.as_bytes())?).ok()?;
+    Some((year, octet_of(month)?, octet_of(day)?))
+}
+
+/// The hour, the minute and the second of a time as `12:00` or `12:00:00`.
+fn time_of(text: &str) -> Option<(u8, u8, u8)> {
+    let (hour, rest) = text.split_once(':')?;
+    let (minute, second) = match rest.split_once(':') {
+        Some((minute, second)) => (minute, second),
+        None => (rest, "0"),
+    };
+    Some((octet_of(hour)?, octet_of(minute)?, octet_of(second)?))
+}
+
+/// The second of the meter's clock that a text names; of a date alone this time of the day.
+fn second_in(text: &str, time: &str) -> Option<u32> {
+    let (date, time) = match text.split_once('T') {
+        Some((date, time)) => (date, time),
+        None => (text, time),
+    };
+    let (year, month, day) = date_of(date)?;
+    let (hour, minute, second) = time_of(time)?;
+    let [high, low] = year.to_be_bytes();
+    secs(&[
+        high,
+        low,
+        month,
+        day,
+        0,
+        hour,
+        minute,
+        second,
+        0,
+        OPEN_DEVIATION,
+        0,
+        0,
+    ])
+}
+
+/// The date-time that a text names, with its deviation left open; the second `other` if no text is given.
+fn clock_in<'a>(text: Option<&'a str>, time: &str, other: u32) -> Result<[u8; 12], Fault<'a>> {
+    let second = match text {
+        Some(text) => match second_in(text, time) {
+            Some(second) => second,
+            None => return Err(Fault::Time(text)),
+        },
+        None => other,
+    };
+    let mut clock = octets(second.min(LAST_SECOND));
+    clock[9] = OPEN_DEVIATION;
+    Ok(clock)
+}
+
+/// The range of times that the options give, if they give one.
+fn range_of<'a>(options: &ProfileOptions<'a>) -> Result<Option<TimeRange>, Fault<'a>> {
+    if options.from.is_none() && options.to.is_none() {
+        return Ok(None);
+    }
+    Ok(Some(TimeRange {
+        from: clock_in(options.from, MIDNIGHT, 0)?,
+        to: clock_in(options.to, LAST_OF_DAY, LAST_SECOND)?,
+    }))
+}
+
+/// The request that the options make.
+pub fn request_of<'a>(options: &ProfileOptions<'a>) -> Result<ProfileRequest<'a>, Fault<'a>> {
+    Ok(ProfileRequest {
+        name: options.name.unwrap_or(LOAD_PROFILE),
+        range: range_of(options)?,
+        last: options.last,
+        format: options.format,
+        raw: options.raw,
+    })
+}
+
+impl<'a> ProfileRequest<'a> {
+    /// The name of the profile.
+    pub fn name(&self) -> &'a str {
+        self.name
+    }
+}
+
+/// The columns in the encoding of the capture objects.
+fn columns_in(alloc: Global, bytes: &[u8]) -> Result<Vec<ColumnShape>, BufferFault> {
+    let (value, _rest) = read(bytes)?;
+    let Value::Array(objects) = value else {
+        return Err(BufferFault::Columns);
+    };
+    let mut objects = objects;
+    let mut shapes = Vec::new(alloc);
+    for _ in 0..objects.len() {
+        let Some(object) = objects.next_value() else {
+            break;
+        };
+        let Some(column) = column_of(object) else {
+            return Err(BufferFault::Columns);
+        };
+        shapes.push(ColumnShape::new(column))?;
+    }
+    Ok(shapes)
+}
+
+/// The attribute with the scaler and the unit of a column, if it is a register's.
+fn scaler_for(column: Column) -> Option<Descriptor> {
+    scaler_of(Descriptor {
+        class: column.class,
+        name: column.name,
+        id: u8::try_from(column.attribute).ok()?,
+    })
+}
+
+/// The first column that is a clock's time.
+fn clock_among(shapes: &[ColumnShape]) -> Option<Column> {
+    for shape in shapes {
+        if shape.is_time() {
+            return Some(shape.column);
+        }
+    }
+    None
+}
+
+impl<'a, S: End> MeterSession<'a, '_, S> {
+    /// The columns of a profile.
+    fn columns(
+        &mut self,
+        request: &ProfileRequest<'a>,
+        code: [u8; 6],
+    ) -> Result<Vec<ColumnShape>, Fault<'a>> {
+        let attribute = Descriptor {
+            class: PROFILE,
+            name: code,
+            id: CAPTURE_OBJECTS,
+        };
+        self.fetch(request.name, attribute)?;
+        match columns_in(self.alloc, self.head.value()) {
+            Ok(shapes) => Ok(shapes),
+            Err(fault) => Err(Fault::of_buffer(request.name, fault)),
+        }
+    }
+
+    /// Asks for the scalers and the units of the columns that have some.
+    fn scale(&mut self, name: &'a str, shapes: &mut [ColumnShape]) {
+        for shape in shapes.iter_mut() {
+            if let Some(scaler) = scaler_for(shape.column) {
+                if let Some((scaler, unit)) = self.scaler_unit(name, scaler) {
+                    shape.scaler = scaler;
+                    shape.unit = Some(unit);
+                }
+            }
+        }
+    }
+
+    /// A number that an attribute of the profile has.
+    fn number_of(&mut self, name: &'a str, code: [u8; 6], id: u8) -> Result<u32, Fault<'a>> {
+        let attribute = Descriptor {
+            class: PROFILE,
+            name: code,
+            id,
+        };
+        self.fetch(name, attribute)?;
+        match read(self.head.value()) {
+            Ok((Value::Unsigned(_, number), _)) => Ok(u32::try_from(number).unwrap_or(u32::MAX)),
+            _ => Err(Fault::of_call(self.place, CallFault::Talk(dlms_client::Fault::Form))),
+        }
+    }
+
+    /// The capture period in seconds; 0 if the meter does not say it.
+    fn period(&mut self, name: &'a str, code: [u8; 6]) -> Result<u32, Fault<'a>> {
+        match self.number_of(name, code, CAPTURE_PERIOD) {
+            Ok(period) => Ok(period),
+            Err(fault) => {
+                if is_answer(&fault) {
+                    drop(fault);
+                    Ok(0)
+                } else {
+                    Err(fault)
+                }
+            }
+        }
+    }
+
+    /// The part of the buffer that is asked for, if not all of it is.
+    fn part(
+        &mut self,
+        request: &ProfileRequest<'a>,
+        code: [u8; 6],
+        clock: Option<Column>,
+    ) -> Result<Option<Selector<Global>>, Fault<'a>> {
+        if let Some(range) = request.range {
+            let Some(clock) = clock else {
+                return Err(Fault::NoClock(request.name));
+            };
+            return Ok(Some(by_range(self.alloc, &clock, &range.from, &range.to)?));
+        }
+        match request.last {
+            Some(count) => {
+                let in_use = self.number_of(request.name, code, ENTRIES_IN_USE)?;
+                Ok(Some(from_entry(self.alloc, first_of_last(in_use, count))?))
+            }
+            None => Ok(None),
+        }
+    }
+
+    /// Asks for the rows. The buffer's encoding is the client's value then.
+    fn fetch_rows(
+        &mut self,
+        request: &ProfileRequest<'a>,
+        code: [u8; 6],
+        clock: Option<Column>,
+    ) -> Result<(), Fault<'a>> {
+        let attribute = Descriptor {
+            class: PROFILE,
+            name: code,
+            id: BUFFER,
+        };
+        match self.part(request, code, clock)? {
+            None => self.fetch(request.name, attribute),
+            Some(selector) => {
+                let most = self.most as usize;
+                let answer = get_part(self.line, &mut self.head, attribute, selector, most);
+                self.judge(request.name, false, answer)
+            }
+        }
+    }
+
+    /// Prints rows of a profile with these columns.
+    fn put_rows<W: Write>(
+        &mut self,
+        request: &ProfileRequest<'a>,
+        code: [u8; 6],
+        shapes: &mut [ColumnShape],
+        output: &mut W,
+    ) -> Result<(), Fault<'a>> {
+        if !request.raw {
+            self.scale(request.name, shapes);
+        }
+        let period = self.period(request.name, code)?;
+        self.fetch_rows(request, code, clock_among(shapes))?;
+        let table = Table {
+            shapes,
+            period,
+            raw: request.raw,
+            last: request.last,
+        };
+        table.put(
+            self.alloc,
+            request.name,
+            request.format,
+            self.head.value(),
+            output,
+        )
+    }
+
+    /// Prints rows of a profile.
+    pub fn profile_one<W: Write>(
+        &mut self,
+        request: ProfileRequest<'a>,
+        output: &mut W,
+    ) -> Result<(), Fault<'a>> {
+        let code = read_name(request.name)?.code;
+        let mut shapes = self.columns(&request, code)?;
+        let told = self.put_rows(&request, code, &mut shapes, output);
+        drop(shapes);
+        told
+    }
+}

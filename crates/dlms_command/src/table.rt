@@ -1,0 +1,402 @@
+//! The rows of a profile as a table, as CSV or as JSON.
+
+use crate::buffer_rows::BufferRows;
+use crate::fault::Fault;
+use crate::telling::{append_code, append_labelled, put};
+use dlms_buffer::{BufferFault, Cell, Column, LastRow, append_cell, append_value};
+use dlms_names::{code_name, unit_name};
+use dlms_text::append_quoted;
+use dlms_values::Value;
+use dlms_words::TableFormat;
+use std::alloc::{AllocError, Global};
+use std::io::Write;
+
+/// The attribute that is a column's usually, and is not named then.
+const USUAL: i8 = 2;
+
+/// The classes Clock, Extended register and Demand register (IEC 62056-6-2, Blue Book 4.5.1, 4.3.3, 4.3.4).
+const CLOCK: u16 = 8;
+
+const EXTENDED: u16 = 4;
+
+const DEMAND: u16 = 5;
+
+/// The unit of a value without a unit.
+const COUNT: u8 = 255;
+
+/// A column, and the scaler and the unit of its numbers.
+#[derive(Clone, Copy)]
+pub struct ColumnShape {
+    pub column: Column,
+    pub scaler: i8,
+    pub unit: Option<u8>,
+}
+
+impl ColumnShape {
+    /// A column whose numbers are printed as they are.
+    pub fn new(column: Column) -> Self {
+        ColumnShape {
+            column,
+            scaler: 0,
+            unit: None,
+        }
+    }
+
+    /// Whether it is the time of a clock.
+    pub fn is_time(&self) -> bool {
+        self.column.class == CLOCK && self.column.attribute == USUAL
+    }
+
+    /// Whether its values are times.
+    fn has_times(&self) -> bool {
+        match (self.column.class, self.column.attribute) {
+            (CLOCK, 2) | (EXTENDED, 5) | (DEMAND, 6) | (DEMAND, 7) => true,
+            _ => false,
+        }
+    }
+
+    /// The name of its unit, if it has one.
+    fn unit(&self) -> Option<&'static str> {
+        match self.unit {
+            Some(COUNT) | None => None,
+            Some(unit) => unit_name(unit),
+        }
+    }
+
+    /// Appends its name: the logical name, the attribute if it is not the second, the code's name, and the unit.
+    fn append_title(&self, text: &mut Vec<u8>) -> Result<(), AllocError> {
+        append_code(text, self.column.name)?;
+        if self.column.attribute != USUAL {
+            append_labelled(text, b"/", u64::from(self.column.attribute.unsigned_abs()))?;
+        }
+        if let Some(name) = code_name(self.column.name) {
+            text.extend_from_slice(b" ")?;
+            text.extend_from_slice(name.as_bytes())?;
+        }
+        if let Some(unit) = self.unit() {
+            text.extend_from_slice(b" (")?;
+            text.extend_from_slice(unit.as_bytes())?;
+            text.extend_from_slice(b")")?;
+        }
+        Ok(())
+    }
+
+    /// Appends it as an object of JSON.
+    fn append_json(&self, text: &mut Vec<u8>) -> Result<(), AllocError> {
+        text.extend_from_slice(b"{\"name\":\"")?;
+        append_code(text, self.column.name)?;
+        append_labelled(
+            text,
+            b"\",\"attribute\":",
+            u64::from(self.column.attribute.unsigned_abs()),
+        )?;
+        append_labelled(text, b",\"class\":", u64::from(self.column.class))?;
+        if let Some(name) = code_name(self.column.name) {
+            text.extend_from_slice(b",\"title\":")?;
+            append_quoted(text, name.as_bytes())?;
+        }
+        if let Some(unit) = self.unit() {
+            text.extend_from_slice(b",\"unit\":")?;
+            append_quoted(text, unit.as_bytes())?;
+        }
+        text.extend_from_slice(b"}")
+    }
+}
+
+/// The columns of a table, the capture period in seconds, whether values are printed as the meter sends them, and how many of the
+/// last rows are printed, if not all of them are.
+#[derive(Clone, Copy)]
+pub struct Table<'p> {
+    pub shapes: &'p [ColumnShape],
+    pub period: u32,
+    pub raw: bool,
+    pub last: Option<u32>,
+}
+
+/// Whether a value is a number of JSON.
+fn is_number(value: &Value<'_>) -> bool {
+    matches!(
+        value,
+        Value::Signed(..) | Value::Unsigned(..) | Value::Float32(_) | Value::Float64(_)
+    )
+}
+
+/// Appends a field of CSV (RFC 4180): in quotes if it has a comma, a quote or a line end.
+fn append_field(text: &mut Vec<u8>, field: &[u8]) -> Result<(), AllocError> {
+    let is_plain = field.iter().all(|octet| *octet != b','
+        && *octet != b'"'
+        && *octet != b'\r'
+        && *octet != b'\n');
+    if is_plain {
+        return text.extend_from_slice(field);
+    }
+    text.extend_from_slice(b"\"")?;
+    for octet in field {
+        if *octet == b'"' {
+            text.extend_from_slice(b"\"")?;
+        }
+        text.extend_from_slice(&[*octet])?;
+    }
+    text.extend_from_slice(b"\"")
+}
+
+/// Appends blanks.
+fn append_blanks(text: &mut Vec<u8>, count: usize) -> Result<(), AllocError> {
+    for _ in 0..count {
+        text.extend_from_slice(b" ")?;
+    }
+    Ok(())
+}
+
+impl<'p> Table<'p> {
+    /// Appends what a cell shows: a time as ISO 8601, a number with its scaler, octets as text if they are printable. With `raw` it is
+    /// the value as the meter sends it.
+    fn append_cell(
+        &self,
+        text: &mut Vec<u8>,
+        shape: &ColumnShape,
+        cell: &Cell<'_>,
+    ) -> Result<(), AllocError> {
+        if self.raw {
+            return append_value(text, &cell.value, 0);
+        }
+        let period = if shape.has_times() { self.period } else { 0 };
+        append_cell(text, cell, period, shape.scaler)
+    }
+
+    /// Appends a cell of JSON: a number, a truth value, null, or a string.
+    fn append_json_cell(
+        &self,
+        text: &mut Vec<u8>,
+        field: &mut Vec<u8>,
+        shape: &ColumnShape,
+        cell: &Cell<'_>,
+    ) -> Result<(), AllocError> {
+        self.append_cell(field, shape, cell)?;
+        let is_bare = is_number(&cell.value) && field.as_slice() != b"NaN".as_slice();
+        match cell.value {
+            Value::Boolean(_) => text.extend_from_slice(field.as_slice()),
+            Value::Null | Value::DontCare => text.extend_from_slice(b"null"),
+            _ if is_bare => text.extend_from_slice(field.as_slice()),
+            _ if is_number(&cell.value) => text.extend_from_slice(b"null"),
+            _ => append_quoted(text, field.as_slice()),
+        }
+    }
+
+    /// Appends a row of JSON, or of CSV, or of a table with these widths.
+    fn append_row(
+        &self,
+        alloc: Global,
+        text: &mut Vec<u8>,
+        format: TableFormat,
+        widths: &[usize],
+        cells: &[Cell<'_>],
+    ) -> Result<(), AllocError> {
+        let mut field = Vec::new(alloc);
+        for (at, (shape, cell)) in self.shapes.iter().zip(cells.iter()).enumerate() {
+            field.clear();
+            let is_first = at == 0;
+            match format {
+                TableFormat::Json => {
+                    text.extend_from_slice(if is_first { b"[" } else { b"," })?;
+                    self.append_json_cell(text, &mut field, shape, cell)?;
+                }
+                TableFormat::Csv => {
+                    text.extend_from_slice(if is_first { b"" } else { b"," })?;
+                    self.append_cell(&mut field, shape, cell)?;
+                    append_field(text, field.as_slice())?;
+                }
+                TableFormat::Table => {
+                    self.append_cell(&mut field, shape, cell)?;
+                    append_padded(text, field.as_slice(), widths, at)?;
+                }
+            }
+        }
+        text.extend_from_slice(if format == TableFormat::Json {
+            b"]"
+        } else {
+            b"\n"
+        })
+    }
+
+    /// Appends what stands before the rows.
+    fn append_head(
+        &self,
+        alloc: Global,
+        text: &mut Vec<u8>,
+        format: TableFormat,
+        widths: &[usize],
+    ) -> Result<(), AllocError> {
+        if format == TableFormat::Json {
+            text.extend_from_slice(b"\"columns\":[")?;
+        }
+        let mut field = Vec::new(alloc);
+        for (at, shape) in self.shapes.iter().enumerate() {
+            field.clear();
+            let comma: &[u8] = if at > 0 { b"," } else { b"" };
+            match format {
+                TableFormat::Json => {
+                    text.extend_from_slice(comma)?;
+                    shape.append_json(text)?;
+                }
+                TableFormat::Csv => {
+                    text.extend_from_slice(comma)?;
+                    shape.append_title(&mut field)?;
+                    append_field(text, field.as_slice())?;
+                }
+                TableFormat::Table => {
+                    shape.append_title(&mut field)?;
+                    append_padded(text, field.as_slice(), widths, at)?;
+                }
+            }
+        }
+        text.extend_from_slice(if format == TableFormat::Json {
+            b"],\n\"rows\":["
+        } else {
+            b"\n"
+        })
+    }
+
+    /// The widths of the titles.
+    fn title_widths(&self, alloc: Global) -> Result<Vec<usize>, AllocError> {
+        let mut widths = Vec::new(alloc);
+        let mut field = Vec::new(alloc);
+        for shape in self.shapes {
+            field.clear();
+            shape.append_title(&mut field)?;
+            widths.push(field.len())?;
+        }
+        Ok(widths)
+    }
+
+    /// Makes each column as wide as its widest cell.
+    fn widen(
+        &self,
+        field: &mut Vec<u8>,
+        widths: &mut [usize],
+        cells: &[Cell<'_>],
+    ) -> Result<(), AllocError> {
+        for ((shape, cell), width) in self.shapes.iter().zip(cells.iter()).zip(widths.iter_mut()) {
+            field.clear();
+            self.append_cell(field, shape, cell)?;
+            *width = (*width).max(field.len());
+        }
+        Ok(())
+    }
+
+    /// Counts the rows of a buffer, and makes each column of a table as wide as its widest cell.
+    fn measure(
+        &self,
+        alloc: Global,
+        format: TableFormat,
+        bytes: &[u8],
+        widths: &mut [usize],
+    ) -> Result<u32, BufferFault> {
+        let mut rows = BufferRows::of(bytes)?;
+        let mut row = LastRow::new(alloc, self.shapes.len())?;
+        let mut field = Vec::new(alloc);
+        let mut count = 0u32;
+        for _ in 0..u32::MAX {
+            if !rows.next_row(alloc, &mut row)? {
+                break;
+            }
+            count = count.saturating_add(1);
+            if format == TableFormat::Table {
+                self.widen(&mut field, widths, row.cells.as_slice())?;
+            }
+        }
+        Ok(count)
+    }
+
+    /// Prints the rows of a buffer after the first `skipped` ones.
+    fn put_rows<'a, W: Write>(
+        &self,
+        alloc: Global,
+        name: &'a str,
+        format: TableFormat,
+        bytes: &[u8],
+        widths: &[usize],
+        skipped: u32,
+        output: &mut W,
+    ) -> Result<(), Fault<'a>> {
+        let mut rows = match BufferRows::of(bytes) {
+            Ok(rows) => rows,
+            Err(fault) => return Err(Fault::of_buffer(name, fault)),
+        };
+        let mut row = LastRow::new(alloc, self.shapes.len())?;
+        let mut text = Vec::new(alloc);
+        for at in 0..u32::MAX {
+            match rows.next_row(alloc, &mut row) {
+                Ok(true) => {}
+                Ok(false) => break,
+                Err(fault) => return Err(Fault::of_buffer(name, fault)),
+            }
+            if at >= skipped {
+                text.clear();
+                if format == TableFormat::Json {
+                    text.extend_from_slice(if at > skipped { b",\n" } else { b"\n" })?;
+                }
+                self.append_row(alloc, &mut text, format, widths, row.cells.as_slice())?;
+                put(output, text.as_slice())?;
+            }
+        }
+        Ok(())
+    }
+
+    /// Prints the rows in the encoding of a buffer.
+    pub fn put<'a, W: Write>(
+        &self,
+        alloc: Global,
+        name: &'a str,
+        format: TableFormat,
+        bytes: &[u8],
+        output: &mut W,
+    ) -> Result<(), Fault<'a>> {
+        let mut widths = self.title_widths(alloc)?;
+        let count = match self.measure(alloc, format, bytes, &mut widths) {
+            Ok(count) => count,
+            Err(fault) => return Err(Fault::of_buffer(name, fault)),
+        };
+        let skipped = match self.last {
+            Some(last) => count.saturating_sub(last),
+            None => 0,
+        };
+        let mut text = Vec::new(alloc);
+        if format == TableFormat::Json {
+            text.extend_from_slice(b"{\"name\":")?;
+            append_quoted(&mut text, name.as_bytes())?;
+            text.extend_from_slice(b",")?;
+        }
+        self.append_head(alloc, &mut text, format, widths.as_slice())?;
+        put(output, text.as_slice())?;
+        self.put_rows(
+            alloc,
+            name,
+            format,
+            bytes,
+            widths.as_slice(),
+            skipped,
+            output,
+        )?;
+        if format == TableFormat::Json {
+            put(output, b"\n]}\n")?;
+        }
+        Ok(())
+    }
+}
+
+/// Appends a field of a table, and the blanks to the next column, if there is one.
+fn append_padded(
+    text: &mut Vec<u8>,
+    field: &[u8],
+    widths: &[usize],
+    at: usize,
+) -> Result<(), AllocError> {
+    text.extend_from_slice(field)?;
+    let width = match widths.get(at) {
+        Some(width) if at.saturating_add(1) < widths.len() => *width,
+        _ => return Ok(()),
+    };
+    append_blanks(text, width.saturating_sub(field.len()))?;
+    text.extend_from_slice(b"  ")
+}
