@@ -1,5 +1,6 @@
 -- Words that ask for nothing.
-use Rattle.std.proofs.Common.{◌≡◌, ◌≢◌, ◌⊎◌, inl, inr, [], ◌∷◌}
+use Rattle.std.proofs.Common.{◌≡◌, ◌≢◌, ◌⊎◌, inl, inr, [], ◌∷◌, ℕ, arith}
+use Rattle.std.specs.Prelude.{Result, Ok, Err, IfOk, MatchResult}
 use Rattle.clap.specs.Values.{kind_of}
 use Rattle.clap.specs.Kinds.{HasKind, IsAmong, Kinds}
 use Rattle.clap.specs.declared.error.Error.{Error}
@@ -18,3 +19,10 @@ is_usage kinds met e found (inl (inl memory)) = absurd (found memory)
 is_usage kinds met e found (inl (inr among)) = inl (some_kind kinds (kind_of e) among)
 is_usage kinds met e found (inr (inl both)) = inr (inl both.0)
 is_usage kinds met e found (inr (inr none)) = inr (inr none.0)
+
+-- the status of a run that has ended is never the one of words that ask for nothing
+pub not_usage : {A E F : Type 0} (result : Result ℕ E) (ended : Result A F) (Q : Type 0) → IfOk result (λ status. MatchResult ended (λ _. status ≡ 0) (λ _. status ≡ 1))
+    → IfOk result (λ status. status ≡ 2 → Q)
+not_usage (Ok status) (Ok done) Q h = λ is. absurd (omega (arith, h, is))
+not_usage (Ok status) (Err fault) Q h = λ is. absurd (omega (arith, h, is))
+not_usage (Err error) ended Q h = tt
