@@ -1,13 +1,12 @@
 -- The meaning of an answer that was returned.
-use Rattle.std.proofs.Common.{◌≡◌, ◌∙◌, ◌+◌, ◌≤◌, refl, sym, ap, subst, arith, ℕ, List, [], ◌∷◌, ◌++◌, drop, append_assoc, append-nil, Bool, true, false, Option, Some, None, Result, Ok, Err}
-use Rattle.dlms_apdu.specs.Forms.{ResponseForm, get_data, get_result, get_block, get_block_result, set_result, set_last, action_result}
+use Rattle.std.proofs.Common.{◌≡◌, ◌∙◌, ◌+◌, ◌≤◌, refl, sym, ap, subst, arith, ℕ, List, [], ◌∷◌, ◌++◌, append_assoc, append-nil, Bool, true, false, Option, Some, None, Result, Ok, Err}
+use Rattle.dlms_apdu.specs.Forms.{ResponseForm, get_result, get_block, get_block_result, set_result, set_last, action_result}
 use Rattle.dlms_apdu.specs.Reading.{response_at}
 use Rattle.dlms_apdu.specs.declared.fault.Refusal.{Refusal}
 use Rattle.dlms_blocks.specs.Joining.{Joining, empty}
-use Rattle.dlms_data.specs.Spelling.{IsSpelling}
-use Rattle.dlms_data.specs.Value.{Value}
+use Rattle.dlms_values.specs.Spelling.{IsSpelling}
 use Rattle.dlms_association.specs.Association.{denial_of}
-use Rattle.dlms_association.specs.Hearing.{Joins, GetHears, returned_at, ActionHears, HearsBy, Hears, set_heard, action_heard}
+use Rattle.dlms_association.specs.Hearing.{Joins, GetHears, data_at, returned_at, ActionHears, HearsBy, Hears, set_heard, action_heard}
 use Rattle.dlms_association.specs.Saying.{AreBlocks, GivesResult, IsMore, Says, in_one_piece, in_blocks, by_result, returned, denied}
 use Rattle.dlms_association.specs.declared.answer.Answer.{Answer}
 use Rattle.dlms_association.specs.declared.answer.Answer.TheVariants.{Value as ValueCame, Result as HasResult}
@@ -15,7 +14,7 @@ use Rattle.dlms_association.specs.declared.answer.Denial.{Denial}
 use Rattle.dlms_association.specs.declared.hearing.Heard.TheVariants.{More, Told}
 use Rattle.dlms_association.specs.declared.stage.Asked.{Asked}
 use Rattle.dlms_association.specs.declared.stage.Asked.TheVariants.{Get, Set, Action}
-use Rattle.dlms_association.proofs.Heads.{data_behind, next_number}
+use Rattle.dlms_association.proofs.Heads.{next_number}
 
 -- ---- blocks
 
@@ -46,12 +45,13 @@ AreOf Action before joined = joined ≡ empty
 -- ---- an answer was told
 
 module _ (before : List (List ℕ)) (apdu : List ℕ) (old new : Joining) (answer : Answer) where
-  in_one : (invoke : ℕ) (v : Value) → AreBlocks 0 before old.taken old.joined → response_at apdu ≡ Ok (get_data invoke v) → Joins old true 1 (drop 4 apdu) ValueCame (Ok (Told answer)) new → Says Get before apdu answer new.joined
-  in_one invoke v come read h =
+  in_one : (bytes : List ℕ) → AreBlocks 0 before old.taken old.joined → data_at apdu ≡ Some bytes → Joins old true 1 bytes ValueCame (Ok (Told answer)) new → Says Get before apdu answer new.joined
+  in_one bytes come given h =
       let next : 1 ≡ old.taken + 1 = next_number old 1 h.2 in
       let none : (before ≡ []) × (old.joined ≡ []) = none_came old.taken before old.joined come (omega arith) in
-      let joined : new.joined ≡ drop 4 apdu = ap (λ (j : Joining). j.joined) h.3 ∙ ap (λ (front : List ℕ). front ++ drop 4 apdu) none.1 in
-      in_one_piece invoke v refl none.0 read (rw joined (data_behind apdu invoke v read)) h.0
+      let joined : new.joined ≡ bytes = ap (λ (j : Joining). j.joined) h.3 ∙ ap (λ (front : List ℕ). front ++ bytes) none.1 in
+      let spelled : IsSpelling bytes h.4.0 = subst (λ (front : List ℕ). IsSpelling (front ++ bytes) h.4.0) none.1 h.4.1 in
+      in_one_piece h.4.0 refl none.0 (given ∙ ap (λ (x : List ℕ). Some x) (sym joined)) (rw joined spelled) h.0
 
   last_of : (invoke number : ℕ) (last : Bool) (raw : List ℕ) → AreBlocks 0 before old.taken old.joined → response_at apdu ≡ Ok (get_block invoke last number raw) → Joins old last number raw ValueCame (Ok (Told answer)) new → Says Get before apdu answer new.joined
   last_of invoke number last raw come read h =
@@ -63,13 +63,16 @@ module _ (before : List (List ℕ)) (apdu : List ℕ) (old new : Joining) (answe
   resulted : (asked : Asked) (code : ℕ) (read : Result ResponseForm Refusal) → response_at apdu ≡ read → GivesResult asked read code → answer ≡ HasResult code → Says asked before apdu answer new.joined
   resulted asked code read e gives told = by_result code (subst (λ (r : Result ResponseForm Refusal). GivesResult asked r code) (sym e) gives) told
 
-  get_said : (read : Result ResponseForm Refusal) → AreBlocks 0 before old.taken old.joined → response_at apdu ≡ read → GetHears old apdu read (Ok (Told answer)) new → Says Get before apdu answer new.joined
-  get_said (Ok (get_data invoke v)) come e h = in_one invoke v come e h
+  get_said : (read : Result ResponseForm Refusal) → AreBlocks 0 before old.taken old.joined → response_at apdu ≡ read → GetHears None old read (Ok (Told answer)) new → Says Get before apdu answer new.joined
   get_said (Ok (get_block invoke last number raw)) come e h = last_of invoke number last raw come e h
   get_said (Ok (get_result invoke code)) come e h = let told = h.0 in resulted Get code _ e refl (cc)
   get_said (Ok (get_block_result invoke number code)) come e h = let told = h.0 in resulted Get code _ e refl (cc)
   get_said (Ok _) come e h = let clash = h.0 in cc
   get_said (Err refusal) come e h = let clash = h.0 in cc
+
+  get_said_by : (given : Option (List ℕ)) → AreBlocks 0 before old.taken old.joined → data_at apdu ≡ given → GetHears given old (response_at apdu) (Ok (Told answer)) new → Says Get before apdu answer new.joined
+  get_said_by (Some bytes) come e h = in_one bytes come e h
+  get_said_by None come e h = get_said (response_at apdu) come refl h
 
   set_said : (read : Result ResponseForm Refusal) → response_at apdu ≡ read → Ok (Told answer) ≡ set_heard read → Says Set before apdu answer new.joined
   set_said (Ok (set_result invoke code)) e h = resulted Set code _ e refl (cc)
@@ -94,7 +97,7 @@ module _ (before : List (List ℕ)) (apdu : List ℕ) (old new : Joining) (answe
 
   said_by : (denial : Option Denial) (asked : Asked) → AreOf asked before old → denial_of apdu ≡ denial → HearsBy denial asked old apdu (Ok (Told answer)) new → Says asked before apdu answer new.joined
   said_by (Some denial) asked come e h = let told = h.0 in denied denial e cc
-  said_by None Get come e h = get_said (response_at apdu) come refl h
+  said_by None Get come e h = get_said_by (data_at apdu) come refl h
   said_by None Set come e h = set_said (response_at apdu) refl h.0
   said_by None Action come e h = action_said_by (returned_at apdu) come refl h
 
@@ -113,12 +116,16 @@ block_came before apdu old new n number invoke last raw read come h =
     let joined : new.joined ≡ old.joined ++ raw = ap (λ (j : Joining). j.joined) h.3 in
     rw (count, joined) (one_more 0 old.taken before old.joined raw apdu come more)
 
-get_more : (read : Result ResponseForm Refusal) (before : List (List ℕ)) (apdu : List ℕ) (old new : Joining) (n : ℕ) → response_at apdu ≡ read → AreBlocks 0 before old.taken old.joined → GetHears old apdu read (Ok (More n)) new
+get_more : (read : Result ResponseForm Refusal) (before : List (List ℕ)) (apdu : List ℕ) (old new : Joining) (n : ℕ) → response_at apdu ≡ read → AreBlocks 0 before old.taken old.joined → GetHears None old read (Ok (More n)) new
     → AreBlocks 0 (before ++ apdu ∷ []) new.taken new.joined
-get_more (Ok (get_data invoke v)) before apdu old new n e come h = let clash = h.1 in cc
 get_more (Ok (get_block invoke last number raw)) before apdu old new n e come h = block_came before apdu old new n number invoke last raw e come h
 get_more (Ok _) before apdu old new n e come h = let clash = h.0 in cc
 get_more (Err refusal) before apdu old new n e come h = let clash = h.0 in cc
+
+get_more_by : (given : Option (List ℕ)) (before : List (List ℕ)) (apdu : List ℕ) (old new : Joining) (n : ℕ) → AreBlocks 0 before old.taken old.joined → GetHears given old (response_at apdu) (Ok (More n)) new
+    → AreBlocks 0 (before ++ apdu ∷ []) new.taken new.joined
+get_more_by (Some bytes) before apdu old new n come h = let clash = h.1 in absurd (cc)
+get_more_by None before apdu old new n come h = get_more (response_at apdu) before apdu old new n refl come h
 
 given_more : (given : Option (ℕ × List ℕ)) (read : Result ResponseForm Refusal) (old new : Joining) (n : ℕ) → old ≡ empty → ActionHears given old read (Ok (More n)) new → new ≡ empty
 given_more (Some (code, bytes)) read old new n none h = let clash = h.1 in absurd (cc)
@@ -126,7 +133,7 @@ given_more None read old new n none h = h.1 ∙ none
 
 more_by : (denial : Option Denial) (asked : Asked) (before : List (List ℕ)) (apdu : List ℕ) (old new : Joining) (n : ℕ) → AreOf asked before old → HearsBy denial asked old apdu (Ok (More n)) new → AreOf asked (before ++ apdu ∷ []) new
 more_by (Some denial) asked before apdu old new n come h = let clash = h.0 in absurd (cc)
-more_by None Get before apdu old new n come h = get_more (response_at apdu) before apdu old new n refl come h
+more_by None Get before apdu old new n come h = get_more_by (data_at apdu) before apdu old new n come h
 more_by None Set before apdu old new n come h = h.1 ∙ come
 more_by None Action before apdu old new n come h = given_more (returned_at apdu) (response_at apdu) old new n come h
 

@@ -1,13 +1,13 @@
 -- The meaning of an APDU as an answer to a request, if these blocks of a GET were joined before it.
-use Rattle.std.specs.Prelude.{◌≡◌, ℕ, ◌<◌, ◌==◌, ◌&&◌, if◌then◌else◌, Bool, true, false, List, ◌∷◌, ◌++◌, length, drop, Option, Some, None, Result, Ok, Err}
+use Rattle.std.specs.Prelude.{◌≡◌, ℕ, ◌<◌, ◌==◌, ◌&&◌, if◌then◌else◌, Bool, true, false, List, ◌∷◌, ◌++◌, length, Option, Some, None, Result, Ok, Err}
 use Rattle.dlms_apdu.specs.Fault.{fault_of}
-use Rattle.dlms_apdu.specs.Forms.{ResponseForm, get_data, get_result, get_block, get_block_result, set_result, set_block_taken, set_last, action_result, action_block_taken}
+use Rattle.dlms_apdu.specs.Forms.{ResponseForm, get_result, get_block, get_block_result, set_result, set_block_taken, set_last, action_result, action_block_taken}
 use Rattle.dlms_apdu.specs.Reading.{response_at}
 use Rattle.dlms_apdu.specs.declared.fault.ApduFault.TheVariants.{Data}
 use Rattle.dlms_apdu.specs.declared.fault.Refusal.{Refusal}
 use Rattle.dlms_blocks.specs.Joining.{Joining, is_next, with_block}
-use Rattle.dlms_data.specs.Spelling.{IsSpelling}
-use Rattle.dlms_data.specs.Value.{Value}
+use Rattle.dlms_values.specs.Spelling.{IsSpelling}
+use Rattle.dlms_values.specs.Value.{Value}
 use Rattle.dlms_association.specs.Association.{denial_of}
 use Rattle.dlms_association.specs.declared.answer.Answer.{Answer}
 use Rattle.dlms_association.specs.declared.answer.Answer.TheVariants.{Value as ValueCame, Result as HasResult, Denied}
@@ -19,7 +19,7 @@ use Rattle.dlms_association.specs.declared.hearing.Heard.TheVariants.{More, Told
 use Rattle.dlms_association.specs.declared.stage.Asked.{Asked}
 use Rattle.dlms_association.specs.declared.stage.Asked.TheVariants.{Get, Set, Action}
 
--- the bytes are the encoding of a value
+-- the bytes are the encoding of a value of any type of Data
 abbrev pub IsEncoding : List ℕ → Type 0
 IsEncoding bytes = (v : Value) × IsSpelling bytes v
 
@@ -43,19 +43,24 @@ Joins old last number bytes whole (Err (Association fault)) new = ⊥
 Joins old last number bytes whole (Err Down) new = ⊥
 Joins old last number bytes whole (Err Line) new = ⊥
 
--- a response to a GET
-abbrev pub GetHears : Joining → List ℕ → Result ResponseForm Refusal → Result Heard Fault → Joining
-    → Type 0
-GetHears old apdu (Ok (get_data invoke v)) result new =
-    Joins old true 1 (drop 4 apdu) ValueCame result new
-GetHears old apdu (Ok (get_block invoke last number raw)) result new =
+-- a GET may have its value in one piece (GET-Response-Normal with data): the octets of the value
+abbrev pub data_at : List ℕ → Option (List ℕ)
+data_at (tag ∷ form ∷ invoke ∷ choice ∷ bytes) =
+    if (tag == 0xC4) && (form == 1) && (choice == 0) then Some bytes else None
+data_at _ = None
+
+-- a response to a GET: its value in one piece, a block of it, or a result in place of either
+abbrev pub GetHears : Option (List ℕ) → Joining → Result ResponseForm Refusal → Result Heard Fault
+    → Joining → Type 0
+GetHears (Some bytes) old read result new = Joins old true 1 bytes ValueCame result new
+GetHears None old (Ok (get_block invoke last number raw)) result new =
     Joins old last number raw ValueCame result new
-GetHears old apdu (Ok (get_result invoke code)) result new = (result ≡ Ok (Told (HasResult code)))
-    × (new ≡ old)
-GetHears old apdu (Ok (get_block_result invoke number code)) result new =
+GetHears None old (Ok (get_result invoke code)) result new =
     (result ≡ Ok (Told (HasResult code))) × (new ≡ old)
-GetHears old apdu (Ok form) result new = (result ≡ Err Form) × (new ≡ old)
-GetHears old apdu (Err refusal) result new = (result ≡ Err (Unread (fault_of refusal)))
+GetHears None old (Ok (get_block_result invoke number code)) result new =
+    (result ≡ Ok (Told (HasResult code))) × (new ≡ old)
+GetHears None old (Ok form) result new = (result ≡ Err Form) × (new ≡ old)
+GetHears None old (Err refusal) result new = (result ≡ Err (Unread (fault_of refusal)))
     × (new ≡ old)
 
 -- to a SET: if a block was accepted, the next one is sent
@@ -90,7 +95,8 @@ ActionHears None old read result new = (result ≡ action_heard read) × (new �
 abbrev pub HearsBy : Option Denial → Asked → Joining → List ℕ → Result Heard Fault → Joining
     → Type 0
 HearsBy (Some denial) asked old apdu result new = (result ≡ Ok (Told (Denied denial))) × (new ≡ old)
-HearsBy None Get old apdu result new = GetHears old apdu (response_at apdu) result new
+HearsBy None Get old apdu result new =
+    GetHears (data_at apdu) old (response_at apdu) result new
 HearsBy None Set old apdu result new = (result ≡ set_heard (response_at apdu)) × (new ≡ old)
 HearsBy None Action old apdu result new =
     ActionHears (returned_at apdu) old (response_at apdu) result new

@@ -1,12 +1,12 @@
 -- The meaning of the APDUs taken since a request as an answer to it (IEC 62056-5-3), the last of them this one.
 use Rattle.std.specs.Prelude.{◌≡◌, ℕ, ◌+◌, true, false, List, [], ◌∷◌, ◌++◌, Some, Result, Ok}
-use Rattle.dlms_apdu.specs.Forms.{ResponseForm, get_data, get_result, get_block, get_block_result, set_result, set_last, action_result}
+use Rattle.dlms_apdu.specs.Forms.{ResponseForm, get_result, get_block, get_block_result, set_result, set_last, action_result}
 use Rattle.dlms_apdu.specs.Reading.{response_at}
 use Rattle.dlms_apdu.specs.declared.fault.Refusal.{Refusal}
-use Rattle.dlms_data.specs.Spelling.{IsSpelling}
-use Rattle.dlms_data.specs.Value.{Value}
+use Rattle.dlms_values.specs.Spelling.{IsSpelling}
+use Rattle.dlms_values.specs.Value.{Value}
 use Rattle.dlms_association.specs.Association.{denial_of}
-use Rattle.dlms_association.specs.Hearing.{returned_at}
+use Rattle.dlms_association.specs.Hearing.{data_at, returned_at}
 use Rattle.dlms_association.specs.declared.answer.Answer.{Answer}
 use Rattle.dlms_association.specs.declared.answer.Answer.TheVariants.{Value as ValueCame, Result as HasResult, Denied}
 use Rattle.dlms_association.specs.declared.answer.Denial.{Denial}
@@ -34,12 +34,12 @@ GivesResult Action (Ok (action_result invoke r)) code = r ≡ code
 GivesResult asked read code = ⊥
 
 -- A GET has a value in one piece, if no block came before; or the last block, and the encoding of its value is that of the blocks,
--- joined in order. Each request may have a result, an ACTION a value with it; and each may be denied.
+-- joined in order. The value may be of any type of Data. Each request may have a result, an ACTION a value with it; and each may be
+-- denied.
 pub data Says (asked : Asked) (before : List (List ℕ)) (apdu : List ℕ) (answer : Answer)
     (value : List ℕ) : Type 0 where
-  in_one_piece : (invoke : ℕ) (v : Value) → asked ≡ Get → before ≡ []
-      → response_at apdu ≡ Ok (get_data invoke v) → IsSpelling value v → answer ≡ ValueCame
-      → Says asked before apdu answer value
+  in_one_piece : (v : Value) → asked ≡ Get → before ≡ [] → data_at apdu ≡ Some value
+      → IsSpelling value v → answer ≡ ValueCame → Says asked before apdu answer value
   in_blocks : (invoke taken : ℕ) (joined raw : List ℕ) (v : Value) → asked ≡ Get
       → AreBlocks 0 before taken joined
       → response_at apdu ≡ Ok (get_block invoke true (taken + 1) raw) → value ≡ joined ++ raw

@@ -1,10 +1,9 @@
 //! The meaning of an APDU as an answer to a request.
 
-ghost use Rattle.std.specs.Prelude.{◌≡◌, drop, option_map, true, Ok};
+ghost use Rattle.std.specs.Prelude.{◌≡◌, option_map, None, Ok};
 ghost use Rattle.dlms_apdu.specs.Reading.{response_at};
 ghost use Rattle.dlms_apdu.specs.View.{response_of};
-ghost use Rattle.dlms_association.specs.Hearing.{Joins, GetHears, Hears, set_heard, action_heard, returned_at, ActionHears};
-ghost use Rattle.dlms_association.specs.declared.answer.Answer.TheVariants.{Value};
+ghost use Rattle.dlms_association.specs.Hearing.{Joins, GetHears, Hears, data_at, set_heard, action_heard, returned_at, ActionHears};
 
 use crate::answer::Answer;
 use crate::fault::Fault;
@@ -12,7 +11,7 @@ use crate::opening::denial;
 use crate::stage::Asked;
 use dlms_apdu::{ApduFault, Response, read_response};
 use dlms_blocks::{GetIn, UNKNOWN_BLOCK};
-use dlms_data::is_value;
+use dlms_values::is_value;
 use std::alloc::Allocator;
 
 /// The meaning of an APDU as an answer to a request.
@@ -24,14 +23,14 @@ pub enum Heard {
     Told(Answer),
 }
 
-/// The bytes after the first four.
-fn behind_head(apdu: &[u8]) -> &[u8]
-    ensures { result.now ≡ drop 4 apdu.now }
+/// The octets of a value that answers a GET in one piece.
+fn data(apdu: &[u8]) -> Option<&[u8]>
+    ensures { option_map (λ x. x.now) result ≡ data_at apdu.now }
 {
-    if apdu.len() < 4 {
-        return &[];
+    match apdu {
+        [0xc4, 0x01, _, 0x00, bytes @ ..] => Some(bytes),
+        _ => None,
     }
-    &apdu[4..]
 }
 
 /// A block of a value that has this answer once it is whole. A value in one piece is a first block, and the last.
@@ -58,23 +57,14 @@ fn block<A: Allocator>(
     }
 }
 
-/// A value in one piece that answers a GET.
-fn whole<A: Allocator>(blocks: &mut GetIn<A>, apdu: &[u8]) -> Result<Heard, Fault>
-    ensures { Joins blocks.old true 1 (drop 4 apdu.now) Value result blocks.new }
-{
-    block(blocks, true, 1, behind_head(apdu), Answer::Value)
-}
-
-/// The meaning of a response as an answer to a GET.
+/// The meaning of a response without a value in one piece as an answer to a GET.
 fn get_by<A: Allocator, B: Allocator>(
     blocks: &mut GetIn<A>,
-    apdu: &[u8],
     response: &Response<'_, B>,
 ) -> Result<Heard, Fault>
-    ensures { GetHears blocks.old apdu.now (Ok (response_of response.now)) result blocks.new }
+    ensures { GetHears None blocks.old (Ok (response_of response.now)) result blocks.new }
 {
     match response {
-        Response::GetData { .. } => whole(blocks, apdu),
         Response::GetBlock {
             last,
             number,
@@ -88,18 +78,32 @@ fn get_by<A: Allocator, B: Allocator>(
     }
 }
 
-/// The answer to a GET. Where there is no memory for its value as a tree, it is joined all the same.
-fn get<A: Allocator + Copy>(alloc: A, blocks: &mut GetIn<A>, apdu: &[u8]) -> Result<Heard, Fault>
-    ensures { GetHears blocks.old apdu.now (response_at apdu.now) result blocks.new }
+/// The answer to a GET that has no value in one piece.
+fn get_without<A: Allocator + Copy>(
+    alloc: A,
+    blocks: &mut GetIn<A>,
+    apdu: &[u8],
+) -> Result<Heard, Fault>
+    ensures { GetHears None blocks.old (response_at apdu.now) result blocks.new }
 {
     match read_response(alloc, apdu) {
         Ok(response) => {
-            let heard = get_by(blocks, apdu, &response);
+            let heard = get_by(blocks, &response);
             drop(response);
             heard
         }
-        Err(ApduFault::Memory) => whole(blocks, apdu),
+        Err(ApduFault::Memory) => Err(Fault::Form),
         Err(fault) => Err(Fault::Unread(fault)),
+    }
+}
+
+/// The answer to a GET. A value in one piece may be of any type of Data: it is kept as its octets.
+fn get<A: Allocator + Copy>(alloc: A, blocks: &mut GetIn<A>, apdu: &[u8]) -> Result<Heard, Fault>
+    ensures { GetHears (data_at apdu.now) blocks.old (response_at apdu.now) result blocks.new }
+{
+    match data(apdu) {
+        Some(bytes) => block(blocks, true, 1, bytes, Answer::Value),
+        None => get_without(alloc, blocks, apdu),
     }
 }
 

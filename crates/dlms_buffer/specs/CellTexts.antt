@@ -6,7 +6,7 @@ use Rattle.dlms_buffer.specs.Clock.{IsClock, IsClockText}
 use Rattle.dlms_buffer.specs.Texts.{text_of_octets, IsTextOf}
 use Rattle.dlms_buffer.specs.View.{Shown}
 
--- a date-time as the clock that is so many seconds later; if it is none, or that clock is after the year 2099, as octets
+-- a date-time as the clock after it has moved on by this many seconds; as octets if it is no date-time, or if that clock is after the year 2099
 abbrev pub IsOctetsText : ℕ → List ℕ → List ℕ → Type 0
 IsOctetsText later b text =
     IsClockText b later text
@@ -16,6 +16,6 @@ abbrev pub IsShownText : ℕ → ℤ → Value → ℕ → List ℕ → Type 0
 IsShownText period scaler (octets k b) age text = IsOctetsText (min (age * period) (2 ^ 64 - 1)) b text
 IsShownText period scaler value age text = IsTextOf scaler value text
 
--- the text of a value that was given so many rows ago, in a column whose clock moves on by so many seconds a row
+-- the text of a value that was given this many rows before, in a column whose clock moves on by this many seconds with each row
 abbrev pub IsCellText : ℕ → ℤ → Shown → List ℕ → Type 0
 IsCellText period scaler cell text = IsShownText period scaler cell.0 cell.1 text

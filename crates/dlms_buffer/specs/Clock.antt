@@ -45,7 +45,7 @@ local o =
 abbrev pub IsClock : List ℕ → ℕ → Type 0
 IsClock octets second = (length octets ≡ 12) × NamesSecond (local octets) second
 
--- the text of the clock that is so many seconds later
+-- the text of the clock after it has moved on by this many seconds
 abbrev pub IsClockText : List ℕ → ℕ → List ℕ → Type 0
 IsClockText octets later text =
     (second : ℕ) × (shown : List ℕ) × IsClock octets second × NamesSecond shown (second + later)

@@ -99,7 +99,7 @@ AllRead p octets [] p' rest = (p' ≡ p) × (rest ≡ octets)
 AllRead p octets (call ∷ calls) p' rest =
     (mid : PollAt) × Reads p octets call mid × AllRead mid (drop call.count octets) calls p' rest
 
--- what was written at them
+-- the octets written after these calls, in their order
 abbrev pub moments_of : List Reading → List Moment
 moments_of calls = flat_map (λ call. went call.out) calls
 

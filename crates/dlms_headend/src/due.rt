@@ -28,7 +28,7 @@ pub fn association(secret: Option<&[u8]>) -> Request
     }
 }
 
-/// The GET of the buffer, or of its next block after so many. It takes no memory.
+/// The GET of the buffer, or of its next block after this many. It takes no memory.
 fn next_get(after: Option<u32>, taken: u32) -> Request
     requires { IfSome after (λ second. second ≤ LAST_SECOND) }
     ensures asks { IsNextGet after taken result.items }

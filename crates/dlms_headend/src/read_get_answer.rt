@@ -103,7 +103,7 @@ fn wanting(taken: u32, apdu: &[u8]) -> PollFault
     }
 }
 
-/// The answer to a GET, after so many blocks.
+/// The answer to a GET, after this many blocks.
 pub fn heard<A: Allocator + Copy>(
     alloc: A,
     taken: u32,

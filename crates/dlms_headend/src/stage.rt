@@ -9,7 +9,7 @@ pub enum Stage {
     Associating,
     /// The answer to the first GET of the columns.
     Naming,
-    /// The answer to a GET of the buffer, after so many blocks.
+    /// The answer to a GET of the buffer, after this many blocks.
     Getting(u32),
     /// The answer to the second GET of the columns.
     Checking,

@@ -137,7 +137,7 @@ impl<A: Allocator + Copy> Talk<A> {
         }
     }
 
-    /// An answer to a GET of the buffer, after so many blocks.
+    /// An answer to a GET of the buffer, after this many blocks.
     #[tactic(auto, using(crate::proofs::TalkLemmas::block_taken, crate::proofs::TalkLemmas::rows_taken, crate::proofs::TalkLemmas::get_ends))]
     fn hear(&mut self, columns: Columns, taken: u32, apdu: &[u8]) -> Result<(), PollFault>
         ensures { (apdus : List (List ℕ)) → FitsTalk columns self.old apdus

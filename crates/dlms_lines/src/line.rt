@@ -18,8 +18,8 @@ use std::time::Instant;
 /// For how many seconds an answer is waited for, unless the caller says otherwise.
 pub const WAIT_SECONDS: u64 = 2;
 
-/// A stream that reports silence so many seconds after something was sent, whatever comes that is not an answer, and at once after a
-/// deadline.
+/// A stream that reports silence when no answer has arrived for a number of seconds after something was sent, whatever else arrives,
+/// and at once after a deadline.
 #[derive(Drop)]
 pub struct Line<T, S> {
     clock: T,

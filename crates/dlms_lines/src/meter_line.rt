@@ -157,7 +157,7 @@ impl<'r, R: Net + Clock> MeterLine<'r, R> {
         }
     }
 
-    /// The same, which waits for so many seconds for an answer, and for a write.
+    /// The same line, which waits this many seconds for an answer, and for a write.
     pub fn waiting(self, seconds: u32) -> Self
         ensures wait { result.wait ≡ seconds }
         ensures deadline { result.has_deadline ≡ self.entry.has_deadline }

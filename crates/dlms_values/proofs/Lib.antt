@@ -1,4 +1,5 @@
 pub mod Scan
+pub mod Whole
 pub mod Takes
 pub mod Next
 pub mod WholeLaws

@@ -1,5 +1,5 @@
 -- The values of an array, one after the other.
-use Rattle.std.proofs.Common.{◌≡◌, ℕ, zero, suc, ◌-◌, ◌+◌, List, Bool, true, false, Result, Ok, Err, Option, Some, None, IsTrue, refl, sym, ap, subst, ◌∙◌, arith}
+use Rattle.std.proofs.Common.{◌≡◌, ℕ, zero, suc, ◌-◌, List, false, Result, Ok, Err, Some, IsTrue, refl, sym, ap, subst, ◌∙◌, arith}
 use Rattle.dlms_values.specs.declared.fault.ValueFault.{ValueFault}
 use Rattle.dlms_values.specs.Value.{Value, Values, none, cons, count}
 use Rattle.dlms_values.specs.Reading.{◌>>=◌, behind, values_by, value_by, nested, value_at, values_at, values_read, is_read}

@@ -1,14 +1,14 @@
 -- Everything that is read has that spelling, and everything spelled so is read.
 use Rattle.std.proofs.Common.{◌≡◌, ℕ, ℤ, zero, suc, ◌-◌, ◌≤◌, Bool, true, false, cond, ltb, eqb, ◌||◌, List, [], ◌∷◌, ◌++◌, length, take, drop, Option, Some, None, Result, Ok, Err, IfOk, IsOkAnd, IsTrue, refl, sym, ap, subst, ◌∙◌, append_assoc, arith, ◌⊎◌, inl, inr}
 use Rattle.std.specs.List.{list_all}
-use Rattle.std.proofs.lemmas.Bool.{ltb-false, le-ltb, ltb-true, lt-ltb, eqb-true, eq-eqb}
-use Rattle.std.proofs.lemmas.List.{take_at, drop_at, take-append-drop, length-append, length-take, length-drop}
+use Rattle.std.proofs.lemmas.Bool.{ltb-false, le-ltb, ltb-true, lt-ltb, eqb-true}
+use Rattle.std.proofs.lemmas.List.{take_at, drop_at, take-append-drop, length-append, length-take}
 use Rattle.byteorder.specs.Endian.{big_number}
 use Rattle.dlms_data.specs.Bits.{bits_of, bytes_for, HoldsBits}
 use Rattle.dlms_data.specs.Spelling.{IsLength, Counted}
 use Rattle.dlms_data.proofs.Bitwise.{length-view, holds}
 use Rattle.dlms_values.specs.declared.fault.ValueFault.{ValueFault}
-use Rattle.dlms_values.specs.declared.fault.ValueFault.TheVariants.{Short, Tag as NoTag, Length, Depth, Nested}
+use Rattle.dlms_values.specs.declared.fault.ValueFault.TheVariants.{Short, Length, Nested}
 use Rattle.dlms_values.specs.declared.types.Tag.{Tag}
 use Rattle.dlms_values.specs.declared.types.Tag.TheVariants as tag
 use Rattle.dlms_values.specs.declared.types.Plain.{Plain}

@@ -3,7 +3,7 @@ use Rattle.std.specs.Prelude.{◌≡◌, ℕ, ◌≤◌, nat_lt, Bool, true, fal
 use Rattle.std.specs.List.{list_all}
 use Rattle.byteorder.specs.Endian.{big_number}
 use Rattle.dlms_data.specs.Bits.{HoldsBits}
-use Rattle.dlms_data.specs.Spelling.{IsLength, Tagged, Counted}
+use Rattle.dlms_data.specs.Spelling.{Tagged, Counted}
 use Rattle.dlms_values.specs.Types.{signed_tag, signed_size, signed_value, unsigned_tag, unsigned_size, octets_tag, octets_size, is_plain_tag}
 use Rattle.dlms_values.specs.Value.{Value, Values, null, dont_care, boolean, bit_string, float32, float64, signed, unsigned, octets, compact_array, array, structure, none, cons, count, depth}
 

@@ -3,7 +3,6 @@ use Rattle.std.specs.Prelude.{◌≡◌, List, Bool, take, Option, Some, None}
 use Rattle.dlms_data.specs.Bits.{bits_of}
 use Rattle.dlms_values.specs.declared.bits.Bits.{Bits as BorrowedBits}
 use Rattle.dlms_values.specs.declared.items.Items.{Items}
-use Rattle.dlms_values.specs.declared.value.CompactArray.{CompactArray as BorrowedCompact}
 use Rattle.dlms_values.specs.declared.value.Value.{Value as Borrowed}
 use Rattle.dlms_values.specs.declared.value.Value.TheVariants.{Null, DontCare, Boolean, BitString, Float32, Float64, Signed, Unsigned, Octets, CompactArray, Array, Structure}
 use Rattle.dlms_values.specs.Value.{Value, Values, null, dont_care, boolean, bit_string, float32, float64, signed, unsigned, octets, compact_array, array, structure, none, cons}

@@ -16,6 +16,6 @@ pub use bits::Bits;
 pub use fault::ValueFault;
 pub use items::Items;
 pub use plain::read_plain;
-pub use reading::read;
+pub use reading::{is_value, read};
 pub use types::{OctetsKind, Plain, SignedKind, Tag, UnsignedKind, type_of};
 pub use value::{CompactArray, Value};

@@ -1,6 +1,6 @@
 //! Reads one value.
 
-ghost use Rattle.std.specs.Prelude.{◌≡◌, ◌++◌, ℕ, List, IfOk, IsOkAnd};
+ghost use Rattle.std.specs.Prelude.{◌≡◌, ◌↔◌, ◌++◌, ℕ, List, IfOk, IsOkAnd, IsTrue};
 ghost use Rattle.dlms_values.specs.Reading.{Tells, content_at, nested, value_at};
 ghost use Rattle.dlms_values.specs.Spelling.{IsSpelling};
 ghost use Rattle.dlms_values.specs.Value.{Value as Shown};
@@ -81,4 +81,14 @@ pub fn read(bytes: &[u8]) -> Result<(Value<'_>, &[u8]), ValueFault>
     ensures exact { Tells (λ x. (value_of x.0, x.1.now)) result (value_at 8 bytes.now) }
 {
     value_with(8, bytes)
+}
+
+/// Whether the octets are one value of at most eight levels, and nothing else.
+pub fn is_value(bytes: &[u8]) -> bool
+    ensures { IsTrue result ↔ ((v : Shown) × IsSpelling bytes.now v) }
+{
+    match read(bytes) {
+        Ok((_value, rest)) => rest.is_empty(),
+        Err(_) => false,
+    }
 }

@@ -1,8 +1,7 @@
-use Rattle.std.proofs.Common.{ap, arith}
+use Rattle.std.proofs.Common.{arith}
 use Rattle.std.proofs.lemmas.Result.{err_from_is_err_and}
-use Rattle.dlms_values.specs.Reading.{behind, values_at}
 use Rattle.dlms_values.proofs.Scan.{nested-level, nested-none}
-use Rattle.dlms_values.proofs.Next.{fault_then, read_is, read_fails, read_true}
+use Rattle.dlms_values.proofs.Next.{fault_then, read_is, read_fails}
 use Rattle.dlms_values.proofs.reading.items.Goals as goal
 
 pub returns-then-room-eq0 : goal.returns-then-room-eq0
