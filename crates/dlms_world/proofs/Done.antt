@@ -423,10 +423,10 @@ remembers_row = record {
 captures_row : (plan : PlanValue) → Run (first_world plan) (record (first_world plan) { memory = Runs quarter [] })
 captures_row plan = Goes (first_world plan) _ Stays (Happens (first_world plan) (Moment 900) (Runs quarter []) tt may_follow remembers_row)
 
-range_of : (after : Option ℕ) (plan : PlanValue) (first last : Value) → plan.after ≡ after → IsTime (first_second after) first → IsTime LAST_SECOND last → IsRange (first_second plan.after) (range first last)
+pub range_of : (after : Option ℕ) (plan : PlanValue) (first last : Value) → plan.after ≡ after → IsTime (first_second after) first → IsTime LAST_SECOND last → IsRange (first_second plan.after) (range first last)
 range_of after plan first last same from to = record { first = first; last = last; is = refl; from_first = subst (λ a. IsTime (first_second a) first) (sym same) from; to_last = to }
 
-still_knows : (plan : PlanValue) → KnowsSecret plan [] → KnowsSecret plan quarter
+pub still_knows : (plan : PlanValue) → KnowsSecret plan [] → KnowsSecret plan quarter
 still_knows plan h = record { whose = h.whose; client = h.client; secret = h.secret ∙ secret_first h.whose }
 
 module _ (octets : List ℕ) (bytes : All (λ octet. octet < 2 ^ 8) octets) (named : NamesSecond octets 900) (plainly : IsPlainlyWritten octets) where
@@ -434,7 +434,7 @@ module _ (octets : List ℕ) (bytes : All (λ octet. octet < 2 ^ 8) octets) (nam
   merges_all true = refl
   merges_all false = refl
 
-  rows_are : (after : Option ℕ) (b : Bool) → nat_le (first_second after) 900 ≡ b → captured.rows octets bytes named plainly b ≡ first_rows after
+  pub rows_are : (after : Option ℕ) (b : Bool) → nat_le (first_second after) 900 ≡ b → captured.rows octets bytes named plainly b ≡ first_rows after
   rows_are after true e = rw e refl
   rows_are after false e = rw e refl
 

@@ -91,7 +91,7 @@ whose_meter who link (Away m x asked served answers taken ps pt) = refl
 whose_meter who link _ = refl
 
 -- and of a new one's
-new_sound : (who : Client) (m : ServerRecord) (up down : List Parts) → m.client ≡ who → up ≡ [] → down ≡ [] → Sound who (record (start who) { meter = m; up_line = up; down_line = down })
+pub new_sound : (who : Client) (m : ServerRecord) (up down : List Parts) → m.client ≡ who → up ≡ [] → down ≡ [] → Sound who (record (start who) { meter = m; up_line = up; down_line = down })
 new_sound who m up down is no_up no_down =
     subst (λ (frames : List Parts). Sound who (record (start who) { meter = m; up_line = frames; down_line = down })) (sym no_up)
     (subst (λ (frames : List Parts). Sound who (record (start who) { meter = m; down_line = frames })) (sym no_down)

@@ -32,3 +32,7 @@ pub mod HeadEndStops
 pub mod LineFrames
 pub mod ProgramLaw
 pub mod OverLine
+pub mod ServedOver
+pub mod OverCarrier
+pub mod CarriedPoll
+pub mod Carried

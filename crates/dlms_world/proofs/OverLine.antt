@@ -9,7 +9,7 @@ use Rattle.dlms_headend.specs.Merged.{merged}
 use Rattle.dlms_headend.specs.PollerValue.{PollerValue}
 use Rattle.dlms_headend.specs.PollRun.{Call, Calls, IsCall}
 use Rattle.dlms_headend.specs.PollRun.Call.{Next, On, Timeout}
-use Rattle.dlms_headend.specs.Polling.{Fits, FitsIn, HasFailed, Answers, BeginsIn, CanTimeOutIn, Continues, GoesDown, PollsBy, PollsIn, TimesOutBy, TimesOutIn, fresh_poll, with_link}
+use Rattle.dlms_headend.specs.Polling.{Fits, FitsIn, HasFailed, Answers, BeginsIn, Continues, GoesDown, PollsBy, PollsIn, TimesOutBy, TimesOutIn, fresh_poll, with_link}
 use Rattle.dlms_headend.specs.declared.plan.Columns.TheVariants.{Asked}
 use Rattle.dlms_headend.specs.declared.poll_fault.PollFault.{PollFault}
 use Rattle.dlms_headend.specs.declared.poll_fault.PollFault.TheVariants.{Line, Protocol}
@@ -26,7 +26,7 @@ use Rattle.dlms_link.specs.declared.out.ClientOut.{ClientOut}
 use Rattle.dlms_link.specs.declared.out.ClientOut.TheVariants as out
 use Rattle.dlms_link.specs.declared.phase.Phase.TheVariants.{Closed}
 use Rattle.dlms_meter.specs.ClientRecord.{ClientRecord}
-use Rattle.dlms_meter.specs.Run.{MeterWorld, Turn as MeterTurn, Answers as MeterAnswers, Choice, DeviceFails, Handles, Handled, IsTurn, Judged, Promised, Stands, Takes as MeterTakes, after_turn, client_at, events_in, events_of, first_world as first_of_meter, grown, recovered}
+use Rattle.dlms_meter.specs.Run.{MeterWorld, Turn as MeterTurn, Answers as MeterAnswers, Choice, DeviceFails, Handles, Handled, IsTurn, Judged, Promised, Takes as MeterTakes, after_turn, client_at, events_in, events_of, grown}
 use Rattle.dlms_meter.specs.Steps.{Step, Run as MeterRun}
 use Rattle.dlms_meter.specs.Steps.Step.{Piece, Silence, Happens}
 use Rattle.dlms_meter.specs.declared.meter.Meter.{Meter}
@@ -43,21 +43,21 @@ use Rattle.dlms_store.specs.World.StoreStep.{Adds, AddsBehind, Settles, Refuses,
 use Rattle.dlms_store.specs.declared.fault.AddFault.{AddFault}
 use Rattle.dlms_store.specs.declared.fault.AddFault.TheVariants as add
 use Rattle.dlms_world.specs.Agree.{AreCaptures, BringsBuffer}
-use Rattle.dlms_world.specs.PollTurns.{IsPollerOf, IsUnderWay, IsAsideSame, TurnsInto, taken_by, sent_first, sent_on, sent_again}
-use Rattle.dlms_world.specs.Line.{Moment, AtHead, AtMeter, call_at, turn_at, turns_of, OnLine, Comes, CallsOver, TakenOver, Own, Other, Passes, Carries, Joins, Agree, DoAgree, FirstAgree, AgreeingIsCaptures, RunsAgree, StopsAgree, PollsAgree}
-use Rattle.dlms_world.specs.Programs.{IsReply}
+use Rattle.dlms_world.specs.PollTurns.{IsPollerOf, IsUnderWay, TurnsInto, taken_by, sent_first, sent_on, sent_again}
+use Rattle.dlms_world.specs.Line.{Moment, AtHead, AtMeter, call_at, turn_at, turns_of, OnLine, CallsOver, TakenOver, Own, Other, Carries, Joins, Agree, DoAgree, FirstAgree, AgreeingIsCaptures, RunsAgree, StopsAgree, PollsAgree}
 use Rattle.dlms_world.specs.Sublists.{IsSublist}
-use Rattle.dlms_world.specs.MeterTurns.{IsMeterOf, IsPollSame, AnswersTo, StepsTo, StepsFrom, StepsAt, Puts, IsToldIn}
-use Rattle.dlms_world.specs.Turn.{Turn, LosesUp, LosesDown, Merges, Restarted, Run, Stays, Goes, IsOver, restarted, records_in}
+use Rattle.dlms_world.specs.MeterTurns.{IsMeterOf, AnswersTo, StepsTo, StepsFrom, StepsAt, IsToldIn}
+use Rattle.dlms_world.specs.Turn.{Turn, LosesUp, LosesDown, Merges, Restarted, Run, Stays, Goes, IsOver, restarted}
 use Rattle.dlms_world.specs.World.{World, IsOn, IsUsual, AreUsual, first_world}
 use Rattle.dlms_world.proofs.PollCallsAreTurns.{next_is_turn, on_is_turn, timeout_is_turn}
 use Rattle.dlms_world.proofs.Done.{joined}
 use Rattle.dlms_world.proofs.HeadEndStops.{can_stop}
-use Rattle.dlms_world.proofs.ProgramLaw.{any_step, its_own, lawful, others_step, put, same_client, still_meter, still_poller}
-use Rattle.dlms_world.proofs.Records.{its_record, other_record}
+use Rattle.dlms_world.proofs.ProgramLaw.{any_step, its_own, others_step, put, same_client, still_meter, still_poller}
 use Rattle.dlms_world.proofs.Stopping.{recovered_is, judged_usual}
 use Rattle.dlms_world.proofs.CallsAreTurns.{at_client, fault_events, judged, known_on, known_legal, stored_usual}
-use Rattle.dlms_world.proofs.Whole.{polls_are_told, readings_are_captures}
+use Rattle.dlms_world.proofs.LineFrames.{AreFrames, are_frames}
+use Rattle.dlms_world.proofs.Telling.{tells}
+use Rattle.dlms_world.proofs.Whole.{Start, good_from, readings_are_captures, start_of, told_from}
 
 -- ---- a store that is on stays on in usual steps
 
@@ -139,7 +139,7 @@ legal_at m' m turns flat legal =
     IsLegal-beginning (events_of m) more.0 (subst IsLegal more.1 legal)
 
 -- an answer of success or with data leaves nothing pending
-keeps_promise : (m : MeterWorld) (turn : MeterTurn) → IsTurn m turn → Promised turn
+pub keeps_promise : (m : MeterWorld) (turn : MeterTurn) → IsTurn m turn → Promised turn
 keeps_promise m turn is = promised turn.choice turn.answer turn.accepted turn.steps m.store turn.store (fails (client_at turn.frame.src) is.takes) is.stored is.run
   where
     fails : (from : Option Client) → MeterTakes (events_of m) m.records turn from → (kept : Bool) (wanted : List Event) → turn.choice ≡ DeviceFails kept wanted → IsUnsaid turn.answer
@@ -151,21 +151,24 @@ keeps_promise m turn is = promised turn.choice turn.answer turn.accepted turn.st
 
 -- ---- where a run of the world has come to
 
-record At (first : PlanValue) (p : PollerValue) (m : MeterWorld) (l : OnLine) (file : List Row) (w : World) : Type 0 where
-  run : Run (first_world first) w
-  on : IsOn m.store
-  poller : IsPollerOf p w
-  meter : IsMeterOf m w
-  up : w.link.up_line ≡ l.up
-  down : w.link.down_line ≡ l.down
-  kept : w.file ≡ file
+lawful_from : (first : Start) (now : World) → Run first.world now → AreFrames now.link.down_line
+lawful_from first now run = are_frames now.plan.client now.link (good_from tells first now run).link.sound
 
-abbrev Is : PlanValue → PollerValue → MeterWorld → OnLine → List Row → Type 0
+pub record At (first : Start) (p : PollerValue) (m : MeterWorld) (l : OnLine) (file : List Row) (w : World) : Type 0 where
+  pub run : Run first.world w
+  pub on : IsOn m.store
+  pub poller : IsPollerOf p w
+  pub meter : IsMeterOf m w
+  pub up : w.link.up_line ≡ l.up
+  pub down : w.link.down_line ≡ l.down
+  pub kept : w.file ≡ file
+
+abbrev pub Is : Start → PollerValue → MeterWorld → OnLine → List Row → Type 0
 Is first p m l file = (w : World) × At first p m l file w
 
 -- ---- what is on the line is lost
 
-lose_up : (first : PlanValue) (p : PollerValue) (m : MeterWorld) (l : OnLine) (file : List Row) (lost rest : List Parts) → l.up ≡ lost ++ rest → Is first p m l file → Is first p m (record l { up = rest }) file
+lose_up : (first : Start) (p : PollerValue) (m : MeterWorld) (l : OnLine) (file : List Row) (lost rest : List Parts) → l.up ≡ lost ++ rest → Is first p m l file → Is first p m (record l { up = rest }) file
 lose_up first p m l file [] rest line (w, x) = (w, record { run = x.run; on = x.on; poller = x.poller; meter = x.meter; up = x.up ∙ line; down = x.down; kept = x.kept })
 lose_up first p m l file (f ∷ lost) rest line (w, x) =
     lose_up first p m (record l { up = lost ++ rest }) file lost rest refl (
@@ -181,7 +184,7 @@ lose_up first p m l file (f ∷ lost) rest line (w, x) =
       },
     )
 
-lose_down : (first : PlanValue) (p : PollerValue) (m : MeterWorld) (l : OnLine) (file : List Row) (lost rest : List Parts) → l.down ≡ lost ++ rest → Is first p m l file → Is first p m (record l { down = rest }) file
+lose_down : (first : Start) (p : PollerValue) (m : MeterWorld) (l : OnLine) (file : List Row) (lost rest : List Parts) → l.down ≡ lost ++ rest → Is first p m l file → Is first p m (record l { down = rest }) file
 lose_down first p m l file [] rest line (w, x) = (w, record { run = x.run; on = x.on; poller = x.poller; meter = x.meter; up = x.up; down = x.down ∙ line; kept = x.kept })
 lose_down first p m l file (f ∷ lost) rest line (w, x) =
     lose_down first p m (record l { down = lost ++ rest }) file lost rest refl (
@@ -197,28 +200,28 @@ lose_down first p m l file (f ∷ lost) rest line (w, x) =
       },
     )
 
-abbrev nothing_on : OnLine
+abbrev pub nothing_on : OnLine
 nothing_on = record { up = []; down = [] }
 
-lose_all : (first : PlanValue) (p : PollerValue) (m : MeterWorld) (l : OnLine) (file : List Row) → Is first p m l file → Is first p m nothing_on file
+lose_all : (first : Start) (p : PollerValue) (m : MeterWorld) (l : OnLine) (file : List Row) → Is first p m l file → Is first p m nothing_on file
 lose_all first p m l file x =
     lose_down first p m (record l { up = [] }) file l.down [] (sym (append-nil l.down)) (lose_up first p m l file l.up [] (sym (append-nil l.up)) x)
 
 -- ---- steps of the meter
 
 -- with the meter elsewhere in its run, if the world stays
-stays : (first : PlanValue) (p : PollerValue) (m mid : MeterWorld) (l : OnLine) (file : List Row) (w : World) → At first p m l file w → IsOn mid.store → IsMeterOf mid w → At first p mid l file w
+stays : (first : Start) (p : PollerValue) (m mid : MeterWorld) (l : OnLine) (file : List Row) (w : World) → At first p m l file w → IsOn mid.store → IsMeterOf mid w → At first p mid l file w
 stays first p m mid l file w x on at = record { run = x.run; on = on; poller = x.poller; meter = at; up = x.up; down = x.down; kept = x.kept }
 
-stepped : (first : PlanValue) (p : PollerValue) (m mid : MeterWorld) (l : OnLine) (file : List Row) (w : World) → At first p m l file w → IsOn mid.store → StepsTo w mid → Is first p mid l file
+stepped : (first : Start) (p : PollerValue) (m mid : MeterWorld) (l : OnLine) (file : List Row) (w : World) → At first p m l file w → IsOn mid.store → StepsTo w mid → Is first p mid l file
 stepped first p m mid l file w x on (now, turn, at, same, up, down) =
     (now, record { run = Goes w now x.run turn; on = on; poller = still_poller p w now x.poller same; meter = at; up = up ∙ x.up; down = down ∙ x.down; kept = same.file ∙ x.kept })
 
-either : (first : PlanValue) (p : PollerValue) (m mid : MeterWorld) (l : OnLine) (file : List Row) (w : World) → At first p m l file w → IsOn mid.store → IsMeterOf mid w ⊎ StepsTo w mid → Is first p mid l file
+either : (first : Start) (p : PollerValue) (m mid : MeterWorld) (l : OnLine) (file : List Row) (w : World) → At first p m l file w → IsOn mid.store → IsMeterOf mid w ⊎ StepsTo w mid → Is first p mid l file
 either first p m mid l file w x on (inl at) = (w, stays first p m mid l file w x on at)
 either first p m mid l file w x on (inr to) = stepped first p m mid l file w x on to
 
-aside : (first : PlanValue) (p : PollerValue) (m mid : MeterWorld) (l : OnLine) (file : List Row) → mid.records ≡ m.records → mid.store ≡ m.store → Is first p m l file → Is first p mid l file
+aside : (first : Start) (p : PollerValue) (m mid : MeterWorld) (l : OnLine) (file : List Row) → mid.records ≡ m.records → mid.store ≡ m.store → Is first p m l file → Is first p mid l file
 aside first p m mid l file records store (w, x) = (
   w,
   stays first p m mid l file w x (subst IsOn (sym store) x.on) (record {
@@ -228,7 +231,7 @@ aside first p m mid l file records store (w, x) = (
   }),
 )
 
-accepted : (first : PlanValue) (p : PollerValue) (m mid : MeterWorld) (l : OnLine) (file : List Row) (w now : World) → At first p m l file w → IsOn mid.store → Turn w now → IsMeterOf mid now → now ≡ record w { memory = now.memory } → Is first p mid l file
+accepted : (first : Start) (p : PollerValue) (m mid : MeterWorld) (l : OnLine) (file : List Row) (w now : World) → At first p m l file w → IsOn mid.store → Turn w now → IsMeterOf mid now → now ≡ record w { memory = now.memory } → Is first p mid l file
 accepted first p m mid l file w now x on turn at is = stepped first p m mid l file w x on (
   now,
   turn,
@@ -238,7 +241,7 @@ accepted first p m mid l file w now x on turn at is = stepped first p m mid l fi
   ap (λ (v : World). v.link.down_line) is,
 )
 
-told_to : (first : PlanValue) (p : PollerValue) (m mid : MeterWorld) (l : OnLine) (file : List Row) (w : World) (event : Event) (outcome : Result (Unit {0}) AddFault) → At first p m l file w → IsOn mid.store → IsToldIn w event outcome mid → Is first p mid l file
+told_to : (first : Start) (p : PollerValue) (m mid : MeterWorld) (l : OnLine) (file : List Row) (w : World) (event : Event) (outcome : Result (Unit {0}) AddFault) → At first p m l file w → IsOn mid.store → IsToldIn w event outcome mid → Is first p mid l file
 told_to first p m mid l file w event (Ok done) x on (now, turn, at, is, events) = accepted first p m mid l file w now x on turn at is
 told_to first p m mid l file w event (Err add.Device) x on (now, turn, at, is, events) = accepted first p m mid l file w now x on turn at is
 told_to first p m mid l file w event (Err add.Stopped) x on at = (w, stays first p m mid l file w x on at)
@@ -253,7 +256,7 @@ judged_on m event (Err add.Device) step mid (free, fault, now, next, is) on = su
 judged_on m event (Err add.Stopped) step mid (stopped, none, is) on = subst (λ (x : MeterWorld). IsOn x.store) (sym is) on
 judged_on m event (Err add.Exhausted) step mid (runs, free, none, is) on = subst (λ (x : MeterWorld). IsOn x.store) (sym is) on
 
-told_at : (first : PlanValue) (p : PollerValue) (m mid : MeterWorld) (l : OnLine) (file : List Row) (event : Event) (outcome : Result (Unit {0}) AddFault) (step : StoreStep) → Judged m event outcome step mid → IsLegal (events_of mid)
+told_at : (first : Start) (p : PollerValue) (m mid : MeterWorld) (l : OnLine) (file : List Row) (event : Event) (outcome : Result (Unit {0}) AddFault) (step : StoreStep) → Judged m event outcome step mid → IsLegal (events_of mid)
     → Is first p m l file → Is first p mid l file
 told_at first p m mid l file event outcome step is legal (w, x) =
     told_to first p m mid l file w event outcome x (judged_on m event outcome step mid is x.on) (judged m w event outcome step mid x.meter (subst IsOn x.meter.store x.on) legal is)
@@ -263,16 +266,16 @@ told_at first p m mid l file event outcome step is legal (w, x) =
 on_behind : (m : MeterWorld) (turn : MeterTurn) → IsTurn m turn → IsOn m.store → IsOn turn.store
 on_behind m turn is on = on_run turn.steps m.store turn.store (stored_usual turn.choice turn.answer turn.accepted turn.steps is.stored) is.run on
 
-steps_at : (first : PlanValue) (p : PollerValue) (m : MeterWorld) (l : OnLine) (file : List Row) (w : World) (turn : MeterTurn) → At first p m l file w → IsTurn m turn → IsLegal (events_of (after_turn m turn))
+steps_at : (first : Start) (p : PollerValue) (m : MeterWorld) (l : OnLine) (file : List Row) (w : World) (turn : MeterTurn) → At first p m l file w → IsTurn m turn → IsLegal (events_of (after_turn m turn))
     → StepsAt (client_at turn.frame.src) w turn.frame turn.reply (after_turn m turn)
 steps_at first p m l file w turn x is legal = at_client (client_at turn.frame.src) m turn w refl x.meter (subst IsOn x.meter.store x.on) is (keeps_promise m turn is) legal is.takes
 
 -- how one frame changes the state of the run
-abbrev Takes : PlanValue → PollerValue → OnLine → OnLine → List Row → MeterTurn → Type 0
+abbrev Takes : Start → PollerValue → OnLine → OnLine → List Row → MeterTurn → Type 0
 Takes first p l l' file turn = (m : MeterWorld) → IsTurn m turn → IsLegal (events_of (after_turn m turn)) → Is first p m l file → Is first p (after_turn m turn) l' file
 
 -- of anyone, before the poller begins
-takes_any : (first : PlanValue) (p : PollerValue) (l : OnLine) (file : List Row) (turn : MeterTurn) → p.course ≡ Ready → Takes first p l l file turn
+takes_any : (first : Start) (p : PollerValue) (l : OnLine) (file : List Row) (turn : MeterTurn) → p.course ≡ Ready → Takes first p l l file turn
 takes_any first p l file turn ready m is legal (w, x) =
     either first p m (after_turn m turn) l file w x (on_behind m turn is x.on)
     (any_step (client_at turn.frame.src) w turn.frame turn.reply (after_turn m turn) (sym x.poller.course ∙ ready) closed (steps_at first p m l file w turn x is legal))
@@ -287,7 +290,7 @@ takes_any first p l file turn ready m is legal (w, x) =
         ap (λ (c : ClientLink). c.phase) (sym link) ∙ ap (λ (c : ClientLink). c.phase) fits.0
 
 -- over the line
-takes_over : (first : PlanValue) (p : PollerValue) (l l' : OnLine) (file : List Row) (turn : MeterTurn) → TakenOver p.plan.client l turn l' → Takes first p l l' file turn
+takes_over : (first : Start) (p : PollerValue) (l l' : OnLine) (file : List Row) (turn : MeterTurn) → TakenOver p.plan.client l turn l' → Takes first p l l' file turn
 takes_over first p l l' file turn (Other other same) m is legal (w, x) =
     let differs : client_at turn.frame.src ≢ Some w.plan.client = λ its. other (its ∙ ap (λ (plan : PlanValue). (let some : Option Client = Some plan.client in some)) (sym x.poller.plan)) in
     subst (λ (line : OnLine). Is first p (after_turn m turn) line file) (sym same)
@@ -304,7 +307,7 @@ takes_over first p l l' file turn (Own rest sent own (lost, line) reply same) m 
   where
     answered : {w : World} → IsOn turn.store → At first p m (record l { up = turn.frame ∷ rest }) file w → AnswersTo w rest turn.reply (after_turn m turn) → Is first p (after_turn m turn) (record { up = rest; down = l.down ++ sent }) file
     answered {w} on x (now, step, at, poll, up, puts) =
-        let run : Run (first_world first) now = Goes w now x.run step in (
+        let run : Run first.world now = Goes w now x.run step in (
           now,
           record {
             run = run;
@@ -312,7 +315,7 @@ takes_over first p l l' file turn (Own rest sent own (lost, line) reply same) m 
             poller = still_poller p w now x.poller poll;
             meter = at;
             up = up;
-            down = put turn.reply w.link.down_line now.link.down_line sent (lawful first now run) puts reply ∙ ap (λ (frames : List Parts). frames ++ sent) x.down;
+            down = put turn.reply w.link.down_line now.link.down_line sent (lawful_from first now run) puts reply ∙ ap (λ (frames : List Parts). frames ++ sent) x.down;
             kept = poll.file ∙ x.kept;
           },
         )
@@ -325,12 +328,12 @@ first_is one other some more is = (cc is, cc is)
 none_is : (turn : MeterTurn) (turns : List MeterTurn) → turn ∷ turns ≡ [] → ⊥
 none_is turn turns is = cc is
 
-record Advanced (first : PlanValue) (p : PollerValue) (m' : MeterWorld) (l : OnLine) (file : List Row) (turns : List MeterTurn) : Type 0 where
+record Advanced (first : Start) (p : PollerValue) (m' : MeterWorld) (l : OnLine) (file : List Row) (turns : List MeterTurn) : Type 0 where
   mid : MeterWorld
   is : Is first p mid l file
   flat : Flat m' mid turns
 
-advance : (first : PlanValue) (p : PollerValue) (l l' : OnLine) (file : List Row) (turn : MeterTurn) (turns : List MeterTurn) (m' m : MeterWorld) (all : List MeterTurn) → all ≡ turn ∷ turns → Takes first p l l' file turn → IsLegal (events_of m')
+advance : (first : Start) (p : PollerValue) (l l' : OnLine) (file : List Row) (turn : MeterTurn) (turns : List MeterTurn) (m' m : MeterWorld) (all : List MeterTurn) → all ≡ turn ∷ turns → Takes first p l l' file turn → IsLegal (events_of m')
     → Flat m' m all → Is first p m l file → Advanced first p m' l' file turns
 advance first p l l' file turn turns m' m all are takes legal (Over same same_all none is) x = absurd (none_is turn turns (sym are ∙ none))
 advance first p l l' file turn turns m' m all are takes legal (Aside same mid same_all records store flat) x =
@@ -343,7 +346,7 @@ advance first p l l' file turn turns m' m all are takes legal (Taken same same_a
     let flat_it : Flat m' (after_turn m turn) turns = subst (λ (ts : List MeterTurn). Flat m' (after_turn m turn) ts) same_one.1 (subst (λ (t : MeterTurn). Flat m' (after_turn m t) rest) same_one.0 flat) in
     record { mid = after_turn m turn; is = takes m is_it (legal_at m' (after_turn m turn) turns flat_it legal) x; flat = flat_it }
 
-finish : (first : PlanValue) (p : PollerValue) (l : OnLine) (file : List Row) (m' m : MeterWorld) (all : List MeterTurn) → all ≡ [] → IsLegal (events_of m') → Flat m' m all → Is first p m l file → Is first p m' l file
+finish : (first : Start) (p : PollerValue) (l : OnLine) (file : List Row) (m' m : MeterWorld) (all : List MeterTurn) → all ≡ [] → IsLegal (events_of m') → Flat m' m all → Is first p m l file → Is first p m' l file
 finish first p l file m' m all none legal (Over same same_all nothing is) x = subst (λ (y : MeterWorld). Is first p y l file) (sym is) x
 finish first p l file m' m all none legal (Aside same mid same_all records store flat) x = finish first p l file m' mid all none legal flat (aside first p m mid l file records store x)
 finish first p l file m' m all none legal (Told same mid same_all event outcome step is flat) x =
@@ -351,7 +354,7 @@ finish first p l file m' m all none legal (Told same mid same_all event outcome 
 finish first p l file m' m all none legal (Taken same same_all rest other others is flat) x = absurd (none_is other rest (sym others ∙ none))
 
 -- frames of anyone, before the poller begins
-early : (first : PlanValue) (p : PollerValue) (l : OnLine) (file : List Row) (turns rest : List MeterTurn) (m' m : MeterWorld) → p.course ≡ Ready → IsLegal (events_of m') → Flat m' m (turns ++ rest) → Is first p m l file → Advanced first p m' l file rest
+early : (first : Start) (p : PollerValue) (l : OnLine) (file : List Row) (turns rest : List MeterTurn) (m' m : MeterWorld) → p.course ≡ Ready → IsLegal (events_of m') → Flat m' m (turns ++ rest) → Is first p m l file → Advanced first p m' l file rest
 early first p l file [] rest m' m ready legal flat x = record { mid = m; is = x; flat = flat }
 early first p l file (turn ∷ turns) rest m' m ready legal flat x =
     let one = advance first p l l file turn (turns ++ rest) m' m (turn ∷ turns ++ rest) refl (takes_any first p l file turn ready) legal flat x in
@@ -359,7 +362,7 @@ early first p l file (turn ∷ turns) rest m' m ready legal flat x =
 
 -- ---- a call of the poller
 
-turned : (first : PlanValue) (p new : PollerValue) (m : MeterWorld) (l : OnLine) (file : List Row) (w : World) (sent left : List Parts) → At first p m l file w → TurnsInto w sent left new → Is first new m (record { up = l.up ++ sent; down = left }) file
+turned : (first : Start) (p new : PollerValue) (m : MeterWorld) (l : OnLine) (file : List Row) (w : World) (sent left : List Parts) → At first p m l file w → TurnsInto w sent left new → Is first new m (record { up = l.up ++ sent; down = left }) file
 turned first p new m l file w sent left x (now, turn, poller, up, down, same) = (
   now,
   record {
@@ -373,12 +376,12 @@ turned first p new m l file w sent left x (now, turn, poller, up, down, same) = 
   },
 )
 
-runs_in : (first : PlanValue) (p : PollerValue) (m : MeterWorld) (l : OnLine) (file : List Row) (w : World) → At first p m l file w → p.course ≡ Running → (w.course ≡ Running) × Fits p w.link.taken
+runs_in : (first : Start) (p : PollerValue) (m : MeterWorld) (l : OnLine) (file : List Row) (w : World) → At first p m l file w → p.course ≡ Running → (w.course ≡ Running) × Fits p w.link.taken
 runs_in first p m l file w x runs =
     let course : w.course ≡ Running = sym x.poller.course ∙ runs in
     (course, subst (λ (c : Course). Fits p (taken_by c w.link.taken)) course x.poller.fits)
 
-call_runs : (first : PlanValue) (p new : PollerValue) (m : MeterWorld) (l l' : OnLine) (file : List Row) (call : Call) → p.course ≡ Running → IsCall p call new → CallsOver l call l' → Is first p m l file → Is first new m l' file
+call_runs : (first : Start) (p new : PollerValue) (m : MeterWorld) (l l' : OnLine) (file : List Row) (call : Call) → p.course ≡ Running → IsCall p call new → CallsOver l call l' → Is first p m l file → Is first new m l' file
 call_runs first p new m l l' file (Next frame) runs (begins, keeps) same x =
     let here : BeginsIn Running p frame new = subst (λ (c : Course). BeginsIn c p frame new) runs begins in
     let line : l' ≡ nothing_on = same ∙ ap (λ (f : Option Parts). (let on : OnLine = record { up = sent_first f; down = [] } in on)) here.0 in
@@ -555,7 +558,7 @@ never_done p done (call ∷ other ∷ calls) apdus over fits (mid, is, run) ends
 -- ---- the whole of it
 
 -- once the poll is done, whatever the meter still takes
-behind : (first : PlanValue) (p : PollerValue) (file : List Row) (moments : List Moment) (l : OnLine) (m' m : MeterWorld) → filter_map call_at moments ≡ [] → Carries p.plan.client l moments → IsLegal (events_of m') → Flat m' m (filter_map turn_at moments)
+behind : (first : Start) (p : PollerValue) (file : List Row) (moments : List Moment) (l : OnLine) (m' m : MeterWorld) → filter_map call_at moments ≡ [] → Carries p.plan.client l moments → IsLegal (events_of m') → Flat m' m (filter_map turn_at moments)
     → Is first p m l file → (last : OnLine) × Is first p m' last file
 behind first p file [] l m' m none carries legal flat x = (l, finish first p l file m' m [] refl legal flat x)
 behind first p file (AtHead call ∷ moments) l m' m none carries legal flat x = absurd (no_call call (filter_map call_at moments) none)
@@ -567,13 +570,13 @@ behind first p file (AtMeter turn ∷ moments) l m' m none (after, passes, carri
     behind first p file moments after m' one.mid none carries legal one.flat one.is
 
 -- the poll is done at this meter and file
-record IsOverAt (first plan : PlanValue) (done : PollerValue) (m' : MeterWorld) (file : List Row) : Type 0 where
-  last : OnLine
-  is : Is first done m' last file
-  own : done.plan ≡ plan
-  course : done.course ≡ Done
+pub record IsOverAt (first : Start) (plan : PlanValue) (done : PollerValue) (m' : MeterWorld) (file : List Row) : Type 0 where
+  pub last : OnLine
+  pub is : Is first done m' last file
+  pub own : done.plan ≡ plan
+  pub course : done.course ≡ Done
 
-through : (first plan : PlanValue) (p done : PollerValue) (file : List Row) (moments : List Moment) (l : OnLine) (m' m : MeterWorld) → p.plan ≡ plan → p.course ≡ Running → Calls p (filter_map call_at moments) done
+through : (first : Start) (plan : PlanValue) (p done : PollerValue) (file : List Row) (moments : List Moment) (l : OnLine) (m' m : MeterWorld) → p.plan ≡ plan → p.course ≡ Running → Calls p (filter_map call_at moments) done
     → EndDone (filter_map call_at moments) → Carries plan.client l moments → IsLegal (events_of m') → Flat m' m (filter_map turn_at moments) → Is first p m l file → IsOverAt first plan done m' file
 through first plan p done file [] l m' m own runs calls ends carries legal flat x = absurd ends
 through first plan p done file (AtMeter turn ∷ moments) l m' m own runs calls ends (after, passes, carries) legal flat x =
@@ -614,7 +617,7 @@ through first plan p done file (AtHead call ∷ moments) l m' m own runs (mid, i
 -- ---- the laws
 
 -- a new poll, wherever the last one stands
-fresh : (plan : PlanValue) (m : MeterWorld) (file : List Row) → IsOn m.store → DoAgree m file → (first : PlanValue) × Is first (fresh_poll plan) m nothing_on file
+fresh : (plan : PlanValue) (m : MeterWorld) (file : List Row) → IsOn m.store → DoAgree m file → (first : PlanValue) × Is (start_of first) (fresh_poll plan) m nothing_on file
 fresh plan m file on (w, x) =
     let stop = can_stop plan w in
     let now : World = stop.0 in
@@ -640,7 +643,7 @@ fresh plan m file on (w, x) =
       ),
     )
 
-agrees : (first : PlanValue) (p : PollerValue) (m : MeterWorld) (l : OnLine) (file : List Row) (w : World) → At first p m l file w → Agree m file w
+agrees : (first : PlanValue) (p : PollerValue) (m : MeterWorld) (l : OnLine) (file : List Row) (w : World) → At (start_of first) p m l file w → Agree m file w
 agrees first p m l file w x = record { plan = first; run = x.run; meter = x.meter; same = x.kept }
 
 abbrev no_plan : PlanValue
@@ -659,8 +662,8 @@ runs_agree old new m m' steps file stands stands' run agree =
     let turns : List MeterTurn = turns_of m steps m' run in
     let start = fresh no_plan m file (known_on old m.store stands.store) agree in
     let flat : Flat m' m (turns ++ []) = subst (λ (ts : List MeterTurn). Flat m' m ts) (sym (append-nil turns)) (flat_run m steps m' run) in
-    let came = early start.0 (fresh_poll no_plan) nothing_on file turns [] m' m refl legal flat start.1 in
-    let there = finish start.0 (fresh_poll no_plan) nothing_on file m' came.mid [] refl legal came.flat came.is in
+    let came = early (start_of start.0) (fresh_poll no_plan) nothing_on file turns [] m' m refl legal flat start.1 in
+    let there = finish (start_of start.0) (fresh_poll no_plan) nothing_on file m' came.mid [] refl legal came.flat came.is in
     (there.0, agrees start.0 (fresh_poll no_plan) m' nothing_on file there.0 there.1)
 
 pub stops_agree : StopsAgree
@@ -681,14 +684,13 @@ not_the_first : (frame : Option Parts) (calls : List Call) → EndDone (Next fra
 not_the_first frame [] (last, is) = absurd (not_next frame last is)
 not_the_first frame (call ∷ calls) ends = ends
 
-pub polls_agree : {P A : Type 0} {ghosts : Ghosts P} (old new : Meter P A ghosts) → PollsAgree old new
-polls_agree old new plan front frame done m m' steps run file stands stands' agree calls joins =
-    let legal : IsLegal (events_of m') = known_legal new m'.store stands'.store in
-    let start = fresh plan m file (known_on old m.store stands.store) agree in
-    let first : PlanValue = start.0 in
+-- a poll that is done over the line, from where a run starts
+pub poll_over : (first : Start) (plan : PlanValue) (front : List Call) (frame : Parts) (done : PollerValue) (m m' : MeterWorld) (steps : List Step) (run : MeterRun m steps m') (file : List Row) → IsLegal (events_of m')
+    → Is first (fresh_poll plan) m nothing_on file → Calls (fresh_poll plan) (front ++ On frame (Ok step.Done) ∷ []) done → Joins plan (front ++ On frame (Ok step.Done) ∷ []) (turns_of m steps m' run) → IsOverAt first plan done m' file
+poll_over first plan front frame done m m' steps run file legal start calls joins =
     let rest : List MeterTurn = filter_map turn_at joins.moments in
     let flat : Flat m' m (joins.early ++ rest) = subst (λ (ts : List MeterTurn). Flat m' m ts) joins.are_turns (flat_run m steps m' run) in
-    let came = early first (fresh_poll plan) nothing_on file joins.early rest m' m refl legal flat start.1 in
+    let came = early first (fresh_poll plan) nothing_on file joins.early rest m' m refl legal flat start in
     let its : Calls (fresh_poll plan) (Next joins.frame ∷ filter_map call_at joins.moments) done = subst (λ (cs : List Call). Calls (fresh_poll plan) cs done) joins.are_calls calls in
     let ends : EndDone (filter_map call_at joins.moments) = not_the_first joins.frame (filter_map call_at joins.moments) (subst EndDone joins.are_calls (ends_done front frame)) in
     let begins : BeginsIn Ready (fresh_poll plan) joins.frame its.0 = its.1.0 in
@@ -697,27 +699,47 @@ polls_agree old new plan front frame done m m' steps run file stands stands' agr
     let begun : Is first its.0 came.mid (record { up = sent_first joins.frame; down = w.link.down_line }) file =
     turned first (fresh_poll plan) its.0 came.mid nothing_on file w (sent_first joins.frame) w.link.down_line x (next_is_turn w joins.frame (fresh_poll plan) its.0 x.poller (sym x.poller.course) begins) in
     let at : Is first its.0 came.mid (record { up = sent_first joins.frame; down = [] }) file = subst (λ (d : List Parts). Is first its.0 came.mid (record { up = sent_first joins.frame; down = d }) file) x.down begun in
-    let end = through first plan its.0 done file joins.moments (record { up = sent_first joins.frame; down = [] }) m' came.mid (ap plan_of begins.1) (ap course_of begins.1) its.2 ends joins.carried legal came.flat at in
-    told first plan done m' file end
-  where
-    told : (first plan : PlanValue) (done : PollerValue) (m' : MeterWorld) (file : List Row) → IsOverAt first plan done m' file
-        → (w : World) × Agree m' file w × BringsBuffer plan w.served done.talk.rows × ((kept : List Row) → IsSublist kept done.talk.rows → DoAgree m' (merged file kept))
-    told first plan done m' file end =
-        let w : World = end.is.0 in
-        let x : At first done m' end.last file w = end.is.1 in
-        let over : w.course ≡ Done = sym x.poller.course ∙ end.course in
-        let rows : done.talk.rows ≡ w.rows = x.poller.rows over in
-        let brings : BringsBuffer w.plan w.served w.rows = polls_are_told first w x.run over in (
-          w,
-          agrees first done m' end.last file w x,
-          subst (λ (rs : List Row). BringsBuffer plan w.served rs) (sym rows) (subst (λ (p : PlanValue). BringsBuffer p w.served w.rows) (sym x.poller.plan ∙ end.own) brings),
-          λ kept some. (
-            record w { file = merged w.file kept },
-            record {
-              plan = first;
-              run = Goes w _ x.run (Merges w kept over (subst (λ (rs : List Row). IsSublist kept rs) rows some));
-              meter = record { own = x.meter.own; others = x.meter.others; store = x.meter.store };
-              same = ap (λ (f : List Row). merged f kept) x.kept;
-            },
-          ),
-        )
+    through first plan its.0 done file joins.moments (record { up = sent_first joins.frame; down = [] }) m' came.mid (ap plan_of begins.1) (ap course_of begins.1) its.2 ends joins.carried legal came.flat at
+
+-- its world, the rows of the buffer, and a merge of them
+pub record Ended (first : Start) (plan : PlanValue) (done : PollerValue) (m' : MeterWorld) (file : List Row) : Type 0 where
+  pub world : World
+  pub run : Run first.world world
+  pub meter : IsMeterOf m' world
+  pub kept : world.file ≡ file
+  pub brings : BringsBuffer plan world.served done.talk.rows
+  pub merges : (kept : List Row) → IsSublist kept done.talk.rows → Turn world (record world { file = merged file kept })
+
+pub ended : (first : Start) (plan : PlanValue) (done : PollerValue) (m' : MeterWorld) (file : List Row) → IsOverAt first plan done m' file → Ended first plan done m' file
+ended first plan done m' file end =
+    let w : World = end.is.0 in
+    let x : At first done m' end.last file w = end.is.1 in
+    let over : w.course ≡ Done = sym x.poller.course ∙ end.course in
+    let rows : done.talk.rows ≡ w.rows = x.poller.rows over in
+    let brings : BringsBuffer w.plan w.served w.rows = told_from first w x.run over in
+    record {
+      world = w;
+      run = x.run;
+      meter = x.meter;
+      kept = x.kept;
+      brings = subst (λ (rs : List Row). BringsBuffer plan w.served rs) (sym rows) (subst (λ (p : PlanValue). BringsBuffer p w.served w.rows) (sym x.poller.plan ∙ end.own) brings);
+      merges = λ kept some. subst (λ (f : List Row). Turn w (record w { file = merged f kept })) x.kept (Merges w kept over (subst (λ (rs : List Row). IsSublist kept rs) rows some));
+    }
+
+pub polls_agree : {P A : Type 0} {ghosts : Ghosts P} (old new : Meter P A ghosts) → PollsAgree old new
+polls_agree old new plan front frame done m m' steps run file stands stands' agree calls joins =
+    let start = fresh plan m file (known_on old m.store stands.store) agree in
+    let end = ended (start_of start.0) plan done m' file (poll_over (start_of start.0) plan front frame done m m' steps run file (known_legal new m'.store stands'.store) start.1 calls joins) in (
+      end.world,
+      record { plan = start.0; run = end.run; meter = end.meter; same = end.kept },
+      end.brings,
+      λ kept some. (
+        record end.world { file = merged file kept },
+        record {
+          plan = start.0;
+          run = Goes end.world (record end.world { file = merged file kept }) end.run (end.merges kept some);
+          meter = record { own = end.meter.own; others = end.meter.others; store = end.meter.store };
+          same = refl;
+        },
+      ),
+    )

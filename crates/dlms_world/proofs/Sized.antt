@@ -1,5 +1,5 @@
 -- The size of an association that the meter accepts.
-use Rattle.std.proofs.Common.{arith, ◌≡◌, ℕ, Bool, true, false, Option, Some, None, Result, Ok, Err, unwrap_or, List, [], ◌∷◌, ◌++◌, refl, sym, ◌∙◌, ap, subst, if◌then◌else◌, nat_lt}
+use Rattle.std.proofs.Common.{arith, ◌≡◌, ℕ, Bool, true, false, Option, Some, None, Result, Ok, Err, unwrap_or, List, [], ◌∷◌, ◌++◌, refl, sym, subst, if◌then◌else◌, nat_lt}
 use Rattle.std.specs.Prelude.{◌&&◌, not}
 use Rattle.std.proofs.lemmas.Bool.Decides.{nat_tests}
 use Rattle.dlms_acse.specs.Reading.{aarq_at}
@@ -9,11 +9,9 @@ use Rattle.dlms_acse.specs.declared.fault.AcseFault.{AcseFault}
 use Rattle.dlms_acse.specs.declared.outcome.Verdict.{Verdict}
 use Rattle.dlms_acse.specs.declared.outcome.Verdict.TheVariants.{Accepted, Refused}
 use Rattle.dlms_frame.specs.declared.client.Client.{Client}
-use Rattle.dlms_headend.specs.Asking.{PlanValue, association_bytes}
-use Rattle.dlms_service.specs.Serves.{Choice as Memory, Serves, secret_for, associated, opened_by}
-use Rattle.dlms_service.specs.Stake.{fails, stake_of}
-use Rattle.dlms_service.specs.declared.stake.Stake.{Stake}
-use Rattle.dlms_service.specs.declared.stake.Stake.TheVariants as stake
+use Rattle.dlms_apdu.specs.Forms.{RequestForm}
+use Rattle.dlms_apdu.specs.Reading.{request_at}
+use Rattle.dlms_service.specs.Serves.{secret_for, associated, opened_by}
 use Rattle.dlms_meter.specs.Run.{Choice, Served, DeviceFails, Does}
 use Rattle.dlms_service.specs.Session.{SessionValue, Outcome, HasSize}
 use Rattle.dlms_state.specs.declared.event.Event.{Event}
@@ -75,18 +73,12 @@ judged_sized : (s : SessionValue) (secret : List ℕ) (r : Result Request AcseFa
 judged_sized s secret (Ok r) = verdict_sized r s.client secret
 judged_sized s secret (Err e) = tt
 
-by_service : (choice : Memory) (E : List Event) (plan : PlanValue) (s : SessionValue) (o : Outcome) → Serves choice E s (association_bytes plan) o → HasSize o.own.opened
-by_service choice E plan s o serves = subst (λ (x : Outcome). HasSize x.own.opened) (sym serves) (judged_sized s (secret_for s.client E) (aarq_at (association_bytes plan)))
+-- no request is read of an association request
+no_request : (rest : List ℕ) (form : RequestForm) → request_at (0x60 ∷ rest) ≡ Ok form → ⊥
+unfolding request_at
+no_request rest form e = cc
 
--- if the device failed, the association is as it was
-failed_as_was : (s : SessionValue) (x : Stake) → (fails s x).own.opened ≡ s.opened
-failed_as_was s (stake.Get invoke) = refl
-failed_as_was s (stake.Next invoke number) = refl
-failed_as_was s (stake.Set invoke) = refl
-failed_as_was s (stake.SetLast invoke number) = refl
-failed_as_was s (stake.Action invoke) = refl
-
-pub association_sized : (choice : Choice) (E : List Event) (plan : PlanValue) (s : SessionValue) (o : Outcome) → HasSize s.opened → Does choice E s (association_bytes plan) o → HasSize o.own.opened
-association_sized (Served memory) E plan s o was does = by_service memory E plan s o does
-association_sized (DeviceFails kept wanted) E plan s o was ((form, read, would, leads, success, is), wants) =
-    subst HasSize (sym (ap (λ (x : Outcome). x.own.opened) is ∙ failed_as_was s (stake_of form))) was
+-- by any APDU that begins as an association request, from any state
+pub association_sized : (choice : Choice) (E : List Event) (rest : List ℕ) (s : SessionValue) (o : Outcome) → Does choice E s (0x60 ∷ rest) o → HasSize o.own.opened
+association_sized (Served memory) E rest s o serves = subst (λ (x : Outcome). HasSize x.own.opened) (sym serves) (judged_sized s (secret_for s.client E) (aarq_at (0x60 ∷ rest)))
+association_sized (DeviceFails kept wanted) E rest s o ((form, read, would, leads, success, is), wants) = absurd (no_request rest form read)

@@ -25,7 +25,7 @@ use Rattle.dlms_world.proofs.Named.{rows_named, names_told, served_at, behind_fi
 use Rattle.dlms_headend.specs.declared.plan.Columns.{Columns}
 use Rattle.dlms_headend.specs.declared.plan.Columns.TheVariants.{Trusted, Asked as AsksColumns}
 use Rattle.dlms_headend.proofs.TalkLemmas.{blocks_append}
-use Rattle.dlms_headend.specs.Poll.{Accepts, Asks, associates, names, gets, goes_on as goes_further, checks, releases, AreNamed, HasBlocks, HasRows, HasNamed, AreBlocks, IsMoreBy, Spells, SpellsBy}
+use Rattle.dlms_headend.specs.Poll.{Accepts, Asks, associates, names, gets, goes_on as goes_further, checks, releases, AreNamed, HasBlocks, HasRows, HasNamed, HasReleased, AreBlocks, IsMoreBy, Spells, SpellsBy}
 use Rattle.dlms_headend.specs.Rows.{IsProfile, IsEncoded}
 use Rattle.dlms_headend.specs.declared.row.Row.{Row}
 use Rattle.dlms_meter.specs.Transfers.{Exchange, Asked, InTurn}
@@ -151,15 +151,30 @@ first_is_in : (x : Exchange) (xs : List Exchange) → Contains (x ∷ xs) x
 first_is_in x xs = (0, omega arith, refl)
 
 -- rows came in two APDUs at least
-short_rows : (columns : Columns) (apdus : List (List ℕ)) (rows : List Row) → HasRows columns apdus rows → length apdus ≤ 1 → ⊥
+pub short_rows : (columns : Columns) (apdus : List (List ℕ)) (rows : List Row) → HasRows columns apdus rows → length apdus ≤ 1 → ⊥
 short_rows columns apdus rows r short =
     omega (arith, short, ap length r.are, length-append r.before (r.answer ∷ []), ap length r.blocks.are)
 
-short_named : (columns : Columns) (apdus : List (List ℕ)) (rows : List Row) → HasNamed columns apdus rows → length apdus ≤ 1 → ⊥
+pub short_named : (columns : Columns) (apdus : List (List ℕ)) (rows : List Row) → HasNamed columns apdus rows → length apdus ≤ 1 → ⊥
 short_named columns apdus rows r short =
     let more = length-append r.before r.names in
     let same = ap length r.are in
     short_rows columns r.before rows r.polled (omega (arith, short, more, same))
+
+pub short_released : (columns : Columns) (apdus : List (List ℕ)) (rows : List Row) → HasReleased columns apdus rows → length apdus ≤ 1 → ⊥
+short_released columns apdus rows r short = short_named columns r.before rows r.polled (omega (arith, short, ap length r.are, length-append r.before (r.answer ∷ [])))
+
+-- the answers that a poll took, by what they answer
+pub released_parts : (asking : Columns) (apdus : List (List ℕ)) (rows : List Row) (r : HasReleased asking apdus rows)
+    → apdus ≡ r.polled.polled.blocks.response ∷ (r.polled.polled.blocks.names ++ (r.polled.polled.blocks.blocks ++ r.polled.polled.answer ∷ (r.polled.names ++ r.answer ∷ [])))
+released_parts asking apdus rows r =
+    let named = r.polled in
+    let polled = named.polled in
+    let hb = polled.blocks in
+    r.are ∙ ap (λ l. l ++ r.answer ∷ []) named.are ∙ append_assoc named.before named.names (r.answer ∷ [])
+    ∙ ap (λ l. l ++ (named.names ++ r.answer ∷ [])) polled.are ∙ append_assoc polled.before (polled.answer ∷ []) (named.names ++ r.answer ∷ [])
+    ∙ ap (λ l. l ++ polled.answer ∷ (named.names ++ r.answer ∷ [])) hb.are
+    ∙ ap (λ l. hb.response ∷ l) (append_assoc hb.names hb.blocks (polled.answer ∷ (named.names ++ r.answer ∷ [])))
 
 -- the first APDU that a poll asks
 first_asked : (plan : PlanValue) (apdu : List ℕ) → Asks plan [] apdu → apdu ≡ association_bytes plan
@@ -187,7 +202,7 @@ still_sized a s v size =
       | false ↦ elim (has a blocks_with_get) as (λ b. HasSize (if b then in_blocks (without_get s) a invoke (canonical v) else says (without_get s) (get_result invoke (number_of OtherReason))).own.opened) [ true ↦ size | false ↦ size ]
     ]
 
-tells_data : (read : Result ResponseForm Refusal) → TellsBy read → GivesDataBy read
+pub tells_data : (read : Result ResponseForm Refusal) → TellsBy read → GivesDataBy read
 tells_data (Ok (get_data i v)) h = tt
 tells_data _ h = absurd h
 
@@ -306,8 +321,12 @@ module _ (plan : PlanValue) (answer : List ℕ) (tail : List (List ℕ)) (rows :
             named = λ e. subst (AreAmong (named_readings x.before)) (sym are) (rows_named plan x.before e);
           })
 
-pub tells : AnswersTell
-tells plan served last taken rows chain talk released = from_first served chain (subst (Talks plan [] served) all talk)
+-- after the association, the answers to the rest of a poll
+pub told_after : (plan : PlanValue) (x : Exchange) (served : List Exchange) (last : SessionValue) (more : List (List ℕ)) (rows : List Row) → HasSize x.outcome.own.opened → InTurn x.outcome.own (map Asked served) last
+    → Talks plan (x.outcome.answer ∷ []) served more → HasReleased plan.columns (x.outcome.answer ∷ more) rows → IsTold plan (x ∷ served) rows
+told_after plan x served last more rows sized chain talk released =
+    from_names plan polled.answer (named.names ++ released.answer ∷ []) rows last polled.taken polled.joined polled.spelled plan.columns refl hb.response hb.accepts hb.names hb.blocks named.names (released.answer ∷ []) hb.named named.named refl x sized served hb.come chain
+    (subst (λ l. Talks plan (hb.response ∷ []) served l) tails (subst (λ a. Talks plan (a ∷ []) served more) heads talk))
   where
     named : HasNamed plan.columns released.before rows
     named = released.polled
@@ -318,14 +337,19 @@ tells plan served last taken rows chain talk released = from_first served chain 
     hb : HasBlocks plan.columns polled.before polled.taken polled.joined
     hb = polled.blocks
 
-    all : taken ≡ hb.response ∷ (hb.names ++ (hb.blocks ++ polled.answer ∷ (named.names ++ released.answer ∷ [])))
-    all = released.are ∙ ap (λ l. l ++ released.answer ∷ []) named.are ∙ append_assoc named.before named.names (released.answer ∷ [])
-        ∙ ap (λ l. l ++ (named.names ++ released.answer ∷ [])) polled.are ∙ append_assoc polled.before (polled.answer ∷ []) (named.names ++ released.answer ∷ [])
-        ∙ ap (λ l. l ++ polled.answer ∷ (named.names ++ released.answer ∷ [])) hb.are
-        ∙ ap (λ l. hb.response ∷ l) (append_assoc hb.names hb.blocks (polled.answer ∷ (named.names ++ released.answer ∷ [])))
+    all : x.outcome.answer ∷ more ≡ hb.response ∷ (hb.names ++ (hb.blocks ++ polled.answer ∷ (named.names ++ released.answer ∷ [])))
+    all = released_parts plan.columns (x.outcome.answer ∷ more) rows released
 
-    from_first : (served : List Exchange) → InTurn (fresh plan.client) (map Asked served) last → Talks plan [] served (hb.response ∷ (hb.names ++ (hb.blocks ++ polled.answer ∷ (named.names ++ released.answer ∷ [])))) → IsTold plan served rows
-    from_first [] chain talk = absurd talk
-    from_first (x ∷ served) chain talk =
-        let sized : HasSize x.outcome.own.opened = association_sized x.choice x.before plan (fresh plan.client) x.outcome tt (subst (λ a. Does x.choice x.before (fresh plan.client) a x.outcome) (first_asked plan x.apdu talk.0) chain.0) in
-        from_names plan polled.answer (named.names ++ released.answer ∷ []) rows last polled.taken polled.joined polled.spelled plan.columns refl hb.response hb.accepts hb.names hb.blocks named.names (released.answer ∷ []) hb.named named.named refl x sized served hb.come chain.1 talk.2
+    heads : x.outcome.answer ≡ hb.response
+    heads = cc all
+
+    tails : more ≡ hb.names ++ (hb.blocks ++ polled.answer ∷ (named.names ++ released.answer ∷ []))
+    tails = cc all
+
+pub tells : AnswersTell
+tells plan [] last [] rows chain talk released = absurd (short_released plan.columns [] rows released (omega arith))
+tells plan [] last (a ∷ more) rows chain talk released = absurd talk
+tells plan (x ∷ served) last [] rows chain talk released = absurd (short_released plan.columns [] rows released (omega arith))
+tells plan (x ∷ served) last (a ∷ more) rows chain talk released =
+    told_after plan x served last more rows (association_sized x.choice x.before _ (fresh plan.client) x.outcome (subst (λ b. Does x.choice x.before (fresh plan.client) b x.outcome) (first_asked plan x.apdu talk.0) chain.0)) chain.1
+    (subst (λ l. Talks plan (l ∷ []) served more) (sym talk.1) talk.2) (subst (λ l. HasReleased plan.columns (l ∷ more) rows) (sym talk.1) released)

@@ -19,7 +19,7 @@ use Rattle.dlms_world.specs.Sublists.{IsSublist}
 use Rattle.dlms_world.specs.Turn.{Turn, Begins, GoesOn, AsksNext, Leaves, Ends, FailsAt, TimedOut, GivesUp, TurnsTo, Merges, LosesUp, LosesDown, Arrives, Intruded, OtherSends, Happens, Works, StopsInside, Restarted, Run, Stays, Goes, served_by}
 use Rattle.dlms_world.proofs.Keeping.{over_silent}
 use Rattle.dlms_world.specs.Agree.{LineIsSilent}
-use Rattle.dlms_world.specs.Agree.{AreCaptures, Rise, PollsAreTold, ReadingsAreCaptures, ReadingsRise}
+use Rattle.dlms_world.specs.Agree.{AreCaptures, BringsBuffer, Rise, PollsAreTold, ReadingsAreCaptures, ReadingsRise}
 use Rattle.dlms_world.specs.Named.{IsNamed, PollsAreNamed}
 use Rattle.dlms_world.specs.Told.{IsTold, AnswersTell}
 use Rattle.dlms_world.proofs.Growing.{through, settled_begins}
@@ -184,7 +184,7 @@ keep tell who turn g = record {
   legal = legal_after turn g.legal;
 }
 
-first : (plan : PlanValue) → Good plan.client (first_world plan)
+pub first : (plan : PlanValue) → Good plan.client (first_world plan)
 first plan = record {
   link = record { sound = sound plan.client []; plan = refl; session = refl; others = λ who. (refl, refl) };
   poll = refl;
@@ -196,19 +196,33 @@ first plan = record {
   legal = none_legal;
 }
 
-pub good : AnswersTell → (plan : PlanValue) (w : World) → Run (first_world plan) w → Good w.plan.client w
-good tell plan w Stays = first plan
-good tell plan w (Goes mid now run turn) =
-    let kept = keep tell mid.plan.client turn (good tell plan mid run) in
+-- where runs start
+pub record Start : Type 0 where
+  pub world : World
+  pub good : Good world.plan.client world
+
+abbrev pub start_of : PlanValue → Start
+start_of plan = record { world = first_world plan; good = first plan }
+
+pub good_from : AnswersTell → (start : Start) (w : World) → Run start.world w → Good w.plan.client w
+good_from tell start w Stays = start.good
+good_from tell start w (Goes mid now run turn) =
+    let kept = keep tell mid.plan.client turn (good_from tell start mid run) in
     subst (λ (who : Client). Good who w) (sym kept.link.plan) kept
 
-pub polls_are_told : PollsAreTold
-polls_are_told plan w run done =
-    let all = good tells plan w run in
+pub good : AnswersTell → (plan : PlanValue) (w : World) → Run (first_world plan) w → Good w.plan.client w
+good tell plan w run = good_from tell (start_of plan) w run
+
+pub told_from : (start : Start) (w : World) → Run start.world w → w.course ≡ Done → BringsBuffer w.plan w.served w.rows
+told_from start w run done =
+    let all = good_from tells start w run in
     let brought = is_brought w.plan.client w all done in
     let told = brought.told in
     let legal : IsLegal told.get.before = beginning_legal told.get.before (events_in w.memory) (through told.get.before (settled_in w.memory) (events_in w.memory) brought.settled (settled_begins w.memory)) all.legal in
     record { get = told.get; took = told.took; asked = told.asked; are = told.are ∙ whole_range (first_second w.plan.after) told.get.before (IsWithinLimits-legal told.get.before legal) }
+
+pub polls_are_told : PollsAreTold
+polls_are_told plan w run done = told_from (start_of plan) w run done
 
 pub polls_are_named : PollsAreNamed
 polls_are_named plan w run done asked = (is_brought w.plan.client w (good tells plan w run) done).told.names asked

@@ -18,10 +18,13 @@ ghost use Rattle.dlms_world.specs.Told.{AnswersTell};
 ghost use Rattle.dlms_world.specs.PollTurns.{NewIsFirst, NewIsTurn, MergeIsTurn, NextIsTurn, OnIsTurn, TimeoutIsTurn};
 ghost use Rattle.dlms_world.specs.Programs.{FilesAreCaptures};
 ghost use Rattle.dlms_world.specs.Line.{FirstAgree, AgreeingIsCaptures, RunsAgree, StopsAgree, PollsAgree};
+ghost use Rattle.dlms_world.specs.Carrier.{AgreeingHolds, CanBeCarried, FirstHolds, HeldAreCaptures, LinesHold, LivesHold, PollsHold, StopsHold};
+ghost use Rattle.dlms_headend.specs.CarrierRun.{meaning};
 ghost use Rattle.dlms_world.specs.MeterTurns.{FeedsAreTurns, EventsAreTurns, StopsAreTurns, RecoveriesAreTurns, RestsAreTurns};
 ghost use Rattle.dlms_world.specs.Agree.{PollsAreTold, ReadingsAreCaptures, ReadingsRise, LineIsSilent};
 ghost use Rattle.dlms_world.specs.Possible.{CanBegin, CanBeDone, CanBeDoneAgain, CanStop};
 
+use dlms_carrier::Carrier;
 use dlms_data::{LAST_SECOND, octets};
 use dlms_meter::Meter;
 use dlms_pages::Pages;
@@ -94,11 +97,12 @@ pub fn a_poll_can_begin()
 
 /// A poll can be done, of each client that has a secret, from whatever second of the clock on it asks, with the columns and without:
 /// at a formatted meter that has captured its first row, with that row; and wherever a run has come to, with all rows that are due
-/// then, in as many segments and blocks as they take.
+/// then, in as many segments and blocks as they take. That row can also be brought over a carrier of whole APDUs.
 pub fn a_poll_can_be_done(after: Option<u32>)
     requires { IfSome after (λ second. second ≤ LAST_SECOND) }
     ensures first { CanBeDone after }
     ensures again { CanBeDoneAgain after }
+    ensures carried { CanBeCarried after }
 {
     seconds_have_times(900);
     seconds_have_times(after.unwrap_or(0));
@@ -172,4 +176,25 @@ pub fn a_poll_over_a_line<P: Pages, A: Allocator + Copy>(old: &Meter<P, A>, new:
     ensures runs { RunsAgree old.now new.now }
     ensures stops { StopsAgree }
     ensures polls { PollsAgree old.now new.now }
+{}
+
+/// A meter holds the rows of a file if they are captures that no stop of the power takes back. This is true of an empty file and a
+/// formatted meter, and of a file and a meter that agree (`a_poll_over_a_line`). It stays true whatever arrives at the meter, from
+/// any client and over any carrier, and wherever the power stops; and after a merge of rows from a poll over a line. So polls over
+/// lines and over carriers (`a_poll_over_a_carrier`) can be filed in one file.
+pub fn a_meter_holds_a_file<P: Pages, A: Allocator + Copy>(old: &Meter<P, A>, new: &Meter<P, A>)
+    ensures first { FirstHolds }
+    ensures agreeing { AgreeingHolds }
+    ensures captures { HeldAreCaptures }
+    ensures lives { LivesHold }
+    ensures stops { StopsHold }
+    ensures lines { LinesHold old.now new.now }
+{}
+
+/// What `a_poll_over_a_line` states of HDLC, over a carrier of whole APDUs, such as the TCP wrapper. The poll and the meter are the
+/// two ends of the carrier. It may lose and delay APDUs, as long as each that arrives was sent from the other end, and APDUs arrive
+/// in order, each at most once. If the poll is done, it has exactly the rows that the meter's buffer had when it took the poll's GET;
+/// and if rows of it are merged into a file whose rows the meter held, the meter holds the rows of the new file.
+pub fn a_poll_over_a_carrier<C: Carrier, P: Pages, A: Allocator + Copy>(meter: &Meter<P, A>)
+    ensures { PollsHold (meaning C.steps C.out_of C.apdu_of C.is_waiting) meter.now }
 {}

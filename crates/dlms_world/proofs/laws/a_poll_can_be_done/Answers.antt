@@ -1,5 +1,6 @@
 use Rattle.std.proofs.Common.{rules, ◌≡◌, ℕ, subst, unwrap_or}
 use Rattle.dlms_data.specs.Building.{IsTime}
+use Rattle.dlms_world.proofs.Carried.{carried_first}
 use Rattle.dlms_world.proofs.Done.{done_first, done_again}
 use Rattle.dlms_world.proofs.laws.a_poll_can_be_done.Goals as goal
 
@@ -10,4 +11,4 @@ returns c =
     let last = c.seconds_have_times-3.ensures in
     let from : c.unwrap_or.result ≡ unwrap_or c.args.after 0 = search rules in
     let since : IsTime (unwrap_or c.args.after 0) first.0 = subst (λ (second : ℕ). IsTime second first.0) from first.1 in
-    record { first = done_first row.octets row.bytes row.names row.plainly c.args.after first.0 last.0 since last.1; again = done_again c.args.after first.0 last.0 since last.1 }
+    record { first = done_first row.octets row.bytes row.names row.plainly c.args.after first.0 last.0 since last.1; again = done_again c.args.after first.0 last.0 since last.1; carried = carried_first row.octets row.bytes row.names row.plainly c.args.after first.0 last.0 since last.1 }
