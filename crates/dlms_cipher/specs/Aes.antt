@@ -8,7 +8,8 @@ use Rattle.dlms_cipher.specs.Field.{octet_product}
 -- a^2 · a^4 · … · a^(2^n); n = 7 gives a^254
 unfoldable pub even_powers : ℕ → ℕ → ℕ
 even_powers zero a = 1
-even_powers (suc n) a = let square = octet_product a a in octet_product square (even_powers n square)
+even_powers (suc n) a = let square = octet_product a a
+    in octet_product square (even_powers n square)
 
 -- a^254, which is the inverse of a, and 0 if a is 0 (4.4)
 unfoldable pub inverse : ℕ → ℕ
@@ -16,7 +17,8 @@ inverse a = even_powers 7 a
 
 -- bit i of the affine transformation of b, with the constant 0x63
 abbrev pub affine_bit : ℕ → ℕ → ℕ
-affine_bit b i = (bit_at b i + bit_at b ((i + 4) % 8) + bit_at b ((i + 5) % 8) + bit_at b ((i + 6) % 8) + bit_at b ((i + 7) % 8) + bit_at 0x63 i) % 2
+affine_bit b i =
+    (bit_at b i + bit_at b ((i + 4) % 8) + bit_at b ((i + 5) % 8) + bit_at b ((i + 6) % 8) + bit_at b ((i + 7) % 8) + bit_at 0x63 i) % 2
 
 -- all eight bits
 unfoldable pub affine : ℕ → ℕ
@@ -83,7 +85,8 @@ rcon (suc n) = octet_product 2 (rcon n)
 
 -- word i of a round key, for i from 0 to 3
 abbrev pub key_word : List ℕ → ℕ → List ℕ
-key_word key i = slice_index key (4 * i) ∷ slice_index key (4 * i + 1) ∷ slice_index key (4 * i + 2) ∷ slice_index key (4 * i + 3) ∷ []
+key_word key i =
+    slice_index key (4 * i) ∷ slice_index key (4 * i + 1) ∷ slice_index key (4 * i + 2) ∷ slice_index key (4 * i + 3) ∷ []
 
 -- the last word of a round key, rotated and substituted, plus the round constant
 abbrev pub schedule_word : List ℕ → ℕ → List ℕ

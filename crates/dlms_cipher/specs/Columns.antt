@@ -5,7 +5,8 @@ use Rattle.dlms_cipher.specs.declared.columns.Columns.{Columns}
 use Rattle.dlms_cipher.specs.Aes.{round_key}
 
 abbrev pub octets_of : Columns → List ℕ
-octets_of s = to_be_bytes w32 s.first ++ to_be_bytes w32 s.second ++ to_be_bytes w32 s.third ++ to_be_bytes w32 s.fourth
+octets_of s = to_be_bytes w32 s.first ++ to_be_bytes w32 s.second ++ to_be_bytes w32 s.third
+    ++ to_be_bytes w32 s.fourth
 
 -- the list has the eleven round keys of the key, in order
 abbrev pub IsExpanded : List ℕ → List Columns → Type 0

@@ -22,12 +22,14 @@ cipher_of key title counter text = ctr key (nonce_of title counter) text
 
 -- the tag of a message that is authenticated and encrypted; the additional data are the control octet and the authentication key
 abbrev pub sealed_tag : List ℕ → List ℕ → List ℕ → ℕ → List ℕ → List ℕ
-sealed_tag key authentication title counter ciphertext = tag_of key (nonce_of title counter) (authenticated_encrypted ∷ authentication) ciphertext
+sealed_tag key authentication title counter ciphertext =
+    tag_of key (nonce_of title counter) (authenticated_encrypted ∷ authentication) ciphertext
 
 -- the tag of a message that is authenticated only; the additional data are the control octet, the authentication key and the
 -- message, and the plaintext is empty
 abbrev pub signed_tag : List ℕ → List ℕ → List ℕ → ℕ → List ℕ → List ℕ
-signed_tag key authentication title counter text = tag_of key (nonce_of title counter) (authenticated ∷ authentication ++ text) []
+signed_tag key authentication title counter text =
+    tag_of key (nonce_of title counter) (authenticated ∷ authentication ++ text) []
 
 -- the answer to a challenge under authentication mechanism 5 (GMAC): control octet, counter, and the tag of the challenge
 abbrev pub answer_of : List ℕ → List ℕ → List ℕ → ℕ → List ℕ → List ℕ
@@ -37,4 +39,5 @@ answer_of key authentication title counter challenge =
 -- these octets are the answer to the challenge under some invocation counter
 abbrev pub IsAnswer : List ℕ → List ℕ → List ℕ → List ℕ → List ℕ → Type 0
 IsAnswer key authentication title challenge answer =
-    (counter : ℕ) × (counter < 2 ^ 32) × (answer ≡ answer_of key authentication title counter challenge)
+    (counter : ℕ) × (counter < 2 ^ 32)
+    × (answer ≡ answer_of key authentication title counter challenge)

@@ -11,7 +11,8 @@ times_x top modulus p = bit_xor (2 * p) (bit_at p top * modulus)
 -- coefficients of a and b.
 unfoldable pub product : ℕ → ℕ → ℕ → ℕ → ℕ → ℕ
 product top modulus zero a b = 0
-product top modulus (suc n) a b = bit_xor (a % 2 * b) (times_x top modulus (product top modulus n (a / 2) b))
+product top modulus (suc n) a b =
+    bit_xor (a % 2 * b) (times_x top modulus (product top modulus n (a / 2) b))
 
 -- the product of two octets, modulo x^8 + x^4 + x^3 + x + 1 (FIPS 197, 4.2)
 unfoldable pub octet_product : ℕ → ℕ → ℕ

@@ -57,7 +57,8 @@ ghash_from h sum (x ∷ rest) = ghash_from h (block_product (bit_xor sum x) h) r
 unfoldable pub counter_blocks : ℕ → List ℕ → List ℕ → ℕ → List ℕ → List ℕ
 counter_blocks zero key nonce counter text = []
 counter_blocks (suc n) key nonce counter text =
-    xor_octets (take 16 text) (aes key (nonce ++ to_be_bytes w32 counter)) ++ counter_blocks n key nonce ((counter + 1) % 2 ^ 32) (drop 16 text)
+    xor_octets (take 16 text) (aes key (nonce ++ to_be_bytes w32 counter))
+    ++ counter_blocks n key nonce ((counter + 1) % 2 ^ 32) (drop 16 text)
 
 -- a text encrypted, or a ciphertext decrypted. Counter 1 is the tag's (7.1, steps 2 and 3; 7.2).
 abbrev pub ctr : List ℕ → List ℕ → List ℕ → List ℕ
@@ -69,10 +70,12 @@ hash_key key = poly_of (aes key (replicate 16 0))
 
 -- the last block of the hash: the lengths of both parts in bits (7.1, step 5)
 abbrev pub lengths : List ℕ → List ℕ → List ℕ
-lengths aad ciphertext = to_be_bytes w64 (length aad * 8 % 2 ^ 64) ++ to_be_bytes w64 (length ciphertext * 8 % 2 ^ 64)
+lengths aad ciphertext = to_be_bytes w64 (length aad * 8 % 2 ^ 64)
+    ++ to_be_bytes w64 (length ciphertext * 8 % 2 ^ 64)
 
 -- the tag: the hash, added to the encrypted block of counter 1 and cut to 12 octets (7.1, steps 5 and 6)
 unfoldable pub tag_of : List ℕ → List ℕ → List ℕ → List ℕ → List ℕ
 tag_of key nonce aad ciphertext =
-    let hash = ghash (hash_key key) (blocks aad ++ blocks ciphertext ++ poly_of (lengths aad ciphertext) ∷ []) in
+    let parts = blocks aad ++ blocks ciphertext ++ poly_of (lengths aad ciphertext) ∷ [] in
+    let hash = ghash (hash_key key) parts in
     take 12 (xor_octets (block_of 16 hash) (aes key (nonce ++ to_be_bytes w32 1)))

@@ -19,11 +19,13 @@ is_initiate tag = (tag == 0x01) || ((tag == 0x08) || (tag == 0x0E))
 
 -- get, set, event notification and action request; get, set and action response
 abbrev pub is_service : ℕ → Bool
-is_service tag = (tag == 0xC0) || ((tag == 0xC1) || ((tag == 0xC2) || ((tag == 0xC3) || ((tag == 0xC4) || ((tag == 0xC5) || (tag == 0xC7))))))
+is_service tag =
+    (tag == 0xC0) || ((tag == 0xC1) || ((tag == 0xC2) || ((tag == 0xC3) || ((tag == 0xC4) || ((tag == 0xC5) || (tag == 0xC7))))))
 
 -- the tag of the ciphered form of the APDUs with this tag, if there is one: glo- or ded-
 abbrev pub form_tag : KeyKind → ℕ → Option ℕ
-form_tag Global tag = if is_initiate tag then Some (tag + 0x20) else if is_service tag then Some (tag + 8) else None
+form_tag Global tag = if is_initiate tag then Some (tag + 0x20)
+    else if is_service tag then Some (tag + 8) else None
 form_tag Dedicated tag = if is_service tag then Some (tag + 0x10) else None
 
 -- the tags of the glo- forms, and of the ded- forms
@@ -33,7 +35,8 @@ is_glo tag =
     || ((tag == 0xCB) || ((tag == 0xCC) || ((tag == 0xCD) || (tag == 0xCF)))))))))
 
 abbrev pub is_ded : ℕ → Bool
-is_ded tag = (tag == 0xD0) || ((tag == 0xD1) || ((tag == 0xD2) || ((tag == 0xD3) || ((tag == 0xD4) || ((tag == 0xD5) || (tag == 0xD7))))))
+is_ded tag =
+    (tag == 0xD0) || ((tag == 0xD1) || ((tag == 0xD2) || ((tag == 0xD3) || ((tag == 0xD4) || ((tag == 0xD5) || (tag == 0xD7))))))
 
 abbrev pub is_form_tag : ℕ → Bool
 is_form_tag tag = is_glo tag || is_ded tag
@@ -48,7 +51,8 @@ is_general tag = (tag == 0xDB) || (tag == 0xDC)
 
 -- the kind of key that a message with this tag is protected by, if it is protected
 abbrev pub kind_of_tag : ℕ → Option KeyKind
-kind_of_tag tag = if (tag == 0xDB) || is_glo tag then Some Global else if (tag == 0xDC) || is_ded tag then Some Dedicated else None
+kind_of_tag tag = if (tag == 0xDB) || is_glo tag then Some Global
+    else if (tag == 0xDC) || is_ded tag then Some Dedicated else None
 
 abbrev pub kind_of : List ℕ → Option KeyKind
 kind_of [] = None
@@ -120,7 +124,15 @@ content_of (first ∷ rest) =
 -- the header and the body in a content
 abbrev pub header : ℕ → Option (List ℕ) → List ℕ → Option (Head × List ℕ)
 header tag title (control ∷ a ∷ b ∷ c ∷ d ∷ body) =
-    Some (record { tag = tag; title = title; control = control; counter = from_be_bytes w32 (a ∷ b ∷ c ∷ d ∷ []) }, body)
+    Some (
+      record {
+        tag = tag;
+        title = title;
+        control = control;
+        counter = from_be_bytes w32 (a ∷ b ∷ c ∷ d ∷ []);
+      },
+      body,
+    )
 header tag title _ = None
 
 -- the same, of a service's ciphered form after its tag
@@ -133,7 +145,8 @@ titled_parts tag title octets = option_and_then (header tag (Some title)) (conte
 
 -- the same, of a general form after its tag
 abbrev pub general : ℕ → List ℕ → Option (Head × List ℕ)
-general tag (n ∷ a ∷ b ∷ c ∷ d ∷ e ∷ f ∷ g ∷ h ∷ rest) = if n == 8 then titled_parts tag (a ∷ b ∷ c ∷ d ∷ e ∷ f ∷ g ∷ h ∷ []) rest else None
+general tag (n ∷ a ∷ b ∷ c ∷ d ∷ e ∷ f ∷ g ∷ h ∷ rest) =
+    if n == 8 then titled_parts tag (a ∷ b ∷ c ∷ d ∷ e ∷ f ∷ g ∷ h ∷ []) rest else None
 general tag _ = None
 
 -- a message without these parts is cut off, or has a wrong length

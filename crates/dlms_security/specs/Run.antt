@@ -32,12 +32,16 @@ pub data Event : Type 0 where
 -- One event, from the state before it to the state after it. A reservation is stored before `extend_reservation` is called, so
 -- after a stop the stored one is not below the state's.
 abbrev pub IsStep : SecurityState → Event → SecurityState → Type 0
-IsStep s (Protects form apdu result) t = (message_for s form apdu ≡ result) × (t ≡ after_protect s (message_for s form apdu))
-IsStep s (Unprotects message result) t = (apdu_in (acceptance s message) ≡ result) × (t ≡ after_unprotect s (acceptance s message))
+IsStep s (Protects form apdu result) t = (message_for s form apdu ≡ result)
+    × (t ≡ after_protect s (message_for s form apdu))
+IsStep s (Unprotects message result) t = (apdu_in (acceptance s message) ≡ result)
+    × (t ≡ after_unprotect s (acceptance s message))
 IsStep s (Reserves upto) t = (upto < 2 ^ 32) × (t ≡ after_reserved s upto)
 IsStep s (Learns title) t = t ≡ after_learn s s.peer title
-IsStep s (Answers challenge result) t = (answer_for s challenge ≡ result) × (t ≡ after_protect s (answer_for s challenge))
-IsStep s (Stops stored) t = (s.reserved ≤ stored.reserved) × (stored.reserved < 2 ^ 32) × (t ≡ after_stop s stored)
+IsStep s (Answers challenge result) t = (answer_for s challenge ≡ result)
+    × (t ≡ after_protect s (answer_for s challenge))
+IsStep s (Stops stored) t = (s.reserved ≤ stored.reserved) × (stored.reserved < 2 ^ 32)
+    × (t ≡ after_stop s stored)
 
 -- events one after another
 abbrev pub AreSteps : SecurityState → List Event → SecurityState → Type 0
@@ -58,7 +62,8 @@ RestoresCounter s _ = Unit {0}
 -- events one after another, after whose stops the last accepted counter is read back
 abbrev pub AreRestoring : SecurityState → List Event → SecurityState → Type 0
 AreRestoring s [] t = t ≡ s
-AreRestoring s (e ∷ es) t = (next : SecurityState) × IsStep s e next × RestoresCounter s e × AreRestoring next es t
+AreRestoring s (e ∷ es) t = (next : SecurityState) × IsStep s e next × RestoresCounter s e
+    × AreRestoring next es t
 
 -- if the event is a stop, the peer's title is read back after it
 abbrev pub RestoresTitle : List ℕ → Event → Type 0
@@ -156,11 +161,13 @@ pub record IsAcceptable (s : SecurityState) (message : List ℕ) (a : AcceptedAp
 
 -- A message is accepted exactly if it is acceptable, and as that APDU with that counter.
 abbrev pub AcceptedExactly : Type 0
-AcceptedExactly = (s : SecurityState) (message : List ℕ) (a : AcceptedApdu) → (acceptance s message ≡ Ok a) ↔ IsAcceptable s message a
+AcceptedExactly = (s : SecurityState) (message : List ℕ) (a : AcceptedApdu)
+    → (acceptance s message ≡ Ok a) ↔ IsAcceptable s message a
 
 -- No counter is used twice: over all calls and stops the counters of messages and answers that go out rise.
 abbrev pub NeverTwice : Type 0
-NeverTwice = (s t : SecurityState) (events : List Event) → IsState s → AreSteps s events t → IsStrictlyIncreasing (used_counters events)
+NeverTwice = (s t : SecurityState) (events : List Event) → IsState s → AreSteps s events t
+    → IsStrictlyIncreasing (used_counters events)
 
 -- No message goes out in the clear: each is the protected form of the APDU that the caller passed.
 abbrev pub NeverInTheClear : Type 0
@@ -171,12 +178,14 @@ NeverInTheClear =
 -- No message is accepted twice: over all calls, and stops after which the last accepted counter is read back, the counters of
 -- accepted messages rise.
 abbrev pub Fresh : Type 0
-Fresh = (s t : SecurityState) (events : List Event) → AreRestoring s events t → IsStrictlyIncreasing (map counter_in (incoming events))
+Fresh = (s t : SecurityState) (events : List Event) → AreRestoring s events t
+    → IsStrictlyIncreasing (map counter_in (incoming events))
 
 -- Every APDU that is returned came in its protected form under the peer's title.
 abbrev pub Authentic : Type 0
 Authentic =
-    (s t : SecurityState) (title : List ℕ) (events : List Event) → s.peer ≡ Some title → All (RestoresTitle title) events → AreSteps s events t
+    (s t : SecurityState) (title : List ℕ) (events : List Event) → s.peer ≡ Some title
+    → All (RestoresTitle title) events → AreSteps s events t
     → All (λ x. IsProtected s title (counter_in x) x) (incoming events)
 
 -- two ends of an association: equal keys and policy, and the receiver knows the sender's title
@@ -190,5 +199,7 @@ pub record ArePeers (s r : SecurityState) : Type 0 where
 -- The peer accepts a message that goes out as the APDU that the caller passed, if its counter is above the last accepted one.
 abbrev pub RoundTrip : Type 0
 RoundTrip =
-    (s r : SecurityState) (form : Form) (apdu message : List ℕ) → IsState s → ArePeers s r → is_above r.accepted s.next ≡ true
-    → message_for s form apdu ≡ Ok message → acceptance r message ≡ Ok (record { counter = s.next; apdu = apdu })
+    (s r : SecurityState) (form : Form) (apdu message : List ℕ) → IsState s → ArePeers s r
+    → is_above r.accepted s.next ≡ true
+    → message_for s form apdu ≡ Ok message
+    → acceptance r message ≡ Ok (record { counter = s.next; apdu = apdu })

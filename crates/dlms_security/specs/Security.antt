@@ -30,7 +30,12 @@ pub record SecurityState : Type 0 where
 
 -- the state after a stop, from what was stored: every counter below the stored reservation may have been used
 abbrev pub after_stop : SecurityState → StoredState → SecurityState
-after_stop s stored = record s { peer = stored.peer; next = stored.reserved; reserved = stored.reserved; accepted = stored.accepted }
+after_stop s stored = record s {
+  peer = stored.peer;
+  next = stored.reserved;
+  reserved = stored.reserved;
+  accepted = stored.accepted;
+}
 
 -- ---- counters
 
@@ -50,7 +55,12 @@ with_counter (Err fault) out = Err fault
 
 -- the use of the keys for the next message
 abbrev pub own_use : SecurityState → Use
-own_use s = record { encryption = s.encryption; authentication = s.authentication; title = s.own; counter = s.next }
+own_use s = record {
+  encryption = s.encryption;
+  authentication = s.authentication;
+  title = s.own;
+  counter = s.next;
+}
 
 -- security header and protected body of an APDU
 abbrev pub content_for : SecurityState → List ℕ → List ℕ
@@ -59,7 +69,8 @@ content_for s apdu = content (control_of s.policy) s.next (body_of s.policy (own
 -- the message with this front; without a front the service has no ciphered form
 abbrev pub message_with : SecurityState → Option (List ℕ) → List ℕ → Result (List ℕ) ProtectFault
 message_with s None apdu = Err protect_fault.Service
-message_with s (Some front) apdu = with_counter (counter_for s) (message_of front (content_for s apdu))
+message_with s (Some front) apdu =
+    with_counter (counter_for s) (message_of front (content_for s apdu))
 
 -- the message of an APDU in a form, or why there is none
 abbrev pub message_for : SecurityState → Form → List ℕ → Result (List ℕ) ProtectFault
@@ -69,7 +80,8 @@ message_for s form apdu =
 
 -- the answer to a challenge under authentication mechanism 5 (Green Book 9.2.7.4); it uses the same counters as messages
 abbrev pub answer_for : SecurityState → List ℕ → Result (List ℕ) ProtectFault
-answer_for s challenge = with_counter (counter_for s) (answer_of s.encryption s.authentication s.own s.next challenge)
+answer_for s challenge =
+    with_counter (counter_for s) (answer_of s.encryption s.authentication s.own s.next challenge)
 
 -- a message or answer that goes out uses a counter up
 abbrev pub after_protect : SecurityState → Result (List ℕ) ProtectFault → SecurityState
@@ -89,7 +101,12 @@ pub record AcceptedApdu : Type 0 where
 
 -- the use of the keys for a message of this title with this counter
 abbrev pub peer_use : SecurityState → List ℕ → ℕ → Use
-peer_use s title counter = record { encryption = s.encryption; authentication = s.authentication; title = title; counter = counter }
+peer_use s title counter = record {
+  encryption = s.encryption;
+  authentication = s.authentication;
+  title = title;
+  counter = counter;
+}
 
 -- the title in a message is the peer's, or there is none
 abbrev pub is_from : Option (List ℕ) → List ℕ → Bool
@@ -102,22 +119,26 @@ is_above None counter = true
 is_above (Some last) counter = nat_lt last counter
 
 -- the APDU is accepted if the tag of the message is that of its service under this kind of key
-abbrev pub of_service : KeyKind → Head → Result (List ℕ) UnprotectFault → Result AcceptedApdu UnprotectFault
+abbrev pub of_service : KeyKind → Head → Result (List ℕ) UnprotectFault
+    → Result AcceptedApdu UnprotectFault
 of_service kind head (Err fault) = Err fault
-of_service kind head (Ok apdu) = if is_of kind head.tag apdu then Ok (record { counter = head.counter; apdu = apdu }) else Err AnotherService
+of_service kind head (Ok apdu) =
+    if is_of kind head.tag apdu then Ok (record { counter = head.counter; apdu = apdu }) else Err AnotherService
 
 -- the checks of a message of the peer with this title, in their order
 abbrev pub check_from : SecurityState → List ℕ → Head → List ℕ → Result AcceptedApdu UnprotectFault
 check_from s title head body =
     if is_from head.title title then
     (if head.control == control_of s.policy then
-    (if is_above s.accepted head.counter then of_service s.kind head (open_body s.policy (peer_use s title head.counter) body)
+    (if is_above s.accepted head.counter
+    then of_service s.kind head (open_body s.policy (peer_use s title head.counter) body)
     else Err OldCounter)
     else Err AnotherControl)
     else Err AnotherTitle
 
 -- the same, if the peer's title is known
-abbrev pub check_with : SecurityState → Option (List ℕ) → Head → List ℕ → Result AcceptedApdu UnprotectFault
+abbrev pub check_with : SecurityState → Option (List ℕ) → Head → List ℕ
+    → Result AcceptedApdu UnprotectFault
 check_with s None head body = Err UnknownTitle
 check_with s (Some title) head body = check_from s title head body
 
@@ -126,7 +147,8 @@ abbrev pub check : SecurityState → Head → List ℕ → Result AcceptedApdu U
 check s head body = check_with s s.peer head body
 
 -- the same, of the parts of a message
-abbrev pub check_parts : SecurityState → Result (Head × List ℕ) UnprotectFault → Result AcceptedApdu UnprotectFault
+abbrev pub check_parts : SecurityState → Result (Head × List ℕ) UnprotectFault
+    → Result AcceptedApdu UnprotectFault
 check_parts s (Err fault) = Err fault
 check_parts s (Ok found) = check s found.0 found.1
 
@@ -156,4 +178,5 @@ after_learn s (Some known) title = s
 -- these octets are the answer of the peer with this title, under some counter
 abbrev pub IsAnswerOf : SecurityState → Option (List ℕ) → List ℕ → List ℕ → Type 0
 IsAnswerOf s None challenge answer = ⊥
-IsAnswerOf s (Some title) challenge answer = IsAnswer s.encryption s.authentication title challenge answer
+IsAnswerOf s (Some title) challenge answer =
+    IsAnswer s.encryption s.authentication title challenge answer
