@@ -201,6 +201,8 @@ impl<R: Net + Files<File = File> + Clock + AllocGlobal> Dialling for MeterLine<'
             → MatchOption self.new.line ⊥ (λ line. IsUntil self.old.has_deadline seconds line.until
             × (line.wait ≡ self.old.wait))) }
     {
+        // A meter may serve one connection at a time: the one before is closed first.
+        self.line = None;
         let deadline = Deadline::new(Instant::now(self.rt)?, seconds);
         let wire = if is_device(address) {
             Wire::Serial(open_device(self.rt, address, self.wait)?)

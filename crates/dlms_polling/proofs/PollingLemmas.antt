@@ -18,7 +18,10 @@ use Rattle.dlms_ends.specs.declared.head_end.HeadEnd.{HeadEnd}
 use Rattle.dlms_ends.specs.declared.polling.TheConstants.{TURNS}
 use Rattle.dlms_ends.proofs.MomentLemmas.{map_append}
 use Rattle.dlms_ends.proofs.PollLemmas.{HeadSide, system_told}
-use Rattle.dlms_polling.specs.Calling.{Aim, AreWithin, Attempts, ClockFails, Does, Calls, Drives, GivesUp, HeadFails, Looks, Over, Polling, Refused, Slow, Tires, Tried, Tries, Unbegun, Waits, next_line}
+use Rattle.dlms_polling.specs.Calling.{Aim, Attempts, Calls, Drives, GivesUp, Over, Polling, Refused, Slow, Tried, Tries, Waits, next_line}
+use Rattle.dlms_polling.specs.Doing.{AreWithin, ClockFails, DoesLinked, HeadFails, Looks, Tires, Unbegun}
+use Rattle.dlms_polling.specs.Ways.{outlasts}
+use Rattle.dlms_polling.specs.declared.way.DonePoll.{DonePoll}
 use Rattle.dlms_lines.specs.Deadline.{IsOver}
 use Rattle.dlms_polling.specs.Keeping.{PrintsLine}
 use Rattle.dlms_lines.specs.Watching.{Sight, Sees}
@@ -60,19 +63,19 @@ pub record Under {A : Type 0} (seconds : ℕ) (old now : Option (List Moment)) (
   pub looks : Looks seconds v w count []
 
 pub unbegun : (seconds : ℕ) (old new : Option (List Moment)) (v : Option (List Sight)) (poller : PollerValue) (error : Error) (r : Result (Option PollerValue) RunFault) → IsErrAnd r (TellsError error)
-    → (frame : Parts) (begun : PollerValue) → IsCall poller (Next (Some frame)) begun → Breaks old new (spelling frame) → Does seconds old new v v poller r
+    → (frame : Parts) (begun : PollerValue) → IsCall poller (Next (Some frame)) begun → Breaks old new (spelling frame) → DoesLinked seconds old new v v poller r
 unbegun seconds old new v poller error (Ok found) told frame begun call broke = absurd told
 unbegun seconds old new v poller error (Err fault) told frame begun call broke = Unbegun (system_told fault error told) frame begun call broke (sees_nothing v)
 
 pub clock_fails : {A : Type 0} (seconds : ℕ) (old now : Option (List Moment)) (v w x : Option (List Sight)) (poller : PollerValue) (head : HeadEnd A) (count : ℕ) (error : Error) (r : Result (Option PollerValue) RunFault)
-    → IsErrAnd r (TellsError error) → Under seconds old now v w poller head count → Sees w x (Second None ∷ []) → Does seconds old now v x poller r
+    → IsErrAnd r (TellsError error) → Under seconds old now v w poller head count → Sees w x (Second None ∷ []) → DoesLinked seconds old now v x poller r
 clock_fails seconds old now v w x poller head count error (Ok found) told under sees = absurd told
 clock_fails seconds old now v w x poller head count error (Err fault) told under sees =
     ClockFails (system_told fault error told) under.side.acts under.side.world under.side.called
     (subst (λ (n : ℕ). Looks seconds v x n (Second None ∷ [])) (sym under.side.sent) (looks_last seconds v w x count (Second None ∷ []) under.looks sees))
 
 pub is_late : {A : Type 0} (seconds : ℕ) (old now : Option (List Moment)) (v w x : Option (List Sight)) (poller : PollerValue) (head : HeadEnd A) (count last : ℕ) → Under seconds old now v w poller head count
-    → Sees w x (Second (Some last) ∷ []) → IsOver seconds last → Does seconds old now v x poller (Ok None)
+    → Sees w x (Second (Some last) ∷ []) → IsOver seconds last → DoesLinked seconds old now v x poller (Ok None)
 is_late seconds old now v w x poller head count last under sees over = (
   under.side.acts,
   under.side.world,
@@ -83,23 +86,23 @@ is_late seconds old now v w x poller head count last under sees over = (
 )
 
 pub head_fails : (seconds : ℕ) (old new : Option (List Moment)) (v w x : Option (List Sight)) (poller : PollerValue) (count time : ℕ) (fault : RunFault) (r : Result (Option PollerValue) RunFault)
-    → IsErrAnd r (λ given. given ≡ fault) → Looks seconds v w count [] → Sees w x (Second (Some time) ∷ []) → (IsOver seconds time → ⊥) → CallFails old new poller fault → Does seconds old new v x poller r
+    → IsErrAnd r (λ given. given ≡ fault) → Looks seconds v w count [] → Sees w x (Second (Some time) ∷ []) → (IsOver seconds time → ⊥) → CallFails old new poller fault → DoesLinked seconds old new v x poller r
 head_fails seconds old new v w x poller count time fault (Ok found) is looks sees not fails = absurd is
 head_fails seconds old new v w x poller count time fault (Err given) is looks sees not fails =
     HeadFails (subst (λ (f : RunFault). CallFails old new poller f) (sym is) fails) (count + 1) (omega arith) (looks_more seconds v w x count time looks sees not)
 
 pub is_done : (seconds : ℕ) (old new : Option (List Moment)) (v w x : Option (List Sight)) (poller done : PollerValue) (count time : ℕ) → Looks seconds v w count [] → Sees w x (Second (Some time) ∷ [])
-    → (IsOver seconds time → ⊥) → IsPolled old new poller done → Does seconds old new v x poller (Ok (Some done))
+    → (IsOver seconds time → ⊥) → IsPolled old new poller done → DoesLinked seconds old new v x poller (Ok (Some done))
 is_done seconds old new v w x poller done count time looks sees not is = (is, count + 1, omega arith, looks_more seconds v w x count time looks sees not)
 
 pub has_tired : {A : Type 0} (seconds : ℕ) (old now : Option (List Moment)) (v w : Option (List Sight)) (poller : PollerValue) (head : HeadEnd A) (count : ℕ) → count ≡ TURNS
-    → Under seconds old now v w poller head count → Does seconds old now v w poller (Err (Poll poll.Line))
+    → Under seconds old now v w poller head count → DoesLinked seconds old now v w poller (Err (Poll poll.Line))
 has_tired seconds old now v w poller head count all under =
     Tires refl under.side.acts under.side.world under.side.called (under.side.sent ∙ all) (subst (λ (n : ℕ). Looks seconds v w n []) all under.looks)
 
 -- ---- an attempt
 
-pub attempt_found : (connected : Bool) (aim : Aim) (old new : Option (List Moment)) (v w : Option (List Sight)) (found : Option PollerValue)
+pub attempt_found : (connected : Bool) (aim : Aim) (old new : Option (List Moment)) (v w : Option (List Sight)) (found : Option DonePoll)
     → Drives connected aim old new v w (Ok found) → Attempts connected aim old new v w (Ok found)
 attempt_found connected aim old new v w (Some done) drives = drives
 attempt_found connected aim old new v w None drives = Polling drives
@@ -107,42 +110,42 @@ attempt_found connected aim old new v w None drives = Polling drives
 -- ---- a call
 
 -- the attempts so far, and one more
-pub tries_so : (aim : Aim) (old mid new : Option (List Moment)) (v before w : Option (List Sight)) (count : ℕ) (connected : Bool) (r : Result (Option PollerValue) FieldFault)
+pub tries_so : (aim : Aim) (old mid new : Option (List Moment)) (v before w : Option (List Sight)) (count : ℕ) (connected : Bool) (r : Result (Option DonePoll) FieldFault)
     → Tried aim old v count connected mid before → Attempts connected aim mid new before w r → Tries aim old new v w r
 tries_so aim old mid new v before w count connected r tried attempt = record { count = count; connected = connected; mid = mid; before = before; tried = tried; attempt = attempt }
 
-pub has_called : (aim : Aim) (old new : Option (List Moment)) (v w : Option (List Sight)) (found : Option PollerValue)
+pub has_called : (aim : Aim) (old new : Option (List Moment)) (v w : Option (List Sight)) (found : Option DonePoll)
     → Tries aim old new v w (Ok found) → Calls aim old new v w (Ok found)
 has_called aim old new v w (Some done) tries = tries
 has_called aim old new v w None tries = Slow tries
 
 -- at the deadline
-pub gave_up : (aim : Aim) (old new : Option (List Moment)) (v mid w : Option (List Sight)) (fault : FieldFault) (next : Bool) (r : Result (Option PollerValue) FieldFault)
-    → Tries aim old new v mid (Err fault) → next_line fault ≡ Some next → Waits aim.address aim.seconds mid w (Ok None) → GivesUp fault r → Calls aim old new v w r
+pub gave_up : (aim : Aim) (old new : Option (List Moment)) (v mid w : Option (List Sight)) (fault : FieldFault) (next : Bool) (r : Result (Option DonePoll) FieldFault)
+    → Tries aim old new v mid (Err fault) → next_line (outlasts aim.way) fault ≡ Some next → Waits aim.address aim.seconds mid w (Ok None) → GivesUp fault r → Calls aim old new v w r
 gave_up aim old new v mid w (System place error) next r tries is waits gives =
-    subst (λ (given : Result (Option PollerValue) FieldFault). Calls aim old new v w given) (sym gives) (Refused next mid tries is refl waits)
+    subst (λ (given : Result (Option DonePoll) FieldFault). Calls aim old new v w given) (sym gives) (Refused next mid tries is refl waits)
 gave_up aim old new v mid w Secret next r tries is waits gives =
-    subst (λ (given : Result (Option PollerValue) FieldFault). Calls aim old new v w given) (sym gives) (Over Secret next mid tries is refl waits)
+    subst (λ (given : Result (Option DonePoll) FieldFault). Calls aim old new v w given) (sym gives) (Over Secret next mid tries is refl waits)
 gave_up aim old new v mid w (Late place deadline) next r tries is waits gives =
-    subst (λ (given : Result (Option PollerValue) FieldFault). Calls aim old new v w given) (sym gives) (Over (Late place deadline) next mid tries is refl waits)
+    subst (λ (given : Result (Option DonePoll) FieldFault). Calls aim old new v w given) (sym gives) (Over (Late place deadline) next mid tries is refl waits)
 gave_up aim old new v mid w (Clock place why) next r tries is waits gives =
-    subst (λ (given : Result (Option PollerValue) FieldFault). Calls aim old new v w given) (sym gives) (Over (Clock place why) next mid tries is refl waits)
+    subst (λ (given : Result (Option DonePoll) FieldFault). Calls aim old new v w given) (sym gives) (Over (Clock place why) next mid tries is refl waits)
 gave_up aim old new v mid w (Stranger place one) next r tries is waits gives =
-    subst (λ (given : Result (Option PollerValue) FieldFault). Calls aim old new v w given) (sym gives) (Over (Stranger place one) next mid tries is refl waits)
+    subst (λ (given : Result (Option DonePoll) FieldFault). Calls aim old new v w given) (sym gives) (Over (Stranger place one) next mid tries is refl waits)
 gave_up aim old new v mid w (Unasked place why) next r tries is waits gives =
-    subst (λ (given : Result (Option PollerValue) FieldFault). Calls aim old new v w given) (sym gives) (Over (Unasked place why) next mid tries is refl waits)
+    subst (λ (given : Result (Option DonePoll) FieldFault). Calls aim old new v w given) (sym gives) (Over (Unasked place why) next mid tries is refl waits)
 gave_up aim old new v mid w (Other why) next r tries is waits gives =
-    subst (λ (given : Result (Option PollerValue) FieldFault). Calls aim old new v w given) (sym gives) (Over (Other why) next mid tries is refl waits)
+    subst (λ (given : Result (Option DonePoll) FieldFault). Calls aim old new v w given) (sym gives) (Over (Other why) next mid tries is refl waits)
 
 -- what is returned then is no poll
-pub gives_none : (P : PollerValue → Type 0) (fault : FieldFault) (r : Result (Option PollerValue) FieldFault) → GivesUp fault r → IfOk r (λ found. IfSome found P)
-gives_none P (System place error) r gives = subst (λ (given : Result (Option PollerValue) FieldFault). IfOk given (λ found. IfSome found P)) (sym gives) tt
-gives_none P Secret r gives = subst (λ (given : Result (Option PollerValue) FieldFault). IfOk given (λ found. IfSome found P)) (sym gives) tt
-gives_none P (Late place deadline) r gives = subst (λ (given : Result (Option PollerValue) FieldFault). IfOk given (λ found. IfSome found P)) (sym gives) tt
-gives_none P (Clock place why) r gives = subst (λ (given : Result (Option PollerValue) FieldFault). IfOk given (λ found. IfSome found P)) (sym gives) tt
-gives_none P (Stranger place one) r gives = subst (λ (given : Result (Option PollerValue) FieldFault). IfOk given (λ found. IfSome found P)) (sym gives) tt
-gives_none P (Unasked place why) r gives = subst (λ (given : Result (Option PollerValue) FieldFault). IfOk given (λ found. IfSome found P)) (sym gives) tt
-gives_none P (Other why) r gives = subst (λ (given : Result (Option PollerValue) FieldFault). IfOk given (λ found. IfSome found P)) (sym gives) tt
+pub gives_none : (P : DonePoll → Type 0) (fault : FieldFault) (r : Result (Option DonePoll) FieldFault) → GivesUp fault r → IfOk r (λ found. IfSome found P)
+gives_none P (System place error) r gives = subst (λ (given : Result (Option DonePoll) FieldFault). IfOk given (λ found. IfSome found P)) (sym gives) tt
+gives_none P Secret r gives = subst (λ (given : Result (Option DonePoll) FieldFault). IfOk given (λ found. IfSome found P)) (sym gives) tt
+gives_none P (Late place deadline) r gives = subst (λ (given : Result (Option DonePoll) FieldFault). IfOk given (λ found. IfSome found P)) (sym gives) tt
+gives_none P (Clock place why) r gives = subst (λ (given : Result (Option DonePoll) FieldFault). IfOk given (λ found. IfSome found P)) (sym gives) tt
+gives_none P (Stranger place one) r gives = subst (λ (given : Result (Option DonePoll) FieldFault). IfOk given (λ found. IfSome found P)) (sym gives) tt
+gives_none P (Unasked place why) r gives = subst (λ (given : Result (Option DonePoll) FieldFault). IfOk given (λ found. IfSome found P)) (sym gives) tt
+gives_none P (Other why) r gives = subst (λ (given : Result (Option DonePoll) FieldFault). IfOk given (λ found. IfSome found P)) (sym gives) tt
 
 -- ---- a line of errors
 

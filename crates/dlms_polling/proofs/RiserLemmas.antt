@@ -117,7 +117,7 @@ chosen : (p : Row → Bool) (kept rows : List Row) → IsSublist kept rows → I
 chosen p [] rows some = tt
 chosen p (k ∷ ks) [] some = absurd some
 chosen p (k ∷ ks) (row ∷ rows) some =
-    ⊎_elim (λ is.
+    ⊎_elim (λ (is : (k ≡ row) × IsSublist ks rows).
     elim (p k) as (λ v. IsSublist (cond v (k ∷ filter p ks) (filter p ks)) (row ∷ rows)) [ true ↦ inl (is.0, chosen p ks rows is.1) | false ↦ longer (filter p ks) rows row (chosen p ks rows is.1) ])
     (λ is. longer (filter p (k ∷ ks)) rows row (chosen p (k ∷ ks) rows is)) some
 

@@ -1,13 +1,12 @@
 -- The course of a poll, from the secret to the file.
 use Rattle.std.specs.Prelude.{◌≡◌, ℕ, List, [], ◌∷◌, length, option_map, Option, Some, None, Result, Ok, Err, IsOk, MatchResult}
 use Rattle.std.specs.declared.io.Error.{Error}
+use Rattle.dlms_carrier.specs.declared.any.Route.{Route}
 use Rattle.dlms_frame.specs.declared.client.Client.{Client}
 use Rattle.dlms_headend.specs.Asking.{PlanValue}
 use Rattle.dlms_headend.specs.Merged.{last_clock}
-use Rattle.dlms_headend.specs.PollerValue.{PollerValue}
 use Rattle.dlms_headend.specs.declared.plan.Columns.TheVariants.{Asked as AsksColumns}
 use Rattle.dlms_headend.specs.declared.row.Row.{Row}
-use Rattle.dlms_ends.specs.BothEnds.{IsDonePoll}
 use Rattle.dlms_ends.specs.Faults.{TellsError}
 use Rattle.dlms_filing.specs.Filing.{PlaceCall}
 use Rattle.dlms_ends.specs.Moments.{Moment}
@@ -17,7 +16,9 @@ use Rattle.dlms_polling.specs.Calling.{FailsCalled, HasDone, aim_of}
 use Rattle.dlms_polling.specs.Clocks.{AreInTime, IsFirstAhead, Takes}
 use Rattle.dlms_lines.specs.Faults.{IsOther}
 use Rattle.dlms_polling.specs.Keeping.{FilesNone, FilesPolled, HoldsFile, OpensFile}
-use Rattle.dlms_polling.specs.Secret.{FindsNoSecret, FindsSecret}
+use Rattle.dlms_polling.specs.Secret.{FindsNoneSent, FindsSent}
+use Rattle.dlms_polling.specs.Ways.{IsDoneBy, Way, Linked, Routed, rows_of}
+use Rattle.dlms_polling.specs.declared.way.DonePoll.{DonePoll}
 use Rattle.dlms_lines.specs.Watching.{Sight, Sees}
 use Rattle.dlms_lines.specs.Watching.Sight.{Dates}
 use Rattle.dlms_lines.specs.declared.fault.ClockFault.TheVariants.{Ahead}
@@ -34,6 +35,22 @@ plan_behind client secret before = record {
   after = last_clock before;
   columns = AsksColumns;
 }
+
+abbrev pub secret_in : Option (List ℕ) → List ℕ
+secret_in None = []
+secret_in (Some secret) = secret
+
+-- The way of such a poll: over the route, if there is one, and otherwise over this client's link.
+abbrev pub way_by : Option Route → Client → Option (List ℕ) → List Row → Way
+way_by None client secret before = Linked (plan_behind client (secret_in secret) before)
+way_by (Some route) client secret before = Routed route (record {
+  secret = secret;
+  after = last_clock before;
+  columns = AsksColumns;
+})
+
+abbrev pub way_behind : Polling → Option (List ℕ) → List Row → Way
+way_behind polling secret before = way_by polling.route polling.client secret before
 
 -- the known questions of a head end: to the world, to the place of its readings, to its line, and the texts that it prints and
 -- reports as errors
@@ -52,6 +69,16 @@ abbrev pub secret_file_of : Polling → Option (List ℕ)
 secret_file_of polling = option_map (λ file. file.now) polling.secret_file
 
 -- ---- before the call
+
+-- the secret that it sends, or why there is none
+abbrev pub SendsSecret : Polling → Option (List Sight) → Option (List Sight) → Option (List ℕ)
+    → Type 0
+SendsSecret polling seen seen' secret =
+    FindsSent polling.route polling.client (secret_file_of polling) seen seen' secret
+
+abbrev pub LacksSecret : Polling → Option (List Sight) → Option (List Sight) → FieldFault → Type 0
+LacksSecret polling seen seen' fault =
+    FindsNoneSent polling.route polling.client (secret_file_of polling) seen seen' fault
 
 -- How far a row may be past the clock of the day, which is looked at if that is asked for.
 abbrev pub Limits : Option ℕ → Option (List Sight) → Option (List Sight)
@@ -81,65 +108,65 @@ JudgesFiled (Some file) (Some limit) rows result =
 
 -- The secret is there, the file is held, these rows are in it, and the limit is known.
 pub record HasRead (polling : Polling) (seen seen' : Option (List Sight))
-    (asked asked' : Option (List PlaceCall)) (secret : List ℕ) (rows : List Row) (limit : Option Limit)
-    : Type 0 where
+    (asked asked' : Option (List PlaceCall)) (secret : Option (List ℕ)) (rows : List Row)
+    (limit : Option Limit) : Type 0 where
   pub mid : Option (List Sight)
   pub held : Option (List PlaceCall)
-  pub finds : FindsSecret polling.client (secret_file_of polling) seen mid secret
+  pub finds : SendsSecret polling seen mid secret
   pub holds : HoldsFile {T = Unit {0}} (readings_of polling) asked held (Ok tt)
   pub opens : OpensFile (readings_of polling) held asked' (Ok rows)
   pub limits : Limits polling.ahead mid seen' (Ok limit)
 
 -- and the rows are not past it
 pub record IsReady (polling : Polling) (seen seen' : Option (List Sight))
-    (asked asked' : Option (List PlaceCall)) (secret : List ℕ) (rows : List Row) (limit : Option Limit)
-    : Type 0 where
+    (asked asked' : Option (List PlaceCall)) (secret : Option (List ℕ)) (rows : List Row)
+    (limit : Option Limit) : Type 0 where
   pub has : HasRead polling seen seen' asked asked' secret rows limit
   pub judged : JudgesFiled {T = Unit {0}} (readings_of polling) limit rows (Ok tt)
 
 -- Or the first of these that is not so, with its report.
 pub data IsUnready (polling : Polling) (seen seen' : Option (List Sight))
     (asked asked' : Option (List PlaceCall)) (fault : FieldFault) : Type 0 where
-  NoSecret : FindsNoSecret polling.client (secret_file_of polling) seen seen' fault → asked' ≡ asked
+  NoSecret : LacksSecret polling seen seen' fault → asked' ≡ asked
       → IsUnready polling seen seen' asked asked' fault
-  NotHeld : (secret : List ℕ) → FindsSecret polling.client
-      (secret_file_of polling) seen seen' secret
+  NotHeld : (secret : Option (List ℕ)) → SendsSecret polling seen seen' secret
       → HoldsFile {T = Unit {0}} (readings_of polling) asked asked' (Err fault)
       → IsUnready polling seen seen' asked asked' fault
-  NotOpened : (secret : List ℕ) (held : Option (List PlaceCall))
-      → FindsSecret polling.client (secret_file_of polling) seen seen' secret
+  NotOpened : (secret : Option (List ℕ)) (held : Option (List PlaceCall))
+      → SendsSecret polling seen seen' secret
       → HoldsFile {T = Unit {0}} (readings_of polling) asked held (Ok tt)
       → OpensFile (readings_of polling) held asked' (Err fault)
       → IsUnready polling seen seen' asked asked' fault
-  NoDate : (secret : List ℕ) (rows : List Row) (mid : Option (List Sight))
+  NoDate : (secret : Option (List ℕ)) (rows : List Row) (mid : Option (List Sight))
       (held : Option (List PlaceCall)) (why : RunFault)
-      → FindsSecret polling.client (secret_file_of polling) seen mid secret
+      → SendsSecret polling seen mid secret
       → HoldsFile {T = Unit {0}} (readings_of polling) asked held (Ok tt)
       → OpensFile (readings_of polling) held asked' (Ok rows)
       → Limits polling.ahead mid seen' (Err why) → IsOther fault why
       → IsUnready polling seen seen' asked asked' fault
-  IsAhead : (secret : List ℕ) (rows : List Row) (limit : Option Limit)
+  IsAhead : (secret : Option (List ℕ)) (rows : List Row) (limit : Option Limit)
       → HasRead polling seen seen' asked asked' secret rows limit
       → JudgesFiled {T = Unit {0}} (readings_of polling) limit rows (Err fault)
       → IsUnready polling seen seen' asked asked' fault
 
 -- ---- the whole of it
 
--- It was ready; over the line each expected text was shown, and then a poll by this client was done, from the second of the last
--- row in the file on, with rows that are accepted; and they are filed.
+-- It was ready; over the line each expected text was shown, and then a poll was done over the route or by this client, from the
+-- second of the last row in the file on, with rows that are accepted; and they are filed.
 pub record IsDone (polling : Polling) (before after : Known) : Type 0 where
-  pub secret : List ℕ
+  pub secret : Option (List ℕ)
   pub rows : List Row
   pub limit : Option Limit
   pub seen : Option (List Sight)
   pub asked : Option (List PlaceCall)
   pub ready : IsReady polling before.seen seen before.asked asked secret rows limit
-  pub done : PollerValue
-  pub called : HasDone (aim_of polling
-      (plan_behind polling.client secret rows)) before.past after.past seen after.seen done
-  pub takes : Takes polling.strict limit done.talk.rows
-  pub polled : IsDonePoll (plan_behind polling.client secret rows) done
-  pub files : FilesPolled asked after.asked before.printed after.printed before.errors after.errors rows done.talk.rows
+  pub done : DonePoll
+  pub called : HasDone (aim_of polling (way_behind polling secret rows)) before.past after.past seen
+      after.seen done
+  pub takes : Takes polling.strict limit (rows_of done)
+  pub polled : IsDoneBy (way_behind polling secret rows) done
+  pub files : FilesPolled asked after.asked before.printed after.printed before.errors after.errors
+      rows (rows_of done)
 
 -- nothing was printed, and nothing told
 abbrev pub PrintsNone : Known → Known → Type 0
@@ -149,22 +176,22 @@ PrintsNone before after = (after.printed ≡ before.printed) × (after.errors �
 pub data PollFails (polling : Polling) (before after : Known) (fault : FieldFault) : Type 0 where
   NotReady : IsUnready polling before.seen after.seen before.asked after.asked fault
       → after.past ≡ before.past → PrintsNone before after → PollFails polling before after fault
-  NotCalled : (secret : List ℕ) (rows : List Row) (limit : Option Limit)
+  NotCalled : (secret : Option (List ℕ)) (rows : List Row) (limit : Option Limit)
       (seen : Option (List Sight))
       → IsReady polling before.seen seen before.asked after.asked secret rows limit
-      → FailsCalled (aim_of polling
-      (plan_behind polling.client secret rows)) polling.strict limit before.past after.past seen after.seen fault
+      → FailsCalled (aim_of polling (way_behind polling secret rows)) polling.strict limit
+      before.past after.past seen after.seen fault
       → PrintsNone before after
       → PollFails polling before after fault
-  NotFiled : (secret : List ℕ) (rows : List Row) (limit : Option Limit) (seen : Option (List Sight))
-      (asked : Option (List PlaceCall))
+  NotFiled : (secret : Option (List ℕ)) (rows : List Row) (limit : Option Limit)
+      (seen : Option (List Sight)) (asked : Option (List PlaceCall))
       → IsReady polling before.seen seen before.asked asked secret rows limit
-      → (done : PollerValue) → HasDone
-      (aim_of polling
-      (plan_behind polling.client secret rows)) before.past after.past seen after.seen done
-      → Takes polling.strict limit done.talk.rows
-      → FilesNone
-      (readings_of polling) asked after.asked before.printed after.printed before.errors after.errors rows done.talk.rows fault
+      → (done : DonePoll)
+      → HasDone (aim_of polling (way_behind polling secret rows)) before.past after.past seen
+      after.seen done
+      → Takes polling.strict limit (rows_of done)
+      → FilesNone (readings_of polling) asked after.asked before.printed after.printed before.errors
+      after.errors rows (rows_of done) fault
       → PollFails polling before after fault
 
 abbrev pub Polls : {T : Type 0} → Polling → Known → Known → Result T FieldFault → Type 0

@@ -1,5 +1,6 @@
 -- A secret in a file, or the first one of a client.
 use Rattle.std.specs.Prelude.{◌≡◌, ◌⊎◌, ◌<◌, ℕ, List, [], ◌∷◌, ◌++◌, length, Option, Some, None, Ok, Err}
+use Rattle.dlms_carrier.specs.declared.any.Route.{Route}
 use Rattle.dlms_frame.specs.declared.client.Client.{Client}
 use Rattle.dlms_frame.specs.declared.client.Client.TheVariants.{Public, Management, Reader}
 use Rattle.dlms_state.specs.Events.{first_secret}
@@ -56,3 +57,25 @@ abbrev pub FindsNoSecret : Client → Option (List ℕ) → Option (List Sight) 
 FindsNoSecret Public file seen seen' fault = ⊥
 FindsNoSecret Management file seen seen' fault = FindsNone file seen seen' fault
 FindsNoSecret Reader file seen seen' fault = FindsNone file seen seen' fault
+
+-- ---- the secret that a poll sends
+
+-- the one in the file if one is given, otherwise none
+abbrev pub FindsGiven : Option (List ℕ) → Option (List Sight) → Option (List Sight)
+    → Option (List ℕ) → Type 0
+FindsGiven None seen seen' secret = (secret ≡ None) × Sees seen seen' []
+FindsGiven (Some file) seen seen' None = ⊥
+FindsGiven (Some file) seen seen' (Some secret) = Finds [] (Some file) seen seen' secret
+
+-- Over a route only the one in a file is sent: a meter there need not be this project's, whose first secrets are known. Without a
+-- route it is the client's.
+abbrev pub FindsSent : Option Route → Client → Option (List ℕ) → Option (List Sight)
+    → Option (List Sight) → Option (List ℕ) → Type 0
+FindsSent (Some route) client file seen seen' secret = FindsGiven file seen seen' secret
+FindsSent None client file seen seen' None = ⊥
+FindsSent None client file seen seen' (Some secret) = FindsSecret client file seen seen' secret
+
+abbrev pub FindsNoneSent : Option Route → Client → Option (List ℕ) → Option (List Sight)
+    → Option (List Sight) → FieldFault → Type 0
+FindsNoneSent (Some route) client file seen seen' fault = FindsNone file seen seen' fault
+FindsNoneSent None client file seen seen' fault = FindsNoSecret client file seen seen' fault

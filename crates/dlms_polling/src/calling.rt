@@ -1,45 +1,40 @@
 //! A meter is called and polled. A line that is refused, lost or silent is tried again until the deadline.
 
-ghost use Rattle.std.specs.Prelude.{◌≡◌, ◌↔◌, ◌≤◌, IfOk, IfSome, IsTrue, option_map};
+ghost use Rattle.std.specs.Prelude.{◌≡◌, ◌↔◌, IfOk, IfSome, IsTrue, false};
 ghost use Rattle.std.specs.IoError.{error_kind};
-ghost use Rattle.dlms_data.specs.declared.date_time.TheConstants.{LAST_SECOND};
 ghost use Rattle.dlms_headend.specs.Asking.{PlanValue};
 ghost use Rattle.dlms_headend.specs.Polling.{fresh_poll};
 ghost use Rattle.dlms_ends.specs.BothEnds.{IsDonePoll};
-ghost use Rattle.dlms_headend.specs.PollerValue.{plan_of};
-ghost use Rattle.dlms_client.specs.Plan.{IsPlan, plan_of as asking_plan};
-ghost use Rattle.dlms_polling.specs.Calling.{Attempts, Calls, Does, GivesUp, IsOfCall, IsUnaskedAt, Knows, Reaches, Waits, aim_of, asker_of, is_lost, next_line, secret_by};
+ghost use Rattle.dlms_polling.specs.Calling.{Attempts, Calls, GivesUp, IsOfCall, IsUnaskedAt, Knows, Prepares, Reaches, Renews, Waits, aim_of, is_lost, next_line};
+ghost use Rattle.dlms_polling.specs.Doing.{Does, DoesLinked};
+ghost use Rattle.dlms_polling.specs.Ways.{IsDoneBy, IsWay, outlasts, way_of};
 ghost use Rattle.dlms_lines.specs.Deadline.{IsOver};
 
 use crate::poll_inputs::PollInputs;
 use crate::polling::Polling;
-use arrayvec::ArrayVec;
+use crate::routed::poll_over;
+use crate::way::{DonePoll, Way, again, fresh};
 use dlms_call::CallFault;
-use dlms_client::{Fault, Route};
+use dlms_client::Fault;
 use dlms_ends::{End, HeadEnd, PollTurn, RunFault, TURNS, dial};
-use dlms_frame::{Address, Client};
-use dlms_headend::{Plan, PollFault, Poller};
-use dlms_identity::first_other;
+use dlms_headend::{PollFault, Poller};
+use dlms_identity::{Expected, first_other};
 use dlms_lines::{Dialling, FieldFault, Timer, is_over};
 use std::alloc::Global;
-use std::io;
 use std::io::ErrorKind;
+use std::{io, slice};
 
 /// The most attempts of a poll. Each is followed by a pause of a second, and no deadline is that long.
 pub const ATTEMPTS: u32 = 131_072;
 
-/// The most bytes of an APDU by which a text is asked for.
-const SIZE: u16 = 1_024;
-
 /// Whether a poll that may take this many seconds has to end at this one.
-fn has_to_end(seconds: u32, time: u64) -> bool
+pub fn has_to_end(seconds: u32, time: u64) -> bool
     ensures { IsTrue result ↔ IsOver seconds time }
 {
     is_over(u64::from(seconds), time)
 }
 
-/// Does a poll over a line whose other end is the meter; `None` if the deadline, this many seconds, is over. The clock is looked at
-/// before each turn.
+/// Does a poll over the client's link; `None` if the deadline, this many seconds, is over. The clock is looked at before each turn.
 #[inline(never)]
 fn poll_within<T: Timer, S: End>(
     line: &mut S,
@@ -47,7 +42,7 @@ fn poll_within<T: Timer, S: End>(
     seconds: u32,
     poller: Poller,
 ) -> Result<Option<Poller>, RunFault>
-    ensures does { Does seconds (S.past line.old) (S.past line.new) (T.seen timer.old)
+    ensures does { DoesLinked seconds (S.past line.old) (S.past line.new) (T.seen timer.old)
         (T.seen timer.new) poller result }
     ensures done { (plan : PlanValue) → poller ≡ fresh_poll plan
         → IfOk result (λ done. IfSome done (IsDonePoll plan)) }
@@ -65,6 +60,35 @@ fn poll_within<T: Timer, S: End>(
         }
     }
     Err(RunFault::Poll(PollFault::Line))
+}
+
+/// Does a poll in this way over a connected line; `None` if the deadline, this many seconds, is over.
+fn poll_by<T: Timer, S: End>(
+    alloc: Global,
+    line: &mut S,
+    timer: &mut T,
+    seconds: u32,
+    way: &Way,
+) -> Result<Option<DonePoll>, RunFault>
+    requires { IsWay (way_of way.now) }
+    ensures does { Does seconds (S.past line.old) (S.past line.new) (T.seen timer.old)
+        (T.seen timer.new) (way_of way.now) result }
+    ensures done { IfOk result (λ done. IfSome done (IsDoneBy (way_of way.now))) }
+{
+    match way {
+        Way::Linked(plan) => match poll_within(line, timer, seconds, fresh(alloc, plan)) {
+            Ok(Some(poller)) => Ok(Some(DonePoll::Linked(poller))),
+            Ok(None) => Ok(None),
+            Err(fault) => Err(fault),
+        },
+        Way::Routed(route, terms) => {
+            match poll_over(alloc, line, timer, seconds, *route, again(terms)) {
+                Ok(Some(end)) => Ok(Some(DonePoll::Routed(end))),
+                Ok(None) => Ok(None),
+                Err(fault) => Err(fault),
+            }
+        }
+    }
 }
 
 /// The fault of a poll that failed: if the line did, with the system's error.
@@ -92,29 +116,6 @@ fn reach<L: Dialling>(
     line.connect(address, seconds)
 }
 
-/// The secret that a client sends.
-fn secret_by(client: Client, secret: &ArrayVec<u8, 16>) -> Option<ArrayVec<u8, 16>>
-    ensures { option_map (λ secret. secret.items) result ≡ secret_by client secret.now.items }
-{
-    match client {
-        Client::Public => None,
-        Client::Management => Some(copy_of(secret)),
-        Client::Reader => Some(copy_of(secret)),
-    }
-}
-
-/// The client of a poll's plan, as it asks for texts.
-fn asker(plan: &Plan) -> dlms_client::Plan
-    ensures asker { asking_plan result ≡ asker_of (plan_of plan.now) }
-    ensures lawful { IsPlan (asking_plan result) }
-{
-    dlms_client::Plan {
-        route: Route::Hdlc(plan.client.sap(), Address::One(1)),
-        secret: secret_by(plan.client, &plan.secret),
-        size: SIZE,
-    }
-}
-
 /// The fault of a text that could not be asked for: if the line failed, with the system's error.
 fn asking_fault<'a>(
     address: &'a str,
@@ -129,21 +130,96 @@ fn asking_fault<'a>(
     }
 }
 
-/// Asks for the texts that the meter has to show.
+/// Asks for these texts, which the meter has to show.
 #[inline(never)]
 fn knows<'a, L: Dialling>(
     alloc: Global,
     line: &mut L,
     polling: &Polling<'a, '_>,
-    plan: &Plan,
+    way: &Way,
+    expected: &[Expected<'a>],
 ) -> Result<(), FieldFault<'a>>
-    ensures { Knows (aim_of polling.now (plan_of plan.now)) (L.past line.old)
+    requires { IsWay (way_of way.now) }
+    ensures { Knows (aim_of polling.now (way_of way.now)) expected.now (L.past line.old)
         (L.past line.new) result }
 {
-    match first_other(alloc, line, &asker(plan), polling.expected) {
+    match first_other(alloc, line, &way.asker(), expected) {
         Ok(None) => Ok(()),
         Ok(Some(one)) => Err(FieldFault::Stranger(polling.address, one)),
         Err(fault) => Err(asking_fault(polling.address, fault, line.failure())),
+    }
+}
+
+/// How many seconds are left of these.
+fn left_of(seconds: u32, time: u64) -> u32 {
+    seconds.saturating_sub(u32::try_from(time).unwrap_or(u32::MAX))
+}
+
+/// Connects the line anew, within the seconds that are left until the deadline. Returns whether that was done in time.
+fn renew<'a, D: PollInputs, L: Dialling>(
+    inputs: &mut D,
+    line: &mut L,
+    polling: &Polling<'a, '_>,
+) -> Result<bool, FieldFault<'a>>
+    ensures { Renews polling.now.address.now (L.past line.old) (L.past line.new)
+        (D.seen inputs.old) (D.seen inputs.new) result }
+{
+    let time = match inputs.seconds() {
+        Ok(time) => time,
+        Err(error) => return Err(FieldFault::System(polling.address, error)),
+    };
+    match line.connect(polling.address, left_of(polling.deadline, time)) {
+        Ok(is_connected) => Ok(is_connected),
+        Err(error) => Err(FieldFault::System(polling.address, error)),
+    }
+}
+
+/// Asks for one expected text after another, each over its own connection: after each the line is connected anew. Returns whether that
+/// was done in time.
+#[inline(never)]
+fn knows_each<'a, D: PollInputs, L: Dialling>(
+    alloc: Global,
+    inputs: &mut D,
+    line: &mut L,
+    polling: &Polling<'a, '_>,
+    way: &Way,
+) -> Result<bool, FieldFault<'a>>
+    requires { IsWay (way_of way.now) }
+    ensures { Prepares false (aim_of polling.now (way_of way.now)) (L.past line.old)
+        (L.past line.new) (D.seen inputs.old) (D.seen inputs.new) result }
+{
+    for one in polling.expected {
+        match knows(alloc, line, polling, way, slice::from_ref(one)) {
+            Ok(()) => {}
+            Err(fault) => return Err(fault),
+        }
+        match renew(inputs, line, polling) {
+            Ok(true) => {}
+            Ok(false) => return Ok(false),
+            Err(fault) => return Err(fault),
+        }
+    }
+    Ok(true)
+}
+
+/// Asks for the expected texts, and makes the line ready for the poll. Returns whether that was done in time.
+fn prepare<'a, D: PollInputs, L: Dialling>(
+    alloc: Global,
+    inputs: &mut D,
+    line: &mut L,
+    polling: &Polling<'a, '_>,
+    way: &Way,
+) -> Result<bool, FieldFault<'a>>
+    requires { IsWay (way_of way.now) }
+    ensures { Prepares (outlasts (way_of way.now)) (aim_of polling.now (way_of way.now))
+        (L.past line.old) (L.past line.new) (D.seen inputs.old) (D.seen inputs.new) result }
+{
+    if !way.outlasts() {
+        return knows_each(alloc, inputs, line, polling, way);
+    }
+    match knows(alloc, line, polling, way, polling.expected) {
+        Ok(()) => Ok(true),
+        Err(fault) => Err(fault),
     }
 }
 
@@ -153,26 +229,27 @@ fn attempt<'a, D: PollInputs, L: Dialling>(
     inputs: &mut D,
     line: &mut L,
     polling: &Polling<'a, '_>,
-    plan: &Plan,
+    way: &Way,
     left: u32,
     connected: bool,
-) -> Result<Option<Poller>, FieldFault<'a>>
-    requires { IfSome plan.now.after (λ second. second ≤ LAST_SECOND) }
-    ensures attempts { Attempts connected (aim_of polling.now (plan_of plan.now)) (L.past line.old)
+) -> Result<Option<DonePoll>, FieldFault<'a>>
+    requires { IsWay (way_of way.now) }
+    ensures attempts { Attempts connected (aim_of polling.now (way_of way.now)) (L.past line.old)
         (L.past line.new) (D.seen inputs.old) (D.seen inputs.new) result }
-    ensures done { IfOk result (λ done. IfSome done (IsDonePoll (plan_of plan.now))) }
+    ensures done { IfOk result (λ done. IfSome done (IsDoneBy (way_of way.now))) }
 {
     match reach(line, polling.address, left, connected) {
         Ok(true) => {}
         Ok(false) => return Ok(None),
         Err(error) => return Err(FieldFault::System(polling.address, error)),
     }
-    match knows(alloc, line, polling, plan) {
-        Ok(()) => {}
+    match prepare(alloc, inputs, line, polling, way) {
+        Ok(true) => {}
+        Ok(false) => return Ok(None),
         Err(fault) => return Err(fault),
     }
-    match poll_within(line, inputs, polling.deadline, fresh(alloc, plan)) {
-        Ok(poller) => Ok(poller),
+    match poll_by(alloc, line, inputs, polling.deadline, way) {
+        Ok(done) => Ok(done),
         Err(fault) => Err(line_fault(polling.address, fault, line.failure())),
     }
 }
@@ -192,14 +269,14 @@ fn is_lost(error: io::Error) -> bool
     }
 }
 
-/// Whether another attempt is made after this fault, and whether over the same connection: over the same one if no answer came, over a
-/// new one if this one was refused or lost.
-fn next_line(fault: &FieldFault<'_>) -> Option<bool>
-    ensures { result ≡ next_line fault.now }
+/// Whether another attempt is made after this fault, and whether over the same connection: if no answer came, over the same one if it
+/// outlasts that; over a new one if this one was refused or lost.
+fn next_line(way: &Way, fault: &FieldFault<'_>) -> Option<bool>
+    ensures { result ≡ next_line (outlasts (way_of way.now)) fault.now }
 {
     match fault {
-        FieldFault::Other(RunFault::Poll(PollFault::Line)) => Some(true),
-        FieldFault::Unasked(_, CallFault::Talk(Fault::Line)) => Some(true),
+        FieldFault::Other(RunFault::Poll(PollFault::Line)) => Some(way.outlasts()),
+        FieldFault::Unasked(_, CallFault::Talk(Fault::Line)) => Some(way.outlasts()),
         FieldFault::System(_, error) => { if is_lost(*error) { Some(false) } else { None } }
         _ => None,
     }
@@ -227,7 +304,7 @@ fn wait<'a, D: PollInputs>(
 }
 
 /// The outcome at the deadline after this fault: the fault itself, if the system has a message for it.
-fn outcome_at_deadline<'a>(fault: FieldFault<'a>) -> Result<Option<Poller>, FieldFault<'a>>
+fn outcome_at_deadline<'a>(fault: FieldFault<'a>) -> Result<Option<DonePoll>, FieldFault<'a>>
     ensures { GivesUp fault.entry result }
 {
     match fault {
@@ -236,50 +313,21 @@ fn outcome_at_deadline<'a>(fault: FieldFault<'a>) -> Result<Option<Poller>, Fiel
     }
 }
 
-/// How many seconds are left of these.
-fn left_of(seconds: u32, time: u64) -> u32 {
-    seconds.saturating_sub(u32::try_from(time).unwrap_or(u32::MAX))
-}
-
-/// The same secret once more.
-fn copy_of(secret: &ArrayVec<u8, 16>) -> ArrayVec<u8, 16>
-    ensures { result.items ≡ secret.now.items }
-{
-    let mut copy = ArrayVec::new();
-    let _fits = copy.try_extend_from_slice(secret.as_slice());
-    copy
-}
-
-/// A poll by this plan that has not begun.
-fn fresh(alloc: Global, plan: &Plan) -> Poller
-    requires { IfSome plan.now.after (λ second. second ≤ LAST_SECOND) }
-    ensures { result ≡ fresh_poll (plan_of plan.now) }
-{
-    Poller::new(
-        alloc,
-        Plan {
-            client: plan.client,
-            secret: copy_of(&plan.secret),
-            after: plan.after,
-            columns: plan.columns,
-        },
-    )
-}
-
-/// Calls a meter, and polls it by this plan, once it has shown the expected texts. Returns the poll that is done, with its rows, and none
-/// if the seconds are over before. A connection that is refused or lost is made again, and a meter that does not answer is asked again
-/// over the same one, a second later, until then. If the line failed, the fault has the system's error.
+/// Calls a meter, and polls it in this way, once it has shown the expected texts. Returns the poll that is done, with its rows, and none
+/// if the seconds are over before. A connection that is refused or lost is made again, and a meter that does not answer is asked again, a
+/// second later, until then: over the same connection, but over the wrapper over a new one. If the line failed, the fault has the
+/// system's error.
 pub fn call<'a, D: PollInputs, L: Dialling>(
     alloc: Global,
     inputs: &mut D,
     line: &mut L,
     polling: &Polling<'a, '_>,
-    plan: &Plan,
-) -> Result<Option<Poller>, FieldFault<'a>>
-    requires { IfSome plan.now.after (λ second. second ≤ LAST_SECOND) }
-    ensures calls { Calls (aim_of polling.now (plan_of plan.now)) (L.past line.old)
+    way: &Way,
+) -> Result<Option<DonePoll>, FieldFault<'a>>
+    requires { IsWay (way_of way.now) }
+    ensures calls { Calls (aim_of polling.now (way_of way.now)) (L.past line.old)
         (L.past line.new) (D.seen inputs.old) (D.seen inputs.new) result }
-    ensures done { IfOk result (λ done. IfSome done (IsDonePoll (plan_of plan.now))) }
+    ensures done { IfOk result (λ done. IfSome done (IsDoneBy (way_of way.now))) }
 {
     match inputs.start() {
         Ok(()) => {}
@@ -288,11 +336,11 @@ pub fn call<'a, D: PollInputs, L: Dialling>(
     let mut connected = false;
     let mut left = polling.deadline;
     'attempts: for _attempt in 0..ATTEMPTS {
-        let fault = match attempt(alloc, inputs, line, polling, plan, left, connected) {
+        let fault = match attempt(alloc, inputs, line, polling, way, left, connected) {
             Ok(found) => return Ok(found),
             Err(fault) => fault,
         };
-        let Some(next) = next_line(&fault) else {
+        let Some(next) = next_line(way, &fault) else {
             return Err(fault);
         };
         match wait(inputs, polling.address, polling.deadline) {

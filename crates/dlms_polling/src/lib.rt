@@ -8,7 +8,9 @@ pub mod laws;
 mod poll_inputs;
 mod polling;
 mod rising;
+mod routed;
 mod secret;
+mod way;
 
 pub use poll_inputs::{HostPollInputs, PollInputs, SteadyPollInputs};
 pub use polling::{PollSetup, Polling, poll};

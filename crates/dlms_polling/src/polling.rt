@@ -1,23 +1,24 @@
 //! A head end that polls the meter at an address once.
 
-ghost use Rattle.std.specs.Prelude.{◌≤◌, IfErr, IfOk, IfSome, option_map};
-ghost use Rattle.dlms_headend.specs.PollerValue.{plan_of};
-ghost use Rattle.dlms_ends.specs.BothEnds.{IsDonePoll};
+ghost use Rattle.std.specs.Prelude.{◌≡◌, IfErr, IfOk, IfSome, option_map};
+ghost use Rattle.dlms_carrier.specs.Any.{IsRoute};
 ghost use Rattle.dlms_polling.specs.Calling.{FailsCalled, HasDone, aim_of};
 ghost use Rattle.dlms_polling.specs.Clocks.{Takes};
-ghost use Rattle.dlms_polling.specs.Polled.{IsReady, IsUnready, JudgesFiled, Known, Limits, Polls};
+ghost use Rattle.dlms_polling.specs.Polled.{IsReady, IsUnready, JudgesFiled, Known, Limits, Polls, secret_in, way_behind};
+ghost use Rattle.dlms_polling.specs.Ways.{IsDoneBy, IsWay, rows_of, way_of};
 
 use crate::calling::call;
 use crate::clocks::{Limit, first_ahead, judge};
 use crate::keeping::{file_readings, hold_file, open_readings};
 use crate::poll_inputs::{HostPollInputs, PollInputs};
-use crate::secret::secret_of;
+use crate::secret::secret_to_send;
+use crate::way::{DonePoll, Way};
 use arrayvec::ArrayVec;
-use dlms_data::LAST_SECOND;
+use dlms_client::Route;
 use dlms_ends::RunFault;
 use dlms_filing::{FilePlace, Holding, HostDisk, Output};
 use dlms_frame::Client;
-use dlms_headend::{Columns, Plan, Poller, Readings, Row};
+use dlms_headend::{Columns, Plan, PollTerms, Readings, Row};
 use dlms_identity::Expected;
 use dlms_lines::{ClockFault, Dialling, FieldFault, MeterLine};
 use std::alloc::Global;
@@ -30,11 +31,14 @@ use std::time::Clock;
 pub struct Polling<'a, 'e> {
     /// The meter's address and port, or the device of its serial line.
     pub address: &'a str,
+    /// The route to the meter, whose addresses are in their ranges (`Route::is_lawful`). Without one the client polls the meter at
+    /// address 1 over its HDLC link.
+    pub route: Option<Route>,
     /// The readings file.
     pub readings: Option<&'a str>,
-    /// The file of the client's secret; its first secret if no file is given.
+    /// The file of the client's secret. If no file is given, no secret is sent over a route, and without a route the client's first one.
     pub secret_file: Option<&'a str>,
-    /// The client that asks. For a client without a secret no file is read.
+    /// The client that asks, without a route. For a client without a secret no file is read.
     pub client: Client,
     /// For how many seconds the meter is talked to at most.
     pub deadline: u32,
@@ -72,7 +76,7 @@ impl<'r, R: Net + Files<File = File> + Clock> PollSetup<
 /// The secret and the readings, read before the meter is called.
 #[derive(Drop)]
 struct Ready {
-    secret: ArrayVec<u8, 16>,
+    secret: Option<ArrayVec<u8, 16>>,
     readings: Readings,
     limit: Option<Limit>,
 }
@@ -119,11 +123,11 @@ fn prepare_poll<'a, D: PollInputs, F: Holding>(
     polling: &Polling<'a, '_>,
 ) -> Result<Ready, FieldFault<'a>>
     ensures ready { IfOk result (λ ready. IsReady polling.now (D.seen inputs.old) (D.seen inputs.new)
-        (F.asked place.old) (F.asked place.new) ready.secret.items ready.readings ready.limit) }
+        (F.asked place.old) (F.asked place.new) (option_map (λ s. s.items) ready.secret) ready.readings ready.limit) }
     ensures fails { IfErr result (IsUnready polling.now (D.seen inputs.old) (D.seen inputs.new)
         (F.asked place.old) (F.asked place.new)) }
 {
-    let secret = match secret_of(inputs, polling.client, polling.secret_file) {
+    let secret = match secret_to_send(inputs, polling.route, polling.client, polling.secret_file) {
         Ok(secret) => secret,
         Err(fault) => return Err(fault),
     };
@@ -156,35 +160,77 @@ fn call_meter<'a, D: PollInputs, L: Dialling>(
     inputs: &mut D,
     line: &mut L,
     polling: &Polling<'a, '_>,
-    plan: &Plan,
+    way: &Way,
     limit: Option<Limit>,
-) -> Result<Poller, FieldFault<'a>>
-    requires { IfSome plan.now.after (λ second. second ≤ LAST_SECOND) }
+) -> Result<DonePoll, FieldFault<'a>>
+    requires { IsWay (way_of way.now) }
     ensures fails { IfErr result (FailsCalled
-        (aim_of polling.now (plan_of plan.now)) polling.now.strict limit (L.past line.old)
+        (aim_of polling.now (way_of way.now)) polling.now.strict limit (L.past line.old)
         (L.past line.new) (D.seen inputs.old) (D.seen inputs.new)) }
-    ensures takes { IfOk result (λ done. HasDone (aim_of polling.now (plan_of plan.now))
+    ensures takes { IfOk result (λ done. HasDone (aim_of polling.now (way_of way.now))
         (L.past line.old) (L.past line.new) (D.seen inputs.old) (D.seen inputs.new) done
-        × Takes polling.now.strict limit done.talk.rows) }
-    ensures done { IfOk result (IsDonePoll (plan_of plan.now)) }
+        × Takes polling.now.strict limit (rows_of done)) }
+    ensures done { IfOk result (IsDoneBy (way_of way.now)) }
 {
-    let called = call(alloc, inputs, line, polling, plan);
-    let poller = match called {
-        Ok(Some(poller)) => poller,
+    let called = call(alloc, inputs, line, polling, way);
+    let done = match called {
+        Ok(Some(done)) => done,
         Ok(None) => return Err(FieldFault::Late(polling.address, polling.deadline)),
         Err(fault) => return Err(fault),
     };
-    match judge(poller.rows(), limit, polling.strict) {
-        Ok(()) => Ok(poller),
+    match judge(done.rows(), limit, polling.strict) {
+        Ok(()) => Ok(done),
         Err(fault) => Err(FieldFault::Clock(polling.address, fault)),
     }
 }
 
-/// Polls the meter at an address once over a line, if it shows the expected texts, merges the rows into the file if one is given,
-/// and prints the rows that the file did not have. The secret and the file are read before the meter is called, and no other poll
-/// has the file until the end. Each row that is later than the row filed before it is filed; the number of rows left out is
-/// reported on the errors. Rows that are too far past the clock of the day are refused, and with `strict` also rows that do not
-/// rise: nothing is filed then.
+/// The secret, or an empty one.
+fn or_empty(secret: Option<ArrayVec<u8, 16>>) -> ArrayVec<u8, 16>
+    ensures { result.items ≡ secret_in (option_map (λ s. s.items) secret) }
+{
+    match secret {
+        Some(secret) => secret,
+        None => ArrayVec::new(),
+    }
+}
+
+/// How the meter is polled from the last of the readings on, with this secret.
+fn way_behind(
+    polling: &Polling<'_, '_>,
+    secret: Option<ArrayVec<u8, 16>>,
+    readings: &Readings,
+) -> Way
+    requires { IfSome polling.now.route IsRoute }
+    ensures way { way_of result ≡ way_behind polling.now (option_map (λ s. s.items) secret)
+        readings.now }
+    ensures lawful { IsWay (way_of result) }
+{
+    let after = readings.last();
+    let columns = Columns::Asked;
+    match polling.route {
+        Some(route) => Way::Routed(
+            route,
+            PollTerms {
+                secret,
+                after,
+                columns,
+            },
+        ),
+        None => Way::Linked(Plan {
+            client: polling.client,
+            secret: or_empty(secret),
+            after,
+            columns,
+        }),
+    }
+}
+
+/// Polls the meter at an address once over a line, by the route if one is given, if it shows the expected texts, merges the rows into
+/// the file if one is given, and prints the rows that the file did not have. The caller has checked a route by `Route::is_lawful`.
+///
+/// The secret and the file are read before the meter is called, and no other poll has the file until the end. Each row that is later
+/// than the row filed before it is filed; the number of rows left out is reported on the errors. Rows that are too far past the clock of
+/// the day are refused, and with `strict` also rows that do not rise: nothing is filed then.
 pub fn poll<'a, D: PollInputs, F: Holding, L: Dialling, O: Output, E: Output>(
     alloc: Global,
     setup: &mut PollSetup<D, F, L>,
@@ -192,6 +238,7 @@ pub fn poll<'a, D: PollInputs, F: Holding, L: Dialling, O: Output, E: Output>(
     output: &mut O,
     errors: &mut E,
 ) -> Result<(), FieldFault<'a>>
+    requires { IfSome polling.now.route IsRoute }
     ensures { let before : Known = record {
       seen = D.seen setup.old.inputs;
       asked = F.asked setup.old.place;
@@ -213,28 +260,23 @@ pub fn poll<'a, D: PollInputs, F: Holding, L: Dialling, O: Output, E: Output>(
         Err(fault) => return Err(fault),
     };
     let mut readings = ready.readings;
-    let plan = Plan {
-        client: polling.client,
-        secret: ready.secret,
-        after: readings.last(),
-        columns: Columns::Asked,
-    };
-    let poller = match call_meter(
+    let way = way_behind(polling, ready.secret, &readings);
+    let done = match call_meter(
         alloc,
         &mut setup.inputs,
         &mut setup.line,
         polling,
-        &plan,
+        &way,
         ready.limit,
     ) {
-        Ok(poller) => poller,
+        Ok(done) => done,
         Err(fault) => return Err(fault),
     };
     file_readings(
         alloc,
         &mut setup.place,
         &mut readings,
-        poller.rows(),
+        done.rows(),
         polling.readings,
         output,
         errors,

@@ -2,10 +2,11 @@
 
 ghost use Rattle.std.specs.Prelude.{◌≡◌, ◌<◌, ℕ, List, [], Some, length, option_map, IfErr, IfOk, MatchOption};
 ghost use Rattle.dlms_polling.specs.FirstBytes.{AreFirst, IsByte, ReadsByte};
-ghost use Rattle.dlms_polling.specs.Secret.{Finds, FindsNone, FindsNoneIn, FindsNoSecret, FindsSecret, IsWithoutLineFeed, first_of};
+ghost use Rattle.dlms_polling.specs.Secret.{Finds, FindsGiven, FindsNone, FindsNoneIn, FindsNoneSent, FindsNoSecret, FindsSecret, FindsSent, IsWithoutLineFeed, first_of};
 
 use crate::poll_inputs::PollInputs;
 use arrayvec::ArrayVec;
+use dlms_client::Route;
 use dlms_frame::Client;
 use dlms_lines::FieldFault;
 use dlms_state::{MOST_SECRET, SecretOf};
@@ -148,5 +149,46 @@ pub fn secret_of<'a, D: PollInputs>(
         Client::Public => Ok(ArrayVec::new()),
         Client::Management => secret_or_first(inputs, client, file),
         Client::Reader => secret_or_first(inputs, client, file),
+    }
+}
+
+/// The secret in the file if one is given, otherwise none.
+fn secret_given<'a, D: PollInputs>(
+    inputs: &mut D,
+    file: Option<&'a str>,
+) -> Result<Option<ArrayVec<u8, 16>>, FieldFault<'a>>
+    ensures found { IfOk result (λ secret. FindsGiven (option_map (λ x. x.now) file.entry)
+        (D.seen inputs.old) (D.seen inputs.new) (option_map (λ s. s.items) secret)) }
+    ensures fails { IfErr result (FindsNone (option_map (λ x. x.now) file.entry) (D.seen inputs.old)
+        (D.seen inputs.new)) }
+{
+    let Some(file) = file else {
+        return Ok(None);
+    };
+    match secret_in_file(inputs, file) {
+        Ok(secret) => Ok(Some(secret)),
+        Err(fault) => Err(fault),
+    }
+}
+
+/// The secret that a poll sends: over a route the one in the file if one is given, and otherwise none; without a route the client's.
+pub fn secret_to_send<'a, D: PollInputs>(
+    inputs: &mut D,
+    route: Option<Route>,
+    client: Client,
+    file: Option<&'a str>,
+) -> Result<Option<ArrayVec<u8, 16>>, FieldFault<'a>>
+    ensures found { IfOk result (λ secret. FindsSent route client
+        (option_map (λ x. x.now) file.entry) (D.seen inputs.old) (D.seen inputs.new)
+        (option_map (λ s. s.items) secret)) }
+    ensures fails { IfErr result (FindsNoneSent route client
+        (option_map (λ x. x.now) file.entry) (D.seen inputs.old) (D.seen inputs.new)) }
+{
+    let None = route else {
+        return secret_given(inputs, file);
+    };
+    match secret_of(inputs, client, file) {
+        Ok(secret) => Ok(Some(secret)),
+        Err(fault) => Err(fault),
     }
 }

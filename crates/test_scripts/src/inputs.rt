@@ -287,6 +287,7 @@ fn a_meter_is_polled(rt: HostRuntime) {
         }];
         let polling = Polling {
             address: "meter:4059",
+            route: None,
             readings: Some("rows.csv"),
             secret_file: Some("secret"),
             client: Client::Management,

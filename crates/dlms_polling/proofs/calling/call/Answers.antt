@@ -1,6 +1,5 @@
 use Rattle.std.proofs.Common.{arith, refl, sym, subst, ◌≡◌, ℕ, Option, Ok}
-use Rattle.dlms_headend.specs.PollerValue.{plan_of}
-use Rattle.dlms_ends.specs.BothEnds.{IsDonePoll}
+use Rattle.dlms_polling.specs.Ways.{IsDoneBy, way_of}
 use Rattle.dlms_polling.specs.Calling.{Again, Begun, Fails, NoClock, NoWait, Tried, TriedOut, Waits, aim_of}
 use Rattle.dlms_polling.specs.declared.calling.TheConstants.{ATTEMPTS}
 use Rattle.dlms_polling.proofs.PollingLemmas.{gave_up, gives_none, tries_so}
@@ -21,7 +20,7 @@ returns-in-Ok-None-clause-calls g c =
     (subst (λ (found : Option ℕ). Waits c.args.polling.now.address.now c.args.polling.now.deadline (g.D.Timer.seen c.attempt.new.inputs) (g.D.Timer.seen c.wait.new.inputs) (Ok found)) c.in-Ok-None.field-0-is c.in-Ok-None.ensures) c.outcome_at_deadline.ensures
 
 pub returns-in-Ok-None-clause-done : goal.returns-in-Ok-None-clause-done
-returns-in-Ok-None-clause-done g c = gives_none (IsDonePoll (plan_of c.args.plan.now)) c.in-Err-attempt.fault c.outcome_at_deadline.result c.outcome_at_deadline.ensures
+returns-in-Ok-None-clause-done g c = gives_none (IsDoneBy (way_of c.args.way.now)) c.in-Err-attempt.fault c.outcome_at_deadline.result c.outcome_at_deadline.ensures
 
 pub returns-in-Err-wait-clause-calls : goal.returns-in-Err-wait-clause-calls
 returns-in-Err-wait-clause-calls g c =
@@ -37,4 +36,4 @@ attempts-preserved g c =
 pub returns-clause-calls : goal.returns-clause-calls
 returns-clause-calls g c =
     let all : c.attempts._attempt ≡ ATTEMPTS = omega (arith, c.attempts-test.false, c.attempts.auto._attempt-end) in
-    TriedOut c.attempts.connected (subst (λ (n : ℕ). Tried (aim_of c.args.polling.now (plan_of c.args.plan.now)) (g.L.End.past c.args.line.now) (g.D.Timer.seen c.args.inputs.now) n c.attempts.connected (g.L.End.past c.attempts.line) (g.D.Timer.seen c.attempts.inputs)) all c.attempts.invariant) refl
+    TriedOut c.attempts.connected (subst (λ (n : ℕ). Tried (aim_of c.args.polling.now (way_of c.args.way.now)) (g.L.End.past c.args.line.now) (g.D.Timer.seen c.args.inputs.now) n c.attempts.connected (g.L.End.past c.attempts.line) (g.D.Timer.seen c.attempts.inputs)) all c.attempts.invariant) refl

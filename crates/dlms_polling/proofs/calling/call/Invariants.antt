@@ -1,6 +1,6 @@
-use Rattle.dlms_headend.specs.PollerValue.{plan_of}
 use Rattle.dlms_polling.specs.Calling.{Tried, aim_of}
+use Rattle.dlms_polling.specs.Ways.{way_of}
 use Rattle.dlms_polling.proofs.calling.call.Given as goal
 
 abbrev pub invariant-attempts : goal.invariant-attempts
-invariant-attempts g l = Tried (aim_of l.fn.polling (plan_of l.fn.plan)) (g.L.End.past l.fn.line) (g.D.Timer.seen l.fn.inputs) l._attempt l.connected (g.L.End.past l.line) (g.D.Timer.seen l.inputs)
+invariant-attempts g l = Tried (aim_of l.fn.polling (way_of l.fn.way)) (g.L.End.past l.fn.line) (g.D.Timer.seen l.fn.inputs) l._attempt l.connected (g.L.End.past l.line) (g.D.Timer.seen l.inputs)

@@ -8,7 +8,7 @@ pub returns-in-Ok-Some : goal.returns-in-Ok-Some
 returns-in-Ok-Some g c =
     let old = g.L.End.past c.args.line.now in
     let new = g.L.End.past c.first_other.new.line in
-    let expected = c.args.polling.now.expected.now in
+    let expected = c.args.expected.now in
     let other : ShowsAllBut old new (plan_of c.asker.result) expected (Ok (Some c.in-Ok-Some.one)) =
     subst (λ (found : Option Expected). ShowsAllBut old new (plan_of c.asker.result) expected (Ok found)) c.in-Ok-Some.field-0-is c.in-Ok-Some.ensures in
     inl (c.in-Ok-Some.one, subst (λ (plan : PlanValue). ShowsAllBut old new plan expected (Ok (Some c.in-Ok-Some.one))) c.asker.ensures.asker other, (refl, refl))

@@ -1,0 +1,73 @@
+-- How a meter is polled, and a poll that is done.
+use Rattle.std.specs.Prelude.{◌≤◌, ℕ, Bool, true, false, List, Option, Some, None, IfSome}
+use Rattle.dlms_carrier.specs.Any.{IsRoute}
+use Rattle.dlms_carrier.specs.declared.any.Route.{Route}
+use Rattle.dlms_carrier.specs.declared.any.Route.TheVariants.{Hdlc, Tcp}
+use Rattle.dlms_client.specs.Plan.{PlanValue as PlanOfClient}
+use Rattle.dlms_data.specs.declared.date_time.TheConstants.{LAST_SECOND}
+use Rattle.dlms_ends.specs.BothEnds.{IsDonePoll}
+use Rattle.dlms_ends.specs.PollEnds.{IsPolledOver}
+use Rattle.dlms_frame.specs.Client.{sap_of}
+use Rattle.dlms_frame.specs.declared.client.Client.{Client}
+use Rattle.dlms_frame.specs.declared.client.Client.TheVariants.{Public, Management, Reader}
+use Rattle.dlms_frame.specs.declared.frame.Address.TheVariants.{One}
+use Rattle.dlms_headend.specs.Asking.{PlanValue}
+use Rattle.dlms_headend.specs.CarrierPollValue.{TermsValue, terms_of}
+use Rattle.dlms_headend.specs.PollerValue.{plan_of}
+use Rattle.dlms_headend.specs.declared.row.Row.{Row}
+use Rattle.dlms_polling.specs.declared.way.DonePoll.{DonePoll}
+use Rattle.dlms_polling.specs.declared.way.DonePoll.TheVariants as done
+use Rattle.dlms_polling.specs.declared.way.TheConstants.{SIZE}
+use Rattle.dlms_polling.specs.declared.way.Way.{Way as WayOf}
+use Rattle.dlms_polling.specs.declared.way.Way.TheVariants as by
+
+-- by this project's client over its own link, or over a route by these terms
+pub data Way : Type 0 where
+  Linked : (plan : PlanValue) → Way
+  Routed : (route : Route) (terms : TermsValue) → Way
+
+abbrev pub way_of : WayOf → Way
+way_of (by.Linked plan) = Linked (plan_of plan)
+way_of (by.Routed route terms) = Routed route (terms_of terms)
+
+-- its first second is one of the clock's, and its addresses are in their ranges
+abbrev pub IsWay : Way → Type 0
+IsWay (Linked plan) = IfSome plan.after (λ second. second ≤ LAST_SECOND)
+IsWay (Routed route terms) = IsRoute route × IfSome terms.after (λ second. second ≤ LAST_SECOND)
+
+-- Whether a connection outlasts an association over it, and an answer that did not come. Over the wrapper it does not: the
+-- association ends with its connection (IEC 62056-47), and a late answer could be taken for that to the next request.
+abbrev pub outlasts : Way → Bool
+outlasts (Linked plan) = true
+outlasts (Routed (Hdlc own server) terms) = true
+outlasts (Routed (Tcp own server) terms) = false
+
+-- ---- the client that asks for texts
+
+-- the secret that a client sends: the public client sends none
+abbrev pub secret_by : Client → List ℕ → Option (List ℕ)
+secret_by Public secret = None
+secret_by Management secret = Some secret
+secret_by Reader secret = Some secret
+
+-- it asks the meter that is polled, with the secret of the poll: over the link the meter at address 1
+abbrev pub asker_of : Way → PlanOfClient
+asker_of (Linked plan) = record {
+  route = Hdlc (sap_of plan.client) (One 1);
+  secret = secret_by plan.client plan.secret;
+  size = SIZE;
+}
+asker_of (Routed route terms) = record { route = route; secret = terms.secret; size = SIZE }
+
+-- ---- a poll that is done
+
+abbrev pub rows_of : DonePoll → List Row
+rows_of (done.Linked poller) = poller.talk.rows
+rows_of (done.Routed end) = end.poll.talk.rows
+
+-- It was made in this way, and is done: it took an acceptance, answers that spell its rows, and the answer to the release.
+abbrev pub IsDoneBy : Way → DonePoll → Type 0
+IsDoneBy (Linked plan) (done.Linked poller) = IsDonePoll plan poller
+IsDoneBy (Linked plan) (done.Routed end) = ⊥
+IsDoneBy (Routed route terms) (done.Linked poller) = ⊥
+IsDoneBy (Routed route terms) (done.Routed end) = IsPolledOver route terms end
