@@ -7,15 +7,15 @@ use crate::fault::Fault;
 use crate::given::value_given;
 use crate::profile::{ProfileRequest, request_of};
 use crate::requests::{MeterSession, read_name};
+use crate::route::route_of;
 use arrayvec::ArrayVec;
 use dlms_call::{CallFault, ClientEnd, begin};
 use dlms_client::{Plan, Route};
 use dlms_data::Data;
 use dlms_ends::End;
-use dlms_frame::{Address, Client};
+use dlms_frame::Client;
 use dlms_lines::{Dialling, FieldFault, MeterLine};
 use dlms_polling::{HostPollInputs, secret_of};
-use dlms_text::server_of;
 use dlms_words::{
     ActOptions, Asking, GetOptions, ListOptions, OutputFormat, ProfileOptions, SetOptions,
     ValueFormat,
@@ -65,68 +65,6 @@ struct Call<'a> {
     plan: Plan,
 }
 
-/// What carries the APDUs over a line.
-#[derive(Clone, Copy, PartialEq, Eq)]
-enum Carrier {
-    Hdlc,
-    Wrapper,
-}
-
-/// The carrier to a place, and the address or the device of the line. The place may name its carrier, as `wrapper://HOST:PORT`;
-/// otherwise an option does.
-fn line_of<'a>(asking: &Asking<'a>) -> Result<(Carrier, &'a str), Fault<'a>> {
-    let (carrier, line) = match asking.place.split_once("://") {
-        Some((carrier, line)) => (carrier, line),
-        None if asking.wrapper => ("wrapper", asking.place),
-        None => ("hdlc", asking.place),
-    };
-    let is_device = line.starts_with('/');
-    if carrier == "wrapper" && !is_device && !asking.wide {
-        Ok((Carrier::Wrapper, line))
-    } else if (carrier == "hdlc" || carrier == "serial" && is_device) && !asking.wrapper {
-        Ok((Carrier::Hdlc, line))
-    } else {
-        Err(Fault::Place(asking.place))
-    }
-}
-
-/// The meter's wrapper port.
-fn port<'a>(asking: &Asking<'a>) -> Result<u16, Fault<'a>> {
-    let Some(text) = asking.server else {
-        return Ok(1);
-    };
-    match text.parse::<u16>() {
-        Ok(port) if !text.starts_with('+') => Ok(port),
-        _ => Err(Fault::Port(text)),
-    }
-}
-
-/// The route from the client to the meter by this carrier.
-fn route<'a>(asking: &Asking<'a>, carrier: Carrier) -> Result<Route, Fault<'a>> {
-    let client = u8::try_from(asking.client).unwrap_or(0);
-    match carrier {
-        Carrier::Hdlc => Ok(Route::Hdlc(client, server(asking)?)),
-        Carrier::Wrapper => Ok(Route::Tcp(u16::from(client), port(asking)?)),
-    }
-}
-
-/// The meter's address on an HDLC link.
-fn server<'a>(asking: &Asking<'a>) -> Result<Address, Fault<'a>> {
-    match asking.server {
-        None => Ok(Address::One(1)),
-        Some(text) => match server_of(text, asking.wide) {
-            Some(address) => Ok(address),
-            None => Err(Fault::Server(text)),
-        },
-    }
-}
-
-/// The route to the meter, and the address or the device of the line.
-fn route_of<'a>(asking: &Asking<'a>) -> Result<(Route, &'a str), Fault<'a>> {
-    let (carrier, line) = line_of(asking)?;
-    Ok((route(asking, carrier)?, line))
-}
-
 /// The secret in the file, if a file is given.
 #[inline(never)]
 fn secret<'a, H: Files + Clock>(
@@ -134,7 +72,7 @@ fn secret<'a, H: Files + Clock>(
     alloc: Global,
     asking: &Asking<'a>,
 ) -> Result<Option<ArrayVec<u8, 16>>, Fault<'a>> {
-    let Some(file) = asking.secret_file else {
+    let Some(file) = asking.meter.secret_file else {
         return Ok(None);
     };
     let mut inputs = HostPollInputs::new(host);
@@ -211,7 +149,7 @@ fn exchange<'a, S: End, W: Write>(
     output: &mut W,
     refused: &mut Vec<Fault<'a>>,
 ) -> Result<(), Fault<'a>> {
-    let place = asking.place;
+    let place = asking.meter.place;
     let head = match open_association(alloc, place, plan, line) {
         Ok(head) => head,
         Err(fault) => {
@@ -285,8 +223,8 @@ fn line_to<'a, 'r, H: Net + Files<File = File> + Clock + AllocGlobal>(
     asking: &Asking<'a>,
     address: &str,
 ) -> Result<MeterLine<'r, H>, Fault<'a>> {
-    let mut line = MeterLine::new(host).waiting(asking.timeout);
-    match connect(host.alloc(), &mut line, asking.place, address) {
+    let mut line = MeterLine::new(host).waiting(asking.meter.timeout);
+    match connect(host.alloc(), &mut line, asking.meter.place, address) {
         Ok(()) => Ok(line),
         Err(fault) => {
             drop(line);
@@ -329,7 +267,7 @@ fn call_of<'a, H: Files + Clock + AllocGlobal>(
     request: &Request<'a>,
 ) -> Result<Call<'a>, Fault<'a>> {
     look(request)?;
-    let (route, line) = route_of(asking)?;
+    let (route, line) = route_of(&asking.meter, asking.client)?;
     let secret = secret(host, host.alloc(), asking)?;
     Ok(Call {
         line,
@@ -388,7 +326,12 @@ fn ask_over<'a, 'r, 'e, H: Net + Files<File = File> + Clock + AllocGlobal, W: Wr
         output,
         refused,
     );
-    let told = with_system_error(host.alloc(), asking.place, talked, line.stream.failure());
+    let told = with_system_error(
+        host.alloc(),
+        asking.meter.place,
+        talked,
+        line.stream.failure(),
+    );
     close(line);
     told
 }

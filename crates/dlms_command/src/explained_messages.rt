@@ -1,33 +1,29 @@
 //! Explains the messages of the TCP wrapper that pass over a line.
 
 use dlms_explain::{Side, write_apdu};
+use dlms_wrapper::{Header, VERSION, read_header};
 use std::alloc::{AllocError, Global};
 
-/// The version of the wrapper (IEC 62056-47, the wrapper's header).
-const VERSION: u16 = 1;
+/// How many octets a header has (IEC 62056-47, the wrapper protocol data unit).
+const HEADER: usize = 8;
 
 /// Shown for octets that are not a message.
 const NO_WRAPPER: &str = "(octets that are of no wrapper)\n";
 
-/// A message: its version, both wrapper ports, and its APDU.
+/// A message, of any version and length.
 #[derive(Clone, Copy)]
 struct Message<'b> {
-    version: u16,
-    from: u16,
-    to: u16,
+    header: Header,
     apdu: &'b [u8],
 }
 
 /// The message at the front, once it is complete, and the octets after it.
 fn message_at(octets: &[u8]) -> Option<(Message<'_>, &[u8])> {
-    let [v, w, f, g, t, u, l, m, rest @ ..] = octets else {
-        return None;
-    };
-    let len = usize::from(u16::from_be_bytes([*l, *m]));
+    let header = read_header(octets)?;
+    let rest = octets.get(HEADER..)?;
+    let len = usize::from(header.len);
     let message = Message {
-        version: u16::from_be_bytes([*v, *w]),
-        from: u16::from_be_bytes([*f, *g]),
-        to: u16::from_be_bytes([*t, *u]),
+        header,
         apdu: rest.get(..len)?,
     };
     Some((message, rest.get(len..)?))
@@ -42,10 +38,13 @@ fn explain_message(
     text: &mut String,
 ) -> Result<(), AllocError> {
     let mark = if side == Side::Client { ">" } else { "<" };
-    let from = message.from;
-    let to = message.to;
-    let len = message.apdu.len();
-    let line = format!(in alloc; "{mark} wrapper port {from} to {to}; length {len}\n")?;
+    let Header {
+        source,
+        dest,
+        len,
+        ..
+    } = message.header;
+    let line = format!(in alloc; "{mark} wrapper port {source} to {dest}; length {len}\n")?;
     text.push_str(line.as_str())?;
     write_apdu(text, alloc, Some(side), message.apdu)
 }
@@ -62,7 +61,7 @@ fn explain_front(
         let Some((message, next)) = message_at(rest) else {
             break;
         };
-        if message.version != VERSION {
+        if message.header.version != VERSION {
             text.push_str(NO_WRAPPER)?;
             return Ok(octets.len());
         }

@@ -1,7 +1,8 @@
 //! What the program does for its arguments, over any three streams.
 #![tactic(auto)]
 
-ghost use Rattle.std.specs.Prelude.{◌≡◌, ◌≢◌, ◌⊎◌, [], map, IfOk, MatchResult, is_some, true};
+ghost use Rattle.std.specs.Prelude.{◌≡◌, ◌≢◌, ◌⊎◌, [], map, IfOk, IfSome, MatchResult, is_some, true};
+ghost use Rattle.dlms_carrier.specs.Any.{IsRoute};
 ghost use Rattle.clap.specs.Words.{fault_of, subcommand_of};
 ghost use Rattle.dlms_words.specs.Grammar.{dlms};
 ghost use Rattle.dlms_words.specs.Words.{AsksBoth, IsClear, NamesNoAddress};
@@ -44,8 +45,10 @@ mod given;
 mod introduced;
 mod objects;
 mod occupant;
+mod other_values;
 mod profile;
 mod requests;
+mod route;
 mod streams;
 mod table;
 mod telling;
@@ -56,6 +59,7 @@ use expected::expected_of;
 pub use fault::Fault;
 use introduced::{introduce, is_new};
 use occupant::refuse_occupied;
+use route::{PollLine, poll_line, poll_secret, public_route};
 use streams::{Input, Output, flush};
 use watched::Watched;
 
@@ -411,7 +415,9 @@ fn run_poll_of<'a, H: Net + Files<File = File> + Clock + AllocGlobal, W: Write, 
     timeout: u32,
     output: &mut W,
     errors: &mut E,
-) -> Result<(), Fault<'a>> {
+) -> Result<(), Fault<'a>>
+    requires { IfSome polling.now.route IsRoute }
+{
     let new_file = polling.readings.filter(|file| is_new(host, *file));
     let mut setup = PollSetup::of(host, timeout);
     let told = match poll(host.alloc(), &mut setup, polling, output, errors) {
@@ -426,7 +432,9 @@ fn run_poll_of<'a, H: Net + Files<File = File> + Clock + AllocGlobal, W: Write, 
     };
     match new_file {
         Some(file) if told.is_ok() && polling.expected.is_empty() => {
-            let _told = introduce(host.alloc(), &mut setup.line, polling.address, file, errors);
+            let route = public_route(polling.route);
+            let line = &mut setup.line;
+            let _told = introduce(host.alloc(), line, route, polling.address, file, errors);
         }
         _ => {}
     }
@@ -441,18 +449,20 @@ fn run_poll<'a, H: Net + Files<File = File> + Clock + AllocGlobal, W: Write, E: 
     output: &mut W,
     errors: &mut E,
 ) -> Result<(), Fault<'a>> {
+    let PollLine { address, route } = poll_line(options)?;
     let expected = expected_of(host.alloc(), &options.expecting)?;
     let polling = Polling {
-        address: options.address,
+        address,
+        route,
         readings: options.readings,
-        secret_file: options.secret_file,
+        secret_file: poll_secret(options, route),
         client: options.client,
         deadline: options.deadline,
         ahead: options.ahead,
         strict: options.strict,
         expected: expected.as_slice(),
     };
-    let told = run_poll_of(host, &polling, options.timeout, output, errors);
+    let told = run_poll_of(host, &polling, options.meter.timeout, output, errors);
     drop(expected);
     told
 }

@@ -2,6 +2,7 @@
 
 use crate::buffer_rows::BufferRows;
 use crate::fault::Fault;
+use crate::other_values::{append_float, is_float};
 use crate::telling::{append_code, append_labelled, put};
 use dlms_buffer::{BufferFault, Cell, Column, LastRow, append_cell, append_value};
 use dlms_names::{code_name, unit_name};
@@ -153,12 +154,16 @@ impl<'p> Table<'p> {
     /// the value as the meter sends it.
     fn append_cell(
         &self,
+        alloc: Global,
         text: &mut Vec<u8>,
         shape: &ColumnShape,
         cell: &Cell<'_>,
     ) -> Result<(), AllocError> {
         if self.raw {
             return append_value(text, &cell.value, 0);
+        }
+        if is_float(&cell.value) {
+            return append_float(alloc, text, &cell.value, shape.scaler);
         }
         let period = if shape.has_times() { self.period } else { 0 };
         append_cell(text, cell, period, shape.scaler)
@@ -167,12 +172,13 @@ impl<'p> Table<'p> {
     /// Appends a cell of JSON: a number, a truth value, null, or a string.
     fn append_json_cell(
         &self,
+        alloc: Global,
         text: &mut Vec<u8>,
         field: &mut Vec<u8>,
         shape: &ColumnShape,
         cell: &Cell<'_>,
     ) -> Result<(), AllocError> {
-        self.append_cell(field, shape, cell)?;
+        self.append_cell(alloc, field, shape, cell)?;
         let is_bare = is_number(&cell.value) && field.as_slice() != b"NaN".as_slice();
         match cell.value {
             Value::Boolean(_) => text.extend_from_slice(field.as_slice()),
@@ -199,15 +205,15 @@ impl<'p> Table<'p> {
             match format {
                 TableFormat::Json => {
                     text.extend_from_slice(if is_first { b"[" } else { b"," })?;
-                    self.append_json_cell(text, &mut field, shape, cell)?;
+                    self.append_json_cell(alloc, text, &mut field, shape, cell)?;
                 }
                 TableFormat::Csv => {
                     text.extend_from_slice(if is_first { b"" } else { b"," })?;
-                    self.append_cell(&mut field, shape, cell)?;
+                    self.append_cell(alloc, &mut field, shape, cell)?;
                     append_field(text, field.as_slice())?;
                 }
                 TableFormat::Table => {
-                    self.append_cell(&mut field, shape, cell)?;
+                    self.append_cell(alloc, &mut field, shape, cell)?;
                     append_padded(text, field.as_slice(), widths, at)?;
                 }
             }
@@ -272,13 +278,14 @@ impl<'p> Table<'p> {
     /// Makes each column as wide as its widest cell.
     fn widen(
         &self,
+        alloc: Global,
         field: &mut Vec<u8>,
         widths: &mut [usize],
         cells: &[Cell<'_>],
     ) -> Result<(), AllocError> {
         for ((shape, cell), width) in self.shapes.iter().zip(cells.iter()).zip(widths.iter_mut()) {
             field.clear();
-            self.append_cell(field, shape, cell)?;
+            self.append_cell(alloc, field, shape, cell)?;
             *width = (*width).max(field.len());
         }
         Ok(())
@@ -302,7 +309,7 @@ impl<'p> Table<'p> {
             }
             count = count.saturating_add(1);
             if format == TableFormat::Table {
-                self.widen(&mut field, widths, row.cells.as_slice())?;
+                self.widen(alloc, &mut field, widths, row.cells.as_slice())?;
             }
         }
         Ok(count)

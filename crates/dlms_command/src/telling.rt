@@ -2,13 +2,14 @@
 
 use crate::fault::Fault;
 use crate::objects::{append_object, append_object_json};
+use crate::other_values::{append_any_json, append_float, append_other, float_in};
 use dlms_call::CallFault;
 use dlms_data::{Data, Descriptor};
 use dlms_explain::write_value;
 use dlms_names::unit_name;
 use dlms_text::{
-    Front, ValueFault, append_decimal, append_json, append_number, append_pairs, append_quoted,
-    first_of, front_of, value_at,
+    Front, ValueFault, append_decimal, append_number, append_pairs, append_quoted, first_of,
+    front_of, value_at,
 };
 use dlms_words::{OutputFormat, ValueFormat};
 use std::alloc::{AllocError, Global};
@@ -186,7 +187,11 @@ fn append_leaf<'b>(
     depth: u8,
     bytes: &'b [u8],
 ) -> Result<&'b [u8], ValueFault> {
-    let (value, rest) = value_at(alloc, bytes)?;
+    let (value, rest) = match value_at(alloc, bytes) {
+        Ok(found) => found,
+        Err(ValueFault::Form) => return append_other(text, depth, bytes),
+        Err(fault) => return Err(fault),
+    };
     let mut words = String::new(alloc);
     let written = write_value(&mut words, depth, &value);
     drop(value);
@@ -294,8 +299,24 @@ impl<'a, 'o, W: Write> Teller<'a, 'o, W> {
                 append_quantity(&mut self.text, is_negative, number, scaler, unit)?;
                 self.flush()
             }
-            None => self.put_words(bytes),
+            None => match float_in(bytes) {
+                Some(float) => {
+                    append_float(self.alloc, &mut self.text, &float, scaler)?;
+                    self.put_unit(unit)
+                }
+                None => self.put_words(bytes),
+            },
         }
+    }
+
+    /// Prints the unit of the number before it, and a line feed.
+    fn put_unit(&mut self, unit: u8) -> Result<(), Fault<'a>> {
+        if unit != COUNT {
+            self.text.extend_from_slice(b" ")?;
+            append_unit(&mut self.text, unit)?;
+        }
+        self.text.extend_from_slice(b"\n")?;
+        self.flush()
     }
 
     /// The sign and the size of the number in an encoding; `None` if it is not a number.
@@ -306,6 +327,7 @@ impl<'a, 'o, W: Write> Teller<'a, 'o, W> {
                 drop(value);
                 Ok(number)
             }
+            Err(ValueFault::Form) => Ok(None),
             Err(fault) => Err(self.fault(fault)),
         }
     }
@@ -319,7 +341,7 @@ impl<'a, 'o, W: Write> Teller<'a, 'o, W> {
     ) -> Result<(), Fault<'a>> {
         append_attribute_json(&mut self.text, attribute)?;
         self.text.extend_from_slice(b",\"value\":")?;
-        if let Err(fault) = append_json(self.alloc, &mut self.text, bytes) {
+        if let Err(fault) = append_any_json(self.alloc, &mut self.text, MOST_LEVELS, bytes) {
             return Err(self.fault(fault));
         }
         if let Some((scaler, unit)) = scaled {

@@ -106,7 +106,9 @@ poll_command = with_rules (new_app (codes "poll"))
     ∷ flag_rule (codes "reader")
     ∷ number_rule (codes "deadline") 1 86400 ∷ flag_rule (codes "check-clock")
     ∷ number_rule (codes "ahead") 0 31536000 ∷ flag_rule (codes "strict")
-    ∷ options_rule (codes "expect") ∷ number_rule (codes "timeout") 1 3600 ∷ [])
+    ∷ options_rule (codes "expect") ∷ number_rule (codes "timeout") 1 3600
+    ∷ flag_rule (codes "wrapper") ∷ number_rule (codes "client") 1 127
+    ∷ option_rule (codes "server") ∷ flag_rule (codes "wide") ∷ [])
 
 -- the meter to ask, the client that asks, whether the frames are explained, and the longest value
 abbrev pub asking_rules : List Rule

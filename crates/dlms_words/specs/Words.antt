@@ -10,6 +10,7 @@ use Rattle.dlms_words.specs.declared.commands.Job.{Job}
 use Rattle.dlms_words.specs.declared.commands.Job.TheVariants.{Format, Replay, Loopback, Serve, Poll, Get, List as ListOf, Profile, Set, Act, Explain, Show, Plot}
 use Rattle.dlms_words.specs.declared.commands.Asking.{Asking}
 use Rattle.dlms_words.specs.declared.commands.Expecting.{Expecting}
+use Rattle.dlms_words.specs.declared.commands.MeterOptions.{MeterOptions}
 use Rattle.dlms_words.specs.declared.commands.OutputFormat.{OutputFormat}
 use Rattle.dlms_words.specs.declared.commands.OutputFormat.TheVariants as output
 use Rattle.dlms_words.specs.declared.commands.TableFormat.{TableFormat}
@@ -18,7 +19,7 @@ use Rattle.dlms_words.specs.declared.commands.ValueFormat.{ValueFormat}
 use Rattle.dlms_words.specs.declared.commands.ValueFormat.TheVariants as value
 use Rattle.dlms_words.specs.declared.commands.ValueFormat.TheVariants.{Encoding}
 use Rattle.dlms_words.specs.declared.words.TheConstants.{AHEAD, CLIENT, DEADLINE, IDLE, INACTIVITY, MOST, TICK, TIMEOUT, TURN}
-use Rattle.dlms_words.specs.Addresses.{IsAddress, is_device}
+use Rattle.dlms_words.specs.Addresses.{IsAddress, is_device, line_of}
 use Rattle.dlms_words.specs.Numbers.{IsNumberOf}
 use Rattle.dlms_frame.specs.declared.client.Client.{Client}
 use Rattle.dlms_frame.specs.declared.client.Client.TheVariants.{Public, Management, Reader}
@@ -115,17 +116,22 @@ abbrev pub ChoosesFormat : List Row → OutputFormat → Type 0
 ChoosesFormat rows format = (json : Bool) × IsSaid (first_of (codes "json") rows) json
     × (format ≡ output_format json)
 
+-- the meter and the way to it: its place and address, the carrier, the secret, and how long an
+-- answer is waited for
+pub record IsMeter (rows : List Row) (meter : MeterOptions) : Type 0 where
+  pub place : meter.place.now ≡ unwrap_or (first_of (codes "PLACE") rows) []
+  pub server : option_map (λ s. s.now) meter.server ≡ first_of (codes "server") rows
+  pub wide : IsSaid (first_of (codes "wide") rows) meter.wide
+  pub wrapper : IsSaid (first_of (codes "wrapper") rows) meter.wrapper
+  pub secret : option_map (λ f. f.now) meter.secret_file ≡ first_of (codes "secret-file") rows
+  pub timeout : IsSaidFor (codes "timeout") rows TIMEOUT meter.timeout
+
 -- the meter to ask, the client that asks, whether the frames are explained, and the longest value
 pub record IsAsking (rows : List Row) (asking : Asking) : Type 0 where
-  pub place : asking.place.now ≡ unwrap_or (first_of (codes "PLACE") rows) []
-  pub server : option_map (λ s. s.now) asking.server ≡ first_of (codes "server") rows
-  pub wide : IsSaid (first_of (codes "wide") rows) asking.wide
-  pub wrapper : IsSaid (first_of (codes "wrapper") rows) asking.wrapper
+  pub meter : IsMeter rows asking.meter
   pub client : IsSaidFor (codes "client") rows CLIENT asking.client
-  pub secret : option_map (λ f. f.now) asking.secret_file ≡ first_of (codes "secret-file") rows
   pub verbose : IsSaid (first_of (codes "verbose") rows) asking.verbose
   pub most : IsSaidFor (codes "most") rows MOST asking.most
-  pub timeout : IsSaidFor (codes "timeout") rows TIMEOUT asking.timeout
 
 -- the text at this place among those that were given, if so many were
 abbrev pub nth_of : ℕ → Option (List Text) → Option Text
@@ -163,12 +169,11 @@ Asks met (Serve options) = (rows : List Row) × (met ≡ Some (codes "serve", ro
     × IsSaidFor (codes "inactivity") rows INACTIVITY options.inactivity
     × IsSaid (first_of (codes "wrapper") rows) options.wrapper
 Asks met (Poll options) = (rows : List Row) × (met ≡ Some (codes "poll", rows))
-    × (options.address.now ≡ unwrap_or (first_of (codes "PLACE") rows) [])
+    × IsMeter rows options.meter
     × (option_map (λ f. f.now) options.readings ≡ first_of (codes "readings") rows)
-    × (option_map (λ f. f.now) options.secret_file ≡ first_of (codes "secret-file") rows)
     × IsAsker rows options.client
+    × MaySayFor (codes "client") rows options.sap
     × IsSaidFor (codes "deadline") rows DEADLINE options.deadline
-    × IsSaidFor (codes "timeout") rows TIMEOUT options.timeout
     × ChecksClock rows options.ahead
     × IsSaid (first_of (codes "strict") rows) options.strict
     × IsExpecting (all_of (codes "expect") rows) options.expecting
@@ -226,6 +231,17 @@ AsksTwoClients met = (rows : List Row) × (met ≡ Some (codes "poll", rows))
     × (first_of (codes "public") rows ≡ Some (codes "true"))
     × (first_of (codes "reader") rows ≡ Some (codes "true"))
 
+-- a client is given by its address, and by this flag too
+abbrev pub NamesClientAnd : Text → Met → Type 0
+NamesClientAnd flag met = (rows : List Row) × (met ≡ Some (codes "poll", rows))
+    × IsTrue (is_some (first_of (codes "client") rows))
+    × (first_of flag rows ≡ Some (codes "true"))
+
+-- a client is given by its address and by its name
+abbrev pub GivesClientTwice : Met → Type 0
+GivesClientTwice met =
+    NamesClientAnd (codes "public") met ⊎ NamesClientAnd (codes "reader") met
+
 -- a port and a serial line are named at once
 abbrev pub NamesTwoPlaces : Met → Type 0
 NamesTwoPlaces met = (rows : List Row) × (met ≡ Some (codes "serve", rows))
@@ -246,18 +262,19 @@ WidensPort met = (command : Text) × (rows : List Row) × (met ≡ Some (command
 
 -- two are given and one is wanted
 abbrev pub AsksBoth : Met → Type 0
-AsksBoth met = AsksTwoClients met ⊎ NamesTwoPlaces met ⊎ WrapsLine met ⊎ WidensPort met
+AsksBoth met = AsksTwoClients met ⊎ GivesClientTwice met ⊎ NamesTwoPlaces met ⊎ WrapsLine met
+    ⊎ WidensPort met
 
--- a place, unless it is the device of a serial line
-abbrev pub unless_device : Option Text → Option Text
-unless_device None = None
-unless_device (Some place) = if is_device place then None else Some place
+-- the line of a place, unless it is the device of a serial line
+abbrev pub line_address : Option Text → Option Text
+line_address None = None
+line_address (Some place) = if is_device (line_of place) then None else Some (line_of place)
 
 -- the address that is named, to poll or to listen on
 abbrev pub address_in : Met → Option Text
 address_in None = None
 address_in (Some (name, rows)) =
-    if bytes_eq name (codes "poll") then unless_device (first_of (codes "PLACE") rows)
+    if bytes_eq name (codes "poll") then line_address (first_of (codes "PLACE") rows)
     else (if bytes_eq name (codes "serve") then first_of (codes "listen") rows else None)
 
 -- that is invalid

@@ -1,6 +1,6 @@
-//! Addresses of a host and a port.
-ghost use Rattle.std.specs.Prelude.{◌≡◌, ◌↔◌, ◌<◌, length, IsTrue};
-ghost use Rattle.dlms_words.specs.Addresses.{EndsHost, IsAddress, IsPort, is_device};
+//! Addresses of a host and a port, and places, which may name a carrier.
+ghost use Rattle.std.specs.Prelude.{◌≡◌, ◌↔◌, ◌<◌, length, option_map, IsTrue};
+ghost use Rattle.dlms_words.specs.Addresses.{EndsHost, IsAddress, IsPort, carrier_of, is_device, line_of};
 
 use crate::numbers::number;
 
@@ -47,5 +47,35 @@ pub fn is_device(text: &[u8]) -> bool
     match text {
         [b'/', ..] => true,
         _ => false,
+    }
+}
+
+/// A place where a meter is: the line to it, and the carrier of the line if the place names one.
+#[derive(Clone, Copy)]
+pub struct Place<'a> {
+    /// The name before `://`, which need not be that of a carrier.
+    pub carrier: Option<&'a str>,
+    /// The address of a host and a port, or the path of a device; whether it is one of these is not checked.
+    pub line: &'a str,
+}
+
+/// Splits a place such as `wrapper://HOST:PORT` at its first colon, if two slashes follow that. Any other text is a line.
+pub fn split_place(place: &str) -> Place<'_>
+    ensures carrier { option_map (λ name. name.now) result.carrier ≡ carrier_of place.now }
+    ensures line { result.line.now ≡ line_of place.now }
+{
+    let whole = Place {
+        carrier: None,
+        line: place,
+    };
+    let Some((name, rest)) = place.split_once(':') else {
+        return whole;
+    };
+    match rest.strip_prefix("//") {
+        Some(line) => Place {
+            carrier: Some(name),
+            line,
+        },
+        None => whole,
     }
 }

@@ -2,27 +2,33 @@
 
 use dlms_frame::Client;
 
-/// The meter to ask, and the client that asks.
+/// The meter, and the way to it: the options that a poll and the requests share.
 #[derive(Clone, Copy)]
-pub struct Asking<'a> {
-    /// Where the meter is.
+pub struct MeterOptions<'a> {
+    /// Where the meter is, as `HOST:PORT`, `/dev/..` or `wrapper://HOST:PORT`.
     pub place: &'a str,
-    /// The meter's address as it is said.
+    /// The meter's address as it was written: `UPPER[/LOWER]`, or its wrapper port.
     pub server: Option<&'a str>,
     /// Whether its address has four octets in any case.
     pub wide: bool,
     /// Whether the line carries the TCP wrapper in place of HDLC.
     pub wrapper: bool,
+    /// The file of the client's secret, if one is given.
+    pub secret_file: Option<&'a str>,
+    /// For how many seconds an answer is waited for.
+    pub timeout: u32,
+}
+
+/// The meter to ask, and the client that asks. Without a file of its secret, none is sent.
+#[derive(Clone, Copy)]
+pub struct Asking<'a> {
+    pub meter: MeterOptions<'a>,
     /// The client's address, 1 to 127.
     pub client: u32,
-    /// The file of the client's secret; without one no secret is sent.
-    pub secret_file: Option<&'a str>,
     /// Whether the frames are explained.
     pub verbose: bool,
     /// How many octets the encoding of a value from the meter has at most.
     pub most: u32,
-    /// For how many seconds an answer is waited for.
-    pub timeout: u32,
 }
 
 /// The texts of an option that was given several times, in order. `fifth` exists to be refused: at most four are accepted.
@@ -106,18 +112,15 @@ pub struct ServeOptions<'a> {
 /// The options of `poll`.
 #[derive(Clone, Copy)]
 pub struct PollOptions<'a> {
-    /// The meter's address, or the device of its serial line.
-    pub address: &'a str,
+    pub meter: MeterOptions<'a>,
     /// The readings file, if one is given.
     pub readings: Option<&'a str>,
-    /// The file of the client's secret. If none is given, a client that has one sends its first secret.
-    pub secret_file: Option<&'a str>,
-    /// The client that polls.
+    /// The client that polls, unless an address is given.
     pub client: Client,
+    /// The address of the client that polls, 1 to 127, if one is given.
+    pub sap: Option<u32>,
     /// How many seconds the poll may take.
     pub deadline: u32,
-    /// For how many seconds an answer is waited for.
-    pub timeout: u32,
     /// By how many seconds a row's clock may be ahead of the system's, if that is checked.
     pub ahead: Option<u32>,
     /// Whether each row has to be later than the one before it.

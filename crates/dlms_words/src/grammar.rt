@@ -40,18 +40,28 @@ const TIMEOUT: Argument = Argument {
     help: "For how long an answer is waited for, 1 to 3600 [default: 2]",
 };
 
+const SERVER: Argument = Argument {
+    name: "server",
+    kind: Kind::Option("UPPER[/LOWER]"),
+    help: "The meter's address, or with --wrapper its wrapper port, 0 to 65535 [default: 1]",
+};
+
+const WIDE: Argument = Argument {
+    name: "wide",
+    kind: Kind::Flag,
+    help: "Sends the meter's address in four octets",
+};
+
+const SECRET_FILE: Argument = Argument {
+    name: "secret-file",
+    kind: Kind::Option("FILE"),
+    help: "The file with the client's secret",
+};
+
 /// The meter to ask, the client that asks, whether the frames are explained, and the longest value.
 const ASKING: &[Argument] = &[
-    Argument {
-        name: "server",
-        kind: Kind::Option("UPPER[/LOWER]"),
-        help: "The meter's address, or with --wrapper its wrapper port, 0 to 65535 [default: 1]",
-    },
-    Argument {
-        name: "wide",
-        kind: Kind::Flag,
-        help: "Sends the meter's address in four octets",
-    },
+    SERVER,
+    WIDE,
     WRAPPER,
     TIMEOUT,
     Argument {
@@ -59,11 +69,7 @@ const ASKING: &[Argument] = &[
         kind: Kind::Number("SAP", 1, 127),
         help: "The client's address, 1 to 127 [default: 16, the public client]",
     },
-    Argument {
-        name: "secret-file",
-        kind: Kind::Option("FILE"),
-        help: "The file with the client's secret",
-    },
+    SECRET_FILE,
     Argument {
         name: "verbose",
         kind: Kind::ShortFlag('v'),
@@ -204,11 +210,7 @@ const COMMANDS: [CommandWords; 13] = [
                 kind: Kind::Option("FILE"),
                 help: "The readings file",
             },
-            Argument {
-                name: "secret-file",
-                kind: Kind::Option("FILE"),
-                help: "The file with the client's secret",
-            },
+            SECRET_FILE,
             Argument {
                 name: "public",
                 kind: Kind::Flag,
@@ -245,6 +247,14 @@ const COMMANDS: [CommandWords; 13] = [
                 help: "Polls only a meter whose object NAME shows TEXT; may be given up to four times",
             },
             TIMEOUT,
+            WRAPPER,
+            Argument {
+                name: "client",
+                kind: Kind::Number("SAP", 1, 127),
+                help: "Asks as the client with this address, 1 to 127",
+            },
+            SERVER,
+            WIDE,
         ],
         more: &[],
     },

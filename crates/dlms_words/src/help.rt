@@ -72,14 +72,17 @@ dlms: device or dlms: exhausted once FILE accepts no more; dlms: memory); 2 for 
 
 /// What `poll` does, for its help.
 pub const POLL_ABOUT: &str =
-    "Polls the load profile of the meter at PLACE once, over HDLC, and prints the new rows.
+    "Polls the load profile of the meter at PLACE once, and prints the new rows.
 
-PLACE is HOST:PORT for TCP, or a path that begins with / for a serial line. Set the line up first, as with \
-\"stty -F /dev/ttyUSB0 9600 raw -echo\"; no other program may be using it.
+PLACE is HOST:PORT for TCP, or a path that begins with / for a serial line. The meter is polled over HDLC, or with --wrapper over \
+the TCP wrapper (IEC 62056-47). PLACE may also say which, as hdlc://HOST:PORT, wrapper://HOST:PORT or serial:///dev/ttyUSB0. Set a \
+serial line up first, as with \"stty -F /dev/ttyUSB0 9600 raw -echo\"; no other program may be using it.
 
 Asks as the management client, with the secret in the file of --secret-file (at most 16 bytes, not counting one line feed at its \
 end), or with 12345678 without that option; with --reader as the reader, with that secret or with 23456789; with --public as the \
-public client, which has no secret, whatever else is given. With --readings it asks for the rows from the second of FILE's last row \
+public client, which has no secret, whatever else is given; with --client as the client with that address. --server and --wide give \
+the meter's address [default: 1], as in get. Over the wrapper, and with --client, --server or --wide, no secret is sent without \
+--secret-file. With --readings it asks for the rows from the second of FILE's last row \
 on (a FILE that does not exist has no rows), and FILE gets the new text: a power failure at any moment leaves either the old text \
 or the new one. Prints a line \"clock,r0,r1,r2\" for each new row, before it is filed: a row that was printed and not filed comes \
 again with the next poll. A row is filed if it is later than FILE's last row and than every row before it in the answer; a line on \
@@ -88,10 +91,12 @@ the deadline, a connection that is refused or lost is made again, and a meter th
 later. With --expect NAME=TEXT the meter is polled only if its object NAME of class Data shows TEXT, as in \
 --expect 0.0.42.0.0.255=RTL0000000000001; up to four may be given, and if one differs, nothing is filed. Without --expect the \
 first poll into a new FILE writes on standard error what the meter calls itself. Only one poll at a time uses FILE, by a lock on \
-FILE.lock, which stays there. A frame without an answer within two seconds, or --timeout, is sent again, at most three times.
+FILE.lock, which stays there. A frame without an answer within two seconds, or --timeout, is sent again, at most three times; over the wrapper nothing is sent \
+again, and the poll begins anew over another connection.
 
-Exit status: 0; 1 after a fault (dlms: io, with the file or PLACE and the system's message on a second line; dlms: line N \
-for a line of FILE that is not a line of readings; dlms: secret for a secret of more than 16 bytes; dlms: line if nobody answers, \
+Exit status: 0; 1 after a fault (dlms: io, with the file or PLACE and the system's message on a second line; dlms: server for an \
+invalid address; dlms: place if PLACE does not fit the options; dlms: line N for a line of FILE that is not a line of readings; \
+dlms: secret for a secret of more than 16 bytes; dlms: line if nobody answers, \
 or the deadline is over, as a second line says; dlms: protocol (also if the rows have other columns than the clock and the three \
 registers), dlms: refused N or dlms: result N for the poll; dlms: clock N if, with --strict, row N is not later than the one \
 before it; dlms: ahead N if row N is too far past the system's clock, of the poll or of FILE, as a second line says; dlms: expect \

@@ -10,10 +10,11 @@ pub mod laws;
 mod numbers;
 mod words;
 
+pub use addresses::{Place, split_place};
 pub use commands::{
     ActOptions, Asking, Expecting, ExplainOptions, FormatOptions, GetOptions, Job, ListOptions,
-    LoopbackOptions, OutputFormat, PlotOptions, PollOptions, ProfileOptions, ServeOptions,
-    SetOptions, ShowOptions, TableFormat, ValueFormat,
+    LoopbackOptions, MeterOptions, OutputFormat, PlotOptions, PollOptions, ProfileOptions,
+    ServeOptions, SetOptions, ShowOptions, TableFormat, ValueFormat,
 };
 pub use numbers::number;
 pub use words::job;

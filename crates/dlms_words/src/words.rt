@@ -3,13 +3,13 @@ ghost use Rattle.std.specs.Prelude.{◌≡◌, ◌⊎◌, ◌↔◌, [], List, N
 ghost use Rattle.clap.specs.Values.{kind_of};
 ghost use Rattle.clap.specs.Words.{all_of, fault_of, first_of, Row, FailsBy, HasKind, subcommand_rows_of, subcommand_of};
 ghost use Rattle.dlms_words.specs.Grammar.{dlms};
-ghost use Rattle.dlms_words.specs.Words.{asker as client_by, address_in, Asks, AsksBoth, AsksTwoClients, WrapsLine, MaySay, MaySayFor, table_format, IsAsking, IsClear, IsExpecting, IsNoneOf, IsUnclear, NamesNoAddress, NamesTwoPlaces, nth_of, output_format, requests, IsSaid, IsSaidFor, Says, SaysAhead, SaysStops, WidensPort, unless_device, value_format};
+ghost use Rattle.dlms_words.specs.Words.{asker as client_by, address_in, line_address, GivesClientTwice, IsMeter, NamesClientAnd, Asks, AsksBoth, AsksTwoClients, WrapsLine, MaySay, MaySayFor, table_format, IsAsking, IsClear, IsExpecting, IsNoneOf, IsUnclear, NamesNoAddress, NamesTwoPlaces, nth_of, output_format, requests, IsSaid, IsSaidFor, Says, SaysAhead, SaysStops, WidensPort, value_format};
 
-use crate::addresses::{is_address, is_device};
+use crate::addresses::{is_address, is_device, split_place};
 use crate::commands::{
     ActOptions, Asking, Expecting, ExplainOptions, FormatOptions, GetOptions, Job, ListOptions,
-    LoopbackOptions, OutputFormat, PlotOptions, PollOptions, ProfileOptions, ServeOptions,
-    SetOptions, ShowOptions, TableFormat, ValueFormat,
+    LoopbackOptions, MeterOptions, OutputFormat, PlotOptions, PollOptions, ProfileOptions,
+    ServeOptions, SetOptions, ShowOptions, TableFormat, ValueFormat,
 };
 use crate::grammar::program;
 use clap::error::ErrorKind;
@@ -49,6 +49,9 @@ const MOST: u32 = 4_194_304;
 
 /// The message if two clients are given.
 const TWO_CLIENTS: &str = "the argument '--public' cannot be used with '--reader'";
+
+/// The message if a client is given by its address and by its name.
+const CLIENT_TWICE: &str = "the argument '--client' cannot be used with '--public' or '--reader'";
 
 /// The message if a serial line is to carry the wrapper.
 const WRAPPED_LINE: &str = "the argument '--line' cannot be used with '--wrapper'";
@@ -265,6 +268,23 @@ fn expecting<'a>(matches: &ArgMatches<'a>) -> Expecting<'a>
     }
 }
 
+/// The meter that a command polls or asks, and the way to it.
+fn meter<'a>(matches: &ArgMatches<'a>, command: &str) -> MeterOptions<'a>
+    ensures { (rows : List Row) → subcommand_rows_of matches.now ≡ Some (command.now, rows)
+        → IsMeter rows result }
+{
+    let wide = is_given(value_for(matches, command, "wide"));
+    let wrapper = is_given(value_for(matches, command, "wrapper"));
+    MeterOptions {
+        place: value_for(matches, command, "PLACE").unwrap_or(""),
+        server: value_for(matches, command, "server"),
+        wide,
+        wrapper,
+        secret_file: value_for(matches, command, "secret-file"),
+        timeout: number_for(matches, command, "timeout", TIMEOUT),
+    }
+}
+
 /// The values of `poll`.
 fn poll_job<'a>(matches: &ArgMatches<'a>) -> Job<'a>
     ensures { (rows : List Row) → subcommand_rows_of matches.now ≡ Some (codes "poll", rows)
@@ -275,12 +295,11 @@ fn poll_job<'a>(matches: &ArgMatches<'a>) -> Job<'a>
     let checks = is_given(value_for(matches, "poll", "check-clock"));
     let strict = is_given(value_for(matches, "poll", "strict"));
     Job::Poll(PollOptions {
-        address: value_for(matches, "poll", "PLACE").unwrap_or(""),
+        meter: meter(matches, "poll"),
         readings: value_for(matches, "poll", "readings"),
-        secret_file: value_for(matches, "poll", "secret-file"),
         client: asker(public, reader),
+        sap: given_number_for(matches, "poll", "client"),
         deadline: number_for(matches, "poll", "deadline", DEADLINE),
-        timeout: number_for(matches, "poll", "timeout", TIMEOUT),
         ahead: ahead(checks, value_for(matches, "poll", "ahead")),
         strict,
         expecting: expecting(matches),
@@ -334,19 +353,12 @@ fn asking<'a>(matches: &ArgMatches<'a>, command: &str) -> Asking<'a>
     ensures { (rows : List Row) → subcommand_rows_of matches.now ≡ Some (command.now, rows)
         → IsAsking rows result }
 {
-    let wide = is_given(value_for(matches, command, "wide"));
-    let wrapper = is_given(value_for(matches, command, "wrapper"));
     let verbose = is_given(value_for(matches, command, "verbose"));
     Asking {
-        place: value_for(matches, command, "PLACE").unwrap_or(""),
-        server: value_for(matches, command, "server"),
-        wide,
-        wrapper,
+        meter: meter(matches, command),
         client: number_for(matches, command, "client", CLIENT),
-        secret_file: value_for(matches, command, "secret-file"),
         verbose,
         most: number_for(matches, command, "most", MOST),
-        timeout: number_for(matches, command, "timeout", TIMEOUT),
     }
 }
 
@@ -465,6 +477,25 @@ fn is_named(matches: &ArgMatches<'_>, command: &str, id: &str) -> bool
     value_for(matches, command, id).is_some()
 }
 
+/// Whether a client is given by its address, and by this flag too.
+fn names_client_and(matches: &ArgMatches<'_>, flag: &str) -> bool
+    ensures { IsTrue result ↔ NamesClientAnd flag.now (subcommand_rows_of matches.now) }
+{
+    if matches.subcommand_name() != Some("poll") {
+        return false;
+    }
+    let address = is_named(matches, "poll", "client");
+    let named = is_given(value_for(matches, "poll", flag));
+    address && named
+}
+
+/// Whether a client is given by its address and by its name.
+fn gives_client_twice(matches: &ArgMatches<'_>) -> bool
+    ensures { IsTrue result ↔ GivesClientTwice (subcommand_rows_of matches.now) }
+{
+    names_client_and(matches, "public") || names_client_and(matches, "reader")
+}
+
 /// Whether a serial line, which carries HDLC, is to carry the wrapper.
 fn wraps_line(matches: &ArgMatches<'_>) -> bool
     ensures { IsTrue result ↔ WrapsLine (subcommand_rows_of matches.now) }
@@ -509,6 +540,9 @@ fn conflict(matches: &ArgMatches<'_>) -> Option<&'static str>
     if asks_two_clients(matches) {
         return Some(TWO_CLIENTS);
     }
+    if gives_client_twice(matches) {
+        return Some(CLIENT_TWICE);
+    }
     if names_two_places(matches) {
         return Some(TWO_PLACES);
     }
@@ -521,17 +555,18 @@ fn conflict(matches: &ArgMatches<'_>) -> Option<&'static str>
     None
 }
 
-/// The place, unless it is the device of a serial line.
-fn unless_device(place: Option<&str>) -> Option<&str>
-    ensures { option_map (λ text. text.now) result ≡ unless_device
+/// The line of a place, unless it is the device of a serial line.
+fn line_address(place: Option<&str>) -> Option<&str>
+    ensures { option_map (λ text. text.now) result ≡ line_address
         (option_map (λ text. text.now) place.entry) }
 {
     match place {
         Some(text) => {
-            if is_device(text.as_bytes()) {
+            let line = split_place(text).line;
+            if is_device(line.as_bytes()) {
                 None
             } else {
-                Some(text)
+                Some(line)
             }
         }
         None => None,
@@ -543,7 +578,7 @@ fn address_for<'a>(matches: &ArgMatches<'a>) -> Option<&'a str>
     ensures { option_map (λ text. text.now) result ≡ address_in (subcommand_rows_of matches.now) }
 {
     if matches.subcommand_name() == Some("poll") {
-        return unless_device(value_for(matches, "poll", "PLACE"));
+        return line_address(value_for(matches, "poll", "PLACE"));
     }
     if matches.subcommand_name() == Some("serve") {
         return value_for(matches, "serve", "listen");

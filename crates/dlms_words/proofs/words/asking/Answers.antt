@@ -5,16 +5,9 @@ use Rattle.dlms_words.specs.Words.{IsSaid}
 use Rattle.dlms_words.proofs.words.asking.Goals as goal
 
 pub returns : goal.returns
-returns c = λ rows met.
-    let place = c.value_for-4.ensures rows met in
-    record {
-      place = search rules;
-      server = c.value_for-5.ensures rows met;
-      wide = subst (λ (said : Option Text). IsSaid said c.is_given-wide.result) (c.value_for.ensures rows met) c.is_given-wide.ensures;
-      wrapper = subst (λ (said : Option Text). IsSaid said c.is_given-wrapper.result) (c.value_for-2.ensures rows met) c.is_given-wrapper.ensures;
-      client = c.number_for.ensures rows met;
-      secret = c.value_for-6.ensures rows met;
-      most = c.number_for-2.ensures rows met;
-      timeout = c.number_for-3.ensures rows met;
-      verbose = subst (λ (said : Option Text). IsSaid said c.is_given-verbose.result) (c.value_for-3.ensures rows met) c.is_given-verbose.ensures;
-    }
+returns c = λ rows met. record {
+  meter = c.meter.ensures rows met;
+  client = c.number_for.ensures rows met;
+  verbose = subst (λ (said : Option Text). IsSaid said c.is_given-verbose.result) (c.value_for.ensures rows met) c.is_given-verbose.ensures;
+  most = c.number_for-2.ensures rows met;
+}

@@ -1,0 +1,17 @@
+use Rattle.std.proofs.Common.{rules, refl, subst}
+use Rattle.std.specs.Prelude.{Option}
+use Rattle.clap.specs.Words.{Text}
+use Rattle.dlms_words.specs.Words.{IsSaid}
+use Rattle.dlms_words.proofs.words.meter.Goals as goal
+
+pub returns : goal.returns
+returns c = λ rows met.
+    let place = c.value_for-3.ensures rows met in
+    record {
+      place = search rules;
+      server = c.value_for-4.ensures rows met;
+      wide = subst (λ (said : Option Text). IsSaid said c.is_given-wide.result) (c.value_for.ensures rows met) c.is_given-wide.ensures;
+      wrapper = subst (λ (said : Option Text). IsSaid said c.is_given-wrapper.result) (c.value_for-2.ensures rows met) c.is_given-wrapper.ensures;
+      secret = c.value_for-5.ensures rows met;
+      timeout = c.number_for.ensures rows met;
+    }
