@@ -74,7 +74,7 @@ pub fn append_float(
         None => (words, 0),
     };
     text.extend_from_slice(digits)?;
-    let exponent = exponent + i32::from(scaler);
+    let exponent = exponent.saturating_add(i32::from(scaler));
     if exponent == 0 || words == b"NaN".as_slice() {
         return Ok(());
     }

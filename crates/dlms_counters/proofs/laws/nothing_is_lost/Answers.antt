@@ -1,0 +1,5 @@
+use Rattle.dlms_counters.proofs.RunLemmas.{nothing_is_lost}
+use Rattle.dlms_counters.proofs.laws.nothing_is_lost.Goals as goal
+
+pub returns : goal.returns
+returns c = nothing_is_lost

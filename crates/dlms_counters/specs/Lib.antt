@@ -1,0 +1,10 @@
+pub mod Change
+pub mod Create
+pub mod File
+pub mod Fingerprint
+pub mod Image
+pub mod Instance
+pub mod Run
+pub mod Slot
+pub mod Table
+pub mod Writing
