@@ -98,9 +98,9 @@ abbrev pub NothingIsLowered : Type 0
 NothingIsLowered = (w v : World) (events : List Event) (c : CounterState) → IsWorld w
     → AreSteps w events v → LeftBy v c → AtLeast w.known c
 
--- The premises of the laws of `dlms_security` at a stop: if an association has no higher
--- reservation than the file had, and no higher counter of its peer, then what is read back is not
--- below its own.
+-- The premises of the laws of `dlms_security` at a stop. An association's reservation and its peer's
+-- counter were not above those in the file. Then the file opens with a reservation and a counter
+-- that are not below the association's.
 abbrev pub RestoresAssociations : Type 0
 RestoresAssociations = (w v : World) (events : List Event) (c : CounterState) (reserved : ℕ)
     (peer : List ℕ) (accepted : Option ℕ) → IsWorld w → AreSteps w events v → LeftBy v c

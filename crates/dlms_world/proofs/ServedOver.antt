@@ -1,4 +1,4 @@
--- What a meter serves to a client in its life: one APDU after another, and what is behind an answer of success or data is settled.
+-- What a meter serves to a client in its life: one APDU after another. Events accepted before an answer of success or data are settled.
 use Rattle.std.proofs.Common.{◌≡◌, ◌∙◌, refl, sym, ap, subst, append_assoc, ℕ, Bool, true, false, if◌then◌else◌, List, [], ◌∷◌, ◌++◌, length, Option, Some, None, nat_le}
 use Rattle.std.specs.Prelude.{IfSome}
 use Rattle.std.specs.List.{filter_map}
@@ -67,7 +67,7 @@ usual_run_adds [] before now usual run = moved (events_in before) now before run
 usual_run_adds (step ∷ steps) before now usual (mid, next, run) =
     through (events_in before) (events_in mid) (events_in now) (usual_adds step before mid usual.0 next) (usual_run_adds steps mid now usual.1 run)
 
--- ---- what is behind an answer of success or data is settled
+-- ---- events accepted before an answer of success or data are settled
 
 abbrev IsSettled : Store → List Event → List ℕ → Type 0
 IsSettled memory E answer = is_success answer ≡ true → IsBeginning E (settled_in memory)
