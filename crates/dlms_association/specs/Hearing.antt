@@ -13,7 +13,7 @@ use Rattle.dlms_association.specs.declared.answer.Answer.{Answer}
 use Rattle.dlms_association.specs.declared.answer.Answer.TheVariants.{Value as ValueCame, Result as HasResult, Denied}
 use Rattle.dlms_association.specs.declared.answer.Denial.{Denial}
 use Rattle.dlms_association.specs.declared.fault.Fault.{Fault}
-use Rattle.dlms_association.specs.declared.fault.Fault.TheVariants.{Unread, Form, Block, Memory, Refused, Denied as IsDenied, Association, Down, Line}
+use Rattle.dlms_association.specs.declared.fault.Fault.TheVariants.{Unread, Form, Block, Memory, Refused, Denied as IsDenied, Association, Down, Line, Insecure}
 use Rattle.dlms_association.specs.declared.hearing.Heard.{Heard}
 use Rattle.dlms_association.specs.declared.hearing.Heard.TheVariants.{More, Told}
 use Rattle.dlms_association.specs.declared.stage.Asked.{Asked}
@@ -42,6 +42,7 @@ Joins old last number bytes whole (Err (IsDenied denial)) new = ⊥
 Joins old last number bytes whole (Err (Association fault)) new = ⊥
 Joins old last number bytes whole (Err Down) new = ⊥
 Joins old last number bytes whole (Err Line) new = ⊥
+Joins old last number bytes whole (Err Insecure) new = ⊥
 
 -- a GET may have its value in one piece (GET-Response-Normal with data): the octets of the value
 abbrev pub data_at : List ℕ → Option (List ℕ)

@@ -8,7 +8,7 @@ use Rattle.dlms_carrier.specs.declared.any.Route.TheVariants as by
 
 -- a new one has no connection
 pub fresh_is_down : (route : Route) (c : AnyValue) → IsFresh route c → is_down c
-fresh_is_down (by.Hdlc own server) (Hdlc c) h = subst (λ (link : ClientRecord). IsDown link) (sym h.link) (refl, refl)
-fresh_is_down (by.Hdlc own server) (Tcp c) h = absurd h
+fresh_is_down (by.Hdlc own server proposal) (Hdlc c) h = subst (λ (link : ClientRecord). IsDown link) (sym h.link) (refl, refl)
+fresh_is_down (by.Hdlc own server proposal) (Tcp c) h = absurd h
 fresh_is_down (by.Tcp own server) (Hdlc c) h = absurd h
 fresh_is_down (by.Tcp own server) (Tcp c) h = ap (λ (v : TcpValue). v.phase) h

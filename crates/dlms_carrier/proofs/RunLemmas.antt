@@ -9,7 +9,7 @@ use Rattle.dlms_carrier.specs.Carrying.{Call, Does, Input, Begin, Give, Feed, Wa
 use Rattle.dlms_carrier.specs.Tcp.{Brings, Comes, HandedUp, Hears, Ignored, IsBetween, IsWithin, NoMessage, Reads, Steps, TcpRuns, TcpValue, apdu_in, at_start, fresh, is_notification, last_apdu, message_of}
 use Rattle.dlms_carrier.proofs.TcpLemmas.{none_is_refused}
 use Rattle.dlms_carrier.specs.declared.event.Event.{Event}
-use Rattle.dlms_carrier.specs.declared.event.Event.TheVariants.{Nothing, Up, Apdu, TimedOut, Refused}
+use Rattle.dlms_carrier.specs.declared.event.Event.TheVariants.{Nothing, Up, Apdu, TimedOut, Refused, Insecure}
 use Rattle.dlms_carrier.specs.declared.event.Event.TheVariants as event
 use Rattle.dlms_carrier.specs.declared.phase.Phase.{Phase}
 use Rattle.dlms_carrier.specs.declared.phase.Phase.TheVariants.{Down, Idle, Waiting}
@@ -37,6 +37,7 @@ comes_stays : (result : Event) (c new : TcpValue) → Comes c result new → Sta
 comes_stays Nothing c new h = stays_at c.phase c new h.2
 comes_stays Apdu c new h = stays_at Idle c new h.2
 comes_stays (Refused why) c new h = stays_at Down c new h.2
+comes_stays Insecure c new h = absurd h
 comes_stays Up c new h = absurd h
 comes_stays event.Down c new h = absurd h
 comes_stays TimedOut c new h = absurd h
@@ -87,6 +88,7 @@ unheard input Apdu out apdu calls e = absurd (e refl)
 unheard input event.Down out apdu calls e = refl
 unheard input TimedOut out apdu calls e = refl
 unheard input (Refused why) out apdu calls e = refl
+unheard input Insecure out apdu calls e = refl
 
 record Drops (result : Event) (c new : TcpValue) : Type 0 where
   event : result ≢ Apdu
@@ -97,6 +99,7 @@ drops_comes : (result : Event) (c new : TcpValue) → c.phase ≡ Down → Comes
 drops_comes Nothing c new down h = record { event = λ e. cc; phase = ap (λ (v : TcpValue). v.phase) h.2 ∙ down; reader = ap (λ (v : TcpValue). v.reader) h.2 }
 drops_comes Apdu c new down h = let waits = h.0.0 in cc
 drops_comes (Refused why) c new down h = absurd (h.0 down)
+drops_comes Insecure c new down h = absurd h
 drops_comes Up c new down h = absurd h
 drops_comes event.Down c new down h = absurd h
 drops_comes TimedOut c new down h = absurd h
@@ -187,6 +190,7 @@ feed_more : (result : Event) (arrived : List ℕ) (count : ℕ) (octets out apdu
     → Brings c.own c.server c.reader.bytes (octets ++ read calls) (handed_up (call_of (Feed arrived count) result out apdu ∷ calls)) new
 feed_more Nothing arrived count octets out apdu calls reader c mid new comes same e fits b = ignores c.own c.server c.reader.bytes octets reader.bytes (read calls) reader.message (handed_up calls) new e fits b
 feed_more (Refused why) arrived count octets out apdu calls reader c mid new comes same e fits b = ignores c.own c.server c.reader.bytes octets reader.bytes (read calls) reader.message (handed_up calls) new e fits b
+feed_more Insecure arrived count octets out apdu calls reader c mid new comes same e fits b = absurd comes
 feed_more Apdu arrived count octets out apdu calls reader c mid new comes same e fits b =
     let is = between_is c.server c.own reader.message comes.0.1 in
     let a : List ℕ = comes.0.1.message.apdu in
@@ -326,6 +330,7 @@ count_heard : (result : Event) (c mid : TcpValue) (apdu : List ℕ) (calls : Lis
 count_heard Nothing c mid apdu calls octets count out given_later after h more = let e = ap (λ (v : TcpValue). pending v.phase) h.2 in omega (arith, e, more)
 count_heard Apdu c mid apdu calls octets count out given_later after h more = let e = pending_at Idle c mid h.2 in let f = ap pending h.0.0 in omega (arith, e, f, more)
 count_heard (Refused why) c mid apdu calls octets count out given_later after h more = let e = pending_at Down c mid h.2 in omega (arith, e, more)
+count_heard Insecure c mid apdu calls octets count out given_later after h more = absurd h
 count_heard Up c mid apdu calls octets count out given_later after h more = absurd h
 count_heard event.Down c mid apdu calls octets count out given_later after h more = absurd h
 count_heard TimedOut c mid apdu calls octets count out given_later after h more = absurd h

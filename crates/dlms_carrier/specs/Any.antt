@@ -1,8 +1,9 @@
 -- The carrier that a route chooses: each call is that carrier's.
-use Rattle.std.specs.Prelude.{◌≡◌, refl, ℕ, ◌<◌, List, IsSome}
+use Rattle.std.specs.Prelude.{◌≡◌, refl, ℕ, ◌<◌, Bool, true, false, List, IsSome, IfSome}
 use Rattle.std.proofs.Common.{ap}
 use Rattle.dlms_frame.specs.Frame.{IsAddress}
 use Rattle.dlms_link.specs.Client.{IsDown, IsIdle}
+use Rattle.dlms_link.specs.Parameters.{IsProposable}
 use Rattle.dlms_carrier.specs.Carrying.{Input, Feed}
 use Rattle.dlms_carrier.specs.Hdlc.{HdlcValue, IsFresh as IsFreshHdlc, Steps as HdlcSteps}
 use Rattle.dlms_carrier.specs.Tcp.{TcpValue, Steps as TcpSteps, fresh, last_apdu}
@@ -27,14 +28,23 @@ chosen_by (chosen.Tcp c) = Tcp c
 abbrev pub value_of : {A : Type 0} → Inside A → AnyValue
 value_of c = chosen_by c.chosen
 
--- over HDLC a client's address is 1 to 127, and each part of the meter's has its bits; wrapper port 0 is no station's
+-- over HDLC a client's address is 1 to 127, each part of the meter's has its bits, and a size that is
+-- proposed has its range; wrapper port 0 is no station's
 abbrev pub IsRoute : Route → Type 0
-IsRoute (by.Hdlc own server) = (0 < own) × (own < 128) × IsAddress server
+IsRoute (by.Hdlc own server proposal) =
+    (0 < own) × (own < 128) × IsAddress server × IfSome proposal IsProposable
 IsRoute (by.Tcp own server) = 0 < own
 
+-- Whether a connection outlasts an association over it, and an answer that did not come. Over the
+-- wrapper it does not: the association ends with its connection (IEC 62056-47), and a late answer
+-- could be taken for that to the next request.
+abbrev pub outlasts : Route → Bool
+outlasts (by.Hdlc own server proposal) = true
+outlasts (by.Tcp own server) = false
+
 abbrev pub IsFresh : Route → AnyValue → Type 0
-IsFresh (by.Hdlc own server) (Hdlc c) = IsFreshHdlc own server c
-IsFresh (by.Hdlc own server) (Tcp c) = ⊥
+IsFresh (by.Hdlc own server proposal) (Hdlc c) = IsFreshHdlc own server proposal c
+IsFresh (by.Hdlc own server proposal) (Tcp c) = ⊥
 IsFresh (by.Tcp own server) (Hdlc c) = ⊥
 IsFresh (by.Tcp own server) (Tcp c) = c ≡ fresh own server
 

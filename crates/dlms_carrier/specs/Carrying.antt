@@ -2,7 +2,7 @@
 use Rattle.std.specs.Prelude.{◌≡◌, ℕ, List, [], ◌∷◌, take, Option, Some, None}
 use Rattle.std.specs.List.{flat_map, filter_map}
 use Rattle.dlms_carrier.specs.declared.event.Event.{Event}
-use Rattle.dlms_carrier.specs.declared.event.Event.TheVariants.{Nothing, Up, Apdu, Down, TimedOut, Refused}
+use Rattle.dlms_carrier.specs.declared.event.Event.TheVariants.{Nothing, Up, Apdu, Down, TimedOut, Refused, Insecure}
 
 -- which method is called, and with which argument; of the octets that arrived the first `count` are read
 pub data Input : Type 0 where
@@ -11,6 +11,22 @@ pub data Input : Type 0 where
   Feed : (octets : List ℕ) (count : ℕ) → Input
   Wait : Input
   End : Input
+
+-- the meaning of a call: the carrier before it, the call, its event, the carrier after it
+abbrev pub StepsOf : Type 0 → Type 1
+StepsOf C = C → Input → Event → C → Type 0
+
+-- the meaning of a carrier's calls
+pub record Meaning (C : Type 0) : Type 1 where
+  pub steps : StepsOf C
+  pub out_of : C → List ℕ
+  pub apdu_of : C → List ℕ
+  pub is_waiting : C → Type 0
+
+abbrev pub meaning : {C : Type 0} → StepsOf C → (C → List ℕ) → (C → List ℕ) → (C → Type 0)
+    → Meaning C
+meaning steps out_of apdu_of is_waiting =
+    record { steps = steps; out_of = out_of; apdu_of = apdu_of; is_waiting = is_waiting }
 
 -- a call as its caller sees it: its arguments, its event, and after it the octets to write and the last APDU
 pub record Call : Type 0 where
@@ -51,6 +67,7 @@ handed_at Up apdu = None
 handed_at Down apdu = None
 handed_at TimedOut apdu = None
 handed_at (Refused why) apdu = None
+handed_at Insecure apdu = None
 
 -- the APDUs that were given to the meter, and those of the meter that were handed up, each in their order
 abbrev pub given : List Call → List (List ℕ)

@@ -3,7 +3,7 @@ use Rattle.std.specs.Prelude.{◌≡◌, ℕ, ◌≤◌, List, [], length, take,
 use Rattle.dlms_frame.specs.Frame.{FrameSpelling, Parts}
 use Rattle.dlms_frame.specs.Stream.{Fits, Takes}
 use Rattle.dlms_frame.specs.declared.frame.Address.{Address}
-use Rattle.dlms_link.specs.Client.{ClientRecord, IsDown, IsIdle, client_connect, client_disconnect, client_send, client_step, client_timeout, disc_of, fresh_between, snrm_of}
+use Rattle.dlms_link.specs.Client.{ClientRecord, IsDown, IsIdle, client_connect, client_disconnect, client_send, client_step, client_timeout, disc_of, fresh_proposing, snrm_of}
 use Rattle.dlms_link.specs.declared.out.ClientOut.{ClientOut}
 use Rattle.dlms_link.specs.declared.out.ClientOut.TheVariants as out
 use Rattle.dlms_wrapper.specs.declared.message.TheConstants.{MOST_APDU}
@@ -26,10 +26,10 @@ value_of c = record { kept = c.deframer.bytes; link = c.link; text = c.text.item
 abbrev pub IsClear : HdlcValue → Type 0
 IsClear c = Fits c.kept [] 0
 
--- a carrier from this client to the meter at this address, without a connection
-pub record IsFresh (own : ℕ) (server : Address) (c : HdlcValue) : Type 0 where
+-- a carrier from this client to the meter at this address, with this proposal, without a connection
+pub record IsFresh (own : ℕ) (server : Address) (proposal : Option ℕ) (c : HdlcValue) : Type 0 where
   pub clear : IsClear c
-  pub link : c.link ≡ fresh_between own server
+  pub link : c.link ≡ fresh_proposing own server proposal
   pub text : c.text ≡ []
 
 -- a frame is handled by the link if one of its own is out, and is ignored otherwise

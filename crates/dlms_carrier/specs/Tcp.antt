@@ -78,6 +78,7 @@ Comes c event.Nothing new = (HasAnswer c → ⊥) × (c.phase ≢ Down → IsRea
 Comes c event.Up new = ⊥
 Comes c event.Down new = ⊥
 Comes c event.TimedOut new = ⊥
+Comes c event.Insecure new = ⊥
 
 -- the reader read these octets
 pub record Reads (old : Kept) (octets : List ℕ) (new : Kept) : Type 0 where

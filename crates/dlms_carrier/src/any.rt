@@ -1,22 +1,25 @@
 //! A carrier that is chosen while the program runs.
 
-ghost use Rattle.std.specs.Prelude.{◌↔◌, IfOk, IsTrue};
+ghost use Rattle.std.specs.Prelude.{◌≡◌, ◌↔◌, IfOk, IfSome, IsTrue};
 ghost use Rattle.dlms_frame.specs.Frame.{IsAddress};
-ghost use Rattle.dlms_carrier.specs.Any.{IsFresh, IsRoute};
+ghost use Rattle.dlms_link.specs.Parameters.{IsProposable};
+ghost use Rattle.dlms_carrier.specs.Any.{IsFresh, IsRoute, outlasts};
 
 use crate::carrier::Carrier;
 use crate::event::{Event, Fed};
 use crate::hdlc::HdlcCarrier;
 use crate::tcp::TcpCarrier;
 use dlms_frame::Address;
+use dlms_link::is_proposable;
 use std::alloc::{AllocError, Allocator, Global};
 use std::marker::Model;
 
 /// Which carrier leads to a meter, and both addresses on it.
 #[derive(Clone, Copy, Debug, PartialEq, Eq)]
 pub enum Route {
-    /// An HDLC link, from the client with this service access point, 1 to 127, to the meter at this address.
-    Hdlc(u8, Address),
+    /// An HDLC link, from the client with this service access point, 1 to 127, to the meter at this address. If there is a number,
+    /// 128 to 2,030, the link proposes that the meter sends up to so many octets of information in a frame.
+    Hdlc(u8, Address, Option<u16>),
     /// The TCP wrapper, from this wrapper port of the client, which is not 0, to this one of the meter.
     Tcp(u16, u16),
 }
@@ -32,14 +35,37 @@ fn is_address(address: Address) -> bool
     }
 }
 
+/// Whether a link may propose this.
+fn is_proposal(proposal: Option<u16>) -> bool
+    ensures { IsTrue result ↔ IfSome proposal IsProposable }
+{
+    match proposal {
+        None => true,
+        Some(size) => is_proposable(size),
+    }
+}
+
 impl Route {
-    /// Whether the addresses are in their ranges: a carrier may be made for this route.
+    /// Whether the addresses and the proposal are in their ranges: a carrier may be made for this route.
     pub fn is_lawful(&self) -> bool
         ensures { IsTrue result ↔ IsRoute self.now }
     {
         match *self {
-            Route::Hdlc(own, server) => 0 < own && own < 128 && is_address(server),
+            Route::Hdlc(own, server, proposal) => {
+                0 < own && own < 128 && is_address(server) && is_proposal(proposal)
+            }
             Route::Tcp(own, _) => 0 < own,
+        }
+    }
+
+    /// Whether a connection outlasts an association over it, and an answer that did not come. Over the wrapper it does not: the
+    /// association ends with its connection (IEC 62056-47), and a late answer could be taken for that to the next request.
+    pub fn outlasts(&self) -> bool
+        ensures { result ≡ outlasts self.now }
+    {
+        match *self {
+            Route::Hdlc(..) => true,
+            Route::Tcp(..) => false,
         }
     }
 }
@@ -72,8 +98,8 @@ impl<A: Allocator> AnyCarrier<A> {
         ensures { IfOk result (IsFresh route) }
     {
         match route {
-            Route::Hdlc(own, server) => {
-                let carrier = HdlcCarrier::new(alloc, own, server)?;
+            Route::Hdlc(own, server, proposal) => {
+                let carrier = HdlcCarrier::new(alloc, own, server, proposal)?;
                 Ok(AnyCarrier {
                     chosen: Chosen::Hdlc(carrier),
                 })

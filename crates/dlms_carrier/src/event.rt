@@ -17,6 +17,8 @@ pub enum Event {
     TimedOut,
     /// The wrapper refuses the header of the next message for this cause, and the connection is over.
     Refused(HeaderFault),
+    /// The security layer refuses what came or what was to go out, and the connection is over.
+    Insecure,
 }
 
 /// The number of octets that a call of `feed` read, and its outcome.

@@ -35,20 +35,29 @@ impl<A: Allocator> Model for HdlcCarrier<A> {
 }
 
 impl<A: Allocator> HdlcCarrier<A> {
-    ghost use Rattle.std.specs.Prelude.{◌<◌, IfOk};
+    ghost use Rattle.std.specs.Prelude.{◌<◌, IfOk, IfSome};
     ghost use Rattle.dlms_frame.specs.Frame.{IsAddress};
+    ghost use Rattle.dlms_link.specs.Parameters.{IsProposable};
     ghost use Rattle.dlms_carrier.specs.Hdlc.{IsFresh};
 
-    /// A carrier from the client with this service access point to the meter at this address, without a connection.
-    pub fn new(alloc: A, own: u8, server: Address) -> Result<Self, AllocError>
+    /// A carrier from the client with this service access point to the meter at this address, without a connection. If a proposal
+    /// is given, 128 to 2,030 octets, the link proposes that the meter sends up to so much information in a frame, and sends itself
+    /// what the meter agrees to (`ClientLink::proposing`). Without one neither end proposes anything but 128.
+    pub fn new(
+        alloc: A,
+        own: u8,
+        server: Address,
+        proposal: Option<u16>,
+    ) -> Result<Self, AllocError>
         requires own { own < 128 }
         requires server { IsAddress server }
-        ensures { IfOk result (IsFresh own server) }
+        requires proposal { IfSome proposal IsProposable }
+        ensures { IfOk result (IsFresh own server proposal) }
     {
         let deframer = KeptDeframer::new(alloc)?;
         Ok(HdlcCarrier {
             deframer,
-            link: ClientLink::between(own, server),
+            link: ClientLink::proposing(own, server, proposal),
             text: ArrayVec::new(),
         })
     }

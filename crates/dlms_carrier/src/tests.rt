@@ -128,7 +128,7 @@ fn a_timeout_and_a_refused_header_end_it(rt: HostRuntime) -> Result<(), Fail> {
 
 #[test]
 fn a_link_opens_carries_and_closes(rt: HostRuntime) -> Result<(), Fail> {
-    let mut carrier = HdlcCarrier::new(rt.alloc(), 0x10, Address::One(1))?;
+    let mut carrier = HdlcCarrier::new(rt.alloc(), 0x10, Address::One(1), None)?;
     if carrier.is_down() {
         assert_eq!(rt; carrier.begin(), Event::Nothing);
     }

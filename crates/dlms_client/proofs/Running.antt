@@ -10,17 +10,17 @@ use Rattle.dlms_association.specs.Run.{AnswersAreSaid as AnswersOf, BlocksAreOfT
 use Rattle.dlms_association.specs.declared.answer.Answer.{Answer}
 use Rattle.dlms_association.specs.declared.ask_fault.AskFault.{AskFault}
 use Rattle.dlms_association.specs.declared.fault.Fault.{Fault}
-use Rattle.dlms_association.specs.declared.fault.Fault.TheVariants.{Down as WentDown, Form, Line}
+use Rattle.dlms_association.specs.declared.fault.Fault.TheVariants.{Down as WentDown, Form, Insecure, Line}
 use Rattle.dlms_association.specs.declared.step.Step.{Step}
 use Rattle.dlms_association.specs.declared.step.Step.TheVariants as step
-use Rattle.dlms_carrier.specs.Carrying.{Input, Begin as BeginOf, Give, Feed as FeedOf, Wait as WaitOf, End, Call as CarrierCall, Runs as CarrierRuns, given, handed_at, read, read_by, given_by}
+use Rattle.dlms_carrier.specs.Carrying.{Input, Begin as BeginOf, Give, Feed as FeedOf, Wait as WaitOf, End, Call as CarrierCall, Runs as CarrierRuns, given, handed_at, read, read_by, given_by, Meaning}
 use Rattle.dlms_carrier.specs.declared.event.Event.{Event}
 use Rattle.dlms_carrier.specs.declared.event.Event.TheVariants as event
 use Rattle.dlms_client.specs.Calls.{BeginsBy, BreaksOver, Carries, ClosesOver, ComesBy, ComesUp, Follows, GoesDown, HearsUnless, Leaves, LeavesBy, OpensOver, Sends, TimesOutBy, Waits, fresh}
 use Rattle.dlms_client.specs.Calls.ComesUp.{IsOpened, IsNotClosed}
 use Rattle.dlms_client.specs.Calls.Waits.{HasFailed, NoneIsOut, IsAwaited}
 use Rattle.dlms_client.specs.ClientValue.{ClientValue}
-use Rattle.dlms_client.specs.Run.{AnswersAreSaid, Beside, BlocksAreOfTheRequest, Call, Begin, Feed, Wait, Ask, Release, Disconnect, IsCall, Meaning, Runs, SameApdus, Share, asked, asked_by, carried_in, heard, heard_by, last_of, made_in, octets_of, passed, request_of, requests, sent, sent_after, sent_by, taken, taken_by}
+use Rattle.dlms_client.specs.Run.{AnswersAreSaid, Beside, BlocksAreOfTheRequest, Call, Begin, Feed, Wait, Ask, Release, Disconnect, IsCall, Runs, SameApdus, Share, asked, asked_by, carried_in, heard, heard_by, last_of, made_in, octets_of, passed, request_of, requests, sent, sent_after, sent_by, taken, taken_by}
 use Rattle.dlms_client.specs.declared.outcome.Outcome.{Outcome}
 use Rattle.dlms_client.specs.declared.outcome.Outcome.TheVariants as outcome
 
@@ -157,6 +157,7 @@ leaves_by m event.Up at new result h = nothing m at new h.after
 leaves_by m event.Apdu at new result h = nothing m at new h.after
 leaves_by m event.TimedOut at new result h = nothing m at new h.after
 leaves_by m (event.Refused why) at new result h = nothing m at new h.after
+leaves_by m event.Insecure at new result h = nothing m at new h.after
 
 leaves : {C : Type 0} (m : Meaning C) (at new : ClientValue C) (result : Result Outcome Fault) → Leaves m.steps at result new → Piece m at [] [] new
 leaves m at new result h =
@@ -212,6 +213,7 @@ comes m event.Apdu old new octets count carrier result feeds h = follows m old o
 comes m event.Down old new octets count carrier result feeds h = reads m old new octets count event.Down carrier refl feeds (goes_down m old.leaving _ new result h)
 comes m event.TimedOut old new octets count carrier result feeds h = reads m old new octets count event.TimedOut carrier refl feeds (breaks m _ new Line result h)
 comes m (event.Refused why) old new octets count carrier result feeds h = reads m old new octets count (event.Refused why) carrier refl feeds (breaks m _ new Form result h)
+comes m event.Insecure old new octets count carrier result feeds h = reads m old new octets count event.Insecure carrier refl feeds (breaks m _ new Insecure result h)
 
 feeds_unless : {C : Type 0} (m : Meaning C) (failed : Option Fault) (old new : ClientValue C) (octets : List ℕ) (count : ℕ) (result : Result Outcome Fault) → HearsUnless m.steps m.apdu_of failed old octets count result new
     → Piece m old (passed failed (Feed octets count result)) [] new
@@ -227,6 +229,7 @@ begins_by m event.Apdu at new h = nothing m at new h
 begins_by m event.Down at new h = nothing m at new h
 begins_by m event.TimedOut at new h = nothing m at new h
 begins_by m (event.Refused why) at new h = nothing m at new h
+begins_by m event.Insecure at new h = nothing m at new h
 
 times_out : {C : Type 0} (m : Meaning C) (event : Event) (at new : ClientValue C) (result : Result Outcome Fault) → TimesOutBy event at result new → Piece m at [] [] new
 times_out m event.TimedOut at new result h = breaks m at new Line result h
@@ -235,6 +238,7 @@ times_out m event.Up at new result h = nothing m at new h.after
 times_out m event.Apdu at new result h = nothing m at new h.after
 times_out m event.Down at new result h = nothing m at new h.after
 times_out m (event.Refused why) at new result h = nothing m at new h.after
+times_out m event.Insecure at new result h = nothing m at new h.after
 
 waits : {C : Type 0} (m : Meaning C) (old new : ClientValue C) (result : Result Outcome Fault) → Waits m.steps m.is_waiting old result new → Piece m old [] [] new
 waits m old new result (HasFailed fault failed e same) = nothing m old new same
@@ -324,6 +328,7 @@ left_none event.Up at new answer h = let clash = h.answer in cc
 left_none event.Apdu at new answer h = let clash = h.answer in cc
 left_none event.TimedOut at new answer h = let clash = h.answer in cc
 left_none (event.Refused why) at new answer h = let clash = h.answer in cc
+left_none event.Insecure at new answer h = let clash = h.answer in cc
 
 followed : {C : Type 0} (m : Meaning C) (at : ClientValue C) (octets : List ℕ) (count : ℕ) (carrier : C) (made : Result Step Fault) (association : AssociationValue) (answer : Answer) (new : ClientValue C) → m.steps at.carrier (FeedOf octets count) event.Apdu carrier
     → Takes at.association (m.apdu_of carrier) made association → Follows m.steps made (record at { carrier = carrier; association = association }) (Ok (outcome.Answered answer)) new → Brings m at octets count answer new
@@ -354,6 +359,7 @@ brought m event.Apdu at octets count carrier answer new feeds h = followed m at 
 brought m event.Down at octets count carrier answer new feeds h = absurd (down_none at.leaving _ new answer h)
 brought m event.TimedOut at octets count carrier answer new feeds h = let clash = h.answer in cc
 brought m (event.Refused why) at octets count carrier answer new feeds h = let clash = h.answer in cc
+brought m event.Insecure at octets count carrier answer new feeds h = let clash = h.answer in cc
 
 brought_unless : {C : Type 0} (m : Meaning C) (failed : Option Fault) (at : ClientValue C) (octets : List ℕ) (count : ℕ) (answer : Answer) (new : ClientValue C) → HearsUnless m.steps m.apdu_of failed at octets count (Ok (outcome.Answered answer)) new
     → Brings m at octets count answer new

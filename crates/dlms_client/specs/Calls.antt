@@ -7,20 +7,16 @@ use Rattle.dlms_association.specs.Calls.{Breaks, Closes, IsClosed, Opens, Takes,
 use Rattle.dlms_association.specs.Terms.{TermsValue}
 use Rattle.dlms_association.specs.declared.ask_fault.AskFault.{AskFault}
 use Rattle.dlms_association.specs.declared.fault.Fault.{Fault}
-use Rattle.dlms_association.specs.declared.fault.Fault.TheVariants.{Down as WentDown, Form, Line}
+use Rattle.dlms_association.specs.declared.fault.Fault.TheVariants.{Down as WentDown, Form, Insecure, Line}
 use Rattle.dlms_association.specs.declared.stage.Asked.{Asked}
 use Rattle.dlms_association.specs.declared.step.Step.{Step}
 use Rattle.dlms_association.specs.declared.step.Step.TheVariants as step
-use Rattle.dlms_carrier.specs.Carrying.{Input, Begin, Give, Feed, Wait, End}
+use Rattle.dlms_carrier.specs.Carrying.{Input, Begin, Give, Feed, Wait, End, StepsOf}
 use Rattle.dlms_carrier.specs.declared.event.Event.{Event}
 use Rattle.dlms_carrier.specs.declared.event.Event.TheVariants as event
 use Rattle.dlms_client.specs.ClientValue.{ClientValue}
 use Rattle.dlms_client.specs.declared.outcome.Outcome.{Outcome}
 use Rattle.dlms_client.specs.declared.outcome.Outcome.TheVariants as outcome
-
--- the meaning of a carrier's call: the carrier before it, the call, its event, the carrier after it
-abbrev pub StepsOf : Type 0 → Type 1
-StepsOf C = C → Input → Event → C → Type 0
 
 -- a client over this carrier, with a closed association
 abbrev pub fresh : {C : Type 0} → C → TermsValue → ClientValue C
@@ -76,6 +72,7 @@ LeavesBy event.Up at result new = Stays at outcome.Nothing result new
 LeavesBy event.Apdu at result new = Stays at outcome.Nothing result new
 LeavesBy event.TimedOut at result new = Stays at outcome.Nothing result new
 LeavesBy (event.Refused why) at result new = Stays at outcome.Nothing result new
+LeavesBy event.Insecure at result new = Stays at outcome.Nothing result new
 
 pub record Leaves {C : Type 0} (steps : StepsOf C) (at : ClientValue C)
     (result : Result Outcome Fault) (new : ClientValue C) : Type 0 where
@@ -128,6 +125,7 @@ ComesBy steps event.Apdu apdu at result new = TakesOver steps at apdu result new
 ComesBy steps event.Down apdu at result new = GoesDown at.leaving at result new
 ComesBy steps event.TimedOut apdu at result new = BreaksOver at Line result new
 ComesBy steps (event.Refused why) apdu at result new = BreaksOver at Form result new
+ComesBy steps event.Insecure apdu at result new = BreaksOver at Insecure result new
 
 -- ---- the connection is requested
 
@@ -144,6 +142,7 @@ BeginsBy steps event.Apdu at new = new ≡ at
 BeginsBy steps event.Down at new = new ≡ at
 BeginsBy steps event.TimedOut at new = new ≡ at
 BeginsBy steps (event.Refused why) at new = new ≡ at
+BeginsBy steps event.Insecure at new = new ≡ at
 
 pub record Begins {C : Type 0} (steps : StepsOf C) (old new : ClientValue C) : Type 0 where
   pub event : Event
@@ -184,6 +183,7 @@ TimesOutBy event.Up at result new = Stays at outcome.Nothing result new
 TimesOutBy event.Apdu at result new = Stays at outcome.Nothing result new
 TimesOutBy event.Down at result new = Stays at outcome.Nothing result new
 TimesOutBy (event.Refused why) at result new = Stays at outcome.Nothing result new
+TimesOutBy event.Insecure at result new = Stays at outcome.Nothing result new
 
 pub record TimesOut {C : Type 0} (steps : StepsOf C) (old : ClientValue C)
     (result : Result Outcome Fault) (new : ClientValue C) : Type 0 where

@@ -14,24 +14,12 @@ use Rattle.dlms_association.specs.declared.stage.Stage.TheVariants.{Asking}
 use Rattle.dlms_association.specs.declared.step.Step.{Step}
 use Rattle.dlms_association.specs.declared.step.Step.TheVariants as step
 use Rattle.dlms_carrier.specs.Any.{AnyValue, Steps, apdu_of, out_of}
-use Rattle.dlms_carrier.specs.Carrying.{Input, Begin as BeginOf, Give, Feed as FeedOf, Wait as WaitOf, End, Call as CarrierCall, Runs as CarrierRuns, given, handed_at, handed_up, read}
+use Rattle.dlms_carrier.specs.Carrying.{Input, Begin as BeginOf, Give, Feed as FeedOf, Wait as WaitOf, End, Call as CarrierCall, Runs as CarrierRuns, given, handed_at, handed_up, read, StepsOf, Meaning}
 use Rattle.dlms_carrier.specs.declared.event.Event.TheVariants as event
-use Rattle.dlms_client.specs.Calls.{Asks, Begins, Feeds, Leaves, Releases, StepsOf, Waits, fresh}
+use Rattle.dlms_client.specs.Calls.{Asks, Begins, Feeds, Leaves, Releases, Waits, fresh}
 use Rattle.dlms_client.specs.ClientValue.{ClientValue}
 use Rattle.dlms_client.specs.declared.outcome.Outcome.{Outcome}
 use Rattle.dlms_client.specs.declared.outcome.Outcome.TheVariants.{Answered}
-
--- the meaning of a carrier's calls
-pub record Meaning (C : Type 0) : Type 1 where
-  pub steps : StepsOf C
-  pub out_of : C → List ℕ
-  pub apdu_of : C → List ℕ
-  pub is_waiting : C → Type 0
-
-abbrev pub meaning : {C : Type 0} → StepsOf C → (C → List ℕ) → (C → List ℕ) → (C → Type 0)
-    → Meaning C
-meaning steps out_of apdu_of is_waiting = record
-    { steps = steps; out_of = out_of; apdu_of = apdu_of; is_waiting = is_waiting }
 
 -- a call, its arguments and its result; of the octets that arrived the first `count` are read
 pub data Call : Type 0 where

@@ -130,6 +130,7 @@ impl<C: Carrier + Drop, A: Allocator + Copy> Client<C, A> {
             Event::Down => self.down(),
             Event::TimedOut => self.fail(Fault::Line),
             Event::Refused(_) => self.fail(Fault::Form),
+            Event::Insecure => self.fail(Fault::Insecure),
         }
     }
 
@@ -336,6 +337,13 @@ impl<C: Carrier + Drop, A: Allocator + Copy> Client<C, A> {
         ensures { result.now ≡ C.apdu_of self.now.carrier }
     {
         self.carrier.apdu()
+    }
+
+    /// The carrier.
+    pub fn carrier(&self) -> &C
+        ensures { result.now ≡ self.now.carrier }
+    {
+        &self.carrier
     }
 
     /// The services and the size that the meter granted last; none before an association.

@@ -1,6 +1,7 @@
 //! Laws of every client, over any carrier. Nobody needs to call these functions: their contracts are the laws.
 
-ghost use Rattle.dlms_client.specs.Run.{AnswersAreSaid, BlocksAreOfTheRequest, NoOtherIsHandedUp, RunsLead, meaning};
+ghost use Rattle.dlms_client.specs.Run.{AnswersAreSaid, BlocksAreOfTheRequest, NoOtherIsHandedUp, RunsLead};
+ghost use Rattle.dlms_carrier.specs.Carrying.{meaning};
 
 use dlms_association::laws;
 use dlms_carrier::Carrier;

@@ -189,6 +189,7 @@ late_not_done event.Up at p' h = let clash = h.answer in cc
 late_not_done event.Apdu at p' h = let clash = h.answer in cc
 late_not_done event.Down at p' h = let clash = h.answer in cc
 late_not_done (event.Refused why) at p' h = let clash = h.answer in cc
+late_not_done event.Insecure at p' h = let clash = h.answer in cc
 
 wait_not_done : (p p' : PollAt) → WaitsAt p (Ok Done) p' → ⊥
 wait_not_done p p' (HasFailed fault failed told same) = cc

@@ -4,9 +4,10 @@ use Rattle.std.specs.List.{flat_map}
 use Rattle.std.specs.declared.io.Error.{Error}
 use Rattle.dlms_carrier.specs.Any.{AnyValue, IsFresh, Steps, apdu_of, is_waiting, out_of}
 use Rattle.dlms_carrier.specs.declared.any.Route.{Route}
+use Rattle.dlms_carrier.specs.Carrying.{Meaning, meaning}
 use Rattle.dlms_headend.specs.CarrierPollValue.{CarrierPollValue, TermsValue}
 use Rattle.dlms_headend.specs.CarrierPolling.{Begins, fresh_over}
-use Rattle.dlms_headend.specs.CarrierRun.{Beside, Call, Feed, Wait, IsCall, Meaning, meaning}
+use Rattle.dlms_headend.specs.CarrierRun.{Beside, Call, Feed, Wait, IsCall}
 use Rattle.dlms_headend.specs.Listed.{columns_listed_in}
 use Rattle.dlms_headend.specs.declared.poll_fault.PollFault.{PollFault}
 use Rattle.dlms_headend.specs.declared.poll_fault.PollFault.TheVariants as failing

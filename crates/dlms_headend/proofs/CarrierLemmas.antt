@@ -1,11 +1,11 @@
 -- A poll over a carrier: the APDU that is handed up, and the connection's end.
 use Rattle.std.proofs.Common.{◌≡◌, ◌∙◌, refl, ap, sym, subst, inl, inr, ℕ, List, [], ◌∷◌, ◌++◌, Result, Ok, Err}
 use Rattle.dlms_blocks.specs.Joining.{Joining, empty}
-use Rattle.dlms_carrier.specs.Carrying.{Give}
+use Rattle.dlms_carrier.specs.Carrying.{Give, StepsOf}
 use Rattle.dlms_carrier.specs.declared.event.Event.{Event}
 use Rattle.dlms_carrier.specs.declared.event.Event.TheVariants as event
 use Rattle.dlms_headend.specs.CarrierPollValue.{CarrierPollValue, requests_of}
-use Rattle.dlms_headend.specs.CarrierPolling.{AsksNext, ComesBy, ComesUp, Fails, Feeds, FeedsIn, Fits, FitsIn, GoesDown, GoesOn, Hears, IsAsking, IsDone, IsLeaving, IsUnderWay, IsUnderWayIn, Leaves, LeavesBy, StepsOf, TakesOver}
+use Rattle.dlms_headend.specs.CarrierPolling.{AsksNext, ComesBy, ComesUp, Fails, Feeds, FeedsIn, Fits, FitsIn, GoesDown, GoesOn, Hears, IsAsking, IsDone, IsLeaving, IsUnderWay, IsUnderWayIn, Leaves, LeavesBy, TakesOver}
 use Rattle.dlms_headend.specs.CarrierPolling.GoesDown.{IsReleased, IsUnreleased}
 use Rattle.dlms_headend.specs.CarrierPolling.TakesOver.{IsTaken, EndsIt, IsUnasked}
 use Rattle.dlms_headend.specs.CarrierPolling.ComesUp.{IsOpened, IsUpAlready}
@@ -144,6 +144,7 @@ leaves_ok event.Up at new result h e = let told = h.answer in cc
 leaves_ok event.Apdu at new result h e = let told = h.answer in cc
 leaves_ok event.TimedOut at new result h e = let told = h.answer in cc
 leaves_ok (event.Refused why) at new result h e = let told = h.answer in cc
+leaves_ok event.Insecure at new result h e = let told = h.answer in cc
 
 goes_on_ok : {C : Type 0} (steps : StepsOf C) (at new : CarrierPollValue C) (apdus : List (List ℕ)) (result : Result PollOutcome PollFault) → GoesOn steps at apdus result new → result ≡ Err Memory → ⊥
 goes_on_ok steps at new apdus result (inl h) e = let told = h.answer in cc
@@ -175,3 +176,4 @@ needs_by steps apdu_of event.Apdu apdus at new result h e = taken_needs steps ap
 needs_by steps apdu_of event.Down apdus at new result h e = absurd (down_ok apdus at new result h e)
 needs_by steps apdu_of event.TimedOut apdus at new result h e = absurd (needs_never at new result Line (λ same. cc) h e)
 needs_by steps apdu_of (event.Refused why) apdus at new result h e = absurd (needs_never at new result Protocol (λ same. cc) h e)
+needs_by steps apdu_of event.Insecure apdus at new result h e = absurd (needs_never at new result Protocol (λ same. cc) h e)

@@ -2,7 +2,7 @@
 use Rattle.std.proofs.Common.{◌≡◌, ◌∙◌, refl, sym, ap, subst, inl, inr, ℕ, Bool, true, false, List, [], ◌∷◌, ◌++◌, append-nil, append_assoc, take, Option, Some, None, option_map, Result, Ok, Err}
 use Rattle.std.proofs.lemmas.List.Elements.{filter_map-append}
 use Rattle.std.proofs.lemmas.List.Concat.{flat_map-append}
-use Rattle.dlms_carrier.specs.Carrying.{Input, Begin as BeginOf, Give, Feed as FeedOf, Wait as WaitOf, End, Call as CarrierCall, Runs as CarrierRuns, handed_at, read, read_by}
+use Rattle.dlms_carrier.specs.Carrying.{Input, Begin as BeginOf, Give, Feed as FeedOf, Wait as WaitOf, End, Call as CarrierCall, Runs as CarrierRuns, handed_at, read, read_by, Meaning}
 use Rattle.dlms_carrier.specs.declared.event.Event.{Event}
 use Rattle.dlms_carrier.specs.declared.event.Event.TheVariants as event
 use Rattle.dlms_headend.specs.CarrierPollValue.{CarrierPollValue, TermsValue, requests_of}
@@ -11,7 +11,7 @@ use Rattle.dlms_headend.specs.CarrierPolling.ComesUp.{IsOpened, IsUpAlready}
 use Rattle.dlms_headend.specs.CarrierPolling.TakesOver.{IsTaken, EndsIt, IsUnasked}
 use Rattle.dlms_headend.specs.CarrierPolling.GoesDown.{IsReleased, IsUnreleased}
 use Rattle.dlms_headend.specs.CarrierPolling.Waits.{HasFailed, NoneIsOut, IsAwaited}
-use Rattle.dlms_headend.specs.CarrierRun.{AreDone, AreShares, ReturnsDone, Beside, Call, Begin, Feed, Wait, InTurn, IsCall, IsShare, Meaning, Passage, Request, Answer, PollsLead, Runs, answer_in, answers, carried_in, octets_of, passage_by, passages, passed}
+use Rattle.dlms_headend.specs.CarrierRun.{AreDone, AreShares, ReturnsDone, Beside, Call, Begin, Feed, Wait, InTurn, IsCall, IsShare, Passage, Request, Answer, PollsLead, Runs, answer_in, answers, carried_in, octets_of, passage_by, passages, passed}
 use Rattle.dlms_headend.specs.Due.{AsksFor, Requests}
 use Rattle.dlms_headend.specs.Due.AsksFor.{Associates}
 use Rattle.dlms_headend.specs.Poll.{HasReleased}
@@ -316,6 +316,7 @@ module _ {C : Type 0} (m : Meaning C) (taken : List (List ℕ)) (old : CarrierPo
     leaves_by event.Apdu result new h = left_stays result new h
     leaves_by event.TimedOut result new h = left_stays result new h
     leaves_by (event.Refused why) result new h = left_stays result new h
+    leaves_by event.Insecure result new h = left_stays result new h
 
   goes_on : (talk : TalkValue) (result : Result PollOutcome PollFault) (new : CarrierPollValue C) → IsAsking old → FitsTalk old.terms.columns talk (taken ++ m.apdu_of carrier ∷ [])
       → GoesOn m.steps (record old { carrier = carrier; talk = talk }) (taken ++ m.apdu_of carrier ∷ []) result new → Piece m taken old (take count octets) new
@@ -366,6 +367,8 @@ comes m event.TimedOut taken old octets count carrier result new fits under step
     fails m taken old (FeedOf octets count) event.TimedOut carrier (take count octets) fits under refl (append-nil (take count octets)) step Line result new h
 comes m (event.Refused why) taken old octets count carrier result new fits under step h =
     fails m taken old (FeedOf octets count) (event.Refused why) carrier (take count octets) fits under refl (append-nil (take count octets)) step Protocol result new h
+comes m event.Insecure taken old octets count carrier result new fits under step h =
+    fails m taken old (FeedOf octets count) event.Insecure carrier (take count octets) fits under refl (append-nil (take count octets)) step Protocol result new h
 
 feeds_in : {C : Type 0} (m : Meaning C) (course : PollCourse) (taken : List (List ℕ)) (old : CarrierPollValue C) (octets : List ℕ) (count : ℕ) (result : Result PollOutcome PollFault) (new : CarrierPollValue C) → Fits old taken
     → old.course ≡ course → FeedsIn course m.steps m.apdu_of taken old octets count result new → Piece m taken old (passed course (Feed octets count result)) new
@@ -406,6 +409,7 @@ begins_by m event.Apdu taken old carrier new fits ready step h = requested m eve
 begins_by m event.Down taken old carrier new fits ready step h = requested m event.Down taken old carrier new fits ready step h
 begins_by m event.TimedOut taken old carrier new fits ready step h = requested m event.TimedOut taken old carrier new fits ready step h
 begins_by m (event.Refused why) taken old carrier new fits ready step h = requested m (event.Refused why) taken old carrier new fits ready step h
+begins_by m event.Insecure taken old carrier new fits ready step h = requested m event.Insecure taken old carrier new fits ready step h
 
 times_out : {C : Type 0} (m : Meaning C) (event : Event) (taken : List (List ℕ)) (old : CarrierPollValue C) (carrier : C) (result : Result PollOutcome PollFault) (new : CarrierPollValue C) → Fits old taken → IsUnderWay old
     → m.steps old.carrier WaitOf event carrier → TimesOutBy event (record old { carrier = carrier }) result new → Piece m taken old [] new
@@ -415,6 +419,7 @@ times_out m event.Up taken old carrier result new fits under step h = stays m ta
 times_out m event.Apdu taken old carrier result new fits under step h = stays m taken old WaitOf event.Apdu carrier [] fits under refl refl step result new h
 times_out m event.Down taken old carrier result new fits under step h = stays m taken old WaitOf event.Down carrier [] fits under refl refl step result new h
 times_out m (event.Refused why) taken old carrier result new fits under step h = stays m taken old WaitOf (event.Refused why) carrier [] fits under refl refl step result new h
+times_out m event.Insecure taken old carrier result new fits under step h = stays m taken old WaitOf event.Insecure carrier [] fits under refl refl step result new h
 
 waits : {C : Type 0} (m : Meaning C) (taken : List (List ℕ)) (old : CarrierPollValue C) (result : Result PollOutcome PollFault) (new : CarrierPollValue C) → Fits old taken → Waits m.steps m.is_waiting old result new → Piece m taken old [] new
 waits m taken old result new fits (HasFailed fault failed e same) = nothing m taken old new fits same
@@ -446,6 +451,7 @@ left_is_done event.Up at new h = let clash = h.answer in cc
 left_is_done event.Apdu at new h = let clash = h.answer in cc
 left_is_done event.TimedOut at new h = let clash = h.answer in cc
 left_is_done (event.Refused why) at new h = let clash = h.answer in cc
+left_is_done event.Insecure at new h = let clash = h.answer in cc
 
 goes_on_done : {C : Type 0} (m : Meaning C) (at new : CarrierPollValue C) (apdus : List (List ℕ)) → GoesOn m.steps at apdus (Ok outcome.Done) new → new.course ≡ Done
 goes_on_done m at new apdus (inl h) = let clash = h.answer in cc
@@ -471,6 +477,7 @@ comes_done m event.Apdu apdu apdus at new h = taken_done m apdu apdus at new h
 comes_done m event.Down apdu apdus at new h = down_done apdus at new h
 comes_done m event.TimedOut apdu apdus at new h = let clash = h.answer in cc
 comes_done m (event.Refused why) apdu apdus at new h = let clash = h.answer in cc
+comes_done m event.Insecure apdu apdus at new h = let clash = h.answer in cc
 
 fed_done : {C : Type 0} (m : Meaning C) (course : PollCourse) (apdus : List (List ℕ)) (old new : CarrierPollValue C) (octets : List ℕ) (count : ℕ) → FeedsIn course m.steps m.apdu_of apdus old octets count (Ok outcome.Done) new → new.course ≡ Done
 fed_done m Ready apdus old new octets count h = let clash = h.answered in cc

@@ -69,14 +69,14 @@ counted_open c f Closed h = absurd h
 counted_open c f Connecting h = absurd h
 counted_open c f Closing h = absurd h
 
-ua_open : (c : ClientRecord) (phase : Phase) → IsOpenOut (on_ua c phase).1 → ⊥
-ua_open c Closed h = h
-ua_open c Connecting h = h
-ua_open c Open h = h
-ua_open c Closing h = h
+ua_open : (c : ClientRecord) (ua : List ℕ) (phase : Phase) → IsOpenOut (on_ua c ua phase).1 → ⊥
+ua_open c ua Closed h = h
+ua_open c ua Connecting h = h
+ua_open c ua Open h = h
+ua_open c ua Closing h = h
 
 control_open : (c : ClientRecord) (f : Parts) (control : Control) → IsOpenOut (on_control c f control).1 → c.phase ≡ Open
-control_open c f Ua h = absurd (ua_open c c.phase h)
+control_open c f Ua h = absurd (ua_open c f.info c.phase h)
 control_open c f Dm h = absurd h
 control_open c f (Information send receive) h = counted_open c f c.phase h
 control_open c f (ReadyFrame receive) h = counted_open c f c.phase h

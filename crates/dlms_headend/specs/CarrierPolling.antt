@@ -1,7 +1,7 @@
 -- A poll over any carrier, call by call, and whatever APDUs it took so far. `steps`, `apdu_of`, `is_down` and `is_waiting` are the
 -- carrier's own meaning.
 use Rattle.std.specs.Prelude.{◌≡◌, ◌⊎◌, ℕ, List, [], ◌∷◌, ◌++◌, length, Result, Ok, Err}
-use Rattle.dlms_carrier.specs.Carrying.{Input, Begin, Give, Feed, Wait, End}
+use Rattle.dlms_carrier.specs.Carrying.{Input, Begin, Give, Feed, Wait, End, StepsOf}
 use Rattle.dlms_carrier.specs.declared.event.Event.{Event}
 use Rattle.dlms_carrier.specs.declared.event.Event.TheVariants as event
 use Rattle.dlms_headend.specs.CarrierPollValue.{CarrierPollValue, TermsValue, requests_of}
@@ -16,10 +16,6 @@ use Rattle.dlms_headend.specs.declared.stage.PollCourse.{PollCourse}
 use Rattle.dlms_headend.specs.declared.stage.PollCourse.TheVariants.{Ready, Connecting, Running, Done, Failed}
 use Rattle.dlms_headend.specs.declared.step.PollOutcome.{PollOutcome}
 use Rattle.dlms_headend.specs.declared.step.PollOutcome.TheVariants as outcome
-
--- the meaning of a carrier's call: the carrier before it, the call, its event, the carrier after it
-abbrev pub StepsOf : Type 0 → Type 1
-StepsOf C = C → Input → Event → C → Type 0
 
 -- a poll over this carrier that has not begun
 abbrev pub fresh_over : {C : Type 0} → C → TermsValue → CarrierPollValue C
@@ -129,6 +125,7 @@ LeavesBy event.Up at result new = Stays at result new
 LeavesBy event.Apdu at result new = Stays at result new
 LeavesBy event.TimedOut at result new = Stays at result new
 LeavesBy (event.Refused why) at result new = Stays at result new
+LeavesBy event.Insecure at result new = Stays at result new
 
 pub record Leaves {C : Type 0} (steps : StepsOf C) (at : CarrierPollValue C) (apdus : List (List ℕ))
     (result : Result PollOutcome PollFault) (new : CarrierPollValue C) : Type 0 where
@@ -178,6 +175,7 @@ ComesBy steps event.Apdu apdu apdus at result new = TakesOver steps apdu apdus a
 ComesBy steps event.Down apdu apdus at result new = GoesDown apdus at result new
 ComesBy steps event.TimedOut apdu apdus at result new = Fails at Line result new
 ComesBy steps (event.Refused why) apdu apdus at result new = Fails at Protocol result new
+ComesBy steps event.Insecure apdu apdus at result new = Fails at Protocol result new
 
 -- ---- the calls
 
@@ -195,6 +193,7 @@ BeginsBy steps event.Apdu at new = new ≡ at
 BeginsBy steps event.Down at new = new ≡ at
 BeginsBy steps event.TimedOut at new = new ≡ at
 BeginsBy steps (event.Refused why) at new = new ≡ at
+BeginsBy steps event.Insecure at new = new ≡ at
 
 pub record Begins {C : Type 0} (steps : StepsOf C) (old new : CarrierPollValue C) : Type 0 where
   pub event : Event
@@ -247,6 +246,7 @@ TimesOutBy event.Up at result new = Stays at result new
 TimesOutBy event.Apdu at result new = Stays at result new
 TimesOutBy event.Down at result new = Stays at result new
 TimesOutBy (event.Refused why) at result new = Stays at result new
+TimesOutBy event.Insecure at result new = Stays at result new
 
 pub record TimesOut {C : Type 0} (steps : StepsOf C) (old : CarrierPollValue C)
     (result : Result PollOutcome PollFault) (new : CarrierPollValue C) : Type 0 where

@@ -2,9 +2,9 @@
 -- what the poll asks once it took the answers before it, and a poll that is done has the rows of its answers.
 use Rattle.std.specs.Prelude.{◌≡◌, ◌⊎◌, ℕ, Bool, true, false, List, [], ◌∷◌, ◌++◌, take, Option, Some, None, option_map, Result, Ok, Err}
 use Rattle.std.specs.List.{filter_map, flat_map}
-use Rattle.dlms_carrier.specs.Carrying.{Input, Begin as BeginOf, Give, Feed as FeedOf, Wait as WaitOf, End, Call as CarrierCall, Runs as CarrierRuns, handed_at, read}
+use Rattle.dlms_carrier.specs.Carrying.{Input, Begin as BeginOf, Give, Feed as FeedOf, Wait as WaitOf, End, Call as CarrierCall, Runs as CarrierRuns, handed_at, read, StepsOf, Meaning}
 use Rattle.dlms_headend.specs.CarrierPollValue.{CarrierPollValue, TermsValue, requests_of}
-use Rattle.dlms_headend.specs.CarrierPolling.{StepsOf, Begins, Feeds, Fits, Waits, fresh_over}
+use Rattle.dlms_headend.specs.CarrierPolling.{Begins, Feeds, Fits, Waits, fresh_over}
 use Rattle.dlms_headend.specs.Due.{AsksFor, Requests}
 use Rattle.dlms_headend.specs.Poll.{HasReleased}
 use Rattle.dlms_headend.specs.declared.poll_fault.PollFault.{PollFault}
@@ -12,18 +12,6 @@ use Rattle.dlms_headend.specs.declared.stage.PollCourse.{PollCourse}
 use Rattle.dlms_headend.specs.declared.stage.PollCourse.TheVariants.{Ready, Connecting, Running, Done, Failed}
 use Rattle.dlms_headend.specs.declared.step.PollOutcome.{PollOutcome}
 use Rattle.dlms_headend.specs.declared.step.PollOutcome.TheVariants as outcome
-
--- the meaning of a carrier's calls
-pub record Meaning (C : Type 0) : Type 1 where
-  pub steps : StepsOf C
-  pub out_of : C → List ℕ
-  pub apdu_of : C → List ℕ
-  pub is_waiting : C → Type 0
-
-abbrev pub meaning : {C : Type 0} → StepsOf C → (C → List ℕ) → (C → List ℕ) → (C → Type 0)
-    → Meaning C
-meaning steps out_of apdu_of is_waiting =
-    record { steps = steps; out_of = out_of; apdu_of = apdu_of; is_waiting = is_waiting }
 
 -- ---- the calls of a poll
 

@@ -207,7 +207,7 @@ impl<C: Carrier + Drop, A: Allocator + Copy> CarrierPoll<C, A> {
             Event::Apdu => self.take(),
             Event::Down => self.down(),
             Event::TimedOut => self.fail(PollFault::Line),
-            Event::Refused(_) => self.fail(PollFault::Protocol),
+            Event::Refused(_) | Event::Insecure => self.fail(PollFault::Protocol),
         }
     }
 

@@ -6,7 +6,8 @@ ghost use Rattle.dlms_headend.specs.declared.row.Row.{Row};
 ghost use Rattle.dlms_headend.specs.Poll.{HasReleased};
 ghost use Rattle.dlms_headend.specs.PollRun.{CallsAreAPoll, DoneIsTold};
 ghost use Rattle.dlms_headend.specs.Asking.{PlanValue};
-ghost use Rattle.dlms_headend.specs.CarrierRun.{PollsLead, meaning};
+ghost use Rattle.dlms_headend.specs.CarrierRun.{PollsLead};
+ghost use Rattle.dlms_carrier.specs.Carrying.{meaning};
 ghost use Rattle.dlms_headend.specs.Due.{AsksTheSame};
 ghost use Rattle.dlms_headend.specs.declared.answer.TheConstants.{EXCEPTION};
 

@@ -1,5 +1,5 @@
 -- Whatever comes to the client's end goes on to its end, or is cut where something begins anew.
-use Rattle.std.proofs.Common.{◌≡◌, ◌<◌, ◌≤◌, ◌⊎◌, inl, inr, refl, sym, ◌∙◌, ap, subst, arith, Bool, true, false, List, [], ◌∷◌, nat_lt}
+use Rattle.std.proofs.Common.{◌≡◌, ℕ, ◌<◌, ◌≤◌, ◌⊎◌, inl, inr, refl, sym, ◌∙◌, ap, subst, arith, Bool, true, false, List, [], ◌∷◌, nat_lt}
 use Rattle.std.proofs.lemmas.Bool.Decides.{nat_tests}
 use Rattle.dlms_frame.specs.Frame.{Parts}
 use Rattle.dlms_link.specs.declared.out.ClientOut.TheVariants.{Nothing, Send}
@@ -55,11 +55,11 @@ sort_counted c f k a ek es Closing ep = Passed (es ∙ ap (λ x. on_counted c f 
 sort_counted c f k a ek es Open ep =
     sort_open c f a ep (way_of c (control_of f.control)) refl (λ l. es ∙ ap (λ x. on_counted c f x) ep ∙ ap (λ x. by_way c f x) l)
 
-sort_ua : (c : ClientRecord) (f : Parts) → client_step c f ≡ on_ua c c.phase → (phase : Phase) → c.phase ≡ phase → Sorted c f
-sort_ua c f es Closed ep = Passed (es ∙ ap (λ x. on_ua c x) ep)
-sort_ua c f es Open ep = Passed (es ∙ ap (λ x. on_ua c x) ep)
-sort_ua c f es Connecting ep = Ended (subst (λ x. EndsIt x.1) (sym (es ∙ ap (λ x. on_ua c x) ep)) tt)
-sort_ua c f es Closing ep = Ended (subst (λ x. EndsIt x.1) (sym (es ∙ ap (λ x. on_ua c x) ep)) tt)
+sort_ua : (c : ClientRecord) (f : Parts) → client_step c f ≡ on_ua c f.info c.phase → (phase : Phase) → c.phase ≡ phase → Sorted c f
+sort_ua c f es Closed ep = Passed (es ∙ ap (λ x. on_ua c f.info x) ep)
+sort_ua c f es Open ep = Passed (es ∙ ap (λ x. on_ua c f.info x) ep)
+sort_ua c f es Connecting ep = Ended (subst (λ x. EndsIt x.1) (sym (es ∙ ap (λ x. on_ua c f.info x) ep)) tt)
+sort_ua c f es Closing ep = Ended (subst (λ x. EndsIt x.1) (sym (es ∙ ap (λ x. on_ua c f.info x) ep)) tt)
 
 sort_control : (c : ClientRecord) (f : Parts) → is_answer c f ≡ true → client_step c f ≡ on_control c f (control_of f.control) → (k : Control) → control_of f.control ≡ k → Sorted c f
 sort_control c f a es Ua ek = sort_ua c f (es ∙ ap (λ x. on_control c f x) ek) c.phase refl
@@ -150,14 +150,14 @@ ended_counted c f Connecting a = absurd a
 ended_counted c f Open a = ended_by_way c f (way_of c (control_of f.control)) a
 ended_counted c f Closing a = absurd a
 
-ended_ua : (c : ClientRecord) (phase : Phase) → EndsIt (on_ua c phase).1 → (on_ua c phase).0.kept ≡ Fresh
-ended_ua c Closed a = absurd a
-ended_ua c Connecting a = refl
-ended_ua c Open a = absurd a
-ended_ua c Closing a = refl
+ended_ua : (c : ClientRecord) (ua : List ℕ) (phase : Phase) → EndsIt (on_ua c ua phase).1 → (on_ua c ua phase).0.kept ≡ Fresh
+ended_ua c ua Closed a = absurd a
+ended_ua c ua Connecting a = refl
+ended_ua c ua Open a = absurd a
+ended_ua c ua Closing a = refl
 
 ended_control : (c : ClientRecord) (f : Parts) (k : Control) → EndsIt (on_control c f k).1 → (on_control c f k).0.kept ≡ Fresh
-ended_control c f Ua a = ended_ua c c.phase a
+ended_control c f Ua a = ended_ua c f.info c.phase a
 ended_control c f Dm a = refl
 ended_control c f (Information s r) a = ended_counted c f c.phase a
 ended_control c f (Ready r) a = ended_counted c f c.phase a

@@ -1,5 +1,6 @@
 -- Each APDU that the meter gives up gets one answer: the n-th answer is that to the n-th APDU.
 use Rattle.std.proofs.Common.{◌≡◌, ℕ, ◌<◌, ◌≤◌, refl, arith, true, false, Bool, List, [], ◌∷◌, ◌++◌, length, length-append, Option, None, Some}
+use Rattle.std.specs.Prelude.{IfSome}
 use Rattle.dlms_frame.specs.declared.client.Client.{Client}
 use Rattle.dlms_frame.specs.Frame.{Parts}
 use Rattle.dlms_link.specs.declared.last_answer.Answer.{Answer}
@@ -11,14 +12,15 @@ use Rattle.dlms_link.specs.declared.out.ClientOut.{ClientOut}
 use Rattle.dlms_link.specs.declared.out.ClientOut.TheVariants.{Nothing as NothingTaken, Up as IsUp, Send, Apdu as ApduTaken, Down as IsDown}
 use Rattle.dlms_link.specs.Octet.{information_octet}
 use Rattle.dlms_link.specs.Kept.{Kept, Good, kept_after, from_client, is_more}
+use Rattle.dlms_link.specs.Parameters.{IsProposable}
 use Rattle.dlms_link.specs.Server.{ServerRecord, server_on}
 use Rattle.dlms_link.specs.Client.{client_step, client_timeout}
-use Rattle.dlms_link.specs.World.{LinkWorld, LinkEvent, Connect, Give, Disconnect, ReachesMeter, ReachesClient, LostUp, LostDown, TimesOut, Restarts, Intrudes, TakesOver, happens, connects, gives, disconnects, meter_does, reaches_meter, client_does, reaches_client, times_out, intrudes, takes_over, run, start}
+use Rattle.dlms_link.specs.World.{LinkWorld, LinkEvent, Connect, Give, Disconnect, ReachesMeter, ReachesClient, LostUp, LostDown, TimesOut, Restarts, Intrudes, TakesOver, happens, connects, gives, disconnects, meter_does, reaches_meter, client_does, reaches_client, times_out, intrudes, takes_over, run, start_proposing}
 use Rattle.dlms_link.proofs.Numbers.{next_lt, before-next}
 use Rattle.dlms_link.proofs.Joining.{Joins, IsFirst, kept_goes_on}
-use Rattle.dlms_link.proofs.Rows.{row_of-expected, row_of-repeated, row_of-goes_on, row_of-snrm, row_of-disc_up, row_of-disc_down}
-use Rattle.dlms_link.proofs.Sound.{Sound, Away, Calling, Called, Leaving, Left, Idle, Asking, Received, Answered, Readying, LostCalled, LostIdle, LostAsking, Denied, LostReceived, LostAnswered, Silent, Going, Coming, at, server_at, disc}
-use Rattle.dlms_link.proofs.Steps.{keep, sound}
+use Rattle.dlms_link.proofs.Rows.{row_of-expected, row_of-repeated, row_of-goes_on, row_of-snrm_with, row_of-disc_up, row_of-disc_down}
+use Rattle.dlms_link.proofs.Sound.{SoundWith, Away, Calling, Called, Leaving, Left, Idle, Asking, Received, Answered, Readying, LostCalled, LostIdle, LostAsking, Denied, LostReceived, LostAnswered, Silent, Going, Coming, at, server_at, disc}
+use Rattle.dlms_link.proofs.Steps.{keep_with, sound_with}
 
 -- neither too long nor badly begun
 abbrev pub IsFine : LinkOut → Type 0
@@ -38,7 +40,7 @@ IsTaken m (f ∷ rest) = IsFine (server_on m f).1
 abbrev pub InStep : LinkWorld → Type 0
 InStep w = length w.served ≡ length w.answers
 
-module _ (who : Client) where
+module _ (p : Option ℕ) (fair : IfSome p IsProposable) (who : Client) where
   leaves_fine : (m : ServerRecord) (b : Bool) → m.up ≡ b → IsFine (server_on (at who m) (disc who)).1
   leaves_fine m true e = rw (row_of-disc_up (at who m) e) tt
   leaves_fine m false e = rw (row_of-disc_down (at who m) e) tt
@@ -52,9 +54,9 @@ module _ (who : Client) where
       rw (row_of-expected (server_at who n s last took k had [] size) info true s n hs hn refl refl refl) tt
 
   -- no frame of the client is too long or badly begun
-  pub fine : {w : LinkWorld} → Sound who w → IsTaken w.meter w.up_line
+  pub fine : {w : LinkWorld} → SoundWith p who w → IsTaken w.meter w.up_line
   fine (Away m x asked served answers taken ps pt) = tt
-  fine (Calling true m t x) = rw (row_of-snrm (at who m)) tt
+  fine (Calling true m t x) = rw (row_of-snrm_with p fair (at who m)) tt
   fine (Calling false m t x) = tt
   fine (Called t x) = tt
   fine (Leaving true m s n t k x u asked served answers taken ps pt) = leaves_fine m m.up refl
@@ -143,12 +145,12 @@ takes_over_step w [] [] h = h
 takes_over_step w [] (g ∷ down) h = h
 takes_over_step w (g ∷ up) down h = h
 
-module _ (who : Client) where
-  step : (w : LinkWorld) (e : LinkEvent) → Sound who w → InStep w → InStep (happens w e)
+module _ (p : Option ℕ) (fair : IfSome p IsProposable) (who : Client) where
+  step : (w : LinkWorld) (e : LinkEvent) → SoundWith p who w → InStep w → InStep (happens w e)
   step w Connect good h = connects_step w w.client.phase h
   step w (Give apdu short) good h = gives_step w apdu w.client.phase w.client.waits h
   step w Disconnect good h = disconnects_step w w.client.phase w.client.waits h
-  step w (ReachesMeter answer short) good h = reaches_meter_step w answer w.up_line (fine who good) h
+  step w (ReachesMeter answer short) good h = reaches_meter_step w answer w.up_line (fine p fair who good) h
   step w ReachesClient good h = reaches_client_step w w.down_line h
   step w LostUp good h = h
   step w LostDown good h = h
@@ -157,9 +159,9 @@ module _ (who : Client) where
   step w (Intrudes frame answer) good h = intrudes_step w frame answer w.client.phase h
   step w TakesOver good h = takes_over_step w w.up_line w.down_line h
 
-  steps : (es : List LinkEvent) (w : LinkWorld) → Sound who w → InStep w → InStep (run es w)
+  steps : (es : List LinkEvent) (w : LinkWorld) → SoundWith p who w → InStep w → InStep (run es w)
   steps [] w good h = h
-  steps (e ∷ es) w good h = steps es (happens w e) (keep who e good) (step w e good h)
+  steps (e ∷ es) w good h = steps es (happens w e) (keep_with p fair who e good) (step w e good h)
 
-  pub in_step : (es : List LinkEvent) → InStep (run es (start who))
-  in_step es = steps es (start who) (sound who []) refl
+  pub in_step : (es : List LinkEvent) → InStep (run es (start_proposing p who))
+  in_step es = steps es (start_proposing p who) (sound_with p fair who []) refl

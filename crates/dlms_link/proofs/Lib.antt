@@ -1,6 +1,7 @@
 pub mod Numbers
 pub mod Reading
 pub mod Joining
+pub mod Proposals
 pub mod Rows
 pub mod PairLemmas
 pub mod Sound
@@ -14,3 +15,4 @@ pub mod Taking
 pub mod ClientCut
 pub mod OneRow
 pub mod LineLaws
+pub mod Sizes

@@ -1,5 +1,6 @@
 -- What may be on the line, in each state that a run can reach.
-use Rattle.std.proofs.Common.{◌≡◌, ◌+◌, ◌≤◌, arith, Bool, true, false, List, [], length, Option, None, Some, refl, subst}
+use Rattle.std.proofs.Common.{◌≡◌, ◌+◌, ◌≤◌, arith, ℕ, Bool, true, false, List, [], length, Option, None, Some, refl, subst}
+use Rattle.std.specs.Prelude.{IfSome}
 use Rattle.dlms_frame.specs.declared.client.Client.{Client}
 use Rattle.dlms_frame.specs.Frame.{Parts}
 use Rattle.dlms_link.specs.declared.phase.Phase.{Phase}
@@ -7,11 +8,12 @@ use Rattle.dlms_link.specs.declared.phase.Phase.TheVariants.{Closed, Connecting,
 use Rattle.dlms_link.specs.declared.out.LinkOut.{LinkOut}
 use Rattle.dlms_link.specs.declared.out.LinkOut.TheVariants.{Nothing, Reply, Apdu, Oversize, BadLlc, Up, Down}
 use Rattle.dlms_link.specs.Line.{HandsUpAt, AreUp, ApdusComeUp, LineIsSilent, OneFrameAtMost}
+use Rattle.dlms_link.specs.Parameters.{IsProposable}
 use Rattle.dlms_link.specs.Server.{ServerRecord, server_on}
 use Rattle.dlms_link.specs.World.{LinkWorld}
-use Rattle.dlms_link.proofs.Rows.{row_of-snrm, row_of-disc_up, row_of-disc_down}
-use Rattle.dlms_link.proofs.Sound.{Sound, Away, Calling, Called, Leaving, Left, Idle, Asking, Received, Answered, Readying, LostCalled, LostIdle, LostAsking, Denied, LostReceived, LostAnswered, Silent, Going, Coming, at, disc}
-use Rattle.dlms_link.proofs.Steps.{sound}
+use Rattle.dlms_link.proofs.Rows.{row_of-snrm_with, row_of-disc_up, row_of-disc_down}
+use Rattle.dlms_link.proofs.Sound.{SoundWith, Away, Calling, Called, Leaving, Left, Idle, Asking, Received, Answered, Readying, LostCalled, LostIdle, LostAsking, Denied, LostReceived, LostAnswered, Silent, Going, Coming, at, disc}
+use Rattle.dlms_link.proofs.Steps.{sound_with}
 
 -- ---- an APDU is handed up only where both ends are up
 
@@ -24,14 +26,14 @@ IsOther BadLlc = Unit {0}
 IsOther (Up f) = Unit {0}
 IsOther (Down f) = Unit {0}
 
-module _ (who : Client) where
+module _ (p : Option ℕ) (fair : IfSome p IsProposable) (who : Client) where
   leaves_other : (m : ServerRecord) (up : Bool) → m.up ≡ up → IsOther (server_on (at who m) (disc who)).1
   leaves_other m true e = rw (row_of-disc_up (at who m) e) tt
   leaves_other m false e = rw (row_of-disc_down (at who m) e) tt
 
-  come_up : {w : LinkWorld} → Sound who w → HandsUpAt w.meter w.up_line → AreUp w
+  come_up : {w : LinkWorld} → SoundWith p who w → HandsUpAt w.meter w.up_line → AreUp w
   come_up (Away m x asked served answers taken ps pt) h = absurd h
-  come_up (Calling true m t x) h = absurd (subst IsOther h (rw (row_of-snrm (at who m)) tt))
+  come_up (Calling true m t x) h = absurd (subst IsOther h (rw (row_of-snrm_with p fair (at who m)) tt))
   come_up (Calling false m t x) h = absurd h
   come_up (Called t x) h = absurd h
   come_up (Leaving true m s n t k x u asked served answers taken ps pt) h = absurd (subst IsOther h (leaves_other m m.up refl))
@@ -75,8 +77,8 @@ IsResting Connecting waits = Unit {0}
 IsResting Open waits = Unit {0}
 IsResting Closing waits = Unit {0}
 
-module _ (who : Client) where
-  pub silent : {w : LinkWorld} → Sound who w → IsSilent w.client.waits w.up_line w.down_line
+module _ (who : Client) {p : Option ℕ} where
+  pub silent : {w : LinkWorld} → SoundWith p who w → IsSilent w.client.waits w.up_line w.down_line
   silent (Away m x asked served answers taken ps pt) = (refl, refl)
   silent (Calling sent m t x) = tt
   silent (Called t x) = tt
@@ -94,7 +96,7 @@ module _ (who : Client) where
   silent (LostReceived s n t y x info u apdu given got hs hn) = tt
   silent (LostAnswered s n t q k x info u answer given got hs hn j i short refuses) = tt
 
-  pub quiet : {w : LinkWorld} → Sound who w → IsQuiet w.client.phase w.up_line w.down_line
+  pub quiet : {w : LinkWorld} → SoundWith p who w → IsQuiet w.client.phase w.up_line w.down_line
   quiet (Away m x asked served answers taken ps pt) = (refl, refl)
   quiet (Calling sent m t x) = tt
   quiet (Called t x) = tt
@@ -112,7 +114,7 @@ module _ (who : Client) where
   quiet (LostReceived s n t y x info u apdu given got hs hn) = tt
   quiet (LostAnswered s n t q k x info u answer given got hs hn j i short refuses) = tt
 
-  pub resting : {w : LinkWorld} → Sound who w → IsResting w.client.phase w.client.waits
+  pub resting : {w : LinkWorld} → SoundWith p who w → IsResting w.client.phase w.client.waits
   resting (Away m x asked served answers taken ps pt) = refl
   resting (Calling sent m t x) = tt
   resting (Called t x) = tt
@@ -130,7 +132,7 @@ module _ (who : Client) where
   resting (LostReceived s n t y x info u apdu given got hs hn) = tt
   resting (LostAnswered s n t q k x info u answer given got hs hn j i short refuses) = tt
 
-  one_frame : {w : LinkWorld} → Sound who w → length w.up_line + length w.down_line ≤ 1
+  one_frame : {w : LinkWorld} → SoundWith p who w → length w.up_line + length w.down_line ≤ 1
   one_frame (Away m x asked served answers taken ps pt) = omega arith
   one_frame (Calling true m t x) = omega arith
   one_frame (Calling false m t x) = omega arith
@@ -162,10 +164,10 @@ silent_at None up down e h = h
 silent_at (Some f) up down e h = absurd (cc)
 
 pub apdus_come_up : ApdusComeUp
-apdus_come_up who events = come_up who (sound who events)
+apdus_come_up p who events fair = come_up p fair who (sound_with p fair who events)
 
 pub line_is_silent : LineIsSilent
-line_is_silent who events e = silent_at _ _ _ e (silent who (sound who events))
+line_is_silent p who events fair e = silent_at _ _ _ e (silent who (sound_with p fair who events))
 
 pub one_frame_at_most : OneFrameAtMost
-one_frame_at_most who events = one_frame who (sound who events)
+one_frame_at_most p who events fair = one_frame who (sound_with p fair who events)

@@ -1,5 +1,5 @@
 -- A link does not depend on its addresses.
-use Rattle.std.proofs.Common.{◌≡◌, ◌∙◌, refl, ap, Bool, true, false}
+use Rattle.std.proofs.Common.{◌≡◌, ◌∙◌, ℕ, List, refl, ap, Bool, true, false}
 use Rattle.std.specs.Prelude.{nat_lt}
 use Rattle.dlms_frame.specs.Frame.{Parts}
 use Rattle.dlms_link.specs.declared.client_row.ClientRow.{ClientRow}
@@ -46,14 +46,14 @@ module _ (pair : Pair) (c : ClientRecord) where
   counted_free f Connecting = refl
   counted_free f Closing = refl
 
-  ua_free : (phase : Phase) → on_ua (readdressed pair c) phase ≡ both_readdressed pair (on_ua c phase)
-  ua_free Closed = refl
-  ua_free Connecting = refl
-  ua_free Open = refl
-  ua_free Closing = refl
+  ua_free : (ua : List ℕ) (phase : Phase) → on_ua (readdressed pair c) ua phase ≡ both_readdressed pair (on_ua c ua phase)
+  ua_free ua Closed = refl
+  ua_free ua Connecting = refl
+  ua_free ua Open = refl
+  ua_free ua Closing = refl
 
   control_free : (f : Parts) (control : Control) → on_control (readdressed pair c) (inward pair f) control ≡ both_readdressed pair (on_control c f control)
-  control_free f Ua = ua_free c.phase
+  control_free f Ua = ua_free f.info c.phase
   control_free f Dm = refl
   control_free f (Information send receive) = counted_free f c.phase
   control_free f (Ready receive) = counted_free f c.phase

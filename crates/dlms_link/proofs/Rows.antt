@@ -1,5 +1,6 @@
 -- Which row of the meter's table, and which way of the client's, a frame of the other end takes.
-use Rattle.std.proofs.Common.{◌≡◌, ◌≢◌, ℕ, ◌<◌, ◌==◌, if◌then◌else◌, refl, arith, true, false, Bool, List, []}
+use Rattle.std.proofs.Common.{◌≡◌, ◌≢◌, ℕ, ◌<◌, ◌==◌, if◌then◌else◌, refl, arith, true, false, Bool, List, [], Option, None, Some}
+use Rattle.std.specs.Prelude.{IfSome}
 use Rattle.std.proofs.lemmas.Bool.Decides.{nat_tests}
 use Rattle.dlms_frame.specs.Client.{sap_of}
 use Rattle.dlms_frame.specs.declared.client.Client.{Client}
@@ -9,13 +10,14 @@ use Rattle.dlms_frame.specs.Frame.{Parts}
 use Rattle.dlms_link.specs.declared.control.Control.TheVariants.{Information, Ready}
 use Rattle.dlms_link.specs.Octet.{control_of, information_octet, ready_octet, before}
 use Rattle.dlms_link.specs.Kept.{is_more}
-use Rattle.dlms_link.specs.Parameters.{size_of}
+use Rattle.dlms_link.specs.Parameters.{IsProposable, proposed_information, size_of}
 use Rattle.dlms_link.specs.Server.{fresh_server, ServerRecord, row_of, was_information}
 use Rattle.dlms_link.specs.declared.server_row.ServerRow.{ServerRow}
 use Rattle.dlms_link.specs.declared.server_row.ServerRow.TheVariants.{Connects, Refuses, Disconnects, Keeps, HandsUp, Repeats, SendsNext}
 use Rattle.dlms_link.specs.Client.{ClientRecord, same_address, to_meter, way_of, is_answer}
 use Rattle.dlms_link.specs.declared.client_row.ClientRow.TheVariants.{Takes, LetsNext}
 use Rattle.dlms_link.proofs.Numbers.{control_of-information, control_of-ready, before_differs}
+use Rattle.dlms_link.proofs.Proposals.{proposal_is_read}
 
 same : (n : ℕ) → (n == n) ≡ true
 same n = grind (arith, nat_tests)
@@ -62,6 +64,12 @@ either false x = refl
 pub row_of-snrm : (r : ServerRecord) → row_of r (to_meter r.client 147 false []) ≡ Connects 128
 unfolding row_of control_of size_of
 row_of-snrm r = rw (same (sap_of r.client)) (either r.up (Connects 128))
+
+-- and with a proposal
+pub row_of-snrm_with : (p : Option ℕ) → IfSome p IsProposable → (r : ServerRecord) → row_of r (to_meter r.client 147 false (proposed_information p)) ≡ Connects 128
+unfolding row_of control_of
+row_of-snrm_with None fair r = row_of-snrm r
+row_of-snrm_with (Some size) fair r = rw (same (sap_of r.client), (proposal_is_read size fair).1) (either r.up (Connects 128))
 
 pub row_of-disc_up : (r : ServerRecord) → r.up ≡ true → row_of r (to_meter r.client 83 false []) ≡ Disconnects
 unfolding row_of control_of

@@ -189,53 +189,53 @@ is_sent f g e = cc
 -- what the client sends, and the rest if no segment was taken yet
 record ClientIsOnWay (c now : ClientRecord) (taken : List (List ℕ)) (sent : List Parts) : Type 0 where
   rest : List ℕ
-  on : IsOnWay 128 c.unsent sent rest
+  on : IsOnWay c.size c.unsent sent rest
   left : taken ≡ [] → now.unsent ≡ rest
 
-none_left : (text : List ℕ) (frames : List Parts) (rest : List ℕ) → text ≡ [] → IsOnWay 128 text frames rest → frames ≡ []
-none_left text [] rest e s = refl
-none_left text (f ∷ frames) [] e s = elim (s.ends refl) [ inl h ↦ h.1 | inr h ↦ (let none = rw e at h.0 in cc) ]
-none_left text (f ∷ frames) (x ∷ rest) e s = let t = s.together in absurd (longer f.info (joined (map (λ (g : Parts). g.info) frames)) (t ∙ e))
+none_left : (size : ℕ) (text : List ℕ) (frames : List Parts) (rest : List ℕ) → text ≡ [] → IsOnWay size text frames rest → frames ≡ []
+none_left size text [] rest e s = refl
+none_left size text (f ∷ frames) [] e s = elim (s.ends refl) [ inl h ↦ h.1 | inr h ↦ (let none = rw e at h.0 in cc) ]
+none_left size text (f ∷ frames) (x ∷ rest) e s = let t = s.together in absurd (longer f.info (joined (map (λ (g : Parts). g.info) frames)) (t ∙ e))
   where
     longer : (a b : List ℕ) → (a ++ b) ++ x ∷ rest ≡ [] → ⊥
     longer a b h = omega (arith, ap length h, length-append (a ++ b) (x ∷ rest))
 
-at_text : (t u : List ℕ) (frames : List Parts) (rest : List ℕ) → t ≡ u → IsOnWay 128 t frames rest → IsOnWay 128 u frames rest
-at_text t u frames rest e s = rw⁻¹ e s
+at_text : (c : ClientRecord) (size : ℕ) (text : List ℕ) (frames : List Parts) (rest : List ℕ) → c.size ≡ size → c.unsent ≡ text → IsOnWay c.size c.unsent frames rest → IsOnWay size text frames rest
+at_text c size text frames rest es et s = rw⁻¹ (es, et) s
 
 client_goes : {c now : ClientRecord} {heard : List Heard} {taken : List (List ℕ)} {sent : List Parts} → ClientGoes c heard taken sent now → ClientIsOnWay c now taken sent
-client_goes (NothingHeard c) = record { rest = c.unsent; on = none_sent 128 c.unsent; left = λ e. refl }
+client_goes (NothingHeard c) = record { rest = c.unsent; on = none_sent c.size c.unsent; left = λ e. refl }
 client_goes (ClientTakes c f ready heard taken sent now way es more) =
     let later = client_goes more in
-    let none : sent ≡ [] = none_left (client_step c f).0.unsent sent later.rest (takes_drops c f ready way es) later.on in
-    record { rest = c.unsent; on = rw none (none_sent 128 c.unsent); left = λ e. cc }
+    let none : sent ≡ [] = none_left (client_step c f).0.size (client_step c f).0.unsent sent later.rest (takes_drops c f ready way es) later.on in
+    record { rest = c.unsent; on = rw none (none_sent c.size c.unsent); left = λ e. cc }
 client_goes (ClientSends c f segment heard taken sent now way es more) =
     let e = by_way_of c f LetsNext (λ l. cc) way in
     let later = client_goes more in
-    let after = at_text (client_step c f).0.unsent (drop 128 c.unsent) sent later.rest (ap (λ (z : ClientRecord × ClientOut). z.0.unsent) e) later.on in
+    let after = at_text (client_step c f).0 c.size (drop c.size c.unsent) sent later.rest (ap (λ (z : ClientRecord × ClientOut). z.0.size) e) (ap (λ (z : ClientRecord × ClientOut). z.0.unsent) e) later.on in
     let out = rw e at es in
     let one : client_segment c ≡ segment = is_sent (client_segment c) segment out in
     record {
       rest = later.rest;
-      on = on_way 128 c.unsent (segment ∷ sent) later.rest (lets_more c (control_of f.control) way.its_way) (one_more 128 c.unsent segment sent later.rest (ap (λ (g : Parts). g.info) (sym one)) (ap (λ (g : Parts). g.segmented) (sym one)) after);
+      on = on_way c.size c.unsent (segment ∷ sent) later.rest (lets_more c (control_of f.control) way.its_way) (one_more c.size c.unsent segment sent later.rest (ap (λ (g : Parts). g.info) (sym one)) (ap (λ (g : Parts). g.segmented) (sym one)) after);
       left = later.left;
     }
 client_goes (ClientAnswersAgain c f heard taken sent now way more) =
     let e = by_way_of c f TakenBefore (λ l. cc) way in
     let later = client_goes more in
-    let after = at_text (client_step c f).0.unsent c.unsent sent later.rest (ap (λ (z : ClientRecord × ClientOut). z.0.unsent) e) later.on in
+    let after = at_text (client_step c f).0 c.size c.unsent sent later.rest (ap (λ (z : ClientRecord × ClientOut). z.0.size) e) (ap (λ (z : ClientRecord × ClientOut). z.0.unsent) e) later.on in
     record { rest = later.rest; on = after; left = later.left }
 client_goes (ClientPasses c f heard taken sent now e more) = let later = client_goes more in record { rest = later.rest; on = later.on; left = later.left }
 client_goes (ClientWaits c heard taken sent now h more) =
     let later = client_goes more in
-    let after = at_text (client_timeout c).0.unsent c.unsent sent later.rest (ap (λ (z : ClientRecord). z.unsent) (waits_on c h)) later.on in
+    let after = at_text (client_timeout c).0 c.size c.unsent sent later.rest (ap (λ (z : ClientRecord). z.size) (waits_on c h)) (ap (λ (z : ClientRecord). z.unsent) (waits_on c h)) later.on in
     record { rest = later.rest; on = after; left = later.left }
 
 pub client_sends : (c now : ClientRecord) (apdu : List ℕ) (heard : List Heard) (sent : List Parts) (taken : List (List ℕ)) → ClientGoes (client_send c apdu).0 heard taken sent now →
-    (rest : List ℕ) × IsUnderWay 128 (llc from_client ++ apdu) ((client_send c apdu).1 ∷ sent) rest × (taken ≡ [] → now.unsent ≡ rest)
+    (rest : List ℕ) × IsUnderWay c.size (llc from_client ++ apdu) ((client_send c apdu).1 ∷ sent) rest × (taken ≡ [] → now.unsent ≡ rest)
 client_sends c now apdu heard sent taken h =
     let s = client_goes h in
-    (s.rest, one_more 128 (llc from_client ++ apdu) (client_send c apdu).1 sent s.rest refl refl s.on, s.left)
+    (s.rest, one_more c.size (llc from_client ++ apdu) (client_send c apdu).1 sent s.rest refl refl s.on, s.left)
 
 -- segments whose first one holds the LLC are read again
 reads : (side : ℕ) (apdu : List ℕ) (g : Parts) (gs : List Parts) → 3 ≤ length g.info → joined (map (λ (f : Parts). f.info) (g ∷ gs)) ≡ llc side ++ apdu →

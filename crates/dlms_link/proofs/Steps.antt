@@ -1,5 +1,6 @@
 -- Each event keeps the invariant.
-use Rattle.std.proofs.Common.{◌≡◌, ℕ, ◌+◌, ◌<◌, ◌≤◌, refl, sym, ◌∙◌, ap, subst, arith, true, false, Bool, List, [], ◌∷◌, ◌++◌, length, take, drop, append_assoc, None, Some, nat_lt}
+use Rattle.std.proofs.Common.{◌≡◌, ℕ, ◌+◌, ◌<◌, ◌≤◌, refl, sym, ◌∙◌, ap, subst, arith, true, false, Bool, List, [], ◌∷◌, ◌++◌, length, take, drop, append_assoc, Option, None, Some, nat_lt}
+use Rattle.std.specs.Prelude.{IfSome}
 use Rattle.std.proofs.lemmas.List.{append-nil, take-append-drop}
 use Rattle.dlms_frame.specs.declared.client.Client.{Client}
 use Rattle.dlms_frame.specs.declared.frame.Address.TheVariants.{One}
@@ -9,18 +10,19 @@ use Rattle.dlms_link.specs.declared.last_answer.Answer.TheVariants.{NoAnswer, Wa
 use Rattle.dlms_link.specs.declared.phase.Phase.TheVariants.{Closed, Connecting, Open, Closing}
 use Rattle.dlms_link.specs.Octet.{information_octet, ready_octet, next}
 use Rattle.dlms_link.specs.Kept.{Kept, Fresh, Good, kept_after, llc, from_client, from_meter, is_more}
-use Rattle.dlms_link.specs.Parameters.{information_of, own_parameters}
+use Rattle.dlms_link.specs.Parameters.{IsProposable, information_of, own_parameters}
 use Rattle.dlms_link.specs.Server.{server_send, fresh_server, ServerRecord, row_of, to_client, by_row}
 use Rattle.dlms_link.specs.declared.out.LinkOut.{LinkOut}
 use Rattle.dlms_link.specs.declared.out.LinkOut.TheVariants.{Nothing, Reply, Apdu, Oversize, BadLlc, Up, Down}
 use Rattle.dlms_link.specs.declared.server_row.ServerRow.{ServerRow}
 use Rattle.dlms_link.specs.declared.server_row.ServerRow.TheVariants.{Ignores, SaysReady, Repeats, Disconnects, Refuses, Connects, Keeps, HandsUp, SendsNext}
 use Rattle.dlms_link.specs.Client.{by_count, to_meter}
-use Rattle.dlms_link.specs.World.{settled, LinkWorld, replies, LinkEvent, Connect, Give, Disconnect, ReachesMeter, ReachesClient, LostUp, LostDown, TimesOut, Restarts, Intrudes, TakesOver, after_both, happens, timed_out, run, start, IsBeginningOf}
+use Rattle.dlms_link.specs.World.{settled, LinkWorld, replies, LinkEvent, Connect, Give, Disconnect, ReachesMeter, ReachesClient, LostUp, LostDown, TimesOut, Restarts, Intrudes, TakesOver, after_both, happens, timed_out, run, start, start_proposing, IsBeginningOf}
 use Rattle.dlms_link.proofs.Numbers.{next_lt, before-next, control_of-information, control_of-ready, control_of-ua, control_of-dm}
 use Rattle.dlms_link.proofs.Joining.{Joins, IsFirst, kept_goes_on, first_is_whole}
-use Rattle.dlms_link.proofs.Rows.{row_of-expected, row_of-repeated, row_of-goes_on, row_of-ready_repeated, row_of-snrm, row_of-disc_up, row_of-disc_down, IsRefused, information_refused, ready_refused, is_answer-to_client, way_of-expected, way_of-goes_on}
-use Rattle.dlms_link.proofs.Sound.{at, Sound, Away, Calling, Called, Leaving, Left, Idle, Asking, Received, Answered, Readying, LostCalled, LostIdle, LostAsking, Denied, LostReceived, LostAnswered, Line, Silent, Going, Coming, server_at, client_at, snrm, disc, ua_up, gone, going, coming, on_line}
+use Rattle.dlms_link.proofs.Proposals.{agreed-own}
+use Rattle.dlms_link.proofs.Rows.{row_of-expected, row_of-repeated, row_of-goes_on, row_of-ready_repeated, row_of-snrm_with, row_of-disc_up, row_of-disc_down, IsRefused, information_refused, ready_refused, is_answer-to_client, way_of-expected, way_of-goes_on}
+use Rattle.dlms_link.proofs.Sound.{at, Sound, SoundWith, Away, Calling, Called, Leaving, Left, Idle, Asking, Received, Answered, Readying, LostCalled, LostIdle, LostAsking, Denied, LostReceived, LostAnswered, Line, Silent, Going, Coming, server_at, client_with, snrm_with, disc, ua_up, gone, going, coming, on_line}
 
 whole : (xs : List (List ℕ)) → IsBeginningOf xs xs
 whole xs = ([], append-nil xs)
@@ -34,9 +36,9 @@ none xs = (xs, refl)
 pub whole_good : (k : Kept) (bytes apdu : List ℕ) → k ≡ Good bytes → bytes ++ [] ≡ apdu → k ≡ Good apdu
 whole_good k bytes apdu e all = e ∙ ap Good (sym (append-nil bytes) ∙ all)
 
-module _ (who : Client) where
+module _ (p : Option ℕ) (fair : IfSome p IsProposable) (who : Client) where
   keep_idle : (s n size : ℕ) (last : Answer) (took : Bool) (ap x : List ℕ) (given got : List (List ℕ)) → s < 8 → n < 8 → 3 ≤ size → (e : LinkEvent) →
-      Sound who (happens (record { meter = server_at who n s last took Fresh ap [] size; client = client_at who Open s n None 0 Fresh x []; up_line = []; down_line = []; asked = given; served = given; answers = got; taken = got }) e)
+      SoundWith p who (happens (record { meter = server_at who n s last took Fresh ap [] size; client = client_with p who Open s n None 0 Fresh x []; up_line = []; down_line = []; asked = given; served = given; answers = got; taken = got }) e)
   keep_idle s n size last took ap x given got hs hn hz Connect = Idle s n size last took ap x given got hs hn hz
   keep_idle s n size last took ap x given got hs hn hz Restarts = LostIdle s n x given given got got hs hn (whole given) (whole got)
   keep_idle s n size last took ap x given got hs hn hz (Intrudes frame answer) = Idle s n size last took ap x given got hs hn hz
@@ -55,7 +57,7 @@ module _ (who : Client) where
   -- whatever another hand sends while nothing is on
   module _ (x : List ℕ) (asked served answers taken : List (List ℕ)) (ps : IsBeginningOf served asked) (pt : IsBeginningOf taken answers) (answer : List ℕ) where
     away_settled : (r : ServerRecord) (result : LinkOut) →
-        Sound who (record { meter = settled (at who r) answer result; client = client_at who Closed 0 0 None 0 Fresh x []; up_line = []; down_line = []; asked = asked; served = served; answers = answers; taken = taken })
+        SoundWith p who (record { meter = settled (at who r) answer result; client = client_with p who Closed 0 0 None 0 Fresh x []; up_line = []; down_line = []; asked = asked; served = served; answers = answers; taken = taken })
     away_settled r Nothing = Away r x asked served answers taken ps pt
     away_settled r (Reply g) = Away r x asked served answers taken ps pt
     away_settled r Apdu = Away (server_send (at who r) answer).0 x asked served answers taken ps pt
@@ -65,7 +67,7 @@ module _ (who : Client) where
     away_settled r (Down g) = Away r x asked served answers taken ps pt
 
     intruded : (m : ServerRecord) (f : Parts) (row : ServerRow) →
-        Sound who (record { meter = after_both (by_row (at who m) f row) answer; client = client_at who Closed 0 0 None 0 Fresh x []; up_line = []; down_line = []; asked = asked; served = served; answers = answers; taken = taken })
+        SoundWith p who (record { meter = after_both (by_row (at who m) f row) answer; client = client_with p who Closed 0 0 None 0 Fresh x []; up_line = []; down_line = []; asked = asked; served = served; answers = answers; taken = taken })
     intruded m f (Connects z) = away_settled (by_row (at who m) f (Connects z)).0 (by_row (at who m) f (Connects z)).1
     intruded m f Refuses = away_settled (by_row (at who m) f Refuses).0 (by_row (at who m) f Refuses).1
     intruded m f Disconnects = away_settled (by_row (at who m) f Disconnects).0 (by_row (at who m) f Disconnects).1
@@ -77,7 +79,7 @@ module _ (who : Client) where
     intruded m f Ignores = away_settled (by_row (at who m) f Ignores).0 (by_row (at who m) f Ignores).1
 
   keep_away : (m : ServerRecord) (x : List ℕ) (asked served answers taken : List (List ℕ)) → IsBeginningOf served asked → IsBeginningOf taken answers → (e : LinkEvent) →
-      Sound who (happens (record { meter = at who m; client = client_at who Closed 0 0 None 0 Fresh x []; up_line = []; down_line = []; asked = asked; served = served; answers = answers; taken = taken }) e)
+      SoundWith p who (happens (record { meter = at who m; client = client_with p who Closed 0 0 None 0 Fresh x []; up_line = []; down_line = []; asked = asked; served = served; answers = answers; taken = taken }) e)
   keep_away m x asked served answers taken ps pt Connect = Calling true m 0 x
   keep_away m x asked served answers taken ps pt Restarts = Away (fresh_server who) x asked served answers taken ps pt
   keep_away m x asked served answers taken ps pt (Intrudes frame answer) = intruded x asked served answers taken ps pt answer m frame (row_of (at who m) frame)
@@ -91,13 +93,13 @@ module _ (who : Client) where
   keep_away m x asked served answers taken ps pt TimesOut = Away m x asked served answers taken ps pt
 
   abbrev calling : Bool → ServerRecord → ℕ → List ℕ → LinkWorld
-  calling sent m t x = record { meter = at who m; client = client_at who Connecting 0 0 (Some (snrm who)) t Fresh x []; up_line = on_line sent (snrm who); down_line = []; asked = []; served = []; answers = []; taken = [] }
+  calling sent m t x = record { meter = at who m; client = client_with p who Connecting 0 0 (Some (snrm_with p who)) t Fresh x []; up_line = on_line sent (snrm_with p who); down_line = []; asked = []; served = []; answers = []; taken = [] }
 
-  calling_late : (m : ServerRecord) (t : ℕ) (x : List ℕ) (b : Bool) → Sound who (timed_out (calling false m t x) (by_count (calling false m t x).client b))
+  calling_late : (m : ServerRecord) (t : ℕ) (x : List ℕ) (b : Bool) → SoundWith p who (timed_out (calling false m t x) (by_count (calling false m t x).client b))
   calling_late m t x true = Calling true m (t + 1) x
   calling_late m t x false = Away m x [] [] [] [] (none []) (none [])
 
-  keep_calling : (sent : Bool) (m : ServerRecord) (t : ℕ) (x : List ℕ) (e : LinkEvent) → Sound who (happens (calling sent m t x) e)
+  keep_calling : (sent : Bool) (m : ServerRecord) (t : ℕ) (x : List ℕ) (e : LinkEvent) → SoundWith p who (happens (calling sent m t x) e)
   keep_calling sent m t x Connect = Calling sent m t x
   keep_calling sent m t x Restarts = Calling sent (fresh_server who) t x
   keep_calling sent m t x (Intrudes frame answer) = Calling sent m t x
@@ -112,12 +114,12 @@ module _ (who : Client) where
   keep_calling true m t x TimesOut = Calling true m t x
   keep_calling false m t x TimesOut = calling_late m t x (nat_lt t 3)
   keep_calling false m t x (ReachesMeter answer short) = Calling false m t x
-  keep_calling true m t x (ReachesMeter answer short) = rw (row_of-snrm (at who m)) (Called t x)
+  keep_calling true m t x (ReachesMeter answer short) = rw (row_of-snrm_with p fair (at who m)) (Called t x)
 
   abbrev called : ℕ → List ℕ → LinkWorld
-  called t x = record { meter = server_at who 0 0 NoAnswer false Fresh [] [] 128; client = client_at who Connecting 0 0 (Some (snrm who)) t Fresh x []; up_line = []; down_line = ua_up who ∷ []; asked = []; served = []; answers = []; taken = [] }
+  called t x = record { meter = server_at who 0 0 NoAnswer false Fresh [] [] 128; client = client_with p who Connecting 0 0 (Some (snrm_with p who)) t Fresh x []; up_line = []; down_line = ua_up who ∷ []; asked = []; served = []; answers = []; taken = [] }
 
-  keep_called : (t : ℕ) (x : List ℕ) (e : LinkEvent) → Sound who (happens (called t x) e)
+  keep_called : (t : ℕ) (x : List ℕ) (e : LinkEvent) → SoundWith p who (happens (called t x) e)
   keep_called t x Connect = Called t x
   keep_called t x Restarts = LostCalled t x
   keep_called t x (Intrudes frame answer) = Called t x
@@ -125,27 +127,27 @@ module _ (who : Client) where
   keep_called t x (Give apdu short) = Called t x
   keep_called t x Disconnect = Called t x
   keep_called t x (ReachesMeter answer short) = Called t x
-  keep_called t x ReachesClient = rw (is_answer-to_client (called t x).client 115 false (information_of (own_parameters 128)), control_of-ua) (Idle 0 0 128 NoAnswer false [] x [] [] (omega arith) (omega arith) (omega arith))
+  keep_called t x ReachesClient = rw (is_answer-to_client (called t x).client 115 false (information_of (own_parameters 128)), control_of-ua, agreed-own p) (Idle 0 0 128 NoAnswer false [] x [] [] (omega arith) (omega arith) (omega arith))
   keep_called t x LostUp = Called t x
   keep_called t x LostDown = Calling false (server_at who 0 0 NoAnswer false Fresh [] [] 128) t x
   keep_called t x TimesOut = Called t x
 
   abbrev leaving : Bool → ServerRecord → ℕ → ℕ → ℕ → Kept → List ℕ → List ℕ → List (List ℕ) → List (List ℕ) → List (List ℕ) → List (List ℕ) → LinkWorld
-  leaving sent m s n t k x u asked served answers taken = record { meter = at who m; client = client_at who Closing s n (Some (disc who)) t k x u; up_line = on_line sent (disc who); down_line = []; asked = asked; served = served; answers = answers; taken = taken }
+  leaving sent m s n t k x u asked served answers taken = record { meter = at who m; client = client_with p who Closing s n (Some (disc who)) t k x u; up_line = on_line sent (disc who); down_line = []; asked = asked; served = served; answers = answers; taken = taken }
 
   leaving_late : (m : ServerRecord) (s n t : ℕ) (k : Kept) (x u : List ℕ) (asked served answers taken : List (List ℕ)) → IsBeginningOf served asked → IsBeginningOf taken answers → (b : Bool) →
-      Sound who (timed_out (leaving false m s n t k x u asked served answers taken) (by_count (leaving false m s n t k x u asked served answers taken).client b))
+      SoundWith p who (timed_out (leaving false m s n t k x u asked served answers taken) (by_count (leaving false m s n t k x u asked served answers taken).client b))
   leaving_late m s n t k x u asked served answers taken ps pt true = Leaving true m s n (t + 1) k x u asked served answers taken ps pt
   leaving_late m s n t k x u asked served answers taken ps pt false = Away m x asked served answers taken ps pt
 
   -- the meter answers a DISC, by whether its link was up
   leaves : (m : ServerRecord) (s n t : ℕ) (k : Kept) (x u : List ℕ) (asked served answers taken : List (List ℕ)) → IsBeginningOf served asked → IsBeginningOf taken answers → (answer : List ℕ) (short : length answer ≤ 1024) → (b : Bool) → m.up ≡ b →
-      Sound who (happens (leaving true m s n t k x u asked served answers taken) (ReachesMeter answer short))
+      SoundWith p who (happens (leaving true m s n t k x u asked served answers taken) (ReachesMeter answer short))
   leaves m s n t k x u asked served answers taken ps pt answer short true e = rw (row_of-disc_up (at who m) e) (Left true (record m { up = false }) s n t k x u asked served answers taken ps pt)
   leaves m s n t k x u asked served answers taken ps pt answer short false e = rw (row_of-disc_down (at who m) e) (Left false (record m { up = false }) s n t k x u asked served answers taken ps pt)
 
   keep_leaving : (sent : Bool) (m : ServerRecord) (s n t : ℕ) (k : Kept) (x u : List ℕ) (asked served answers taken : List (List ℕ)) → IsBeginningOf served asked → IsBeginningOf taken answers → (e : LinkEvent) →
-      Sound who (happens (leaving sent m s n t k x u asked served answers taken) e)
+      SoundWith p who (happens (leaving sent m s n t k x u asked served answers taken) e)
   keep_leaving sent m s n t k x u asked served answers taken ps pt Connect = Leaving sent m s n t k x u asked served answers taken ps pt
   keep_leaving sent m s n t k x u asked served answers taken ps pt Restarts = Leaving sent (fresh_server who) s n t k x u asked served answers taken ps pt
   keep_leaving sent m s n t k x u asked served answers taken ps pt (Intrudes frame answer) = Leaving sent m s n t k x u asked served answers taken ps pt
@@ -163,10 +165,10 @@ module _ (who : Client) where
   keep_leaving true m s n t k x u asked served answers taken ps pt (ReachesMeter answer short) = leaves m s n t k x u asked served answers taken ps pt answer short m.up refl
 
   abbrev left : Bool → ServerRecord → ℕ → ℕ → ℕ → Kept → List ℕ → List ℕ → List (List ℕ) → List (List ℕ) → List (List ℕ) → List (List ℕ) → LinkWorld
-  left was m s n t k x u asked served answers taken = record { meter = at who m; client = client_at who Closing s n (Some (disc who)) t k x u; up_line = []; down_line = gone who was ∷ []; asked = asked; served = served; answers = answers; taken = taken }
+  left was m s n t k x u asked served answers taken = record { meter = at who m; client = client_with p who Closing s n (Some (disc who)) t k x u; up_line = []; down_line = gone who was ∷ []; asked = asked; served = served; answers = answers; taken = taken }
 
   keep_left : (was : Bool) (m : ServerRecord) (s n t : ℕ) (k : Kept) (x u : List ℕ) (asked served answers taken : List (List ℕ)) → IsBeginningOf served asked → IsBeginningOf taken answers → (e : LinkEvent) →
-      Sound who (happens (left was m s n t k x u asked served answers taken) e)
+      SoundWith p who (happens (left was m s n t k x u asked served answers taken) e)
   keep_left was m s n t k x u asked served answers taken ps pt Connect = Left was m s n t k x u asked served answers taken ps pt
   keep_left was m s n t k x u asked served answers taken ps pt Restarts = Left was (fresh_server who) s n t k x u asked served answers taken ps pt
   keep_left was m s n t k x u asked served answers taken ps pt (Intrudes frame answer) = Left was m s n t k x u asked served answers taken ps pt
@@ -182,7 +184,7 @@ module _ (who : Client) where
 
   -- the first segment of an answer is out
   answers_first : (s n size t : ℕ) (last : Answer) (k : Kept) (had x info answer : List ℕ) (given got : List (List ℕ)) → s < 8 → n < 8 → 3 ≤ size → length answer ≤ 1024 →
-      Sound who (replies (record { meter = record { client = who; up = true; send_next = n; receive_next = next s; last = last; took_information = true; kept = Fresh; apdu = had; unsent = []; size = size; waits = Some (One 1) }; client = client_at who Open (next s) n (Some (to_meter who (information_octet s n) false info)) t Fresh x []; up_line = []; down_line = []; asked = given; served = given; answers = got; taken = got }) answer)
+      SoundWith p who (replies (record { meter = record { client = who; up = true; send_next = n; receive_next = next s; last = last; took_information = true; kept = Fresh; apdu = had; unsent = []; size = size; waits = Some (One 1) }; client = client_with p who Open (next s) n (Some (to_meter who (information_octet s n) false info)) t Fresh x []; up_line = []; down_line = []; asked = given; served = given; answers = got; taken = got }) answer)
   answers_first s n size t last k had x info answer given got hs hn hz short =
       let w : List ℕ = llc from_meter ++ answer in
       Answered Coming (next s) n size t (to_meter who (information_octet s n) false info) true Fresh had x (take size w) (drop size w) answer given got (next_lt s) hn hz
@@ -191,16 +193,16 @@ module _ (who : Client) where
       (information_refused who false info s n hs hn)
 
   abbrev asking : Bool → ℕ → ℕ → ℕ → ℕ → Answer → Bool → Kept → List ℕ → List ℕ → List ℕ → List ℕ → List ℕ → List (List ℕ) → List (List ℕ) → LinkWorld
-  asking sent s n size t last took k ap x info u apdu given got = record { meter = server_at who n s last took k ap [] size; client = client_at who Open (next s) n (Some (to_meter who (information_octet s n) (is_more u) info)) t Fresh x u; up_line = on_line sent (to_meter who (information_octet s n) (is_more u) info); down_line = []; asked = given ++ apdu ∷ []; served = given; answers = got; taken = got }
+  asking sent s n size t last took k ap x info u apdu given got = record { meter = server_at who n s last took k ap [] size; client = client_with p who Open (next s) n (Some (to_meter who (information_octet s n) (is_more u) info)) t Fresh x u; up_line = on_line sent (to_meter who (information_octet s n) (is_more u) info); down_line = []; asked = given ++ apdu ∷ []; served = given; answers = got; taken = got }
 
   module _ (s n size t : ℕ) (last : Answer) (took : Bool) (k : Kept) (ap x info : List ℕ) (apdu : List ℕ) (given got : List (List ℕ)) (hs : s < 8) (hn : n < 8) (hz : 3 ≤ size) where
     asking_late : (u : List ℕ) → Joins from_client k (info ++ u) apdu → IsFirst k info → length apdu ≤ 1024 → (b : Bool) →
-        Sound who (timed_out (asking false s n size t last took k ap x info u apdu given got) (by_count (asking false s n size t last took k ap x info u apdu given got).client b))
+        SoundWith p who (timed_out (asking false s n size t last took k ap x info u apdu given got) (by_count (asking false s n size t last took k ap x info u apdu given got).client b))
     asking_late u j i short true = Asking true s n size (t + 1) last took k ap x info u apdu given got hs hn hz j i short
     asking_late u j i short false = Away (server_at who n s last took k ap [] size) x (given ++ apdu ∷ []) given got got (longer given apdu) (whole got)
 
     asks : (u : List ℕ) → Joins from_client k (info ++ u) apdu → IsFirst k info → length apdu ≤ 1024 → (answer : List ℕ) (h : length answer ≤ 1024) →
-        Sound who (happens (asking true s n size t last took k ap x info u apdu given got) (ReachesMeter answer h))
+        SoundWith p who (happens (asking true s n size t last took k ap x info u apdu given got) (ReachesMeter answer h))
     asks [] j i short answer h =
         let on : (bytes : List ℕ) × (kept_after from_client k info ≡ Good bytes) × (bytes ++ [] ≡ apdu) = kept_goes_on from_client k info [] apdu j i short in
         let all : kept_after from_client k info ≡ Good apdu = whole_good (kept_after from_client k info) on.0 apdu on.1 on.2 in
@@ -212,7 +214,7 @@ module _ (who : Client) where
         (Received Coming s n size t y on.0 ap x info u apdu given got hs hn hz on.2 short)
 
   keep_asking : (sent : Bool) (s n size t : ℕ) (last : Answer) (took : Bool) (k : Kept) (had x info u apdu : List ℕ) (given got : List (List ℕ)) → s < 8 → n < 8 → 3 ≤ size → Joins from_client k (info ++ u) apdu → IsFirst k info → length apdu ≤ 1024 → (e : LinkEvent) →
-      Sound who (happens (asking sent s n size t last took k had x info u apdu given got) e)
+      SoundWith p who (happens (asking sent s n size t last took k had x info u apdu given got) e)
   keep_asking sent s n size t last took k had x info u apdu given got hs hn hz j i short Connect = Asking sent s n size t last took k had x info u apdu given got hs hn hz j i short
   keep_asking sent s n size t last took k had x info u apdu given got hs hn hz j i short Restarts = LostAsking sent (to_meter who (information_octet s n) (is_more u) info) (next s) n t Fresh x u (given ++ apdu ∷ []) given got got (information_refused who (is_more u) info s n hs hn) (longer given apdu) (whole got)
   keep_asking sent s n size t last took k had x info u apdu given got hs hn hz j i short (Intrudes frame answer) = Asking sent s n size t last took k had x info u apdu given got hs hn hz j i short
@@ -231,16 +233,16 @@ module _ (who : Client) where
 
   module _ (s n size y : ℕ) (bytes had x info u apdu : List ℕ) (given got : List (List ℕ)) (hs : s < 8) (hn : n < 8) (hz : 3 ≤ size) (j : bytes ++ (y ∷ u) ≡ apdu) (short : length apdu ≤ 1024) where
     abbrev received : Line → ℕ → LinkWorld
-    received line t = record { meter = server_at who n (next s) (WasReady (to_client who (One 1) (ready_octet (next s)) false [])) true (Good bytes) had [] size; client = client_at who Open (next s) n (Some (to_meter who (information_octet s n) true info)) t Fresh x (y ∷ u); up_line = going line (to_meter who (information_octet s n) true info); down_line = coming line (to_client who (One 1) (ready_octet (next s)) false []); asked = given ++ apdu ∷ []; served = given; answers = got; taken = got }
+    received line t = record { meter = server_at who n (next s) (WasReady (to_client who (One 1) (ready_octet (next s)) false [])) true (Good bytes) had [] size; client = client_with p who Open (next s) n (Some (to_meter who (information_octet s n) true info)) t Fresh x (y ∷ u); up_line = going line (to_meter who (information_octet s n) true info); down_line = coming line (to_client who (One 1) (ready_octet (next s)) false []); asked = given ++ apdu ∷ []; served = given; answers = got; taken = got }
 
-    is_received : (line : Line) (t : ℕ) → Sound who (received line t)
+    is_received : (line : Line) (t : ℕ) → SoundWith p who (received line t)
     is_received line t = Received line s n size t y bytes had x info u apdu given got hs hn hz j short
 
-    received_late : (t : ℕ) (b : Bool) → Sound who (timed_out (received Silent t) (by_count (received Silent t).client b))
+    received_late : (t : ℕ) (b : Bool) → SoundWith p who (timed_out (received Silent t) (by_count (received Silent t).client b))
     received_late t true = is_received Going (t + 1)
     received_late t false = Away (received Silent t).meter x (given ++ apdu ∷ []) given got got (longer given apdu) (whole got)
 
-    keep_received : (line : Line) (t : ℕ) (e : LinkEvent) → Sound who (happens (received line t) e)
+    keep_received : (line : Line) (t : ℕ) (e : LinkEvent) → SoundWith p who (happens (received line t) e)
     keep_received line t Connect = is_received line t
     keep_received Silent t Restarts = LostAsking false (to_meter who (information_octet s n) true info) (next s) n t Fresh x (y ∷ u) (given ++ apdu ∷ []) given got got (information_refused who true info s n hs hn) (longer given apdu) (whole got)
     keep_received Going t Restarts = LostAsking true (to_meter who (information_octet s n) true info) (next s) n t Fresh x (y ∷ u) (given ++ apdu ∷ []) given got got (information_refused who true info s n hs hn) (longer given apdu) (whole got)
@@ -273,10 +275,10 @@ module _ (who : Client) where
 
   module _ (s n size : ℕ) (q : Parts) (took : Bool) (k : Kept) (had x info answer : List ℕ) (given got : List (List ℕ)) (hs : s < 8) (hn : n < 8) (hz : 3 ≤ size) where
     abbrev answered : List ℕ → Line → ℕ → LinkWorld
-    answered u line t = record { meter = server_at who (next n) s (WasInformation (to_client who (One 1) (information_octet n s) (is_more u) info)) took Fresh had u size; client = client_at who Open s n (Some q) t k x []; up_line = going line q; down_line = coming line (to_client who (One 1) (information_octet n s) (is_more u) info); asked = given; served = given; answers = got ++ answer ∷ []; taken = got }
+    answered u line t = record { meter = server_at who (next n) s (WasInformation (to_client who (One 1) (information_octet n s) (is_more u) info)) took Fresh had u size; client = client_with p who Open s n (Some q) t k x []; up_line = going line q; down_line = coming line (to_client who (One 1) (information_octet n s) (is_more u) info); asked = given; served = given; answers = got ++ answer ∷ []; taken = got }
 
     -- the client takes the segment
-    takes_answer : (u : List ℕ) (t : ℕ) → Joins from_meter k (info ++ u) answer → IsFirst k info → length answer ≤ 1024 → Sound who (happens (answered u Coming t) ReachesClient)
+    takes_answer : (u : List ℕ) (t : ℕ) → Joins from_meter k (info ++ u) answer → IsFirst k info → length answer ≤ 1024 → SoundWith p who (happens (answered u Coming t) ReachesClient)
     takes_answer [] t j i short =
         let on : (bytes : List ℕ) × (kept_after from_meter k info ≡ Good bytes) × (bytes ++ [] ≡ answer) = kept_goes_on from_meter k info [] answer j i short in
         let all : kept_after from_meter k info ≡ Good answer = whole_good (kept_after from_meter k info) on.0 answer on.1 on.2 in
@@ -288,14 +290,14 @@ module _ (who : Client) where
         (Readying true s (next n) size 0 y (WasInformation (to_client who (One 1) (information_octet n s) true info)) took on.0 had x u answer given got hs (next_lt n) hz on.2 short)
 
     module _ (u : List ℕ) (j : Joins from_meter k (info ++ u) answer) (i : IsFirst k info) (short : length answer ≤ 1024) (again : row_of (answered u Silent 0).meter q ≡ Repeats) (refuses : IsRefused who q) where
-      is_answered : (line : Line) (t : ℕ) → Sound who (answered u line t)
+      is_answered : (line : Line) (t : ℕ) → SoundWith p who (answered u line t)
       is_answered line t = Answered line s n size t q took k had x info u answer given got hs hn hz j i short again refuses
 
-      answered_late : (t : ℕ) (b : Bool) → Sound who (timed_out (answered u Silent t) (by_count (answered u Silent t).client b))
+      answered_late : (t : ℕ) (b : Bool) → SoundWith p who (timed_out (answered u Silent t) (by_count (answered u Silent t).client b))
       answered_late t true = is_answered Going (t + 1)
       answered_late t false = Away (answered u Silent t).meter x given given (got ++ answer ∷ []) got (whole given) (longer got answer)
 
-      keep_answered : (line : Line) (t : ℕ) (e : LinkEvent) → Sound who (happens (answered u line t) e)
+      keep_answered : (line : Line) (t : ℕ) (e : LinkEvent) → SoundWith p who (happens (answered u line t) e)
       keep_answered line t Connect = is_answered line t
       keep_answered Silent t Restarts = LostAsking false q s n t k x [] given given (got ++ answer ∷ []) got refuses (whole given) (longer got answer)
       keep_answered Going t Restarts = LostAsking true q s n t k x [] given given (got ++ answer ∷ []) got refuses (whole given) (longer got answer)
@@ -324,16 +326,16 @@ module _ (who : Client) where
 
   module _ (s n size y : ℕ) (last : Answer) (took : Bool) (bytes had x u answer : List ℕ) (given got : List (List ℕ)) (hs : s < 8) (hn : n < 8) (hz : 3 ≤ size) (j : bytes ++ (y ∷ u) ≡ answer) (short : length answer ≤ 1024) where
     abbrev readying : Bool → ℕ → LinkWorld
-    readying sent t = record { meter = server_at who n s last took Fresh had (y ∷ u) size; client = client_at who Open s n (Some (to_meter who (ready_octet n) false [])) t (Good bytes) x []; up_line = on_line sent (to_meter who (ready_octet n) false []); down_line = []; asked = given; served = given; answers = got ++ answer ∷ []; taken = got }
+    readying sent t = record { meter = server_at who n s last took Fresh had (y ∷ u) size; client = client_with p who Open s n (Some (to_meter who (ready_octet n) false [])) t (Good bytes) x []; up_line = on_line sent (to_meter who (ready_octet n) false []); down_line = []; asked = given; served = given; answers = got ++ answer ∷ []; taken = got }
 
-    is_readying : (sent : Bool) (t : ℕ) → Sound who (readying sent t)
+    is_readying : (sent : Bool) (t : ℕ) → SoundWith p who (readying sent t)
     is_readying sent t = Readying sent s n size t y last took bytes had x u answer given got hs hn hz j short
 
-    readying_late : (t : ℕ) (b : Bool) → Sound who (timed_out (readying false t) (by_count (readying false t).client b))
+    readying_late : (t : ℕ) (b : Bool) → SoundWith p who (timed_out (readying false t) (by_count (readying false t).client b))
     readying_late t true = is_readying true (t + 1)
     readying_late t false = Away (readying false t).meter x given given (got ++ answer ∷ []) got (whole given) (longer got answer)
 
-    keep_readying : (sent : Bool) (t : ℕ) (e : LinkEvent) → Sound who (happens (readying sent t) e)
+    keep_readying : (sent : Bool) (t : ℕ) (e : LinkEvent) → SoundWith p who (happens (readying sent t) e)
     keep_readying sent t Connect = is_readying sent t
     keep_readying sent t Restarts = LostAsking sent (to_meter who (ready_octet n) false []) s n t (Good bytes) x [] given given (got ++ answer ∷ []) got (ready_refused who n hn) (whole given) (longer got answer)
     keep_readying sent t (Intrudes frame answer) = is_readying sent t
@@ -357,12 +359,12 @@ module _ (who : Client) where
 
   -- the meter has come back with its link down, and the client doesn't know
   keep_lost_called : (t : ℕ) (x : List ℕ) (e : LinkEvent) →
-      Sound who (happens (record { meter = fresh_server who; client = client_at who Connecting 0 0 (Some (snrm who)) t Fresh x []; up_line = []; down_line = ua_up who ∷ []; asked = []; served = []; answers = []; taken = [] }) e)
+      SoundWith p who (happens (record { meter = fresh_server who; client = client_with p who Connecting 0 0 (Some (snrm_with p who)) t Fresh x []; up_line = []; down_line = ua_up who ∷ []; asked = []; served = []; answers = []; taken = [] }) e)
   keep_lost_called t x Connect = LostCalled t x
   keep_lost_called t x (Give apdu short) = LostCalled t x
   keep_lost_called t x Disconnect = LostCalled t x
   keep_lost_called t x (ReachesMeter answer short) = LostCalled t x
-  keep_lost_called t x ReachesClient = rw (is_answer-to_client (called t x).client 115 false (information_of (own_parameters 128)), control_of-ua) (LostIdle 0 0 x [] [] [] [] (omega arith) (omega arith) (none []) (none []))
+  keep_lost_called t x ReachesClient = rw (is_answer-to_client (called t x).client 115 false (information_of (own_parameters 128)), control_of-ua, agreed-own p) (LostIdle 0 0 x [] [] [] [] (omega arith) (omega arith) (none []) (none []))
   keep_lost_called t x LostUp = LostCalled t x
   keep_lost_called t x LostDown = Calling false (fresh_server who) t x
   keep_lost_called t x TimesOut = LostCalled t x
@@ -374,7 +376,7 @@ module _ (who : Client) where
   more_asked served asked apdu h = (h.0 ++ apdu ∷ [], sym (append_assoc served h.0 (apdu ∷ [])) ∙ ap (λ xs. xs ++ apdu ∷ []) h.1)
 
   module _ (s n : ℕ) (x : List ℕ) (asked served answers taken : List (List ℕ)) (hs : s < 8) (hn : n < 8) (ps : IsBeginningOf served asked) (pt : IsBeginningOf taken answers) where
-    keep_lost_idle : (e : LinkEvent) → Sound who (happens (record { meter = fresh_server who; client = client_at who Open s n None 0 Fresh x []; up_line = []; down_line = []; asked = asked; served = served; answers = answers; taken = taken }) e)
+    keep_lost_idle : (e : LinkEvent) → SoundWith p who (happens (record { meter = fresh_server who; client = client_with p who Open s n None 0 Fresh x []; up_line = []; down_line = []; asked = asked; served = served; answers = answers; taken = taken }) e)
     keep_lost_idle (Give apdu short) =
         LostAsking true (to_meter who (information_octet s n) (is_more (drop 128 (llc from_client ++ apdu))) (take 128 (llc from_client ++ apdu))) (next s) n 0 Fresh x (drop 128 (llc from_client ++ apdu)) (asked ++ apdu ∷ []) served answers taken
         (information_refused who (is_more (drop 128 (llc from_client ++ apdu))) (take 128 (llc from_client ++ apdu)) s n hs hn) (more_asked served asked apdu ps) pt
@@ -391,25 +393,25 @@ module _ (who : Client) where
 
   module _ (q : Parts) (s n : ℕ) (k : Kept) (x u : List ℕ) (asked served answers taken : List (List ℕ)) (refuses : IsRefused who q) (ps : IsBeginningOf served asked) (pt : IsBeginningOf taken answers) where
     abbrev lost_asking : Bool → ℕ → LinkWorld
-    lost_asking sent t = record { meter = fresh_server who; client = client_at who Open s n (Some q) t k x u; up_line = on_line sent q; down_line = []; asked = asked; served = served; answers = answers; taken = taken }
+    lost_asking sent t = record { meter = fresh_server who; client = client_with p who Open s n (Some q) t k x u; up_line = on_line sent q; down_line = []; asked = asked; served = served; answers = answers; taken = taken }
 
-    is_lost : (sent : Bool) (t : ℕ) → Sound who (lost_asking sent t)
+    is_lost : (sent : Bool) (t : ℕ) → SoundWith p who (lost_asking sent t)
     is_lost sent t = LostAsking sent q s n t k x u asked served answers taken refuses ps pt
 
-    is_denied : (t : ℕ) → Sound who (record { meter = fresh_server who; client = client_at who Open s n (Some q) t k x u; up_line = []; down_line = gone who false ∷ []; asked = asked; served = served; answers = answers; taken = taken })
+    is_denied : (t : ℕ) → SoundWith p who (record { meter = fresh_server who; client = client_with p who Open s n (Some q) t k x u; up_line = []; down_line = gone who false ∷ []; asked = asked; served = served; answers = answers; taken = taken })
     is_denied t = Denied q s n t k x u asked served answers taken refuses ps pt
 
-    lost_late : (t : ℕ) (b : Bool) → Sound who (timed_out (lost_asking false t) (by_count (lost_asking false t).client b))
+    lost_late : (t : ℕ) (b : Bool) → SoundWith p who (timed_out (lost_asking false t) (by_count (lost_asking false t).client b))
     lost_late t true = is_lost true (t + 1)
     lost_late t false = Away (fresh_server who) x asked served answers taken ps pt
 
-    keep_lost_asking : (sent : Bool) (t : ℕ) (e : LinkEvent) → Sound who (happens (lost_asking sent t) e)
+    keep_lost_asking : (sent : Bool) (t : ℕ) (e : LinkEvent) → SoundWith p who (happens (lost_asking sent t) e)
     keep_lost_asking sent t Connect = is_lost sent t
     keep_lost_asking sent t (Give apdu short) = is_lost sent t
     keep_lost_asking sent t Disconnect = is_lost sent t
     keep_lost_asking false t (ReachesMeter answer short) = is_lost false t
     keep_lost_asking true t (ReachesMeter answer short) = rw refuses.0
-        (subst (λ d. Sound who (record { meter = fresh_server who; client = client_at who Open s n (Some q) t k x u; up_line = []; down_line = to_client who d 31 false [] ∷ []; asked = asked; served = served; answers = answers; taken = taken })) (sym refuses.1) (is_denied t))
+        (subst (λ d. SoundWith p who (record { meter = fresh_server who; client = client_with p who Open s n (Some q) t k x u; up_line = []; down_line = to_client who d 31 false [] ∷ []; asked = asked; served = served; answers = answers; taken = taken })) (sym refuses.1) (is_denied t))
     keep_lost_asking sent t ReachesClient = is_lost sent t
     keep_lost_asking true t LostUp = is_lost false t
     keep_lost_asking false t LostUp = is_lost false t
@@ -421,7 +423,7 @@ module _ (who : Client) where
     keep_lost_asking true t TakesOver = is_lost true t
     keep_lost_asking false t TakesOver = Away (fresh_server who) [] asked served answers taken ps pt
 
-    keep_denied : (t : ℕ) (e : LinkEvent) → Sound who (happens (record { meter = fresh_server who; client = client_at who Open s n (Some q) t k x u; up_line = []; down_line = gone who false ∷ []; asked = asked; served = served; answers = answers; taken = taken }) e)
+    keep_denied : (t : ℕ) (e : LinkEvent) → SoundWith p who (happens (record { meter = fresh_server who; client = client_with p who Open s n (Some q) t k x u; up_line = []; down_line = gone who false ∷ []; asked = asked; served = served; answers = answers; taken = taken }) e)
     keep_denied t ReachesClient = rw (is_answer-to_client (lost_asking false t).client 31 false [], control_of-dm) (Away (fresh_server who) x asked served answers taken ps pt)
     keep_denied t LostDown = is_lost false t
     keep_denied t Connect = is_denied t
@@ -436,9 +438,9 @@ module _ (who : Client) where
 
   module _ (s n t y : ℕ) (x info u apdu : List ℕ) (given got : List (List ℕ)) (hs : s < 8) (hn : n < 8) where
     abbrev lost_received : LinkWorld
-    lost_received = record { meter = fresh_server who; client = client_at who Open (next s) n (Some (to_meter who (information_octet s n) true info)) t Fresh x (y ∷ u); up_line = []; down_line = to_client who (One 1) (ready_octet (next s)) false [] ∷ []; asked = given ++ apdu ∷ []; served = given; answers = got; taken = got }
+    lost_received = record { meter = fresh_server who; client = client_with p who Open (next s) n (Some (to_meter who (information_octet s n) true info)) t Fresh x (y ∷ u); up_line = []; down_line = to_client who (One 1) (ready_octet (next s)) false [] ∷ []; asked = given ++ apdu ∷ []; served = given; answers = got; taken = got }
 
-    keep_lost_received : (e : LinkEvent) → Sound who (happens lost_received e)
+    keep_lost_received : (e : LinkEvent) → SoundWith p who (happens lost_received e)
     keep_lost_received ReachesClient =
         rw (is_answer-to_client lost_received.client (ready_octet (next s)) false [], control_of-ready (next s) (next_lt s), control_of-ready (next s) (next_lt s), way_of-goes_on lost_received.client (next s) refl refl)
         (LostAsking true (to_meter who (information_octet (next s) n) (is_more (drop 128 (y ∷ u))) (take 128 (y ∷ u))) (next (next s)) n 0 Fresh x (drop 128 (y ∷ u)) (given ++ apdu ∷ []) given got got
@@ -456,9 +458,9 @@ module _ (who : Client) where
 
   module _ (s n t : ℕ) (q : Parts) (k : Kept) (x info answer : List ℕ) (given got : List (List ℕ)) (hs : s < 8) (hn : n < 8) where
     abbrev lost_answered : List ℕ → LinkWorld
-    lost_answered u = record { meter = fresh_server who; client = client_at who Open s n (Some q) t k x []; up_line = []; down_line = to_client who (One 1) (information_octet n s) (is_more u) info ∷ []; asked = given; served = given; answers = got ++ answer ∷ []; taken = got }
+    lost_answered u = record { meter = fresh_server who; client = client_with p who Open s n (Some q) t k x []; up_line = []; down_line = to_client who (One 1) (information_octet n s) (is_more u) info ∷ []; asked = given; served = given; answers = got ++ answer ∷ []; taken = got }
 
-    takes_lost : (u : List ℕ) → Joins from_meter k (info ++ u) answer → IsFirst k info → length answer ≤ 1024 → Sound who (happens (lost_answered u) ReachesClient)
+    takes_lost : (u : List ℕ) → Joins from_meter k (info ++ u) answer → IsFirst k info → length answer ≤ 1024 → SoundWith p who (happens (lost_answered u) ReachesClient)
     takes_lost [] j i short =
         let on : (bytes : List ℕ) × (kept_after from_meter k info ≡ Good bytes) × (bytes ++ [] ≡ answer) = kept_goes_on from_meter k info [] answer j i short in
         let all : kept_after from_meter k info ≡ Good answer = whole_good (kept_after from_meter k info) on.0 answer on.1 on.2 in
@@ -470,7 +472,7 @@ module _ (who : Client) where
         (LostAsking true (to_meter who (ready_octet (next n)) false []) s (next n) 0 (Good on.0) x [] given given (got ++ answer ∷ []) got (ready_refused who (next n) (next_lt n)) (whole given) (longer got answer))
 
     module _ (u : List ℕ) (j : Joins from_meter k (info ++ u) answer) (i : IsFirst k info) (short : length answer ≤ 1024) (refuses : IsRefused who q) where
-      keep_lost_answered : (e : LinkEvent) → Sound who (happens (lost_answered u) e)
+      keep_lost_answered : (e : LinkEvent) → SoundWith p who (happens (lost_answered u) e)
       keep_lost_answered ReachesClient = takes_lost u j i short
       keep_lost_answered LostDown = LostAsking false q s n t k x [] given given (got ++ answer ∷ []) got refuses (whole given) (longer got answer)
       keep_lost_answered Connect = LostAnswered s n t q k x info u answer given got hs hn j i short refuses
@@ -484,30 +486,41 @@ module _ (who : Client) where
       keep_lost_answered TakesOver = LostAnswered s n t q k x info u answer given got hs hn j i short refuses
 
   -- each event keeps the invariant
-  pub keep : {w : LinkWorld} (e : LinkEvent) → Sound who w → Sound who (happens w e)
-  keep e (Away m x asked served answers taken ps pt) = keep_away m x asked served answers taken ps pt e
-  keep e (Calling sent m t x) = keep_calling sent m t x e
-  keep e (Called t x) = keep_called t x e
-  keep e (Leaving sent m s n t k x u asked served answers taken ps pt) = keep_leaving sent m s n t k x u asked served answers taken ps pt e
-  keep e (Left was m s n t k x u asked served answers taken ps pt) = keep_left was m s n t k x u asked served answers taken ps pt e
-  keep e (Idle s n size last took had x given got hs hn hz) = keep_idle s n size last took had x given got hs hn hz e
-  keep e (Asking sent s n size t last took k had x info u apdu given got hs hn hz j i short) = keep_asking sent s n size t last took k had x info u apdu given got hs hn hz j i short e
-  keep e (Received line s n size t y bytes had x info u apdu given got hs hn hz j short) = keep_received s n size y bytes had x info u apdu given got hs hn hz j short line t e
-  keep e (Answered line s n size t q took k had x info u answer given got hs hn hz j i short again refuses) = keep_answered s n size q took k had x info answer given got hs hn hz u j i short again refuses line t e
-  keep e (Readying sent s n size t y last took bytes had x u answer given got hs hn hz j short) = keep_readying s n size y last took bytes had x u answer given got hs hn hz j short sent t e
-  keep e (LostCalled t x) = keep_lost_called t x e
-  keep e (LostIdle s n x asked served answers taken hs hn ps pt) = keep_lost_idle s n x asked served answers taken hs hn ps pt e
-  keep e (LostAsking sent q s n t k x u asked served answers taken refuses ps pt) = keep_lost_asking q s n k x u asked served answers taken refuses ps pt sent t e
-  keep e (Denied q s n t k x u asked served answers taken refuses ps pt) = keep_denied q s n k x u asked served answers taken refuses ps pt t e
-  keep e (LostReceived s n t y x info u apdu given got hs hn) = keep_lost_received s n t y x info u apdu given got hs hn e
-  keep e (LostAnswered s n t q k x info u answer given got hs hn j i short refuses) = keep_lost_answered s n t q k x info answer given got hs hn u j i short refuses e
+  pub keep_with : {w : LinkWorld} (e : LinkEvent) → SoundWith p who w → SoundWith p who (happens w e)
+  keep_with e (Away m x asked served answers taken ps pt) = keep_away m x asked served answers taken ps pt e
+  keep_with e (Calling sent m t x) = keep_calling sent m t x e
+  keep_with e (Called t x) = keep_called t x e
+  keep_with e (Leaving sent m s n t k x u asked served answers taken ps pt) = keep_leaving sent m s n t k x u asked served answers taken ps pt e
+  keep_with e (Left was m s n t k x u asked served answers taken ps pt) = keep_left was m s n t k x u asked served answers taken ps pt e
+  keep_with e (Idle s n size last took had x given got hs hn hz) = keep_idle s n size last took had x given got hs hn hz e
+  keep_with e (Asking sent s n size t last took k had x info u apdu given got hs hn hz j i short) = keep_asking sent s n size t last took k had x info u apdu given got hs hn hz j i short e
+  keep_with e (Received line s n size t y bytes had x info u apdu given got hs hn hz j short) = keep_received s n size y bytes had x info u apdu given got hs hn hz j short line t e
+  keep_with e (Answered line s n size t q took k had x info u answer given got hs hn hz j i short again refuses) = keep_answered s n size q took k had x info answer given got hs hn hz u j i short again refuses line t e
+  keep_with e (Readying sent s n size t y last took bytes had x u answer given got hs hn hz j short) = keep_readying s n size y last took bytes had x u answer given got hs hn hz j short sent t e
+  keep_with e (LostCalled t x) = keep_lost_called t x e
+  keep_with e (LostIdle s n x asked served answers taken hs hn ps pt) = keep_lost_idle s n x asked served answers taken hs hn ps pt e
+  keep_with e (LostAsking sent q s n t k x u asked served answers taken refuses ps pt) = keep_lost_asking q s n k x u asked served answers taken refuses ps pt sent t e
+  keep_with e (Denied q s n t k x u asked served answers taken refuses ps pt) = keep_denied q s n k x u asked served answers taken refuses ps pt t e
+  keep_with e (LostReceived s n t y x info u apdu given got hs hn) = keep_lost_received s n t y x info u apdu given got hs hn e
+  keep_with e (LostAnswered s n t q k x info u answer given got hs hn j i short refuses) = keep_lost_answered s n t q k x info answer given got hs hn u j i short refuses e
 
-  keeps : (es : List LinkEvent) {w : LinkWorld} → Sound who w → Sound who (run es w)
+  keeps : (es : List LinkEvent) {w : LinkWorld} → SoundWith p who w → SoundWith p who (run es w)
   keeps [] sound = sound
-  keeps (e ∷ es) sound = keeps es (keep e sound)
+  keeps (e ∷ es) sound = keeps es (keep_with e sound)
 
+  pub sound_with : (es : List LinkEvent) → SoundWith p who (run es (start_proposing p who))
+  sound_with es = keeps es (Away (fresh_server who) [] [] [] [] [] (none []) (none []))
+
+-- the same of a client that proposes nothing
+pub keep : (who : Client) {w : LinkWorld} (e : LinkEvent) → Sound who w → Sound who (happens w e)
+keep who e good = keep_with None tt who e good
+
+pub sound : (who : Client) (es : List LinkEvent) → Sound who (run es (start who))
+sound who es = sound_with None tt who es
+
+module _ (who : Client) {p : Option ℕ} where
   -- what is handed up is a prefix of what was given
-  pub served_is : {w : LinkWorld} → Sound who w → IsBeginningOf w.served w.asked
+  pub served_is : {w : LinkWorld} → SoundWith p who w → IsBeginningOf w.served w.asked
   served_is (Away m x asked served answers taken ps pt) = ps
   served_is (Calling sent m t x) = none []
   served_is (Called t x) = none []
@@ -525,7 +538,7 @@ module _ (who : Client) where
   served_is (LostReceived s n t y x info u apdu given got hs hn) = longer given apdu
   served_is (LostAnswered s n t q k x info u answer given got hs hn j i short refuses) = whole given
 
-  pub taken_is : {w : LinkWorld} → Sound who w → IsBeginningOf w.taken w.answers
+  pub taken_is : {w : LinkWorld} → SoundWith p who w → IsBeginningOf w.taken w.answers
   taken_is (Away m x asked served answers taken ps pt) = pt
   taken_is (Calling sent m t x) = none []
   taken_is (Called t x) = none []
@@ -542,6 +555,3 @@ module _ (who : Client) where
   taken_is (Denied q s n t k x u asked served answers taken refuses ps pt) = pt
   taken_is (LostReceived s n t y x info u apdu given got hs hn) = whole got
   taken_is (LostAnswered s n t q k x info u answer given got hs hn j i short refuses) = longer got answer
-
-  pub sound : (es : List LinkEvent) → Sound who (run es (start who))
-  sound es = keeps es (Away (start who).meter [] [] [] [] [] (none []) (none []))

@@ -15,6 +15,7 @@ use Rattle.dlms_link.specs.declared.client_row.ClientRow.{ClientRow}
 use Rattle.dlms_link.specs.declared.client_row.ClientRow.TheVariants.{Takes, TakenBefore, LetsNext, Leaves}
 use Rattle.dlms_link.specs.Octet.{control_of, information_octet, ready_octet, next, before}
 use Rattle.dlms_link.specs.Kept.{Kept, Fresh, Good, TooLong, BadStart, kept_after, llc, from_client, from_meter, is_more}
+use Rattle.dlms_link.specs.Parameters.{agreed_size, proposed_information}
 use Rattle.dlms_link.specs.declared.control.TheConstants.{SNRM, DISC}
 use Rattle.dlms_link.specs.declared.segments.TheConstants.{MOST_BYTES}
 
@@ -32,10 +33,14 @@ pub record ClientRecord : Type 0 where
   pub kept : Kept
   pub apdu : List ℕ
   pub unsent : List ℕ
+  -- the most information of a frame received, if the SNRM proposes it
+  pub proposal : Option ℕ
+  -- the most information of a frame sent
+  pub size : ℕ
 
--- a link of this client to the meter at this address
-abbrev pub fresh_between : ℕ → Address → ClientRecord
-fresh_between own server = record {
+-- a link of this client to the meter at this address, with this proposal, if any
+abbrev pub fresh_proposing : ℕ → Address → Option ℕ → ClientRecord
+fresh_proposing own server proposal = record {
   own = own;
   server = server;
   phase = Closed;
@@ -46,7 +51,13 @@ fresh_between own server = record {
   kept = Fresh;
   apdu = [];
   unsent = [];
+  proposal = proposal;
+  size = MOST_BYTES;
 }
+
+-- one that proposes nothing
+abbrev pub fresh_between : ℕ → Address → ClientRecord
+fresh_between own server = fresh_proposing own server None
 
 -- a link of one of this project's clients to this project's meter
 abbrev pub fresh_client : Client → ClientRecord
@@ -83,8 +94,9 @@ closed c = record c {
   unsent = [];
 }
 
-abbrev pub connected : ClientRecord → ClientRecord
-connected c = record c {
+-- a link that came up, by a UA with this information
+abbrev pub connected : ClientRecord → List ℕ → ClientRecord
+connected c ua = record c {
   phase = Open;
   send_next = 0;
   receive_next = 0;
@@ -92,6 +104,7 @@ connected c = record c {
   repeats = 0;
   kept = Fresh;
   unsent = [];
+  size = agreed_size c.proposal ua;
 }
 
 -- a frame goes out
@@ -99,7 +112,7 @@ abbrev pub out : ClientRecord → Parts → ClientRecord
 out c f = record c { waits = Some f; repeats = 0 }
 
 abbrev pub snrm_of : ClientRecord → Parts
-snrm_of c = to_server c.own c.server SNRM false []
+snrm_of c = to_server c.own c.server SNRM false (proposed_information c.proposal)
 
 abbrev pub disc_of : ClientRecord → Parts
 disc_of c = to_server c.own c.server DISC false []
@@ -113,12 +126,12 @@ client_disconnect c = record (out c (disc_of c)) { phase = Closing }
 -- the next unsent segment as an I
 abbrev pub client_segment : ClientRecord → Parts
 client_segment c = to_server c.own c.server (information_octet c.send_next c.receive_next)
-    (is_more (drop MOST_BYTES c.unsent)) (take MOST_BYTES c.unsent)
+    (is_more (drop c.size c.unsent)) (take c.size c.unsent)
 
 abbrev pub after_client_segment : ClientRecord → ClientRecord
 after_client_segment c = record (out c (client_segment c)) {
   send_next = next c.send_next;
-  unsent = drop MOST_BYTES c.unsent;
+  unsent = drop c.size c.unsent;
 }
 
 abbrev pub client_giving : ClientRecord → List ℕ → ClientRecord
@@ -155,11 +168,11 @@ takes c segmented Fresh = (closed c, Down)
 takes c segmented TooLong = (closed c, Down)
 takes c segmented BadStart = (closed c, Down)
 
-abbrev pub on_ua : ClientRecord → Phase → ClientRecord × ClientOut
-on_ua c Closed = (c, Nothing)
-on_ua c Connecting = (connected c, Up)
-on_ua c Open = (c, Nothing)
-on_ua c Closing = (closed c, Down)
+abbrev pub on_ua : ClientRecord → List ℕ → Phase → ClientRecord × ClientOut
+on_ua c ua Closed = (c, Nothing)
+on_ua c ua Connecting = (connected c ua, Up)
+on_ua c ua Open = (c, Nothing)
+on_ua c ua Closing = (closed c, Down)
 
 -- what an open link does with an I or an RR
 unfoldable pub way_of : ClientRecord → Control → ClientRow
@@ -187,7 +200,7 @@ on_counted c f Connecting = (c, Nothing)
 on_counted c f Closing = (c, Nothing)
 
 abbrev pub on_control : ClientRecord → Parts → Control → ClientRecord × ClientOut
-on_control c f Ua = on_ua c c.phase
+on_control c f Ua = on_ua c f.info c.phase
 on_control c f Dm = (closed c, Down)
 on_control c f (Information send receive) = on_counted c f c.phase
 on_control c f (Ready receive) = on_counted c f c.phase
@@ -217,6 +230,15 @@ by_count c false = (closed c, None)
 
 abbrev pub client_timeout : ClientRecord → ClientRecord × Option Parts
 client_timeout c = by_count c (nat_lt c.repeats 3)
+
+-- The most information of a frame sent, after a frame with this information and this output: if the
+-- link came up, what the UA agrees to, and otherwise what it was.
+abbrev pub IsSizedAfter : ClientRecord → List ℕ → ClientOut → ClientRecord → Type 0
+IsSizedAfter old info Up new = new.size ≡ agreed_size old.proposal info
+IsSizedAfter old info Nothing new = new.size ≡ old.size
+IsSizedAfter old info (Send f) new = new.size ≡ old.size
+IsSizedAfter old info Apdu new = new.size ≡ old.size
+IsSizedAfter old info Down new = new.size ≡ old.size
 
 -- the link is down, and nothing is awaited
 abbrev pub IsDown : ClientRecord → Type 0

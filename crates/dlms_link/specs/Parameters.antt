@@ -1,7 +1,8 @@
 -- The parameters of a link, which SNRM proposes and UA answers (IEC 62056-46, 6.4.4.4.3.2, HDLC parameter negotiation
 -- during the connection phase).
-use Rattle.std.specs.Prelude.{◌≡◌, ℕ, ◌+◌, ◌*◌, ◌⊎◌, ◌==◌, ◌&&◌, ◌||◌, if◌then◌else◌, Bool, true, List, [], ◌∷◌, ◌++◌, length, fold, IsTrue, All, take, drop, Option, None, Some, unwrap_or, nat_le, min, zero, suc}
+use Rattle.std.specs.Prelude.{◌≡◌, ℕ, ◌+◌, ◌*◌, ◌/◌, ◌%◌, ◌≤◌, ◌⊎◌, ◌==◌, ◌&&◌, ◌||◌, if◌then◌else◌, Bool, true, List, [], ◌∷◌, ◌++◌, length, fold, IsTrue, All, take, drop, Option, None, Some, unwrap_or, nat_le, min, zero, suc}
 use Rattle.std.specs.List.{flat_map, filter_map, last_or}
+use Rattle.dlms_link.specs.declared.parameters.TheConstants.{MOST_RECEIVED}
 use Rattle.dlms_link.specs.declared.segments.TheConstants.{MOST_BYTES}
 
 -- one parameter: its identifier, and the octets of its value
@@ -79,11 +80,40 @@ size_of (format ∷ group ∷ len ∷ rest) =
     then size_read (read_group (length rest) MOST_BYTES rest) else None
 size_of _ = None
 
+-- both windows are 1
+abbrev pub windows : List Parameter
+windows =
+    record { id = 7; value = 0 ∷ 0 ∷ 0 ∷ 1 ∷ [] } ∷ record { id = 8; value = 0 ∷ 0 ∷ 0 ∷ 1 ∷ [] }
+    ∷ []
+
 -- the meter's own: it sends this much, receives 128, and its windows are 1
 abbrev pub own_parameters : ℕ → List Parameter
 own_parameters size =
-    record { id = 5; value = size ∷ [] } ∷ record { id = 6; value = MOST_BYTES ∷ [] }
-    ∷ record { id = 7; value = 0 ∷ 0 ∷ 0 ∷ 1 ∷ [] } ∷ record {
-      id = 8;
-      value = 0 ∷ 0 ∷ 0 ∷ 1 ∷ [];
-    } ∷ []
+    record { id = 5; value = size ∷ [] } ∷ record { id = 6; value = MOST_BYTES ∷ [] } ∷ windows
+
+-- a client may propose to receive 128 to 2,030 octets of information in a frame
+pub record IsProposable (size : ℕ) : Type 0 where
+  pub least : MOST_BYTES ≤ size
+  pub most : size ≤ MOST_RECEIVED
+
+-- a size in one octet if it fits, otherwise in two, the higher first
+abbrev pub size_octets : ℕ → List ℕ
+size_octets size = if nat_le size 255 then size ∷ [] else size / 256 ∷ size % 256 ∷ []
+
+-- a client's proposal: it sends 128 at most, receives this much, and its windows are 1
+abbrev pub proposed_parameters : ℕ → List Parameter
+proposed_parameters size =
+    record { id = 5; value = MOST_BYTES ∷ [] } ∷ record { id = 6; value = size_octets size }
+    ∷ windows
+
+-- the information of an SNRM: empty, or the proposal
+abbrev pub proposed_information : Option ℕ → List ℕ
+proposed_information None = []
+proposed_information (Some size) = information_of (proposed_parameters size)
+
+-- The most information of the client's frames, by the UA: what the meter receives, and at most 128.
+-- Information that cannot be read, or names less than 32, leaves 128. A client that proposed nothing
+-- doesn't look at it.
+abbrev pub agreed_size : (proposal : Option ℕ) (ua : List ℕ) → ℕ
+agreed_size None ua = MOST_BYTES
+agreed_size (Some size) ua = unwrap_or (size_of ua) MOST_BYTES

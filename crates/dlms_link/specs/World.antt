@@ -1,6 +1,8 @@
 -- Both ends and the line between them, over every list of events.
 use Rattle.std.specs.Prelude.{◌≡◌, ℕ, ◌≤◌, List, [], ◌∷◌, ◌++◌, length, Option, None, Some}
+use Rattle.dlms_frame.specs.Client.{sap_of}
 use Rattle.dlms_frame.specs.declared.client.Client.{Client}
+use Rattle.dlms_frame.specs.declared.frame.Address.TheVariants.{One}
 use Rattle.dlms_frame.specs.Frame.{Parts}
 use Rattle.dlms_link.specs.declared.phase.Phase.{Phase}
 use Rattle.dlms_link.specs.declared.phase.Phase.TheVariants.{Closed, Connecting, Open, Closing}
@@ -9,7 +11,7 @@ use Rattle.dlms_link.specs.declared.out.LinkOut.TheVariants.{Nothing, Reply, Apd
 use Rattle.dlms_link.specs.declared.out.ClientOut.{ClientOut}
 use Rattle.dlms_link.specs.declared.out.ClientOut.TheVariants.{Nothing as NothingTaken, Up as IsUp, Send, Apdu as ApduTaken, Down as IsDown}
 use Rattle.dlms_link.specs.Server.{ServerRecord, fresh_server, server_on, server_send}
-use Rattle.dlms_link.specs.Client.{ClientRecord, fresh_between, fresh_client, client_connect, client_disconnect, client_send, client_step, client_timeout, snrm_of, disc_of}
+use Rattle.dlms_link.specs.Client.{ClientRecord, fresh_proposing, client_connect, client_disconnect, client_send, client_step, client_timeout, snrm_of, disc_of}
 use Rattle.dlms_link.specs.declared.kept.TheConstants.{MOST_APDU}
 
 pub record LinkWorld : Type 0 where
@@ -150,7 +152,9 @@ intrudes w frame answer Open = w
 intrudes w frame answer Closing = w
 
 abbrev pub takes_over : LinkWorld → List Parts → List Parts → LinkWorld
-takes_over w [] [] = record w { client = fresh_between w.client.own w.client.server }
+takes_over w [] [] = record w {
+  client = fresh_proposing w.client.own w.client.server w.client.proposal;
+}
 takes_over w [] (g ∷ down) = w
 takes_over w (g ∷ up) down = w
 
@@ -172,10 +176,11 @@ abbrev pub run : List LinkEvent → LinkWorld → LinkWorld
 run [] w = w
 run (e ∷ es) w = run es (happens w e)
 
-abbrev pub start : Client → LinkWorld
-start who = record {
+-- a client with this proposal, if any, and its meter
+abbrev pub start_proposing : Option ℕ → Client → LinkWorld
+start_proposing proposal who = record {
   meter = fresh_server who;
-  client = fresh_client who;
+  client = fresh_proposing (sap_of who) (One 1) proposal;
   up_line = [];
   down_line = [];
   asked = [];
@@ -183,6 +188,10 @@ start who = record {
   answers = [];
   taken = [];
 }
+
+-- one that proposes nothing
+abbrev pub start : Client → LinkWorld
+start who = start_proposing None who
 
 -- xs is a beginning of ys
 abbrev pub IsBeginningOf : List (List ℕ) → List (List ℕ) → Type 0

@@ -1,8 +1,9 @@
 //! The client's end of the link: one frame is out, and then it waits.
 
-ghost use Rattle.std.specs.Prelude.{◌≡◌, ◌≢◌, ◌≤◌, ◌<◌, ℕ, ◌↔◌, IsTrue, IsOk, IsSome, Some, IfOk, OnOk, OnErr, List, length, take, drop, MatchResult};
-ghost use Rattle.dlms_link.specs.Client.{IsDown, IsIdle, StandsAfter, IsSentBy, fresh_between, fresh_client, to_server, client_connect, client_disconnect, client_send, client_step, client_timeout, client_segment, after_client_segment, client_ready, snrm_of, disc_of, closed, connected, out, way_of, is_answer, same_address, takes, by_way, on_counted};
+ghost use Rattle.std.specs.Prelude.{◌≡◌, ◌≢◌, ◌≤◌, ◌<◌, ℕ, ◌↔◌, IsTrue, IsOk, IsSome, Some, IfOk, IfSome, OnOk, OnErr, List, length, take, drop, MatchResult};
+ghost use Rattle.dlms_link.specs.Client.{IsDown, IsIdle, StandsAfter, IsSentBy, fresh_between, fresh_proposing, fresh_client, to_server, client_connect, client_disconnect, client_send, client_step, client_timeout, client_segment, after_client_segment, client_ready, snrm_of, disc_of, closed, connected, out, way_of, is_answer, same_address, takes, by_way, on_counted};
 ghost use Rattle.dlms_frame.specs.Frame.{IsAddress};
+ghost use Rattle.dlms_link.specs.Parameters.{IsProposable};
 ghost use Rattle.dlms_link.specs.declared.out.ClientOut.TheVariants.{Up};
 ghost use Rattle.dlms_link.specs.declared.phase.Phase.TheVariants.{Connecting};
 
@@ -10,6 +11,7 @@ use crate::client_row::ClientRow;
 use crate::control::{Control, DISC, SNRM, before, information_octet, next, read, ready_octet};
 use crate::kept::{Assembly, DESTINATION, FROM_CLIENT, FROM_METER, MOST_APDU, Progress, QUALITY};
 use crate::out::ClientOut;
+use crate::parameters::{agreed_size, proposal};
 use crate::phase::Phase;
 use crate::segments::{MOST_BYTES, cut};
 use arrayvec::ArrayVec;
@@ -33,6 +35,8 @@ pub struct ClientLink {
     kept: Assembly,
     apdu: ArrayVec<u8, MOST_APDU>,
     unsent: ArrayVec<u8, 1027>,
+    proposal: Option<u16>,
+    size: u8,
 }
 
 impl Model for ClientLink {
@@ -67,11 +71,25 @@ impl ClientLink {
         ClientLink::between(client.sap(), Address::One(1))
     }
 
-    /// A closed link from the client with this service access point to the meter at this address.
+    /// A closed link from the client with this service access point to the meter at this address. It proposes nothing, does not look
+    /// at the UA's information, and sends at most 128 octets of information in a frame.
     pub fn between(own: u8, server: Address) -> Self
         requires own { own < 128 }
         requires server { IsAddress server }
         ensures { result ≡ fresh_between own server }
+    {
+        ClientLink::proposing(own, server, None)
+    }
+
+    /// A closed link from the client with this service access point to the meter at this address. If a proposal is given, 128 to 2,030,
+    /// its SNRM proposes that the meter sends up to so many octets of information in a frame, and the client 128 (IEC 62056-46,
+    /// 6.4.4.4.3.2). Then the link sends at most 128 octets in a frame, and fewer if the UA says that the meter receives fewer.
+    /// Information of a UA that cannot be read, or names less than 32, leaves 128.
+    pub fn proposing(own: u8, server: Address, proposal: Option<u16>) -> Self
+        requires own { own < 128 }
+        requires server { IsAddress server }
+        requires proposal { IfSome proposal IsProposable }
+        ensures { result ≡ fresh_proposing own server proposal }
     {
         ClientLink {
             own,
@@ -84,6 +102,8 @@ impl ClientLink {
             kept: Assembly::new(),
             apdu: ArrayVec::new(),
             unsent: ArrayVec::new(),
+            proposal,
+            size: MOST_BYTES as u8,
         }
     }
 
@@ -136,7 +156,8 @@ impl ClientLink {
         ensures frame { result ≡ snrm_of self.old }
         ensures after { self.new ≡ client_connect self.old }
     {
-        let frame = self.frame(SNRM, false, &[]);
+        let information = proposal(self.proposal);
+        let frame = self.frame(SNRM, false, information.as_slice());
         self.phase = Phase::Connecting;
         self.goes_out(&frame);
         frame
@@ -200,6 +221,7 @@ impl ClientLink {
         ensures stands { StandsAfter self.old result self.new }
         ensures comes_up { result ≡ Up → self.old.phase ≡ Connecting }
         ensures addresses { (self.new.own ≡ self.old.own) × (self.new.server ≡ self.old.server) }
+        ensures proposal { self.new.proposal ≡ self.old.proposal }
     {
         if !self.is_answer(frame) {
             return ClientOut::Nothing;
@@ -209,6 +231,7 @@ impl ClientLink {
             (Control::Ua, Phase::Connecting) => {
                 self.close();
                 self.phase = Phase::Open;
+                self.size = agreed_size(self.proposal, frame.info);
                 ClientOut::Up
             }
             (Control::Ua, Phase::Closing) => {
@@ -308,7 +331,7 @@ impl ClientLink {
         ensures frame { result ≡ client_segment self.old }
         ensures after { self.new ≡ after_client_segment self.old }
     {
-        let (front, more) = cut(&mut self.unsent, MOST_BYTES);
+        let (front, more) = cut(&mut self.unsent, self.size as usize);
         let frame = self.frame(
             information_octet(self.send_next, self.receive_next),
             more,

@@ -1,32 +1,36 @@
 //! Laws over whole runs. They make no call.
 
-ghost use Rattle.std.specs.Prelude.{◌≡◌, ◌≤◌, ◌<◌, ◌∷◌, ◌++◌, ◌⊎◌, ℕ, List, [], length, map, Some};
+ghost use Rattle.std.specs.Prelude.{◌≡◌, ◌≤◌, ◌<◌, ◌∷◌, ◌++◌, ◌⊎◌, ℕ, List, [], length, map, min, Option, Some, None, IfSome};
 ghost use Rattle.dlms_frame.specs.declared.client.Client.{Client};
 ghost use Rattle.dlms_link.specs.declared.server_row.ServerRow.TheVariants.{HandsUp};
 ghost use Rattle.dlms_link.specs.declared.client_row.ClientRow.TheVariants.{Takes};
 ghost use Rattle.dlms_link.specs.Kept.{Fresh, BadStart, llc, from_meter, from_client, capped, apdu_of};
-ghost use Rattle.dlms_link.specs.Parameters.{Parameter, IsInformation, greatest_received, capped_size, size_of};
+ghost use Rattle.dlms_link.specs.Parameters.{Parameter, IsInformation, IsProposable, agreed_size, greatest_received, capped_size, proposed_information, proposed_parameters, size_of};
 ghost use Rattle.dlms_link.specs.Readdressing.{AddressesAreFree, Pair};
 ghost use Rattle.dlms_link.specs.Segments.{joined, kept_after_all, read_whole, IsSegmented, IsUnderWay};
 ghost use Rattle.dlms_link.specs.Between.{MeterGoes, GoesOn, BeginsAnew, IsAnew, IsByWay, Heard, ClientGoes, ClientGoesOn, ClientBeginsAnew, IsAnewForClient, client_hears};
 ghost use Rattle.dlms_frame.specs.Frame.{Parts};
 ghost use Rattle.dlms_link.specs.Server.{ServerRecord, answered, link_step, row_of, server_on, server_send, told};
-ghost use Rattle.dlms_link.specs.Client.{ClientRecord, client_send, client_step, takes};
+ghost use Rattle.dlms_link.specs.Client.{ClientRecord, IsSizedAfter, client_send, client_step, takes};
 ghost use Rattle.dlms_link.specs.Line.{ApdusComeUp, LineIsSilent, OneFrameAtMost};
-ghost use Rattle.dlms_link.specs.World.{LinkEvent, run, start, IsBeginningOf};
+ghost use Rattle.dlms_link.specs.World.{LinkEvent, run, start_proposing, IsBeginningOf};
+ghost use Rattle.dlms_link.specs.declared.parameters.TheConstants.{MOST_RECEIVED};
 ghost use Rattle.dlms_link.specs.declared.segments.TheConstants.{MOST_BYTES};
 ghost use Rattle.dlms_link.specs.declared.kept.TheConstants.{DESTINATION, FROM_CLIENT, FROM_METER, QUALITY, MOST_APDU};
 ghost use Rattle.dlms_link.specs.declared.control.TheConstants.{SNRM, DISC, UA, DM};
 
 /// Over a line that loses any frames, with timeouts only while nothing is on the line, each end hands up a prefix of the APDUs that
-/// the other was given to send in a connection, each once and in order.
+/// the other was given to send in a connection, each once and in order, whether the client proposes a size or not.
 pub fn in_order()
-    ensures to_meter { (who : Client) (events : List LinkEvent)
-        → IsBeginningOf (run events (start who)).served (run events (start who)).asked }
-    ensures to_client { (who : Client) (events : List LinkEvent)
-        → IsBeginningOf (run events (start who)).taken (run events (start who)).answers }
-    ensures in_step { (who : Client) (events : List LinkEvent)
-        → length (run events (start who)).served ≡ length (run events (start who)).answers }
+    ensures to_meter { (proposal : Option ℕ) (who : Client) (events : List LinkEvent)
+        → IfSome proposal IsProposable → let w = run events (start_proposing proposal who) in
+        IsBeginningOf w.served w.asked }
+    ensures to_client { (proposal : Option ℕ) (who : Client) (events : List LinkEvent)
+        → IfSome proposal IsProposable → let w = run events (start_proposing proposal who) in
+        IsBeginningOf w.taken w.answers }
+    ensures in_step { (proposal : Option ℕ) (who : Client) (events : List LinkEvent)
+        → IfSome proposal IsProposable → let w = run events (start_proposing proposal who) in
+        length w.served ≡ length w.answers }
 {}
 
 /// In every such run an APDU is handed up only if the meter's end is up and the client's link is open; if the client awaits
@@ -66,6 +70,27 @@ pub fn parameters_are_read()
         → (ps : List Parameter) × IsInformation info ps }
 {}
 
+/// A proposal says what the client receives, and a meter of this project sends it 128 octets in a frame. The UA decides how much the
+/// client sends: the greatest that the meter receives, and at most 128. Only a UA that brings the link up changes it. Without a
+/// proposal, and with a meter of this project, it is 128 throughout.
+pub fn sizes_are_agreed()
+    ensures proposed { (size : ℕ) → IsProposable size
+        → (greatest_received (proposed_parameters size) ≡ size)
+        × (size_of (proposed_information (Some size)) ≡ Some MOST_BYTES) }
+    ensures agreed { (size : ℕ) (ua : List ℕ) (ps : List Parameter) → IsInformation ua ps
+        → 32 ≤ greatest_received ps
+        → agreed_size (Some size) ua ≡ min (greatest_received ps) MOST_BYTES }
+    ensures otherwise { (size : ℕ) (ua : List ℕ) → size_of ua ≡ None
+        → agreed_size (Some size) ua ≡ MOST_BYTES }
+    ensures after { (c : ClientRecord) (f : Parts)
+        → IsSizedAfter c f.info (client_step c f).1 (client_step c f).0 }
+    ensures unproposed { (ua : List ℕ) → agreed_size None ua ≡ MOST_BYTES }
+    ensures whole { (proposal : Option ℕ) (who : Client) (events : List LinkEvent)
+        → IfSome proposal IsProposable
+        → let c = (run events (start_proposing proposal who)).client in
+        (c.proposal ≡ proposal) × (c.size ≡ MOST_BYTES) }
+{}
+
 /// Whatever arrives at an end between two APDUs, the outcome of the second is that of its segments, joined. Ignored frames, answers
 /// that are requested again, segments of an answer, and timeouts may come in between. Each list of frames (at the client's end, of
 /// frames and silences) continues like this to its end, or is cut when the link comes up (at the client's end, or goes down) or an
@@ -102,7 +127,7 @@ pub fn segments_are_sent()
         ((server_send r answer).1 ∷ sent) now.unsent }
     ensures client { (c now : ClientRecord) (apdu : List ℕ) (heard : List Heard) (sent : List Parts)
         (taken : List (List ℕ)) → ClientGoes (client_send c apdu).0 heard taken sent now
-        → (rest : List ℕ) × IsUnderWay MOST_BYTES (llc from_client ++ apdu)
+        → (rest : List ℕ) × IsUnderWay c.size (llc from_client ++ apdu)
         ((client_send c apdu).1 ∷ sent) rest × (taken ≡ [] → now.unsent ≡ rest) }
     ensures read_again { (side size : ℕ) (apdu : List ℕ) (frames : List Parts) → 3 ≤ size
         → IsSegmented size (llc side ++ apdu) frames
@@ -114,5 +139,5 @@ pub fn the_numbers()
     ensures control { (SNRM ≡ 0x93) × (DISC ≡ 0x53) × (UA ≡ 0x73) × (DM ≡ 0x1F) }
     ensures llc { (DESTINATION ≡ 0xE6) × (FROM_CLIENT ≡ 0xE6) × (FROM_METER ≡ 0xE7)
         × (QUALITY ≡ 0) }
-    ensures most { (MOST_BYTES ≡ 128) × (MOST_APDU ≡ 1024) }
+    ensures most { (MOST_BYTES ≡ 128) × (MOST_APDU ≡ 1024) × (MOST_RECEIVED ≡ 2030) }
 {}

@@ -16,4 +16,5 @@ mod server_row;
 
 pub use client::{ClientLink, LineFault};
 pub use out::{ClientOut, LinkOut};
+pub use parameters::is_proposable;
 pub use server::ServerLink;

@@ -1,9 +1,13 @@
 //! The parameters of a link: the proposal in an SNRM, and the answer in the UA.
 
-ghost use Rattle.std.specs.Prelude.{◌≡◌, ◌≤◌, ◌<◌, ℕ, IfSome, IfNone, IsTrue, length, None};
-ghost use Rattle.dlms_link.specs.Parameters.{IsFirst, has_lawful_length, number_of, read_group, size_of, information_of, own_parameters};
+ghost use Rattle.std.specs.Prelude.{◌≡◌, ◌↔◌, ◌≤◌, ◌<◌, ℕ, IfSome, IfNone, IsTrue, length, None};
+ghost use Rattle.dlms_link.specs.Parameters.{IsFirst, has_lawful_length, number_of, read_group, size_of, information_of, own_parameters, agreed_size, IsProposable, proposed_information, proposed_parameters};
 
 use crate::segments::MOST_BYTES;
+use arrayvec::ArrayVec;
+
+/// The most information of a frame that a client may propose to receive. A frame of 2,047 octets holds it between any addresses.
+pub(crate) const MOST_RECEIVED: u16 = 2030;
 
 /// Whether a parameter may have a value of this length.
 fn has_lawful_length(id: u8, len: usize) -> bool
@@ -80,6 +84,65 @@ pub(crate) fn size_of(info: &[u8]) -> Option<u8>
             }
         }
         _ => None,
+    }
+}
+
+/// Whether a client may propose to receive this many octets of information in a frame: 128 to 2,030.
+pub fn is_proposable(size: u16) -> bool
+    ensures { IsTrue result ↔ IsProposable size }
+{
+    MOST_BYTES as u16 <= size && size <= MOST_RECEIVED
+}
+
+/// The information of the client's SNRM: none, or the proposal to receive this many octets in a frame, to send at most 128, and to
+/// have windows of 1.
+pub(crate) fn proposal(received: Option<u16>) -> ArrayVec<u8, 22>
+    requires { IfSome received IsProposable }
+    ensures { result.items ≡ proposed_information received }
+{
+    let mut information = ArrayVec::new();
+    if let Some(size) = received {
+        let _ = if size <= 255 {
+            information.try_extend_from_slice(&short_proposal(size as u8))
+        } else {
+            information.try_extend_from_slice(&long_proposal(size))
+        };
+    }
+    information
+}
+
+/// A proposal of at most 255 octets.
+fn short_proposal(size: u8) -> [u8; 21]
+    ensures { result ≡ information_of (proposed_parameters size) }
+{
+    [
+        0x81, 0x80, 0x12, 0x05, 0x01, 0x80, 0x06, 0x01, size, 0x07, 0x04, 0x00, 0x00, 0x00, 0x01,
+        0x08, 0x04, 0x00, 0x00, 0x00, 0x01,
+    ]
+}
+
+/// A proposal of more.
+fn long_proposal(size: u16) -> [u8; 22]
+    requires { 255 < size }
+    ensures { result ≡ information_of (proposed_parameters size) }
+{
+    let high = (size / 256) as u8;
+    let low = (size % 256) as u8;
+    [
+        0x81, 0x80, 0x13, 0x05, 0x01, 0x80, 0x06, 0x02, high, low, 0x07, 0x04, 0x00, 0x00, 0x00,
+        0x01, 0x08, 0x04, 0x00, 0x00, 0x00, 0x01,
+    ]
+}
+
+/// The most information of the client's frames, after this proposal and a UA with this information.
+pub(crate) fn agreed_size(proposal: Option<u16>, ua: &[u8]) -> u8
+    ensures size { result ≡ agreed_size proposal ua.now }
+    ensures least { 32 ≤ result }
+    ensures most { result ≤ MOST_BYTES }
+{
+    match proposal {
+        None => MOST_BYTES as u8,
+        Some(_) => size_of(ua).unwrap_or(MOST_BYTES as u8),
     }
 }
 

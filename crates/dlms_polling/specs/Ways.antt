@@ -1,8 +1,8 @@
 -- How a meter is polled, and a poll that is done.
 use Rattle.std.specs.Prelude.{◌≤◌, ℕ, Bool, true, false, List, Option, Some, None, IfSome}
-use Rattle.dlms_carrier.specs.Any.{IsRoute}
+use Rattle.dlms_carrier.specs.Any.{IsRoute, outlasts as route_outlasts}
 use Rattle.dlms_carrier.specs.declared.any.Route.{Route}
-use Rattle.dlms_carrier.specs.declared.any.Route.TheVariants.{Hdlc, Tcp}
+use Rattle.dlms_carrier.specs.declared.any.Route.TheVariants.{Hdlc}
 use Rattle.dlms_client.specs.Plan.{PlanValue as PlanOfClient}
 use Rattle.dlms_data.specs.declared.date_time.TheConstants.{LAST_SECOND}
 use Rattle.dlms_ends.specs.BothEnds.{IsDonePoll}
@@ -35,12 +35,10 @@ abbrev pub IsWay : Way → Type 0
 IsWay (Linked plan) = IfSome plan.after (λ second. second ≤ LAST_SECOND)
 IsWay (Routed route terms) = IsRoute route × IfSome terms.after (λ second. second ≤ LAST_SECOND)
 
--- Whether a connection outlasts an association over it, and an answer that did not come. Over the wrapper it does not: the
--- association ends with its connection (IEC 62056-47), and a late answer could be taken for that to the next request.
+-- whether a connection outlasts an association over it, and an answer that did not come
 abbrev pub outlasts : Way → Bool
 outlasts (Linked plan) = true
-outlasts (Routed (Hdlc own server) terms) = true
-outlasts (Routed (Tcp own server) terms) = false
+outlasts (Routed route terms) = route_outlasts route
 
 -- ---- the client that asks for texts
 
@@ -53,7 +51,7 @@ secret_by Reader secret = Some secret
 -- it asks the meter that is polled, with the secret of the poll: over the link the meter at address 1
 abbrev pub asker_of : Way → PlanOfClient
 asker_of (Linked plan) = record {
-  route = Hdlc (sap_of plan.client) (One 1);
+  route = Hdlc (sap_of plan.client) (One 1) None;
   secret = secret_by plan.client plan.secret;
   size = SIZE;
 }

@@ -115,7 +115,7 @@ impl Way {
     {
         match self {
             Way::Linked(plan) => dlms_client::Plan {
-                route: Route::Hdlc(plan.client.sap(), Address::One(1)),
+                route: Route::Hdlc(plan.client.sap(), Address::One(1), None),
                 secret: secret_by(plan.client, &plan.secret),
                 size: SIZE,
             },
@@ -127,15 +127,13 @@ impl Way {
         }
     }
 
-    /// Whether a connection outlasts an association over it, and an answer that did not come. Over the wrapper it does not: the
-    /// association ends with its connection (IEC 62056-47), and a late answer could be taken for that to the next request.
+    /// Whether a connection outlasts an association over it, and an answer that did not come.
     pub fn outlasts(&self) -> bool
         ensures { result ≡ outlasts (way_of self.now) }
     {
         match self {
             Way::Linked(_) => true,
-            Way::Routed(Route::Hdlc(_, _), _) => true,
-            Way::Routed(Route::Tcp(_, _), _) => false,
+            Way::Routed(route, _) => route.outlasts(),
         }
     }
 }

@@ -7,9 +7,10 @@ use Rattle.dlms_apdu.specs.Reading.{response_at}
 use Rattle.dlms_apdu.specs.Writing.{response_bytes}
 use Rattle.dlms_blocks.specs.Joining.{empty}
 use Rattle.dlms_frame.specs.declared.client.Client.{Client}
+use Rattle.dlms_carrier.specs.Carrying.{Meaning}
 use Rattle.dlms_headend.specs.Asking.{PlanValue, first_second}
 use Rattle.dlms_headend.specs.CarrierPollValue.{TermsValue, requests_of}
-use Rattle.dlms_headend.specs.CarrierRun.{InTurn as PassInTurn, Meaning, Passage, Request, Answer, answers, carried_in, passages, requests}
+use Rattle.dlms_headend.specs.CarrierRun.{InTurn as PassInTurn, Passage, Request, Answer, answers, carried_in, passages, requests}
 use Rattle.dlms_headend.specs.Due.{AsksFor, Requests, association_with}
 use Rattle.dlms_headend.specs.Due.AsksFor.{Associates, Names, Gets, GetsBlock, Checks, Releases}
 use Rattle.dlms_headend.specs.Merged.{merged}

@@ -5,9 +5,10 @@ use Rattle.std.specs.Prelude.{◌≡◌, ℕ, false, List, [], ◌∷◌, ◌++�
 use Rattle.std.specs.List.{filter_map}
 use Rattle.dlms_frame.specs.Frame.{Parts}
 use Rattle.dlms_frame.specs.declared.client.Client.{Client}
+use Rattle.dlms_carrier.specs.Carrying.{Meaning, meaning}
 use Rattle.dlms_headend.specs.Asking.{PlanValue}
 use Rattle.dlms_headend.specs.CarrierPollValue.{CarrierPollValue, TermsValue}
-use Rattle.dlms_headend.specs.CarrierRun.{Beside, Call, Meaning, Passage, answers, carried_in, meaning, passages, requests}
+use Rattle.dlms_headend.specs.CarrierRun.{Beside, Call, Passage, answers, carried_in, passages, requests}
 use Rattle.dlms_headend.specs.Due.{sent_secret}
 use Rattle.dlms_headend.specs.Merged.{merged}
 use Rattle.dlms_headend.specs.PollRun.{Call as LineCall, Calls}

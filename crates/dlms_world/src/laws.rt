@@ -19,7 +19,7 @@ ghost use Rattle.dlms_world.specs.PollTurns.{NewIsFirst, NewIsTurn, MergeIsTurn,
 ghost use Rattle.dlms_world.specs.Programs.{FilesAreCaptures};
 ghost use Rattle.dlms_world.specs.Line.{FirstAgree, AgreeingIsCaptures, RunsAgree, StopsAgree, PollsAgree};
 ghost use Rattle.dlms_world.specs.Carrier.{AgreeingHolds, CanBeCarried, FirstHolds, HeldAreCaptures, LinesHold, LivesHold, PollsHold, StopsHold};
-ghost use Rattle.dlms_headend.specs.CarrierRun.{meaning};
+ghost use Rattle.dlms_carrier.specs.Carrying.{meaning};
 ghost use Rattle.dlms_world.specs.MeterTurns.{FeedsAreTurns, EventsAreTurns, StopsAreTurns, RecoveriesAreTurns, RestsAreTurns};
 ghost use Rattle.dlms_world.specs.Agree.{PollsAreTold, ReadingsAreCaptures, ReadingsRise, LineIsSilent};
 ghost use Rattle.dlms_world.specs.Possible.{CanBegin, CanBeDone, CanBeDoneAgain, CanStop};

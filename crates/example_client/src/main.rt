@@ -114,7 +114,7 @@ fn management(server: Address, size: u16) -> Plan {
     let mut secret = ArrayVec::new();
     let _fits = secret.try_extend_from_slice(b"12345678");
     Plan {
-        route: Route::Hdlc(1, server),
+        route: Route::Hdlc(1, server, None),
         secret: Some(secret),
         size,
     }
@@ -208,9 +208,9 @@ fn client_of(alloc: Global, plan: Plan) -> Result<Client<HdlcCarrier>> {
         size,
     } = plan;
     match route {
-        Route::Hdlc(sap, server) => Ok(Client::new(
+        Route::Hdlc(sap, server, proposal) => Ok(Client::new(
             alloc,
-            HdlcCarrier::new(alloc, sap, server)?,
+            HdlcCarrier::new(alloc, sap, server, proposal)?,
             Terms { secret, size },
         )),
         Route::Tcp(_, _) => Err(anyhow!("not over HDLC")),
