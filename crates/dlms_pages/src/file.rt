@@ -64,13 +64,50 @@ impl<F: Read + Write + Seek + OpenFile + LockFile + Drop, A: Allocator> FilePage
     ) -> io::Result<FilePages<FileSlots<F>, A>>
         ensures { IfOk result (IsFresh count) }
     {
+        FilePages::make(
+            rt,
+            path,
+            count,
+            OpenOptions::new()
+                .read(true)
+                .write(true)
+                .create(true)
+                .mode(OWNER_ALONE),
+        )
+    }
+
+    /// Creates the file with `count` pages, as `create` does, if there is none. A file that is there stays as it is, and the error's
+    /// kind is `AlreadyExists`.
+    pub fn create_new<R: Files<File = F> + Alloc<A = A>>(
+        rt: &R,
+        path: &str,
+        count: u16,
+    ) -> io::Result<FilePages<FileSlots<F>, A>>
+        ensures { IfOk result (IsFresh count) }
+    {
+        FilePages::make(
+            rt,
+            path,
+            count,
+            OpenOptions::new()
+                .read(true)
+                .write(true)
+                .create_new(true)
+                .mode(OWNER_ALONE),
+        )
+    }
+
+    // The file that these options open, with `count` pages and nothing else.
+    fn make<R: Files<File = F> + Alloc<A = A>>(
+        rt: &R,
+        path: &str,
+        count: u16,
+        options: &OpenOptions,
+    ) -> io::Result<FilePages<FileSlots<F>, A>>
+        ensures { IfOk result (IsFresh count) }
+    {
         let unsynced = room(rt.alloc(), count)?;
-        let file = OpenOptions::new()
-            .read(true)
-            .write(true)
-            .create(true)
-            .mode(OWNER_ALONE)
-            .open(rt, path)?;
+        let file = options.open(rt, path)?;
         // The old content is discarded only once the lock is held.
         file.lock_alone()?;
         file.set_len(0)?;

@@ -274,6 +274,13 @@ impl Security {
         Ok(apdu)
     }
 
+    /// The own system title.
+    pub fn own(&self) -> [u8; 8]
+        ensures { result ≡ self.now.own }
+    {
+        self.own
+    }
+
     /// The last accepted counter of the peer, to be stored.
     pub fn last_accepted(&self) -> Option<u32>
         ensures { result ≡ self.now.accepted }
