@@ -1,0 +1,4 @@
+pub mod MadeLemmas
+pub mod GuardLemmas
+pub mod Sharing
+pub mod Sizes

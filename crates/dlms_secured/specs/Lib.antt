@@ -1,0 +1,9 @@
+pub mod Messages
+pub mod Response
+pub mod Made
+pub mod Guard
+pub mod GuardView
+pub mod Steps
+pub mod StepLaws
+pub mod Run
+pub mod Sizes

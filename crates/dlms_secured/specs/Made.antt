@@ -1,0 +1,199 @@
+-- What the calls of the security layer make: a result, the state after it, and the calls
+-- themselves.
+use Rattle.std.specs.Prelude.{◌≡◌, ℕ, nat_lt, if◌then◌else◌, Bool, false, List, [], ◌∷◌}
+use Rattle.std.specs.Prelude.{◌++◌, length}
+use Rattle.std.specs.Prelude.{Option, Some, None, Result, Ok, Err}
+use Rattle.std.specs.Str.{bytes_eq}
+use Rattle.dlms_security.specs.Security.{SecurityState, message_for, answer_for, after_protect}
+use Rattle.dlms_security.specs.Security.{acceptance, apdu_in, after_unprotect, after_learn}
+use Rattle.dlms_security.specs.Security.{IsAnswerOf}
+use Rattle.dlms_security.specs.Run.{Event, Protects, Unprotects, Learns, Answers}
+use Rattle.dlms_security.specs.declared.fault.ProtectFault.{ProtectFault}
+use Rattle.dlms_security.specs.declared.fault.UnprotectFault.{UnprotectFault}
+use Rattle.dlms_security.specs.declared.fault.UnprotectFault.TheVariants as unprotect
+use Rattle.dlms_security.specs.declared.form.Form.{Form}
+use Rattle.dlms_secured.specs.declared.fault.SecuredFault.{SecuredFault}
+use Rattle.dlms_secured.specs.declared.fault.SecuredFault.TheVariants as fault
+use Rattle.dlms_secured.specs.declared.stage.Granted.{Granted}
+use Rattle.dlms_secured.specs.declared.messages.TheConstants.{MOST_CARRIED, LEAST_CLEAR, MOST_FIELD}
+use Rattle.dlms_secured.specs.Messages.{reply_to_hls, clear_size, secured_aarq, secured_rlrq}
+use Rattle.dlms_secured.specs.Response.{Response, response_in, granted_in, proof_in, value_in}
+use Rattle.dlms_acse.specs.Reading.{inner_at}
+
+pub record Made (A : Type 0) : Type 0 where
+  pub security : SecurityState
+  pub calls : List Event
+  pub result : Result A SecuredFault
+
+-- a result without a call
+abbrev pub made : {A : Type 0} → SecurityState → Result A SecuredFault → Made A
+made s result = record { security = s; calls = []; result = result }
+
+-- these calls came first
+abbrev pub after_calls : {A : Type 0} → List Event → Made A → Made A
+after_calls calls m = record { security = m.security; calls = calls ++ m.calls; result = m.result }
+
+-- after a fault nothing more is called
+abbrev pub continued : {A B : Type 0} → SecurityState → List Event → Result A SecuredFault
+    → (SecurityState → A → Made B) → Made B
+continued s calls (Ok x) next = after_calls calls (next s x)
+continued s calls (Err why) next = record { security = s; calls = calls; result = Err why }
+
+abbrev pub followed : {A B : Type 0} → Made A → (SecurityState → A → Made B) → Made B
+followed m next = continued m.security m.calls m.result next
+
+-- ---- one call
+
+-- an APDU that is no protected message came in clear
+abbrev pub refusal : UnprotectFault → SecuredFault
+refusal unprotect.NotProtected = fault.InClear
+refusal unprotect.Short = fault.Message unprotect.Short
+refusal unprotect.Long = fault.Message unprotect.Long
+refusal unprotect.UnknownTitle = fault.Message unprotect.UnknownTitle
+refusal unprotect.AnotherTitle = fault.Message unprotect.AnotherTitle
+refusal unprotect.AnotherControl = fault.Message unprotect.AnotherControl
+refusal unprotect.OldCounter = fault.Message unprotect.OldCounter
+refusal unprotect.WrongTag = fault.Message unprotect.WrongTag
+refusal unprotect.AnotherService = fault.Message unprotect.AnotherService
+
+abbrev pub or_refusal : Result (List ℕ) UnprotectFault → Result (List ℕ) SecuredFault
+or_refusal (Ok apdu) = Ok apdu
+or_refusal (Err why) = Err (refusal why)
+
+-- the APDU in a message of the meter
+unfoldable pub unprotects : SecurityState → List ℕ → Made (List ℕ)
+unprotects s message = record {
+  security = after_unprotect s (acceptance s message);
+  calls = Unprotects message (apdu_in (acceptance s message)) ∷ [];
+  result = or_refusal (apdu_in (acceptance s message));
+}
+
+-- a message of at most this many octets
+abbrev pub within : ℕ → Result (List ℕ) ProtectFault → Result (List ℕ) SecuredFault
+within most (Ok message) = if nat_lt most (length message) then Err fault.Size else Ok message
+within most (Err why) = Err (fault.Protect why)
+
+-- the protected form of an APDU
+unfoldable pub protects : SecurityState → Form → ℕ → List ℕ → Made (List ℕ)
+protects s form most apdu = record {
+  security = after_protect s (message_for s form apdu);
+  calls = Protects form apdu (message_for s form apdu) ∷ [];
+  result = within most (message_for s form apdu);
+}
+
+abbrev pub or_protect_fault : Result (List ℕ) ProtectFault → Result (List ℕ) SecuredFault
+or_protect_fault (Ok answer) = Ok answer
+or_protect_fault (Err why) = Err (fault.Protect why)
+
+-- the answer to the meter's challenge
+unfoldable pub answers : SecurityState → List ℕ → Made (List ℕ)
+answers s challenge = record {
+  security = after_protect s (answer_for s challenge);
+  calls = Answers challenge (answer_for s challenge) ∷ [];
+  result = or_protect_fault (answer_for s challenge);
+}
+
+-- ---- the association
+
+-- A message that goes out, after which the meter's answer to the own challenge is awaited.
+pub record Reply : Type 0 where
+  pub message : List ℕ
+  pub granted : Granted
+
+-- the answer to the meter's challenge goes out in a protected action request
+unfoldable pub sends_answer : SecurityState → Form → Granted → List ℕ → Made Reply
+sends_answer s form granted answer =
+    followed (protects s form MOST_CARRIED (reply_to_hls answer))
+    (λ t message. made t (Ok (record { message = message; granted = granted })))
+
+unfoldable pub replies : SecurityState → Form → List ℕ → Granted → Made Reply
+replies s form challenge granted =
+    followed (answers s challenge) (λ t answer. sends_answer t form granted answer)
+
+-- the meter has to receive APDUs that are long enough
+abbrev pub grants : SecurityState → Form → List ℕ → Option Granted → Made Reply
+grants s form challenge None = made s (Err fault.Initiate)
+grants s form challenge (Some granted) =
+    if nat_lt (clear_size granted.size) LEAST_CLEAR then made s (Err fault.Size)
+    else replies s form challenge granted
+
+-- the peer has this title
+abbrev pub is_title : List ℕ → Option (List ℕ) → Bool
+is_title title None = false
+is_title title (Some peer) = bytes_eq peer title
+
+-- the initiate response is opened under the peer's title
+abbrev pub opens : SecurityState → Form → Response → Made Reply
+opens s form response =
+    if is_title response.title s.peer
+    then followed (unprotects s response.message)
+    (λ t apdu. grants t form response.challenge (granted_in apdu))
+    else made s (Err fault.Title)
+
+-- the meter's title is learned first
+abbrev pub learns : SecurityState → Form → Response → Made Reply
+learns s form response =
+    after_calls (Learns response.title ∷ [])
+    (opens (after_learn s s.peer response.title) form response)
+
+abbrev pub accepts_response : SecurityState → Form → Result Response SecuredFault → Made Reply
+accepts_response s form (Ok response) = learns s form response
+accepts_response s form (Err why) = made s (Err why)
+
+-- an association response with these fields, to a client with this challenge
+abbrev pub accepts_fields : SecurityState → Form → List ℕ → Option (List ℕ) → Made Reply
+accepts_fields s form own None = made s (Err fault.Response)
+accepts_fields s form own (Some fields) = accepts_response s form (response_in s.own own fields)
+
+unfoldable pub accepts : SecurityState → Form → List ℕ → List ℕ → Made Reply
+accepts s form own apdu = accepts_fields s form own (inner_at 0x61 apdu)
+
+-- ---- the release response
+
+abbrev pub releases_by : SecurityState → Option (List ℕ) → Made (Unit {0})
+releases_by s None = made s (Err fault.Response)
+releases_by s (Some message) = followed (unprotects s message) (λ t apdu. made t (Ok tt))
+
+-- a release response without user information is taken; a protected initiate response in it is
+-- opened
+abbrev pub releases_with : SecurityState → Option (List ℕ) → Made (Unit {0})
+releases_with s None = made s (Ok tt)
+releases_with s (Some value) = releases_by s (inner_at 0x04 value)
+
+abbrev pub releases_fields : SecurityState → Option (List ℕ) → Made (Unit {0})
+releases_fields s None = made s (Err fault.Response)
+releases_fields s (Some fields) = releases_with s (value_in 0xBE fields)
+
+unfoldable pub releases : SecurityState → List ℕ → Made (Unit {0})
+releases s apdu = releases_fields s (inner_at 0x63 apdu)
+
+-- ---- the association request and the release request
+
+-- the association request around the protected initiate request
+unfoldable pub asks : SecurityState → Form → List ℕ → List ℕ → Made (List ℕ)
+asks s form own initiate = followed (protects s form MOST_FIELD initiate)
+    (λ t message. made t (Ok (secured_aarq s.own own message)))
+
+-- the release request around the protected initiate request
+unfoldable pub leaves : SecurityState → Form → List ℕ → Made (List ℕ)
+leaves s form initiate = followed (protects s form MOST_FIELD initiate)
+    (λ t message. made t (Ok (secured_rlrq message)))
+
+-- ---- the meter's proof
+
+-- the octets are the meter's answer to the own challenge
+abbrev pub IsProof : SecurityState → List ℕ → Option (List ℕ) → Type 0
+IsProof s own None = ⊥
+IsProof s own (Some answer) = IsAnswerOf s s.peer own answer
+
+-- the answer is right, or it is not
+abbrev pub Proves : SecurityState → List ℕ → Option (List ℕ) → Result (Unit {0}) SecuredFault
+    → Type 0
+Proves s own answer (Ok done) = IsProof s own answer
+Proves s own answer (Err why) = (IsProof s own answer → ⊥) × (why ≡ fault.NotProved)
+
+-- after the protected reply is opened
+abbrev pub Confirms : SecurityState → List ℕ → Result (List ℕ) SecuredFault
+    → Result (Unit {0}) SecuredFault → Type 0
+Confirms s own (Ok reply) proved = Proves s own (proof_in reply) proved
+Confirms s own (Err why) proved = proved ≡ Err why
