@@ -6,19 +6,22 @@ use Rattle.dlms_association.specs.declared.ask_fault.AskFault.{AskFault}
 use Rattle.dlms_association.specs.declared.ask_fault.AskFault.TheVariants as ask
 use Rattle.dlms_association.specs.declared.fault.Fault.TheVariants as fault
 use Rattle.dlms_association.specs.declared.stage.Asked.{Asked}
-use Rattle.dlms_carrier.specs.Any.{AnyValue, IsFresh, Steps, is_idle, out_of}
+use Rattle.dlms_carrier.specs.Any.{AnyValue, IsFresh}
 use Rattle.dlms_client.specs.Calls.{Asks, Begins, Leaves, fresh, IsFree as IsFreeOver}
 use Rattle.dlms_client.specs.Plan.{PlanValue, terms_in}
 use Rattle.dlms_client.specs.declared.outcome.Outcome.{Outcome}
 use Rattle.dlms_client.specs.declared.outcome.Outcome.TheVariants.{Nothing, Associated, Answered, Down}
-use Rattle.dlms_ends.specs.Moments.{Moment, Adds, Breaks}
-use Rattle.dlms_call.specs.Talking.{IsOfSystem, Settles, TalkValue, went}
+use Rattle.dlms_ends.specs.Moments.{Moment, Adds}
+use Rattle.dlms_secured.specs.Guard.{GuardValue}
+use Rattle.dlms_call.specs.Carried.{Steps, is_idle}
+use Rattle.dlms_call.specs.Talking.{Settles, Stops, TalkValue, Writes}
 use Rattle.dlms_call.specs.declared.asking.TheConstants.{NO_BOUND}
 use Rattle.dlms_call.specs.declared.client_end.TheConstants.{MOST_BYTES}
 use Rattle.dlms_call.specs.declared.fault.CallFault.{CallFault}
 use Rattle.dlms_call.specs.declared.fault.CallFault.TheVariants.{Talk, TooLong, Memory}
 
--- the outcome of a requested association, of a request and of the connection's end; anything else is of another form
+-- the outcome of a requested association, of a request and of the connection's end; anything else
+-- is of another form
 abbrev pub opening_result : Result Outcome CallFault → Result (Unit {0}) CallFault
 opening_result (Ok Nothing) = Err (Talk fault.Form)
 opening_result (Ok Associated) = Ok tt
@@ -40,39 +43,42 @@ release_result (Ok (Answered answer)) = Err (Talk fault.Form)
 release_result (Ok Down) = Ok tt
 release_result (Err fault) = Err fault
 
--- The octets to write go out, and the settled outcome is returned as the caller's; or the line breaks at them.
+-- The octets to write go out, and the settled outcome is returned as the caller's; or they do not
+-- go out.
 pub data GoesOut {X : Type 0} (most : ℕ) (told_in : Result Outcome CallFault → Result X CallFault)
     (old new : Option (List Moment)) (t : TalkValue) (result : Result X CallFault) (t' : TalkValue)
     : Type 0 where
-  LineBreaks : (why : CallFault) → IsOfSystem why → result ≡ Err why → t' ≡ t
-      → Breaks old new (out_of t.client.carrier) → GoesOut most told_in old new t result t'
+  IsStopped : (why : CallFault) → Stops old new t.client why → result ≡ Err why → t' ≡ t
+      → GoesOut most told_in old new t result t'
   IsSettled : (now : Option (List Moment)) (told : Result Outcome CallFault)
-      → Adds old now (went (out_of t.client.carrier)) → Settles most now new t told t'
+      → Writes old now t.client (Ok tt) → Settles most now new t told t'
       → result ≡ told_in told → GoesOut most told_in old new t result t'
 
 -- ---- an association
 
--- a client by this plan, to which nothing has come
-pub record IsNew (plan : PlanValue) (t : TalkValue) : Type 0 where
+-- a client by this plan with this guard, or with none, to which nothing has come
+pub record IsNew (plan : PlanValue) (guard : Option GuardValue) (t : TalkValue) : Type 0 where
   pub carrier : AnyValue
   pub route : IsFresh plan.route carrier
-  pub client : t.client ≡ fresh carrier (terms_in plan)
+  pub client : t.client ≡ fresh (record { carrier = carrier; guard = guard }) (terms_in plan)
   pub left : t.left ≡ MOST_BYTES
 
 -- it requests the connection, its octets are written, and this is its outcome
-pub record Opens (old new : Option (List Moment)) (plan : PlanValue) (result : Result (Unit {0}) CallFault)
-    (t' : TalkValue) : Type 0 where
+pub record Opens (old new : Option (List Moment)) (plan : PlanValue) (guard : Option GuardValue)
+    (result : Result (Unit {0}) CallFault) (t' : TalkValue) : Type 0 where
   pub first : TalkValue
   pub mid : TalkValue
-  pub fresh : IsNew plan first
+  pub fresh : IsNew plan guard first
   pub begins : Begins Steps first.client mid.client
   pub left : mid.left ≡ first.left
   pub goes : GoesOut NO_BOUND opening_result old new mid result t'
 
 -- or nothing is sent, for want of memory
-pub data FailsToOpen (old new : Option (List Moment)) (plan : PlanValue) (why : CallFault) : Type 0 where
-  HasNoRoom : why ≡ Memory → Adds old new [] → FailsToOpen old new plan why
-  IsNotOpened : (t' : TalkValue) → Opens old new plan (Err why) t' → FailsToOpen old new plan why
+pub data FailsToOpen (old new : Option (List Moment)) (plan : PlanValue) (guard : Option GuardValue)
+    (why : CallFault) : Type 0 where
+  HasNoRoom : why ≡ Memory → Adds old new [] → FailsToOpen old new plan guard why
+  IsNotOpened : (t' : TalkValue) → Opens old new plan guard (Err why) t'
+      → FailsToOpen old new plan guard why
 
 -- ---- a request
 
@@ -85,10 +91,12 @@ abbrev pub told_of : AskFault → CallFault
 told_of ask.TooLong = TooLong
 told_of ask.Memory = Memory
 
--- If it may be requested, the client makes the request and it is sent, and the answer is returned; or the client does not make it.
+-- If it may be requested, the client makes the request and it is sent, and the answer is returned;
+-- or the client does not make it.
 -- If it may not, nothing happens.
 pub data Requests (most : ℕ) (may : Type 0) (asked : Asked) (form : RequestForm)
-    (old new : Option (List Moment)) (t : TalkValue) (result : Result Answer CallFault) (t' : TalkValue)
+    (old new : Option (List Moment)) (t : TalkValue) (result : Result Answer CallFault)
+    (t' : TalkValue)
     : Type 0 where
   NotAsked : (may → ⊥) → result ≡ Err (Talk fault.Form) → t' ≡ t → Adds old new []
       → Requests most may asked form old new t result t'
@@ -101,7 +109,8 @@ pub data Requests (most : ℕ) (may : Type 0) (asked : Asked) (form : RequestFor
 
 -- ---- the connection's end
 
--- If it may be requested, the client requests it: it comes at once, or the octets of the client are written, and the outcome is returned.
+-- If it may be requested, the client requests it: it comes at once, or the octets of the client
+-- are written, and the outcome is returned.
 pub data EndsTalk (may : Type 0) (old new : Option (List Moment)) (t : TalkValue)
     (result : Result (Unit {0}) CallFault) (t' : TalkValue) : Type 0 where
   NotEnded : (may → ⊥) → result ≡ Err (Talk fault.Form) → t' ≡ t → Adds old new []

@@ -16,6 +16,7 @@ use crate::fault::CallFault;
 use dlms_client::{Answer, Fault, Outcome, Plan};
 use dlms_data::{Data, Descriptor, Selector, fits};
 use dlms_ends::End;
+use dlms_secured::Guard;
 use std::alloc::{Allocator, Global};
 
 /// The octets of a value are not limited.
@@ -62,7 +63,8 @@ fn release_result(told: Result<Outcome, CallFault>) -> Result<(), CallFault>
 
 /// The client's request for an association is sent, and its outcome is awaited.
 fn open<S: End, A: Allocator + Copy>(line: &mut S, head: &mut ClientEnd<A>) -> Result<(), CallFault>
-    ensures { GoesOut NO_BOUND opening_result (S.past line.old) (S.past line.new) head.old result head.new }
+    ensures { GoesOut NO_BOUND opening_result (S.past line.old)
+        (S.past line.new) head.old result head.new }
 {
     match head.send(line) {
         Ok(()) => {
@@ -90,18 +92,22 @@ fn request_answer<S: End, A: Allocator + Copy>(
     }
 }
 
-/// Opens an association by this plan over a line.
+/// Opens an association by this plan over a line: one that this guard protects, or without a guard one in clear. The guard's challenge
+/// is unused, and three or more of its counters are left. If the security layer refuses a message, its cause is the fault `Insecure`.
 #[inline(never)]
 pub fn begin<S: End, A: Allocator + Copy>(
     alloc: A,
     line: &mut S,
     plan: Plan,
+    guard: Option<Box<Guard, A>>,
 ) -> Result<ClientEnd<A>, CallFault>
     requires { IsPlan (plan_of plan) }
-    ensures opens { IfOk result (Opens (S.past line.old) (S.past line.new) (plan_of plan) (Ok tt)) }
-    ensures fails { IfErr result (FailsToOpen (S.past line.old) (S.past line.new) (plan_of plan)) }
+    ensures opens { IfOk result (Opens (S.past line.old) (S.past line.new) (plan_of plan)
+        (option_map (λ kept. kept.value) guard) (Ok tt)) }
+    ensures fails { IfErr result (FailsToOpen (S.past line.old) (S.past line.new) (plan_of plan)
+        (option_map (λ kept. kept.value) guard)) }
 {
-    let mut head = match ClientEnd::new(alloc, plan) {
+    let mut head = match ClientEnd::new(alloc, plan, guard) {
         Ok(head) => head,
         Err(fault) => return Err(fault),
     };
@@ -226,7 +232,8 @@ pub fn end<S: End, A: Allocator + Copy>(
     line: &mut S,
     head: &mut ClientEnd<A>,
 ) -> Result<(), CallFault>
-    ensures { EndsTalk (IsFree head.old) (S.past line.old) (S.past line.new) head.old result head.new }
+    ensures { EndsTalk (IsFree head.old) (S.past line.old)
+        (S.past line.new) head.old result head.new }
 {
     if !head.is_free() {
         return Err(CallFault::Talk(Fault::Form));

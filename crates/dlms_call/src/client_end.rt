@@ -6,14 +6,15 @@ ghost use Rattle.dlms_apdu.specs.View.{selection_of};
 ghost use Rattle.dlms_apdu.specs.Writing.{ParameterFits};
 ghost use Rattle.dlms_association.specs.declared.requests.TheConstants.{INVOKE};
 ghost use Rattle.dlms_association.specs.declared.stage.Asked.TheVariants.{Action, Get, Set};
-ghost use Rattle.dlms_carrier.specs.Any.{AnyValue, IsFresh, Steps, is_down, out_of};
+ghost use Rattle.dlms_carrier.specs.Any.{AnyValue, IsFresh};
+ghost use Rattle.dlms_call.specs.Carried.{Steps, accepted_by, fault_of, is_down, peer_of};
 ghost use Rattle.dlms_client.specs.Calls.{Asks, Begins, CanBegin, Leaves, fresh};
 ghost use Rattle.dlms_data.specs.View.{value_of};
 ghost use Rattle.dlms_data.specs.Writing.{Fits};
 ghost use Rattle.dlms_client.specs.Plan.{IsPlan, plan_of, terms_in};
 ghost use Rattle.dlms_call.specs.Asking.{IsFree, IsNew};
 ghost use Rattle.dlms_call.specs.declared.fault.CallFault.TheVariants.{Memory};
-ghost use Rattle.dlms_call.specs.Talking.{Goes, IsOneRead, Listens, Settles, TakesPiece, TakesTimeout, TellsError, later};
+ghost use Rattle.dlms_call.specs.Talking.{Goes, IsOneRead, Listens, Settles, TakesPiece, TakesTimeout, TellsError, Writes, cause, later};
 
 use crate::fault::CallFault;
 use dlms_association::Terms;
@@ -21,6 +22,7 @@ use dlms_carrier::AnyCarrier;
 use dlms_client::{AskFault, Client, Fault, Granted, Outcome, Plan};
 use dlms_data::{Data, Descriptor, Selector};
 use dlms_ends::{End, Heard, PIECE, bytes_of};
+use dlms_secured::{Guard, Secured, SecuredFault};
 use std::alloc::{AllocError, Allocator, Global};
 use std::io;
 use std::io::ErrorKind;
@@ -35,7 +37,7 @@ const READS: u32 = 16_777_216;
 /// A client at its end of a line, on the heap, and how many bytes may still come.
 #[derive(Drop)]
 pub struct ClientEnd<A: Allocator = Global> {
-    client: Box<Client<AnyCarrier<A>, A>, A>,
+    client: Box<Client<Secured<AnyCarrier<A>>, A>, A>,
     left: usize,
 }
 
@@ -81,17 +83,31 @@ fn later(first: Outcome, second: Outcome) -> Outcome
     }
 }
 
-/// A client by this plan. It is made in a function of its own, so that no other call has it on the stack.
+/// The guard that is in this box.
+fn taken_out<A: Allocator>(guard: Option<Box<Guard, A>>) -> Option<Guard>
+    ensures { result ≡ option_map (λ kept. kept.value) guard }
+{
+    match guard {
+        Some(kept) => Some(Box::into_inner(kept)),
+        None => None,
+    }
+}
+
+/// A client by this plan. It is made in a function of its own, so that no other call has it or its guard on the stack.
 #[inline(never)]
 fn new_client<A: Allocator + Copy>(
     alloc: A,
     plan: Plan,
-) -> Result<Box<Client<AnyCarrier<A>, A>, A>, AllocError>
+    guard: Option<Box<Guard, A>>,
+) -> Result<Box<Client<Secured<AnyCarrier<A>>, A>, A>, AllocError>
     requires { IsPlan (plan_of plan) }
-    ensures { IfOk result (λ kept. (carrier : AnyValue) × IsFresh (plan_of plan).route carrier
-        × (kept.value ≡ fresh carrier (terms_in (plan_of plan)))) }
+    ensures { IfOk result (λ made. (carrier : AnyValue) × IsFresh (plan_of plan).route carrier
+        × (made.value ≡ fresh
+        (record { carrier = carrier; guard = option_map (λ kept. kept.value) guard })
+        (terms_in (plan_of plan)))) }
 {
     let carrier = AnyCarrier::new(alloc, plan.route)?;
+    let carrier = Secured::new(carrier, taken_out(guard));
     let terms = Terms {
         secret: plan.secret,
         size: plan.size,
@@ -101,13 +117,14 @@ fn new_client<A: Allocator + Copy>(
 }
 
 impl<A: Allocator + Copy> ClientEnd<A> {
-    /// A client by this plan, to which nothing has come.
-    pub(crate) fn new(alloc: A, plan: Plan) -> Result<Self, CallFault>
+    /// A client by this plan with this guard, or with none, to which nothing has come.
+    pub(crate) fn new(alloc: A, plan: Plan, guard: Option<Box<Guard, A>>) -> Result<Self, CallFault>
         requires { IsPlan (plan_of plan) }
-        ensures is_new { IfOk result (IsNew (plan_of plan)) }
+        ensures is_new { IfOk result
+            (IsNew (plan_of plan) (option_map (λ kept. kept.value) guard)) }
         ensures fails { IfErr result (λ fault. fault ≡ Memory) }
     {
-        match new_client(alloc, plan) {
+        match new_client(alloc, plan, guard) {
             Ok(client) => Ok(ClientEnd {
                 client,
                 left: MOST_BYTES,
@@ -116,12 +133,25 @@ impl<A: Allocator + Copy> ClientEnd<A> {
         }
     }
 
-    /// The client's octets are written.
+    /// The client's octets are written. If the security layer ended the association there are none, and its cause is returned.
     pub(crate) fn send<W: End>(&mut self, end: &mut W) -> Result<(), CallFault>
-        ensures goes { Goes (W.past end.old) (W.past end.new) (out_of self.old.client.carrier) result }
+        ensures goes { Writes (W.past end.old) (W.past end.new) self.old.client result }
         ensures same { self.new ≡ self.old }
     {
-        send(end, self.client.out())
+        match self.secured_fault() {
+            Some(fault) => Err(CallFault::Insecure(fault)),
+            None => send(end, self.client.out()),
+        }
+    }
+
+    /// The report of the client's fault.
+    fn cause(&self, fault: Fault) -> CallFault
+        ensures { result ≡ cause (fault_of self.now.client.carrier) fault }
+    {
+        match self.secured_fault() {
+            Some(why) => CallFault::Insecure(why),
+            None => CallFault::Talk(fault),
+        }
     }
 
     /// One call of the client with octets that arrived: how many it read, and its outcome. More octets of a value than `most` are
@@ -129,12 +159,13 @@ impl<A: Allocator + Copy> ClientEnd<A> {
     fn read(&mut self, octets: &[u8], most: usize) -> (usize, Result<Outcome, CallFault>)
         ensures len { result.0 ≤ length octets.now }
         ensures some { 0 < length octets.now → 0 < result.0 }
-        ensures reads { IsOneRead most self.old.client octets.now result.0 result.1 self.new.client }
+        ensures reads { IsOneRead most self.old.client octets.now result.0 result.1
+            self.new.client }
         ensures left { self.new.left ≡ self.old.left }
     {
         let heard = self.client.feed(octets);
         match heard.result {
-            Err(fault) => (heard.count, Err(CallFault::Talk(fault))),
+            Err(fault) => (heard.count, Err(self.cause(fault))),
             Ok(_) if self.client.value().len() > most => (heard.count, Err(CallFault::TooLarge)),
             Ok(outcome) => (heard.count, Ok(outcome)),
         }
@@ -142,7 +173,8 @@ impl<A: Allocator + Copy> ClientEnd<A> {
 
     /// The client reads a piece, and its octets are written after each call. The outcome is the last one of these calls.
     fn take<W: End>(&mut self, end: &mut W, bytes: &[u8], most: usize) -> Result<Outcome, CallFault>
-        ensures piece { TakesPiece most (W.past end.old) (W.past end.new) self.old.client bytes.now result self.new.client }
+        ensures piece { TakesPiece most (W.past end.old)
+            (W.past end.new) self.old.client bytes.now result self.new.client }
         ensures left { self.new.left ≡ self.old.left }
     {
         let mut rest = bytes;
@@ -180,11 +212,12 @@ impl<A: Allocator + Copy> ClientEnd<A> {
 
     /// Nothing came in time: the client handles the timeout, and its octets are written.
     fn repeat<W: End>(&mut self, end: &mut W) -> Result<Outcome, CallFault>
-        ensures told { TakesTimeout (W.past end.old) (W.past end.new) self.old.client result self.new.client }
+        ensures told { TakesTimeout (W.past end.old)
+            (W.past end.new) self.old.client result self.new.client }
         ensures left { self.new.left ≡ self.old.left }
     {
         match self.client.wait() {
-            Err(fault) => Err(CallFault::Talk(fault)),
+            Err(fault) => Err(self.cause(fault)),
             Ok(outcome) => match self.send(end) {
                 Ok(()) => Ok(outcome),
                 Err(fault) => Err(fault),
@@ -250,7 +283,8 @@ impl<A: Allocator + Copy> ClientEnd<A> {
     /// The client requests an attribute.
     pub(crate) fn get(&mut self, attribute: Descriptor) -> Result<(), AskFault>
         requires { IsFree self.old }
-        ensures asks { Asks Steps Get (get_normal INVOKE attribute None) self.old.client result self.new.client }
+        ensures asks { Asks Steps Get (get_normal INVOKE attribute None) self.old.client result
+            self.new.client }
         ensures left { self.new.left ≡ self.old.left }
     {
         self.client.get::<A>(attribute, None)
@@ -264,7 +298,8 @@ impl<A: Allocator + Copy> ClientEnd<A> {
     ) -> Result<(), AskFault>
         requires free { IsFree self.old }
         requires fits { Fits (value_of selector.value) }
-        ensures asks { Asks Steps Get (get_normal INVOKE attribute (Some (selection_of selector))) self.old.client result self.new.client }
+        ensures asks { Asks Steps Get (get_normal INVOKE attribute (Some (selection_of selector)))
+            self.old.client result self.new.client }
         ensures left { self.new.left ≡ self.old.left }
     {
         self.client.get::<A>(attribute, Some(selector))
@@ -274,7 +309,8 @@ impl<A: Allocator + Copy> ClientEnd<A> {
     pub(crate) fn set(&mut self, attribute: Descriptor, value: Data<A>) -> Result<(), AskFault>
         requires free { IsFree self.old }
         requires fits { Fits (value_of value) }
-        ensures asks { Asks Steps Set (set_normal INVOKE attribute None (value_of value)) self.old.client result self.new.client }
+        ensures asks { Asks Steps Set (set_normal INVOKE attribute None (value_of value))
+            self.old.client result self.new.client }
         ensures left { self.new.left ≡ self.old.left }
     {
         self.client.set::<A>(attribute, None, value)
@@ -288,7 +324,9 @@ impl<A: Allocator + Copy> ClientEnd<A> {
     ) -> Result<(), AskFault>
         requires free { IsFree self.old }
         requires fits { ParameterFits (option_map value_of parameter) }
-        ensures asks { Asks Steps Action (action_normal INVOKE method (option_map value_of parameter)) self.old.client result self.new.client }
+        ensures asks { Asks Steps Action
+            (action_normal INVOKE method (option_map value_of parameter)) self.old.client result
+            self.new.client }
         ensures left { self.new.left ≡ self.old.left }
     {
         self.client.act(method, parameter)
@@ -308,6 +346,33 @@ impl<A: Allocator + Copy> ClientEnd<A> {
         ensures { result.now ≡ self.now.client.association.blocks.joined }
     {
         self.client.value()
+    }
+
+    /// Why the security layer ended the association; none if it did not, or if there is no guard.
+    pub fn secured_fault(&self) -> Option<SecuredFault>
+        ensures { result ≡ fault_of self.now.client.carrier }
+    {
+        self.client.carrier().fault()
+    }
+
+    /// The counter of the meter that the guard accepted last, to be stored; none without a guard.
+    pub fn last_accepted(&self) -> Option<u32>
+        ensures { result ≡ accepted_by self.now.client.carrier.guard }
+    {
+        match self.client.carrier().guard() {
+            Some(guard) => guard.last_accepted(),
+            None => None,
+        }
+    }
+
+    /// The meter's system title, to be stored; none before the meter sent it, or without a guard.
+    pub fn peer(&self) -> Option<[u8; 8]>
+        ensures { result ≡ peer_of self.now.client.carrier.guard }
+    {
+        match self.client.carrier().guard() {
+            Some(guard) => guard.peer(),
+            None => None,
+        }
     }
 
     /// The services and size that the meter granted.

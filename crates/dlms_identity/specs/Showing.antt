@@ -45,7 +45,7 @@ pub record Talks (old new : Option (List Moment)) (plan : PlanValue) (name : Lis
   pub mid : TalkValue
   pub last : TalkValue
   pub ended : Result (Unit {0}) CallFault
-  pub opens : Opens old opened plan (Ok tt) first
+  pub opens : Opens old opened plan None (Ok tt) first
   pub reads : IsRead opened told name first result mid
   pub ends : EndsTalk (IsFree mid) told new mid ended last
 
@@ -54,7 +54,7 @@ abbrev pub Tells : Option (List Moment) → Option (List Moment) → PlanValue �
     → Result (Option (List ℕ)) CallFault → Type 0
 Tells old new plan name (Ok text) = Talks old new plan name (Ok text)
 Tells old new plan name (Err why) = Talks old new plan name (Err why)
-    ⊎ FailsToOpen old new plan why
+    ⊎ FailsToOpen old new plan None why
 
 -- The object shows its text; or it shows another text or none; or it could not be asked.
 abbrev pub Shows : Option (List Moment) → Option (List Moment) → PlanValue → Expected

@@ -72,7 +72,7 @@ pub fn shown_text<S: End>(
     requires { IsPlan (plan_of plan) }
     ensures { Tells (S.past line.old) (S.past line.new) (plan_of plan) name result }
 {
-    let mut head = match begin(alloc, line, plan) {
+    let mut head = match begin(alloc, line, plan, None) {
         Ok(head) => head,
         Err(fault) => return Err(fault),
     };

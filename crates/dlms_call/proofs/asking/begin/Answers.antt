@@ -1,4 +1,3 @@
-use Rattle.std.proofs.Common.{refl}
 use Rattle.dlms_ends.proofs.MomentLemmas.{adds_none}
 use Rattle.dlms_call.specs.Asking.FailsToOpen.{HasNoRoom, IsNotOpened}
 use Rattle.dlms_call.proofs.asking.begin.Goals as goal

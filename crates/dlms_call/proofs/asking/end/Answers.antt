@@ -1,6 +1,6 @@
 use Rattle.std.proofs.Common.{refl}
 use Rattle.dlms_call.specs.Asking.EndsTalk.{IsEnded}
-use Rattle.dlms_call.specs.Asking.GoesOut.{IsSettled, LineBreaks}
+use Rattle.dlms_call.specs.Asking.GoesOut.{IsSettled, IsStopped}
 use Rattle.dlms_call.proofs.TalkingLemmas.{settles_from}
 use Rattle.dlms_call.proofs.asking.end.Goals as goal
 
@@ -12,4 +12,4 @@ returns-in-Ok g c =
 pub returns-in-Err : goal.returns-in-Err
 returns-in-Err g c =
     IsEnded (c.is_free.ensures.0 c.if-not-is_free.false) c.disconnect.result c.disconnect.new.self c.in_default.not-Down c.disconnect.ensures.leaves c.disconnect.ensures.left
-    (LineBreaks c.in-Err.fault c.in-Err.ensures.goes.0 refl c.in-Err.ensures.same c.in-Err.ensures.goes.1)
+    (IsStopped c.in-Err.fault c.in-Err.ensures.goes refl c.in-Err.ensures.same)

@@ -5,7 +5,7 @@ use Rattle.dlms_call.proofs.client_end.ClientEnd.repeat.Goals as goal
 
 pub returns-in-Err-clause-told : goal.returns-in-Err-clause-told
 returns-in-Err-clause-told g c =
-    timeout_fault _ _ _ _ c.in-Err.fault (c.deref_mut.ensures.value ∙ ap (λ (t : TalkValue). t.client) c.self.view_is) c.in-Err.ensures
+    timeout_fault _ _ _ _ c.in-Err.fault c.cause.result (c.deref_mut.ensures.value ∙ ap (λ (t : TalkValue). t.client) c.self.view_is) c.cause.ensures c.in-Err.ensures
 
 pub returns-in-Ok-send-clause-told : goal.returns-in-Ok-send-clause-told
 returns-in-Ok-send-clause-told g c =
