@@ -8,6 +8,7 @@ use crate::given::value_given;
 use crate::profile::{ProfileRequest, request_of};
 use crate::requests::{MeterSession, read_name};
 use crate::route::route_of;
+use crate::security::{Counters, Protection, protection_of};
 use arrayvec::ArrayVec;
 use dlms_call::{CallFault, ClientEnd, begin};
 use dlms_client::{Plan, Route};
@@ -16,6 +17,8 @@ use dlms_ends::End;
 use dlms_frame::Client;
 use dlms_lines::{Dialling, FieldFault, MeterLine};
 use dlms_polling::{HostPollInputs, secret_of};
+use dlms_secured::{Guard, SecuredFault};
+use dlms_security::UnprotectFault;
 use dlms_words::{
     ActOptions, Asking, GetOptions, ListOptions, OutputFormat, ProfileOptions, SetOptions,
     ValueFormat,
@@ -25,11 +28,21 @@ use std::fs::File;
 use std::io;
 use std::io::Write;
 use std::net::Net;
+use std::random::RandomSource;
 use std::rt::Files;
 use std::time::Clock;
 
 /// The most bytes of an APDU.
 const SIZE: u16 = 1_024;
+
+/// The frame counters that are reserved for an association.
+const FEW_COUNTERS: u32 = 1_000;
+
+/// The octets of a value in a block, for which further counters are reserved.
+const LEAST_BLOCK: u32 = 512;
+
+/// A message that is not newer than those of earlier associations.
+const STALE: SecuredFault = SecuredFault::Message(UnprotectFault::OldCounter);
 
 /// For how many seconds the addresses of a place are tried.
 const CONNECT_SECONDS: u32 = 60;
@@ -58,11 +71,13 @@ pub enum Request<'a> {
     Profile(ProfileRequest<'a>),
 }
 
-/// A call of a meter: the address or the device of the line to it, and the association on that line.
+/// A call of a meter: the address or the device of the line to it, and the association on that line, with its protection if it has
+/// one.
 #[derive(Drop)]
 struct Call<'a> {
     line: &'a str,
     plan: Plan,
+    protection: Option<Protection<'a>>,
 }
 
 /// The secret in the file, if a file is given.
@@ -108,11 +123,12 @@ fn run_request<'a, S: End, W: Write>(
 fn associate<S: End>(
     alloc: Global,
     plan: Plan,
+    guard: Option<Box<Guard>>,
     line: &mut S,
 ) -> Result<Box<ClientEnd<Global>>, CallFault>
     requires { IsPlan (plan_of plan) }
 {
-    match begin(alloc, line, plan) {
+    match begin(alloc, line, plan, guard) {
         Ok(head) => match Box::new(alloc, head) {
             Ok(head) => Ok(head),
             Err(_) => Err(CallFault::Memory),
@@ -127,14 +143,47 @@ fn open_association<'a, S: End>(
     alloc: Global,
     place: &'a str,
     plan: Plan,
+    guard: Option<Box<Guard>>,
     line: &mut S,
 ) -> Result<Box<ClientEnd<Global>>, Fault<'a>> {
     if !plan.is_lawful() {
+        drop(guard);
         return Err(Fault::Server(place));
     }
-    match associate(alloc, plan, line) {
+    match associate(alloc, plan, guard, line) {
         Ok(head) => Ok(head),
         Err(fault) => Err(Fault::of_call(place, fault)),
+    }
+}
+
+/// The guard and the counters of a protection.
+fn parted(protection: Option<Protection<'_>>) -> (Option<Box<Guard>>, Option<Box<Counters<'_>>>) {
+    match protection {
+        Some(Protection { guard, counters }) => (Some(guard), Some(counters)),
+        None => (None, None),
+    }
+}
+
+/// Keeps the meter's last counter, if the association is protected.
+fn keep<'a>(
+    counters: &mut Option<Box<Counters<'a>>>,
+    head: &ClientEnd<Global>,
+) -> Result<(), Fault<'a>> {
+    match counters {
+        Some(counters) => counters.keep(head),
+        None => Ok(()),
+    }
+}
+
+/// Refuses an association whose first message is not newer than all of earlier ones, and keeps its counter.
+fn heed<'a>(
+    place: &'a str,
+    counters: &mut Option<Box<Counters<'a>>>,
+    head: &ClientEnd<Global>,
+) -> Result<(), Fault<'a>> {
+    match counters {
+        Some(counters) if !counters.is_fresh(head) => Err(Fault::Security(place, STALE)),
+        counters => keep(counters, head),
     }
 }
 
@@ -144,19 +193,25 @@ fn exchange<'a, S: End, W: Write>(
     alloc: Global,
     asking: &Asking<'a>,
     plan: Plan,
+    protection: Option<Protection<'a>>,
     line: &mut S,
     request: Request<'a>,
     output: &mut W,
     refused: &mut Vec<Fault<'a>>,
 ) -> Result<(), Fault<'a>> {
     let place = asking.meter.place;
-    let head = match open_association(alloc, place, plan, line) {
+    let (guard, mut counters) = parted(protection);
+    let head = match open_association(alloc, place, plan, guard, line) {
         Ok(head) => head,
         Err(fault) => {
             drop(request);
             return Err(fault);
         }
     };
+    if let Err(fault) = heed(place, &mut counters, &head) {
+        drop(request);
+        return Err(fault);
+    }
     let mut talk = MeterSession {
         alloc,
         place,
@@ -167,7 +222,9 @@ fn exchange<'a, S: End, W: Write>(
     };
     let outcome = run_request(&mut talk, request, output);
     talk.end();
-    outcome
+    let kept = keep(&mut counters, &talk.head);
+    outcome?;
+    kept
 }
 
 /// Looks at the names of a request.
@@ -260,8 +317,29 @@ fn explained_line_to<'a, 'r, 'e, H: Net + Files<File = File> + Clock + AllocGlob
     }
 }
 
+/// How many frame counters are reserved for an association with this request: as many as messages may be needed for the longest value.
+fn counters_for(asking: &Asking<'_>, request: &Request<'_>) -> u32 {
+    match request {
+        Request::Set { .. } | Request::Act { .. } => FEW_COUNTERS,
+        _ => FEW_COUNTERS.saturating_add(asking.most / LEAST_BLOCK),
+    }
+}
+
+/// What protects the association, if it is to be protected.
+fn protection<'a, H: Files<File = File> + AllocGlobal + RandomSource>(
+    host: &H,
+    asking: &Asking<'a>,
+    request: &Request<'a>,
+) -> Result<Option<Protection<'a>>, Fault<'a>> {
+    let Some(file) = asking.security else {
+        return Ok(None);
+    };
+    let protection = protection_of(host, file, counters_for(asking, request))?;
+    Ok(Some(protection))
+}
+
 /// The call that is asked for, if the request's names are valid.
-fn call_of<'a, H: Files + Clock + AllocGlobal>(
+fn call_of<'a, H: Files<File = File> + Clock + AllocGlobal + RandomSource>(
     host: &H,
     asking: &Asking<'a>,
     request: &Request<'a>,
@@ -269,6 +347,7 @@ fn call_of<'a, H: Files + Clock + AllocGlobal>(
     look(request)?;
     let (route, line) = route_of(&asking.meter, asking.client)?;
     let secret = secret(host, host.alloc(), asking)?;
+    let protection = protection(host, asking, request)?;
     Ok(Call {
         line,
         plan: Plan {
@@ -276,6 +355,7 @@ fn call_of<'a, H: Files + Clock + AllocGlobal>(
             secret,
             size: SIZE,
         },
+        protection,
     })
 }
 
@@ -311,6 +391,7 @@ fn ask_over<'a, 'r, 'e, H: Net + Files<File = File> + Clock + AllocGlobal, W: Wr
     host: &'r H,
     asking: &Asking<'a>,
     plan: Plan,
+    protection: Option<Protection<'a>>,
     line: ExplainedStream<'e, MeterLine<'r, H>, E>,
     request: Request<'a>,
     output: &mut W,
@@ -321,6 +402,7 @@ fn ask_over<'a, 'r, 'e, H: Net + Files<File = File> + Clock + AllocGlobal, W: Wr
         host.alloc(),
         asking,
         plan,
+        protection,
         &mut line,
         request,
         output,
@@ -366,7 +448,11 @@ fn ask_by<'a, H: Net + Files<File = File> + Clock + AllocGlobal, W: Write, E: Wr
     output: &mut W,
     errors: &mut E,
 ) -> Result<(), Fault<'a>> {
-    let Call { line, plan } = call;
+    let Call {
+        line,
+        plan,
+        protection,
+    } = call;
     let explanation = explanation(asking.verbose, plan.route);
     let line = match explained_line_to(host, asking, line, explanation, errors) {
         Ok(line) => line,
@@ -376,13 +462,22 @@ fn ask_by<'a, H: Net + Files<File = File> + Clock + AllocGlobal, W: Write, E: Wr
         }
     };
     let mut refused = Vec::new(host.alloc());
-    let talked = ask_over(host, asking, plan, line, request, output, &mut refused);
+    let talked = ask_over(
+        host,
+        asking,
+        plan,
+        protection,
+        line,
+        request,
+        output,
+        &mut refused,
+    );
     with_refused(refused, talked, errors)
 }
 
 /// Asks a meter.
 #[inline(never)]
-fn ask<'a, H: Net + Files<File = File> + Clock + AllocGlobal, W: Write, E: Write>(
+fn ask<'a, H: Net + Files<File = File> + Clock + AllocGlobal + RandomSource, W: Write, E: Write>(
     host: &H,
     asking: &Asking<'a>,
     request: Request<'a>,
@@ -405,12 +500,12 @@ fn class_number(class: u32) -> u16 {
 
 /// Asks a meter for attributes, and prints their values.
 #[inline(never)]
-pub fn ask_to_get<'a, H: Net + Files<File = File> + Clock + AllocGlobal, W: Write, E: Write>(
-    host: &H,
-    options: &GetOptions<'a>,
-    output: &mut W,
-    errors: &mut E,
-) -> Result<(), Fault<'a>> {
+pub fn ask_to_get<
+    'a,
+    H: Net + Files<File = File> + Clock + AllocGlobal + RandomSource,
+    W: Write,
+    E: Write,
+>(host: &H, options: &GetOptions<'a>, output: &mut W, errors: &mut E) -> Result<(), Fault<'a>> {
     let request = Request::Get {
         names: options.names,
         class: class_number(options.class),
@@ -421,12 +516,12 @@ pub fn ask_to_get<'a, H: Net + Files<File = File> + Clock + AllocGlobal, W: Writ
 
 /// Asks a meter for its object list, and prints it.
 #[inline(never)]
-pub fn ask_to_list<'a, H: Net + Files<File = File> + Clock + AllocGlobal, W: Write, E: Write>(
-    host: &H,
-    options: &ListOptions<'a>,
-    output: &mut W,
-    errors: &mut E,
-) -> Result<(), Fault<'a>> {
+pub fn ask_to_list<
+    'a,
+    H: Net + Files<File = File> + Clock + AllocGlobal + RandomSource,
+    W: Write,
+    E: Write,
+>(host: &H, options: &ListOptions<'a>, output: &mut W, errors: &mut E) -> Result<(), Fault<'a>> {
     let request = Request::List {
         format: options.format,
     };
@@ -435,24 +530,24 @@ pub fn ask_to_list<'a, H: Net + Files<File = File> + Clock + AllocGlobal, W: Wri
 
 /// Asks a meter for rows of a profile, and prints them.
 #[inline(never)]
-pub fn ask_for_profile<'a, H: Net + Files<File = File> + Clock + AllocGlobal, W: Write, E: Write>(
-    host: &H,
-    options: &ProfileOptions<'a>,
-    output: &mut W,
-    errors: &mut E,
-) -> Result<(), Fault<'a>> {
+pub fn ask_for_profile<
+    'a,
+    H: Net + Files<File = File> + Clock + AllocGlobal + RandomSource,
+    W: Write,
+    E: Write,
+>(host: &H, options: &ProfileOptions<'a>, output: &mut W, errors: &mut E) -> Result<(), Fault<'a>> {
     let request = Request::Profile(request_of(options)?);
     ask(host, &options.asking, request, output, errors)
 }
 
 /// Asks a meter to set an attribute to the value that a text writes.
 #[inline(never)]
-pub fn ask_to_set<'a, H: Net + Files<File = File> + Clock + AllocGlobal, W: Write, E: Write>(
-    host: &H,
-    options: &SetOptions<'a>,
-    output: &mut W,
-    errors: &mut E,
-) -> Result<(), Fault<'a>> {
+pub fn ask_to_set<
+    'a,
+    H: Net + Files<File = File> + Clock + AllocGlobal + RandomSource,
+    W: Write,
+    E: Write,
+>(host: &H, options: &SetOptions<'a>, output: &mut W, errors: &mut E) -> Result<(), Fault<'a>> {
     let request = Request::Set {
         name: options.name,
         value: value_given(host, options.value)?,
@@ -463,12 +558,12 @@ pub fn ask_to_set<'a, H: Net + Files<File = File> + Clock + AllocGlobal, W: Writ
 
 /// Asks a meter to carry out a method, with the value that a text writes, if there is one.
 #[inline(never)]
-pub fn ask_to_act<'a, H: Net + Files<File = File> + Clock + AllocGlobal, W: Write, E: Write>(
-    host: &H,
-    options: &ActOptions<'a>,
-    output: &mut W,
-    errors: &mut E,
-) -> Result<(), Fault<'a>> {
+pub fn ask_to_act<
+    'a,
+    H: Net + Files<File = File> + Clock + AllocGlobal + RandomSource,
+    W: Write,
+    E: Write,
+>(host: &H, options: &ActOptions<'a>, output: &mut W, errors: &mut E) -> Result<(), Fault<'a>> {
     let value = match options.value {
         Some(value) => Some(value_given(host, value)?),
         None => None,

@@ -4,15 +4,19 @@ use crate::columns::Columns;
 use dlms_buffer::BufferFault;
 use dlms_call::CallFault;
 use dlms_client::{Denial, Fault as Talked};
+use dlms_counters::{CounterFault, OpenFault as NotOpened};
 use dlms_ends::RunFault;
 use dlms_headend::{ColumnList, PollFault, ReadingsFault};
 use dlms_identity::Expected;
+use dlms_keys::{CountersFault, FileFault, Setting, SettingsFault};
 use dlms_lines::{ClockFault, FieldFault};
 use dlms_names::{
     access_result, action_result, diagnostic, initiate_error, service_error, state_error,
 };
 use dlms_plot::PlotFault;
 use dlms_program::ReplayFault;
+use dlms_secured::SecuredFault;
+use dlms_security::{ProtectFault, UnprotectFault};
 use dlms_store::{AddFault, OpenFault};
 use std::alloc::{AllocError, AllocFailed, Global};
 use std::io::ErrorKind;
@@ -74,6 +78,20 @@ pub enum Fault<'a> {
     Large(&'a str, u32),
     /// The value in this file has too many bytes.
     File(&'a str),
+    /// This is nothing that `keys` does.
+    Action(&'a str),
+    /// The settings in this file are refused.
+    Keys(&'a str, FileFault),
+    /// The file of frame counters that this file of settings names was not made or opened.
+    Counters(&'a str, CountersFault),
+    /// A call of the system failed for that file, in these words.
+    CountersSystem(&'a str, String),
+    /// This setting of this file asks for what no association can have yet.
+    Unsupported(&'a str, Setting),
+    /// The file of frame counters that this file of settings names could not be kept.
+    Stored(&'a str, CounterFault),
+    /// The security layer ended the association with the meter at this place.
+    Security(&'a str, SecuredFault),
     /// The system's clock shows what no meter's clock can.
     Now,
     /// This is no time.
@@ -96,6 +114,14 @@ impl<'a> Fault<'a> {
         match format!(in alloc; "{error}") {
             Ok(words) => Fault::System(place, words),
             Err(_) => Fault::MEMORY,
+        }
+    }
+
+    /// The fault of a file of frame counters, named by this file of settings, for which a call of the system failed.
+    pub fn of_counters(alloc: Global, file: &'a str, error: &io::Error) -> Fault<'a> {
+        match Fault::of_system(alloc, file, error) {
+            Fault::System(file, words) => Fault::CountersSystem(file, words),
+            fault => fault,
         }
     }
 
@@ -172,6 +198,7 @@ impl<'a> Fault<'a> {
             CallFault::Talk(Talked::Line) => Fault::Poll(place, PollFault::Line),
             CallFault::Talk(Talked::Denied(denial)) => Fault::Denied(place, denial),
             CallFault::Talk(Talked::Memory) | CallFault::Memory => Fault::MEMORY,
+            CallFault::Insecure(fault) => Fault::Security(place, fault),
             fault => Fault::Call(place, fault),
         }
     }
@@ -348,6 +375,7 @@ fn write_call<W: fmt::Write>(
             "large\n  {place}: the value is longer than --most allows"
         ),
         CallFault::Io => write!(f, "io\n  {place}: the line failed"),
+        CallFault::Insecure(fault) => write_security(f, place, fault),
         CallFault::Memory => f.write_str("memory"),
     }
 }
@@ -364,6 +392,93 @@ fn write_stranger<W: fmt::Write>(
         f,
         "expect\n  {place}: {a}.{b}.{c}.{d}.{e}.{last} does not show {text}: nothing is filed\n  dlms get prints what it shows"
     )
+}
+
+/// Why settings are refused: the setting, and what is expected of it. No value is written, since it could be a key.
+fn write_keys<W: fmt::Write>(
+    f: &mut fmt::Formatter<W>,
+    file: &str,
+    fault: &FileFault,
+) -> fmt::Result {
+    write!(f, "keys\n  {file}: ")?;
+    match fault {
+        FileFault::Settings(SettingsFault::Missing(setting)) => {
+            let name = setting.name();
+            write!(f, "{name} is missing")
+        }
+        FileFault::Settings(SettingsFault::Invalid(setting)) => {
+            let name = setting.name();
+            let meaning = setting.meaning();
+            write!(f, "{name} is invalid: {meaning} is expected")
+        }
+        fault => write!(f, "{fault}"),
+    }
+}
+
+/// Why counters could not be kept.
+fn write_stored<W: fmt::Write>(
+    f: &mut fmt::Formatter<W>,
+    file: &str,
+    fault: &CounterFault,
+) -> fmt::Result {
+    let why = match fault {
+        CounterFault::Full => "it has no room for another meter",
+        CounterFault::Exhausted => "all counters are reserved: replace the key",
+        _ => "its device failed",
+    };
+    write!(f, "counters\n  {file}: its file of counters: {why}")
+}
+
+/// Why a protected message is refused.
+fn refusal_of(fault: UnprotectFault) -> &'static str {
+    match fault {
+        UnprotectFault::NotProtected => "an answer came without protection",
+        UnprotectFault::Short => "a protected answer is cut off",
+        UnprotectFault::Long => "a protected answer is too long",
+        UnprotectFault::UnknownTitle => "the meter's system title is not known",
+        UnprotectFault::AnotherTitle => "an answer has another system title",
+        UnprotectFault::AnotherControl => "an answer has another protection",
+        UnprotectFault::OldCounter => "an answer has an old counter: it came before, or late",
+        UnprotectFault::WrongTag => "an answer has a wrong tag: it was changed, or the keys differ",
+        UnprotectFault::AnotherService => "an answer is of another service than its tag says",
+    }
+}
+
+/// Why the security layer ended an association.
+fn write_security<W: fmt::Write>(
+    f: &mut fmt::Formatter<W>,
+    place: &str,
+    fault: &SecuredFault,
+) -> fmt::Result {
+    write!(f, "security\n  {place}: ")?;
+    match fault {
+        SecuredFault::Message(fault) => f.write_str(refusal_of(*fault)),
+        SecuredFault::Protect(ProtectFault::Reserve) => {
+            f.write_str("all counters that were reserved for this association are used")
+        }
+        SecuredFault::Protect(ProtectFault::Exhausted) => {
+            f.write_str("all counters of the key are used: replace the key")
+        }
+        fault => write!(f, "{fault}"),
+    }
+}
+
+/// Why there are no counters.
+fn write_counters<W: fmt::Write>(
+    f: &mut fmt::Formatter<W>,
+    file: &str,
+    fault: &CountersFault,
+) -> fmt::Result {
+    let why = match fault {
+        CountersFault::Open(NotOpened::Size) => "it has not the size of one",
+        CountersFault::Open(NotOpened::Damaged) => {
+            "it is damaged\n  restore it, or make a new one with --first above every counter that was used"
+        }
+        CountersFault::Open(NotOpened::AnotherTitle) => "it is of another system title",
+        CountersFault::Open(NotOpened::AnotherKey) => "it is of another key",
+        _ => "its device failed",
+    };
+    write!(f, "counters\n  {file}: its file of counters: {why}")
 }
 
 impl fmt::Display for Fault<'_> {
@@ -468,6 +583,24 @@ impl fmt::Display for Fault<'_> {
                 "protocol\n  {name}: the profile has no clock among its columns, so it cannot be asked for by time"
             ),
             Fault::Buffer(name, fault) => write!(f, "protocol\n  {name}: {fault}"),
+            Fault::Action(text) => write!(f, "keys\n  {text}: new or check is expected"),
+            Fault::Keys(file, fault) => write_keys(f, file, fault),
+            Fault::Counters(file, fault) => write_counters(f, file, fault),
+            Fault::CountersSystem(file, words) => {
+                let words = without_number(words.as_str());
+                write!(f, "io\n  {file}: its file of counters: {words}")
+            }
+            Fault::Unsupported(file, setting) => {
+                let name = setting.name();
+                let only = if *setting == Setting::Policy {
+                    "\"authenticated-encrypted\""
+                } else {
+                    "false"
+                };
+                write!(f, "keys\n  {file}: only {name} = {only} is supported")
+            }
+            Fault::Stored(file, fault) => write_stored(f, file, fault),
+            Fault::Security(place, fault) => write_security(f, place, fault),
             Fault::Now => f.write_str(
                 "now\n  the system's clock is before 2000-01-01 or after 2099-12-31, which no meter's clock shows",
             ),

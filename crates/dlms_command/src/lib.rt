@@ -29,6 +29,7 @@ use std::fs::File;
 use std::io::{BufReader, BufWriter, Read, Write};
 use std::net::Net;
 use std::os::fd::RawFd;
+use std::random::RandomSource;
 use std::rt::Files;
 use std::time::Clock;
 use std::{fs, io};
@@ -43,12 +44,14 @@ mod explained_stream;
 mod fault;
 mod given;
 mod introduced;
+mod keys;
 mod objects;
 mod occupant;
 mod other_values;
 mod profile;
 mod requests;
 mod route;
+mod security;
 mod streams;
 mod table;
 mod telling;
@@ -58,6 +61,7 @@ use asking::{ask_for_profile, ask_to_act, ask_to_get, ask_to_list, ask_to_set};
 use expected::expected_of;
 pub use fault::Fault;
 use introduced::{introduce, is_new};
+use keys::run_keys;
 use occupant::refuse_occupied;
 use route::{PollLine, poll_line, poll_secret, public_route};
 use streams::{Input, Output, flush};
@@ -624,7 +628,7 @@ fn unread<'a, R: Drop>(ended: Result<(), Fault<'a>>, input: R) -> Result<(), Fau
 #[inline(never)]
 fn run_job<
     'a,
-    H: Net + Files<File = File> + Clock + AllocGlobal,
+    H: Net + Files<File = File> + Clock + AllocGlobal + RandomSource,
     R: Read + Drop,
     W: Write,
     E: Write,
@@ -644,6 +648,7 @@ fn run_job<
         Job::Act(options) => unread(ask_to_act(host, &options, output, errors), input),
         Job::Show(options) => unread(run_show(host, &options, output), input),
         Job::Plot(options) => run_plot(host, &options, input, output),
+        Job::Keys(options) => unread(run_keys(host, &options, output), input),
     }
 }
 
@@ -686,13 +691,12 @@ fn outcome<'a>(
 
 /// Does the job that the arguments name (the first is the program's own name), and returns its status. A replay reads the input,
 /// output is printed on the output, and a fault's name and the help go to the errors. An Err comes if the errors can't be written.
-pub fn run<H: Net + Files<File = File> + Clock + AllocGlobal, R: Read + Drop, W: Write, E: Write>(
-    host: &H,
-    words: &[&str],
-    input: R,
-    output: &mut W,
-    errors: &mut E,
-) -> io::Result<u8>
+pub fn run<
+    H: Net + Files<File = File> + Clock + AllocGlobal + RandomSource,
+    R: Read + Drop,
+    W: Write,
+    E: Write,
+>(host: &H, words: &[&str], input: R, output: &mut W, errors: &mut E) -> io::Result<u8>
     // Arguments that ask for nothing give the status 2 (or 1 if memory runs out), and no others give 2: those that clap refuses, those with
     // two options that exclude each other, and those without a valid address.
     ensures done { IfOk result (λ status. status ≡ DONE

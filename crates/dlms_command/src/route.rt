@@ -30,7 +30,8 @@ fn line_of<'a>(meter: &MeterOptions<'a>) -> Result<(Carrier, &'a str), Fault<'a>
         None => "hdlc",
     };
     let is_device = line.starts_with('/');
-    if carrier == "wrapper" && !is_device && !meter.wide {
+    let needs_frames = meter.wide || meter.information.is_some();
+    if carrier == "wrapper" && !is_device && !needs_frames {
         Ok((Carrier::Wrapper, line))
     } else if (carrier == "hdlc" || carrier == "serial" && is_device) && !meter.wrapper {
         Ok((Carrier::Hdlc, line))
@@ -61,6 +62,14 @@ fn server<'a>(meter: &MeterOptions<'a>) -> Result<Address, Fault<'a>> {
     }
 }
 
+/// The size of the meter's frames that is proposed, if one is.
+fn proposal(meter: &MeterOptions<'_>) -> Option<u16> {
+    match meter.information {
+        Some(size) => Some(u16::try_from(size).unwrap_or(0)),
+        None => None,
+    }
+}
+
 /// The route from the client with this address to the meter, by this carrier.
 fn route_by<'a>(
     meter: &MeterOptions<'a>,
@@ -69,7 +78,7 @@ fn route_by<'a>(
 ) -> Result<Route, Fault<'a>> {
     let client = u8::try_from(client).unwrap_or(0);
     match carrier {
-        Carrier::Hdlc => Ok(Route::Hdlc(client, server(meter)?)),
+        Carrier::Hdlc => Ok(Route::Hdlc(client, server(meter)?, proposal(meter))),
         Carrier::Wrapper => Ok(Route::Tcp(u16::from(client), port(meter)?)),
     }
 }
@@ -106,7 +115,7 @@ pub fn poll_line<'a>(options: &PollOptions<'a>) -> Result<PollLine<'a>, Fault<'a
     let meter = &options.meter;
     let (carrier, address) = line_of(meter)?;
     let is_addressed = options.sap.is_some() || meter.server.is_some() || meter.wide;
-    if carrier == Carrier::Hdlc && !is_addressed {
+    if carrier == Carrier::Hdlc && !is_addressed && meter.information.is_none() {
         return Ok(PollLine {
             address,
             route: None,
@@ -132,8 +141,8 @@ pub fn poll_secret<'a>(options: &PollOptions<'a>, route: Option<Route>) -> Optio
 pub fn public_route(route: Option<Route>) -> Route {
     let client = Client::Public.sap();
     match route {
-        None => Route::Hdlc(client, Address::One(SERVER)),
-        Some(Route::Hdlc(_, server)) => Route::Hdlc(client, server),
+        None => Route::Hdlc(client, Address::One(SERVER), None),
+        Some(Route::Hdlc(_, server, proposal)) => Route::Hdlc(client, server, proposal),
         Some(Route::Tcp(_, port)) => Route::Tcp(u16::from(client), port),
     }
 }

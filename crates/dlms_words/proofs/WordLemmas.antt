@@ -89,9 +89,9 @@ other_name name met found is not_it has = not_it (ap (option_map (λ p. p.0)) (i
 pub polls_else : (words : List Text) (met : Option (Text × List Row)) → fault_of dlms words ≡ [] → met ≡ subcommand_of dlms words
     → IsNot (codes "format") met → IsNot (codes "replay") met → IsNot (codes "loopback") met → IsNot (codes "serve") met
     → IsNot (codes "get") met → IsNot (codes "list") met → IsNot (codes "profile") met → IsNot (codes "set") met → IsNot (codes "act") met
-    → IsNot (codes "explain") met → IsNot (codes "show") met → IsNot (codes "plot") met
+    → IsNot (codes "explain") met → IsNot (codes "show") met → IsNot (codes "plot") met → IsNot (codes "keys") met
     → (rows : List Row) × (subcommand_of dlms words ≡ Some (codes "poll", rows))
-polls_else words met none is formats replays loops serves gets lists profiles sets acts explains shows plots =
+polls_else words met none is formats replays loops serves gets lists profiles sets acts explains shows plots keys =
     let found = subcommand_of dlms words in
     elim (command_met words none) [
       | inl has ↦ absurd (other_name _ met found is formats has)
@@ -119,7 +119,10 @@ polls_else words met none is formats replays loops serves gets lists profiles se
                             | inl has ↦ absurd (other_name _ met found is shows has)
                             | inr rest ↦ elim rest [
                               | inl has ↦ absurd (other_name _ met found is plots has)
-                              | inr no_more ↦ absurd no_more
+                              | inr rest ↦ elim rest [
+                                | inl has ↦ absurd (other_name _ met found is keys has)
+                                | inr no_more ↦ absurd no_more
+                              ]
                             ]
                           ]
                         ]

@@ -108,14 +108,17 @@ poll_command = with_rules (new_app (codes "poll"))
     ∷ number_rule (codes "ahead") 0 31536000 ∷ flag_rule (codes "strict")
     ∷ options_rule (codes "expect") ∷ number_rule (codes "timeout") 1 3600
     ∷ flag_rule (codes "wrapper") ∷ number_rule (codes "client") 1 127
-    ∷ option_rule (codes "server") ∷ flag_rule (codes "wide") ∷ [])
+    ∷ option_rule (codes "server") ∷ flag_rule (codes "wide")
+    ∷ number_rule (codes "information") 128 2030 ∷ [])
 
 -- the meter to ask, the client that asks, whether the frames are explained, and the longest value
 abbrev pub asking_rules : List Rule
 asking_rules =
-    option_rule (codes "server") ∷ flag_rule (codes "wide") ∷ flag_rule (codes "wrapper")
+    option_rule (codes "server") ∷ flag_rule (codes "wide")
+    ∷ number_rule (codes "information") 128 2030 ∷ flag_rule (codes "wrapper")
     ∷ number_rule (codes "timeout") 1 3600
     ∷ number_rule (codes "client") 1 127 ∷ option_rule (codes "secret-file")
+    ∷ option_rule (codes "security")
     ∷ short_flag_rule (codes "verbose") 118 ∷ number_rule (codes "most") 1 16777216 ∷ []
 
 abbrev pub get_command : App
@@ -164,6 +167,12 @@ abbrev pub plot_command : App
 plot_command = with_rules (new_app (codes "plot"))
     (wanted_rule (codes "READINGS") ∷ flag_rule (codes "svg") ∷ [])
 
+-- what is to be done, and the file of settings
+abbrev pub keys_command : App
+keys_command = with_rules (new_app (codes "keys"))
+    (wanted_rule (codes "ACTION") ∷ wanted_rule (codes "FILE")
+    ∷ number_rule (codes "first") 0 4294967294 ∷ [])
+
 -- the program has a version, and wants one of its commands
 abbrev pub top : App
 top = record (new_app (codes "dlms")) {
@@ -178,7 +187,7 @@ top = record (new_app (codes "dlms")) {
 abbrev pub commands : List App
 commands = format_command ∷ replay_command ∷ loopback_command ∷ serve_command ∷ poll_command
     ∷ get_command ∷ list_command ∷ profile_command ∷ set_command ∷ act_command ∷ explain_command
-    ∷ show_command ∷ plot_command ∷ []
+    ∷ show_command ∷ plot_command ∷ keys_command ∷ []
 
 abbrev pub dlms : App
 dlms = with_commands top commands

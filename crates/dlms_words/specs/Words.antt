@@ -7,7 +7,7 @@ use Rattle.clap.specs.Words.{Row, Text, all_of, first_of}
 use Rattle.clap.specs.declared.error.Error.{Error}
 use Rattle.clap.specs.declared.error.kind.ErrorKind.TheVariants.{ArgumentConflict, InvalidValue}
 use Rattle.dlms_words.specs.declared.commands.Job.{Job}
-use Rattle.dlms_words.specs.declared.commands.Job.TheVariants.{Format, Replay, Loopback, Serve, Poll, Get, List as ListOf, Profile, Set, Act, Explain, Show, Plot}
+use Rattle.dlms_words.specs.declared.commands.Job.TheVariants.{Format, Replay, Loopback, Serve, Poll, Get, List as ListOf, Profile, Set, Act, Explain, Show, Plot, Keys}
 use Rattle.dlms_words.specs.declared.commands.Asking.{Asking}
 use Rattle.dlms_words.specs.declared.commands.Expecting.{Expecting}
 use Rattle.dlms_words.specs.declared.commands.MeterOptions.{MeterOptions}
@@ -116,20 +116,23 @@ abbrev pub ChoosesFormat : List Row → OutputFormat → Type 0
 ChoosesFormat rows format = (json : Bool) × IsSaid (first_of (codes "json") rows) json
     × (format ≡ output_format json)
 
--- the meter and the way to it: its place and address, the carrier, the secret, and how long an
--- answer is waited for
+-- the meter and the way to it: its place and address, the size of its frames, the carrier, the
+-- secret, and how long an answer is waited for
 pub record IsMeter (rows : List Row) (meter : MeterOptions) : Type 0 where
   pub place : meter.place.now ≡ unwrap_or (first_of (codes "PLACE") rows) []
   pub server : option_map (λ s. s.now) meter.server ≡ first_of (codes "server") rows
   pub wide : IsSaid (first_of (codes "wide") rows) meter.wide
+  pub information : MaySayFor (codes "information") rows meter.information
   pub wrapper : IsSaid (first_of (codes "wrapper") rows) meter.wrapper
   pub secret : option_map (λ f. f.now) meter.secret_file ≡ first_of (codes "secret-file") rows
   pub timeout : IsSaidFor (codes "timeout") rows TIMEOUT meter.timeout
 
--- the meter to ask, the client that asks, whether the frames are explained, and the longest value
+-- the meter to ask, the client that asks and its keys, whether the frames are explained, and the
+-- longest value
 pub record IsAsking (rows : List Row) (asking : Asking) : Type 0 where
   pub meter : IsMeter rows asking.meter
   pub client : IsSaidFor (codes "client") rows CLIENT asking.client
+  pub security : option_map (λ f. f.now) asking.security ≡ first_of (codes "security") rows
   pub verbose : IsSaid (first_of (codes "verbose") rows) asking.verbose
   pub most : IsSaidFor (codes "most") rows MOST asking.most
 
@@ -213,6 +216,10 @@ Asks met (Show options) = (rows : List Row) × (met ≡ Some (codes "show", rows
 Asks met (Plot options) = (rows : List Row) × (met ≡ Some (codes "plot", rows))
     × (options.readings.now ≡ unwrap_or (first_of (codes "READINGS") rows) [])
     × IsSaid (first_of (codes "svg") rows) options.svg
+Asks met (Keys options) = (rows : List Row) × (met ≡ Some (codes "keys", rows))
+    × (options.action.now ≡ unwrap_or (first_of (codes "ACTION") rows) [])
+    × (options.file.now ≡ unwrap_or (file_in rows) [])
+    × IsSaidFor (codes "first") rows 0 options.first
 
 -- the commands that make a request of any meter
 abbrev pub requests : List Text
@@ -260,10 +267,22 @@ WidensPort met = (command : Text) × (rows : List Row) × (met ≡ Some (command
     × (first_of (codes "wide") rows ≡ Some (codes "true"))
     × (first_of (codes "wrapper") rows ≡ Some (codes "true"))
 
+-- a size of frames is proposed, and the line carries the wrapper, which has none
+abbrev pub SizesMessages : Met → Type 0
+SizesMessages met = (command : Text) × (rows : List Row) × (met ≡ Some (command, rows))
+    × IsTrue (is_some (first_of (codes "information") rows))
+    × (first_of (codes "wrapper") rows ≡ Some (codes "true"))
+
+-- the association is to be protected, and a secret is to be sent in clear
+abbrev pub ShowsSecret : Met → Type 0
+ShowsSecret met = (command : Text) × (rows : List Row) × (met ≡ Some (command, rows))
+    × IsTrue (is_some (first_of (codes "security") rows))
+    × IsTrue (is_some (first_of (codes "secret-file") rows))
+
 -- two are given and one is wanted
 abbrev pub AsksBoth : Met → Type 0
 AsksBoth met = AsksTwoClients met ⊎ GivesClientTwice met ⊎ NamesTwoPlaces met ⊎ WrapsLine met
-    ⊎ WidensPort met
+    ⊎ WidensPort met ⊎ SizesMessages met ⊎ ShowsSecret met
 
 -- the line of a place, unless it is the device of a serial line
 abbrev pub line_address : Option Text → Option Text

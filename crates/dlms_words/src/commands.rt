@@ -11,6 +11,8 @@ pub struct MeterOptions<'a> {
     pub server: Option<&'a str>,
     /// Whether its address has four octets in any case.
     pub wide: bool,
+    /// How many octets of information the meter may send in a frame, 128 to 2,030, if that is proposed.
+    pub information: Option<u32>,
     /// Whether the line carries the TCP wrapper in place of HDLC.
     pub wrapper: bool,
     /// The file of the client's secret, if one is given.
@@ -25,6 +27,8 @@ pub struct Asking<'a> {
     pub meter: MeterOptions<'a>,
     /// The client's address, 1 to 127.
     pub client: u32,
+    /// The file of the client's keys, if the association is to be protected.
+    pub security: Option<&'a str>,
     /// Whether the frames are explained.
     pub verbose: bool,
     /// How many octets the encoding of a value from the meter has at most.
@@ -211,6 +215,17 @@ pub struct ShowOptions<'a> {
     pub plot: bool,
 }
 
+/// The options of `keys`.
+#[derive(Clone, Copy)]
+pub struct KeysOptions<'a> {
+    /// What is to be done: `new` or `check`.
+    pub action: &'a str,
+    /// The file of settings.
+    pub file: &'a str,
+    /// The first frame counter that may be used.
+    pub first: u32,
+}
+
 /// The options of `plot`.
 #[derive(Clone, Copy)]
 pub struct PlotOptions<'a> {
@@ -249,4 +264,6 @@ pub enum Job<'a> {
     Show(ShowOptions<'a>),
     /// Plots the load profile of a readings file.
     Plot(PlotOptions<'a>),
+    /// Makes or shows the file of frame counters that a file of settings names.
+    Keys(KeysOptions<'a>),
 }

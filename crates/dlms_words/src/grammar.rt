@@ -7,8 +7,9 @@ ghost use Rattle.dlms_words.specs.Grammar.{AreAllLocal, app_for, dlms, top};
 
 use crate::arguments::{Argument, Kind, with_arguments, with_commands};
 use crate::help::{
-    ABOUT, ACT_ABOUT, EXPLAIN_ABOUT, FORMAT_ABOUT, GET_ABOUT, LIST_ABOUT, LOOPBACK_ABOUT,
-    PLOT_ABOUT, POLL_ABOUT, PROFILE_ABOUT, REPLAY_ABOUT, SERVE_ABOUT, SET_ABOUT, SHOW_ABOUT,
+    ABOUT, ACT_ABOUT, EXPLAIN_ABOUT, FORMAT_ABOUT, GET_ABOUT, KEYS_ABOUT, LIST_ABOUT,
+    LOOPBACK_ABOUT, PLOT_ABOUT, POLL_ABOUT, PROFILE_ABOUT, REPLAY_ABOUT, SERVE_ABOUT, SET_ABOUT,
+    SHOW_ABOUT,
 };
 use clap::Command;
 use std::alloc::{AllocError, Global};
@@ -52,6 +53,12 @@ const WIDE: Argument = Argument {
     help: "Sends the meter's address in four octets",
 };
 
+const INFORMATION: Argument = Argument {
+    name: "information",
+    kind: Kind::Number("OCTETS", 128, 2_030),
+    help: "Proposes frames with up to this much information from the meter, 128 to 2030",
+};
+
 const SECRET_FILE: Argument = Argument {
     name: "secret-file",
     kind: Kind::Option("FILE"),
@@ -62,6 +69,7 @@ const SECRET_FILE: Argument = Argument {
 const ASKING: &[Argument] = &[
     SERVER,
     WIDE,
+    INFORMATION,
     WRAPPER,
     TIMEOUT,
     Argument {
@@ -70,6 +78,11 @@ const ASKING: &[Argument] = &[
         help: "The client's address, 1 to 127 [default: 16, the public client]",
     },
     SECRET_FILE,
+    Argument {
+        name: "security",
+        kind: Kind::Option("FILE"),
+        help: "Protects the association with the keys in FILE (security suite 0)",
+    },
     Argument {
         name: "verbose",
         kind: Kind::ShortFlag('v'),
@@ -83,7 +96,7 @@ const ASKING: &[Argument] = &[
 ];
 
 /// The program's commands.
-const COMMANDS: [CommandWords; 13] = [
+const COMMANDS: [CommandWords; 14] = [
     CommandWords {
         name: "format",
         about: "Makes a new meter in FILE",
@@ -255,6 +268,7 @@ const COMMANDS: [CommandWords; 13] = [
             },
             SERVER,
             WIDE,
+            INFORMATION,
         ],
         more: &[],
     },
@@ -486,6 +500,30 @@ const COMMANDS: [CommandWords; 13] = [
                 name: "svg",
                 kind: Kind::Flag,
                 help: "Prints an SVG instead of plain text",
+            },
+        ],
+        more: &[],
+    },
+    CommandWords {
+        name: "keys",
+        about: "Makes or checks the file of frame counters of a client",
+        long_about: KEYS_ABOUT,
+        example: "Example:\n  dlms keys new client.toml",
+        arguments: &[
+            Argument {
+                name: "ACTION",
+                kind: Kind::Wanted,
+                help: "new or check",
+            },
+            Argument {
+                name: "FILE",
+                kind: Kind::Wanted,
+                help: "The file of the client's settings",
+            },
+            Argument {
+                name: "first",
+                kind: Kind::Number("N", 0, 4_294_967_294),
+                help: "The first counter that new allows, 0 to 4294967294 [default: 0]",
             },
         ],
         more: &[],

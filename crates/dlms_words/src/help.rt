@@ -81,8 +81,8 @@ serial line up first, as with \"stty -F /dev/ttyUSB0 9600 raw -echo\"; no other 
 Asks as the management client, with the secret in the file of --secret-file (at most 16 bytes, not counting one line feed at its \
 end), or with 12345678 without that option; with --reader as the reader, with that secret or with 23456789; with --public as the \
 public client, which has no secret, whatever else is given; with --client as the client with that address. --server and --wide give \
-the meter's address [default: 1], as in get. Over the wrapper, and with --client, --server or --wide, no secret is sent without \
---secret-file. With --readings it asks for the rows from the second of FILE's last row \
+the meter's address [default: 1], and --information proposes the size of its frames, as in get. Over the wrapper, and with --client, \
+--server, --wide or --information, no secret is sent without --secret-file. With --readings it asks for the rows from the second of FILE's last row \
 on (a FILE that does not exist has no rows), and FILE gets the new text: a power failure at any moment leaves either the old text \
 or the new one. Prints a line \"clock,r0,r1,r2\" for each new row, before it is filed: a row that was printed and not filed comes \
 again with the next poll. A row is filed if it is later than FILE's last row and than every row before it in the answer; a line on \
@@ -107,7 +107,7 @@ pub const GET_ABOUT: &str = "Asks the meter at PLACE for attributes, and prints 
 
 PLACE is HOST:PORT for TCP, or a path that begins with / for a serial line. The meter is asked over HDLC, or with --wrapper over the TCP wrapper (IEC 62056-47). PLACE may also say which, as hdlc://HOST:PORT, wrapper://HOST:PORT or serial:///dev/ttyUSB0. Set a serial line up first, as with \"stty -F /dev/ttyUSB0 9600 raw -echo\"; no other program may be using it.
 
-NAMES is a logical name with the number of an attribute after a slash, 2 without one: 1.0.1.8.0.255, 1.0.99.1.0.255/3; or several of them with commas between them. The class of an object is the one that --class gives. Without it, 0.0.1.0.0.255 is the clock, 0.0.40.0.0.255, 0.0.41.0.0.255 and 0.0.42.0.0.255 have the classes 15, 17 and 1, and any other is looked up in the meter's object list. Prints one line for each value, as explain prints them, and the elements of an array or a structure below it; for a register its number with its scaler and unit, as 0.042 kWh, with energies in thousands of their unit. If there are several names, each value comes after its name, and a name that the meter refuses or does not have does not stop the others. With --raw it prints the value's encoding in pairs of hexadecimal digits, whatever else is given; with --json an object of JSON with name, attribute, class and value, and for a register scaler and unit if it has them. Asks as the public client, 16, or as the client of --client, with the secret in the file of --secret-file, or without one. --server gives the meter's address [default: 1]: UPPER, in one octet, or UPPER/LOWER, in two octets if both are below 128 and in four otherwise; with --wide it always has four. Over the wrapper --server is the meter's wrapper port, 0 to 65535, and --client the client's. With -v each frame, or each message of the wrapper, is explained on standard error. A value whose encoding has more than 4194304 octets, or more than --most, is not printed: its next block is not asked for. A frame without an answer within two seconds, or --timeout, is sent again, at most three times; over the wrapper nothing is sent again, and such a silence is dlms: line.
+NAMES is a logical name with the number of an attribute after a slash, 2 without one: 1.0.1.8.0.255, 1.0.99.1.0.255/3; or several of them with commas between them. The class of an object is the one that --class gives. Without it, 0.0.1.0.0.255 is the clock, 0.0.40.0.0.255, 0.0.41.0.0.255 and 0.0.42.0.0.255 have the classes 15, 17 and 1, and any other is looked up in the meter's object list. Prints one line for each value, as explain prints them, and the elements of an array or a structure below it; for a register its number with its scaler and unit, as 0.042 kWh, with energies in thousands of their unit. If there are several names, each value comes after its name, and a name that the meter refuses or does not have does not stop the others. With --raw it prints the value's encoding in pairs of hexadecimal digits, whatever else is given; with --json an object of JSON with name, attribute, class and value, and for a register scaler and unit if it has them. Asks as the public client, 16, or as the client of --client, with the secret in the file of --secret-file, or without one. With --security every message is protected with the keys in FILE (security suite 0), as dlms keys --help describes it. --server gives the meter's address [default: 1]: UPPER, in one octet, or UPPER/LOWER, in two octets if both are below 128 and in four otherwise; with --wide it always has four. With --information the link proposes that the meter sends up to so many octets of information in a frame, 128 to 2030, and the program sends fewer than 128 if the meter's answer asks for that; otherwise nothing is proposed, and a frame has at most 128. Over the wrapper --server is the meter's wrapper port, 0 to 65535, and --client the client's. With -v each frame, or each message of the wrapper, is explained on standard error. A value whose encoding has more than 4194304 octets, or more than --most, is not printed: its next block is not asked for. A frame without an answer within two seconds, or --timeout, is sent again, at most three times; over the wrapper nothing is sent again, and such a silence is dlms: line.
 
 Exit status: 0; 1 after a fault (dlms: io, with PLACE or the file and the system's message on a second line; dlms: name or dlms: server for an invalid name or address; dlms: place if PLACE does not fit the options; dlms: class for an object that is not in the list; dlms: secret for a secret of more than 16 bytes; dlms: large for a value of more octets than allowed; dlms: line, dlms: protocol, dlms: refused N, dlms: denied N or dlms: result N for the exchange; dlms: memory); 2 for invalid arguments, and for this help.";
 
@@ -175,6 +175,26 @@ too, as text of at most 100 columns. No byte of a secret is printed.
 
 Exit status: 0, for a damaged FILE too; 1 after a fault (dlms: io, with FILE and the system's message on a second line, also if \
 another program uses FILE; dlms: memory); 2 for invalid arguments, and for this help.";
+
+/// What `keys` does, for its help.
+pub const KEYS_ABOUT: &str =
+    "Makes or checks the file of frame counters of a client that protects its messages (security suite 0)
+
+FILE is the client's file of settings in TOML, which only its owner may read or write:
+
+  title = \"4D4D4D0000BC614E\"
+  encryption-key = \"000102030405060708090A0B0C0D0E0F\"
+  authentication-key = \"D0D1D2D3D4D5D6D7D8D9DADBDCDDDEDF\"
+  policy = \"authenticated-encrypted\"
+  messages = \"service\"
+  dedicated = false
+  counters = \"client.counters\"
+
+title is the client's system title, and the keys are those that the client and its meters share. policy is authenticated, encrypted or authenticated-encrypted; messages is service (as glo-get-request) or general (general-glo-ciphering); dedicated says whether each association has a key of its own; counters names the file of frame counters, from the folder of FILE.
+
+new makes the file of counters, where no file is. With a new key no counter is used yet; for a key that the client used before, --first gives a number above every counter that it used with this title and key: a counter that is used twice gives both messages away. check prints what FILE and its counters say, without the keys. The counters are reserved ahead, and never go down; a damaged or missing file is refused, and never taken for a new one.
+
+Exit status: 0; 1 after a fault (dlms: io with the file and the system's message on a second line; dlms: keys with FILE and the setting that is missing or invalid; dlms: counters with their file, if it is damaged, or belongs to another title or key; dlms: memory); 2 for invalid arguments, and for this help.";
 
 /// What `plot` does, for its help.
 pub const PLOT_ABOUT: &str =

@@ -3,13 +3,13 @@ ghost use Rattle.std.specs.Prelude.{◌≡◌, ◌⊎◌, ◌↔◌, [], List, N
 ghost use Rattle.clap.specs.Values.{kind_of};
 ghost use Rattle.clap.specs.Words.{all_of, fault_of, first_of, Row, FailsBy, HasKind, subcommand_rows_of, subcommand_of};
 ghost use Rattle.dlms_words.specs.Grammar.{dlms};
-ghost use Rattle.dlms_words.specs.Words.{asker as client_by, address_in, line_address, GivesClientTwice, IsMeter, NamesClientAnd, Asks, AsksBoth, AsksTwoClients, WrapsLine, MaySay, MaySayFor, table_format, IsAsking, IsClear, IsExpecting, IsNoneOf, IsUnclear, NamesNoAddress, NamesTwoPlaces, nth_of, output_format, requests, IsSaid, IsSaidFor, Says, SaysAhead, SaysStops, WidensPort, value_format};
+ghost use Rattle.dlms_words.specs.Words.{asker as client_by, address_in, line_address, GivesClientTwice, IsMeter, NamesClientAnd, Asks, AsksBoth, AsksTwoClients, WrapsLine, MaySay, MaySayFor, table_format, IsAsking, IsClear, IsExpecting, IsNoneOf, IsUnclear, NamesNoAddress, NamesTwoPlaces, nth_of, output_format, requests, IsSaid, IsSaidFor, Says, SaysAhead, SaysStops, ShowsSecret, SizesMessages, WidensPort, value_format};
 
 use crate::addresses::{is_address, is_device, split_place};
 use crate::commands::{
-    ActOptions, Asking, Expecting, ExplainOptions, FormatOptions, GetOptions, Job, ListOptions,
-    LoopbackOptions, MeterOptions, OutputFormat, PlotOptions, PollOptions, ProfileOptions,
-    ServeOptions, SetOptions, ShowOptions, TableFormat, ValueFormat,
+    ActOptions, Asking, Expecting, ExplainOptions, FormatOptions, GetOptions, Job, KeysOptions,
+    ListOptions, LoopbackOptions, MeterOptions, OutputFormat, PlotOptions, PollOptions,
+    ProfileOptions, ServeOptions, SetOptions, ShowOptions, TableFormat, ValueFormat,
 };
 use crate::grammar::program;
 use clap::error::ErrorKind;
@@ -61,6 +61,12 @@ const TWO_PLACES: &str = "the argument '--listen' cannot be used with '--line'";
 
 /// The message if a wrapper port is to be sent in four octets.
 const WIDE_PORT: &str = "the argument '--wide' cannot be used with '--wrapper'";
+
+/// The message if a size of frames is proposed, and the wrapper has none.
+const NO_FRAMES: &str = "the argument '--information' cannot be used with '--wrapper'";
+
+/// The message if an association is to be protected, and a secret is given.
+const NO_SECRET: &str = "the argument '--security' cannot be used with '--secret-file'";
 
 /// The message if an address is invalid.
 const NO_ADDRESS: &str = "an address is expected as HOST:PORT, with a port of 0 to 65535";
@@ -279,6 +285,7 @@ fn meter<'a>(matches: &ArgMatches<'a>, command: &str) -> MeterOptions<'a>
         place: value_for(matches, command, "PLACE").unwrap_or(""),
         server: value_for(matches, command, "server"),
         wide,
+        information: given_number_for(matches, command, "information"),
         wrapper,
         secret_file: value_for(matches, command, "secret-file"),
         timeout: number_for(matches, command, "timeout", TIMEOUT),
@@ -348,6 +355,18 @@ fn plot_job<'a>(matches: &ArgMatches<'a>) -> Job<'a>
     })
 }
 
+/// The values of `keys`.
+fn keys_job<'a>(matches: &ArgMatches<'a>) -> Job<'a>
+    ensures { (rows : List Row) → subcommand_rows_of matches.now ≡ Some (codes "keys", rows)
+        → Asks (Some (codes "keys", rows)) result }
+{
+    Job::Keys(KeysOptions {
+        action: value_for(matches, "keys", "ACTION").unwrap_or(""),
+        file: value_for(matches, "keys", "FILE").unwrap_or(""),
+        first: number_for(matches, "keys", "first", 0),
+    })
+}
+
 /// The meter that a command asks, and the client that asks.
 fn asking<'a>(matches: &ArgMatches<'a>, command: &str) -> Asking<'a>
     ensures { (rows : List Row) → subcommand_rows_of matches.now ≡ Some (command.now, rows)
@@ -357,6 +376,7 @@ fn asking<'a>(matches: &ArgMatches<'a>, command: &str) -> Asking<'a>
     Asking {
         meter: meter(matches, command),
         client: number_for(matches, command, "client", CLIENT),
+        security: value_for(matches, command, "security"),
         verbose,
         most: number_for(matches, command, "most", MOST),
     }
@@ -532,6 +552,30 @@ fn widens_port(matches: &ArgMatches<'_>) -> bool
     is_wide && is_wrapped
 }
 
+/// Whether a size of frames is proposed, and the line carries the wrapper, which has none.
+fn sizes_messages(matches: &ArgMatches<'_>) -> bool
+    ensures { IsTrue result ↔ SizesMessages (subcommand_rows_of matches.now) }
+{
+    let Some(command) = matches.subcommand_name() else {
+        return false;
+    };
+    let is_sized = is_named(matches, command, "information");
+    let is_wrapped = is_given(value_for(matches, command, "wrapper"));
+    is_sized && is_wrapped
+}
+
+/// Whether the association is to be protected, and a secret is to be sent in clear.
+fn shows_secret(matches: &ArgMatches<'_>) -> bool
+    ensures { IsTrue result ↔ ShowsSecret (subcommand_rows_of matches.now) }
+{
+    let Some(command) = matches.subcommand_name() else {
+        return false;
+    };
+    let is_protected = is_named(matches, command, "security");
+    let has_secret = is_named(matches, command, "secret-file");
+    is_protected && has_secret
+}
+
 /// The message if two are given and one is wanted.
 fn conflict(matches: &ArgMatches<'_>) -> Option<&'static str>
     ensures some { OnSome result (AsksBoth (subcommand_rows_of matches.now)) }
@@ -551,6 +595,12 @@ fn conflict(matches: &ArgMatches<'_>) -> Option<&'static str>
     }
     if widens_port(matches) {
         return Some(WIDE_PORT);
+    }
+    if sizes_messages(matches) {
+        return Some(NO_FRAMES);
+    }
+    if shows_secret(matches) {
+        return Some(NO_SECRET);
     }
     None
 }
@@ -664,6 +714,9 @@ pub fn job<'a>(alloc: Global, words: &'a [&'a str]) -> Result<Job<'a>, Error>
     }
     if matches.subcommand_name() == Some("plot") {
         return Ok(plot_job(&matches));
+    }
+    if matches.subcommand_name() == Some("keys") {
+        return Ok(keys_job(&matches));
     }
     Ok(poll_job(&matches))
 }

@@ -10,6 +10,7 @@ use dlms_headend::{PollFault, list_columns};
 use dlms_identity::Expected;
 use dlms_lines::ClockFault;
 use dlms_program::ReplayFault;
+use dlms_secured::SecuredFault;
 use dlms_store::OpenFault;
 use std::alloc::Global;
 
@@ -118,6 +119,7 @@ fn say_of_talks(told: &mut Vec<u8>) -> Result<()> {
             diagnostic: 1,
             initiate: Some(1),
         }),
+        CallFault::Insecure(SecuredFault::InClear),
         CallFault::TooLong,
         CallFault::TooLarge,
         CallFault::Io,

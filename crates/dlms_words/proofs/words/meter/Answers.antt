@@ -12,6 +12,7 @@ returns c = λ rows met.
       server = c.value_for-4.ensures rows met;
       wide = subst (λ (said : Option Text). IsSaid said c.is_given-wide.result) (c.value_for.ensures rows met) c.is_given-wide.ensures;
       wrapper = subst (λ (said : Option Text). IsSaid said c.is_given-wrapper.result) (c.value_for-2.ensures rows met) c.is_given-wrapper.ensures;
+      information = c.given_number_for.ensures rows met;
       secret = c.value_for-5.ensures rows met;
       timeout = c.number_for.ensures rows met;
     }
