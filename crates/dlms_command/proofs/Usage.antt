@@ -26,3 +26,9 @@ pub not_usage : {A E F : Type 0} (result : Result ℕ E) (ended : Result A F) (Q
 not_usage (Ok status) (Ok done) Q h = λ is. absurd (omega (arith, h, is))
 not_usage (Ok status) (Err fault) Q h = λ is. absurd (omega (arith, h, is))
 not_usage (Err error) ended Q h = tt
+
+-- what holds whatever the status is
+pub at_any_status : {E : Type 0} (result : Result ℕ E) (wanted : ℕ) (Q : Type 0) → Q
+    → IfOk result (λ status. status ≡ wanted → Q)
+at_any_status (Ok status) wanted Q holds = λ is. holds
+at_any_status (Err error) wanted Q holds = tt
