@@ -16,6 +16,7 @@ use std::fs::File;
 use std::io::ErrorKind;
 use std::net::Net;
 use std::process::ExitCode;
+use std::random::RandomSource;
 use std::rt::Files;
 use std::time::Clock;
 
@@ -127,7 +128,7 @@ struct Ran {
 }
 
 /// Runs the program on an input that is given line by line, and returns its status and its output.
-fn talked<R: Net + Files<File = File> + Clock + AllocGlobal>(
+fn talked<R: Net + Files<File = File> + Clock + AllocGlobal + RandomSource>(
     rt: &R,
     words: &[&str],
     input: &[u8],
@@ -145,7 +146,7 @@ fn talked<R: Net + Files<File = File> + Clock + AllocGlobal>(
 }
 
 /// Runs the program on an input that is there as a whole, or line by line, and returns its status and its output.
-fn printed<R: Net + Files<File = File> + Clock + AllocGlobal>(
+fn printed<R: Net + Files<File = File> + Clock + AllocGlobal + RandomSource>(
     rt: &R,
     is_talk: bool,
     words: &[&str],
@@ -166,7 +167,7 @@ fn printed<R: Net + Files<File = File> + Clock + AllocGlobal>(
 }
 
 /// Runs the program by these words on an input.
-fn ran_on<R: Net + Files<File = File> + Clock + AllocGlobal>(
+fn ran_on<R: Net + Files<File = File> + Clock + AllocGlobal + RandomSource>(
     rt: &R,
     is_talk: bool,
     words: &[&str],
@@ -187,7 +188,7 @@ fn ran_on<R: Net + Files<File = File> + Clock + AllocGlobal>(
 }
 
 /// Runs the program by these words on the case's input.
-fn ran_by<R: Net + Files<File = File> + Clock + AllocGlobal>(
+fn ran_by<R: Net + Files<File = File> + Clock + AllocGlobal + RandomSource>(
     rt: &R,
     case: &Case<'_>,
     words: &[&str],
@@ -250,7 +251,7 @@ fn verdict_on<R: Files + AllocGlobal>(
 }
 
 /// Runs a case by these words.
-fn verdict_by<R: Net + Files<File = File> + Clock + AllocGlobal>(
+fn verdict_by<R: Net + Files<File = File> + Clock + AllocGlobal + RandomSource>(
     rt: &R,
     case: &Case<'_>,
     words: &[&str],
@@ -262,7 +263,7 @@ fn verdict_by<R: Net + Files<File = File> + Clock + AllocGlobal>(
 }
 
 /// Runs a case.
-fn verdict_of<R: Net + Files<File = File> + Clock + AllocGlobal>(
+fn verdict_of<R: Net + Files<File = File> + Clock + AllocGlobal + RandomSource>(
     rt: &R,
     case: &Case<'_>,
 ) -> Result<Verdict> {
@@ -273,7 +274,7 @@ fn verdict_of<R: Net + Files<File = File> + Clock + AllocGlobal>(
 }
 
 /// Runs the cases of a list, in its order.
-fn run_list<R: Net + Files<File = File> + Clock + Print + AllocGlobal>(
+fn run_list<R: Net + Files<File = File> + Clock + Print + AllocGlobal + RandomSource>(
     rt: &R,
     list: &str,
 ) -> Result<u32> {
@@ -295,7 +296,9 @@ fn run_list<R: Net + Files<File = File> + Clock + Print + AllocGlobal>(
 }
 
 /// Runs the cases of the list.
-fn run_all<R: Net + Files<File = File> + Clock + Print + AllocGlobal>(rt: &R) -> Result<u32> {
+fn run_all<R: Net + Files<File = File> + Clock + Print + AllocGlobal + RandomSource>(
+    rt: &R,
+) -> Result<u32> {
     let list = fs::read_to_string(rt, "cases.txt")?;
     let differing = run_list(rt, list.as_str());
     drop(list);
