@@ -394,7 +394,7 @@ fn write_stranger<W: fmt::Write>(
     )
 }
 
-/// Why settings are refused: the setting, and what is expected of it. No value is written, since it could be a key.
+/// Names the setting that is missing or invalid, and the values that it may have. No value is written, since it could be a key.
 fn write_keys<W: fmt::Write>(
     f: &mut fmt::Formatter<W>,
     file: &str,
