@@ -1,4 +1,10 @@
 pub mod MadeLemmas
+pub mod TitleLemmas
+pub mod LayerLemmas
 pub mod GuardLemmas
 pub mod Sharing
+pub mod Authentic
+pub mod Clear
+pub mod Once
 pub mod Sizes
+pub mod Premises

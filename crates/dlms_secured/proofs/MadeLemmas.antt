@@ -10,15 +10,17 @@ use Rattle.dlms_security.specs.Security.{SecurityState, message_for, answer_for,
 use Rattle.dlms_security.specs.declared.fault.ProtectFault.{ProtectFault}
 use Rattle.dlms_security.specs.declared.fault.UnprotectFault.{UnprotectFault}
 use Rattle.dlms_security.specs.declared.form.Form.{Form}
-use Rattle.dlms_secured.specs.Made.{Made, made, continued, followed, unprotects, or_refusal, protects, within, answers, Reply, sends_answer}
+use Rattle.dlms_secured.specs.Made.{Made, made, continued, followed, unprotects, or_refusal, protects, within, answers, reply_of}
+use Rattle.dlms_secured.specs.declared.reply.Reply.{Reply}
 use Rattle.dlms_secured.specs.Made.{replies, grants, is_title, opens, learns, accepts_response, accepts_fields, accepts, releases_by, releases_with}
-use Rattle.dlms_secured.specs.Made.{releases_fields, releases, asks, leaves}
-use Rattle.dlms_secured.specs.Messages.{reply_to_hls, secured_aarq, secured_rlrq, clear_size}
+use Rattle.dlms_secured.specs.Made.{releases_fields, releases, asks, leaves, may_answer}
+use Rattle.dlms_secured.specs.Messages.{secured_aarq, secured_rlrq, clear_size, begins}
+use Rattle.dlms_secured.proofs.TitleLemmas.{protected_other}
 use Rattle.dlms_secured.specs.Run.{IsNoStop, exchange}
 use Rattle.dlms_secured.specs.Response.{Response, response_in, granted_in, value_in}
 use Rattle.dlms_secured.specs.declared.fault.SecuredFault.{SecuredFault}
 use Rattle.dlms_secured.specs.declared.fault.SecuredFault.TheVariants as fault
-use Rattle.dlms_secured.specs.declared.messages.TheConstants.{MOST_CARRIED, LEAST_CLEAR, MOST_FIELD}
+use Rattle.dlms_secured.specs.declared.messages.TheConstants.{LEAST_CLEAR, MOST_FIELD}
 use Rattle.dlms_secured.specs.declared.stage.Granted.{Granted}
 
 -- ---- lists of calls
@@ -85,58 +87,55 @@ sound_answers : (s : SecurityState) (challenge : List ℕ) → Sound s (answers 
 unfolding answers
 sound_answers s challenge = led_one s (Answers challenge (answer_for s challenge)) (after_protect s (answer_for s challenge)) (refl, refl) tt
 
-sound_sends : (s : SecurityState) (form : Form) (granted : Granted) (answer : List ℕ) → Sound s (sends_answer s form granted answer)
-unfolding sends_answer
-sound_sends s form granted answer =
-    let p : Made (List ℕ) = protects s form MOST_CARRIED (reply_to_hls answer) in
-    sound_continued s p.security p.calls p.result (λ (t : SecurityState) (message : List ℕ). made t (Ok (record { message = message; granted = granted })))
-    (sound_protects s form MOST_CARRIED (reply_to_hls answer)) (λ x. led_none _)
-
-sound_replies : (s : SecurityState) (form : Form) (challenge : List ℕ) (granted : Granted) → Sound s (replies s form challenge granted)
+sound_replies : (s : SecurityState) (response : Response) (granted : Granted) → Sound s (replies s response granted)
 unfolding replies
-sound_replies s form challenge granted =
-    let a : Made (List ℕ) = answers s challenge in
-    sound_continued s a.security a.calls a.result (λ (t : SecurityState) (answer : List ℕ). sends_answer t form granted answer) (sound_answers s challenge)
-    (λ answer. sound_sends a.security form granted answer)
+sound_replies s response granted =
+    let a : Made (List ℕ) = answers s response.challenge in
+    sound_continued s a.security a.calls a.result (λ (t : SecurityState) (answer : List ℕ). made t (Ok (reply_of response.title granted answer)))
+    (sound_answers s response.challenge) (λ answer. led_none _)
 
-sound_grants : (s : SecurityState) (form : Form) (challenge : List ℕ) (granted : Option Granted) → Sound s (grants s form challenge granted)
-sound_grants s form challenge None = led_none s
-sound_grants s form challenge (Some granted) = by_test (nat_lt (clear_size granted.size) LEAST_CLEAR)
+sound_grants : (s : SecurityState) (response : Response) (granted : Option Granted) → Sound s (grants s response granted)
+sound_grants s response None = led_none s
+sound_grants s response (Some granted) = by_test (nat_lt (clear_size granted.size) LEAST_CLEAR)
   where
-    by_test : (b : Bool) → Sound s (cond b (made s (Err fault.Size)) (replies s form challenge granted))
+    by_test : (b : Bool) → Sound s (cond b (made s (Err fault.Size)) (replies s response granted))
     by_test true = led_none s
-    by_test false = sound_replies s form challenge granted
+    by_test false = sound_replies s response granted
 
-abbrev opened_next : Form → List ℕ → SecurityState → List ℕ → Made Reply
-opened_next form challenge t apdu = grants t form challenge (granted_in apdu)
+abbrev opened_next : Response → SecurityState → List ℕ → Made Reply
+opened_next response t apdu = grants t response (granted_in apdu)
 
-sound_opens : (s : SecurityState) (form : Form) (response : Response) → Sound s (opens s form response)
-sound_opens s form response = by_test (is_title response.title s.peer)
+sound_opens : (s : SecurityState) (response : Response) → Sound s (opens s response)
+sound_opens s response = by_test (is_title response.title s.peer)
   where
-    by_test : (b : Bool) → Sound s (cond b (followed (unprotects s response.message) (opened_next form response.challenge)) (made s (Err fault.Title)))
+    by_test : (b : Bool) → Sound s (cond b (followed (unprotects s response.message) (opened_next response)) (made s (Err fault.Title)))
     by_test true =
         let u : Made (List ℕ) = unprotects s response.message in
-        sound_continued s u.security u.calls u.result (opened_next form response.challenge) (sound_unprotects s response.message)
-        (λ apdu. sound_grants u.security form response.challenge (granted_in apdu))
+        sound_continued s u.security u.calls u.result (opened_next response) (sound_unprotects s response.message)
+        (λ apdu. sound_grants u.security response (granted_in apdu))
     by_test false = led_none s
 
-sound_learns : (s : SecurityState) (form : Form) (response : Response) → Sound s (learns s form response)
-sound_learns s form response =
+sound_learns : (s : SecurityState) (response : Response) → Sound s (learns s response)
+sound_learns s response =
     let t : SecurityState = after_learn s s.peer response.title in
-    let m : Made Reply = opens t form response in
-    led_append (Learns response.title ∷ []) m.calls s t m.security (led_one s (Learns response.title) t refl tt) (sound_opens t form response)
+    let m : Made Reply = opens t response in
+    led_append (Learns response.title ∷ []) m.calls s t m.security (led_one s (Learns response.title) t refl tt) (sound_opens t response)
 
-sound_response : (s : SecurityState) (form : Form) (response : Result Response SecuredFault) → Sound s (accepts_response s form response)
-sound_response s form (Ok response) = sound_learns s form response
-sound_response s form (Err why) = led_none s
+sound_response : (s : SecurityState) (response : Result Response SecuredFault) → Sound s (accepts_response s response)
+sound_response s (Ok response) = by_test (may_answer s.policy response.challenge)
+  where
+    by_test : (b : Bool) → Sound s (cond b (learns s response) (made s (Err fault.NoChallenge)))
+    by_test true = sound_learns s response
+    by_test false = led_none s
+sound_response s (Err why) = led_none s
 
-sound_fields : (s : SecurityState) (form : Form) (own : List ℕ) (fields : Option (List ℕ)) → Sound s (accepts_fields s form own fields)
-sound_fields s form own None = led_none s
-sound_fields s form own (Some fields) = sound_response s form (response_in s.own own fields)
+sound_fields : (s : SecurityState) (own : List ℕ) (fields : Option (List ℕ)) → Sound s (accepts_fields s own fields)
+sound_fields s own None = led_none s
+sound_fields s own (Some fields) = sound_response s (response_in s.own own fields)
 
-pub sound_accepts : (s : SecurityState) (form : Form) (own apdu : List ℕ) → Sound s (accepts s form own apdu)
+pub sound_accepts : (s : SecurityState) (own apdu : List ℕ) → Sound s (accepts s own apdu)
 unfolding accepts
-sound_accepts s form own apdu = sound_fields s form own (inner_at 0x61 apdu)
+sound_accepts s own apdu = sound_fields s own (inner_at 0x61 apdu)
 
 sound_by : (s : SecurityState) (message : Option (List ℕ)) → Sound s (releases_by s message)
 sound_by s None = led_none s
@@ -196,6 +195,12 @@ unfolding protects
 protects_out s form most apdu message e = ap (λ (r : Result (List ℕ) ProtectFault). outgoing_with apdu r [])
     (within_ok most (message_for s form apdu) message e)
 
+-- the message is no association request
+pub protects_other : (s : SecurityState) (form : Form) (most : ℕ) (apdu message : List ℕ) → (protects s form most apdu).result ≡ Ok message
+    → begins 0x60 message ≡ false
+unfolding protects
+protects_other s form most apdu message e = protected_other s form apdu message (within_ok most (message_for s form apdu) message e)
+
 unprotects_none : (s : SecurityState) (message : List ℕ) → outgoing (unprotects s message).calls ≡ []
 unfolding unprotects
 unprotects_none s message = refl
@@ -203,10 +208,6 @@ unprotects_none s message = refl
 answers_none : (s : SecurityState) (challenge : List ℕ) → outgoing (answers s challenge).calls ≡ []
 unfolding answers
 answers_none s challenge = refl
-
--- calls that send nothing, and then others
-after_none : (xs ys all : List SecurityCall) → outgoing xs ≡ [] → all ≡ xs ++ ys → outgoing all ≡ outgoing ys
-after_none xs ys all none e = ap outgoing e ∙ outgoing_append xs ys ∙ ap (λ (l : List Exchange). l ++ outgoing ys) none
 
 pub asks_out : (s : SecurityState) (form : Form) (own initiate message : List ℕ) → (asks s form own initiate).result ≡ Ok message
     → (inner : List ℕ) × (outgoing (asks s form own initiate).calls ≡ exchange inner initiate ∷ []) × (message ≡ secured_aarq s.own own inner)
@@ -224,71 +225,54 @@ leaves_out s form initiate message e =
     let k = continued_ok p.security p.calls p.result (λ (t : SecurityState) (message : List ℕ). made t (Ok (secured_rlrq message))) message e in
     (k.0, ap outgoing (k.3 ∙ append-nil p.calls) ∙ protects_out s form MOST_FIELD initiate k.0 k.1, let same = k.2 in cc)
 
--- the one message that goes out is the protected answer to the meter's challenge
-abbrev pub IsReplied : List SecurityCall → List ℕ → Type 0
-IsReplied calls message = (answer : List ℕ) × (outgoing calls ≡ exchange message (reply_to_hls answer) ∷ [])
+-- ---- an association response sends nothing
 
-sends_out : (s : SecurityState) (form : Form) (granted : Granted) (answer : List ℕ) (reply : Reply) → (sends_answer s form granted answer).result ≡ Ok reply
-    → IsReplied (sends_answer s form granted answer).calls reply.message
-unfolding sends_answer
-sends_out s form granted answer reply e =
-    let p : Made (List ℕ) = protects s form MOST_CARRIED (reply_to_hls answer) in
-    let k = continued_ok p.security p.calls p.result (λ (t : SecurityState) (message : List ℕ). made t (Ok (record { message = message; granted = granted })))
-    reply e in
-    let whole : record { message = k.0; granted = granted } ≡ reply = let same = k.2 in cc in
-    let message : k.0 ≡ reply.message = ap (λ (r : Reply). r.message) whole in (
-      answer,
-      ap outgoing (k.3 ∙ append-nil p.calls) ∙ protects_out s form MOST_CARRIED (reply_to_hls answer) k.0 k.1
-          ∙ ap (λ (m : List ℕ). exchange m (reply_to_hls answer) ∷ []) message,
-    )
+quiet_continued : {A B : Type 0} (t : SecurityState) (calls : List SecurityCall) (r : Result A SecuredFault) (next : SecurityState → A → Made B)
+    → outgoing calls ≡ [] → ((x : A) → outgoing (next t x).calls ≡ []) → outgoing (continued t calls r next).calls ≡ []
+quiet_continued t calls (Ok x) next none k =
+    outgoing_append calls (next t x).calls ∙ ap (λ (l : List Exchange). l ++ outgoing (next t x).calls) none ∙ k x
+quiet_continued t calls (Err why) next none k = none
 
-replies_out : (s : SecurityState) (form : Form) (challenge : List ℕ) (granted : Granted) (reply : Reply)
-    → (replies s form challenge granted).result ≡ Ok reply → IsReplied (replies s form challenge granted).calls reply.message
+quiet_replies : (s : SecurityState) (response : Response) (granted : Granted) → outgoing (replies s response granted).calls ≡ []
 unfolding replies
-replies_out s form challenge granted reply e =
-    let a : Made (List ℕ) = answers s challenge in
-    let k = continued_ok a.security a.calls a.result (λ (t : SecurityState) (answer : List ℕ). sends_answer t form granted answer) reply e in
-    let out = sends_out a.security form granted k.0 reply k.2 in
-    (out.0, after_none a.calls (sends_answer a.security form granted k.0).calls _ (answers_none s challenge) k.3 ∙ out.1)
+quiet_replies s response granted =
+    let a : Made (List ℕ) = answers s response.challenge in
+    quiet_continued a.security a.calls a.result (λ (t : SecurityState) (answer : List ℕ). made t (Ok (reply_of response.title granted answer)))
+    (answers_none s response.challenge) (λ answer. refl)
 
-grants_out : (s : SecurityState) (form : Form) (challenge : List ℕ) (granted : Option Granted) (reply : Reply)
-    → (grants s form challenge granted).result ≡ Ok reply → IsReplied (grants s form challenge granted).calls reply.message
-grants_out s form challenge None reply e = absurd cc
-grants_out s form challenge (Some granted) reply e = by_test (nat_lt (clear_size granted.size) LEAST_CLEAR) e
+quiet_grants : (s : SecurityState) (response : Response) (granted : Option Granted) → outgoing (grants s response granted).calls ≡ []
+quiet_grants s response None = refl
+quiet_grants s response (Some granted) = by_test (nat_lt (clear_size granted.size) LEAST_CLEAR)
   where
-    by_test : (b : Bool) → (cond b (made s (Err fault.Size)) (replies s form challenge granted)).result ≡ Ok reply
-        → IsReplied (cond b (made s (Err fault.Size)) (replies s form challenge granted)).calls reply.message
-    by_test true e = absurd cc
-    by_test false e = replies_out s form challenge granted reply e
+    by_test : (b : Bool) → outgoing (cond b (made s (Err fault.Size)) (replies s response granted)).calls ≡ []
+    by_test true = refl
+    by_test false = quiet_replies s response granted
 
-opens_out : (s : SecurityState) (form : Form) (response : Response) (reply : Reply) → (opens s form response).result ≡ Ok reply
-    → IsReplied (opens s form response).calls reply.message
-opens_out s form response reply e = by_test (is_title response.title s.peer) e
+quiet_opens : (s : SecurityState) (response : Response) → outgoing (opens s response).calls ≡ []
+quiet_opens s response = by_test (is_title response.title s.peer)
   where
-    by_test : (b : Bool) → (cond b (followed (unprotects s response.message) (opened_next form response.challenge)) (made s (Err fault.Title))).result ≡ Ok
-        reply
-        → IsReplied (cond b (followed (unprotects s response.message) (opened_next form response.challenge)) (made s (Err fault.Title))).calls reply.message
-    by_test true e =
+    by_test : (b : Bool) → outgoing (cond b (followed (unprotects s response.message) (opened_next response)) (made s (Err fault.Title))).calls ≡ []
+    by_test true =
         let u : Made (List ℕ) = unprotects s response.message in
-        let k = continued_ok u.security u.calls u.result (opened_next form response.challenge) reply e in
-        let out = grants_out u.security form response.challenge (granted_in k.0) reply k.2 in
-        (out.0, after_none u.calls (grants u.security form response.challenge (granted_in k.0)).calls _ (unprotects_none s response.message) k.3 ∙ out.1)
-    by_test false e = absurd cc
+        quiet_continued u.security u.calls u.result (opened_next response) (unprotects_none s response.message)
+        (λ apdu. quiet_grants u.security response (granted_in apdu))
+    by_test false = refl
 
-response_out : (s : SecurityState) (form : Form) (response : Result Response SecuredFault) (reply : Reply)
-    → (accepts_response s form response).result ≡ Ok reply → IsReplied (accepts_response s form response).calls reply.message
-response_out s form (Ok response) reply e = opens_out (after_learn s s.peer response.title) form response reply e
-response_out s form (Err why) reply e = absurd cc
+quiet_response : (s : SecurityState) (response : Result Response SecuredFault) → outgoing (accepts_response s response).calls ≡ []
+quiet_response s (Ok response) = by_test (may_answer s.policy response.challenge)
+  where
+    by_test : (b : Bool) → outgoing (cond b (learns s response) (made s (Err fault.NoChallenge))).calls ≡ []
+    by_test true = quiet_opens (after_learn s s.peer response.title) response
+    by_test false = refl
+quiet_response s (Err why) = refl
 
-fields_out : (s : SecurityState) (form : Form) (own : List ℕ) (fields : Option (List ℕ)) (reply : Reply)
-    → (accepts_fields s form own fields).result ≡ Ok reply → IsReplied (accepts_fields s form own fields).calls reply.message
-fields_out s form own None reply e = absurd cc
-fields_out s form own (Some fields) reply e = response_out s form (response_in s.own own fields) reply e
+quiet_fields : (s : SecurityState) (own : List ℕ) (fields : Option (List ℕ)) → outgoing (accepts_fields s own fields).calls ≡ []
+quiet_fields s own None = refl
+quiet_fields s own (Some fields) = quiet_response s (response_in s.own own fields)
 
-pub accepts_out : (s : SecurityState) (form : Form) (own apdu : List ℕ) (reply : Reply) → (accepts s form own apdu).result ≡ Ok reply
-    → IsReplied (accepts s form own apdu).calls reply.message
+pub quiet_accepts : (s : SecurityState) (own apdu : List ℕ) → outgoing (accepts s own apdu).calls ≡ []
 unfolding accepts
-accepts_out s form own apdu reply e = fields_out s form own (inner_at 0x61 apdu) reply e
+quiet_accepts s own apdu = quiet_fields s own (inner_at 0x61 apdu)
 
 -- ---- what is accepted
 

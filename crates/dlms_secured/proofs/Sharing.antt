@@ -1,33 +1,30 @@
 -- A run of a secured carrier is a run of its carrier and a run of its security layer.
-use Rattle.std.proofs.Common.{◌≡◌, ◌∙◌, refl, sym, ap, subst, ℕ, Bool, true, false, cond, nat_lt, List, [], ◌∷◌, ◌++◌, Option, Some, None}
-use Rattle.std.proofs.Common.{Result, Ok, Err, inl, inr}
-use Rattle.std.specs.Prelude.{All, Contains, IfSome}
+use Rattle.std.proofs.Common.{◌≡◌, ◌∙◌, refl, sym, ap, subst, arith, ℕ, ◌+◌, ◌≤◌, Bool, true, false, cond, List, [], ◌∷◌, ◌++◌, Option, Some, None}
+use Rattle.std.proofs.Common.{Result, Ok, Err}
+use Rattle.std.specs.Prelude.{All, IfSome}
 use Rattle.std.specs.List.{cons_option}
-use Rattle.std.proofs.lemmas.List.Elements.{All-nil, All-cons, All-head, All-tail, All-append, All-same, All-weaker, Contains-append_left}
-use Rattle.std.proofs.lemmas.List.Elements.{Contains-append_right, Contains-push, filter_map-append}
+use Rattle.std.proofs.lemmas.List.Elements.{All-nil, All-cons, All-head, All-tail, All-append, Contains-append_left, filter_map-append}
 use Rattle.dlms_carrier.specs.Carrying.{Input, Begin, Give, Feed, Wait, End, Call as CarrierCall, Does, Runs as CarrierRuns, given, given_by, handed_at}
+use Rattle.dlms_carrier.specs.Carrying.{Meaning, handed_up as arrived}
 use Rattle.dlms_carrier.specs.declared.event.Event.{Event}
 use Rattle.dlms_carrier.specs.declared.event.Event.TheVariants as event
-use Rattle.dlms_security.specs.Run.{Event as SecurityCall, Reserves as ReservesOf, AreSteps, IsStep, Exchange, IsProtected, outgoing, incoming}
-use Rattle.dlms_security.specs.Run.{counter_in, NeverTwice, NeverInTheClear, Authentic as AuthenticOf, Fresh, RestoresTitle, RestoresCounter, AreRestoring}
-use Rattle.dlms_security.specs.Run.{Protects, Unprotects, Learns, Answers, Stops}
-use Rattle.dlms_cipher.specs.Dlms.{IsAnswer}
-use Rattle.dlms_security.specs.Security.{SecurityState, AcceptedApdu, message_for, answer_for, acceptance, after_protect, after_unprotect, after_learn}
-use Rattle.dlms_security.specs.Security.{after_reserved, IsAnswerOf}
-use Rattle.dlms_security.specs.declared.fault.ProtectFault.{ProtectFault}
-use Rattle.dlms_security.specs.declared.fault.UnprotectFault.{UnprotectFault}
-use Rattle.dlms_secured.specs.Guard.{GuardValue, Taken, Hands, Sends, Turn, after_begin, after_event, fault_of, gives}
-use Rattle.dlms_secured.specs.Run.{Meaning, Call, IsNoStop, challenge_after, challenges, Carries, Renews, Reserves, IsCall, Runs, GoesOut, IsSecret}
-use Rattle.dlms_secured.specs.Run.{HandsUp, IsOpened, IsFrom, IsTrusted, CameProtected, AfterProof, AsRefusal, AsRelease, exchange, handed_by}
-use Rattle.dlms_secured.specs.Run.{handed_up as handed_by_all, Share, AreShares, carried_in, made_in, Beside, NeverInClear}
-use Rattle.dlms_secured.specs.Run.{Authentic, GuardedRuns, PassedOn, PassesOn}
+use Rattle.dlms_security.specs.Run.{Event as SecurityCall, Reserves as ReservesOf}
+use Rattle.dlms_security.specs.declared.policy.Policy.{Policy}
+use Rattle.dlms_security.specs.Security.{SecurityState, after_reserved}
+use Rattle.dlms_secured.specs.Guard.{GuardValue, Taken, Hands, Sends, Turn, after_begin, after_event, fault_of, gives, hidden, layer_of}
+use Rattle.dlms_secured.specs.Run.{Call, IsNoStop, IsLayer, IsQuiet, IsTitled, challenge_after, Carries, Renews, Reserves, IsCall, Runs, GoesOut}
+use Rattle.dlms_secured.specs.Run.{HandsUp, handed_by, Learned, AsBefore, ByResponse, requests, unused, awaited, answered_in, set_by}
+use Rattle.dlms_secured.specs.Run.{Share, calls_of, carried_in, made_in, session_in, renewals, Beside, GuardedRuns, PassedOn, PassesOn}
 use Rattle.dlms_secured.specs.Steps.{Guarded, at, quiet, Passes, Begins, Gives, Follows, Returns, Comes, Feeds, GuardedSteps}
 use Rattle.dlms_secured.specs.Steps.{SecuredValue, StepsWith, out_of, out_by, apdu_of, apdu_with, fault_with}
 use Rattle.dlms_secured.specs.declared.fault.SecuredFault.{SecuredFault}
+use Rattle.dlms_secured.specs.declared.fault.SecuredFault.TheVariants as fault
 use Rattle.dlms_secured.specs.declared.stage.Stage.{Stage}
-use Rattle.dlms_secured.specs.declared.stage.Stage.TheVariants.{Closed, Opening, Proving, Open, Failed}
-use Rattle.dlms_secured.proofs.MadeLemmas.{Led, led_none, steps_append, outgoing_append, incoming_append}
-use Rattle.dlms_secured.proofs.GuardLemmas.{Giving, gives_giving, Taking, takes_taking}
+use Rattle.dlms_secured.specs.declared.stage.Stage.TheVariants.{Closed, Failed}
+use Rattle.dlms_secured.proofs.MadeLemmas.{Led, led_none, steps_append}
+use Rattle.dlms_secured.proofs.LayerLemmas.{idle_layer, layer_then, same_titled}
+use Rattle.dlms_secured.proofs.TitleLemmas.{reserved_peer}
+use Rattle.dlms_secured.proofs.GuardLemmas.{Giving, gives_giving, Taking, takes_taking, Session, idle_session, none_quiet, sent, least, same_sum, no_request}
 
 -- ---- runs of the carrier
 
@@ -48,11 +45,71 @@ one_call m old input event new h = (new, record { step = h; out = refl; apdu = r
 
 record Piece {C : Type 0} (m : Meaning C) (old : Guarded C) (call : Call) (new : Guarded C) : Type 0 where
   share : Share
+  before : share.stage ≡ old.guard.stage
   carrier : CarrierRuns m.steps m.out_of m.apdu_of old.carrier share.carried new.carrier
   security : Led old.guard.security share.made new.guard.security
+  layer : set_by call ≡ 0 → IsLayer old.guard.dedicated share.session new.guard.dedicated
+  session : All IsNoStop share.session
+  quiet : IsQuiet share.stage share.session
+  titled : IsTitled old.guard.dedicated old.guard.security.peer → IsTitled new.guard.dedicated new.guard.security.peer
   challenge : new.guard.challenge ≡ challenge_after call old.guard.challenge
-  down : All (GoesOut call share.made) (given share.carried)
-  up : IfSome (handed_by call) (λ apdu. HandsUp old.guard.stage old.guard share.made apdu new.guard)
+  title : Learned old.guard.security.own old.guard.security.peer (old.guard.challenge ∷ []) (arrived share.carried) new.guard.security.peer
+  down : All (GoesOut old.guard call (calls_of share)) (given share.carried)
+  up : IfSome (handed_by call) (λ apdu. HandsUp old.guard.stage old.guard (calls_of share) apdu new.guard)
+  asked : requests (given share.carried) + unused new.guard ≤ unused old.guard + set_by call
+  answered : answered_in share.stage (handed_by call) + awaited new.guard.stage ≤ awaited old.guard.stage + requests (given share.carried)
+
+-- ---- the use of the challenge
+
+more_than : (a b : ℕ) → a ≤ b → a ≤ b + 0
+more_than a b h = omega arith
+
+summed : (a b c : ℕ) → a ≡ 0 → b ≤ c → a + b ≤ c
+summed a b c none h = omega arith
+
+-- no APDU is handed up
+unanswered : (stage next : Stage) (handed : Option (List ℕ)) (n : ℕ) → handed ≡ None → awaited next ≤ n → answered_in stage handed + awaited next ≤ n
+unanswered stage next handed n none h = summed (answered_in stage handed) (awaited next) n (ap (answered_in stage) none) h
+
+-- this APDU is handed up
+answered_by : (stage next : Stage) (result : Event) (apdu : List ℕ) → result ≡ event.Apdu
+    → ((apdu : List ℕ) → answered_in stage (Some apdu) + awaited next ≤ awaited stage)
+    → answered_in stage (handed_at result apdu) + awaited next ≤ awaited stage + 0
+answered_by stage next result apdu e waits =
+    subst (λ (r : Event). answered_in stage (handed_at r apdu) + awaited next ≤ awaited stage + 0) (sym e)
+    (more_than (answered_in stage (Some apdu) + awaited next) (awaited stage) (waits apdu))
+
+-- an event of the connection ends the wait, or changes nothing
+event_waits : (g : GuardValue) (e : Event) → awaited (after_event g e).stage ≤ awaited g.stage
+event_waits g event.Nothing = same (awaited g.stage)
+  where
+    same : (n : ℕ) → n ≤ n
+    same n = omega arith
+event_waits g event.Apdu = same (awaited g.stage)
+  where
+    same : (n : ℕ) → n ≤ n
+    same n = omega arith
+event_waits g event.Up = least (awaited g.stage)
+event_waits g event.Down = least (awaited g.stage)
+event_waits g event.TimedOut = least (awaited g.stage)
+event_waits g (event.Refused why) = least (awaited g.stage)
+event_waits g event.Insecure = least (awaited g.stage)
+
+event_unused : (g : GuardValue) (e : Event) → 0 + unused (after_event g e) ≤ unused g
+event_unused g event.Nothing = same_sum (unused g)
+event_unused g event.Apdu = same_sum (unused g)
+event_unused g event.Up = same_sum (unused g)
+event_unused g event.Down = same_sum (unused g)
+event_unused g event.TimedOut = same_sum (unused g)
+event_unused g (event.Refused why) = same_sum (unused g)
+event_unused g event.Insecure = same_sum (unused g)
+
+begin_waits : (g : GuardValue) → awaited (after_begin g).stage ≤ awaited g.stage + 0
+begin_waits g = by_test g.unused
+  where
+    by_test : (b : Bool) → awaited (cond b Closed (Failed fault.Challenge)) ≤ awaited g.stage + 0
+    by_test true = least (awaited g.stage + 0)
+    by_test false = least (awaited g.stage + 0)
 
 abbrev OfSome : (List ℕ → Type 0) → Option (List ℕ) → Type 0
 OfSome P o = IfSome o P
@@ -72,60 +129,121 @@ quiet_none event.Insecure apdu = refl
 unheard : (result is : Event) (apdu : List ℕ) → result ≡ is → handed_at is apdu ≡ None → handed_at result apdu ≡ None
 unheard result is apdu e none = ap (λ (e : Event). handed_at e apdu) e ∙ none
 
+-- the challenge is used if it was
+kept : (old new : GuardValue) → new.unused ≡ old.unused → 0 + unused new ≤ unused old + 0
+kept old new e = subst (λ (b : Bool). 0 + cond b 1 0 ≤ unused old + 0) (sym e) (more_than (0 + unused old) (unused old) (same_sum (unused old)))
+
 -- the carrier is called, and its event is returned
-passes : {C : Type 0} (m : Meaning C) (old new : Guarded C) (call : CarrierCall) (input : Input) (guard : Event → GuardValue) (made : List SecurityCall)
+passes : {C : Type 0} (m : Meaning C) (old new : Guarded C) (call : CarrierCall) (input : Input) (guard : Event → GuardValue)
+    (made session : List SecurityCall)
     → Passes m.steps input guard old call.event new
     → ((e : Event) → (guard e).challenge ≡ old.guard.challenge) → ((e : Event) → Led old.guard.security made (guard e).security)
-    → ((e : Event) → All (GoesOut (Carries call) made) (given (carrier_call m input e new.carrier ∷ []))) → Piece m old (Carries call) new
-passes m old new call input guard made h keeps steps down = record {
-  share = record { carried = carrier_call m input h.inner new.carrier ∷ []; made = made };
-  carrier = one_call m old.carrier input h.inner new.carrier h.step;
-  security = subst (λ (g : GuardValue). Led old.guard.security made g.security) (sym h.after) (steps h.inner);
-  challenge = ap (λ (g : GuardValue). g.challenge) h.after ∙ keeps h.inner;
-  down = down h.inner;
-  up = none_up _ (handed_at call.event call.apdu) (unheard call.event (quiet h.inner) call.apdu h.returned (quiet_none h.inner call.apdu));
-}
+    → ((e : Event) → Session old.guard.stage old.guard session (guard e)) → ((e : Event) → (guard e).security.peer ≡ old.guard.security.peer)
+    → ((e : Event) → All (GoesOut old.guard (Carries call) (made ++ session)) (given (carrier_call m input e new.carrier ∷ [])))
+    → ((e : Event) → requests (given (carrier_call m input e new.carrier ∷ [])) + unused (guard e) ≤ unused old.guard)
+    → ((e : Event) → awaited (guard e).stage ≤ awaited old.guard.stage + requests (given (carrier_call m input e new.carrier ∷ [])))
+    → Piece m old (Carries call) new
+passes m old new call input guard made session h keeps steps layers peers down uses waits =
+    let none : handed_at call.event call.apdu ≡ None = unheard call.event (quiet h.inner) call.apdu h.returned (quiet_none h.inner call.apdu) in
+    record {
+      share = record { stage = old.guard.stage; carried = carrier_call m input h.inner new.carrier ∷ []; made = made; session = session };
+      before = refl;
+      carrier = one_call m old.carrier input h.inner new.carrier h.step;
+      security = subst (λ (g : GuardValue). Led old.guard.security made g.security) (sym h.after) (steps h.inner);
+      layer = λ none. (subst (λ (g : GuardValue). Session old.guard.stage old.guard session g) (sym h.after) (layers h.inner)).layer;
+      session = (layers h.inner).still;
+      quiet = (layers h.inner).quiet;
+      titled = (subst (λ (g : GuardValue). Session old.guard.stage old.guard session g) (sym h.after) (layers h.inner)).titled;
+      challenge = ap (λ (g : GuardValue). g.challenge) h.after ∙ keeps h.inner;
+      title = AsBefore (ap (λ (g : GuardValue). g.security.peer) h.after ∙ peers h.inner);
+      down = down h.inner;
+      up = none_up _ (handed_at call.event call.apdu) none;
+      asked = subst (λ (g : GuardValue). requests (given (carrier_call m input h.inner new.carrier ∷ [])) + unused g ≤ unused old.guard + 0) (sym h.after)
+          (more_than (requests (given (carrier_call m input h.inner new.carrier ∷ [])) + unused (guard h.inner)) (unused old.guard) (uses h.inner));
+      answered = unanswered old.guard.stage new.guard.stage (handed_at call.event call.apdu)
+          (awaited old.guard.stage + requests (given (carrier_call m input h.inner new.carrier ∷ []))) none
+          (subst (λ (g : GuardValue). awaited g.stage ≤ awaited old.guard.stage + requests (given (carrier_call m input h.inner new.carrier ∷ [])))
+          (sym h.after) (waits h.inner));
+    }
 
 -- the carrier is not called
-refuses : {C : Type 0} (m : Meaning C) (old new : Guarded C) (call : CarrierCall) (guard : GuardValue) (made : List SecurityCall)
+refuses : {C : Type 0} (m : Meaning C) (old new : Guarded C) (call : CarrierCall) (guard : GuardValue) (made session : List SecurityCall)
     → call.event ≡ event.Insecure → new ≡ at old.carrier guard
-    → guard.challenge ≡ old.guard.challenge → Led old.guard.security made guard.security → Piece m old (Carries call) new
-refuses {C} m old new call guard made e is keeps steps = record {
-  share = record { carried = []; made = made };
-  carrier = ap (λ (v : Guarded C). v.carrier) is;
-  security = subst (λ (v : Guarded C). Led old.guard.security made v.guard.security) (sym is) steps;
-  challenge = ap (λ (v : Guarded C). v.guard.challenge) is ∙ keeps;
-  down = All-nil (GoesOut (Carries call) made);
-  up = none_up _ (handed_at call.event call.apdu) (unheard call.event event.Insecure call.apdu e refl);
-}
+    → guard.challenge ≡ old.guard.challenge → Led old.guard.security made guard.security → Session old.guard.stage old.guard session guard → guard.security.peer ≡ old.guard.security.peer
+    → 0 + unused guard ≤ unused old.guard → awaited guard.stage ≤ awaited old.guard.stage + 0 → Piece m old (Carries call) new
+refuses {C} m old new call guard made session e is keeps steps layers peers uses waits =
+    let none : handed_at call.event call.apdu ≡ None = unheard call.event event.Insecure call.apdu e refl in
+    record {
+      share = record { stage = old.guard.stage; carried = []; made = made; session = session };
+      before = refl;
+      carrier = ap (λ (v : Guarded C). v.carrier) is;
+      security = subst (λ (v : Guarded C). Led old.guard.security made v.guard.security) (sym is) steps;
+      layer = λ none. (subst (λ (v : Guarded C). Session old.guard.stage old.guard session v.guard) (sym is) layers).layer;
+      session = layers.still;
+      quiet = layers.quiet;
+      titled = (subst (λ (v : Guarded C). Session old.guard.stage old.guard session v.guard) (sym is) layers).titled;
+      challenge = ap (λ (v : Guarded C). v.guard.challenge) is ∙ keeps;
+      title = AsBefore (ap (λ (v : Guarded C). v.guard.security.peer) is ∙ peers);
+      down = All-nil (GoesOut old.guard (Carries call) (made ++ session));
+      up = none_up _ (handed_at call.event call.apdu) none;
+      asked = subst (λ (v : Guarded C). 0 + unused v.guard ≤ unused old.guard + 0) (sym is) (more_than (0 + unused guard) (unused old.guard) uses);
+      answered = unanswered old.guard.stage new.guard.stage (handed_at call.event call.apdu) (awaited old.guard.stage + 0) none
+          (subst (λ (v : Guarded C). awaited v.guard.stage ≤ awaited old.guard.stage + 0) (sym is) waits);
+    }
 
 -- no APDU goes out
-silent : (call : Call) (made : List SecurityCall) → All (GoesOut call made) []
-silent call made = All-nil (GoesOut call made)
+silent : (g : GuardValue) (call : Call) (made : List SecurityCall) → All (GoesOut g call made) []
+silent g call made = All-nil (GoesOut g call made)
 
 begins : {C : Type 0} (m : Meaning C) (unused : Bool) (old new : Guarded C) (call : CarrierCall) → Begins m.steps unused old call.event new
     → Piece m old (Carries call) new
-begins m true old new call h = passes m old new call Begin (λ e. after_begin old.guard) [] h (λ e. refl) (λ e. led_none old.guard.security)
-    (λ e. silent (Carries call) [])
-begins m false old new call h = refuses m old new call (after_begin old.guard) [] h.0 h.1 refl (led_none old.guard.security)
+begins m true old new call h = passes m old new call Begin (λ e. after_begin old.guard) [] [] h (λ e. refl) (λ e. led_none old.guard.security)
+    (λ e. idle_session old.guard.stage old.guard (after_begin old.guard) refl refl) (λ e. refl)
+    (λ e. silent old.guard (Carries call) []) (λ e. same_sum (unused old.guard)) (λ e. begin_waits old.guard)
+begins m false old new call h = refuses m old new call (after_begin old.guard) [] [] h.0 h.1 refl (led_none old.guard.security)
+    (idle_session old.guard.stage old.guard (after_begin old.guard) refl refl) refl
+    (same_sum (unused old.guard)) (begin_waits old.guard)
 
 -- the guard's turn
 gives_by : {C : Type 0} (m : Meaning C) (old new : Guarded C) (call : CarrierCall) (t : Turn (List ℕ)) (r : Result (List ℕ) SecuredFault) → t.result ≡ r
-    → Giving (Carries call) old.guard t → Gives m.steps t.guard r old call.event new → Piece m old (Carries call) new
+    → Giving (Carries call) old.guard.stage old.guard t → Gives m.steps t.guard r old call.event new → Piece m old (Carries call) new
 gives_by m old new call t (Ok message) is k h =
-    passes m old new call (Give message) (λ e. t.guard) t.calls h (λ e. k.same) (λ e. k.steps)
-    (λ e. All-cons (GoesOut (Carries call) t.calls) message [] (k.out message is) (silent (Carries call) t.calls))
-gives_by m old new call t (Err why) is k h = refuses m old new call t.guard t.calls h.0 h.1 k.same k.steps
+    passes m old new call (Give message) (λ e. t.guard) t.calls t.session h (λ e. k.same) (λ e. k.steps) (λ e. k.session) (λ e. k.title)
+    (λ e. All-cons (GoesOut old.guard (Carries call) (t.calls ++ t.session)) message [] (k.out message is)
+    (silent old.guard (Carries call) (t.calls ++ t.session)))
+    (λ e. subst (λ (r : Result (List ℕ) SecuredFault). requests (sent r) + unused t.guard ≤ unused old.guard) is k.asked)
+    (λ e. subst (λ (r : Result (List ℕ) SecuredFault). awaited t.guard.stage ≤ awaited old.guard.stage + requests (sent r)) is k.waits)
+gives_by m old new call t (Err why) is k h = refuses m old new call t.guard t.calls t.session h.0 h.1 k.same k.steps k.session k.title
+    (subst (λ (r : Result (List ℕ) SecuredFault). requests (sent r) + unused t.guard ≤ unused old.guard) is k.asked)
+    (subst (λ (r : Result (List ℕ) SecuredFault). awaited t.guard.stage ≤ awaited old.guard.stage + requests (sent r)) is k.waits)
 
 -- an event of the connection keeps the security layer
-same_security : (g : GuardValue) (e : Event) → Led g.security [] (after_event g e).security
-same_security g event.Nothing = led_none g.security
-same_security g event.Apdu = led_none g.security
-same_security g event.Up = led_none g.security
-same_security g event.Down = led_none g.security
-same_security g event.TimedOut = led_none g.security
-same_security g (event.Refused why) = led_none g.security
-same_security g event.Insecure = led_none g.security
+same_security : (g : GuardValue) (e : Event) → (after_event g e).security ≡ g.security
+same_security g event.Nothing = refl
+same_security g event.Apdu = refl
+same_security g event.Up = refl
+same_security g event.Down = refl
+same_security g event.TimedOut = refl
+same_security g (event.Refused why) = refl
+same_security g event.Insecure = refl
+
+led_event : (g : GuardValue) (e : Event) → Led g.security [] (after_event g e).security
+led_event g e = subst (λ (s : SecurityState). Led g.security [] s) (sym (same_security g e)) (led_none g.security)
+
+same_peer : (g : GuardValue) (e : Event) → (after_event g e).security.peer ≡ g.security.peer
+same_peer g e = ap (λ (s : SecurityState). s.peer) (same_security g e)
+
+same_dedicated : (g : GuardValue) (e : Event) → (after_event g e).dedicated ≡ g.dedicated
+same_dedicated g event.Nothing = refl
+same_dedicated g event.Apdu = refl
+same_dedicated g event.Up = refl
+same_dedicated g event.Down = refl
+same_dedicated g event.TimedOut = refl
+same_dedicated g (event.Refused why) = refl
+same_dedicated g event.Insecure = refl
+
+event_session : (g : GuardValue) (e : Event) → Session g.stage g [] (after_event g e)
+event_session g e = idle_session g.stage g (after_event g e) (same_dedicated g e) (same_peer g e)
 
 same_challenge : (g : GuardValue) (e : Event) → (after_event g e).challenge ≡ g.challenge
 same_challenge g event.Nothing = refl
@@ -142,51 +260,115 @@ same_challenge g event.Insecure = refl
 handed_up : (result : Event) (apdu handed : List ℕ) (P : List ℕ → Type 0) → result ≡ event.Apdu → apdu ≡ handed → P handed → IfSome (handed_at result apdu) P
 handed_up result apdu handed P e is h = subst (λ (e : Event). IfSome (handed_at e apdu) P) (sym e) (subst P (sym is) h)
 
+-- more APDUs may arrive
+learned_more : (client : List ℕ) (known : Option (List ℕ)) (own came more : List (List ℕ)) (peer : Option (List ℕ)) → Learned client known own came peer
+    → Learned client known own (came ++ more) peer
+learned_more client known own came more peer (AsBefore e) = AsBefore e
+learned_more client known own came more peer (ByResponse title challenge apdu none is among arrived names) =
+    ByResponse title challenge apdu none is among (Contains-append_left came more apdu arrived) names
+
 follows : {C : Type 0} (m : Meaning C) (old new : Guarded C) (call : CarrierCall) (octets : List ℕ) (count : ℕ) (carrier : C)
     (taken : Result Taken SecuredFault) (guard : GuardValue)
-    → m.steps old.carrier (Feed octets count) event.Apdu carrier → Taking old.guard.stage old.guard taken guard → call.apdu ≡ new.guard.handed
+    → m.steps old.carrier (Feed octets count) event.Apdu carrier → Taking old.guard.stage old.guard (m.apdu_of carrier) taken guard
+    → call.apdu ≡ new.guard.handed
     → Follows m.steps taken (at carrier guard) call.event new → Piece m old (Carries call) new
 follows {C} m old new call octets count carrier (Ok Hands) guard feeds k same h = record {
-  share = record { carried = carrier_call m (Feed octets count) event.Apdu carrier ∷ []; made = k.made };
+  share = record { stage = old.guard.stage; carried = carrier_call m (Feed octets count) event.Apdu carrier ∷ []; made = k.made; session = k.calls };
+  before = refl;
   carrier = subst (λ (v : Guarded C). CarrierRuns m.steps m.out_of m.apdu_of old.carrier (carrier_call m (Feed octets count) event.Apdu carrier ∷ [])
       v.carrier) (sym h.1) (one_call m old.carrier (Feed octets count) event.Apdu carrier feeds);
   security = subst (λ (v : Guarded C). Led old.guard.security k.made v.guard.security) (sym h.1) k.steps;
+  layer = λ none. (subst (λ (v : Guarded C). Session old.guard.stage old.guard k.calls v.guard) (sym h.1) k.session).layer;
+  session = k.session.still;
+  quiet = k.session.quiet;
+  titled = (subst (λ (v : Guarded C). Session old.guard.stage old.guard k.calls v.guard) (sym h.1) k.session).titled;
   challenge = ap (λ (v : Guarded C). v.guard.challenge) h.1 ∙ k.same;
-  down = silent (Carries call) k.made;
-  up = handed_up call.event call.apdu new.guard.handed (λ apdu. HandsUp old.guard.stage old.guard k.made apdu new.guard) h.0 same
-      (subst (λ (v : Guarded C). HandsUp old.guard.stage old.guard k.made v.guard.handed v.guard) (sym h.1) (k.up refl));
+  title = subst (λ (v : Guarded C). Learned old.guard.security.own old.guard.security.peer (old.guard.challenge ∷ []) (m.apdu_of carrier ∷ [])
+      v.guard.security.peer) (sym h.1) k.title;
+  down = silent old.guard (Carries call) (k.made ++ k.calls);
+  up = handed_up call.event call.apdu new.guard.handed (λ apdu. HandsUp old.guard.stage old.guard (k.made ++ k.calls) apdu new.guard) h.0 same
+      (subst (λ (v : Guarded C). HandsUp old.guard.stage old.guard (k.made ++ k.calls) v.guard.handed v.guard) (sym h.1) (k.up refl));
+  asked = kept old.guard new.guard (ap (λ (v : Guarded C). v.guard.unused) h.1 ∙ k.used);
+  answered = subst (λ (v : Guarded C). answered_in old.guard.stage (handed_at call.event call.apdu) + awaited v.guard.stage ≤ awaited old.guard.stage + 0)
+      (sym h.1) (answered_by old.guard.stage guard.stage call.event call.apdu h.0 k.waits);
 }
-follows m old new call octets count carrier (Ok (Sends message)) guard feeds k same h = record {
-  share = record { carried = carrier_call m (Feed octets count) event.Apdu carrier ∷ carrier_call m (Give message) h.0 new.carrier ∷ []; made = k.made };
-  carrier = (carrier, record { step = feeds; out = refl; apdu = refl }, one_call m carrier (Give message) h.0 new.carrier h.1);
-  security = subst (λ (g : GuardValue). Led old.guard.security k.made g.security) (sym h.3) k.steps;
-  challenge = ap (λ (g : GuardValue). g.challenge) h.3 ∙ k.same;
-  down = All-cons (GoesOut (Carries call) k.made) message [] (k.down (Carries call) message refl) (silent (Carries call) k.made);
-  up = none_up _ (handed_at call.event call.apdu) (unheard call.event event.Nothing call.apdu h.2 refl);
-}
-follows {C} m old new call octets count carrier (Err why) guard feeds k same h = record {
-  share = record { carried = carrier_call m (Feed octets count) event.Apdu carrier ∷ []; made = k.made };
-  carrier = subst (λ (v : Guarded C). CarrierRuns m.steps m.out_of m.apdu_of old.carrier (carrier_call m (Feed octets count) event.Apdu carrier ∷ [])
-      v.carrier) (sym h.1) (one_call m old.carrier (Feed octets count) event.Apdu carrier feeds);
-  security = subst (λ (v : Guarded C). Led old.guard.security k.made v.guard.security) (sym h.1) k.steps;
-  challenge = ap (λ (v : Guarded C). v.guard.challenge) h.1 ∙ k.same;
-  down = silent (Carries call) k.made;
-  up = none_up _ (handed_at call.event call.apdu) (unheard call.event event.Insecure call.apdu h.0 refl);
-}
+follows m old new call octets count carrier (Ok (Sends message)) guard feeds k same h =
+    let out : List CarrierCall = carrier_call m (Feed octets count) event.Apdu carrier ∷ carrier_call m (Give message) h.0 new.carrier ∷ [] in
+    let none : handed_at call.event call.apdu ≡ None = unheard call.event event.Nothing call.apdu h.2 refl in
+    let other : requests (message ∷ []) ≡ 0 = no_request message k.waits.0 in
+    record {
+      share = record { stage = old.guard.stage; carried = out; made = k.made; session = k.calls };
+      before = refl;
+      carrier = (carrier, record { step = feeds; out = refl; apdu = refl }, one_call m carrier (Give message) h.0 new.carrier h.1);
+      security = subst (λ (g : GuardValue). Led old.guard.security k.made g.security) (sym h.3) k.steps;
+      layer = λ none. (subst (λ (g : GuardValue). Session old.guard.stage old.guard k.calls g) (sym h.3) k.session).layer;
+      session = k.session.still;
+      quiet = k.session.quiet;
+      titled = (subst (λ (g : GuardValue). Session old.guard.stage old.guard k.calls g) (sym h.3) k.session).titled;
+      challenge = ap (λ (g : GuardValue). g.challenge) h.3 ∙ k.same;
+      title = learned_more old.guard.security.own old.guard.security.peer (old.guard.challenge ∷ []) (m.apdu_of carrier ∷ [])
+          (arrived (carrier_call m (Give message) h.0 new.carrier ∷ [])) new.guard.security.peer
+          (subst (λ (g : GuardValue). Learned old.guard.security.own old.guard.security.peer (old.guard.challenge ∷ []) (m.apdu_of carrier ∷ [])
+          g.security.peer) (sym h.3) k.title);
+      down = All-cons (GoesOut old.guard (Carries call) (k.made ++ k.calls)) message [] (k.down (Carries call) message refl)
+          (silent old.guard (Carries call) (k.made ++ k.calls));
+      up = none_up _ (handed_at call.event call.apdu) none;
+      asked = subst (λ (n : ℕ). n + unused new.guard ≤ unused old.guard + 0) (sym other)
+          (kept old.guard new.guard (ap (λ (g : GuardValue). g.unused) h.3 ∙ k.used));
+      answered = unanswered old.guard.stage new.guard.stage (handed_at call.event call.apdu) (awaited old.guard.stage + requests (message ∷ [])) none
+          (subst (λ (n : ℕ). awaited new.guard.stage ≤ awaited old.guard.stage + n) (sym other)
+          (more_than (awaited new.guard.stage) (awaited old.guard.stage)
+          (subst (λ (g : GuardValue). awaited g.stage ≤ awaited old.guard.stage) (sym h.3) k.waits.1)));
+    }
+follows {C} m old new call octets count carrier (Err why) guard feeds k same h =
+    let none : handed_at call.event call.apdu ≡ None = unheard call.event event.Insecure call.apdu h.0 refl in
+    record {
+      share = record { stage = old.guard.stage; carried = carrier_call m (Feed octets count) event.Apdu carrier ∷ []; made = k.made; session = k.calls };
+      before = refl;
+      carrier = subst (λ (v : Guarded C). CarrierRuns m.steps m.out_of m.apdu_of old.carrier (carrier_call m (Feed octets count) event.Apdu carrier ∷ [])
+          v.carrier) (sym h.1) (one_call m old.carrier (Feed octets count) event.Apdu carrier feeds);
+      security = subst (λ (v : Guarded C). Led old.guard.security k.made v.guard.security) (sym h.1) k.steps;
+      layer = λ none. (subst (λ (v : Guarded C). Session old.guard.stage old.guard k.calls v.guard) (sym h.1) k.session).layer;
+      session = k.session.still;
+      quiet = k.session.quiet;
+      titled = (subst (λ (v : Guarded C). Session old.guard.stage old.guard k.calls v.guard) (sym h.1) k.session).titled;
+      challenge = ap (λ (v : Guarded C). v.guard.challenge) h.1 ∙ k.same;
+      title = subst (λ (v : Guarded C). Learned old.guard.security.own old.guard.security.peer (old.guard.challenge ∷ []) (m.apdu_of carrier ∷ [])
+          v.guard.security.peer) (sym h.1) k.title;
+      down = silent old.guard (Carries call) (k.made ++ k.calls);
+      up = none_up _ (handed_at call.event call.apdu) none;
+      asked = kept old.guard new.guard (ap (λ (v : Guarded C). v.guard.unused) h.1 ∙ k.used);
+      answered = unanswered old.guard.stage new.guard.stage (handed_at call.event call.apdu) (awaited old.guard.stage + 0) none
+          (subst (λ (v : Guarded C). awaited v.guard.stage ≤ awaited old.guard.stage + 0) (sym h.1)
+          (more_than (awaited guard.stage) (awaited old.guard.stage) k.waits));
+    }
 
 -- another event is returned
 returns : {C : Type 0} (m : Meaning C) (old new : Guarded C) (call : CarrierCall) (octets : List ℕ) (count : ℕ) (carrier : C) (inner : Event)
     → ((apdu : List ℕ) → handed_at inner apdu ≡ None)
     → m.steps old.carrier (Feed octets count) inner carrier → Returns inner (at carrier old.guard) call.event new → Piece m old (Carries call) new
-returns {C} m old new call octets count carrier inner none feeds h = record {
-  share = record { carried = carrier_call m (Feed octets count) inner carrier ∷ []; made = [] };
-  carrier = subst (λ (v : Guarded C). CarrierRuns m.steps m.out_of m.apdu_of old.carrier (carrier_call m (Feed octets count) inner carrier ∷ []) v.carrier)
-      (sym h.1) (one_call m old.carrier (Feed octets count) inner carrier feeds);
-  security = subst (λ (v : Guarded C). Led old.guard.security [] v.guard.security) (sym h.1) (same_security old.guard inner);
-  challenge = ap (λ (v : Guarded C). v.guard.challenge) h.1 ∙ same_challenge old.guard inner;
-  down = silent (Carries call) [];
-  up = none_up _ (handed_at call.event call.apdu) (unheard call.event inner call.apdu h.0 (none call.apdu));
-}
+returns {C} m old new call octets count carrier inner none feeds h =
+    let unhanded : handed_at call.event call.apdu ≡ None = unheard call.event inner call.apdu h.0 (none call.apdu) in
+    record {
+      share = record { stage = old.guard.stage; carried = carrier_call m (Feed octets count) inner carrier ∷ []; made = []; session = [] };
+      before = refl;
+      carrier = subst (λ (v : Guarded C). CarrierRuns m.steps m.out_of m.apdu_of old.carrier (carrier_call m (Feed octets count) inner carrier ∷ [])
+          v.carrier) (sym h.1) (one_call m old.carrier (Feed octets count) inner carrier feeds);
+      security = subst (λ (v : Guarded C). Led old.guard.security [] v.guard.security) (sym h.1) (led_event old.guard inner);
+      layer = λ idle. (subst (λ (v : Guarded C). Session old.guard.stage old.guard [] v.guard) (sym h.1) (event_session old.guard inner)).layer;
+      session = All-nil IsNoStop;
+      quiet = none_quiet old.guard.stage;
+      titled = (subst (λ (v : Guarded C). Session old.guard.stage old.guard [] v.guard) (sym h.1) (event_session old.guard inner)).titled;
+      challenge = ap (λ (v : Guarded C). v.guard.challenge) h.1 ∙ same_challenge old.guard inner;
+      title = AsBefore (ap (λ (v : Guarded C). v.guard.security.peer) h.1 ∙ same_peer old.guard inner);
+      down = silent old.guard (Carries call) [];
+      up = none_up _ (handed_at call.event call.apdu) unhanded;
+      asked = subst (λ (v : Guarded C). 0 + unused v.guard ≤ unused old.guard + 0) (sym h.1)
+          (more_than (0 + unused (after_event old.guard inner)) (unused old.guard) (event_unused old.guard inner));
+      answered = unanswered old.guard.stage new.guard.stage (handed_at call.event call.apdu) (awaited old.guard.stage + 0) unhanded
+          (subst (λ (v : Guarded C). awaited v.guard.stage ≤ awaited old.guard.stage + 0) (sym h.1)
+          (more_than (awaited (after_event old.guard inner).stage) (awaited old.guard.stage) (event_waits old.guard inner)));
+    }
 
 comes : {C : Type 0} (m : Meaning C) (inner : Event) (old new : Guarded C) (call : CarrierCall) (octets : List ℕ) (count : ℕ) (carrier : C)
     → m.steps old.carrier (Feed octets count) inner carrier
@@ -204,9 +386,22 @@ comes m event.Insecure old new call octets count carrier feeds same h = returns 
 feeds_by : {C : Type 0} (m : Meaning C) (failed : Option SecuredFault) (old new : Guarded C) (call : CarrierCall) (octets : List ℕ) (count : ℕ)
     → call.apdu ≡ new.guard.handed → Feeds m.steps m.apdu_of failed octets count old call.event new → Piece m old (Carries call) new
 feeds_by m None old new call octets count same h = comes m h.inner old new call octets count h.carrier h.feeds same h.comes
-feeds_by m (Some why) old new call octets count same h = refuses m old new call old.guard [] h.1 h.2 refl (led_none old.guard.security)
+feeds_by m (Some why) old new call octets count same h = refuses m old new call old.guard [] [] h.1 h.2 refl (led_none old.guard.security)
+    (idle_session old.guard.stage old.guard old.guard refl refl) refl
+    (same_sum (unused old.guard)) (more_than (awaited old.guard.stage) (awaited old.guard.stage) (event_waits old.guard event.Nothing))
 
 -- ---- any call
+
+-- the carrier's event may end the association
+of_event : {C : Type 0} (m : Meaning C) (old new : Guarded C) (call : CarrierCall) (input : Input) → given_by input ≡ None
+    → Passes m.steps input (after_event old.guard) old call.event new → Piece m old (Carries call) new
+of_event m old new call input none h = passes m old new call input (after_event old.guard) [] [] h (same_challenge old.guard) (led_event old.guard)
+    (event_session old.guard) (same_peer old.guard) (λ e. subst (λ (o : Option (List ℕ)). All (GoesOut old.guard (Carries call) []) (cons_option o [])) (sym none)
+    (silent old.guard (Carries call) []))
+    (λ e. subst (λ (o : Option (List ℕ)). requests (cons_option o []) + unused (after_event old.guard e) ≤ unused old.guard) (sym none)
+    (event_unused old.guard e))
+    (λ e. subst (λ (o : Option (List ℕ)). awaited (after_event old.guard e).stage ≤ awaited old.guard.stage + requests (cons_option o [])) (sym none)
+    (more_than (awaited (after_event old.guard e).stage) (awaited old.guard.stage) (event_waits old.guard e)))
 
 by_input : {C : Type 0} (m : Meaning C) (input : Input) (old new : Guarded C) (call : CarrierCall) → call.input ≡ input → call.apdu ≡ new.guard.handed
     → GuardedSteps m.steps m.apdu_of old input call.event new → Piece m old (Carries call) new
@@ -215,34 +410,67 @@ by_input m (Give apdu) old new call is same h =
     gives_by m old new call (gives old.guard apdu) (gives old.guard apdu).result refl
     (gives_giving (Carries call) old.guard apdu (ap (λ (i : Input). given_by i) is)) h
 by_input m (Feed octets count) old new call is same h = feeds_by m (fault_of old.guard.stage) old new call octets count same h
-by_input m Wait old new call is same h = passes m old new call Wait (after_event old.guard) [] h (same_challenge old.guard) (same_security old.guard)
-    (λ e. silent (Carries call) [])
-by_input m End old new call is same h = passes m old new call End (after_event old.guard) [] h (same_challenge old.guard) (same_security old.guard)
-    (λ e. silent (Carries call) [])
+by_input m Wait old new call is same h = of_event m old new call Wait refl h
+by_input m End old new call is same h = of_event m old new call End refl h
+
+-- a new layer knows no title
+pub fresh_titled : (own authentication : List ℕ) (policy : Policy) (key peer : Option (List ℕ)) → IsTitled (layer_of own authentication policy key) peer
+fresh_titled own authentication policy None peer = tt
+fresh_titled own authentication policy (Some key) peer = λ title e. absurd (let clash = e in cc)
 
 piece_of : {C : Type 0} (m : Meaning C) (call : Call) (old new : Guarded C) → IsCall m old call new → Piece m old call new
 piece_of m (Carries call) old new h = by_input m call.input old new call refl h.1 h.0
-piece_of {C} m (Renews challenge) old new h = record {
-  share = record { carried = []; made = [] };
+piece_of {C} m (Renews challenge key) old new h = record {
+  share = record { stage = old.guard.stage; carried = []; made = []; session = [] };
+  before = refl;
   carrier = ap (λ (v : Guarded C). v.carrier) h;
   security = record { steps = ap (λ (v : Guarded C). v.guard.security) h; unstopped = All-nil IsNoStop };
+  layer = λ none. absurd (let clash = none in cc);
+  session = All-nil IsNoStop;
+  quiet = none_quiet old.guard.stage;
+  titled = λ before. subst (λ (v : Guarded C). IsTitled v.guard.dedicated v.guard.security.peer) (sym h)
+      (fresh_titled old.guard.security.own old.guard.authentication old.guard.security.policy (hidden old.guard.security.policy key)
+      old.guard.security.peer);
   challenge = ap (λ (v : Guarded C). v.guard.challenge) h;
-  down = silent (Renews challenge) [];
+  title = AsBefore (ap (λ (v : Guarded C). v.guard.security.peer) h);
+  down = silent old.guard (Renews challenge key) [];
   up = tt;
+  asked = subst (λ (v : Guarded C). 0 + unused v.guard ≤ unused old.guard + 1) (sym h) (one_more (unused old.guard));
+  answered = subst (λ (v : Guarded C). 0 + awaited v.guard.stage ≤ awaited old.guard.stage + 0) (sym h) (least (awaited old.guard.stage + 0));
 }
+  where
+    one_more : (n : ℕ) → 0 + 1 ≤ n + 1
+    one_more n = omega arith
 piece_of {C} m (Reserves upto) old new h = record {
-  share = record { carried = []; made = ReservesOf upto ∷ [] };
+  share = record { stage = old.guard.stage; carried = []; made = ReservesOf upto ∷ []; session = [] };
+  before = refl;
   carrier = ap (λ (v : Guarded C). v.carrier) h.1;
   security = record {
     steps = (after_reserved old.guard.security upto, (h.0, refl), ap (λ (v : Guarded C). v.guard.security) h.1);
     unstopped = All-cons IsNoStop (ReservesOf upto) [] tt (All-nil IsNoStop);
   };
+  layer = λ none. subst (λ (v : Guarded C). IsLayer old.guard.dedicated [] v.guard.dedicated) (sym h.1) (idle_layer old.guard.dedicated);
+  session = All-nil IsNoStop;
+  quiet = none_quiet old.guard.stage;
+  titled = λ before. subst (λ (v : Guarded C). IsTitled v.guard.dedicated v.guard.security.peer) (sym h.1)
+      (same_titled old.guard.dedicated old.guard.security.peer (after_reserved old.guard.security upto).peer (reserved_peer old.guard.security upto) before);
   challenge = ap (λ (v : Guarded C). v.guard.challenge) h.1;
-  down = silent (Reserves upto) (ReservesOf upto ∷ []);
+  title = AsBefore (ap (λ (v : Guarded C). v.guard.security.peer) h.1 ∙ reserved_peer old.guard.security upto);
+  down = silent old.guard (Reserves upto) (ReservesOf upto ∷ []);
   up = tt;
+  asked = subst (λ (v : Guarded C). 0 + unused v.guard ≤ unused old.guard + 0) (sym h.1)
+      (more_than (0 + unused old.guard) (unused old.guard) (same_sum (unused old.guard)));
+  answered = subst (λ (v : Guarded C). 0 + awaited v.guard.stage ≤ awaited old.guard.stage + 0) (sym h.1)
+      (more_than (0 + awaited old.guard.stage) (awaited old.guard.stage) (same_sum (awaited old.guard.stage)));
 }
 
 -- ---- a run
+
+pub left_none : (a b : ℕ) → a + b ≡ 0 → a ≡ 0
+left_none a b e = omega arith
+
+pub right_none : (a b : ℕ) → a + b ≡ 0 → b ≡ 0
+right_none a b e = omega arith
 
 pub runs_lead : {C : Type 0} (m : Meaning C) (old new : Guarded C) (calls : List Call) → Runs m old calls new → Beside m old calls new
 runs_lead {C} m old new [] h = record {
@@ -251,6 +479,9 @@ runs_lead {C} m old new [] h = record {
   carrier = ap (λ (v : Guarded C). v.carrier) h;
   security = ap (λ (v : Guarded C). v.guard.security) h;
   unstopped = All-nil IsNoStop;
+  layer = λ none. subst (λ (v : Guarded C). IsLayer old.guard.dedicated [] v.guard.dedicated) (sym h) (idle_layer old.guard.dedicated);
+  session = All-nil IsNoStop;
+  titled = λ before. subst (λ (v : Guarded C). IsTitled v.guard.dedicated v.guard.security.peer) (sym h) before;
 }
 runs_lead {C} m old new (call ∷ calls) h =
     let mid : Guarded C = h.0 in
@@ -262,12 +493,20 @@ runs_lead {C} m old new (call ∷ calls) h =
         mid,
         record {
           is_call = h.1;
+          before = first.before;
           carrier = first.carrier;
           security = first.security.steps;
           unstopped = first.security.unstopped;
+          layer = first.layer;
+          session = first.session;
+          quiet = first.quiet;
+          titled = first.titled;
           challenge = first.challenge;
+          title = first.title;
           down = first.down;
           up = first.up;
+          asked = first.asked;
+          answered = first.answered;
         },
         rest.each,
       );
@@ -275,205 +514,22 @@ runs_lead {C} m old new (call ∷ calls) h =
       security = steps_append first.share.made (made_in rest.shares) old.guard.security mid.guard.security new.guard.security first.security.steps
           rest.security;
       unstopped = All-append IsNoStop first.share.made (made_in rest.shares) first.security.unstopped rest.unstopped;
+      layer = λ none. layer_then first.share.session (session_in rest.shares) old.guard.dedicated mid.guard.dedicated new.guard.dedicated
+          (first.layer (left_none (set_by call) (renewals calls) none)) (rest.layer (right_none (set_by call) (renewals calls) none));
+      session = All-append IsNoStop first.share.session (session_in rest.shares) first.session rest.session;
+      titled = λ before. rest.titled (first.titled before);
     }
 
--- ---- never in clear
+-- ---- parts of lists
 
-all_split : {X : Type 0} (P : X → Type 0) (xs ys : List X) → All P (xs ++ ys) → All P xs × All P ys
+pub all_split : {X : Type 0} (P : X → Type 0) (xs ys : List X) → All P (xs ++ ys) → All P xs × All P ys
 all_split P [] ys h = (All-nil P, h)
 all_split P (x ∷ xs) ys h =
     let rest = all_split P xs ys (All-tail P x (xs ++ ys) h) in
     (All-cons P x xs (All-head P x (xs ++ ys) h) rest.0, rest.1)
 
-abbrev Protected : SecurityState → Exchange → Type 0
-Protected s x = IsProtected s s.own (counter_in x) x
-
--- the messages of one call
-secret_here : (s : SecurityState) (call : Call) (made : List SecurityCall) (messages : List (List ℕ)) → All (Protected s) (outgoing made)
-    → All (GoesOut call made) messages → All (IsSecret s) messages
-secret_here s call made [] are h = All-nil (IsSecret s)
-secret_here s call made (message ∷ messages) are h =
-    let out : GoesOut call made message = All-head (GoesOut call made) message messages h in
-    let is : Protected s out.exchange = All-head (Protected s) out.exchange [] (subst (λ (l : List Exchange). All (Protected s) l) out.alone are) in
-    All-cons (IsSecret s) message messages (record { call = call; exchange = out.exchange; is = is; covers = out.covers })
-    (secret_here s call made messages are (All-tail (GoesOut call made) message messages h))
-
-given_append : (xs ys : List CarrierCall) → given (xs ++ ys) ≡ given xs ++ given ys
+pub given_append : (xs ys : List CarrierCall) → given (xs ++ ys) ≡ given xs ++ given ys
 given_append xs ys = filter_map-append (λ (call : CarrierCall). given_by call.input) xs ys
-
-secret_shares : {C : Type 0} (m : Meaning C) (s : SecurityState) (calls : List Call) (shares : List Share) (old new : Guarded C)
-    → AreShares m old calls shares new → All (Protected s) (outgoing (made_in shares)) → All (IsSecret s) (given (carried_in shares))
-secret_shares m s [] [] old new h are = All-nil (IsSecret s)
-secret_shares m s [] (share ∷ shares) old new h are = absurd h
-secret_shares m s (call ∷ calls) [] old new h are = absurd h
-secret_shares m s (call ∷ calls) (share ∷ shares) old new h are =
-    let both = all_split (Protected s) (outgoing share.made) (outgoing (made_in shares))
-    (subst (λ (l : List Exchange). All (Protected s) l) (outgoing_append share.made (made_in shares)) are) in
-    All-same (IsSecret s) (given (share.carried ++ carried_in shares)) (given share.carried ++ given (carried_in shares))
-    (given_append share.carried (carried_in shares))
-    (All-append (IsSecret s) (given share.carried) (given (carried_in shares)) (secret_here s call share.made (given share.carried) both.0 h.1.down)
-    (secret_shares m s calls shares h.0 new h.2 both.1))
-
-pub never_in_clear : NeverTwice → NeverInTheClear → {C : Type 0} (m : Meaning C) → NeverInClear m
-never_in_clear twice clear m old new calls state runs =
-    let beside = runs_lead m old new calls runs in
-    let s : SecurityState = old.guard.security in
-    record {
-      beside = beside;
-      secret = secret_shares m s calls beside.shares old new beside.each (clear s new.guard.security (made_in beside.shares) state beside.security);
-      counters = twice s new.guard.security (made_in beside.shares) state beside.security;
-    }
-
--- ---- authentic
-
-no_stop_title : (title : List ℕ) (call : SecurityCall) → IsNoStop call → RestoresTitle title call
-no_stop_title title (Protects form apdu result) h = tt
-no_stop_title title (Unprotects message result) h = tt
-no_stop_title title (ReservesOf upto) h = tt
-no_stop_title title (Learns peer) h = tt
-no_stop_title title (Answers challenge result) h = tt
-no_stop_title title (Stops stored) h = absurd h
-
-no_stop_counter : (s : SecurityState) (call : SecurityCall) → IsNoStop call → RestoresCounter s call
-no_stop_counter s (Protects form apdu result) h = tt
-no_stop_counter s (Unprotects message result) h = tt
-no_stop_counter s (ReservesOf upto) h = tt
-no_stop_counter s (Learns peer) h = tt
-no_stop_counter s (Answers challenge result) h = tt
-no_stop_counter s (Stops stored) h = absurd h
-
-restoring : (s t : SecurityState) (calls : List SecurityCall) → All IsNoStop calls → AreSteps s calls t → AreRestoring s calls t
-restoring s t [] none steps = steps
-restoring s t (call ∷ calls) none steps =
-    (steps.0, steps.1, no_stop_counter s call (All-head IsNoStop call calls none), restoring steps.0 t calls (All-tail IsNoStop call calls none) steps.2)
-
--- the one message of a call
-alone_came : (s : SecurityState) (title : List ℕ) (made : List SecurityCall) (apdu : List ℕ) (o : IsOpened made apdu) → All (IsFrom s title) (incoming made)
-    → IsFrom s title (exchange o.message apdu)
-alone_came s title made apdu o are = All-head (IsFrom s title) (exchange o.message apdu) []
-    (subst (λ (l : List Exchange). All (IsFrom s title) l) o.alone are)
-
--- the keys and the peer are those of this state
-record SameAs (s : SecurityState) (title : List ℕ) (t : SecurityState) : Type 0 where
-  encryption : t.encryption ≡ s.encryption
-  authentication : t.authentication ≡ s.authentication
-  peer : t.peer ≡ Some title
-
-same_protect : (s : SecurityState) (title : List ℕ) (t : SecurityState) (r : Result (List ℕ) ProtectFault) → SameAs s title t
-    → SameAs s title (after_protect t r)
-same_protect s title t (Ok message) h = record { encryption = h.encryption; authentication = h.authentication; peer = h.peer }
-same_protect s title t (Err why) h = h
-
-same_unprotect : (s : SecurityState) (title : List ℕ) (t : SecurityState) (r : Result AcceptedApdu UnprotectFault) → SameAs s title t
-    → SameAs s title (after_unprotect t r)
-same_unprotect s title t (Ok apdu) h = record { encryption = h.encryption; authentication = h.authentication; peer = h.peer }
-same_unprotect s title t (Err why) h = h
-
-same_reserved : (s : SecurityState) (title : List ℕ) (t : SecurityState) (upto : ℕ) → SameAs s title t → SameAs s title (after_reserved t upto)
-same_reserved s title t upto h = by_test (nat_lt t.reserved upto)
-  where
-    by_test : (b : Bool) → SameAs s title (cond b (record t { reserved = upto }) t)
-    by_test true = record { encryption = h.encryption; authentication = h.authentication; peer = h.peer }
-    by_test false = h
-
-same_step : (s : SecurityState) (title : List ℕ) (call : SecurityCall) (t u : SecurityState) → IsNoStop call → IsStep t call u → SameAs s title t
-    → SameAs s title u
-same_step s title (Protects form apdu result) t u none step h = subst (SameAs s title) (sym step.1) (same_protect s title t (message_for t form apdu) h)
-same_step s title (Unprotects message result) t u none step h = subst (SameAs s title) (sym step.1) (same_unprotect s title t (acceptance t message) h)
-same_step s title (ReservesOf upto) t u none step h = subst (SameAs s title) (sym step.1) (same_reserved s title t upto h)
-same_step s title (Learns peer) t u none step h = subst (SameAs s title) (sym (step ∙ ap (λ (o : Option (List ℕ)). after_learn t o peer) h.peer)) h
-same_step s title (Answers challenge result) t u none step h = subst (SameAs s title) (sym step.1) (same_protect s title t (answer_for t challenge) h)
-same_step s title (Stops stored) t u none step h = absurd none
-
-same_steps : (s : SecurityState) (title : List ℕ) (calls : List SecurityCall) (t u : SecurityState) → All IsNoStop calls → AreSteps t calls u
-    → SameAs s title t → SameAs s title u
-same_steps s title [] t u none steps h = subst (SameAs s title) (sym steps) h
-same_steps s title (call ∷ calls) t u none steps h =
-    same_steps s title calls steps.0 u (All-tail IsNoStop call calls none) steps.2
-    (same_step s title call t steps.0 (All-head IsNoStop call calls none) steps.1 h)
-
--- the same answer, under the keys and the title of this state
-same_answer : (s t : SecurityState) (title challenge answer : List ℕ) → SameAs s title t → IsAnswerOf t t.peer challenge answer
-    → IsAnswerOf s (Some title) challenge answer
-same_answer s t title challenge answer h k =
-    subst (λ (key : List ℕ). IsAnswer key s.authentication title challenge answer) h.encryption
-    (subst (λ (key : List ℕ). IsAnswer t.encryption key title challenge answer) h.authentication
-    (subst (λ (o : Option (List ℕ)). IsAnswerOf t o challenge answer) h.peer k))
-
-abbrev Own : Type 0
-Own = List (List ℕ)
-
-trusted_at : (s : SecurityState) (own : Own) (title : List ℕ) (stage : Stage) (g : GuardValue) (made : List SecurityCall) (apdu : List ℕ) (h : GuardValue)
-    → Contains own g.challenge → SameAs s title h.security → All (IsFrom s title) (incoming made) → HandsUp stage g made apdu h
-    → IsTrusted s own title apdu
-trusted_at s own title Closed g made apdu h among same are k = absurd k
-trusted_at s own title Opening g made apdu h among same are k = AsRefusal k.0
-trusted_at s own title (Proving granted) g made apdu h among same are k =
-    AfterProof k.opened.message k.reply k.answer g.challenge granted (alone_came s title made k.reply k.opened are) k.proof among
-    (same_answer s h.security title g.challenge k.answer same k.right) k.response
-trusted_at s own title Open g made apdu h among same are k =
-    elim k [ inl o ↦ CameProtected o.message (alone_came s title made apdu o are) | inr r ↦ AsRelease r.0 ]
-trusted_at s own title (Failed why) g made apdu h among same are k = absurd k
-
-trusted_call : (P : List ℕ → Type 0) (o : Option (List ℕ)) (rest : List (List ℕ)) → IfSome o P → All P rest → All P (cons_option o rest)
-trusted_call P None rest h k = k
-trusted_call P (Some apdu) rest h k = All-cons P apdu rest h k
-
-if_some : (P Q : List ℕ → Type 0) (o : Option (List ℕ)) → ((apdu : List ℕ) → P apdu → Q apdu) → IfSome o P → IfSome o Q
-if_some P Q None f h = tt
-if_some P Q (Some apdu) f h = f apdu h
-
-among_first : (x : List ℕ) (xs : Own) → Contains (x ∷ xs) x
-among_first x xs = Contains-append_left (x ∷ []) xs x (Contains-push [] x)
-
-among_more : (x : List ℕ) (xs : Own) (y : List ℕ) → Contains xs y → Contains (x ∷ xs) y
-among_more x xs y h = Contains-append_right (x ∷ []) xs y h
-
-trusted_more : (s : SecurityState) (first : List ℕ) (own : Own) (title apdu : List ℕ) → IsTrusted s own title apdu → IsTrusted s (first ∷ own) title apdu
-trusted_more s first own title apdu (CameProtected message is) = CameProtected message is
-trusted_more s first own title apdu (AfterProof message reply answer challenge granted is proof among right whole) =
-    AfterProof message reply answer challenge granted is proof (among_more first own challenge among) right whole
-trusted_more s first own title apdu (AsRefusal is) = AsRefusal is
-trusted_more s first own title apdu (AsRelease is) = AsRelease is
-
-first_among : (own : List ℕ) (calls : List Call) → Contains (challenges own calls) own
-first_among own [] = among_first own []
-first_among own (call ∷ calls) = among_first own (challenges (challenge_after call own) calls)
-
-trusted_shares : {C : Type 0} (m : Meaning C) (s : SecurityState) (title own : List ℕ) (calls : List Call) (shares : List Share) (old new : Guarded C)
-    → old.guard.challenge ≡ own → SameAs s title old.guard.security → AreShares m old calls shares new → All (IsFrom s title) (incoming (made_in shares))
-    → All (IsTrusted s (challenges own calls) title) (handed_by_all calls)
-trusted_shares m s title own [] shares old new is same h are = All-nil (IsTrusted s (challenges own []) title)
-trusted_shares m s title own (call ∷ calls) [] old new is same h are = absurd h
-trusted_shares m s title own (call ∷ calls) (share ∷ shares) old new is same h are =
-    let mid = h.0 in
-    let later : List ℕ = challenge_after call own in
-    let both = all_split (IsFrom s title) (incoming share.made) (incoming (made_in shares))
-    (subst (λ (l : List Exchange). All (IsFrom s title) l) (incoming_append share.made (made_in shares)) are) in
-    let next : SameAs s title mid.guard.security = same_steps s title share.made old.guard.security mid.guard.security h.1.unstopped h.1.security same in
-    let among : Contains (challenges own (call ∷ calls)) old.guard.challenge =
-    subst (λ (x : List ℕ). Contains (challenges own (call ∷ calls)) x) (sym is) (first_among own (call ∷ calls)) in
-    let renewed_is : mid.guard.challenge ≡ later = h.1.challenge ∙ ap (challenge_after call) is in
-    trusted_call (IsTrusted s (challenges own (call ∷ calls)) title) (handed_by call) (handed_by_all calls)
-    (if_some (λ apdu. HandsUp old.guard.stage old.guard share.made apdu mid.guard) (IsTrusted s (challenges own (call ∷ calls)) title) (handed_by call)
-    (λ apdu k. trusted_at s (challenges own (call ∷ calls)) title old.guard.stage old.guard share.made apdu mid.guard among next both.0 k) h.1.up)
-    (All-weaker (IsTrusted s (challenges later calls) title) (IsTrusted s (own ∷ challenges later calls) title)
-    (trusted_more s own (challenges later calls) title) (handed_by_all calls)
-    (trusted_shares m s title later calls shares mid new renewed_is next h.2 both.1))
-
-pub authentic : AuthenticOf → Fresh → {C : Type 0} (m : Meaning C) → Authentic m
-authentic law once m old new title calls known runs =
-    let beside = runs_lead m old new calls runs in
-    let s : SecurityState = old.guard.security in
-    let made : List SecurityCall = made_in beside.shares in
-    let titles : All (RestoresTitle title) made = All-weaker IsNoStop (RestoresTitle title) (no_stop_title title) made beside.unstopped in
-    let same : SameAs s title s = record { encryption = refl; authentication = refl; peer = known } in
-    record {
-      beside = beside;
-      trusted = trusted_shares m s title old.guard.challenge calls beside.shares old new refl same beside.each
-          (law s new.guard.security title made known titles beside.security);
-      fresh = once s new.guard.security made (restoring s new.guard.security made beside.unstopped beside.security);
-    }
 
 -- ---- the carrier's runs
 

@@ -4,15 +4,14 @@ use Rattle.std.proofs.Common.{Bool, true, false, cond, nat_lt, List, [], ◌∷�
 use Rattle.std.proofs.lemmas.Bool.Decides.{nat_tests}
 use Rattle.std.specs.Int.{w32, to_be_bytes}
 use Rattle.dlms_acse.specs.Reading.{aare_at, aarq_at, body_at, octets_at, length_at, number_at, taken_at, inner_at, response_at}
-use Rattle.dlms_acse.specs.Writing.{initiate_request}
 use Rattle.dlms_acse.specs.declared.aarq.Initiate.{Initiate}
 use Rattle.dlms_acse.specs.declared.outcome.Verdict.TheVariants.{Accepted}
 use Rattle.dlms_security.proofs.MessageLemmas.{seal_long, signature_long, text_long}
 use Rattle.dlms_security.specs.Body.{Use, body_of, control_of, text_of, seal_of, signature_of}
 use Rattle.dlms_security.specs.Form.{content, length_octets, message_of, front_of, form_tag, general_tag}
-use Rattle.dlms_security.specs.Run.{IsState, Unprotects, RoundTrip}
+use Rattle.dlms_security.specs.Run.{IsState, RoundTrip}
 use Rattle.dlms_security.specs.Security.{SecurityState, AcceptedApdu, message_for, message_with, with_counter, counter_for, own_use, content_for, acceptance}
-use Rattle.dlms_security.specs.Security.{apdu_in, after_unprotect}
+use Rattle.dlms_security.specs.Security.{apdu_in}
 use Rattle.dlms_security.specs.declared.fault.ProtectFault.{ProtectFault}
 use Rattle.dlms_security.specs.declared.fault.ProtectFault.TheVariants as protect_fault
 use Rattle.dlms_security.specs.declared.fault.UnprotectFault.{UnprotectFault}
@@ -23,10 +22,13 @@ use Rattle.dlms_security.specs.declared.kind.KeyKind.TheVariants.{Global}
 use Rattle.dlms_security.specs.declared.policy.Policy.{Policy}
 use Rattle.dlms_security.specs.declared.policy.Policy.TheVariants.{Authenticated, Encrypted, AuthenticatedEncrypted}
 use Rattle.dlms_secured.specs.Guard.{GuardValue, Hands, TakesIn, fails, gives_in, gives_initiate, gives_closed, initiate_in, hands, takes_open}
+use Rattle.dlms_secured.specs.Guard.{proposes, opened_by}
 use Rattle.dlms_secured.specs.Guard.{takes_message, takes_release}
-use Rattle.dlms_secured.specs.Made.{continued, made, within, protects, asks, unprotects, or_refusal}
-use Rattle.dlms_secured.specs.Messages.{aare_of, clear_size, secured_aarq}
-use Rattle.dlms_secured.specs.Sizes.{FitsIn, ResponsesAreRead, AssociationsBegin, MessagesAreHandedUp}
+use Rattle.dlms_secured.specs.Made.{continued, made, within, protects, asks, unprotects, or_refusal, through}
+use Rattle.dlms_secured.specs.Messages.{aare_of, clear_size, secured_aarq, initiate_of, begins}
+use Rattle.std.specs.Prelude.{IfSome}
+use Rattle.dlms_acse.specs.Writing.{conformance_head, three_bytes, two_bytes}
+use Rattle.dlms_secured.specs.Sizes.{FitsIn, ResponsesAreRead, AssociationsBegin, MessagesAreHandedUp, SessionsAreHandedUp}
 use Rattle.dlms_secured.specs.declared.fault.SecuredFault.{SecuredFault}
 use Rattle.dlms_secured.specs.declared.fault.SecuredFault.TheVariants as fault
 use Rattle.dlms_secured.specs.declared.messages.TheConstants.{MOST_FIELD, LEAST_CLEAR}
@@ -135,55 +137,84 @@ counter_left s state below =
     let left : nat_lt s.next s.reserved ≡ true = grind (arith, nat_tests) in
     rw (not_last, left) refl
 
-abbrev said : Initiate → List ℕ
-said i = initiate_request i.conformance.0 i.size
+abbrev said : Option (List ℕ) → Form → Initiate → List ℕ
+said key form i = initiate_of key (proposes form i.conformance.0) i.size
 
-front_is : (kind : KeyKind) (form : Form) (title : List ℕ) (i : Initiate) → kind ≡ Global → (front : List ℕ)
-    × (front_of kind form title (said i) ≡ Some front)
-front_is kind Service title i is = (0x21 ∷ [], ap (λ (k : KeyKind). front_of k Service title (said i)) is)
-front_is kind General title i is = (_, refl)
+front_is : (kind : KeyKind) (form : Form) (title : List ℕ) (key : Option (List ℕ)) (of : Form) (i : Initiate) → kind ≡ Global → (front : List ℕ)
+    × (front_of kind form title (said key of i) ≡ Some front)
+front_is kind Service title None of i is = (0x21 ∷ [], ap (λ (k : KeyKind). front_of k Service title (said None of i)) is)
+front_is kind Service title (Some key) of i is = (0x21 ∷ [], ap (λ (k : KeyKind). front_of k Service title (said (Some key) of i)) is)
+front_is kind General title key of i is = (_, refl)
+
+said_long : (key : Option (List ℕ)) (of : Form) (i : Initiate) → IfSome key (λ k. length k ≡ 16) → length (said key of i) ≤ 31
+said_long None of i h = omega arith
+said_long (Some key) of i h = omega (
+  arith,
+  h,
+  length-append key (0x00 ∷ 0x00 ∷ 0x06 ∷ (conformance_head ++ three_bytes (proposes of i.conformance.0) ++ two_bytes i.size)),
+)
 
 within_short : (most : ℕ) (message : List ℕ) → length message ≤ most → within most (Ok message) ≡ Ok message
 within_short most message short = let no : nat_lt most (length message) ≡ false = grind (arith, nat_tests) in rw no refl
 
-initiate_goes : (s : SecurityState) (form : Form) (i : Initiate) → IsState s → s.kind ≡ Global → s.next < s.reserved → (message : List ℕ)
-    × ((protects s form MOST_FIELD (said i)).result ≡ Ok message)
+initiate_goes : (s : SecurityState) (form : Form) (key : Option (List ℕ)) (of : Form) (i : Initiate) → IsState s → s.kind ≡ Global → s.next < s.reserved
+    → IfSome key (λ k. length k ≡ 16) → (message : List ℕ)
+    × ((protects s form MOST_FIELD (said key of i)).result ≡ Ok message)
 unfolding protects
-initiate_goes s form i state global below =
-    let front = front_is s.kind form s.own i global in
-    let message : List ℕ = message_of front.0 (content_for s (said i)) in
-    let is : message_for s form (said i) ≡ Ok message =
-    ap (λ (f : Option (List ℕ)). message_with s f (said i)) front.1
+initiate_goes s form key of i state global below sized =
+    let front = front_is s.kind form s.own key of i global in
+    let message : List ℕ = message_of front.0 (content_for s (said key of i)) in
+    let clear : length (said key of i) ≤ 31 = said_long key of i sized in
+    let fits : nat_lt 1024 (length (said key of i)) ≡ false = grind (arith, nat_tests) in
+    let is : message_for s form (said key of i) ≡ Ok message =
+    ap (λ (b : Bool). cond {A = Result (List ℕ) ProtectFault} b (Err protect_fault.Long)
+    (message_with s (front_of s.kind form s.own (said key of i)) (said key of i))) fits
+    ∙ ap (λ (f : Option (List ℕ)). message_with s f (said key of i)) front.1
     ∙ ap (λ (c : Result ℕ ProtectFault). with_counter c message) (counter_left s state below) in
-    let long : length message ≤ 44 = message_long s form (said i) message state.title is in
+    let long : length message ≤ length (said key of i) + 30 = message_long s form (said key of i) message state.title is in
     (message, ap (within 64) is ∙ within_short 64 message (omega arith))
 
 pub associations_begin : AssociationsBegin
 unfolding gives_closed asks
-associations_begin g apdu request i state closed unused global below read proposes =
-    let goes = initiate_goes g.security Service i state global below in
-    let initiate : initiate_in (aarq_at apdu) ≡ Some (said i) = ap initiate_in read ∙ ap (λ (o : Option Initiate). option_map said o) proposes in (
+associations_begin g apdu request i state closed unused global below sized read proposes =
+    let goes = initiate_goes g.security Service g.key g.form i state global below sized in
+    let initiate : initiate_in g.key g.form (aarq_at apdu) ≡ Some (said g.key g.form i) = ap (initiate_in g.key g.form) read ∙ ap (λ (o : Option Initiate). option_map (said g.key g.form) o) proposes in (
       goes.0,
       ap (λ (stage : Stage). (gives_in stage g apdu).result) closed
-          ∙ ap (λ (b : Bool). (cond b (gives_initiate g (initiate_in (aarq_at apdu))) (fails g fault.Challenge)).result) unused
+          ∙ ap (λ (b : Bool). (cond b (gives_initiate g (initiate_in g.key g.form (aarq_at apdu))) (fails g fault.Challenge)).result) unused
           ∙ ap (λ (o : Option (List ℕ)). (gives_initiate g o).result) initiate
-          ∙ ap (λ (r : Result (List ℕ) SecuredFault). (continued (protects g.security Service MOST_FIELD (said i)).security
-          (protects g.security Service MOST_FIELD (said i)).calls r
+          ∙ ap (λ (r : Result (List ℕ) SecuredFault). (continued (protects g.security Service MOST_FIELD (said g.key g.form i)).security
+          (protects g.security Service MOST_FIELD (said g.key g.form i)).calls r
           (λ (t : SecurityState) (message : List ℕ). made t (Ok (secured_aarq g.security.own g.challenge message)))).result) goes.1,
     )
 
-pub messages_are_handed_up : RoundTrip → MessagesAreHandedUp
-unfolding takes_open takes_message unprotects
-messages_are_handed_up law g peer form apdu message open_ state peers above tag sent =
-    let is : acceptance g.security message ≡ Ok (record { counter = peer.next; apdu = apdu }) =
-    law peer g.security form apdu message state peers above sent in
+-- the layer that a message is opened by hands its APDU up
+opened_up : (g : GuardValue) (message apdu : List ℕ) → g.stage ≡ Open → begins 0x63 message ≡ false → (opened_by g message).result ≡ Ok apdu
+    → (h : GuardValue) × TakesIn g.stage g message (Ok Hands) h × (h.handed ≡ apdu)
+unfolding takes_open takes_message
+opened_up g message apdu open_ tag is =
     let h : GuardValue = (takes_open g message).guard in
     let result : Ok Hands ≡ (takes_open g message).result = sym (
     ap (λ (b : Bool). (cond b (takes_release g message) (takes_message g message)).result) tag
-    ∙ ap (λ (r : Result AcceptedApdu UnprotectFault). (hands g (after_unprotect g.security r) (Unprotects message (apdu_in r) ∷ []) Open
-    (or_refusal (apdu_in r))).result) is) in
+    ∙ ap (λ (r : Result (List ℕ) SecuredFault). (hands g (opened_by g message) Open r).result) is) in
     let handed : h.handed ≡ apdu =
     ap (λ (b : Bool). (cond b (takes_release g message) (takes_message g message)).guard.handed) tag
-    ∙ ap (λ (r : Result AcceptedApdu UnprotectFault). (hands g (after_unprotect g.security r) (Unprotects message (apdu_in r) ∷ []) Open
-    (or_refusal (apdu_in r))).guard.handed) is in
+    ∙ ap (λ (r : Result (List ℕ) SecuredFault). (hands g (opened_by g message) Open r).guard.handed) is in
     (h, subst (λ (stage : Stage). TakesIn stage g message (Ok Hands) h) (sym open_) (result, refl), handed)
+
+unprotected : (s : SecurityState) (message apdu : List ℕ) (counter : ℕ) → acceptance s message ≡ Ok (record { counter = counter; apdu = apdu })
+    → (unprotects s message).result ≡ Ok apdu
+unfolding unprotects
+unprotected s message apdu counter is = ap (λ (r : Result AcceptedApdu UnprotectFault). or_refusal (apdu_in r)) is
+
+pub messages_are_handed_up : RoundTrip → MessagesAreHandedUp
+messages_are_handed_up law g peer form apdu message open_ none state peers above tag sent =
+    opened_up g message apdu open_ tag
+    (ap (λ (d : Option SecurityState). (through g.security d (λ (s : SecurityState). unprotects s message)).result) none
+    ∙ unprotected g.security message apdu peer.next (law peer g.security form apdu message state peers above sent))
+
+pub sessions_are_handed_up : RoundTrip → SessionsAreHandedUp
+sessions_are_handed_up law g d peer form apdu message open_ some state peers above tag sent =
+    opened_up g message apdu open_ tag
+    (ap (λ (o : Option SecurityState). (through g.security o (λ (s : SecurityState). unprotects s message)).result) some
+    ∙ unprotected d message apdu peer.next (law peer d form apdu message state peers above sent))

@@ -10,11 +10,14 @@ use Rattle.dlms_secured.specs.declared.taken.Taken.TheVariants as given
 abbrev pub value_of : Inside → GuardValue
 value_of g = record {
   security = g.security;
+  dedicated = g.dedicated;
+  key = g.key;
+  authentication = g.authentication;
   form = g.form;
   challenge = g.challenge.items;
   unused = g.unused;
   stage = g.stage;
-  initiate = g.initiate;
+  initiate = g.initiate.items;
   handed = g.handed.items;
 }
 

@@ -1,6 +1,7 @@
 -- What the calls of the security layer make: a result, the state after it, and the calls
 -- themselves.
-use Rattle.std.specs.Prelude.{◌≡◌, ℕ, nat_lt, if◌then◌else◌, Bool, false, List, [], ◌∷◌}
+use Rattle.std.specs.Prelude.{◌≡◌, ℕ, nat_lt, ◌==◌, ◌&&◌, ◌||◌, if◌then◌else◌, Bool, true, false}
+use Rattle.std.specs.Prelude.{not, List, [], ◌∷◌}
 use Rattle.std.specs.Prelude.{◌++◌, length}
 use Rattle.std.specs.Prelude.{Option, Some, None, Result, Ok, Err}
 use Rattle.std.specs.Str.{bytes_eq}
@@ -12,9 +13,13 @@ use Rattle.dlms_security.specs.declared.fault.ProtectFault.{ProtectFault}
 use Rattle.dlms_security.specs.declared.fault.UnprotectFault.{UnprotectFault}
 use Rattle.dlms_security.specs.declared.fault.UnprotectFault.TheVariants as unprotect
 use Rattle.dlms_security.specs.declared.form.Form.{Form}
+use Rattle.dlms_security.specs.declared.policy.Policy.{Policy}
+use Rattle.dlms_security.specs.declared.policy.Policy.TheVariants.{Authenticated, Encrypted}
+use Rattle.dlms_security.specs.declared.policy.Policy.TheVariants.{AuthenticatedEncrypted}
 use Rattle.dlms_secured.specs.declared.fault.SecuredFault.{SecuredFault}
 use Rattle.dlms_secured.specs.declared.fault.SecuredFault.TheVariants as fault
 use Rattle.dlms_secured.specs.declared.stage.Granted.{Granted}
+use Rattle.dlms_secured.specs.declared.reply.Reply.{Reply}
 use Rattle.dlms_secured.specs.declared.messages.TheConstants.{MOST_CARRIED, LEAST_CLEAR, MOST_FIELD}
 use Rattle.dlms_secured.specs.Messages.{reply_to_hls, clear_size, secured_aarq, secured_rlrq}
 use Rattle.dlms_secured.specs.Response.{Response, response_in, granted_in, proof_in, value_in}
@@ -95,27 +100,21 @@ answers s challenge = record {
 
 -- ---- the association
 
--- A message that goes out, after which the meter's answer to the own challenge is awaited.
-pub record Reply : Type 0 where
-  pub message : List ℕ
-  pub granted : Granted
+-- an association response is accepted
+abbrev pub reply_of : List ℕ → Granted → List ℕ → Reply
+reply_of title granted answer = record { title = title; granted = granted; answer = answer }
 
--- the answer to the meter's challenge goes out in a protected action request
-unfoldable pub sends_answer : SecurityState → Form → Granted → List ℕ → Made Reply
-sends_answer s form granted answer =
-    followed (protects s form MOST_CARRIED (reply_to_hls answer))
-    (λ t message. made t (Ok (record { message = message; granted = granted })))
-
-unfoldable pub replies : SecurityState → Form → List ℕ → Granted → Made Reply
-replies s form challenge granted =
-    followed (answers s challenge) (λ t answer. sends_answer t form granted answer)
+unfoldable pub replies : SecurityState → Response → Granted → Made Reply
+replies s response granted =
+    followed (answers s response.challenge)
+    (λ t answer. made t (Ok (reply_of response.title granted answer)))
 
 -- the meter has to receive APDUs that are long enough
-abbrev pub grants : SecurityState → Form → List ℕ → Option Granted → Made Reply
-grants s form challenge None = made s (Err fault.Initiate)
-grants s form challenge (Some granted) =
+abbrev pub grants : SecurityState → Response → Option Granted → Made Reply
+grants s response None = made s (Err fault.Initiate)
+grants s response (Some granted) =
     if nat_lt (clear_size granted.size) LEAST_CLEAR then made s (Err fault.Size)
-    else replies s form challenge granted
+    else replies s response granted
 
 -- the peer has this title
 abbrev pub is_title : List ℕ → Option (List ℕ) → Bool
@@ -123,30 +122,91 @@ is_title title None = false
 is_title title (Some peer) = bytes_eq peer title
 
 -- the initiate response is opened under the peer's title
-abbrev pub opens : SecurityState → Form → Response → Made Reply
-opens s form response =
+abbrev pub opens : SecurityState → Response → Made Reply
+opens s response =
     if is_title response.title s.peer
     then followed (unprotects s response.message)
-    (λ t apdu. grants t form response.challenge (granted_in apdu))
+    (λ t apdu. grants t response (granted_in apdu))
     else made s (Err fault.Title)
 
 -- the meter's title is learned first
-abbrev pub learns : SecurityState → Form → Response → Made Reply
-learns s form response =
+abbrev pub learns : SecurityState → Response → Made Reply
+learns s response =
     after_calls (Learns response.title ∷ [])
-    (opens (after_learn s s.peer response.title) form response)
+    (opens (after_learn s s.peer response.title) response)
 
-abbrev pub accepts_response : SecurityState → Form → Result Response SecuredFault → Made Reply
-accepts_response s form (Ok response) = learns s form response
-accepts_response s form (Err why) = made s (Err why)
+-- The octets begin as an APDU of a client: an initiate request, or a get, set or action request.
+abbrev pub is_request : List ℕ → Bool
+is_request (tag ∷ kind ∷ rest) = ((tag == 0x01) && nat_lt kind 2)
+    || (((tag == 0xC0) || ((tag == 0xC1) || (tag == 0xC3))) && (nat_lt 0 kind && nat_lt kind 7))
+is_request _ = false
+
+-- The answer's tag is that of a message under authentication alone whose APDU is the challenge. So
+-- under that policy a challenge that begins as a request gets no answer.
+abbrev pub may_answer : Policy → List ℕ → Bool
+may_answer Authenticated challenge = not (is_request challenge)
+may_answer Encrypted challenge = true
+may_answer AuthenticatedEncrypted challenge = true
+
+abbrev pub accepts_response : SecurityState → Result Response SecuredFault → Made Reply
+accepts_response s (Ok response) =
+    if may_answer s.policy response.challenge then learns s response
+    else made s (Err fault.NoChallenge)
+accepts_response s (Err why) = made s (Err why)
 
 -- an association response with these fields, to a client with this challenge
-abbrev pub accepts_fields : SecurityState → Form → List ℕ → Option (List ℕ) → Made Reply
-accepts_fields s form own None = made s (Err fault.Response)
-accepts_fields s form own (Some fields) = accepts_response s form (response_in s.own own fields)
+abbrev pub accepts_fields : SecurityState → List ℕ → Option (List ℕ) → Made Reply
+accepts_fields s own None = made s (Err fault.Response)
+accepts_fields s own (Some fields) = accepts_response s (response_in s.own own fields)
 
-unfoldable pub accepts : SecurityState → Form → List ℕ → List ℕ → Made Reply
-accepts s form own apdu = accepts_fields s form own (inner_at 0x61 apdu)
+unfoldable pub accepts : SecurityState → List ℕ → List ℕ → Made Reply
+accepts s own apdu = accepts_fields s own (inner_at 0x61 apdu)
+
+-- the answer to the meter's challenge goes out in a protected action request
+abbrev pub sends_answer : SecurityState → Form → List ℕ → Made (List ℕ)
+sends_answer s form answer = protects s form MOST_CARRIED (reply_to_hls answer)
+
+-- ---- two layers
+
+-- What the layer of the global key and that of the dedicated one make; `session` are the calls of
+-- the latter.
+pub record Both (A : Type 0) : Type 0 where
+  pub security : SecurityState
+  pub dedicated : Option SecurityState
+  pub calls : List Event
+  pub session : List Event
+  pub result : Result A SecuredFault
+
+-- the layer of the global key makes this
+abbrev pub under : {A : Type 0} → Option SecurityState → Made A → Both A
+under dedicated m = record {
+  security = m.security;
+  dedicated = dedicated;
+  calls = m.calls;
+  session = [];
+  result = m.result;
+}
+
+-- the layer of the dedicated key makes this if there is one, and otherwise that of the global key
+abbrev pub through : {A : Type 0} → SecurityState → Option SecurityState → (SecurityState → Made A)
+    → Both A
+through s None make = under None (make s)
+through s (Some d) make = record {
+  security = s;
+  dedicated = Some (make d).security;
+  calls = [];
+  session = (make d).calls;
+  result = (make d).result;
+}
+
+-- the layer of the dedicated key learns the meter's title
+abbrev pub taught : List ℕ → Option SecurityState → Option SecurityState
+taught title None = None
+taught title (Some d) = Some (after_learn d d.peer title)
+
+abbrev pub taught_by : List ℕ → Option SecurityState → List Event
+taught_by title None = []
+taught_by title (Some d) = Learns title ∷ []
 
 -- ---- the release response
 

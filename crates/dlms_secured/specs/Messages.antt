@@ -1,13 +1,20 @@
 -- The APDUs that the security layer writes itself (IEC 62056-5-3; Green Book 9.3.2 and 9.5; ACSE
 -- APDUs in BER).
 use Rattle.std.specs.Prelude.{ℕ, ◌-◌, ◌==◌, if◌then◌else◌, min, Bool, false, List, [], ◌∷◌, ◌++◌}
-use Rattle.std.specs.Prelude.{length}
+use Rattle.std.specs.Prelude.{length, Option, Some, None}
 use Rattle.dlms_acse.specs.Writing.{field, logical_names, mechanism_name, two_bytes}
-use Rattle.dlms_acse.specs.Writing.{conformance_head}
+use Rattle.dlms_acse.specs.Writing.{conformance_head, three_bytes, initiate_request}
 use Rattle.dlms_acse.specs.Writing.{result_field, diagnostic_field}
 use Rattle.dlms_security.specs.Form.{length_octets}
 use Rattle.dlms_secured.specs.declared.stage.Granted.{Granted}
 use Rattle.dlms_secured.specs.declared.messages.TheConstants.{MOST_CARRIED, OVERHEAD}
+
+-- an initiate request, with the dedicated key if there is one
+abbrev pub initiate_of : Option (List ℕ) → ℕ → ℕ → List ℕ
+initiate_of None services size = initiate_request services size
+initiate_of (Some key) services size =
+    0x01 ∷ 0x01 ∷ 0x10 ∷ (key ++ 0x00 ∷ 0x00 ∷ 0x06
+    ∷ (conformance_head ++ three_bytes services ++ two_bytes size))
 
 -- the application context with logical names and with ciphering, as an object identifier
 abbrev pub ciphered_names : List ℕ

@@ -1,6 +1,6 @@
 -- Messages fit, the association reads the plain response, and associations exist.
 use Rattle.std.specs.Prelude.{◌≡◌, ℕ, ◌+◌, ◌*◌, ◌<◌, ◌≤◌, true, false, List, [], ◌∷◌, length}
-use Rattle.std.specs.Prelude.{Some, Ok}
+use Rattle.std.specs.Prelude.{Some, None, Ok, IfSome}
 use Rattle.dlms_acse.specs.Reading.{aare_at, aarq_at}
 use Rattle.dlms_acse.specs.Verdict.{Request}
 use Rattle.dlms_acse.specs.declared.aarq.Initiate.{Initiate}
@@ -35,16 +35,24 @@ ResponsesAreRead = (high middle low size : ℕ)
 abbrev pub AssociationsBegin : Type 0
 AssociationsBegin = (g : GuardValue) (apdu : List ℕ) (request : Request) (i : Initiate)
     → IsState g.security → g.stage ≡ Closed → g.unused ≡ true → g.security.kind ≡ Global
-    → g.security.next < g.security.reserved
+    → g.security.next < g.security.reserved → IfSome g.key (λ key. length key ≡ 16)
     → aarq_at apdu ≡ Ok request → request.initiate ≡ Some i
     → (inner : List ℕ)
     × ((gives g apdu).result ≡ Ok (secured_aarq g.security.own g.challenge inner))
 
 -- A message that the meter protects is handed up in the open association, if its counter is above
--- the last accepted one.
+-- the last accepted one: without a dedicated key, and under it.
 abbrev pub MessagesAreHandedUp : Type 0
 MessagesAreHandedUp = (g : GuardValue) (meter : SecurityState) (form : Form) (apdu message : List ℕ)
-    → g.stage ≡ Open → IsState meter → ArePeers meter g.security
+    → g.stage ≡ Open → g.dedicated ≡ None → IsState meter → ArePeers meter g.security
     → is_above g.security.accepted meter.next ≡ true → begins 0x63 message ≡ false
+    → message_for meter form apdu ≡ Ok message
+    → (h : GuardValue) × Takes g message (Ok Hands) h × (h.handed ≡ apdu)
+
+abbrev pub SessionsAreHandedUp : Type 0
+SessionsAreHandedUp = (g : GuardValue) (d meter : SecurityState) (form : Form)
+    (apdu message : List ℕ)
+    → g.stage ≡ Open → g.dedicated ≡ Some d → IsState meter → ArePeers meter d
+    → is_above d.accepted meter.next ≡ true → begins 0x63 message ≡ false
     → message_for meter form apdu ≡ Ok message
     → (h : GuardValue) × Takes g message (Ok Hands) h × (h.handed ≡ apdu)

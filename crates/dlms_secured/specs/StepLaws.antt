@@ -1,18 +1,19 @@
 -- What the trait asks of every carrier, for a secured one.
-use Rattle.std.specs.Prelude.{◌≡◌, refl, ℕ, Bool, true, false, cond, List, [], Option, Some}
+use Rattle.std.specs.Prelude.{◌≡◌, refl, ℕ, Bool, true, false, cond, List, Option, Some}
 use Rattle.std.specs.Prelude.{None, Result, Ok, Err}
 use Rattle.std.proofs.Common.{sym, subst, ap, ◌∙◌}
-use Rattle.dlms_carrier.specs.Carrying.{Feed}
+use Rattle.dlms_carrier.specs.Carrying.{Feed, StepsOf}
 use Rattle.dlms_carrier.specs.declared.event.Event.{Event}
 use Rattle.dlms_carrier.specs.declared.event.Event.TheVariants as event
 use Rattle.dlms_security.specs.Run.{Event as SecurityCall}
 use Rattle.dlms_security.specs.Security.{SecurityState}
 use Rattle.dlms_secured.specs.Guard.{GuardValue, Taken, Hands, Sends, TakesIn, fault_of}
-use Rattle.dlms_secured.specs.Guard.{hands, answers_by}
+use Rattle.dlms_secured.specs.Guard.{hands, answers_by, idle, sends, opened_by}
 use Rattle.dlms_secured.specs.Guard.{takes_opening, takes_open, takes_release, takes_message}
 use Rattle.dlms_secured.specs.Guard.{takes_response, at_most, instead}
 use Rattle.dlms_acse.specs.Writing.{release_response}
-use Rattle.dlms_secured.specs.Made.{Reply, accepts, releases, unprotects}
+use Rattle.dlms_secured.specs.declared.reply.Reply.{Reply}
+use Rattle.dlms_secured.specs.Made.{Both, accepts, releases, unprotects, under, sends_answer}
 use Rattle.dlms_secured.specs.Messages.{begins, plain_aare}
 use Rattle.dlms_secured.specs.Response.{is_refusal}
 use Rattle.dlms_secured.specs.declared.fault.SecuredFault.{SecuredFault}
@@ -20,7 +21,7 @@ use Rattle.dlms_secured.specs.declared.stage.Stage.{Stage}
 use Rattle.dlms_secured.specs.declared.stage.Stage.TheVariants.{Closed, Opening, Proving, Open}
 use Rattle.dlms_secured.specs.declared.stage.Stage.TheVariants.{Failed}
 use Rattle.dlms_secured.specs.declared.messages.TheConstants.{MOST_CARRIED}
-use Rattle.dlms_secured.specs.Steps.{StepsOf, Guarded, at, SecuredValue, Steps, StepsWith}
+use Rattle.dlms_secured.specs.Steps.{Guarded, at, SecuredValue, Steps, StepsWith}
 use Rattle.dlms_secured.specs.Steps.{Feeds, Comes, Follows, IsReady}
 use Rattle.dlms_secured.specs.Steps.{IsReadyWith, IsIdle, IsWaiting, fault_with}
 
@@ -76,15 +77,19 @@ awaited steps apdu_of is_waiting law old new octets count h =
 
 -- ---- then the connection is idle
 
-hands_ready : (g : GuardValue) (s : SecurityState) (calls : List SecurityCall) (stage : Stage)
-    (r : Result (List ℕ) SecuredFault) → Ok Hands ≡ (hands g s calls stage r).result → IsReady stage
-    → IsReady (hands g s calls stage r).guard.stage
-hands_ready g s calls stage (Ok apdu) e ready = ready
-hands_ready g s calls stage (Err why) e ready = absurd cc
+hands_ready : {A : Type 0} (g : GuardValue) (m : Both A) (stage : Stage)
+    (r : Result (List ℕ) SecuredFault) → Ok Hands ≡ (hands g m stage r).result → IsReady stage
+    → IsReady (hands g m stage r).guard.stage
+hands_ready g m stage (Ok apdu) e ready = ready
+hands_ready g m stage (Err why) e ready = absurd cc
 
 answers_none : (g : GuardValue) (s : SecurityState) (calls : List SecurityCall)
     (r : Result Reply SecuredFault) → Ok Hands ≡ (answers_by g s calls r).result → ⊥
-answers_none g s calls (Ok reply) e = let both = e in cc
+answers_none g s calls (Ok reply) e = by_result (sends_answer s g.form reply.answer).result e
+  where
+    by_result : (r : Result (List ℕ) SecuredFault) → Ok Hands ≡ sends r → ⊥
+    by_result (Ok message) e = let both = e in cc
+    by_result (Err why) e = cc
 answers_none g s calls (Err why) e = cc
 
 opening_ready : (g : GuardValue) (apdu : List ℕ) → Ok Hands ≡ (takes_opening g apdu).result
@@ -93,12 +98,12 @@ unfolding takes_opening takes_response
 opening_ready g apdu e = by_test (is_refusal apdu) e
   where
     by_test : (b : Bool) → Ok Hands ≡
-        (cond b (hands g g.security [] Closed (at_most MOST_CARRIED apdu))
+        (cond b (hands g (idle g) Closed (at_most MOST_CARRIED apdu))
         (takes_response g apdu)).result
-        → IsReady (cond b (hands g g.security [] Closed (at_most MOST_CARRIED apdu))
+        → IsReady (cond b (hands g (idle g) Closed (at_most MOST_CARRIED apdu))
         (takes_response g apdu)).guard.stage
-    by_test true e = hands_ready g g.security [] Closed (at_most MOST_CARRIED apdu) e tt
-    by_test false e = let m = accepts g.security g.form g.challenge apdu in
+    by_test true e = hands_ready g (idle g) Closed (at_most MOST_CARRIED apdu) e tt
+    by_test false e = let m = accepts g.security g.challenge apdu in
         absurd (answers_none g m.security m.calls m.result e)
 
 open_ready : (g : GuardValue) (apdu : List ℕ) → Ok Hands ≡ (takes_open g apdu).result
@@ -109,9 +114,9 @@ open_ready g apdu e = by_test (begins 0x63 apdu) e
     by_test : (b : Bool) → Ok Hands ≡ (cond b (takes_release g apdu) (takes_message g apdu)).result
         → IsReady (cond b (takes_release g apdu) (takes_message g apdu)).guard.stage
     by_test true e = let m = releases g.security apdu in
-        hands_ready g m.security m.calls Closed (instead release_response m.result) e tt
-    by_test false e = let m = unprotects g.security apdu in
-        hands_ready g m.security m.calls Open m.result e tt
+        hands_ready g (under g.dedicated m) Closed (instead release_response m.result) e tt
+    by_test false e = let m = opened_by g apdu in
+        hands_ready g m Open m.result e tt
 
 takes_ready : (stage : Stage) (g : GuardValue) (apdu : List ℕ) (taken : Result Taken SecuredFault)
     (new : GuardValue) → TakesIn stage g apdu taken new → taken ≡ Ok Hands → IsReady new.stage
@@ -119,9 +124,9 @@ takes_ready Closed g apdu taken new h e = let clash = h.0 in absurd cc
 takes_ready Opening g apdu taken new h e =
     subst (λ (v : GuardValue). IsReady v.stage) (sym h.1) (opening_ready g apdu (sym e ∙ h.0))
 takes_ready (Proving granted) g apdu taken new h e =
-    let m = unprotects g.security apdu in
+    let m = under g.dedicated (unprotects g.security apdu) in
     subst (λ (v : GuardValue). IsReady v.stage) (sym h.after)
-    (hands_ready g m.security m.calls Open (instead (plain_aare granted) h.proved)
+    (hands_ready g m Open (instead (plain_aare granted) h.proved)
     (sym e ∙ h.outcome) tt)
 takes_ready Open g apdu taken new h e =
     subst (λ (v : GuardValue). IsReady v.stage) (sym h.1) (open_ready g apdu (sym e ∙ h.0))

@@ -2,7 +2,7 @@
 -- `steps` and `apdu_of` are the carrier's own meaning.
 use Rattle.std.specs.Prelude.{◌≡◌, ℕ, Bool, true, false, List, [], length, Option, Some, None}
 use Rattle.std.specs.Prelude.{Result, Ok, Err}
-use Rattle.dlms_carrier.specs.Carrying.{Input, Begin, Give, Feed, Wait, End}
+use Rattle.dlms_carrier.specs.Carrying.{Input, Begin, Give, Feed, Wait, End, StepsOf}
 use Rattle.dlms_carrier.specs.declared.event.Event.{Event}
 use Rattle.dlms_carrier.specs.declared.event.Event.TheVariants as event
 use Rattle.dlms_secured.specs.Guard.{GuardValue, Taken, Hands, Sends}
@@ -11,10 +11,6 @@ use Rattle.dlms_secured.specs.declared.fault.SecuredFault.{SecuredFault}
 use Rattle.dlms_secured.specs.declared.stage.Stage.{Stage}
 use Rattle.dlms_secured.specs.declared.stage.Stage.TheVariants.{Closed, Opening, Proving, Open}
 use Rattle.dlms_secured.specs.declared.stage.Stage.TheVariants.{Failed}
-
--- the meaning of a carrier's call: the carrier before it, the call, its event, the carrier after it
-abbrev pub StepsOf : Type 0 → Type 1
-StepsOf C = C → Input → Event → C → Type 0
 
 -- a carrier and the guard of its association
 pub record Guarded (C : Type 0) : Type 0 where

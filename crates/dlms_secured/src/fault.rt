@@ -33,7 +33,8 @@ pub enum SecuredFault {
     /// The association response names another mechanism than 5.
     #[error("another authentication mechanism")]
     Mechanism,
-    /// The association response has no challenge of 8 to 64 octets.
+    /// The association response has no challenge of 8 to 64 octets; or under `Policy::Authenticated` its challenge begins as a request,
+    /// and the answer would be a tag of that request.
     #[error("no challenge of the meter")]
     NoChallenge,
     /// The meter's challenge is the own one.

@@ -1,43 +1,52 @@
 //! The security context of one association.
 
 ghost use Rattle.std.specs.Prelude.{◌≡◌, ◌≤◌, ◌-◌, ◌↔◌, [], length, false, true, IfOk, IfErr, OnOk, IsTrue, MatchResult, Ok};
-ghost use Rattle.std.specs.Prelude.{Err, None, option_map, replicate};
-ghost use Rattle.dlms_cipher.specs.Keys.{encryption_key, authentication_key};
+ghost use Rattle.std.specs.Prelude.{Err, option_map};
 ghost use Rattle.dlms_security.specs.declared.kind.KeyKind.TheVariants.{Global};
-ghost use Rattle.dlms_security.specs.declared.policy.Policy.TheVariants.{AuthenticatedEncrypted};
 ghost use Rattle.dlms_acse.specs.Reading.{aarq_at};
 ghost use Rattle.dlms_secured.specs.declared.stage.Stage.TheVariants.{Closed, Open, Failed};
 ghost use Rattle.dlms_acse.specs.Writing.{release_response};
-ghost use Rattle.dlms_secured.specs.Guard.{initiate_in, gives_closed, gives_open, gives, hands, at_most, fault_of, IsShort};
+ghost use Rattle.dlms_secured.specs.Guard.{proposes, initiate_in, gives_closed, gives_open, gives, hands, at_most, fault_of, IsShort};
 ghost use Rattle.dlms_secured.specs.Guard.{takes_response, takes_opening, takes_release, takes_message, takes_open, Takes};
-ghost use Rattle.dlms_secured.specs.Guard.{TakesReply, after_begin, after_event, extended, renewed, Is, fails};
+ghost use Rattle.dlms_secured.specs.Guard.{TakesReply, after_begin, after_event, extended, renewed, Is, fails, idle, sends_by, hidden, layer_of};
+ghost use Rattle.dlms_secured.specs.Made.{sends_answer};
+ghost use Rattle.dlms_secured.specs.Run.{AreStates};
 ghost use Rattle.dlms_secured.specs.Steps.{IsReady};
 ghost use Rattle.dlms_secured.specs.GuardView.{taken_of, taken_result, octets_of};
 
 use crate::fault::SecuredFault;
-use crate::made::{Message, accept, ask, confirm, leave, protect, release, unprotect};
-use crate::messages::{MOST_CARRIED, begins, initiate_request, plain_aare};
+use crate::made::{
+    Message, accept, ask, confirm, leave, protect_by, release, send_answer, teach, unprotect_by,
+};
+use crate::messages::{Initiate, MOST_CARRIED, begins, initiate_of, plain_aare};
+use crate::reply::Reply;
 use crate::response::is_refusal;
 use crate::stage::{Granted, Stage};
 use crate::taken::Taken;
+use crate::terms::Terms;
 use arrayvec::ArrayVec;
+use dlms_acse::Conformance;
 use dlms_carrier::Event;
 use dlms_cipher::Keys;
 use dlms_security::{Form, MOST_APDU, Policy, Security, StoredState};
 use std::marker::Model;
 
-/// The security context of one association with a meter: suite 0, authenticated encryption, the global unicast key, mechanism 5.
+/// The security context of one association with a meter: suite 0, global and dedicated keys, mechanism 5. Under `Policy::Encrypted`
+/// both ends still prove their keys, but nothing authenticates the messages. Under `Policy::Authenticated` they can be read.
 ///
 /// A CALLER MUST NOT have two values with the same own title and encryption key, must not lose a reservation, and makes each
 /// challenge at random. Dropping the value does not wipe its keys.
 #[derive(Drop)]
 pub struct Guard {
     security: Security,
+    dedicated: Option<Security>,
+    key: Option<[u8; 16]>,
+    authentication: [u8; 16],
     form: Form,
     challenge: ArrayVec<u8, 64>,
     unused: bool,
     stage: Stage,
-    initiate: [u8; 14],
+    initiate: Initiate,
     handed: ArrayVec<u8, MOST_APDU>,
 }
 
@@ -61,13 +70,26 @@ fn copy_of<const CAP: usize>(octets: &[u8]) -> ArrayVec<u8, CAP>
     copy
 }
 
+/// The services that are proposed: with general forms general-protection too (Green Book 9.4.6.1).
+fn proposed(form: Form, services: u32) -> u32
+    ensures { result ≡ proposes form services }
+{
+    match form {
+        Form::Service => services,
+        Form::General => services | Conformance::GENERAL_PROTECTION.0,
+    }
+}
+
 /// The initiate request of an association request in clear.
-fn initiate_in(apdu: &[u8]) -> Option<[u8; 14]>
-    ensures { result ≡ initiate_in (aarq_at apdu.now) }
+fn initiate_in(key: Option<[u8; 16]>, form: Form, apdu: &[u8]) -> Option<Initiate>
+    ensures { option_map (λ x. x.items) result ≡ initiate_in key form (aarq_at apdu.now) }
 {
     match dlms_acse::read_aarq(apdu) {
         Ok(request) => match request.initiate {
-            Some(initiate) => Some(initiate_request(&initiate)),
+            Some(initiate) => {
+                let services = proposed(form, initiate.conformance.0);
+                Some(initiate_of(key, services, initiate.size))
+            }
             None => None,
         },
         Err(_) => None,
@@ -92,51 +114,99 @@ fn released() -> ArrayVec<u8, MOST_APDU>
     copy_of(&[0x63, 0x03, 0x80, 0x01, 0x00])
 }
 
+/// The dedicated key that is sent: none under authentication alone, which would not hide it.
+fn hidden(policy: Policy, key: Option<[u8; 16]>) -> Option<[u8; 16]>
+    ensures { result ≡ hidden policy key }
+{
+    match policy {
+        Policy::Authenticated => None,
+        _ => key,
+    }
+}
+
+/// The layer of a dedicated key.
+fn layer_of(
+    own: [u8; 8],
+    authentication: [u8; 16],
+    policy: Policy,
+    key: Option<[u8; 16]>,
+) -> Option<Security>
+    ensures { result ≡ layer_of own authentication policy key }
+{
+    match key {
+        Some(key) => {
+            let keys = Keys::new(key, authentication);
+            Some(Security::with_dedicated_key(own, keys, policy))
+        }
+        None => None,
+    }
+}
+
 impl Guard {
-    /// A context without an association. The own system title has 8 octets. Its own counters continue at the end of the stored
-    /// reservation, so none is left: store a higher reservation and call `extend_reservation` before the first association. The
-    /// challenge has 8 to 64 octets that nobody can guess, and is used for one association.
-    pub fn new(own: [u8; 8], keys: Keys, stored: StoredState, form: Form, challenge: &[u8]) -> Guard
+    /// A context without an association. Its own counters continue at the end of the stored reservation, so none is left: store a
+    /// higher reservation and call `extend_reservation` before the first association. The challenge has 8 to 64 octets that nobody can
+    /// guess, and is used for one association; so is the dedicated key, if there is one: 16 octets that nobody can guess.
+    ///
+    /// The initiate request contains the dedicated key, under the global key; the messages of the open association are then protected
+    /// under it, with counters of its own. `Policy::Authenticated` hides nothing, so under it no dedicated key is sent or used.
+    pub fn new(
+        terms: &Terms,
+        stored: StoredState,
+        challenge: &[u8],
+        dedicated: Option<[u8; 16]>,
+    ) -> Guard
         requires least { 8 ≤ length challenge.now }
         requires most { length challenge.now ≤ 64 }
         ensures { result ≡ record {
           security = record {
             kind = Global;
-            own = own;
+            own = terms.now.title;
             peer = stored.peer;
-            encryption = encryption_key keys;
-            authentication = authentication_key keys;
-            policy = AuthenticatedEncrypted;
+            encryption = terms.now.encryption_key;
+            authentication = terms.now.authentication_key;
+            policy = terms.now.policy;
             next = stored.reserved;
             reserved = stored.reserved;
             accepted = stored.accepted;
           };
-          form = form;
+          dedicated = layer_of terms.now.title terms.now.authentication_key terms.now.policy
+              (hidden terms.now.policy dedicated);
+          key = hidden terms.now.policy dedicated;
+          authentication = terms.now.authentication_key;
+          form = terms.now.form;
           challenge = challenge.now;
           unused = true;
           stage = Closed;
-          initiate = replicate 14 0;
+          initiate = [];
           handed = [];
         } }
     {
+        let keys = Keys::new(terms.encryption_key, terms.authentication_key);
+        let key = hidden(terms.policy, dedicated);
         Guard {
-            security: Security::new(own, keys, Policy::AuthenticatedEncrypted, stored),
-            form,
+            security: Security::new(terms.title, keys, terms.policy, stored),
+            dedicated: layer_of(terms.title, terms.authentication_key, terms.policy, key),
+            key,
+            authentication: terms.authentication_key,
+            form: terms.form,
             challenge: copy_of(challenge),
             unused: true,
             stage: Stage::Closed,
-            initiate: [0; 14],
+            initiate: ArrayVec::new(),
             handed: ArrayVec::new(),
         }
     }
 
-    /// Sets the challenge of the next association, of 8 to 64 octets that nobody can guess. The association, if there is one, is
-    /// over.
-    pub fn renew(&mut self, challenge: &[u8])
+    /// Sets the challenge of the next association, of 8 to 64 octets that nobody can guess, and its dedicated key, if there is one: 16
+    /// octets that nobody can guess. The association, if there is one, is over.
+    pub fn renew(&mut self, challenge: &[u8], dedicated: Option<[u8; 16]>)
         requires least { 8 ≤ length challenge.now }
         requires most { length challenge.now ≤ 64 }
-        ensures { self.new ≡ renewed self.old challenge.now }
+        ensures { self.new ≡ renewed self.old challenge.now dedicated }
     {
+        let policy = self.security.policy();
+        self.key = hidden(policy, dedicated);
+        self.dedicated = layer_of(self.security.own(), self.authentication, policy, self.key);
         self.challenge = copy_of(challenge);
         self.unused = true;
         self.stage = Stage::Closed;
@@ -171,8 +241,12 @@ impl Guard {
 
     /// The number of reserved counters that are left. An association needs three, and then one for each APDU.
     pub fn counters_left(&self) -> u32
-        ensures { result ≡ self.now.security.reserved - self.now.security.next }
+        ensures left { result ≡ self.now.security.reserved - self.now.security.next }
+        ensures states { AreStates self.now }
     {
+        if let Some(dedicated) = &self.dedicated {
+            let _left = dedicated.counters_left();
+        }
         self.security.counters_left()
     }
 
@@ -241,7 +315,7 @@ impl Guard {
         if !self.unused {
             return Err(SecuredFault::Challenge);
         }
-        let Some(initiate) = initiate_in(apdu) else {
+        let Some(initiate) = initiate_in(self.key, self.form, apdu) else {
             return Err(SecuredFault::Request);
         };
         self.unused = false;
@@ -250,7 +324,7 @@ impl Guard {
             &mut self.security,
             Form::Service,
             self.challenge.as_slice(),
-            &initiate,
+            self.initiate.as_slice(),
         )?;
         self.stage = Stage::Opening;
         Ok(message)
@@ -270,9 +344,9 @@ impl Guard {
         ensures short { IfOk result (λ m. length m.items ≤ MOST_CARRIED) }
     {
         if begins(0x62, apdu) {
-            leave(&mut self.security, Form::Service, &self.initiate)
+            leave(&mut self.security, Form::Service, self.initiate.as_slice())
         } else {
-            protect(&mut self.security, self.form, MOST_CARRIED, apdu)
+            protect_by(&mut self.security, &mut self.dedicated, self.form, apdu)
         }
     }
 
@@ -325,7 +399,7 @@ impl Guard {
         stage: Stage,
         apdu: Result<ArrayVec<u8, MOST_APDU>, SecuredFault>,
     ) -> Result<Taken, SecuredFault>
-        ensures hands { Is (hands self.old self.old.security [] stage (octets_of apdu))
+        ensures hands { Is (hands self.old (idle self.old) stage (octets_of apdu))
             (taken_result result) self.new }
         ensures short { IfOk result (λ t. IsShort (taken_of t)) }
     {
@@ -342,26 +416,35 @@ impl Guard {
         }
     }
 
+    /// The message with the answer goes out, or the association ends. The layer of the dedicated key learns the meter's title.
+    fn answer(&mut self, reply: &Reply) -> Result<Taken, SecuredFault>
+        ensures sends { Is (sends_by self.old [] reply.now
+            (sends_answer self.old.security self.old.form reply.now.answer))
+            (taken_result result) self.new }
+        ensures short { IfOk result (λ t. IsShort (taken_of t)) }
+    {
+        teach(&mut self.dedicated, reply.title);
+        match send_answer(&mut self.security, self.form, &reply.answer) {
+            Ok(message) => {
+                self.stage = Stage::Proving(reply.granted);
+                Ok(Taken::Send(message))
+            }
+            Err(fault) => {
+                self.stage = Stage::Failed(fault);
+                Err(fault)
+            }
+        }
+    }
+
     /// The answer to an accepting association response.
     #[tactic(auto, unfolding(crate::specs::Guard::takes_response))]
     fn take_response(&mut self, apdu: &[u8]) -> Result<Taken, SecuredFault>
         ensures takes { Is (takes_response self.old apdu.now) (taken_result result) self.new }
         ensures short { IfOk result (λ t. IsShort (taken_of t)) }
     {
-        match accept(
-            &mut self.security,
-            self.form,
-            self.challenge.as_slice(),
-            apdu,
-        ) {
-            Ok(reply) => {
-                self.stage = Stage::Proving(reply.granted);
-                Ok(Taken::Send(reply.message))
-            }
-            Err(fault) => {
-                self.stage = Stage::Failed(fault);
-                Err(fault)
-            }
+        match accept(&mut self.security, self.challenge.as_slice(), apdu) {
+            Ok(reply) => self.answer(&reply),
+            Err(fault) => self.fail(fault),
         }
     }
 
@@ -407,7 +490,7 @@ impl Guard {
         ensures takes { Is (takes_message self.old apdu.now) (taken_result result) self.new }
         ensures short { IfOk result (λ t. IsShort (taken_of t)) }
     {
-        let opened = unprotect(&mut self.security, apdu);
+        let opened = unprotect_by(&mut self.security, &mut self.dedicated, apdu);
         self.hand(Stage::Open, opened)
     }
 

@@ -7,10 +7,12 @@ mod guard;
 pub mod laws;
 mod made;
 mod messages;
+mod reply;
 mod response;
 mod secured;
 mod stage;
 mod taken;
+mod terms;
 #[cfg(test)]
 mod tests;
 
@@ -18,3 +20,4 @@ pub use fault::SecuredFault;
 pub use guard::Guard;
 pub use secured::Secured;
 pub use stage::{Granted, Stage};
+pub use terms::Terms;

@@ -2,28 +2,22 @@
 
 ghost use Rattle.std.specs.Prelude.{◌≡◌, ◌≤◌, ◌↔◌, length, IfOk, IsTrue, MatchResult, Ok, Err, option_map};
 ghost use Rattle.dlms_secured.specs.Response.{response_of};
-ghost use Rattle.dlms_secured.specs.Made.{refusal, unprotects, protects, answers, sends_answer, replies, grants, is_title};
-ghost use Rattle.dlms_secured.specs.Made.{opens, learns, accepts, releases, asks, leaves, IsProof, Confirms};
+ghost use Rattle.dlms_secured.specs.Made.{refusal, unprotects, protects, answers, sends_answer, replies, grants, is_title, through, taught};
+ghost use Rattle.dlms_secured.specs.Made.{is_request, may_answer, opens, learns, accepts, releases, asks, leaves, IsProof, Confirms};
 
 use crate::fault::SecuredFault;
 use crate::fields::{inner, value_in};
 use crate::messages::{
     LEAST_CLEAR, MOST_CARRIED, MOST_FIELD, clear_size, reply_to_hls, secured_aarq, secured_rlrq,
 };
+use crate::reply::Reply;
 use crate::response::{Response, granted_in, proof_in, response_in};
 use crate::stage::Granted;
 use arrayvec::ArrayVec;
-use dlms_security::{Form, MOST_APDU, MOST_MESSAGE, Security, UnprotectFault};
+use dlms_security::{Form, MOST_APDU, MOST_MESSAGE, Policy, Security, UnprotectFault};
 
 /// A protected message.
 pub(crate) type Message = ArrayVec<u8, MOST_MESSAGE>;
-
-/// A message that goes out, after which the meter's answer to the own challenge is awaited.
-#[derive(Drop)]
-pub(crate) struct Reply {
-    pub message: Message,
-    pub granted: Granted,
-}
 
 /// The fault for a refusal of a message.
 fn refusal(fault: UnprotectFault) -> SecuredFault
@@ -92,60 +86,46 @@ fn answer(security: &mut Security, challenge: &[u8]) -> Result<[u8; 17], Secured
     }
 }
 
-/// The protected action request with the answer to the meter's challenge.
-#[tactic(auto, unfolding(crate::specs::Made::sends_answer))]
-fn send_answer(
-    security: &mut Security,
-    form: Form,
-    granted: Granted,
-    answer: &[u8; 17],
-) -> Result<Reply, SecuredFault>
-    ensures result { MatchResult result
-        (λ r. (sends_answer security.old form granted answer.now).result
-        ≡ Ok (record { message = r.message.items; granted = r.granted }))
-        (λ f. (sends_answer security.old form granted answer.now).result ≡ Err f) }
-    ensures after { security.new ≡ (sends_answer security.old form granted answer.now).security }
-    ensures short { IfOk result (λ r. length r.message.items ≤ MOST_CARRIED) }
-{
-    let request = reply_to_hls(answer);
-    match protect(security, form, MOST_CARRIED, request.as_slice()) {
-        Ok(message) => Ok(Reply { message, granted }),
-        Err(fault) => Err(fault),
-    }
-}
-
-/// The answer to the meter's challenge, in its protected action request.
+/// The answer to the meter's challenge, and what the meter grants.
 #[tactic(auto, unfolding(crate::specs::Made::replies))]
 fn reply_to(
     security: &mut Security,
-    form: Form,
-    challenge: &[u8],
+    response: Response<'_>,
     granted: Granted,
 ) -> Result<Reply, SecuredFault>
-    ensures result { MatchResult result
-        (λ r. (replies security.old form challenge.now granted).result
-        ≡ Ok (record { message = r.message.items; granted = r.granted }))
-        (λ f. (replies security.old form challenge.now granted).result ≡ Err f) }
-    ensures after { security.new ≡ (replies security.old form challenge.now granted).security }
-    ensures short { IfOk result (λ r. length r.message.items ≤ MOST_CARRIED) }
+    ensures result { let read = response_of response.entry.title response.entry.challenge.now
+        response.entry.message.now in
+        MatchResult result
+        (λ r. (replies security.old read granted).result ≡ Ok r)
+        (λ f. (replies security.old read granted).result ≡ Err f) }
+    ensures after { let read = response_of response.entry.title response.entry.challenge.now
+        response.entry.message.now in
+        security.new ≡ (replies security.old read granted).security }
 {
-    let answer = answer(security, challenge)?;
-    send_answer(security, form, granted, &answer)
+    match answer(security, response.challenge) {
+        Ok(answer) => Ok(Reply {
+            title: response.title,
+            granted,
+            answer,
+        }),
+        Err(fault) => Err(fault),
+    }
 }
 
 /// The reply, if the initiate response can be read and the meter receives APDUs that are long enough.
 fn grant(
     security: &mut Security,
-    form: Form,
-    challenge: &[u8],
+    response: Response<'_>,
     granted: Option<Granted>,
 ) -> Result<Reply, SecuredFault>
-    ensures result { MatchResult result
-        (λ r. (grants security.old form challenge.now granted).result
-        ≡ Ok (record { message = r.message.items; granted = r.granted }))
-        (λ f. (grants security.old form challenge.now granted).result ≡ Err f) }
-    ensures after { security.new ≡ (grants security.old form challenge.now granted).security }
-    ensures short { IfOk result (λ r. length r.message.items ≤ MOST_CARRIED) }
+    ensures result { let read = response_of response.entry.title response.entry.challenge.now
+        response.entry.message.now in
+        MatchResult result
+        (λ r. (grants security.old read granted).result ≡ Ok r)
+        (λ f. (grants security.old read granted).result ≡ Err f) }
+    ensures after { let read = response_of response.entry.title response.entry.challenge.now
+        response.entry.message.now in
+        security.new ≡ (grants security.old read granted).security }
 {
     let Some(granted) = granted else {
         return Err(SecuredFault::Initiate);
@@ -153,7 +133,7 @@ fn grant(
     if clear_size(granted.size) < LEAST_CLEAR {
         return Err(SecuredFault::Size);
     }
-    reply_to(security, form, challenge, granted)
+    reply_to(security, response, granted)
 }
 
 /// Whether the peer has this title.
@@ -167,51 +147,132 @@ fn is_title(title: &[u8; 8], peer: Option<[u8; 8]>) -> bool
 }
 
 /// The reply, after the initiate response was opened under the peer's title.
-fn open(security: &mut Security, form: Form, response: Response<'_>) -> Result<Reply, SecuredFault>
+fn open(security: &mut Security, response: Response<'_>) -> Result<Reply, SecuredFault>
     ensures result { let read = response_of response.entry.title response.entry.challenge.now
         response.entry.message.now in
         MatchResult result
-        (λ r. (opens security.old form read).result
-        ≡ Ok (record { message = r.message.items; granted = r.granted }))
-        (λ f. (opens security.old form read).result ≡ Err f) }
+        (λ r. (opens security.old read).result ≡ Ok r)
+        (λ f. (opens security.old read).result ≡ Err f) }
     ensures after { let read = response_of response.entry.title response.entry.challenge.now
         response.entry.message.now in
-        security.new ≡ (opens security.old form read).security }
-    ensures short { IfOk result (λ r. length r.message.items ≤ MOST_CARRIED) }
+        security.new ≡ (opens security.old read).security }
 {
     if !is_title(&response.title, security.peer()) {
         return Err(SecuredFault::Title);
     }
     let apdu = unprotect(security, response.message)?;
-    grant(
-        security,
-        form,
-        response.challenge,
-        granted_in(apdu.as_slice()),
-    )
+    grant(security, response, granted_in(apdu.as_slice()))
+}
+
+/// Whether the octets begin as an APDU of a client: an initiate request, or a get, set or action request.
+fn is_request(octets: &[u8]) -> bool
+    ensures { result ≡ is_request octets.now }
+{
+    match octets {
+        [0x01, kind, ..] => *kind < 2,
+        [0xc0 | 0xc1 | 0xc3, kind, ..] => 0 < *kind && *kind < 7,
+        _ => false,
+    }
+}
+
+/// Whether a challenge is answered. Under authentication alone the answer's tag is that of a message whose APDU is the challenge.
+fn may_answer(policy: Policy, challenge: &[u8]) -> bool
+    ensures { result ≡ may_answer policy challenge.now }
+{
+    match policy {
+        Policy::Authenticated => !is_request(challenge),
+        _ => true,
+    }
 }
 
 /// The reply to an association response. The meter's title is learned first.
 #[tactic(auto, unfolding(crate::specs::Made::accepts))]
 pub(crate) fn accept(
     security: &mut Security,
-    form: Form,
     own: &[u8],
     apdu: &[u8],
 ) -> Result<Reply, SecuredFault>
     ensures result { MatchResult result
-        (λ r. (accepts security.old form own.now apdu.now).result
-        ≡ Ok (record { message = r.message.items; granted = r.granted }))
-        (λ f. (accepts security.old form own.now apdu.now).result ≡ Err f) }
-    ensures after { security.new ≡ (accepts security.old form own.now apdu.now).security }
-    ensures short { IfOk result (λ r. length r.message.items ≤ MOST_CARRIED) }
+        (λ r. (accepts security.old own.now apdu.now).result ≡ Ok r)
+        (λ f. (accepts security.old own.now apdu.now).result ≡ Err f) }
+    ensures after { security.new ≡ (accepts security.old own.now apdu.now).security }
 {
     let Some(fields) = inner(0x61, apdu) else {
         return Err(SecuredFault::Response);
     };
     let response = response_in(&security.own(), own, fields)?;
+    if !may_answer(security.policy(), response.challenge) {
+        return Err(SecuredFault::NoChallenge);
+    }
     security.learn(response.title);
-    open(security, form, response)
+    open(security, response)
+}
+
+/// The protected form of an APDU, under the dedicated key if there is one.
+pub(crate) fn protect_by(
+    security: &mut Security,
+    dedicated: &mut Option<Security>,
+    form: Form,
+    apdu: &[u8],
+) -> Result<Message, SecuredFault>
+    ensures result { let made = through security.old dedicated.old
+        (λ s. protects s form MOST_CARRIED apdu.now) in
+        MatchResult result (λ message. made.result ≡ Ok message.items) (λ f. made.result ≡ Err f) }
+    ensures global { let made = through security.old dedicated.old
+        (λ s. protects s form MOST_CARRIED apdu.now) in security.new ≡ made.security }
+    ensures dedicated { let made = through security.old dedicated.old
+        (λ s. protects s form MOST_CARRIED apdu.now) in dedicated.new ≡ made.dedicated }
+    ensures short { IfOk result (λ message. length message.items ≤ MOST_CARRIED) }
+{
+    match dedicated {
+        Some(dedicated) => protect(dedicated, form, MOST_CARRIED, apdu),
+        None => protect(security, form, MOST_CARRIED, apdu),
+    }
+}
+
+/// The APDU in a message of the open association, under the dedicated key if there is one.
+pub(crate) fn unprotect_by(
+    security: &mut Security,
+    dedicated: &mut Option<Security>,
+    message: &[u8],
+) -> Result<ArrayVec<u8, MOST_APDU>, SecuredFault>
+    ensures result { let made = through security.old dedicated.old
+        (λ s. unprotects s message.now) in
+        MatchResult result (λ apdu. made.result ≡ Ok apdu.items) (λ f. made.result ≡ Err f) }
+    ensures global { let made = through security.old dedicated.old
+        (λ s. unprotects s message.now) in security.new ≡ made.security }
+    ensures dedicated { let made = through security.old dedicated.old
+        (λ s. unprotects s message.now) in dedicated.new ≡ made.dedicated }
+{
+    match dedicated {
+        Some(dedicated) => unprotect(dedicated, message),
+        None => unprotect(security, message),
+    }
+}
+
+/// The layer of the dedicated key learns the meter's title.
+pub(crate) fn teach(dedicated: &mut Option<Security>, title: [u8; 8])
+    ensures { dedicated.new ≡ taught title dedicated.old }
+{
+    if let Some(dedicated) = dedicated {
+        dedicated.learn(title);
+    }
+}
+
+/// The protected action request with the answer to the meter's challenge.
+pub(crate) fn send_answer(
+    security: &mut Security,
+    form: Form,
+    answer: &[u8; 17],
+) -> Result<Message, SecuredFault>
+    ensures result { MatchResult result
+        (λ message. (sends_answer security.old form answer.now).result ≡ Ok message.items)
+        (λ f. (sends_answer security.old form answer.now).result ≡ Err f) }
+    ensures after { security.new ≡ (sends_answer security.old form answer.now).security }
+    ensures short { IfOk result (λ message. length message.items ≤ MOST_CARRIED) }
+{
+    let request = reply_to_hls(answer);
+    protect(security, form, MOST_CARRIED, request.as_slice())
 }
 
 /// Whether a release response is taken: it has no user information, or a protected initiate response that opens.
@@ -267,7 +328,7 @@ pub(crate) fn ask(
     security: &mut Security,
     form: Form,
     own: &[u8],
-    initiate: &[u8; 14],
+    initiate: &[u8],
 ) -> Result<Message, SecuredFault>
     requires { length own.now ≤ MOST_FIELD }
     ensures result { MatchResult result
@@ -277,7 +338,7 @@ pub(crate) fn ask(
     ensures short { IfOk result (λ m. length m.items ≤ MOST_CARRIED) }
 {
     let title = security.own();
-    let message = protect(security, form, MOST_FIELD, initiate.as_slice())?;
+    let message = protect(security, form, MOST_FIELD, initiate)?;
     Ok(secured_aarq(&title, own, message.as_slice()))
 }
 
@@ -286,7 +347,7 @@ pub(crate) fn ask(
 pub(crate) fn leave(
     security: &mut Security,
     form: Form,
-    initiate: &[u8; 14],
+    initiate: &[u8],
 ) -> Result<Message, SecuredFault>
     ensures result { MatchResult result
         (λ m. (leaves security.old form initiate.now).result ≡ Ok m.items)
@@ -294,6 +355,6 @@ pub(crate) fn leave(
     ensures after { security.new ≡ (leaves security.old form initiate.now).security }
     ensures short { IfOk result (λ m. length m.items ≤ MOST_CARRIED) }
 {
-    let message = protect(security, form, MOST_FIELD, initiate.as_slice())?;
+    let message = protect(security, form, MOST_FIELD, initiate)?;
     Ok(secured_rlrq(message.as_slice()))
 }

@@ -2,13 +2,13 @@
 
 ghost use Rattle.std.specs.Prelude.{◌≡◌, ◌≤◌, ◌+◌, ◌++◌, length};
 ghost use Rattle.arrayvec.specs.ArrayVec.{array_vec_len};
-ghost use Rattle.dlms_acse.specs.Writing.{initiate_request};
-ghost use Rattle.dlms_secured.specs.Messages.{secured_aarq, request_fields, secured_rlrq, reply_to_hls, clear_size, plain_aare};
+ghost use Rattle.dlms_acse.specs.Writing.{conformance_head, three_bytes, two_bytes};
+ghost use Rattle.std.specs.Prelude.{◌∷◌};
+ghost use Rattle.dlms_secured.specs.Messages.{initiate_of, secured_aarq, request_fields, secured_rlrq, reply_to_hls, clear_size, plain_aare};
 ghost use Rattle.dlms_secured.specs.Messages.{begins};
 
 use crate::stage::Granted;
 use arrayvec::ArrayVec;
-use dlms_acse::Initiate;
 use dlms_security::MOST_MESSAGE;
 
 /// The most octets of an APDU that a carrier takes.
@@ -45,6 +45,9 @@ const ACCEPTED: [u8; 36] = [
     0x5f, 0x1f, 0x04, 0x00,
 ];
 
+/// An initiate request in clear.
+pub(crate) type Initiate = ArrayVec<u8, 31>;
+
 /// Appends octets.
 fn append<const CAP: usize>(text: &mut ArrayVec<u8, CAP>, octets: &[u8])
     requires { array_vec_len text.old + length octets.now ≤ CAP }
@@ -53,15 +56,27 @@ fn append<const CAP: usize>(text: &mut ArrayVec<u8, CAP>, octets: &[u8])
     let _fits = text.try_extend_from_slice(octets);
 }
 
-/// The initiate request in clear: version 6, without a dedicated key.
-pub(crate) fn initiate_request(initiate: &Initiate) -> [u8; 14]
-    ensures { result ≡ initiate_request initiate.now.conformance.0 initiate.now.size }
+/// The initiate request in clear: version 6, with the dedicated key if there is one.
+pub(crate) fn initiate_of(key: Option<[u8; 16]>, services: u32, size: u16) -> Initiate
+    ensures { result.items ≡ initiate_of key services size }
 {
-    let bits = initiate.conformance.0;
-    let size = initiate.size;
+    let mut apdu = ArrayVec::new();
+    match key {
+        Some(key) => {
+            append(&mut apdu, &[0x01, 0x01, 0x10]);
+            append(&mut apdu, key.as_slice());
+        }
+        None => append(&mut apdu, &[0x01, 0x00]),
+    }
+    append(&mut apdu, terms(services, size).as_slice());
+    apdu
+}
+
+/// The rest of an initiate request, after its dedicated key.
+fn terms(services: u32, size: u16) -> [u8; 12]
+    ensures { result ≡ 0x00 ∷ 0x00 ∷ 0x06 ∷ (conformance_head ++ three_bytes services ++ two_bytes size) }
+{
     [
-        0x01,
-        0x00,
         0x00,
         0x00,
         0x06,
@@ -69,9 +84,9 @@ pub(crate) fn initiate_request(initiate: &Initiate) -> [u8; 14]
         0x1f,
         0x04,
         0x00,
-        (bits / 65536 % 256) as u8,
-        (bits / 256 % 256) as u8,
-        (bits % 256) as u8,
+        (services / 65536 % 256) as u8,
+        (services / 256 % 256) as u8,
+        (services % 256) as u8,
         (size / 256) as u8,
         (size % 256) as u8,
     ]

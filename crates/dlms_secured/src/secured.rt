@@ -16,7 +16,7 @@ use std::marker::Model;
 
 /// A carrier that protects the APDUs of an association if it has a guard, and passes them on unchanged if it has none.
 ///
-/// With a guard the association above it sends and receives APDUs in clear; what goes out is protected. The caller sets a new
+/// With a guard the association above it sends and receives APDUs in clear, and each APDU that is sent is protected. The caller sets a new
 /// challenge by `renew` of the guard before each association but the first. After the event `Insecure` the connection is over, and
 /// the caller closes it; `fault` is the cause.
 #[derive(Drop)]
@@ -194,17 +194,18 @@ impl<C: Carrier + Drop> Secured<C> {
         }
     }
 
-    /// Sets the challenge of the next association, of 8 to 64 octets that nobody can guess. Without a guard it does nothing.
-    pub fn renew(&mut self, challenge: &[u8])
+    /// Sets the challenge of the next association, of 8 to 64 octets that nobody can guess, and its dedicated key, if there is one.
+    /// Without a guard it does nothing.
+    pub fn renew(&mut self, challenge: &[u8], dedicated: Option<[u8; 16]>)
         requires least { 8 ≤ length challenge.now }
         requires most { length challenge.now ≤ 64 }
         ensures { self.new ≡ record self.old {
           guard = option_map
-              (λ g. renewed g challenge.now) self.old.guard;
+              (λ g. renewed g challenge.now dedicated) self.old.guard;
         } }
     {
         if let Some(guard) = &mut self.guard {
-            guard.renew(challenge);
+            guard.renew(challenge, dedicated);
         }
     }
 

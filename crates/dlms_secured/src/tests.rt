@@ -5,15 +5,15 @@ mod vectors;
 ghost use Rattle.std.specs.Prelude.{◌≤◌, length};
 
 use self::vectors::{
-    AARE, AARQ, GET, GLO_GET, GLO_GOT, GOT, LONG_AARQ, PLAIN_AARE, PLAIN_AARQ, PROOF, REPLY, RLRE,
-    RLRQ,
+    AARE, AARQ, DEDICATED_AARQ, DEDICATED_GET, DEDICATED_GOT, DEDICATED_REPLY, DEDICATED_RLRQ, GET,
+    GLO_GET, GLO_GOT, GOT, LONG_AARQ, PLAIN_AARE, PLAIN_AARQ, PROOF, REPLY, RLRE, RLRQ,
 };
 use crate::fault::SecuredFault;
 use crate::guard::Guard;
 use crate::secured::Secured;
+use crate::terms::Terms;
 use dlms_carrier::{Carrier, Event, TcpCarrier};
-use dlms_cipher::Keys;
-use dlms_security::{Form, StoredState};
+use dlms_security::{Form, Policy, StoredState, UnprotectFault};
 use std::process::Abort;
 
 /// The keys of the vectors.
@@ -39,7 +39,7 @@ const LONG: [u8; 64] = [
 ];
 
 /// A client whose next counter is 0x01234567.
-fn client(form: Form, challenge: &[u8]) -> Secured<TcpCarrier>
+fn client(form: Form, challenge: &[u8], dedicated: Option<[u8; 16]>) -> Secured<TcpCarrier>
     requires least { 8 ≤ length challenge.now }
     requires most { length challenge.now ≤ 64 }
 {
@@ -48,7 +48,14 @@ fn client(form: Form, challenge: &[u8]) -> Secured<TcpCarrier>
         peer: None,
         accepted: None,
     };
-    let mut guard = Guard::new(OWN, Keys::new(KEY, AUTHENTICATION), stored, form, challenge);
+    let terms = Terms {
+        title: OWN,
+        encryption_key: KEY,
+        authentication_key: AUTHENTICATION,
+        policy: Policy::AuthenticatedEncrypted,
+        form,
+    };
+    let mut guard = Guard::new(&terms, stored, challenge, dedicated);
     guard.extend_reservation(0x0123_4600);
     Secured::new(TcpCarrier::new(0x10, 1), Some(guard))
 }
@@ -87,7 +94,7 @@ fn feed(client: &mut Secured<TcpCarrier>, message: &[u8]) -> Event {
 
 /// A client whose association request is out.
 fn asking(rt: &impl Abort) -> Secured<TcpCarrier> {
-    let mut client = client(Form::Service, &CHALLENGE);
+    let mut client = client(Form::Service, &CHALLENGE, None);
     assert!(rt; client.is_down());
     if client.is_down() {
         assert_eq!(rt; client.begin(), Event::Up);
@@ -131,7 +138,7 @@ fn an_association(rt: HostRuntime) {
 /// APDU goes out as it is.
 #[test]
 fn other_forms(rt: HostRuntime) {
-    let mut long = client(Form::General, &LONG);
+    let mut long = client(Form::General, &LONG, None);
     if long.is_down() {
         assert_eq!(rt; long.begin(), Event::Up);
     }
@@ -143,4 +150,52 @@ fn other_forms(rt: HostRuntime) {
     give(&rt, &mut plain, &PLAIN_AARQ, &PLAIN_AARQ);
     assert_eq!(rt; feed(&mut plain, &PLAIN_AARE), Event::Apdu);
     assert!(rt; plain.apdu() == PLAIN_AARE.as_slice());
+}
+
+/// A client with a dedicated key, whose answer to the meter's challenge is out.
+fn proving(rt: &impl Abort) -> Secured<TcpCarrier> {
+    let key = [
+        0xf0, 0xf1, 0xf2, 0xf3, 0xf4, 0xf5, 0xf6, 0xf7, 0xf8, 0xf9, 0xfa, 0xfb, 0xfc, 0xfd, 0xfe,
+        0xff,
+    ];
+    let mut client = client(Form::Service, &CHALLENGE, Some(key));
+    if client.is_down() {
+        assert_eq!(rt; client.begin(), Event::Up);
+    }
+    give(rt, &mut client, &PLAIN_AARQ, &DEDICATED_AARQ);
+    assert_eq!(rt; feed(&mut client, &AARE), Event::Nothing);
+    goes_out(rt, &client, &PROOF);
+    client
+}
+
+/// An association with a dedicated key: the messages are protected under it, both passes and the requests of the association and of its
+/// release under the global key. An answer under the global key is refused.
+#[test]
+fn a_dedicated_key(rt: HostRuntime) {
+    let mut client = proving(&rt);
+    assert_eq!(rt; feed(&mut client, &REPLY), Event::Apdu);
+    assert!(rt; client.apdu() == PLAIN_AARE.as_slice());
+    give(&rt, &mut client, &GET, &DEDICATED_GET);
+    assert_eq!(rt; feed(&mut client, &DEDICATED_GOT), Event::Apdu);
+    assert!(rt; client.apdu() == GOT.as_slice());
+    give(
+        &rt,
+        &mut client,
+        &[0x62, 0x03, 0x80, 0x01, 0x00],
+        &DEDICATED_RLRQ,
+    );
+    assert_eq!(rt; feed(&mut client, &GLO_GOT), Event::Insecure);
+    assert!(rt; client.out().is_empty());
+}
+
+/// The meter's answer under the dedicated key is refused.
+#[test]
+fn a_reply_under_the_dedicated_key(rt: HostRuntime) {
+    let mut client = proving(&rt);
+    assert_eq!(rt; feed(&mut client, &DEDICATED_REPLY), Event::Insecure);
+    assert_eq!(rt;
+        client.fault(),
+        Some(SecuredFault::Message(UnprotectFault::WrongTag))
+    );
+    assert!(rt; client.out().is_empty());
 }

@@ -5,3 +5,4 @@ pub mod RoundLemmas
 pub mod AcceptedLemmas
 pub mod RunLemmas
 pub mod EncodingLemmas
+pub mod OpeningLemmas

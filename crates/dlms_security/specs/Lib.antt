@@ -4,3 +4,4 @@ pub mod Keyed
 pub mod Security
 pub mod Run
 pub mod Encoding
+pub mod Opening

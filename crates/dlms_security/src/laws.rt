@@ -5,6 +5,7 @@ ghost use Rattle.dlms_cipher.specs.Keys.{encryption_key, authentication_key};
 ghost use Rattle.dlms_security.specs.declared.kind.KeyKind.TheVariants.{Global};
 ghost use Rattle.dlms_security.specs.Security.{SecurityState};
 ghost use Rattle.dlms_security.specs.Encoding.{ReadExactly};
+ghost use Rattle.dlms_security.specs.Opening.{OpenedExactly};
 ghost use Rattle.dlms_security.specs.Run.{IsState, IsStep, Protects, Unprotects, Reserves, Learns, Answers, Stops};
 ghost use Rattle.dlms_security.specs.Run.{NeverTwice, NeverInTheClear, Fresh, Authentic, AcceptedExactly, RoundTrip};
 
@@ -35,6 +36,11 @@ pub fn reading()
 /// accepted one.
 pub fn accepting()
     ensures { AcceptedExactly }
+{}
+
+/// A message is opened under given keys exactly if it is the protected form of an APDU under them and the sender's title.
+pub fn opening_is_exact()
+    ensures { OpenedExactly }
 {}
 
 /// The peer accepts a message that goes out as the APDU that the caller passed.

@@ -55,7 +55,7 @@ impl Model for Security {
 }
 
 /// Whether a message may come from the peer: it contains the peer's title, or none.
-fn is_from(named: Option<[u8; 8]>, title: &[u8; 8]) -> bool
+pub(crate) fn is_from(named: Option<[u8; 8]>, title: &[u8; 8]) -> bool
     ensures { result ≡ is_from named title.now }
 {
     match named {
@@ -104,14 +104,14 @@ impl Security {
     }
 
     /// The state under a dedicated key, at the start of an association. `keys` has the dedicated key as its encryption key, and
-    /// the same authentication key as under the global one (Green Book 9.2.7.2). Counters begin at 0, and nothing is stored. A
-    /// CALLER MUST NOT use a dedicated key in a second association, or twice at one end: the client makes a random one for
+    /// the same authentication key as under the global one (Green Book 9.2.7.2). Counters begin at 0, and nothing is stored. The
+    /// peer's title is not known: call `learn`. A CALLER MUST NOT use a dedicated key in a second association, or twice at one end: the client makes a random one for
     /// each association.
-    pub fn with_dedicated_key(own: [u8; 8], peer: [u8; 8], keys: Keys, policy: Policy) -> Security
+    pub fn with_dedicated_key(own: [u8; 8], keys: Keys, policy: Policy) -> Security
         ensures { result ≡ record {
           kind = Dedicated;
           own = own;
-          peer = Some peer;
+          peer = None;
           encryption = encryption_key keys;
           authentication = authentication_key keys;
           policy = policy;
@@ -123,7 +123,7 @@ impl Security {
         Security {
             kind: KeyKind::Dedicated,
             own,
-            peer: Some(peer),
+            peer: None,
             keys,
             policy,
             next: 0,
@@ -272,6 +272,13 @@ impl Security {
         let apdu = self.check(head, body)?;
         self.accepted = Some(head.counter);
         Ok(apdu)
+    }
+
+    /// The policy.
+    pub fn policy(&self) -> Policy
+        ensures { result ≡ self.now.policy }
+    {
+        self.policy
     }
 
     /// The own system title.

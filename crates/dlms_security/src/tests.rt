@@ -6,6 +6,7 @@ use self::vectors::{EXAMPLES, Example};
 use crate::fault::{ProtectFault, UnprotectFault};
 use crate::form::{Form, MOST_APDU, kind_of};
 use crate::kind::KeyKind;
+use crate::opening::{header_of, open_message};
 use crate::policy::Policy;
 use crate::security::Security;
 use crate::stored::StoredState;
@@ -134,7 +135,7 @@ fn dedicated_key(rt: HostRuntime) {
     ];
     let policy = Policy::AuthenticatedEncrypted;
     let keys = Keys::new(key, AUTHENTICATION);
-    let mut client = Security::with_dedicated_key(TITLE, OTHER, keys, policy);
+    let mut client = Security::with_dedicated_key(TITLE, keys, policy);
     match client.protect(Form::Service, &GET_REQUEST) {
         Ok(message) => assert!(rt; message.as_slice() == service.as_slice()),
         Err(_) => assert!(rt; false),
@@ -144,9 +145,19 @@ fn dedicated_key(rt: HostRuntime) {
         Err(_) => assert!(rt; false),
     }
     let keys = Keys::new(key, AUTHENTICATION);
-    let mut meter = Security::with_dedicated_key(OTHER, TITLE, keys, policy);
+    let mut meter = Security::with_dedicated_key(OTHER, keys, policy);
+    meter.learn(TITLE);
     assert!(rt; meter.unprotect(&service).is_ok());
     assert!(rt; meter.unprotect(&general).is_ok());
+    assert!(rt; open_message(&Keys::new(key, AUTHENTICATION), &TITLE, &general).is_ok());
+    assert!(rt;
+        open_message(&Keys::new(KEY, AUTHENTICATION), &TITLE, &general).err()
+            == Some(UnprotectFault::WrongTag)
+    );
+    match header_of(&general) {
+        Some(header) => assert!(rt; header.title == Some(TITLE) && header.counter == 1),
+        None => assert!(rt; false),
+    }
     assert!(rt; kind_of(&service) == Some(KeyKind::Dedicated));
     assert!(rt; kind_of(&GLO_GET_REQUEST) == Some(KeyKind::Global));
     assert!(rt; kind_of(&GET_REQUEST) == None);
@@ -172,6 +183,10 @@ fn agrees(rt: &impl Abort, example: &Example) {
             assert!(rt; message.starts_with(&example.first));
             assert!(rt; message.ends_with(&example.last));
             match receiver(example.policy, Some(TITLE)).unprotect(message) {
+                Ok(text) => assert!(rt; text.as_slice() == apdu.as_slice()),
+                Err(_) => assert!(rt; false),
+            }
+            match open_message(&Keys::new(KEY, AUTHENTICATION), &TITLE, message) {
                 Ok(text) => assert!(rt; text.as_slice() == apdu.as_slice()),
                 Err(_) => assert!(rt; false),
             }

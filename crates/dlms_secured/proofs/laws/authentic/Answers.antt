@@ -1,5 +1,7 @@
-use Rattle.dlms_secured.proofs.Sharing.{authentic}
+use Rattle.dlms_carrier.specs.Carrying.{meaning}
+use Rattle.dlms_secured.proofs.Authentic.{authentic}
 use Rattle.dlms_secured.proofs.laws.authentic.Goals as goal
 
 pub returns : goal.returns
-returns g c = authentic c.over_runs.ensures.authentic c.over_runs.ensures.fresh _
+returns g c = authentic c.accepting.ensures
+    (meaning g.C.Carrier.steps g.C.Carrier.out_of g.C.Carrier.apdu_of g.C.Carrier.is_waiting)

@@ -1,5 +1,7 @@
-use Rattle.dlms_secured.proofs.Sharing.{never_in_clear}
+use Rattle.dlms_carrier.specs.Carrying.{meaning}
+use Rattle.dlms_secured.proofs.Clear.{never_in_clear}
 use Rattle.dlms_secured.proofs.laws.never_in_clear.Goals as goal
 
 pub returns : goal.returns
-returns g c = never_in_clear c.over_runs.ensures.never_twice c.over_runs.ensures.never_in_the_clear _
+returns g c = never_in_clear c.over_runs.ensures.never_twice c.over_runs.ensures.never_in_the_clear c.over_runs.ensures.fresh
+    (meaning g.C.Carrier.steps g.C.Carrier.out_of g.C.Carrier.apdu_of g.C.Carrier.is_waiting)
