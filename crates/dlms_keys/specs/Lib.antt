@@ -1,3 +1,5 @@
 pub mod Names
 pub mod Settings
 pub mod Place
+pub mod Station
+pub mod Keyring

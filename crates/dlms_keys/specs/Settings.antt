@@ -1,5 +1,5 @@
 -- The settings that a TOML table says.
-use Rattle.std.specs.Prelude.{◌≡◌, ◌≢◌, ◌⊎◌, codes, ℕ, suc, zero, List, length, filter, Bool, Option, Some, None, is_some, Ok}
+use Rattle.std.specs.Prelude.{◌≡◌, ◌≢◌, ◌⊎◌, codes, ℕ, suc, zero, List, length, filter, Bool, true, false, Option, Some, None, is_some, Ok}
 use Rattle.hex.specs.Hex.{decode_sized}
 use Rattle.toml.specs.Data.{Data, string, boolean, Members, no_members, member, get_member}
 use Rattle.toml.specs.Parse.{parse_document}
@@ -63,9 +63,30 @@ size_of (member name value table) = suc (size_of table)
 abbrev pub known : List Setting → Members → ℕ
 known names table = length (filter (λ setting. is_some (value_at setting table)) names)
 
--- The names of a table differ, so none is unknown if it has as many members as settings.
+-- The names of a table differ, so it has no others than these settings if it has as many members as these.
+abbrev pub HasOthers : List Setting → Members → Type 0
+HasOthers names table = size_of table ≢ known names table
+
 abbrev pub HasUnknown : Members → Type 0
-HasUnknown table = size_of table ≢ known settings table
+HasUnknown table = HasOthers settings table
+
+-- a table has this authentication key, or none
+abbrev pub MayHaveKey : Option (List ℕ) → Members → Type 0
+MayHaveKey None table = value_at AuthenticationKey table ≡ None
+MayHaveKey (Some key) table = Has AuthenticationKey (λ value. IsHex 16 value key) table
+
+-- Authentication alone does not hide a dedicated key, which is sent.
+abbrev pub shows_key : PolicyOf → Bool → Bool
+shows_key Authenticated dedicated = dedicated
+shows_key Encrypted dedicated = false
+shows_key AuthenticatedEncrypted dedicated = false
+
+pub record ShowsKey (table : Members) : Type 0 where
+  pub policy_is : PolicyOf
+  pub flag : Bool
+  pub policy : Has Policy (λ value. value ≡ string (policy_word policy_is)) table
+  pub dedicated : Has Dedicated (λ value. value ≡ boolean flag) table
+  pub shown : shows_key policy_is flag ≡ true
 
 -- a table says these settings, and nothing else
 pub record Says (table : Members) (s : SettingsValue) : Type 0 where
@@ -78,6 +99,7 @@ pub record Says (table : Members) (s : SettingsValue) : Type 0 where
   pub dedicated : Has Dedicated (λ value. value ≡ boolean s.dedicated) table
   pub counters : Has Counters (λ value. value ≡ string s.counters) table
   pub only : size_of table ≡ known settings table
+  pub hidden : shows_key s.policy s.dedicated ≡ false
 
 -- why a setting cannot be read from a table
 abbrev pub Lacks : Setting → Members → SettingsFault → Type 0
@@ -87,7 +109,8 @@ Lacks setting table fault = ((fault ≡ Missing setting) × (value_at setting ta
 -- why a table is refused
 abbrev pub IsRefusedFor : Members → SettingsFault → Type 0
 IsRefusedFor table fault = ((fault ≡ Unknown) × HasUnknown table)
-    ⊎ ((setting : Setting) × Lacks setting table fault)
+    ⊎ (((fault ≡ Invalid Dedicated) × ShowsKey table)
+    ⊎ ((setting : Setting) × Lacks setting table fault))
 
 -- what reading a text returns
 abbrev pub ReadAs : List ℕ → SettingsValue → Type 0

@@ -17,7 +17,7 @@ pub enum SettingsFault {
     /// This setting is missing.
     #[error("a setting is missing")]
     Missing(Setting),
-    /// This setting has a value of another type or length, or a word that is not one of its own.
+    /// This setting has a value of another type or length, a word that is not one of its own, or one that does not go with another.
     #[error("a setting has an invalid value")]
     Invalid(Setting),
     /// A growth was refused.
@@ -25,7 +25,27 @@ pub enum SettingsFault {
     Memory,
 }
 
-/// Why a file of settings is refused.
+/// Why a text of stations is refused. No fault contains a value, since it could be a key.
+#[derive(Clone, Copy, Debug, Error)]
+pub enum StationsFault {
+    /// The text is not TOML.
+    #[error("the text is not TOML")]
+    Toml,
+    /// It has something else than `[[station]]` tables, or none of these.
+    #[error("there is something else than [[station]] tables, or none of these")]
+    Other,
+    /// It has more than 256 stations.
+    #[error("there are more than 256 stations")]
+    Many,
+    /// The station with this number, counted from 1, is refused.
+    #[error("station {0}: {1}")]
+    At(usize, SettingsFault),
+    /// A growth was refused.
+    #[error("out of memory")]
+    Memory,
+}
+
+/// Why a file of settings or of stations is refused.
 #[derive(Debug, Error, Drop)]
 pub enum FileFault {
     /// A call of the system failed.
@@ -40,6 +60,9 @@ pub enum FileFault {
     /// Its text says no settings.
     #[error("{0}")]
     Settings(SettingsFault),
+    /// Its text says no stations.
+    #[error("{0}")]
+    Stations(StationsFault),
 }
 
 impl From<io::Error> for FileFault {

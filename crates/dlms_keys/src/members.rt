@@ -1,9 +1,9 @@
 //! The values of a table's members, as settings.
 
-ghost use Rattle.std.specs.Prelude.{◌≡◌, ◌≢◌, ◌⊎◌, ◌≤◌, IfNone, IfSome, MatchResult, Some, None, length, option_map};
+ghost use Rattle.std.specs.Prelude.{true, false, ◌≡◌, ◌≢◌, ◌⊎◌, ◌≤◌, IfNone, IfSome, MatchResult, Some, None, length, option_map};
 ghost use Rattle.toml.specs.Data.{string, boolean};
 ghost use Rattle.toml.specs.View.{table_view, view};
-ghost use Rattle.dlms_keys.specs.Settings.{Has, IsHex, Lacks, form_word, known, policy_word, value_at};
+ghost use Rattle.dlms_keys.specs.Settings.{Has, HasOthers, IsHex, Lacks, MayHaveKey, form_word, known, policy_word, size_of, value_at};
 ghost use Rattle.dlms_keys.specs.declared.setting.Setting.TheVariants.{AuthenticationKey, Dedicated, EncryptionKey, Messages, Policy as PolicyOf, Title};
 
 use crate::fault::SettingsFault;
@@ -138,5 +138,25 @@ pub(crate) fn known(table: &Table, settings: &[Setting]) -> usize
                 others
             }
         }
+    }
+}
+
+/// Whether a table has a name that is not one of these settings'.
+pub(crate) fn has_others(table: &Table, settings: &[Setting]) -> bool
+    ensures yes { result ≡ true → HasOthers settings.now (table_view table.now) }
+    ensures no { result ≡ false
+        → size_of (table_view table.now) ≡ known settings.now (table_view table.now) }
+{
+    table.len() != known(table, settings)
+}
+
+/// The authentication key, if there is one.
+pub(crate) fn optional_key_of(table: &Table) -> Result<Option<[u8; 16]>, SettingsFault>
+    ensures { MatchResult result (λ key. MayHaveKey key (table_view table.now))
+        (λ fault. Lacks AuthenticationKey (table_view table.now) fault) }
+{
+    match value_of(table, Setting::AuthenticationKey) {
+        None => Ok(None),
+        Some(_) => Ok(Some(key_of(table, Setting::AuthenticationKey)?)),
     }
 }

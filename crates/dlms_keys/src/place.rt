@@ -6,6 +6,7 @@ ghost use Rattle.dlms_keys.specs.Place.{counters_path};
 
 use crate::fault::{CountersFault, FileFault};
 use crate::settings::Settings;
+use crate::stations::Stations;
 use dlms_counters::{CounterFile, SLOTS};
 use dlms_pages::{FilePages, FileSlots};
 use std::alloc::{AllocError, Global};
@@ -31,9 +32,8 @@ fn is_private(mode: u32) -> bool
     mode & OTHERS == 0
 }
 
-/// Reads the settings in a file. A file that others than its owner may read or write is refused, and so is one of more than 65,536
-/// bytes.
-pub fn read_settings<H: Files + AllocGlobal>(host: &H, path: &str) -> Result<Settings, FileFault> {
+/// The text of a file that is its owner's alone.
+fn private_text<H: Files + AllocGlobal>(host: &H, path: &str) -> Result<String, FileFault> {
     let file = fs::open(host, path)?;
     if !is_private(file.metadata()?.permissions().mode()) {
         return Err(FileFault::Exposed);
@@ -42,9 +42,26 @@ pub fn read_settings<H: Files + AllocGlobal>(host: &H, path: &str) -> Result<Set
     if text.len() > MOST_BYTES {
         return Err(FileFault::Large);
     }
+    Ok(text)
+}
+
+/// Reads the settings in a file. A file that others than its owner may read or write is refused, and so is one of more than 65,536
+/// bytes.
+pub fn read_settings<H: Files + AllocGlobal>(host: &H, path: &str) -> Result<Settings, FileFault> {
+    let text = private_text(host, path)?;
     match Settings::read(host.alloc(), text.as_str()) {
         Ok(settings) => Ok(settings),
         Err(fault) => Err(FileFault::Settings(fault)),
+    }
+}
+
+/// Reads the keys of stations in a file. A file that others than its owner may read or write is refused, and so is one of more than
+/// 65,536 bytes.
+pub fn read_stations<H: Files + AllocGlobal>(host: &H, path: &str) -> Result<Stations, FileFault> {
+    let text = private_text(host, path)?;
+    match Stations::read(host.alloc(), text.as_str()) {
+        Ok(stations) => Ok(stations),
+        Err(fault) => Err(FileFault::Stations(fault)),
     }
 }
 

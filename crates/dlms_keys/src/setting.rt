@@ -16,7 +16,7 @@ pub enum Setting {
     Policy,
     /// `messages`: `service` (such as glo-get-request) or `general` (general-glo-ciphering).
     Messages,
-    /// `dedicated`: whether each association has an encryption key of its own.
+    /// `dedicated`: whether each association has an encryption key of its own; not with `authenticated`, which would show it.
     Dedicated,
     /// `counters`: the path of the file of frame counters.
     Counters,
@@ -47,7 +47,7 @@ impl Setting {
             }
             Setting::Policy => "\"authenticated\", \"encrypted\" or \"authenticated-encrypted\"",
             Setting::Messages => "\"service\" or \"general\"",
-            Setting::Dedicated => "true or false",
+            Setting::Dedicated => "true or false, and false with policy \"authenticated\"",
             Setting::Counters => "the path of a file",
         }
     }

@@ -1,13 +1,12 @@
 //! The settings of a file.
 
-ghost use Rattle.std.specs.Prelude.{true, false, ◌≡◌, ◌≢◌, MatchResult, OnErr, OnOk, IfErr, string_bytes, length};
+ghost use Rattle.std.specs.Prelude.{◌≡◌, ◌≢◌, MatchResult, OnErr, OnOk, IfErr, string_bytes, length};
 ghost use Rattle.toml.specs.View.{table_view};
-ghost use Rattle.dlms_keys.specs.Names.{settings};
-ghost use Rattle.dlms_keys.specs.Settings.{HasUnknown, IsRefused, IsRefusedFor, ReadAs, Says, size_of, known};
+ghost use Rattle.dlms_keys.specs.Settings.{IsRefused, IsRefusedFor, ReadAs, Says, shows_key};
 ghost use Rattle.dlms_keys.specs.declared.fault.SettingsFault.TheVariants.{Memory};
 
 use crate::fault::SettingsFault;
-use crate::members::{form_of, is_dedicated, key_of, known, policy_of, text_of, title_of};
+use crate::members::{form_of, has_others, is_dedicated, key_of, policy_of, text_of, title_of};
 use crate::setting::Setting;
 use dlms_security::{Form, Policy};
 use std::alloc::Global;
@@ -39,7 +38,7 @@ pub struct Settings {
     pub policy: Policy,
     /// The ciphered form of messages.
     pub messages: Form,
-    /// Whether each association has an encryption key of its own.
+    /// Whether each association has an encryption key of its own. Not with `Policy::Authenticated`, which would show it.
     pub dedicated: bool,
     /// The path of the file of frame counters, as it was written.
     pub counters: String,
@@ -62,15 +61,6 @@ impl Model for Settings {
     } };
 }
 
-/// Whether a table has a name that is not a setting's.
-fn has_unknown(table: &Table) -> bool
-    ensures yes { result ≡ true → HasUnknown (table_view table.now) }
-    ensures no { result ≡ false
-        → size_of (table_view table.now) ≡ known settings (table_view table.now) }
-{
-    table.len() != known(table, &SETTINGS)
-}
-
 /// A copy of a path.
 fn copy_of(alloc: Global, path: &str) -> Result<String, SettingsFault>
     ensures { MatchResult result (λ copy. string_bytes copy ≡ path.now) (λ fault. fault ≡ Memory) }
@@ -78,12 +68,22 @@ fn copy_of(alloc: Global, path: &str) -> Result<String, SettingsFault>
     String::from_str(alloc, path).map_err(|_| SettingsFault::Memory)
 }
 
+/// Whether authentication alone would show a dedicated key.
+fn shows_key(policy: Policy, dedicated: bool) -> bool
+    ensures { result ≡ shows_key policy dedicated }
+{
+    match policy {
+        Policy::Authenticated => dedicated,
+        _ => false,
+    }
+}
+
 /// The settings of a table.
 fn settings_of(alloc: Global, table: &Table) -> Result<Settings, SettingsFault>
     ensures { MatchResult result (λ s. Says (table_view table.now) s)
         (λ fault. (fault ≢ Memory) → IsRefusedFor (table_view table.now) fault) }
 {
-    if has_unknown(table) {
+    if has_others(table, &SETTINGS) {
         return Err(SettingsFault::Unknown);
     }
     let title = title_of(table)?;
@@ -92,6 +92,9 @@ fn settings_of(alloc: Global, table: &Table) -> Result<Settings, SettingsFault>
     let policy = policy_of(table)?;
     let messages = form_of(table)?;
     let dedicated = is_dedicated(table)?;
+    if shows_key(policy, dedicated) {
+        return Err(SettingsFault::Invalid(Setting::Dedicated));
+    }
     let path = text_of(table, Setting::Counters)?;
     let counters = copy_of(alloc, path)?;
     Ok(Settings {
@@ -106,7 +109,8 @@ fn settings_of(alloc: Global, table: &Table) -> Result<Settings, SettingsFault>
 }
 
 impl Settings {
-    /// Reads the settings of a TOML text. Each of them is required, and there is nothing else.
+    /// Reads the settings of a TOML text. Each of them is required, and there is nothing else. A dedicated key under authentication alone
+    /// is `Invalid`.
     pub fn read(alloc: Global, text: &str) -> Result<Settings, SettingsFault>
         ensures { MatchResult result (λ s. ReadAs text.now s) (λ fault. IsRefused text.now fault) }
     {

@@ -1,7 +1,7 @@
 use Rattle.std.proofs.Common.{◌∙◌, sym}
 use Rattle.std.proofs.lemmas.Bool.{eqb-false, eqb-true}
 use Rattle.dlms_keys.proofs.Sizes.{not_false, not_true, size_of_map}
-use Rattle.dlms_keys.proofs.settings.has_unknown.Goals as goal
+use Rattle.dlms_keys.proofs.members.has_others.Goals as goal
 
 pub returns-clause-yes : goal.returns-clause-yes
 returns-clause-yes c differ same =
