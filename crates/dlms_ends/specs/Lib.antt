@@ -4,4 +4,5 @@ pub mod Serving
 pub mod Inflow
 pub mod Calling
 pub mod BothEnds
+pub mod Carried
 pub mod PollEnds

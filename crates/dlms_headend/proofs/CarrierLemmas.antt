@@ -1,17 +1,17 @@
--- A poll over a carrier: the APDU that is handed up, and the connection's end.
-use Rattle.std.proofs.Common.{◌≡◌, ◌∙◌, refl, ap, sym, subst, inl, inr, ℕ, List, [], ◌∷◌, ◌++◌, Result, Ok, Err}
+-- A poll over a carrier: what was taken, and the APDU that is handed up.
+use Rattle.std.proofs.Common.{◌≡◌, ◌∙◌, refl, ap, sym, subst, inl, inr, ℕ, List, [], ◌∷◌, ◌++◌, append-nil, append_assoc, Result, Ok, Err}
 use Rattle.dlms_blocks.specs.Joining.{Joining, empty}
 use Rattle.dlms_carrier.specs.Carrying.{Give, StepsOf}
 use Rattle.dlms_carrier.specs.declared.event.Event.{Event}
 use Rattle.dlms_carrier.specs.declared.event.Event.TheVariants as event
 use Rattle.dlms_headend.specs.CarrierPollValue.{CarrierPollValue, requests_of}
-use Rattle.dlms_headend.specs.CarrierPolling.{AsksNext, ComesBy, ComesUp, Fails, Feeds, FeedsIn, Fits, FitsIn, GoesDown, GoesOn, Hears, IsAsking, IsDone, IsLeaving, IsUnderWay, IsUnderWayIn, Leaves, LeavesBy, TakesOver}
-use Rattle.dlms_headend.specs.CarrierPolling.GoesDown.{IsReleased, IsUnreleased}
-use Rattle.dlms_headend.specs.CarrierPolling.TakesOver.{IsTaken, EndsIt, IsUnasked}
+use Rattle.dlms_headend.specs.CarrierPolling.{AsksNext, ComesBy, ComesUp, Fails, Feeds, FeedsIn, Fits, FitsIn, GoesOn, HasAll, Hears, IsAsking, IsOdd, IsUnderWayIn, Leaves, LeavesBy, Stops, TakesOver}
+use Rattle.dlms_headend.specs.CarrierPolling.Stops.{IsEnough, IsTooFew}
+use Rattle.dlms_headend.specs.CarrierPolling.TakesOver.{IsTaken, IsNoRelease, EndsIt, IsUnasked}
 use Rattle.dlms_headend.specs.CarrierPolling.ComesUp.{IsOpened, IsUpAlready}
 use Rattle.dlms_headend.specs.Due.{IsDueAt}
-use Rattle.dlms_headend.specs.Poll.{HasReleased, Needs}
-use Rattle.dlms_headend.specs.Talk.{CanTake, Ends, FitsAt, FitsTalk, Takes, fresh_talk}
+use Rattle.dlms_headend.specs.Poll.{HasPolled, HasReleased, Needs}
+use Rattle.dlms_headend.specs.Talk.{Ends, CanTake, FitsAt, FitsTalk, IsLate, Takes}
 use Rattle.dlms_headend.specs.TalkValue.{TalkValue}
 use Rattle.dlms_headend.specs.declared.plan.Columns.{Columns}
 use Rattle.dlms_headend.specs.declared.poll_fault.PollFault.{PollFault}
@@ -24,68 +24,40 @@ use Rattle.dlms_headend.specs.declared.stage.Stage.TheVariants.{Associating, Nam
 use Rattle.dlms_headend.specs.declared.step.PollOutcome.{PollOutcome}
 use Rattle.dlms_headend.specs.declared.step.PollOutcome.TheVariants as outcome
 use Rattle.dlms_headend.proofs.DueLemmas.{due_asks, due_awaits}
-use Rattle.dlms_headend.proofs.Told.{stage_told}
 
--- ---- the connection goes down
+-- ---- all was taken
 
--- a stage at which no APDU is awaited
-leaving_at : (stage : Stage) → (CanTake stage → ⊥) → stage ≡ Leaving
-leaving_at Associating never = absurd (never tt)
-leaving_at Naming never = absurd (never tt)
-leaving_at (Getting taken) never = absurd (never tt)
-leaving_at Checking never = absurd (never tt)
-leaving_at Releasing never = absurd (never tt)
-leaving_at Leaving never = refl
+pub late_polled : (columns : Columns) (stage : Stage) (blocks : Joining) (rows : List Row) (apdus : List (List ℕ)) → FitsAt columns stage blocks rows apdus → IsLate stage → HasPolled columns apdus rows
+late_polled columns Associating blocks rows apdus h late = absurd late
+late_polled columns Naming blocks rows apdus h late = absurd late
+late_polled columns (Getting taken) blocks rows apdus h late = absurd late
+late_polled columns Checking blocks rows apdus h late = absurd late
+late_polled columns Releasing blocks rows apdus h late = record { before = apdus; more = []; are = sym (append-nil apdus); polled = h }
+late_polled columns Leaving blocks rows apdus h late = record { before = h.before; more = h.answer ∷ []; are = h.are; polled = h.polled }
 
-still_at : (stage : Stage) → stage ≡ Leaving → CanTake stage → ⊥
-still_at stage e h = subst CanTake e h
+pub released_polled : (columns : Columns) (apdus : List (List ℕ)) (rows : List Row) → HasReleased columns apdus rows → HasPolled columns apdus rows
+released_polled columns apdus rows h = record { before = h.before; more = h.answer ∷ []; are = h.are; polled = h.polled }
 
-fresh_fits : (columns : Columns) (talk : TalkValue) (apdus : List (List ℕ)) → talk ≡ fresh_talk → apdus ≡ [] → FitsTalk columns talk apdus
-fresh_fits columns talk apdus fresh none = subst (λ (t : TalkValue). FitsTalk columns t apdus) (sym fresh) (none, refl, refl)
+pub more_polled : (columns : Columns) (apdus : List (List ℕ)) (apdu : List ℕ) (rows : List Row) → HasPolled columns apdus rows → HasPolled columns (apdus ++ apdu ∷ []) rows
+more_polled columns apdus apdu rows h =
+    record { before = h.before; more = h.more ++ apdu ∷ []; are = ap (λ (l : List (List ℕ)). l ++ apdu ∷ []) h.are ∙ append_assoc h.before h.more (apdu ∷ []); polled = h.polled }
 
-never_released : (columns : Columns) (talk : TalkValue) (apdus : List (List ℕ)) (rows : List Row) → FitsTalk columns talk apdus → (CanTake talk.stage) → HasReleased columns apdus rows → ⊥
-never_released columns talk apdus rows fits can released = still_at talk.stage (stage_told columns talk.stage talk.blocks talk.rows rows apdus fits released).0 can
-
-unreleased_in : {C : Type 0} (course : PollCourse) (p : CarrierPollValue C) (apdus : List (List ℕ)) (rows : List Row) → IsUnderWayIn course → (course ≡ Running → CanTake p.talk.stage) → FitsIn course p apdus → HasReleased p.terms.columns apdus rows → ⊥
-unreleased_in Ready p apdus rows under can fits released = under
-unreleased_in Connecting p apdus rows under can fits released =
-    never_released p.terms.columns p.talk apdus rows (fresh_fits p.terms.columns p.talk apdus fits.0 fits.1) (subst (λ (t : TalkValue). CanTake t.stage) (sym fits.0) tt) released
-unreleased_in Running p apdus rows under can fits released = never_released p.terms.columns p.talk apdus rows fits (can refl) released
-unreleased_in Done p apdus rows under can fits released = under
-unreleased_in (Failed fault) p apdus rows under can fits released = under
-
-can_take_unless : (stage : Stage) → (stage ≡ Leaving → ⊥) → CanTake stage
-can_take_unless Associating never = tt
-can_take_unless Naming never = tt
-can_take_unless (Getting taken) never = tt
-can_take_unless Checking never = tt
-can_take_unless Releasing never = tt
-can_take_unless Leaving never = absurd (never refl)
-
-pub went_down_early : {C : Type 0} (p new : CarrierPollValue C) (result : Result PollOutcome PollFault) (apdus : List (List ℕ)) → IsUnderWay p → (IsLeaving p → ⊥) → Fits p apdus → Fails p Protocol result new → GoesDown apdus p result new
-went_down_early p new result apdus under never fits fails =
-    let can : p.course ≡ Running → CanTake p.talk.stage =
-    λ running. can_take_unless p.talk.stage (λ leaving. never (record { running = running; leaving = still_at p.talk.stage leaving })) in
-    IsUnreleased (λ rows released. unreleased_in p.course p apdus rows under can fits released) fails
-
-pub went_down : {C : Type 0} (p new : CarrierPollValue C) (result : Result PollOutcome PollFault) (apdus : List (List ℕ)) → IsLeaving p → Fits p apdus → IsDone p result new → GoesDown apdus p result new
-went_down p new result apdus h fits done =
-    let there : FitsTalk p.terms.columns p.talk apdus = subst (λ (course : PollCourse). FitsIn course p apdus) h.running fits in
-    IsReleased (subst (λ (stage : Stage). FitsAt p.terms.columns stage p.talk.blocks p.talk.rows apdus) (leaving_at p.talk.stage h.leaving) there) done
+pub all_polled : {C : Type 0} (p : CarrierPollValue C) (apdus : List (List ℕ)) → HasAll p → Fits p apdus → HasPolled p.terms.columns apdus p.talk.rows
+all_polled p apdus all fits = late_polled p.terms.columns p.talk.stage p.talk.blocks p.talk.rows apdus (subst (λ (course : PollCourse). FitsIn course p apdus) all.running fits) all.late
 
 -- ---- an APDU is handed up
 
-module _ {C : Type 0} (steps : StepsOf C) (p new : CarrierPollValue C) (talk : TalkValue) (apdu : List ℕ) (apdus : List (List ℕ)) (result : Result PollOutcome PollFault) (asking : IsAsking p) (fits : Fits p apdus) where
+module _ {C : Type 0} (steps : StepsOf C) (p new : CarrierPollValue C) (talk : TalkValue) (apdu : List ℕ) (apdus : List (List ℕ)) (result : Result PollOutcome PollFault) (asking : IsAsking p) (even : IsOdd apdu p → ⊥) (fits : Fits p apdus) where
   asking_fits : FitsTalk p.terms.columns p.talk apdus
   asking_fits = subst (λ (course : PollCourse). FitsIn course p apdus) asking.running fits
 
   pub taken_over : (FitsTalk p.terms.columns p.talk apdus → CanTake p.talk.stage → Takes p.terms.columns p.talk apdus apdu (Ok tt) talk)
       → (FitsTalk p.terms.columns talk (apdus ++ apdu ∷ []) → GoesOn steps (record p { talk = talk }) (apdus ++ apdu ∷ []) result new) → TakesOver steps apdu apdus p result new
-  taken_over takes goes = let fits_now = (takes asking_fits asking.awaits).0 in IsTaken talk asking fits_now (goes fits_now)
+  taken_over takes goes = let fits_now = (takes asking_fits asking.awaits).0 in IsTaken talk asking even fits_now (goes fits_now)
 
   pub ended_over : (fault : PollFault) → (FitsTalk p.terms.columns p.talk apdus → CanTake p.talk.stage → Takes p.terms.columns p.talk apdus apdu (Err fault) talk) → Fails (record p { talk = talk }) fault result new
       → TakesOver steps apdu apdus p result new
-  ended_over fault takes fails = let ends = takes asking_fits asking.awaits in EndsIt fault asking ends.0 (record {
+  ended_over fault takes fails = let ends = takes asking_fits asking.awaits in EndsIt fault asking even ends.0 (record {
     answer = fails.answer;
     course = ap (λ (v : CarrierPollValue C). v.course) fails.after;
     terms = ap (λ (v : CarrierPollValue C). v.terms) fails.after;
@@ -137,6 +109,10 @@ fed_under_way {C} steps apdu_of apdus u old course octets count result new same 
 needs_never : {C : Type 0} (at new : CarrierPollValue C) (result : Result PollOutcome PollFault) (fault : PollFault) → (fault ≡ Memory → ⊥) → Fails at fault result new → result ≡ Err Memory → ⊥
 needs_never at new result fault other h e = let told = h.answer in let same : fault ≡ Memory = cc in other same
 
+stops_ok : {C : Type 0} (at new : CarrierPollValue C) (result : Result PollOutcome PollFault) (fault : PollFault) → (fault ≡ Memory → ⊥) → Stops at fault result new → result ≡ Err Memory → ⊥
+stops_ok at new result fault other (IsEnough all h) e = let told = h.answer in cc
+stops_ok at new result fault other (IsTooFew never h) e = needs_never at new result fault other h e
+
 leaves_ok : {C : Type 0} (event : Event) (at new : CarrierPollValue C) (result : Result PollOutcome PollFault) → LeavesBy event at result new → result ≡ Err Memory → ⊥
 leaves_ok event.Down at new result h e = let told = h.answer in cc
 leaves_ok event.Nothing at new result h e = let told = h.answer in cc
@@ -152,28 +128,25 @@ goes_on_ok steps at new apdus result (inr h) e = leaves_ok h.event _ new result 
 
 taken_needs : {C : Type 0} (steps : StepsOf C) (apdu_of : C → List ℕ) (apdus : List (List ℕ)) (at new : CarrierPollValue C) (result : Result PollOutcome PollFault) → TakesOver steps (apdu_of at.carrier) apdus at result new → result ≡ Err Memory
     → Needs at.terms.columns apdus (apdu_of new.carrier)
-taken_needs steps apdu_of apdus at new result (IsTaken talk asking fits goes) e = absurd (goes_on_ok steps _ new _ result goes e)
-taken_needs {C} steps apdu_of apdus at new result (EndsIt fault asking ends h) e =
+taken_needs steps apdu_of apdus at new result (IsTaken talk asking even fits goes) e = absurd (goes_on_ok steps _ new _ result goes e)
+taken_needs steps apdu_of apdus at new result (IsNoRelease asking odd h) e = let told = h.answer in cc
+taken_needs {C} steps apdu_of apdus at new result (EndsIt fault asking even ends h) e =
     let told = h.answer in
     let same : fault ≡ Memory = cc in
     let needs : Needs at.terms.columns apdus (apdu_of at.carrier) = subst (λ (f : PollFault). Ends at.terms.columns apdus (apdu_of at.carrier) f) same ends in
     subst (λ (c : C). Needs at.terms.columns apdus (apdu_of c)) (sym h.carrier) needs
-taken_needs steps apdu_of apdus at new result (IsUnasked never h) e = absurd (needs_never at new result Protocol (λ same. cc) h e)
+taken_needs steps apdu_of apdus at new result (IsUnasked never h) e = absurd (stops_ok at new result Protocol (λ same. cc) h e)
 
 up_ok : {C : Type 0} (steps : StepsOf C) (at new : CarrierPollValue C) (result : Result PollOutcome PollFault) → ComesUp steps at result new → result ≡ Err Memory → ⊥
 up_ok steps at new result (IsOpened connecting h told) e = cc
 up_ok steps at new result (IsUpAlready running h) e = needs_never at new result Protocol (λ same. cc) h e
-
-down_ok : {C : Type 0} (apdus : List (List ℕ)) (at new : CarrierPollValue C) (result : Result PollOutcome PollFault) → GoesDown apdus at result new → result ≡ Err Memory → ⊥
-down_ok apdus at new result (IsReleased released h) e = let told = h.answer in cc
-down_ok apdus at new result (IsUnreleased never h) e = needs_never at new result Protocol (λ same. cc) h e
 
 pub needs_by : {C : Type 0} (steps : StepsOf C) (apdu_of : C → List ℕ) (event : Event) (apdus : List (List ℕ)) (at new : CarrierPollValue C) (result : Result PollOutcome PollFault) → ComesBy steps event (apdu_of at.carrier) apdus at result new → result ≡ Err Memory
     → Needs at.terms.columns apdus (apdu_of new.carrier)
 needs_by steps apdu_of event.Nothing apdus at new result h e = let told = h.answer in cc
 needs_by steps apdu_of event.Up apdus at new result h e = absurd (up_ok steps at new result h e)
 needs_by steps apdu_of event.Apdu apdus at new result h e = taken_needs steps apdu_of apdus at new result h e
-needs_by steps apdu_of event.Down apdus at new result h e = absurd (down_ok apdus at new result h e)
-needs_by steps apdu_of event.TimedOut apdus at new result h e = absurd (needs_never at new result Line (λ same. cc) h e)
-needs_by steps apdu_of (event.Refused why) apdus at new result h e = absurd (needs_never at new result Protocol (λ same. cc) h e)
-needs_by steps apdu_of event.Insecure apdus at new result h e = absurd (needs_never at new result Protocol (λ same. cc) h e)
+needs_by steps apdu_of event.Down apdus at new result h e = absurd (stops_ok at new result Protocol (λ same. cc) h e)
+needs_by steps apdu_of event.TimedOut apdus at new result h e = absurd (stops_ok at new result Line (λ same. cc) h e)
+needs_by steps apdu_of (event.Refused why) apdus at new result h e = absurd (stops_ok at new result Protocol (λ same. cc) h e)
+needs_by steps apdu_of event.Insecure apdus at new result h e = absurd (stops_ok at new result Protocol (λ same. cc) h e)

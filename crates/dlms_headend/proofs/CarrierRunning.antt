@@ -6,16 +6,16 @@ use Rattle.dlms_carrier.specs.Carrying.{Input, Begin as BeginOf, Give, Feed as F
 use Rattle.dlms_carrier.specs.declared.event.Event.{Event}
 use Rattle.dlms_carrier.specs.declared.event.Event.TheVariants as event
 use Rattle.dlms_headend.specs.CarrierPollValue.{CarrierPollValue, TermsValue, requests_of}
-use Rattle.dlms_headend.specs.CarrierPolling.{AsksNext, BeginsBy, ComesBy, ComesUp, Drops, Fails, FailsAtAnswer, FeedsIn, Fits, FitsIn, GoesDown, GoesOn, Hears, IsAsking, IsDone, IsUnderWay, IsUnderWayIn, Leaves, LeavesBy, Opens, Stays, TakesOver, TimesOutBy, Waits, fresh_over}
+use Rattle.dlms_headend.specs.CarrierPolling.{AsksNext, BeginsBy, ComesBy, ComesUp, Drops, Fails, FailsAtAnswer, FeedsIn, Fits, FitsIn, GoesOn, HasAll, Hears, IsAsking, IsDone, IsUnderWay, IsUnderWayIn, Leaves, LeavesBy, Opens, Stays, Stops, TakesOver, TimesOutBy, Waits, fresh_over}
 use Rattle.dlms_headend.specs.CarrierPolling.ComesUp.{IsOpened, IsUpAlready}
-use Rattle.dlms_headend.specs.CarrierPolling.TakesOver.{IsTaken, EndsIt, IsUnasked}
-use Rattle.dlms_headend.specs.CarrierPolling.GoesDown.{IsReleased, IsUnreleased}
+use Rattle.dlms_headend.specs.CarrierPolling.TakesOver.{IsTaken, IsNoRelease, EndsIt, IsUnasked}
+use Rattle.dlms_headend.specs.CarrierPolling.Stops.{IsEnough, IsTooFew}
 use Rattle.dlms_headend.specs.CarrierPolling.Waits.{HasFailed, NoneIsOut, IsAwaited}
 use Rattle.dlms_headend.specs.CarrierRun.{AreDone, AreShares, ReturnsDone, Beside, Call, Begin, Feed, Wait, InTurn, IsCall, IsShare, Passage, Request, Answer, PollsLead, Runs, answer_in, answers, carried_in, octets_of, passage_by, passages, passed}
 use Rattle.dlms_headend.specs.Due.{AsksFor, Requests}
 use Rattle.dlms_headend.specs.Due.AsksFor.{Associates}
-use Rattle.dlms_headend.specs.Poll.{HasReleased}
-use Rattle.dlms_headend.specs.Talk.{CanTake, FitsAt, FitsTalk, fresh_talk}
+use Rattle.dlms_headend.specs.Poll.{HasPolled, HasReleased}
+use Rattle.dlms_headend.specs.Talk.{CanTake, FitsTalk, IsLate, fresh_talk}
 use Rattle.dlms_headend.specs.TalkValue.{TalkValue}
 use Rattle.dlms_headend.specs.declared.poll_fault.PollFault.{PollFault}
 use Rattle.dlms_headend.specs.declared.poll_fault.PollFault.TheVariants.{Line, Protocol}
@@ -26,7 +26,7 @@ use Rattle.dlms_headend.specs.declared.stage.Stage.{Stage}
 use Rattle.dlms_headend.specs.declared.stage.Stage.TheVariants.{Associating, Naming, Getting, Checking, Releasing, Leaving}
 use Rattle.dlms_headend.specs.declared.step.PollOutcome.{PollOutcome}
 use Rattle.dlms_headend.specs.declared.step.PollOutcome.TheVariants as outcome
-use Rattle.dlms_headend.proofs.CarrierLemmas.{fits_in}
+use Rattle.dlms_headend.proofs.CarrierLemmas.{all_polled, fits_in, more_polled, released_polled}
 use Rattle.dlms_headend.proofs.Told.{stage_told}
 
 -- ---- whose turn it is
@@ -81,20 +81,20 @@ released_not_asking p apdus rows fits released h =
     let there : FitsTalk p.terms.columns p.talk apdus = subst (λ (course : PollCourse). FitsIn course p apdus) h.running fits in
     subst CanTake (stage_told p.terms.columns p.talk.stage p.talk.blocks p.talk.rows rows apdus there released).0 h.awaits
 
--- ---- after a fault nothing passes
+-- ---- after a fault, and once the poll is done, nothing passes
 
 abbrev IsLast : PollCourse → List Passage → Type 0
 IsLast Ready rest = Unit {0}
 IsLast Connecting rest = Unit {0}
 IsLast Running rest = Unit {0}
-IsLast Done rest = Unit {0}
+IsLast Done rest = rest ≡ []
 IsLast (Failed fault) rest = rest ≡ []
 
 none_last : (course : PollCourse) → IsLast course []
 none_last Ready = tt
 none_last Connecting = tt
 none_last Running = tt
-none_last Done = tt
+none_last Done = refl
 none_last (Failed fault) = refl
 
 under_way_last : (course : PollCourse) → IsUnderWayIn course → (rest : List Passage) → IsLast course rest
@@ -201,22 +201,22 @@ module _ {C : Type 0} (m : Meaning C) (taken : List (List ℕ)) (old : CarrierPo
     quiet = λ rest last. under_way_last old.course under rest;
   })
 
-  finishes : (result : Result PollOutcome PollFault) (new : CarrierPollValue C) → HasReleased old.terms.columns taken old.talk.rows → IsDone (record old { carrier = carrier }) result new → Piece m taken old bytes new
-  finishes result new released h = at_end m taken old (record old { carrier = carrier; course = Done }) new bytes h.after (record {
+  finishes : (result : Result PollOutcome PollFault) (new : CarrierPollValue C) → HasPolled old.terms.columns taken old.talk.rows → IsDone (record old { carrier = carrier }) result new → Piece m taken old bytes new
+  finishes result new polled h = at_end m taken old (record old { carrier = carrier; course = Done }) new bytes h.after (record {
     carried = carrier_call m input event carrier ∷ [];
     passing = [];
     are = none;
     carrier = one_call m old.carrier input event carrier step;
     octets = reads;
     terms = refl;
-    takes = subst (λ (apdus : List (List ℕ)). HasReleased old.terms.columns apdus old.talk.rows) (sym (append-nil taken)) released;
-    turns = λ rest last h. same_turn (requests_of old.terms) taken (asking old) false rest (not_asking old (released_not_asking old taken old.talk.rows fits released)) h;
+    takes = subst (λ (apdus : List (List ℕ)). HasPolled old.terms.columns apdus old.talk.rows) (sym (append-nil taken)) polled;
+    turns = λ rest last h. last_turn (requests_of old.terms) taken (asking old) rest last;
     quiet = λ rest last. under_way_last old.course under rest;
   })
 
-  goes_down : (result : Result PollOutcome PollFault) (new : CarrierPollValue C) → GoesDown taken (record old { carrier = carrier }) result new → Piece m taken old bytes new
-  goes_down result new (IsReleased released h) = finishes result new released h
-  goes_down result new (IsUnreleased none h) = fails Protocol result new h
+  stops : (fault : PollFault) (result : Result PollOutcome PollFault) (new : CarrierPollValue C) → Stops (record old { carrier = carrier }) fault result new → Piece m taken old bytes new
+  stops fault result new (IsEnough all h) = finishes result new (all_polled old taken (record { running = all.running; late = all.late }) fits) h
+  stops fault result new (IsTooFew never h) = fails fault result new h
 
 -- the connection comes up, and the association request goes out
 connecting_turn : {C : Type 0} (p : CarrierPollValue C) (taken : List (List ℕ)) (rest : List Passage) → p.talk ≡ fresh_talk → taken ≡ [] → InTurn (requests_of p.terms) (taken ++ []) (asking_at p.talk.stage) rest
@@ -304,7 +304,7 @@ module _ {C : Type 0} (m : Meaning C) (taken : List (List ℕ)) (old : CarrierPo
       carrier = two_calls m old.carrier (FeedOf octets count) event.Apdu carrier End next ended step ends;
       octets = append-nil (take count octets);
       terms = refl;
-      takes = released;
+      takes = released_polled old.terms.columns (taken ++ m.apdu_of carrier ∷ []) talk.rows released;
       turns = λ rest last k. answered rest asks k;
       quiet = λ rest last. under_way_last old.course under (Answer (m.apdu_of carrier) ∷ rest);
     })
@@ -338,14 +338,40 @@ module _ {C : Type 0} (m : Meaning C) (taken : List (List ℕ)) (old : CarrierPo
     quiet = λ rest last. under_way_last old.course under (Answer (m.apdu_of carrier) ∷ rest);
   }
 
+  -- the poll is done
+  done_at : (result : Result PollOutcome PollFault) (new : CarrierPollValue C) → HasPolled old.terms.columns (taken ++ m.apdu_of carrier ∷ []) old.talk.rows → IsDone (record old { carrier = carrier }) result new
+      → ((rest : List Passage) → rest ≡ [] → InTurn (requests_of old.terms) taken (asking old) (Answer (m.apdu_of carrier) ∷ rest)) → Piece m taken old (take count octets) new
+  done_at result new polled h turns = at_end m taken old (record old { carrier = carrier; course = Done }) new (take count octets) h.after (record {
+    carried = hands_up m octets count carrier ∷ [];
+    passing = Answer (m.apdu_of carrier) ∷ [];
+    are = refl;
+    carrier = one_call m old.carrier (FeedOf octets count) event.Apdu carrier step;
+    octets = append-nil (take count octets);
+    terms = refl;
+    takes = polled;
+    turns = λ rest last k. turns rest last;
+    quiet = λ rest last. under_way_last old.course under (Answer (m.apdu_of carrier) ∷ rest);
+  })
+
+  then_polled : HasAll old → HasPolled old.terms.columns (taken ++ m.apdu_of carrier ∷ []) old.talk.rows
+  then_polled all = more_polled old.terms.columns taken (m.apdu_of carrier) old.talk.rows (all_polled old taken all fits)
+
+  last_answer : (rest : List Passage) → IsAsking old → rest ≡ [] → InTurn (requests_of old.terms) taken (asking old) (Answer (m.apdu_of carrier) ∷ rest)
+  last_answer rest asks e = answered rest asks (last_turn (requests_of old.terms) (taken ++ m.apdu_of carrier ∷ []) false rest e)
+
+  unasked : (rest : List Passage) → (IsAsking old → ⊥) → rest ≡ [] → InTurn (requests_of old.terms) taken (asking old) (Answer (m.apdu_of carrier) ∷ rest)
+  unasked rest never e = subst (λ (awaits : Bool). InTurn (requests_of old.terms) taken awaits (Answer (m.apdu_of carrier) ∷ rest)) (sym (not_asking old never)) e
+
   takes_over : (result : Result PollOutcome PollFault) (new : CarrierPollValue C) → TakesOver m.steps (m.apdu_of carrier) taken (record old { carrier = carrier }) result new → Piece m taken old (take count octets) new
-  takes_over result new (IsTaken talk asks fits_now h) = goes_on talk result new (record { running = asks.running; awaits = asks.awaits }) fits_now h
-  takes_over result new (EndsIt fault asks why h) =
-      ends_at fault result new h.course h.terms h.carrier (λ rest e. answered rest (record { running = asks.running; awaits = asks.awaits }) (last_turn (requests_of old.terms) (taken ++ m.apdu_of carrier ∷ []) false rest e))
-  takes_over result new (IsUnasked never h) =
+  takes_over result new (IsTaken talk asks even fits_now h) = goes_on talk result new (record { running = asks.running; awaits = asks.awaits }) fits_now h
+  takes_over result new (IsNoRelease asks odd h) =
+      done_at result new (then_polled (record { running = asks.running; late = subst IsLate (sym odd.releasing) tt })) h (λ rest e. last_answer rest (record { running = asks.running; awaits = asks.awaits }) e)
+  takes_over result new (EndsIt fault asks even why h) = ends_at fault result new h.course h.terms h.carrier (λ rest e. last_answer rest (record { running = asks.running; awaits = asks.awaits }) e)
+  takes_over result new (IsUnasked never (IsEnough all h)) =
+      done_at result new (then_polled (record { running = all.running; late = all.late })) h (λ rest e. unasked rest (λ (asks : IsAsking old). never (record { running = asks.running; awaits = asks.awaits })) e)
+  takes_over result new (IsUnasked never (IsTooFew few h)) =
       ends_at Protocol result new (ap (λ (v : CarrierPollValue C). v.course) h.after) (ap (λ (v : CarrierPollValue C). v.terms) h.after) (ap (λ (v : CarrierPollValue C). v.carrier) h.after)
-      (λ rest e. subst (λ (awaits : Bool). InTurn (requests_of old.terms) taken awaits (Answer (m.apdu_of carrier) ∷ rest))
-      (sym (not_asking old (λ (asks : IsAsking old). never (record { running = asks.running; awaits = asks.awaits })))) e)
+      (λ rest e. unasked rest (λ (asks : IsAsking old). never (record { running = asks.running; awaits = asks.awaits })) e)
 
 comes_up : {C : Type 0} (m : Meaning C) (taken : List (List ℕ)) (old : CarrierPollValue C) (octets : List ℕ) (count : ℕ) (carrier : C) (result : Result PollOutcome PollFault) (new : CarrierPollValue C) → Fits old taken → IsUnderWay old
     → m.steps old.carrier (FeedOf octets count) event.Up carrier → ComesUp m.steps (record old { carrier = carrier }) result new → Piece m taken old (take count octets) new
@@ -362,13 +388,13 @@ comes m event.Nothing taken old octets count carrier result new fits under step 
 comes m event.Up taken old octets count carrier result new fits under step h = comes_up m taken old octets count carrier result new fits under step h
 comes m event.Apdu taken old octets count carrier result new fits under step h = takes_over m taken old octets count carrier fits under step result new h
 comes m event.Down taken old octets count carrier result new fits under step h =
-    goes_down m taken old (FeedOf octets count) event.Down carrier (take count octets) fits under refl (append-nil (take count octets)) step result new h
+    stops m taken old (FeedOf octets count) event.Down carrier (take count octets) fits under refl (append-nil (take count octets)) step Protocol result new h
 comes m event.TimedOut taken old octets count carrier result new fits under step h =
-    fails m taken old (FeedOf octets count) event.TimedOut carrier (take count octets) fits under refl (append-nil (take count octets)) step Line result new h
+    stops m taken old (FeedOf octets count) event.TimedOut carrier (take count octets) fits under refl (append-nil (take count octets)) step Line result new h
 comes m (event.Refused why) taken old octets count carrier result new fits under step h =
-    fails m taken old (FeedOf octets count) (event.Refused why) carrier (take count octets) fits under refl (append-nil (take count octets)) step Protocol result new h
+    stops m taken old (FeedOf octets count) (event.Refused why) carrier (take count octets) fits under refl (append-nil (take count octets)) step Protocol result new h
 comes m event.Insecure taken old octets count carrier result new fits under step h =
-    fails m taken old (FeedOf octets count) event.Insecure carrier (take count octets) fits under refl (append-nil (take count octets)) step Protocol result new h
+    stops m taken old (FeedOf octets count) event.Insecure carrier (take count octets) fits under refl (append-nil (take count octets)) step Protocol result new h
 
 feeds_in : {C : Type 0} (m : Meaning C) (course : PollCourse) (taken : List (List ℕ)) (old : CarrierPollValue C) (octets : List ℕ) (count : ℕ) (result : Result PollOutcome PollFault) (new : CarrierPollValue C) → Fits old taken
     → old.course ≡ course → FeedsIn course m.steps m.apdu_of taken old octets count result new → Piece m taken old (passed course (Feed octets count result)) new
@@ -413,7 +439,7 @@ begins_by m event.Insecure taken old carrier new fits ready step h = requested m
 
 times_out : {C : Type 0} (m : Meaning C) (event : Event) (taken : List (List ℕ)) (old : CarrierPollValue C) (carrier : C) (result : Result PollOutcome PollFault) (new : CarrierPollValue C) → Fits old taken → IsUnderWay old
     → m.steps old.carrier WaitOf event carrier → TimesOutBy event (record old { carrier = carrier }) result new → Piece m taken old [] new
-times_out m event.TimedOut taken old carrier result new fits under step h = fails m taken old WaitOf event.TimedOut carrier [] fits under refl refl step Line result new h
+times_out m event.TimedOut taken old carrier result new fits under step h = stops m taken old WaitOf event.TimedOut carrier [] fits under refl refl step Line result new h
 times_out m event.Nothing taken old carrier result new fits under step h = stays m taken old WaitOf event.Nothing carrier [] fits under refl refl step result new h
 times_out m event.Up taken old carrier result new fits under step h = stays m taken old WaitOf event.Up carrier [] fits under refl refl step result new h
 times_out m event.Apdu taken old carrier result new fits under step h = stays m taken old WaitOf event.Apdu carrier [] fits under refl refl step result new h
@@ -457,27 +483,28 @@ goes_on_done : {C : Type 0} (m : Meaning C) (at new : CarrierPollValue C) (apdus
 goes_on_done m at new apdus (inl h) = let clash = h.answer in cc
 goes_on_done m at new apdus (inr h) = left_is_done h.event _ new h.leaves
 
+stops_done : {C : Type 0} (at new : CarrierPollValue C) (fault : PollFault) → Stops at fault (Ok outcome.Done) new → new.course ≡ Done
+stops_done {C} at new fault (IsEnough all h) = ap (λ (v : CarrierPollValue C). v.course) h.after
+stops_done at new fault (IsTooFew never h) = let clash = h.answer in cc
+
 taken_done : {C : Type 0} (m : Meaning C) (apdu : List ℕ) (apdus : List (List ℕ)) (at new : CarrierPollValue C) → TakesOver m.steps apdu apdus at (Ok outcome.Done) new → new.course ≡ Done
-taken_done m apdu apdus at new (IsTaken talk asking fits goes) = goes_on_done m _ new _ goes
-taken_done m apdu apdus at new (EndsIt fault asking ends h) = let clash = h.answer in cc
-taken_done m apdu apdus at new (IsUnasked never h) = let clash = h.answer in cc
+taken_done m apdu apdus at new (IsTaken talk asking even fits goes) = goes_on_done m _ new _ goes
+taken_done {C} m apdu apdus at new (IsNoRelease asking odd h) = ap (λ (v : CarrierPollValue C). v.course) h.after
+taken_done m apdu apdus at new (EndsIt fault asking even ends h) = let clash = h.answer in cc
+taken_done m apdu apdus at new (IsUnasked never h) = stops_done at new Protocol h
 
 up_done : {C : Type 0} (m : Meaning C) (at new : CarrierPollValue C) → ComesUp m.steps at (Ok outcome.Done) new → new.course ≡ Done
 up_done m at new (IsOpened connecting h told) = cc
 up_done m at new (IsUpAlready running h) = let clash = h.answer in cc
 
-down_done : {C : Type 0} (apdus : List (List ℕ)) (at new : CarrierPollValue C) → GoesDown apdus at (Ok outcome.Done) new → new.course ≡ Done
-down_done {C} apdus at new (IsReleased released h) = ap (λ (v : CarrierPollValue C). v.course) h.after
-down_done apdus at new (IsUnreleased never h) = let clash = h.answer in cc
-
 comes_done : {C : Type 0} (m : Meaning C) (event : Event) (apdu : List ℕ) (apdus : List (List ℕ)) (at new : CarrierPollValue C) → ComesBy m.steps event apdu apdus at (Ok outcome.Done) new → new.course ≡ Done
 comes_done m event.Nothing apdu apdus at new h = let clash = h.answer in cc
 comes_done m event.Up apdu apdus at new h = up_done m at new h
 comes_done m event.Apdu apdu apdus at new h = taken_done m apdu apdus at new h
-comes_done m event.Down apdu apdus at new h = down_done apdus at new h
-comes_done m event.TimedOut apdu apdus at new h = let clash = h.answer in cc
-comes_done m (event.Refused why) apdu apdus at new h = let clash = h.answer in cc
-comes_done m event.Insecure apdu apdus at new h = let clash = h.answer in cc
+comes_done m event.Down apdu apdus at new h = stops_done at new Protocol h
+comes_done m event.TimedOut apdu apdus at new h = stops_done at new Line h
+comes_done m (event.Refused why) apdu apdus at new h = stops_done at new Protocol h
+comes_done m event.Insecure apdu apdus at new h = stops_done at new Protocol h
 
 fed_done : {C : Type 0} (m : Meaning C) (course : PollCourse) (apdus : List (List ℕ)) (old new : CarrierPollValue C) (octets : List ℕ) (count : ℕ) → FeedsIn course m.steps m.apdu_of apdus old octets count (Ok outcome.Done) new → new.course ≡ Done
 fed_done m Ready apdus old new octets count h = let clash = h.answered in cc
@@ -486,12 +513,28 @@ fed_done m Running apdus old new octets count h = comes_done m h.event _ apdus _
 fed_done m Done apdus old new octets count h = let clash = h.answered in cc
 fed_done m (Failed fault) apdus old new octets count h = let clash = h.answered in cc
 
+late_done : {C : Type 0} (event : Event) (at new : CarrierPollValue C) → TimesOutBy event at (Ok outcome.Done) new → new.course ≡ Done
+late_done event.TimedOut at new h = stops_done at new Line h
+late_done event.Nothing at new h = let clash = h.answer in cc
+late_done event.Up at new h = let clash = h.answer in cc
+late_done event.Apdu at new h = let clash = h.answer in cc
+late_done event.Down at new h = let clash = h.answer in cc
+late_done (event.Refused why) at new h = let clash = h.answer in cc
+late_done event.Insecure at new h = let clash = h.answer in cc
+
+waited_done : {C : Type 0} (m : Meaning C) (old new : CarrierPollValue C) → Waits m.steps m.is_waiting old (Ok outcome.Done) new → new.course ≡ Done
+waited_done m old new (HasFailed fault failed told same) = cc
+waited_done m old new (NoneIsOut whole idle told same) = cc
+waited_done m old new (IsAwaited under waiting h) = late_done h.event _ new h.follows
+
 call_done : {C : Type 0} (m : Meaning C) (call : Call) (taken : List (List ℕ)) (old new : CarrierPollValue C) → Fits old taken → IsCall m old call new → ReturnsDone call → new.course ≡ Done
 call_done m Begin taken old new fits h told = absurd told
 call_done m (Feed octets count (Ok outcome.Nothing)) taken old new fits h told = absurd told
 call_done m (Feed octets count (Ok outcome.Done)) taken old new fits h told = fed_done m old.course taken old new octets count (h taken fits)
 call_done m (Feed octets count (Err fault)) taken old new fits h told = absurd told
-call_done m (Wait result) taken old new fits h told = absurd told
+call_done m (Wait (Ok outcome.Nothing)) taken old new fits h told = absurd told
+call_done m (Wait (Ok outcome.Done)) taken old new fits h told = waited_done m old new h
+call_done m (Wait (Err fault)) taken old new fits h told = absurd told
 
 -- and it stays done
 fed_stays : {C : Type 0} (m : Meaning C) (course : PollCourse) (apdus : List (List ℕ)) (old new : CarrierPollValue C) (octets : List ℕ) (count : ℕ) (result : Result PollOutcome PollFault) → course ≡ Done → FeedsIn course m.steps m.apdu_of apdus old octets count result new
@@ -573,9 +616,9 @@ led {C} m (call ∷ calls) taken old new fits h =
       stays = λ done. more.stays (stays_done m call taken old mid fits h.1 done);
     }
 
-done_of : {C : Type 0} (p : CarrierPollValue C) (terms : TermsValue) (apdus : List (List ℕ)) → p.terms ≡ terms → Fits p apdus → p.course ≡ Done → HasReleased terms.columns apdus p.talk.rows
+done_of : {C : Type 0} (p : CarrierPollValue C) (terms : TermsValue) (apdus : List (List ℕ)) → p.terms ≡ terms → Fits p apdus → p.course ≡ Done → HasPolled terms.columns apdus p.talk.rows
 done_of p terms apdus same fits done =
-    subst (λ (t : TermsValue). HasReleased t.columns apdus p.talk.rows) same (subst (λ (course : PollCourse). FitsIn course p apdus) done fits)
+    subst (λ (t : TermsValue). HasPolled t.columns apdus p.talk.rows) same (subst (λ (course : PollCourse). FitsIn course p apdus) done fits)
 
 pub polls_lead : {C : Type 0} (m : Meaning C) → PollsLead m
 polls_lead {C} m carrier terms calls new h =

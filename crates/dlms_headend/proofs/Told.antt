@@ -1,5 +1,5 @@
 -- The APDUs that a poll took determine its rows and its stage.
-use Rattle.std.proofs.Common.{arith, refl, sym, ap, subst, ◌∙◌, ◌≡◌, ◌+◌, ◌++◌, ℕ, List, [], ◌∷◌, length, length-append, append_assoc, append-nil, Option, Some, unwrap_or, pos, true, false, Result, Ok}
+use Rattle.std.proofs.Common.{arith, refl, sym, ap, subst, ◌∙◌, ◌≡◌, ◌+◌, ◌++◌, ℕ, List, [], ◌∷◌, length, length-append, append_assoc, append-nil, inl, inr, ◌⊎◌, Option, Some, unwrap_or, pos, true, false, Result, Ok}
 use Rattle.dlms_apdu.specs.declared.fault.Refusal.{Refusal}
 use Rattle.dlms_apdu.specs.Forms.{ResponseForm, get_data, get_block}
 use Rattle.dlms_apdu.specs.Reading.{response_at}
@@ -11,7 +11,7 @@ use Rattle.dlms_headend.specs.declared.row.Row.{Row}
 use Rattle.dlms_headend.specs.declared.stage.Stage.{Stage}
 use Rattle.dlms_headend.specs.declared.stage.Stage.TheVariants.{Associating, Naming, Getting, Checking, Releasing, Leaving}
 use Rattle.dlms_headend.specs.Rows.{IsRow, AreRows, IsProfile, IsEncoded}
-use Rattle.dlms_headend.specs.Poll.{IsMoreBy, IsMore, SpellsBy, Spells, AreBlocks, AreNamed, HasAccepted, HasBlocks, HasRows, HasNamed, HasReleased}
+use Rattle.dlms_headend.specs.Poll.{IsMoreBy, IsMore, SpellsBy, Spells, AreBlocks, AreNamed, HasAccepted, HasBlocks, HasRows, HasNamed, HasPolled, HasReleased}
 use Rattle.dlms_headend.specs.declared.plan.Columns.{Columns}
 use Rattle.dlms_headend.specs.declared.plan.Columns.TheVariants.{Trusted, Asked}
 use Rattle.dlms_headend.specs.Talk.{FitsAt}
@@ -80,6 +80,16 @@ snoc (a ∷ xs) (b ∷ ys) x y e =
 not_empty : {X : Type 0} (xs : List X) (x : X) → [] ≡ xs ++ x ∷ [] → ⊥
 not_empty xs x e = omega (arith, ap length e, length-append xs (x ∷ []))
 
+-- a list that is not empty, by its last element
+pub record Ending {X : Type 0} (xs : List X) : Type 0 where
+  pub front : List X
+  pub last : X
+  pub are : xs ≡ front ++ last ∷ []
+
+pub ending : {X : Type 0} (x : X) (xs : List X) → Ending (x ∷ xs)
+ending x [] = record { front = []; last = x; are = refl }
+ending {X} x (y ∷ ys) = let rest = ending y ys in record { front = x ∷ rest.front; last = rest.last; are = ap (λ (l : List X). x ∷ l) rest.are }
+
 -- ---- all APDUs
 
 blocks_told : (before : ℕ) (apdus : List (List ℕ)) (t u : ℕ) (i j : List ℕ) → AreBlocks before apdus t i → AreBlocks before apdus u j → (t ≡ u) × (i ≡ j)
@@ -147,6 +157,71 @@ pub rows_before : (columns : Columns) (apdus before more : List (List ℕ)) (las
 rows_before columns apdus before more last r s h k e =
     let parts = snoc h.before (before ++ more) h.answer last (sym h.are ∙ (e ∙ sym (append_assoc before more (last ∷ [])))) in
     rows_inside columns h.before before more h.taken h.joined s h.blocks k parts.0
+
+rows_further : (columns : Columns) (apdus before more : List (List ℕ)) (first : List ℕ) (r s : List Row) → HasRows columns apdus r → HasRows columns before s → apdus ≡ before ++ first ∷ more → ⊥
+rows_further columns apdus before more first r s h k e =
+    let end = ending first more in
+    rows_before columns apdus before end.front end.last r s h k (e ∙ ap (λ (l : List (List ℕ)). before ++ l) end.are)
+
+-- all that a poll asks for, and at least one more APDU
+pub record Followed (columns : Columns) (apdus : List (List ℕ)) (rows : List Row) : Type 0 where
+  pub before : List (List ℕ)
+  pub first : List ℕ
+  pub more : List (List ℕ)
+  pub are : apdus ≡ before ++ first ∷ more
+  pub polled : HasNamed columns before rows
+
+followed_are : (columns : Columns) (apdus : List (List ℕ)) (rows : List Row) (k : Followed columns apdus rows) → apdus ≡ k.polled.before ++ (k.polled.names ++ k.first ∷ k.more)
+followed_are columns apdus rows k = k.are ∙ (ap (λ (l : List (List ℕ)). l ++ k.first ∷ k.more) k.polled.are ∙ append_assoc k.polled.before k.polled.names (k.first ∷ k.more))
+
+pub blocks_not_followed : (columns : Columns) (apdus : List (List ℕ)) (t : ℕ) (i : List ℕ) (rows : List Row) → HasBlocks columns apdus t i → Followed columns apdus rows → ⊥
+blocks_not_followed columns apdus t i rows h k = rows_inside columns apdus k.polled.before (k.polled.names ++ k.first ∷ k.more) t i rows h k.polled.polled (followed_are columns apdus rows k)
+
+pub rows_not_followed : (columns : Columns) (apdus : List (List ℕ)) (r s : List Row) → HasRows columns apdus r → Followed columns apdus s → ⊥
+rows_not_followed columns apdus r s h k =
+    let end = ending k.first k.more in
+    rows_before columns apdus k.polled.before (k.polled.names ++ end.front) end.last r s h k.polled.polled
+    (followed_are columns apdus s k ∙ (ap (λ (l : List (List ℕ)). k.polled.before ++ (k.polled.names ++ l)) end.are ∙ ap (λ (l : List (List ℕ)). k.polled.before ++ l) (sym (append_assoc k.polled.names end.front (end.last ∷ [])))))
+
+pub named_not_followed : (columns : Columns) (apdus : List (List ℕ)) (r s : List Row) → HasNamed columns apdus r → Followed columns apdus s → ⊥
+named_not_followed Trusted apdus r s h k =
+    let same : h.before ≡ apdus = sym (h.are ∙ (ap (λ (l : List (List ℕ)). h.before ++ l) h.named ∙ append-nil h.before)) in
+    rows_not_followed Trusted h.before r s h.polled (record { before = k.before; first = k.first; more = k.more; are = same ∙ k.are; polled = k.polled })
+named_not_followed Asked apdus r s h k =
+    let p = k.polled in
+    let end = ending k.first k.more in
+    let whole : h.before ++ h.named.0 ∷ [] ≡ (p.before ++ p.named.0 ∷ end.front) ++ end.last ∷ [] =
+    ap (λ (l : List (List ℕ)). h.before ++ l) (sym h.named.1) ∙ (sym h.are ∙ (followed_are Asked apdus s k ∙ (ap (λ (l : List (List ℕ)). p.before ++ (l ++ k.first ∷ k.more)) p.named.1
+    ∙ (ap (λ (l : List (List ℕ)). p.before ++ p.named.0 ∷ l) end.are ∙ sym (append_assoc p.before (p.named.0 ∷ end.front) (end.last ∷ [])))))) in
+    let parts = snoc h.before (p.before ++ p.named.0 ∷ end.front) h.named.0 end.last whole in
+    rows_further Asked h.before p.before end.front p.named.0 r s h.polled p.polled parts.0
+
+-- one of two beginnings of a list begins with the other
+parted : {X : Type 0} (xs a ys b : List X) → xs ++ a ≡ ys ++ b → ((c : List X) × (xs ≡ ys ++ c)) ⊎ ((c : List X) × (ys ≡ xs ++ c))
+parted [] a ys b e = inr (ys, refl)
+parted (x ∷ xs) a [] b e = inl (x ∷ xs, refl)
+parted {X} (x ∷ xs) a (y ∷ ys) b e =
+    let heads : x ≡ y = cc in
+    let tails : xs ++ a ≡ ys ++ b = cc in
+    elim (parted xs a ys b tails) [
+      | inl k ↦ inl (k.0, ap (λ (z : X). z ∷ xs) heads ∙ ap (λ (l : List X). y ∷ l) k.1)
+      | inr k ↦ inr (k.0, ap (λ (z : X). z ∷ ys) (sym heads) ∙ ap (λ (l : List X). x ∷ l) k.1)
+    ]
+
+rows_within : (columns : Columns) (xs ys c : List (List ℕ)) (r s : List Row) → HasRows columns xs r → HasRows columns ys s → xs ≡ ys ++ c → r ≡ s
+rows_within columns xs ys [] r s h k e = has_rows_told columns ys r s (subst (λ (l : List (List ℕ)). HasRows columns l r) (e ∙ append-nil ys) h) k
+rows_within columns xs ys (x ∷ c) r s h k e = absurd (rows_further columns xs ys c x r s h k e)
+
+-- the APDUs that a poll took determine its rows, whatever came after them
+pub polled_told : (columns : Columns) (apdus : List (List ℕ)) (r s : List Row) → HasPolled columns apdus r → HasPolled columns apdus s → r ≡ s
+polled_told columns apdus r s h k =
+    let whole : h.polled.before ++ (h.polled.names ++ h.more) ≡ k.polled.before ++ (k.polled.names ++ k.more) =
+    sym (h.are ∙ (ap (λ (l : List (List ℕ)). l ++ h.more) h.polled.are ∙ append_assoc h.polled.before h.polled.names h.more))
+    ∙ (k.are ∙ (ap (λ (l : List (List ℕ)). l ++ k.more) k.polled.are ∙ append_assoc k.polled.before k.polled.names k.more)) in
+    elim (parted h.polled.before (h.polled.names ++ h.more) k.polled.before (k.polled.names ++ k.more) whole) [
+      | inl c ↦ rows_within columns h.polled.before k.polled.before c.0 r s h.polled.polled k.polled.polled c.1
+      | inr c ↦ sym (rows_within columns k.polled.before h.polled.before c.0 s r k.polled.polled h.polled.polled c.1)
+    ]
 
 -- the rows, and the APDUs after them
 released_are : (columns : Columns) (apdus : List (List ℕ)) (rows : List Row) (k : HasReleased columns apdus rows) → apdus ≡ k.polled.before ++ (k.polled.names ++ k.answer ∷ [])

@@ -1,17 +1,18 @@
 -- A poll over any carrier, call by call, and whatever APDUs it took so far. `steps`, `apdu_of`, `is_down` and `is_waiting` are the
 -- carrier's own meaning.
-use Rattle.std.specs.Prelude.{◌≡◌, ◌⊎◌, ℕ, List, [], ◌∷◌, ◌++◌, length, Result, Ok, Err}
+use Rattle.std.specs.Prelude.{◌≡◌, ◌⊎◌, ℕ, List, [], ◌∷◌, ◌++◌, length, false, Result, Ok, Err}
 use Rattle.dlms_carrier.specs.Carrying.{Input, Begin, Give, Feed, Wait, End, StepsOf}
 use Rattle.dlms_carrier.specs.declared.event.Event.{Event}
 use Rattle.dlms_carrier.specs.declared.event.Event.TheVariants as event
 use Rattle.dlms_headend.specs.CarrierPollValue.{CarrierPollValue, TermsValue, requests_of}
 use Rattle.dlms_headend.specs.Due.{AsksFor}
-use Rattle.dlms_headend.specs.Poll.{HasReleased}
-use Rattle.dlms_headend.specs.Talk.{CanTake, Ends, FitsTalk, fresh_talk}
+use Rattle.dlms_headend.specs.Poll.{HasPolled, HasReleased, is_release}
+use Rattle.dlms_headend.specs.Talk.{CanTake, Ends, FitsTalk, IsLate, fresh_talk}
 use Rattle.dlms_headend.specs.TalkValue.{TalkValue}
 use Rattle.dlms_headend.specs.declared.poll_fault.PollFault.{PollFault}
 use Rattle.dlms_headend.specs.declared.poll_fault.PollFault.TheVariants.{Line, Protocol}
 use Rattle.dlms_headend.specs.declared.row.Row.{Row}
+use Rattle.dlms_headend.specs.declared.stage.Stage.TheVariants.{Releasing}
 use Rattle.dlms_headend.specs.declared.stage.PollCourse.{PollCourse}
 use Rattle.dlms_headend.specs.declared.stage.PollCourse.TheVariants.{Ready, Connecting, Running, Done, Failed}
 use Rattle.dlms_headend.specs.declared.step.PollOutcome.{PollOutcome}
@@ -33,7 +34,7 @@ abbrev pub FitsIn : {C : Type 0} → PollCourse → CarrierPollValue C → List 
 FitsIn Ready p apdus = (p.talk ≡ fresh_talk) × (apdus ≡ [])
 FitsIn Connecting p apdus = (p.talk ≡ fresh_talk) × (apdus ≡ [])
 FitsIn Running p apdus = FitsTalk p.terms.columns p.talk apdus
-FitsIn Done p apdus = HasReleased p.terms.columns apdus p.talk.rows
+FitsIn Done p apdus = HasPolled p.terms.columns apdus p.talk.rows
 FitsIn (Failed fault) p apdus = Unit {0}
 
 abbrev pub Fits : {C : Type 0} → CarrierPollValue C → List (List ℕ) → Type 0
@@ -44,10 +45,15 @@ pub record IsAsking {C : Type 0} (p : CarrierPollValue C) : Type 0 where
   pub running : p.course ≡ Running
   pub awaits : CanTake p.talk.stage
 
--- the release was answered, and the connection's end is awaited
-pub record IsLeaving {C : Type 0} (p : CarrierPollValue C) : Type 0 where
+-- all that the poll asks for was taken: the answer to the release is awaited, or the connection's end
+pub record HasAll {C : Type 0} (p : CarrierPollValue C) : Type 0 where
   pub running : p.course ≡ Running
-  pub leaving : CanTake p.talk.stage → ⊥
+  pub late : IsLate p.talk.stage
+
+-- the answer to the release is awaited, and this APDU is another one
+pub record IsOdd {C : Type 0} (apdu : List ℕ) (p : CarrierPollValue C) : Type 0 where
+  pub releasing : p.talk.stage ≡ Releasing
+  pub other : is_release apdu ≡ false
 
 -- the poll has begun, and is neither done nor failed
 abbrev pub IsUnderWayIn : PollCourse → Type 0
@@ -88,6 +94,12 @@ pub record IsDone {C : Type 0} (at : CarrierPollValue C) (result : Result PollOu
     (new : CarrierPollValue C) : Type 0 where
   pub answer : result ≡ Ok outcome.Done
   pub after : new ≡ record at { course = Done }
+
+-- nothing more is to come: the poll is done if all that it asks for was taken, and fails otherwise
+pub data Stops {C : Type 0} (at : CarrierPollValue C) (fault : PollFault)
+    (result : Result PollOutcome PollFault) (new : CarrierPollValue C) : Type 0 where
+  IsEnough : HasAll at → IsDone at result new → Stops at fault result new
+  IsTooFew : (HasAll at → ⊥) → Fails at fault result new → Stops at fault result new
 
 -- the connection is up: the association is requested
 pub record Opens {C : Type 0} (steps : StepsOf C) (at new : CarrierPollValue C) : Type 0 where
@@ -140,31 +152,22 @@ abbrev pub GoesOn : {C : Type 0} → StepsOf C → CarrierPollValue C → List (
 GoesOn steps at apdus result new = AsksNext steps at apdus result new
     ⊎ Leaves steps at apdus result new
 
--- The carrier hands an APDU up. If an answer is awaited it is the next APDU, and the poll goes on, or that APDU ends it; if none is
--- awaited the poll fails.
+-- The carrier hands an APDU up. If an answer is awaited it is the next APDU, and the poll goes on; or it is another one than the
+-- answer to the release, and the poll is done; or that APDU ends it. If none is awaited the poll ends.
 pub data TakesOver {C : Type 0} (steps : StepsOf C) (apdu : List ℕ) (apdus : List (List ℕ))
     (at : CarrierPollValue C) (result : Result PollOutcome PollFault) (new : CarrierPollValue C) :
     Type 0 where
-  IsTaken : (talk : TalkValue) → IsAsking at → FitsTalk at.terms.columns talk (apdus ++ apdu ∷ [])
-      → GoesOn steps (record at {
-        talk =
-            talk;
-      }) (apdus ++ apdu ∷ []) result new → TakesOver steps apdu apdus at result new
-  EndsIt : (fault : PollFault) → IsAsking at → Ends at.terms.columns apdus apdu fault
-      → FailsAtAnswer at fault result new
+  IsTaken : (talk : TalkValue) → IsAsking at → (IsOdd apdu at → ⊥)
+      → FitsTalk at.terms.columns talk (apdus ++ apdu ∷ [])
+      → GoesOn steps (record at { talk = talk }) (apdus ++ apdu ∷ []) result new
       → TakesOver steps apdu apdus at result new
-  IsUnasked : (IsAsking at → ⊥) → Fails at Protocol result new
+  IsNoRelease : IsAsking at → IsOdd apdu at → IsDone at result new
       → TakesOver steps apdu apdus at result new
-
--- The connection goes down: the poll is done exactly if it took an acceptance, answers that spell the rows, and the answer to the
--- release; and it has those rows.
-pub data GoesDown {C : Type 0} (apdus : List (List ℕ)) (at : CarrierPollValue C)
-    (result : Result PollOutcome PollFault) (new : CarrierPollValue C) : Type 0 where
-  IsReleased : HasReleased at.terms.columns apdus at.talk.rows → IsDone at result new
-      → GoesDown apdus at result new
-  IsUnreleased : ((rows : List Row) → HasReleased at.terms.columns apdus rows → ⊥)
-      → Fails at Protocol result new
-      → GoesDown apdus at result new
+  EndsIt : (fault : PollFault) → IsAsking at → (IsOdd apdu at → ⊥)
+      → Ends at.terms.columns apdus apdu fault → FailsAtAnswer at fault result new
+      → TakesOver steps apdu apdus at result new
+  IsUnasked : (IsAsking at → ⊥) → Stops at Protocol result new
+      → TakesOver steps apdu apdus at result new
 
 -- by the carrier's event
 abbrev pub ComesBy : {C : Type 0} → StepsOf C → Event → List ℕ → List (List ℕ) → CarrierPollValue C
@@ -172,10 +175,10 @@ abbrev pub ComesBy : {C : Type 0} → StepsOf C → Event → List ℕ → List 
 ComesBy steps event.Nothing apdu apdus at result new = Stays at result new
 ComesBy steps event.Up apdu apdus at result new = ComesUp steps at result new
 ComesBy steps event.Apdu apdu apdus at result new = TakesOver steps apdu apdus at result new
-ComesBy steps event.Down apdu apdus at result new = GoesDown apdus at result new
-ComesBy steps event.TimedOut apdu apdus at result new = Fails at Line result new
-ComesBy steps (event.Refused why) apdu apdus at result new = Fails at Protocol result new
-ComesBy steps event.Insecure apdu apdus at result new = Fails at Protocol result new
+ComesBy steps event.Down apdu apdus at result new = Stops at Protocol result new
+ComesBy steps event.TimedOut apdu apdus at result new = Stops at Line result new
+ComesBy steps (event.Refused why) apdu apdus at result new = Stops at Protocol result new
+ComesBy steps event.Insecure apdu apdus at result new = Stops at Protocol result new
 
 -- ---- the calls
 
@@ -237,10 +240,10 @@ abbrev pub Feeds : {C : Type 0} → StepsOf C → (C → List ℕ) → List (Lis
 Feeds steps apdu_of apdus old octets count result new =
     FeedsIn old.course steps apdu_of apdus old octets count result new
 
--- a timeout: the carrier repeats its frame, or nobody answers
+-- a timeout: the carrier repeats its frame, or nobody answers, and the poll ends
 abbrev pub TimesOutBy : {C : Type 0} → Event → CarrierPollValue C → Result PollOutcome PollFault
     → CarrierPollValue C → Type 0
-TimesOutBy event.TimedOut at result new = Fails at Line result new
+TimesOutBy event.TimedOut at result new = Stops at Line result new
 TimesOutBy event.Nothing at result new = Stays at result new
 TimesOutBy event.Up at result new = Stays at result new
 TimesOutBy event.Apdu at result new = Stays at result new

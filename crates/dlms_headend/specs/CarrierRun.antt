@@ -6,7 +6,7 @@ use Rattle.dlms_carrier.specs.Carrying.{Input, Begin as BeginOf, Give, Feed as F
 use Rattle.dlms_headend.specs.CarrierPollValue.{CarrierPollValue, TermsValue, requests_of}
 use Rattle.dlms_headend.specs.CarrierPolling.{Begins, Feeds, Fits, Waits, fresh_over}
 use Rattle.dlms_headend.specs.Due.{AsksFor, Requests}
-use Rattle.dlms_headend.specs.Poll.{HasReleased}
+use Rattle.dlms_headend.specs.Poll.{HasPolled}
 use Rattle.dlms_headend.specs.declared.poll_fault.PollFault.{PollFault}
 use Rattle.dlms_headend.specs.declared.stage.PollCourse.{PollCourse}
 use Rattle.dlms_headend.specs.declared.stage.PollCourse.TheVariants.{Ready, Connecting, Running, Done, Failed}
@@ -36,7 +36,9 @@ ReturnsDone Begin = ⊥
 ReturnsDone (Feed octets count (Ok outcome.Nothing)) = ⊥
 ReturnsDone (Feed octets count (Ok outcome.Done)) = Unit {0}
 ReturnsDone (Feed octets count (Err fault)) = ⊥
-ReturnsDone (Wait result) = ⊥
+ReturnsDone (Wait (Ok outcome.Nothing)) = ⊥
+ReturnsDone (Wait (Ok outcome.Done)) = Unit {0}
+ReturnsDone (Wait (Err fault)) = ⊥
 
 -- the calls, one after another
 abbrev pub Runs : {C : Type 0} → Meaning C → CarrierPollValue C → List Call → CarrierPollValue C
@@ -133,8 +135,8 @@ abbrev pub carried_in : List (List CarrierCall) → List CarrierCall
 carried_in shares = flat_map (λ share. share) shares
 
 -- Beside a run of a new poll: the run of its carrier, which its calls make up. In it requests and answers pass in turn, the poll took
--- these answers, it is done if a call returned that, and if it is done, they are an acceptance, answers that spell its rows, and the
--- answer to the release; if the columns are asked for, an answer with them came before the rows, and another one after them.
+-- these answers, it is done if a call returned that, and if it is done, they begin with an acceptance and answers that spell its rows;
+-- if the columns are asked for, an answer with them came before the rows, and another one after them.
 pub record Beside {C : Type 0} (m : Meaning C) (carrier : C) (terms : TermsValue)
     (calls : List Call) (new : CarrierPollValue C) : Type 0 where
   pub shares : List (List CarrierCall)
@@ -144,7 +146,7 @@ pub record Beside {C : Type 0} (m : Meaning C) (carrier : C) (terms : TermsValue
   pub takes : Fits new (answers (passages (carried_in shares)))
   pub told : AreDone calls → new.course ≡ Done
   pub done : new.course ≡ Done
-      → HasReleased terms.columns (answers (passages (carried_in shares))) new.talk.rows
+      → HasPolled terms.columns (answers (passages (carried_in shares))) new.talk.rows
 
 -- ---- the law, over a carrier with this meaning
 

@@ -156,6 +156,13 @@ pub record HasReleased (columns : Columns) (apdus : List (List ℕ)) (rows : Lis
   pub polled : HasNamed columns before rows
   pub released : is_release answer ≡ true
 
+-- all that a poll asks for, and then any APDUs: the answer to the release, or others in its place
+pub record HasPolled (columns : Columns) (apdus : List (List ℕ)) (rows : List Row) : Type 0 where
+  pub before : List (List ℕ)
+  pub more : List (List ℕ)
+  pub are : apdus ≡ before ++ more
+  pub polled : HasNamed columns before rows
+
 -- what a poll sends once it took these: an association request, a GET of the columns, a GET of the buffer, a GET of the next block,
 -- a GET of the columns again, a release
 pub data Asks (plan : PlanValue) (apdus : List (List ℕ)) (apdu : List ℕ) : Type 0 where

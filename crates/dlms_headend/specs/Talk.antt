@@ -47,6 +47,15 @@ CanTake Checking = Unit {0}
 CanTake Releasing = Unit {0}
 CanTake Leaving = ⊥
 
+-- nothing is awaited but the answer to the release, or the connection's end
+abbrev pub IsLate : Stage → Type 0
+IsLate Associating = ⊥
+IsLate Naming = ⊥
+IsLate (Getting taken) = ⊥
+IsLate Checking = ⊥
+IsLate Releasing = Unit {0}
+IsLate Leaving = Unit {0}
+
 -- out of memory, if it may be, or the APDU ends the poll
 abbrev pub Ends : Columns → List (List ℕ) → List ℕ → PollFault → Type 0
 Ends columns apdus apdu Memory = Needs columns apdus apdu

@@ -41,6 +41,16 @@ pub fn read_association(apdu: &[u8]) -> Result<(), PollFault>
     }
 }
 
+/// Whether an APDU is the answer to the release.
+pub fn is_release(apdu: &[u8]) -> bool
+    ensures { result ≡ is_release apdu.now }
+{
+    match apdu {
+        [0x63, ..] => true,
+        _ => false,
+    }
+}
+
 /// The answer to the release.
 pub fn read_release(apdu: &[u8]) -> Result<(), PollFault>
     ensures { MatchResult result (λ _. is_release apdu.now ≡ true)

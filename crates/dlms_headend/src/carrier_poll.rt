@@ -3,7 +3,7 @@
 ghost use Rattle.std.specs.Prelude.{[], Ok, Err, ◌≡◌, ◌<◌, ◌≤◌, ◌↔◌, List, ℕ, IsTrue, IfSome, MatchOption, length};
 ghost use Rattle.dlms_carrier.specs.declared.event.Event.TheVariants.{Apdu as ApduCame, Up};
 ghost use Rattle.dlms_headend.specs.CarrierPollValue.{requests_of, terms_of};
-ghost use Rattle.dlms_headend.specs.CarrierPolling.{AsksNext, Begins, CanBegin, ComesBy, ComesUp, Fails, Feeds, Fits, GoesDown, GoesOn, Hears, IsAsking, IsDone, IsLeaving, IsUnderWay, Leaves, Opens, TakesOver, TimesOut, Waits, fresh_over};
+ghost use Rattle.dlms_headend.specs.CarrierPolling.{AsksNext, Begins, CanBegin, ComesBy, ComesUp, Fails, Feeds, Fits, GoesOn, HasAll, Hears, IsAsking, IsDone, IsOdd, IsUnderWay, Leaves, Opens, Stops, TakesOver, TimesOut, Waits, fresh_over};
 ghost use Rattle.dlms_headend.specs.Due.{IsDueAt};
 ghost use Rattle.dlms_headend.specs.Poll.{Needs};
 ghost use Rattle.dlms_headend.specs.Rows.{AreReadings};
@@ -12,6 +12,7 @@ ghost use Rattle.dlms_headend.specs.declared.poll_fault.PollFault.TheVariants.{M
 ghost use Rattle.dlms_headend.specs.declared.stage.PollCourse.TheVariants.{Running};
 ghost use Rattle.dlms_headend.specs.declared.stage.Stage.TheVariants.{Leaving};
 
+use crate::answer::is_release;
 use crate::asking::Request;
 use crate::due::{association, due_apdu};
 use crate::plan::PollTerms;
@@ -27,6 +28,9 @@ use std::marker::Model;
 
 /// A poll of the load profile over a carrier: it connects, associates, reads the columns if its terms ask for them, the buffer, and
 /// the columns again, releases, and ends the connection. After each call the caller writes `out`.
+///
+/// Once it took the last answer before the release it does not fail any more: a timeout, a lost connection or another answer than the
+/// one to the release ends it, and it is done.
 #[derive(Drop)]
 pub struct CarrierPoll<C: Carrier + Drop, A: Allocator = Global> {
     terms: PollTerms,
@@ -149,8 +153,9 @@ impl<C: Carrier + Drop, A: Allocator + Copy> CarrierPoll<C, A> {
         }
     }
 
-    /// Handles a timeout: no octet arrived in time. The carrier sends its octets again, or the poll fails. While nothing is awaited it
-    /// returns the fault `Line` and changes nothing; after a fault it returns the same fault again.
+    /// Handles a timeout: no octet arrived in time. The carrier sends its octets again, or the poll fails; if it has all that it asks
+    /// for, it is done. While nothing is awaited it returns the fault `Line` and changes nothing; after a fault it returns the same
+    /// fault again.
     pub fn wait(&mut self) -> Result<PollOutcome, PollFault>
         ensures { Waits C.steps C.is_waiting self.old result self.new }
     {
@@ -172,7 +177,7 @@ impl<C: Carrier + Drop, A: Allocator + Copy> CarrierPoll<C, A> {
         ensures { TimesOut C.steps self.old result self.new }
     {
         match self.carrier.wait() {
-            Event::TimedOut => self.fail(PollFault::Line),
+            Event::TimedOut => self.stop(PollFault::Line),
             _ => Ok(PollOutcome::Nothing),
         }
     }
@@ -193,6 +198,27 @@ impl<C: Carrier + Drop, A: Allocator + Copy> CarrierPoll<C, A> {
         Ok(PollOutcome::Done)
     }
 
+    /// Whether all that the poll asks for was taken: the answer to the release is awaited, or the connection's end.
+    fn has_all(&self) -> bool
+        ensures { IsTrue result ↔ HasAll self.now }
+    {
+        match self.course {
+            PollCourse::Running => self.talk.has_all(),
+            _ => false,
+        }
+    }
+
+    /// Ends the poll: it is done if all that it asks for was taken, and fails otherwise.
+    fn stop(&mut self, fault: PollFault) -> Result<PollOutcome, PollFault>
+        ensures { Stops self.old fault result self.new }
+    {
+        if self.has_all() {
+            self.finish()
+        } else {
+            self.fail(fault)
+        }
+    }
+
     /// Handles an event of the carrier.
     fn handle(&mut self, event: Event) -> Result<PollOutcome, PollFault>
         requires under_way { IsUnderWay self.old }
@@ -205,9 +231,8 @@ impl<C: Carrier + Drop, A: Allocator + Copy> CarrierPoll<C, A> {
             Event::Nothing => Ok(PollOutcome::Nothing),
             Event::Up => self.up(),
             Event::Apdu => self.take(),
-            Event::Down => self.down(),
-            Event::TimedOut => self.fail(PollFault::Line),
-            Event::Refused(_) | Event::Insecure => self.fail(PollFault::Protocol),
+            Event::TimedOut => self.stop(PollFault::Line),
+            Event::Down | Event::Refused(_) | Event::Insecure => self.stop(PollFault::Protocol),
         }
     }
 
@@ -242,17 +267,27 @@ impl<C: Carrier + Drop, A: Allocator + Copy> CarrierPoll<C, A> {
         ensures { (apdus : List (List ℕ)) → Fits self.old apdus
             → TakesOver C.steps (C.apdu_of self.old.carrier) apdus self.old result self.new }
     {
-        if self.is_asking() {
-            self.hear()
+        if !self.is_asking() {
+            self.stop(PollFault::Protocol)
+        } else if self.is_odd() {
+            self.finish()
         } else {
-            self.fail(PollFault::Protocol)
+            self.hear()
         }
+    }
+
+    /// Whether the answer to the release is awaited, and the APDU that was handed up is another one.
+    fn is_odd(&self) -> bool
+        ensures { IsTrue result ↔ IsOdd (C.apdu_of self.now.carrier) self.now }
+    {
+        self.talk.is_releasing() && !is_release(self.carrier.apdu())
     }
 
     /// Handles the answer that was awaited.
     fn hear(&mut self) -> Result<PollOutcome, PollFault>
         requires idle { C.is_idle self.old.carrier }
         requires asking { IsAsking self.old }
+        requires even { IsOdd (C.apdu_of self.old.carrier) self.old → ⊥ }
         ensures { (apdus : List (List ℕ)) → Fits self.old apdus
             → TakesOver C.steps (C.apdu_of self.old.carrier) apdus self.old result self.new }
     {
@@ -291,28 +326,6 @@ impl<C: Carrier + Drop, A: Allocator + Copy> CarrierPoll<C, A> {
         }
     }
 
-    /// Whether the release was answered, and the connection's end is awaited.
-    fn is_leaving(&self) -> bool
-        ensures { IsTrue result ↔ IsLeaving self.now }
-    {
-        match self.course {
-            PollCourse::Running => !self.talk.awaits(),
-            _ => false,
-        }
-    }
-
-    /// The connection went down.
-    fn down(&mut self) -> Result<PollOutcome, PollFault>
-        requires { IsUnderWay self.old }
-        ensures { (apdus : List (List ℕ)) → Fits self.old apdus → GoesDown apdus self.old result self.new }
-    {
-        if self.is_leaving() {
-            self.finish()
-        } else {
-            self.fail(PollFault::Protocol)
-        }
-    }
-
     /// The octets to write after the last call, if there are any.
     pub fn out(&self) -> &[u8]
         ensures { result.now ≡ C.out_of self.now.carrier }
@@ -325,6 +338,13 @@ impl<C: Carrier + Drop, A: Allocator + Copy> CarrierPoll<C, A> {
         ensures { result.now ≡ C.apdu_of self.now.carrier }
     {
         self.carrier.apdu()
+    }
+
+    /// The carrier.
+    pub fn carrier(&self) -> &C
+        ensures { result.now ≡ self.now.carrier }
+    {
+        &self.carrier
     }
 
     /// The rows that were polled; none before they are there. Each is a reading: its clock is one of the meter's.

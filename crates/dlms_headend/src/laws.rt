@@ -3,7 +3,7 @@
 ghost use Rattle.std.specs.Prelude.{◌≡◌, List, ℕ};
 ghost use Rattle.dlms_headend.specs.declared.plan.Columns.{Columns};
 ghost use Rattle.dlms_headend.specs.declared.row.Row.{Row};
-ghost use Rattle.dlms_headend.specs.Poll.{HasReleased};
+ghost use Rattle.dlms_headend.specs.Poll.{HasPolled};
 ghost use Rattle.dlms_headend.specs.PollRun.{CallsAreAPoll, DoneIsTold};
 ghost use Rattle.dlms_headend.specs.Asking.{PlanValue};
 ghost use Rattle.dlms_headend.specs.CarrierRun.{PollsLead};
@@ -13,10 +13,10 @@ ghost use Rattle.dlms_headend.specs.declared.answer.TheConstants.{EXCEPTION};
 
 use dlms_carrier::Carrier;
 
-/// The APDUs that a poll took tell its rows.
+/// The APDUs that a poll took tell its rows, whatever came after them.
 pub fn rows_are_told()
     ensures { (columns : Columns) (apdus : List (List ℕ)) (rows more : List Row)
-        → HasReleased columns apdus rows → HasReleased columns apdus more → rows ≡ more }
+        → HasPolled columns apdus rows → HasPolled columns apdus more → rows ≡ more }
 {}
 
 /// The calls of a poller, from a new one on, in any order and with any frames, are a poll. It is done exactly if its link goes down
@@ -28,9 +28,9 @@ pub fn calls_are_a_poll()
 {}
 
 /// The calls of a poll over a carrier, from a new one on and in any order, are a run of its carrier. In it requests and answers pass in
-/// turn: each request is what the poll asks once it took the answers before it. If the poll is done, these are an acceptance, answers
-/// that spell its rows, and the answer to the release; if its terms ask for the columns, an answer with them came before the rows, and
-/// another one after them.
+/// turn: each request is what the poll asks once it took the answers before it. If the poll is done, these begin with an acceptance
+/// and answers that spell its rows; if its terms ask for the columns, an answer with them came before the rows, and another one after
+/// them. The answer to the release may be missing.
 pub fn polls_lead<C: Carrier>()
     ensures { PollsLead (meaning C.steps C.out_of C.apdu_of C.is_waiting) }
 {}

@@ -1,9 +1,9 @@
 //! The content of the answers so far.
 
 ghost use Rattle.std.specs.Prelude.{◌≡◌, ◌++◌, ◌∷◌, ◌↔◌, [], List, ℕ, IsTrue};
-ghost use Rattle.dlms_headend.specs.declared.stage.Stage.TheVariants.{Associating, Naming, Getting, Checking};
+ghost use Rattle.dlms_headend.specs.declared.stage.Stage.TheVariants.{Associating, Naming, Getting, Checking, Releasing};
 ghost use Rattle.dlms_headend.specs.Rows.{AreReadings};
-ghost use Rattle.dlms_headend.specs.Talk.{fresh_talk, behind_acceptance, behind_rows, FitsTalk, CanTake, Takes};
+ghost use Rattle.dlms_headend.specs.Talk.{fresh_talk, behind_acceptance, behind_rows, FitsTalk, CanTake, IsLate, Takes};
 
 use crate::answer::{read_association, read_release};
 use crate::capture_objects::told;
@@ -84,6 +84,26 @@ impl<A: Allocator + Copy> Talk<A> {
         match self.stage {
             Stage::Leaving => false,
             _ => true,
+        }
+    }
+
+    /// Whether the answer to the release is awaited.
+    pub fn is_releasing(&self) -> bool
+        ensures { IsTrue result ↔ (self.now.stage ≡ Releasing) }
+    {
+        match self.stage {
+            Stage::Releasing => true,
+            _ => false,
+        }
+    }
+
+    /// Whether nothing is awaited but the answer to the release, or the connection's end.
+    pub fn has_all(&self) -> bool
+        ensures { IsTrue result ↔ IsLate self.now.stage }
+    {
+        match self.stage {
+            Stage::Releasing | Stage::Leaving => true,
+            _ => false,
         }
     }
 

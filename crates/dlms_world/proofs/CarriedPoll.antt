@@ -9,12 +9,13 @@ use Rattle.dlms_headend.specs.Asking.{IsBufferRequest}
 use Rattle.dlms_headend.specs.CarrierPollValue.{CarrierPollValue, TermsValue}
 use Rattle.dlms_headend.specs.CarrierPolling.{fresh_over}
 use Rattle.dlms_headend.specs.CarrierPolling.ComesUp.{IsOpened}
-use Rattle.dlms_headend.specs.CarrierPolling.GoesDown.{IsReleased}
+use Rattle.dlms_headend.specs.CarrierPolling.{IsOdd}
+use Rattle.dlms_headend.specs.CarrierPolling.Stops.{IsEnough}
 use Rattle.dlms_headend.specs.CarrierPolling.TakesOver.{IsTaken}
 use Rattle.dlms_headend.specs.CarrierRun.{Beside, Call, Begin, Feed, IsShare}
 use Rattle.dlms_headend.specs.Due.{association_with}
 use Rattle.dlms_headend.specs.Due.AsksFor.{Associates, Gets, Releases}
-use Rattle.dlms_headend.specs.Poll.{Accepts, HasBlocks, HasNamed, HasReleased, Spells, is_release}
+use Rattle.dlms_headend.specs.Poll.{Accepts, HasBlocks, HasNamed, HasPolled, HasReleased, Spells, is_release}
 use Rattle.dlms_headend.specs.declared.plan.Columns.TheVariants.{Trusted}
 use Rattle.dlms_headend.specs.declared.row.Row.{Row}
 use Rattle.dlms_headend.specs.declared.stage.PollCourse.TheVariants.{Connecting, Running, Done}
@@ -40,6 +41,9 @@ module _ (terms : TermsValue) (get one two three : List ℕ) (rows : List Row) (
 
   pub then_release : (apdus : List (List ℕ)) → HasNamed terms.columns apdus rows → HasReleased terms.columns (apdus ++ three ∷ []) rows
   then_release apdus h = record { before = apdus; answer = three; are = refl; polled = h; released = ends }
+
+  pub then_polled : (apdus : List (List ℕ)) → HasReleased terms.columns apdus rows → HasPolled terms.columns apdus rows
+  then_polled apdus h = record { before = h.before; more = h.answer ∷ []; are = h.are; polled = h.polled }
 
   -- ---- the calls, and the poll between them
 
@@ -127,7 +131,7 @@ module _ (terms : TermsValue) (get one two three : List ℕ) (rows : List Row) (
           event = event.Apdu;
           carrier = one;
           feeds = tt;
-          comes = IsTaken gets.talk (record { running = refl; awaits = tt }) (here, record { count = refl; open_end = refl }, refl)
+          comes = IsTaken gets.talk (record { running = refl; awaits = tt }) (λ odd. let e = odd.releasing in cc) (here, record { count = refl; open_end = refl }, refl)
               (inl (record { request = get; event = event.Nothing; carrier = one; awaits = tt; asks = Gets [] here wanted; gives = tt; answer = refl; after = refl }));
         };
     carrier = (one, step [] one, (one, step one one, refl));
@@ -142,7 +146,7 @@ module _ (terms : TermsValue) (get one two three : List ℕ) (rows : List Row) (
       event = event.Apdu;
       carrier = two;
       feeds = tt;
-      comes = IsTaken releases.talk (record { running = refl; awaits = tt }) (then_rows apdus fits.0)
+      comes = IsTaken releases.talk (record { running = refl; awaits = tt }) (λ odd. let e = odd.releasing in cc) (then_rows apdus fits.0)
           (inl (record { request = release_request; event = event.Nothing; carrier = two; awaits = tt; asks = Releases rows (then_rows apdus fits.0) refl; gives = tt; answer = refl; after = refl }));
     };
     carrier = (two, step one two, (two, step two two, refl));
@@ -157,7 +161,7 @@ module _ (terms : TermsValue) (get one two three : List ℕ) (rows : List Row) (
       event = event.Apdu;
       carrier = three;
       feeds = tt;
-      comes = IsTaken leaves.talk (record { running = refl; awaits = tt }) (then_release apdus fits)
+      comes = IsTaken leaves.talk (record { running = refl; awaits = tt }) (λ odd. let e = odd.other in cc (e, ends)) (then_release apdus fits)
           (inr (record { event = event.Nothing; carrier = three; released = then_release apdus fits; ends = tt; leaves = record { answer = refl; after = refl } }));
     };
     carrier = (three, step two three, (three, step three three, refl));
@@ -168,10 +172,10 @@ module _ (terms : TermsValue) (get one two three : List ℕ) (rows : List Row) (
 
   pub goes_down : IsShare any_carrier (one ∷ two ∷ three ∷ []) leaves (feed outcome.Done) last done
   goes_down = record {
-    is_call = λ apdus fits. record { event = event.Down; carrier = three; feeds = tt; comes = IsReleased fits (record { answer = refl; after = refl }) };
+    is_call = λ apdus fits. record { event = event.Down; carrier = three; feeds = tt; comes = IsEnough (record { running = refl; late = tt }) (record { answer = refl; after = refl }) };
     carrier = (three, step three three, refl);
     octets = refl;
-    takes = then_release (one ∷ two ∷ []) (then_rows (one ∷ []) blocks);
+    takes = then_polled (one ∷ two ∷ three ∷ []) (then_release (one ∷ two ∷ []) (then_rows (one ∷ []) blocks));
     told = λ is. refl;
   }
 
@@ -186,7 +190,7 @@ module _ (terms : TermsValue) (get one two three : List ℕ) (rows : List Row) (
     each = (begun, begins, (up, comes_up, (gets, takes_one, (releases, takes_two, (leaves, takes_three, (done, goes_down, refl))))));
     run = ([], step [] [], ([], step [] [], ([], step [] [], (one, step [] one, (one, step one one, (two, step one two, (two, step two two, (three, step two three, (three, step three three, (three, step three three, refl))))))))));
     turns = (Associates refl refl, (Gets [] blocks wanted, (Releases rows (then_rows (one ∷ []) blocks) refl, tt)));
-    takes = then_release (one ∷ two ∷ []) (then_rows (one ∷ []) blocks);
+    takes = then_polled (one ∷ two ∷ three ∷ []) (then_release (one ∷ two ∷ []) (then_rows (one ∷ []) blocks));
     told = λ is. refl;
-    done = λ is. then_release (one ∷ two ∷ []) (then_rows (one ∷ []) blocks);
+    done = λ is. then_polled (one ∷ two ∷ three ∷ []) (then_release (one ∷ two ∷ []) (then_rows (one ∷ []) blocks));
   }

@@ -1,11 +1,12 @@
 -- A poll over a carrier that is done has the rows of the meter's buffer, and these are settled captures.
-use Rattle.std.proofs.Common.{arith, ◌≡◌, ◌∙◌, ◌+◌, ◌≤◌, inl, inr, refl, sym, ap, subst, append-nil, append_assoc, ℕ, Bool, true, false, if◌then◌else◌, List, [], ◌∷◌, ◌++◌, length, length-append, map}
+use Rattle.std.proofs.Common.{arith, ◌≡◌, ◌∙◌, ◌+◌, ◌≤◌, ◌<◌, ◌⊎◌, inl, inr, refl, sym, ap, subst, append-nil, append_assoc, ℕ, Bool, true, false, if◌then◌else◌, List, [], ◌∷◌, ◌++◌, length, length-append, map}
 use Rattle.std.specs.List.{filter_map}
-use Rattle.dlms_acse.specs.Writing.{release_response}
+use Rattle.std.proofs.lemmas.List.{map-append}
+use Rattle.std.proofs.lemmas.List.Elements.{Contains-append_left}
+use Rattle.dlms_acse.specs.Writing.{release_request, release_response}
 use Rattle.dlms_apdu.specs.Forms.{exception}
 use Rattle.dlms_apdu.specs.Reading.{response_at}
 use Rattle.dlms_apdu.specs.Writing.{response_bytes}
-use Rattle.dlms_blocks.specs.Joining.{empty}
 use Rattle.dlms_frame.specs.declared.client.Client.{Client}
 use Rattle.dlms_carrier.specs.Carrying.{Meaning}
 use Rattle.dlms_headend.specs.Asking.{PlanValue, first_second}
@@ -14,19 +15,18 @@ use Rattle.dlms_headend.specs.CarrierRun.{InTurn as PassInTurn, Passage, Request
 use Rattle.dlms_headend.specs.Due.{AsksFor, Requests, association_with}
 use Rattle.dlms_headend.specs.Due.AsksFor.{Associates, Names, Gets, GetsBlock, Checks, Releases}
 use Rattle.dlms_headend.specs.Merged.{merged}
-use Rattle.dlms_headend.specs.Poll.{Asks, names, gets, goes_on, checks, releases, AreBlocks, AreNamed, HasBlocks, HasReleased, is_release}
+use Rattle.dlms_headend.specs.Poll.{Asks, names, gets, goes_on, checks, releases, AreBlocks, AreNamed, HasNamed, HasPolled}
 use Rattle.dlms_headend.specs.declared.plan.Columns.{Columns}
 use Rattle.dlms_headend.specs.declared.plan.Columns.TheVariants.{Trusted, Asked as AsksColumns}
 use Rattle.dlms_headend.specs.declared.row.Row.{Row}
-use Rattle.dlms_headend.specs.declared.stage.Stage.TheVariants as stage
-use Rattle.dlms_headend.proofs.Told.{rows_inside, stage_told}
+use Rattle.dlms_headend.proofs.Told.{Followed, blocks_not_followed, ending, named_not_followed, rows_before, rows_not_followed}
 use Rattle.dlms_meter.proofs.Apart.{same-is, is_itself}
 use Rattle.dlms_meter.specs.ClientRecord.{ClientRecord}
 use Rattle.dlms_meter.specs.Run.{MeterWorld, Choice, Served, DeviceFails, Does, events_of, is_same, recovered}
 use Rattle.dlms_meter.specs.Transfers.{Exchange, Own, Asked, Cleared, InTurn}
 use Rattle.dlms_meter.specs.declared.meter.Meter.{Meter}
 use Rattle.dlms_pages.specs.declared.device.Pages.{Ghosts}
-use Rattle.dlms_service.specs.Serves.{Choice as Memory, FindsMemory, Associated, Released, begins_with}
+use Rattle.dlms_service.specs.Serves.{Choice as Memory, FindsMemory, Associated, Released, begins_with, released}
 use Rattle.dlms_service.specs.Session.{SessionValue, Outcome, HasSize, fresh}
 use Rattle.dlms_service.specs.Stake.{is_success}
 use Rattle.dlms_state.specs.Refusal.{IsLegal}
@@ -39,13 +39,14 @@ use Rattle.dlms_world.specs.Agree.{AreCaptures, BringsBuffer, Rise}
 use Rattle.dlms_world.specs.Carrier.{AgreeingHolds, Delivers, FirstHolds, HeldAreCaptures, Holds, LinesHold, LivesHold, PollsHold, StopsHold, exchange_in, own_in, plan_of, served_to, world_at}
 use Rattle.dlms_headend.specs.Polling.{fresh_poll}
 use Rattle.dlms_world.specs.MeterTurns.{IsMeterOf}
+use Rattle.dlms_world.specs.Named.{IsNamed}
 use Rattle.dlms_world.specs.Turn.{Goes, Stays}
 use Rattle.dlms_world.specs.Sublists.{IsSublist}
 use Rattle.dlms_world.specs.Told.{IsTold, Talks}
 use Rattle.dlms_world.specs.World.{World, GivesData, all_readings, rows_asked, settled_in}
 use Rattle.dlms_world.proofs.CallsAreTurns.{known_legal, known_on}
 use Rattle.dlms_world.proofs.Ending.{is_settled}
-use Rattle.dlms_world.proofs.Following.{more_data, spells_data}
+use Rattle.dlms_world.proofs.Following.{more_data, not_named, spells_data}
 use Rattle.dlms_world.proofs.Gets.{no_data_in, read_exception}
 use Rattle.dlms_world.proofs.Growing.{grows, settled_begins, through}
 use Rattle.dlms_world.proofs.Lawful.{beginning_legal}
@@ -53,7 +54,7 @@ use Rattle.dlms_world.proofs.Readings.{asked_are_captures, asked_rise, merged_am
 use Rattle.dlms_world.proofs.SameAsMeter.{whole_range}
 use Rattle.dlms_world.proofs.ServedOver.{life_grows, life_in_turn, life_own, life_settled}
 use Rattle.dlms_world.proofs.Sized.{association_sized}
-use Rattle.dlms_world.proofs.Telling.{released_parts, short_named, short_released, short_rows, tells_data, told_after}
+use Rattle.dlms_world.proofs.Telling.{named_parts, short_named, short_rows, tells_data, told_after}
 use Rattle.dlms_world.proofs.Chains.{anew}
 use Rattle.dlms_world.proofs.Keeping.{new_sound, whose_meter}
 use Rattle.dlms_world.proofs.OverLine.{Is, ended, nothing_on, poll_over}
@@ -105,48 +106,232 @@ alternate r taken false q (Answer t ∷ rest) asks turn = subst (λ l. Alternate
 alternate r taken true q (Request p ∷ rest) asks turn = absurd turn
 alternate r taken true q (Answer t ∷ rest) asks turn = (asks refl, alternate r (taken ++ t ∷ []) false q rest (λ e. cc) turn)
 
--- once the release was answered nothing is asked
-blocks_not_released : (columns : Columns) (apdus : List (List ℕ)) (n : ℕ) (joined : List ℕ) (rows : List Row) → HasBlocks columns apdus n joined → HasReleased columns apdus rows → ⊥
-blocks_not_released columns apdus n joined rows h k =
-    rows_inside columns apdus k.polled.before (k.polled.names ++ k.answer ∷ []) n joined rows h k.polled.polled
-    (k.are ∙ (ap (λ l. l ++ k.answer ∷ []) k.polled.are ∙ append_assoc k.polled.before k.polled.names (k.answer ∷ [])))
-
-none_asked : (r : Requests) (apdus : List (List ℕ)) (q : List ℕ) (rows : List Row) → AsksFor r apdus q → HasReleased r.columns apdus rows → ⊥
-none_asked r apdus q rows (Associates none is) k = short_released r.columns apdus rows k (omega (arith, ap length none))
-none_asked r apdus q rows (Names asked h is) k = short_released r.columns apdus rows k (omega (arith, ap length h.are))
-none_asked r apdus q rows (Gets joined h is) k = blocks_not_released r.columns apdus 0 joined rows h k
-none_asked r apdus q rows (GetsBlock n joined some h is) k = blocks_not_released r.columns apdus n joined rows h k
-none_asked r apdus q rows (Checks other asked h is) k = let e = (stage_told r.columns stage.Checking empty other rows apdus (asked, h) k).0 in cc
-none_asked r apdus q rows (Releases other h is) k = let e = (stage_told r.columns stage.Releasing empty other rows apdus h k).0 in cc
-
-no_more : (r : Requests) (taken ts qs : List (List ℕ)) (rows : List Row) → Alternate r taken ts qs → HasReleased r.columns (taken ++ ts) rows → length qs ≤ length ts
-no_more r taken [] [] rows turn k = omega arith
-no_more r taken [] (q ∷ []) rows asks k = absurd (none_asked r taken q rows asks (subst (λ l. HasReleased r.columns l rows) (append-nil taken) k))
-no_more r taken [] (q ∷ p ∷ qs) rows none k = absurd none
-no_more r taken (t ∷ ts) [] rows turn k = omega arith
-no_more r taken (t ∷ ts) (q ∷ qs) rows turn k =
-    let rest = no_more r (taken ++ t ∷ []) ts qs rows turn.1 (subst (λ l. HasReleased r.columns l rows) (sym (append_assoc taken (t ∷ []) ts)) k) in
-    omega (arith, rest)
-
 abbrev asked_of : List Exchange → List (List ℕ)
 asked_of served = map (λ x. x.apdu) served
 
 abbrev said_in : List Exchange → List (List ℕ)
 said_in served = map (λ x. x.outcome.answer) served
 
--- a poll that is done lost nothing
-record Whole (passed : List Passage) (served : List Exchange) : Type 0 where
-  up : asked_of served ≡ requests passed
-  down : answers passed ≡ said_in served
+at_most : (r : Requests) (taken ts qs : List (List ℕ)) → Alternate r taken ts qs → (length qs ≤ length ts) ⊎ (length qs ≡ length ts + 1)
+at_most r taken [] [] turn = inl (omega arith)
+at_most r taken [] (q ∷ []) turn = inr (omega arith)
+at_most r taken [] (q ∷ p ∷ qs) none = absurd none
+at_most r taken (t ∷ ts) [] turn = inl (omega arith)
+at_most r taken (t ∷ ts) (q ∷ qs) turn = elim (at_most r (taken ++ t ∷ []) ts qs turn.1) [
+  | inl few ↦ inl (omega (arith, few))
+  | inr long ↦ inr (omega (arith, long))
+]
 
-lost_none : (r : Requests) (passed : List Passage) (served : List Exchange) (rows : List Row) → Alternate r [] (answers passed) (requests passed) → HasReleased r.columns (answers passed) rows → Delivers passed served → Whole passed served
-lost_none r passed served rows turn k d =
-    let few : length (requests passed) ≤ length (answers passed) = no_more r [] (answers passed) (requests passed) rows turn k in
-    let up = shorter (asked_of served) (requests passed) d.up in
-    let down = shorter (answers passed) (said_in served) d.down in
-    let asked = as_many (λ (x : Exchange). x.apdu) served in
-    let said = as_many (λ (x : Exchange). x.outcome.answer) served in
-    record { up = all_of (asked_of served) (requests passed) d.up (omega (arith, few, up, down, asked, said)); down = all_of (answers passed) (said_in served) d.down (omega (arith, few, up, down, asked, said)) }
+-- once an APDU followed all that a poll asks for, nothing is asked
+short_followed : (columns : Columns) (apdus : List (List ℕ)) (rows : List Row) → Followed columns apdus rows → length apdus ≤ 1 → ⊥
+short_followed columns apdus rows k short = short_named columns k.before rows k.polled (omega (arith, short, ap length k.are, length-append k.before (k.first ∷ k.more)))
+
+none_asked : (r : Requests) (apdus : List (List ℕ)) (q : List ℕ) (rows : List Row) → AsksFor r apdus q → Followed r.columns apdus rows → ⊥
+none_asked r apdus q rows (Associates none is) k = short_followed r.columns apdus rows k (omega (arith, ap length none))
+none_asked r apdus q rows (Names asked h is) k = short_followed r.columns apdus rows k (omega (arith, ap length h.are))
+none_asked r apdus q rows (Gets joined h is) k = blocks_not_followed r.columns apdus 0 joined rows h k
+none_asked r apdus q rows (GetsBlock n joined some h is) k = blocks_not_followed r.columns apdus n joined rows h k
+none_asked r apdus q rows (Checks other asked h is) k = rows_not_followed r.columns apdus other rows h k
+none_asked r apdus q rows (Releases other h is) k = named_not_followed r.columns apdus other rows h k
+
+no_more : (r : Requests) (taken ts qs : List (List ℕ)) (rows : List Row) → Alternate r taken ts qs → Followed r.columns (taken ++ ts) rows → length qs ≤ length ts
+no_more r taken [] [] rows turn k = omega arith
+no_more r taken [] (q ∷ []) rows asks k = absurd (none_asked r taken q rows asks (subst (λ l. Followed r.columns l rows) (append-nil taken) k))
+no_more r taken [] (q ∷ p ∷ qs) rows none k = absurd none
+no_more r taken (t ∷ ts) [] rows turn k = omega arith
+no_more r taken (t ∷ ts) (q ∷ qs) rows turn k =
+    let rest = no_more r (taken ++ t ∷ []) ts qs rows turn.1 (subst (λ l. Followed r.columns l rows) (sym (append_assoc taken (t ∷ []) ts)) k) in
+    omega (arith, rest)
+
+-- once it has all, the release is asked
+release_asked : (r : Requests) (apdus : List (List ℕ)) (q : List ℕ) (rows : List Row) → AsksFor r apdus q → HasNamed r.columns apdus rows → q ≡ release_request
+release_asked r apdus q rows (Associates none is) k = absurd (short_named r.columns apdus rows k (omega (arith, ap length none)))
+release_asked r apdus q rows (Names asked h is) k = absurd (short_named r.columns apdus rows k (omega (arith, ap length h.are)))
+release_asked r apdus q rows (Gets joined h is) k = absurd (not_named r.columns apdus 0 joined rows h k)
+release_asked r apdus q rows (GetsBlock n joined some h is) k = absurd (not_named r.columns apdus n joined rows h k)
+release_asked r apdus q rows (Checks other asked h is) k =
+    let one : AreNamed AsksColumns k.names = subst (λ (c : Columns). AreNamed c k.names) asked k.named in
+    absurd (rows_before r.columns apdus k.before [] one.0 other rows h k.polled (k.are ∙ ap (λ (l : List (List ℕ)). k.before ++ l) one.1))
+release_asked r apdus q rows (Releases other h is) k = is
+
+-- the requests whose answers are these, and the one after them, if there is one
+record IsLast (r : Requests) (taken ts qs : List (List ℕ)) : Type 0 where
+  front : List (List ℕ)
+  are : qs ≡ front ++ release_request ∷ []
+  turn : Alternate r taken ts front
+
+last_is_release : (r : Requests) (taken ts qs : List (List ℕ)) (rows : List Row) → Alternate r taken ts qs → HasNamed r.columns (taken ++ ts) rows → length ts < length qs → IsLast r taken ts qs
+last_is_release r taken [] [] rows turn k more = absurd (omega (arith, more))
+last_is_release r taken [] (q ∷ []) rows asks k more =
+    record { front = []; are = ap (λ z. z ∷ []) (release_asked r taken q rows asks (subst (λ l. HasNamed r.columns l rows) (append-nil taken) k)); turn = tt }
+last_is_release r taken [] (q ∷ p ∷ qs) rows none k more = absurd none
+last_is_release r taken (t ∷ ts) [] rows turn k more = absurd (omega (arith, more))
+last_is_release r taken (t ∷ ts) (q ∷ qs) rows turn k more =
+    let rest = last_is_release r (taken ++ t ∷ []) ts qs rows turn.1 (subst (λ l. HasNamed r.columns l rows) (sym (append_assoc taken (t ∷ []) ts)) k) (omega (arith, more)) in
+    record { front = q ∷ rest.front; are = ap (λ zs. q ∷ zs) rest.are; turn = (turn.0, rest.turn) }
+
+alternate_front : (r : Requests) (taken : List (List ℕ)) (front back : List Exchange) → Alternate r taken (said_in (front ++ back)) (asked_of (front ++ back)) → Alternate r taken (said_in front) (asked_of front)
+alternate_front r taken [] back turn = tt
+alternate_front r taken (x ∷ front) back turn = (turn.0, alternate_front r (taken ++ x.outcome.answer ∷ []) front back turn.1)
+
+-- ---- the last of a list that is a part of another
+
+none_in_empty : {A : Type 0} (xs : List A) (x : A) → IsSublist (xs ++ x ∷ []) [] → ⊥
+none_in_empty [] x is = is
+none_in_empty (y ∷ xs) x is = is
+
+last_part : {A : Type 0} (xs ys : List A) (x y : A) → IsSublist (xs ++ x ∷ []) (ys ++ y ∷ []) → IsSublist (xs ++ x ∷ []) ys ⊎ ((x ≡ y) × IsSublist xs ys)
+last_part [] [] x y (inl is) = inr (is.0, tt)
+last_part [] [] x y (inr is) = absurd is
+last_part [] (b ∷ ys) x y (inl is) = inl (inl (is.0, tt))
+last_part [] (b ∷ ys) x y (inr is) = elim (last_part [] ys x y is) [
+  | inl k ↦ inl (inr k)
+  | inr k ↦ inr (k.0, tt)
+]
+last_part (a ∷ xs) [] x y (inl is) = absurd (none_in_empty xs x is.1)
+last_part (a ∷ xs) [] x y (inr is) = absurd is
+last_part (a ∷ xs) (b ∷ ys) x y (inl is) = elim (last_part xs ys x y is.1) [
+  | inl k ↦ inl (inl (is.0, k))
+  | inr k ↦ inr (k.0, inl (is.0, k.1))
+]
+last_part (a ∷ xs) (b ∷ ys) x y (inr is) = elim (last_part (a ∷ xs) ys x y is) [
+  | inl k ↦ inl (inr k)
+  | inr k ↦ inr (k.0, inr k.1)
+]
+
+-- ---- what the meter served, up to the last answer that the poll needs
+
+-- the answer to a release is none with data
+release_no_data : (choice : Choice) (E : List Event) (s : SessionValue) (apdu : List ℕ) (o : Outcome) → apdu ≡ release_request → Does choice E s apdu o → GivesData o.answer → ⊥
+unfolding response_at
+release_no_data (Served memory) E s apdu o asked does given =
+    let is : o ≡ released s = subst (λ a. Does (Served memory) E s a o) asked does in
+    let given_so : GivesData release_response = subst (λ (x : Outcome). GivesData x.answer) is given in
+    given_so
+release_no_data (DeviceFails kept wanted) E s apdu o asked does given =
+    let ((form, read, would, leads, success, is), wants) = subst (λ a. Does (DeviceFails kept wanted) E s a o) asked does in
+    let released_so : would ≡ released s = leads in
+    let e : is_success release_response ≡ true = subst (λ (x : Outcome). is_success x.answer ≡ true) released_so success in
+    cc
+
+last_no_data : (own : List Own) (s last : SessionValue) (front : List Exchange) (x : Exchange) → InTurn s own last → filter_map exchange_in own ≡ front ++ x ∷ [] → x.apdu ≡ release_request → GivesData x.outcome.answer → ⊥
+last_no_data [] s last front x turn are asked given = never_empty front x (sym are)
+last_no_data (Cleared ∷ own) s last front x turn are asked given = last_no_data own (fresh s.client) last front x turn are asked given
+last_no_data (Asked y ∷ own) s last [] x turn are asked given =
+    let same : y ≡ x = cc are in
+    release_no_data x.choice x.before s x.apdu x.outcome asked (subst (λ (z : Exchange). Does z.choice z.before s z.apdu z.outcome) same turn.0) given
+last_no_data (Asked y ∷ own) s last (z ∷ front) x turn are asked given =
+    let rest : filter_map exchange_in own ≡ front ++ x ∷ [] = cc are in
+    last_no_data own y.outcome.own last front x turn.1 rest asked given
+
+-- the last answer that a poll needs is one with data
+record EndsWithData (ts : List (List ℕ)) : Type 0 where
+  front : List (List ℕ)
+  last : List ℕ
+  are : ts ≡ front ++ last ∷ []
+  given : GivesData last
+
+ends_with_data : (columns : Columns) (ts : List (List ℕ)) (rows : List Row) → HasNamed columns ts rows → EndsWithData ts
+ends_with_data Trusted ts rows k = record {
+  front = k.polled.before;
+  last = k.polled.answer;
+  are = k.are ∙ (ap (λ l. k.before ++ l) k.named ∙ (append-nil k.before ∙ k.polled.are));
+  given = spells_data k.polled.taken k.polled.joined (response_at k.polled.answer) rows k.polled.spelled;
+}
+ends_with_data AsksColumns ts rows k = record {
+  front = k.before;
+  last = k.named.0;
+  are = k.are ∙ ap (λ l. k.before ++ l) k.named.1;
+  given = tells_data (response_at k.named.0) k.named.2;
+}
+
+-- the first exchanges are those of the poll up to its last answer before the release
+record Needed (r : Requests) (served : List Exchange) (rows : List Row) : Type 0 where
+  front : List Exchange
+  back : List Exchange
+  are : served ≡ front ++ back
+  turn : Alternate r [] (said_in front) (asked_of front)
+  named : HasNamed r.columns (said_in front) rows
+
+cut_at : (served : List Exchange) (before more : List (List ℕ)) → said_in served ≡ before ++ more → (front : List Exchange) × (back : List Exchange) × (served ≡ front ++ back) × (said_in front ≡ before)
+cut_at served [] more e = ([], served, refl, refl)
+cut_at [] (t ∷ before) more e = absurd (cc)
+cut_at (x ∷ served) (t ∷ before) more e =
+    let heads : x.outcome.answer ≡ t = cc in
+    let tails : said_in served ≡ before ++ more = cc in
+    let rest = cut_at served before more tails in
+    (x ∷ rest.0, rest.1, ap (λ zs. x ∷ zs) rest.2, ap (λ z. z ∷ said_in rest.0) heads ∙ ap (λ zs. t ∷ zs) rest.3)
+
+as_many_served : (served : List Exchange) → length (asked_of served) ≡ length (said_in served)
+as_many_served served = as_many (λ (x : Exchange). x.apdu) served ∙ sym (as_many (λ (x : Exchange). x.outcome.answer) served)
+
+module _ (r : Requests) (ts qs : List (List ℕ)) (served : List Exchange) (rows : List Row) (turn : Alternate r [] ts qs) (up : IsSublist (asked_of served) qs) (down : IsSublist ts (said_in served)) where
+  -- nothing was lost
+  whole_needed : HasPolled r.columns ts rows → length qs ≤ length ts → Needed r served rows
+  whole_needed k few =
+      let less = shorter (asked_of served) qs up in
+      let fewer = shorter ts (said_in served) down in
+      let same = as_many_served served in
+      let asked : asked_of served ≡ qs = all_of (asked_of served) qs up (omega (arith, few, less, fewer, same)) in
+      let said : ts ≡ said_in served = all_of ts (said_in served) down (omega (arith, few, less, fewer, same)) in
+      let parts = cut_at served k.before k.more (sym said ∙ k.are) in
+      let all : Alternate r [] (said_in served) (asked_of served) = subst (λ l. Alternate r [] l (asked_of served)) said (subst (λ l. Alternate r [] ts l) (sym asked) turn) in
+      record {
+        front = parts.0;
+        back = parts.1;
+        are = parts.2;
+        turn = alternate_front r [] parts.0 parts.1 (subst (λ l. Alternate r [] (said_in l) (asked_of l)) parts.2 all);
+        named = subst (λ l. HasNamed r.columns l rows) (sym parts.3) k.polled;
+      }
+
+  -- the answer to the release is missing
+  module _ (own : List Own) (s last : SessionValue) (in_turn : InTurn s own last) (of_own : filter_map exchange_in own ≡ served) (k : HasNamed r.columns ts rows) (z : IsLast r [] ts qs) (long : length qs ≡ length ts + 1) where
+    fewer_asked : length z.front ≡ length ts
+    fewer_asked = omega (arith, long, ap length z.are, length-append z.front (release_request ∷ []))
+
+    taken_all : (front back : List Exchange) → served ≡ front ++ back → IsSublist (asked_of front) z.front → IsSublist ts (said_in front) → Needed r served rows
+    taken_all front back are above below =
+        let less = shorter (asked_of front) z.front above in
+        let fewer = shorter ts (said_in front) below in
+        let same = as_many_served front in
+        let asked : asked_of front ≡ z.front = all_of (asked_of front) z.front above (omega (arith, fewer_asked, less, fewer, same)) in
+        let said : ts ≡ said_in front = all_of ts (said_in front) below (omega (arith, fewer_asked, less, fewer, same)) in
+        record {
+          front = front;
+          back = back;
+          are = are;
+          turn = subst (λ l. Alternate r [] l (asked_of front)) said (subst (λ l. Alternate r [] ts l) (sym asked) z.turn);
+          named = subst (λ l. HasNamed r.columns l rows) said k;
+        }
+
+    by_last : (front : List Exchange) (x : Exchange) → served ≡ front ++ x ∷ [] → Needed r served rows
+    by_last front x are =
+        let told = ends_with_data r.columns ts rows k in
+        let above = subst (λ l. IsSublist l (z.front ++ release_request ∷ [])) (ap asked_of are ∙ map-append (λ (y : Exchange). y.apdu) front (x ∷ [])) (subst (λ l. IsSublist (asked_of served) l) z.are up) in
+        let below = subst (λ l. IsSublist l (said_in front ++ x.outcome.answer ∷ [])) told.are (subst (λ l. IsSublist ts l) (ap said_in are ∙ map-append (λ (y : Exchange). y.outcome.answer) front (x ∷ [])) down) in
+        elim (last_part (asked_of front) z.front x.apdu release_request above) [
+          | inl all ↦ taken_all served [] (sym (append-nil served)) (subst (λ l. IsSublist l z.front) (sym (ap asked_of are ∙ map-append (λ (y : Exchange). y.apdu) front (x ∷ []))) all) down
+          | inr asked ↦ elim (last_part told.front (said_in front) told.last x.outcome.answer below) [
+            | inl all ↦ taken_all front (x ∷ []) are asked.1 (subst (λ l. IsSublist l (said_in front)) (sym told.are) all)
+            | inr said ↦ absurd (last_no_data own s last front x in_turn (of_own ∙ are) asked.0 (subst GivesData said.0 told.given))
+          ]
+        ]
+
+    some_served : (served' : List Exchange) → served ≡ served' → Needed r served rows
+    some_served [] none =
+        let told = ends_with_data r.columns ts rows k in
+        absurd (none_in_empty told.front told.last (subst (λ l. IsSublist l []) told.are (subst (λ l. IsSublist ts (said_in l)) none down)))
+    some_served (x ∷ rest) are = let end = ending x rest in by_last end.front end.last (are ∙ end.are)
+
+  needed : (own : List Own) (s last : SessionValue) → InTurn s own last → filter_map exchange_in own ≡ served → (apdus more : List (List ℕ)) → ts ≡ apdus ++ more → HasNamed r.columns apdus rows → Needed r served rows
+  needed own s last in_turn of_own apdus (t ∷ more) are k =
+      whole_needed (record { before = apdus; more = t ∷ more; are = are; polled = k }) (no_more r [] ts qs rows turn (record { before = apdus; first = t; more = more; are = are; polled = k }))
+  needed own s last in_turn of_own apdus [] are k =
+      let named : HasNamed r.columns ts rows = subst (λ l. HasNamed r.columns l rows) (sym (are ∙ append-nil apdus)) k in
+      elim (at_most r [] ts qs turn) [
+        | inl few ↦ whole_needed (record { before = apdus; more = []; are = are; polled = k }) few
+        | inr long ↦ some_served own s last in_turn of_own named (last_is_release r [] ts qs rows turn named (omega (arith, long))) long served refl
+      ]
 
 -- ---- what the poll asks after the association
 
@@ -205,21 +390,17 @@ blocks_differ : (before : ℕ) (ts : List (List ℕ)) (n : ℕ) (joined : List �
 blocks_differ before [] n joined h = tt
 blocks_differ before (t ∷ ts) n joined h = (data_differs t (more_data before (response_at t) h.0 h.2), blocks_differ (before + 1) ts n h.1 h.4)
 
-release_differs : (t : List ℕ) → is_release t ≡ true → t ≡ unassociated → ⊥
-release_differs t h is = let e : is_release unassociated ≡ true = subst (λ l. is_release l ≡ true) is h in cc
-
-rest_differ : (columns : Columns) (first : List ℕ) (ts : List (List ℕ)) (rows : List Row) → HasReleased columns (first ∷ ts) rows → Differ ts
-rest_differ columns first ts rows k =
-    let named = k.polled in
+rest_differ : (columns : Columns) (first : List ℕ) (ts : List (List ℕ)) (rows : List Row) → HasNamed columns (first ∷ ts) rows → Differ ts
+rest_differ columns first ts rows named =
     let polled = named.polled in
     let hb = polled.blocks in
-    let all : first ∷ ts ≡ hb.response ∷ (hb.names ++ (hb.blocks ++ polled.answer ∷ (named.names ++ k.answer ∷ []))) = released_parts columns (first ∷ ts) rows k in
-    let tails : ts ≡ hb.names ++ (hb.blocks ++ polled.answer ∷ (named.names ++ k.answer ∷ [])) = cc all in
-    let end = both_differ named.names (k.answer ∷ []) (names_differ columns named.names named.named) (release_differs k.answer k.released, tt) in
+    let all : first ∷ ts ≡ hb.response ∷ (hb.names ++ (hb.blocks ++ polled.answer ∷ (named.names ++ []))) = sym (append-nil (first ∷ ts)) ∙ named_parts columns (first ∷ ts) [] rows named in
+    let tails : ts ≡ hb.names ++ (hb.blocks ++ polled.answer ∷ (named.names ++ [])) = cc all in
+    let end = both_differ named.names [] (names_differ columns named.names named.named) tt in
     let table = data_differs polled.answer (spells_data polled.taken polled.joined (response_at polled.answer) rows polled.spelled) in
     subst Differ (sym tails)
-    (both_differ hb.names (hb.blocks ++ polled.answer ∷ (named.names ++ k.answer ∷ [])) (names_differ columns hb.names hb.named)
-    (both_differ hb.blocks (polled.answer ∷ (named.names ++ k.answer ∷ [])) (blocks_differ 0 hb.blocks polled.taken polled.joined hb.come) (table, end)))
+    (both_differ hb.names (hb.blocks ++ polled.answer ∷ (named.names ++ [])) (names_differ columns hb.names hb.named)
+    (both_differ hb.blocks (polled.answer ∷ (named.names ++ [])) (blocks_differ 0 hb.blocks polled.taken polled.joined hb.come) (table, end)))
 
 -- ---- an association that is lost in between
 
@@ -267,8 +448,8 @@ unbroken false s (Asked x ∷ own) last turn within =
 
 module _ (who : Client) (terms : TermsValue) (rows : List Row) where
   says_rows : (own : List Own) (s last : SessionValue) → InTurn s own last → Alternate (requests_of terms) [] (said_in (filter_map exchange_in own)) (asked_of (filter_map exchange_in own))
-      → HasReleased terms.columns (said_in (filter_map exchange_in own)) rows → IsTold (plan_of who terms) (filter_map exchange_in own) rows
-  says_rows [] s last turn alternates k = absurd (short_released terms.columns [] rows k (omega arith))
+      → HasNamed terms.columns (said_in (filter_map exchange_in own)) rows → IsTold (plan_of who terms) (filter_map exchange_in own) rows
+  says_rows [] s last turn alternates k = absurd (short_named terms.columns [] rows k (omega arith))
   says_rows (Cleared ∷ own) s last turn alternates k = says_rows own (fresh s.client) last turn alternates k
   says_rows (Asked x ∷ own) s last turn alternates k =
       let served : List Exchange = filter_map exchange_in own in
@@ -276,7 +457,50 @@ module _ (who : Client) (terms : TermsValue) (rows : List Row) where
       let sized : HasSize x.outcome.own.opened = association_sized x.choice x.before _ s x.outcome (subst (λ a. Does x.choice x.before s a x.outcome) asked turn.0) in
       let within = are_within (requests_of terms) (x.outcome.answer ∷ []) served (λ e. cc) alternates.1 (rest_differ terms.columns x.outcome.answer (said_in served) rows k) in
       let chain = unbroken false x.outcome.own own last turn.1 within in
-      told_after (plan_of who terms) x served chain.0 (said_in served) rows sized chain.1 (talks who terms (x.outcome.answer ∷ []) served (λ e. cc) alternates.1) k
+      told_after (plan_of who terms) x served chain.0 (said_in served) (x.outcome.answer ∷ said_in served) [] rows sized chain.1 (talks who terms (x.outcome.answer ∷ []) served (λ e. cc) alternates.1) k
+      (sym (append-nil (x.outcome.answer ∷ said_in served)))
+
+-- the first of the exchanges, in turn
+own_front : (own : List Own) (s last : SessionValue) (front back : List Exchange) → InTurn s own last → filter_map exchange_in own ≡ front ++ back → (first : List Own) × (mid : SessionValue) × InTurn s first mid × (filter_map exchange_in first ≡ front)
+own_front own s last [] back turn are = ([], s, refl, refl)
+own_front [] s last (x ∷ front) back turn are = absurd (cc)
+own_front (Cleared ∷ own) s last (x ∷ front) back turn are =
+    let rest = own_front own (fresh s.client) last (x ∷ front) back turn are in
+    (Cleared ∷ rest.0, rest.1, rest.2, rest.3)
+own_front (Asked y ∷ own) s last (x ∷ front) back turn are =
+    let same : y ≡ x = cc are in
+    let tails : filter_map exchange_in own ≡ front ++ back = cc are in
+    let rest = own_front own y.outcome.own last front back turn.1 tails in
+    (Asked y ∷ rest.0, rest.1, (turn.0, rest.2), ap (λ (z : Exchange). z ∷ filter_map exchange_in rest.0) same ∙ ap (λ (l : List Exchange). x ∷ l) rest.3)
+
+named_more : (plan : PlanValue) (front back : List Exchange) (rows : List Row) → IsNamed plan front rows → IsNamed plan (front ++ back) rows
+named_more plan front back rows n = record {
+  association = n.association;
+  first = n.first;
+  get = n.get;
+  between = n.between;
+  last = n.last;
+  more = n.more ++ back;
+  are = ap (λ (l : List Exchange). l ++ back) n.are ∙ ap (λ (l : List Exchange). n.association ∷ n.first ∷ n.get ∷ l) (append_assoc n.between (n.last ∷ n.more) back);
+  asked_first = n.asked_first;
+  asked = n.asked;
+  asked_last = n.asked_last;
+  success_first = n.success_first;
+  success = n.success;
+  names_first = n.names_first;
+  names_last = n.names_last;
+  named = n.named;
+}
+
+told_more : (plan : PlanValue) (front back : List Exchange) (rows : List Row) → IsTold plan front rows → IsTold plan (front ++ back) rows
+told_more plan front back rows is = record {
+  get = is.get;
+  took = Contains-append_left front back is.get is.took;
+  asked = is.asked;
+  success = is.success;
+  are = is.are;
+  names = λ asked. named_more plan front back rows (is.names asked);
+}
 
 -- ---- the laws
 
@@ -366,19 +590,28 @@ polls_hold meaning new who carrier terms calls done poll m m' life file over del
     served : List Exchange
     served = served_to who m m' life
 
-    released : HasReleased terms.columns (answers passed) done.talk.rows
-    released = poll.done over
+    polled : HasPolled terms.columns (answers passed) done.talk.rows
+    polled = poll.done over
+
+    own : List Own
+    own = own_in who m m' life
+
+    in_turn : InTurn (m.records who).session own (m'.records who).session
+    in_turn = life_in_turn who m m' life (h.own who).1
 
     turn : Alternate (requests_of terms) [] (answers passed) (requests passed)
     turn = alternate (requests_of terms) [] false [] passed (λ e. cc) poll.turns
 
-    whole : Whole passed served
-    whole = lost_none (requests_of terms) passed served done.talk.rows turn released delivers
+    need : Needed (requests_of terms) served done.talk.rows
+    need = needed (requests_of terms) (answers passed) (requests passed) served done.talk.rows turn delivers.up delivers.down own (m.records who).session (m'.records who).session in_turn refl polled.before polled.more polled.are polled.polled
 
     is : IsTold plan served done.talk.rows
-    is = says_rows who terms done.talk.rows (own_in who m m' life) (m.records who).session (m'.records who).session (life_in_turn who m m' life (h.own who).1)
-        (subst (λ ts. Alternate (requests_of terms) [] ts (asked_of served)) whole.down (subst (λ qs. Alternate (requests_of terms) [] (answers passed) qs) (sym whole.up) turn))
-        (subst (λ ts. HasReleased terms.columns ts done.talk.rows) whole.down released)
+    is =
+        let first = own_front own (m.records who).session (m'.records who).session need.front need.back in_turn need.are in
+        let told : IsTold plan (filter_map exchange_in first.0) done.talk.rows =
+        says_rows who terms done.talk.rows first.0 (m.records who).session first.1 first.2 (subst (λ l. Alternate (requests_of terms) [] (said_in l) (asked_of l)) (sym first.3) need.turn)
+        (subst (λ l. HasNamed terms.columns (said_in l) done.talk.rows) (sym first.3) need.named) in
+        subst (λ l. IsTold plan l done.talk.rows) (sym need.are) (told_more plan need.front need.back done.talk.rows (subst (λ l. IsTold plan l done.talk.rows) first.3 told))
 
     settled : IsBeginning is.get.before (settled_in m'.store)
     settled = is_settled m'.store served is.get (life_settled who m m' life) is.took is.success

@@ -164,17 +164,15 @@ short_named columns apdus rows r short =
 pub short_released : (columns : Columns) (apdus : List (List ℕ)) (rows : List Row) → HasReleased columns apdus rows → length apdus ≤ 1 → ⊥
 short_released columns apdus rows r short = short_named columns r.before rows r.polled (omega (arith, short, ap length r.are, length-append r.before (r.answer ∷ [])))
 
--- the answers that a poll took, by what they answer
-pub released_parts : (asking : Columns) (apdus : List (List ℕ)) (rows : List Row) (r : HasReleased asking apdus rows)
-    → apdus ≡ r.polled.polled.blocks.response ∷ (r.polled.polled.blocks.names ++ (r.polled.polled.blocks.blocks ++ r.polled.polled.answer ∷ (r.polled.names ++ r.answer ∷ [])))
-released_parts asking apdus rows r =
-    let named = r.polled in
-    let polled = named.polled in
+-- the answers that a poll took, by what they answer, and those after them
+pub named_parts : (asking : Columns) (apdus post : List (List ℕ)) (rows : List Row) (r : HasNamed asking apdus rows) → apdus ++ post ≡ r.polled.blocks.response ∷ (r.polled.blocks.names ++ (r.polled.blocks.blocks ++ r.polled.answer ∷ (r.names ++ post)))
+named_parts asking apdus post rows r =
+    let polled = r.polled in
     let hb = polled.blocks in
-    r.are ∙ ap (λ l. l ++ r.answer ∷ []) named.are ∙ append_assoc named.before named.names (r.answer ∷ [])
-    ∙ ap (λ l. l ++ (named.names ++ r.answer ∷ [])) polled.are ∙ append_assoc polled.before (polled.answer ∷ []) (named.names ++ r.answer ∷ [])
-    ∙ ap (λ l. l ++ polled.answer ∷ (named.names ++ r.answer ∷ [])) hb.are
-    ∙ ap (λ l. hb.response ∷ l) (append_assoc hb.names hb.blocks (polled.answer ∷ (named.names ++ r.answer ∷ [])))
+    ap (λ l. l ++ post) r.are ∙ append_assoc r.before r.names post
+    ∙ ap (λ l. l ++ (r.names ++ post)) polled.are ∙ append_assoc polled.before (polled.answer ∷ []) (r.names ++ post)
+    ∙ ap (λ l. l ++ polled.answer ∷ (r.names ++ post)) hb.are
+    ∙ ap (λ l. hb.response ∷ l) (append_assoc hb.names hb.blocks (polled.answer ∷ (r.names ++ post)))
 
 -- the first APDU that a poll asks
 first_asked : (plan : PlanValue) (apdu : List ℕ) → Asks plan [] apdu → apdu ≡ association_bytes plan
@@ -321,29 +319,26 @@ module _ (plan : PlanValue) (answer : List ℕ) (tail : List (List ℕ)) (rows :
             named = λ e. subst (AreAmong (named_readings x.before)) (sym are) (rows_named plan x.before e);
           })
 
--- after the association, the answers to the rest of a poll
-pub told_after : (plan : PlanValue) (x : Exchange) (served : List Exchange) (last : SessionValue) (more : List (List ℕ)) (rows : List Row) → HasSize x.outcome.own.opened → InTurn x.outcome.own (map Asked served) last
-    → Talks plan (x.outcome.answer ∷ []) served more → HasReleased plan.columns (x.outcome.answer ∷ more) rows → IsTold plan (x ∷ served) rows
-told_after plan x served last more rows sized chain talk released =
-    from_names plan polled.answer (named.names ++ released.answer ∷ []) rows last polled.taken polled.joined polled.spelled plan.columns refl hb.response hb.accepts hb.names hb.blocks named.names (released.answer ∷ []) hb.named named.named refl x sized served hb.come chain
+-- after the association, the answers to the rest of a poll, and others after them
+pub told_after : (plan : PlanValue) (x : Exchange) (served : List Exchange) (last : SessionValue) (more apdus post : List (List ℕ)) (rows : List Row) → HasSize x.outcome.own.opened → InTurn x.outcome.own (map Asked served) last
+    → Talks plan (x.outcome.answer ∷ []) served more → HasNamed plan.columns apdus rows → x.outcome.answer ∷ more ≡ apdus ++ post → IsTold plan (x ∷ served) rows
+told_after plan x served last more apdus post rows sized chain talk named are =
+    from_names plan polled.answer (named.names ++ post) rows last polled.taken polled.joined polled.spelled plan.columns refl hb.response hb.accepts hb.names hb.blocks named.names post hb.named named.named refl x sized served hb.come chain
     (subst (λ l. Talks plan (hb.response ∷ []) served l) tails (subst (λ a. Talks plan (a ∷ []) served more) heads talk))
   where
-    named : HasNamed plan.columns released.before rows
-    named = released.polled
-
     polled : HasRows plan.columns named.before rows
     polled = named.polled
 
     hb : HasBlocks plan.columns polled.before polled.taken polled.joined
     hb = polled.blocks
 
-    all : x.outcome.answer ∷ more ≡ hb.response ∷ (hb.names ++ (hb.blocks ++ polled.answer ∷ (named.names ++ released.answer ∷ [])))
-    all = released_parts plan.columns (x.outcome.answer ∷ more) rows released
+    all : x.outcome.answer ∷ more ≡ hb.response ∷ (hb.names ++ (hb.blocks ++ polled.answer ∷ (named.names ++ post)))
+    all = are ∙ named_parts plan.columns apdus post rows named
 
     heads : x.outcome.answer ≡ hb.response
     heads = cc all
 
-    tails : more ≡ hb.names ++ (hb.blocks ++ polled.answer ∷ (named.names ++ released.answer ∷ []))
+    tails : more ≡ hb.names ++ (hb.blocks ++ polled.answer ∷ (named.names ++ post))
     tails = cc all
 
 pub tells : AnswersTell
@@ -351,5 +346,6 @@ tells plan [] last [] rows chain talk released = absurd (short_released plan.col
 tells plan [] last (a ∷ more) rows chain talk released = absurd talk
 tells plan (x ∷ served) last [] rows chain talk released = absurd (short_released plan.columns [] rows released (omega arith))
 tells plan (x ∷ served) last (a ∷ more) rows chain talk released =
-    told_after plan x served last more rows (association_sized x.choice x.before _ (fresh plan.client) x.outcome (subst (λ b. Does x.choice x.before (fresh plan.client) b x.outcome) (first_asked plan x.apdu talk.0) chain.0)) chain.1
-    (subst (λ l. Talks plan (l ∷ []) served more) (sym talk.1) talk.2) (subst (λ l. HasReleased plan.columns (l ∷ more) rows) (sym talk.1) released)
+    told_after plan x served last more released.before (released.answer ∷ []) rows
+    (association_sized x.choice x.before _ (fresh plan.client) x.outcome (subst (λ b. Does x.choice x.before (fresh plan.client) b x.outcome) (first_asked plan x.apdu talk.0) chain.0)) chain.1
+    (subst (λ l. Talks plan (l ∷ []) served more) (sym talk.1) talk.2) released.polled (ap (λ l. l ∷ more) talk.1 ∙ released.are)

@@ -77,8 +77,8 @@ served_to who m m' life = filter_map exchange_in (own_in who m m' life)
 -- most once: the APDUs that the meter served to the client are some of the poll's requests, and the
 -- answers that were handed up to the poll are some of the meter's answers to these. A request
 -- counts as lost if the power stops before it is answered. A poll awaits the answer to a request
--- before it gives the next one; so if it is done, nothing was lost, and each answer belongs to the
--- request before it.
+-- before it gives the next one; so if it is done, nothing was lost but the release or its answer,
+-- and each answer belongs to the request before it.
 pub record Delivers (passed : List Passage) (served : List Exchange) : Type 0 where
   pub up : IsSublist (map (λ x. x.apdu) served) (requests passed)
   pub down : IsSublist (answers passed) (map (λ x. x.outcome.answer) served)

@@ -6,7 +6,7 @@ use Rattle.dlms_ends.proofs.PollEndLemmas.{came_in, floods}
 use Rattle.dlms_ends.proofs.poll_end.PollEnd.listen.Goals as goal
 
 pub returns-in-Err : goal.returns-in-Err
-returns-in-Err g c = ReadFails c.in-Err.error c.from.result c.in-Err.ensures.past c.from.ensures refl refl
+returns-in-Err g c = ReadFails c.in-Err.error c.from.result c.in-Err.ensures.past c.from.ensures c.lose.ensures.left c.lose.ensures.lost
 
 pub returns-in-Ok-Silence : goal.returns-in-Ok-Silence
 returns-in-Ok-Silence g c = IsQuiet _ (quiet_as _ _ _ _ c.in-Ok-Silence.field-0-is c.in-Ok-Silence.ensures.past) c.repeat.ensures.left c.repeat.ensures.told

@@ -20,8 +20,8 @@ pub returns-in-Ok-Done-clause-polls : goal.returns-in-Ok-Done-clause-polls
 returns-in-Ok-Done-clause-polls g c = listened _ _ _ _ _ _ _ _ _ c.reads.invariant (heard_as _ _ _ _ c.in-Ok-Done.field-0 Done c.in-Ok-Done.field-0-is c.in-Ok-Done.ensures) refl
 
 pub returns-in-Ok-Done-clause-done : goal.returns-in-Ok-Done-clause-done
-returns-in-Ok-Done-clause-done g c = λ route terms is.
-    polled (polls_lead means) route terms _ _ _ _ tt is (listened _ _ _ _ _ _ _ _ _ c.reads.invariant (heard_as _ _ _ _ c.in-Ok-Done.field-0 Done c.in-Ok-Done.field-0-is c.in-Ok-Done.ensures) refl)
+returns-in-Ok-Done-clause-done g c = λ route terms guard is.
+    polled (polls_lead means) route terms guard _ _ _ _ tt is (listened _ _ _ _ _ _ _ _ _ c.reads.invariant (heard_as _ _ _ _ c.in-Ok-Done.field-0 Done c.in-Ok-Done.field-0-is c.in-Ok-Done.ensures) refl)
 
 pub returns-in-Err-listen-clause-polls : goal.returns-in-Err-listen-clause-polls
 returns-in-Err-listen-clause-polls g c = listened _ _ _ _ _ _ _ _ _ c.reads.invariant c.in-Err-listen.ensures refl
