@@ -1,5 +1,5 @@
 -- A poll over a line, until a deadline.
-use Rattle.std.proofs.Common.{refl, sym, ap, ◌∙◌, ◌≡◌, ◌+◌, ℕ, Bool, arith, List, [], ◌∷◌, ◌++◌, map, Option, Some, None, Result, Ok, Err, subst, inr}
+use Rattle.std.proofs.Common.{refl, sym, ap, ◌∙◌, ◌≡◌, ◌+◌, ◌<◌, ◌≤◌, ℕ, Bool, arith, List, [], ◌∷◌, ◌++◌, map, Option, Some, None, Result, Ok, Err, subst, inr}
 use Rattle.std.specs.Prelude.{IfOk, IfSome, IsErrAnd}
 use Rattle.std.specs.declared.io.Error.{Error}
 use Rattle.std.proofs.lemmas.List.{append-nil, length-append}
@@ -18,8 +18,9 @@ use Rattle.dlms_ends.specs.declared.head_end.HeadEnd.{HeadEnd}
 use Rattle.dlms_ends.specs.declared.polling.TheConstants.{TURNS}
 use Rattle.dlms_ends.proofs.MomentLemmas.{map_append}
 use Rattle.dlms_ends.proofs.PollLemmas.{HeadSide, system_told}
-use Rattle.dlms_polling.specs.Calling.{Aim, Attempts, Calls, Drives, GivesUp, Over, Polling, Refused, Slow, Tried, Tries, Waits, next_line}
+use Rattle.dlms_polling.specs.Calling.{Aim, Attempts, Calls, Drives, Fails, GivesUp, IsRetried, Over, Polling, Refused, Slow, Tried, Tries, Waits, next_line}
 use Rattle.dlms_polling.specs.Doing.{AreWithin, ClockFails, DoesLinked, HeadFails, Looks, Tires, Unbegun}
+use Rattle.dlms_polling.specs.Guards.{AsksNoGuard, Watch}
 use Rattle.dlms_polling.specs.Ways.{outlasts}
 use Rattle.dlms_polling.specs.declared.way.DonePoll.{DonePoll}
 use Rattle.dlms_lines.specs.Deadline.{IsOver}
@@ -102,7 +103,7 @@ has_tired seconds old now v w poller head count all under =
 
 -- ---- an attempt
 
-pub attempt_found : (connected : Bool) (aim : Aim) (old new : Option (List Moment)) (v w : Option (List Sight)) (found : Option DonePoll)
+pub attempt_found : (connected : Bool) (aim : Aim) (old new : Option (List Moment)) (v w : Watch) (found : Option DonePoll)
     → Drives connected aim old new v w (Ok found) → Attempts connected aim old new v w (Ok found)
 attempt_found connected aim old new v w (Some done) drives = drives
 attempt_found connected aim old new v w None drives = Polling drives
@@ -110,32 +111,45 @@ attempt_found connected aim old new v w None drives = Polling drives
 -- ---- a call
 
 -- the attempts so far, and one more
-pub tries_so : (aim : Aim) (old mid new : Option (List Moment)) (v before w : Option (List Sight)) (count : ℕ) (connected : Bool) (r : Result (Option DonePoll) FieldFault)
-    → Tried aim old v count connected mid before → Attempts connected aim mid new before w r → Tries aim old new v w r
-tries_so aim old mid new v before w count connected r tried attempt = record { count = count; connected = connected; mid = mid; before = before; tried = tried; attempt = attempt }
+pub tries_so : (aim : Aim) (old mid new : Option (List Moment)) (v before w : Watch) (count : ℕ) (connected : Bool) (r : Result (Option DonePoll) FieldFault)
+    → count ≤ aim.retries → Tried aim old v count connected mid before → Attempts connected aim mid new before w r → Tries aim old new v w r
+tries_so aim old mid new v before w count connected r within tried attempt = record { count = count; within = within; connected = connected; mid = mid; before = before; tried = tried; attempt = attempt }
 
-pub has_called : (aim : Aim) (old new : Option (List Moment)) (v w : Option (List Sight)) (found : Option DonePoll)
+-- and after it another is made
+pub retried : (aim : Aim) (old mid new : Option (List Moment)) (v before w : Watch) (count : ℕ) (connected next : Bool) (fault : FieldFault)
+    → count < aim.retries → Tried aim old v count connected mid before → Attempts connected aim mid new before w (Err fault) → next_line (outlasts aim.way) fault ≡ Some next → IsRetried aim old new v w fault
+retried aim old mid new v before w count connected next fault left tried attempt may =
+    record { next = next; tries = record { count = count; within = omega (arith, left); connected = connected; mid = mid; before = before; tried = tried; attempt = attempt }; may = may; left = left }
+
+-- the last one, of which the fault is returned
+pub last_tried : (aim : Aim) (old mid new : Option (List Moment)) (v before w : Watch) (count : ℕ) (connected : Bool) (r : Result (Option DonePoll) FieldFault)
+    → count ≡ aim.retries → Tried aim old v count connected mid before → Attempts connected aim mid new before w r → Calls aim old new v w r
+last_tried aim old mid new v before w count connected (Ok (Some done)) all tried attempt = tries_so aim old mid new v before w count connected (Ok (Some done)) (omega (arith, all)) tried attempt
+last_tried aim old mid new v before w count connected (Ok None) all tried attempt = Slow (tries_so aim old mid new v before w count connected (Ok None) (omega (arith, all)) tried attempt)
+last_tried aim old mid new v before w count connected (Err fault) all tried attempt = Fails (record { count = count; within = omega (arith, all); connected = connected; mid = mid; before = before; tried = tried; attempt = attempt }) (inr all)
+
+pub has_called : (aim : Aim) (old new : Option (List Moment)) (v w : Watch) (found : Option DonePoll)
     → Tries aim old new v w (Ok found) → Calls aim old new v w (Ok found)
 has_called aim old new v w (Some done) tries = tries
 has_called aim old new v w None tries = Slow tries
 
 -- at the deadline
-pub gave_up : (aim : Aim) (old new : Option (List Moment)) (v mid w : Option (List Sight)) (fault : FieldFault) (next : Bool) (r : Result (Option DonePoll) FieldFault)
-    → Tries aim old new v mid (Err fault) → next_line (outlasts aim.way) fault ≡ Some next → Waits aim.address aim.seconds mid w (Ok None) → GivesUp fault r → Calls aim old new v w r
-gave_up aim old new v mid w (System place error) next r tries is waits gives =
-    subst (λ (given : Result (Option DonePoll) FieldFault). Calls aim old new v w given) (sym gives) (Refused next mid tries is refl waits)
-gave_up aim old new v mid w Secret next r tries is waits gives =
-    subst (λ (given : Result (Option DonePoll) FieldFault). Calls aim old new v w given) (sym gives) (Over Secret next mid tries is refl waits)
-gave_up aim old new v mid w (Late place deadline) next r tries is waits gives =
-    subst (λ (given : Result (Option DonePoll) FieldFault). Calls aim old new v w given) (sym gives) (Over (Late place deadline) next mid tries is refl waits)
-gave_up aim old new v mid w (Clock place why) next r tries is waits gives =
-    subst (λ (given : Result (Option DonePoll) FieldFault). Calls aim old new v w given) (sym gives) (Over (Clock place why) next mid tries is refl waits)
-gave_up aim old new v mid w (Stranger place one) next r tries is waits gives =
-    subst (λ (given : Result (Option DonePoll) FieldFault). Calls aim old new v w given) (sym gives) (Over (Stranger place one) next mid tries is refl waits)
-gave_up aim old new v mid w (Unasked place why) next r tries is waits gives =
-    subst (λ (given : Result (Option DonePoll) FieldFault). Calls aim old new v w given) (sym gives) (Over (Unasked place why) next mid tries is refl waits)
-gave_up aim old new v mid w (Other why) next r tries is waits gives =
-    subst (λ (given : Result (Option DonePoll) FieldFault). Calls aim old new v w given) (sym gives) (Over (Other why) next mid tries is refl waits)
+pub gave_up : (aim : Aim) (old new : Option (List Moment)) (v mid w : Watch) (fault : FieldFault) (r : Result (Option DonePoll) FieldFault)
+    → IsRetried aim old new v mid fault → Waits aim.address aim.seconds mid.seen w.seen (Ok None) → AsksNoGuard mid w → GivesUp fault r → Calls aim old new v w r
+gave_up aim old new v mid w (System place error) r again waits idle gives =
+    subst (λ (given : Result (Option DonePoll) FieldFault). Calls aim old new v w given) (sym gives) (Refused mid again refl waits idle)
+gave_up aim old new v mid w Secret r again waits idle gives =
+    subst (λ (given : Result (Option DonePoll) FieldFault). Calls aim old new v w given) (sym gives) (Over Secret mid again refl waits idle)
+gave_up aim old new v mid w (Late place deadline) r again waits idle gives =
+    subst (λ (given : Result (Option DonePoll) FieldFault). Calls aim old new v w given) (sym gives) (Over (Late place deadline) mid again refl waits idle)
+gave_up aim old new v mid w (Clock place why) r again waits idle gives =
+    subst (λ (given : Result (Option DonePoll) FieldFault). Calls aim old new v w given) (sym gives) (Over (Clock place why) mid again refl waits idle)
+gave_up aim old new v mid w (Stranger place one) r again waits idle gives =
+    subst (λ (given : Result (Option DonePoll) FieldFault). Calls aim old new v w given) (sym gives) (Over (Stranger place one) mid again refl waits idle)
+gave_up aim old new v mid w (Unasked place why) r again waits idle gives =
+    subst (λ (given : Result (Option DonePoll) FieldFault). Calls aim old new v w given) (sym gives) (Over (Unasked place why) mid again refl waits idle)
+gave_up aim old new v mid w (Other why) r again waits idle gives =
+    subst (λ (given : Result (Option DonePoll) FieldFault). Calls aim old new v w given) (sym gives) (Over (Other why) mid again refl waits idle)
 
 -- what is returned then is no poll
 pub gives_none : (P : DonePoll → Type 0) (fault : FieldFault) (r : Result (Option DonePoll) FieldFault) → GivesUp fault r → IfOk r (λ found. IfSome found P)

@@ -1,5 +1,5 @@
 -- A poll over a line, until a deadline.
-use Rattle.std.specs.Prelude.{◌≡◌, ◌⊎◌, ◌+◌, if◌then◌else◌, ℕ, Bool, true, false, List, [], ◌∷◌, ◌++◌, Option, Some, None, Result, Ok, Err}
+use Rattle.std.specs.Prelude.{◌≡◌, ◌⊎◌, ◌+◌, ◌<◌, ◌≤◌, if◌then◌else◌, ℕ, Bool, true, false, List, [], ◌∷◌, ◌++◌, Option, Some, None, Result, Ok, Err}
 use Rattle.std.specs.IoError.{error_kind}
 use Rattle.std.specs.declared.io.Error.{Error}
 use Rattle.std.specs.declared.io.ErrorKind.{ErrorKind}
@@ -17,12 +17,12 @@ use Rattle.dlms_ends.specs.declared.fault.RunFault.{RunFault}
 use Rattle.dlms_ends.specs.declared.fault.RunFault.TheVariants.{Io, Poll}
 use Rattle.dlms_polling.specs.Clocks.{Refuses}
 use Rattle.dlms_polling.specs.Doing.{Does}
+use Rattle.dlms_polling.specs.Guards.{AsksNoGuard, Watch}
 use Rattle.dlms_polling.specs.Ways.{Way, asker_of, outlasts, rows_of}
 use Rattle.dlms_lines.specs.Deadline.{IsOver}
 use Rattle.dlms_lines.specs.Faults.{IsClockAt, IsLateAt, IsOther, IsSystemAt}
 use Rattle.dlms_lines.specs.Watching.{Sight, Sees}
 use Rattle.dlms_lines.specs.Watching.Sight.{Pauses, Second, Starts}
-use Rattle.dlms_polling.specs.declared.calling.TheConstants.{ATTEMPTS}
 use Rattle.dlms_lines.specs.declared.fault.ClockFault.{ClockFault}
 use Rattle.dlms_polling.specs.declared.clocks.Limit.{Limit}
 use Rattle.dlms_lines.specs.declared.fault.FieldFault.{FieldFault}
@@ -32,11 +32,12 @@ use Rattle.dlms_polling.specs.declared.way.DonePoll.{DonePoll}
 
 -- ---- what a poll aims at
 
--- The meter at this address is polled within this many seconds: first these texts are asked for, by this client, and then it is
+-- The meter at this address is polled within this many seconds, and called again this many times at most: first these texts are asked for, by this client, and then it is
 -- polled in this way.
 pub record Aim : Type 0 where
   pub address : List ℕ
   pub seconds : ℕ
+  pub retries : ℕ
   pub asker : PlanOfClient
   pub expected : List Expected
   pub way : Way
@@ -45,6 +46,7 @@ abbrev pub aim_of : PollingOf → Way → Aim
 aim_of polling way = record {
   address = polling.address.now;
   seconds = polling.deadline;
+  retries = polling.retries;
   asker = asker_of way;
   expected = polling.expected.now;
   way = way;
@@ -137,16 +139,17 @@ Prepares false aim old new seen seen' (Err fault) = KnowsNoMore aim old new seen
 
 -- ---- one attempt
 
--- The line is reached, each expected text is shown, and the outcome of a poll over the line is this.
+-- The line is reached, each expected text is shown, and the outcome of a poll over the line is this: with the guard that was given
+-- for it, if its way asks for protection.
 pub record Drives (connected : Bool) (aim : Aim) (old new : Option (List Moment))
-    (seen seen' : Option (List Sight)) (result : Result (Option DonePoll) RunFault)
+    (seen seen' : Watch) (result : Result (Option DonePoll) RunFault)
     : Type 0 where
   pub mid : Option (List Moment)
   pub known : Option (List Moment)
   pub ready : Option (List Sight)
   pub reaches : Reaches connected aim.address old mid (Ok true)
-  pub prepares : Prepares (outlasts aim.way) aim mid known seen ready (Ok true)
-  pub does : Does aim.seconds known new ready seen' aim.way result
+  pub prepares : Prepares (outlasts aim.way) aim mid known seen.seen ready (Ok true)
+  pub does : Does aim.seconds known new ready seen'.seen seen.given seen'.given aim.way result
 
 -- the fault of a poll that failed with this one: the same, or the system's if the line failed
 abbrev pub IsOfCall : List ℕ → RunFault → FieldFault → Type 0
@@ -160,31 +163,31 @@ IsOfCall address fault (Other given) = given ≡ fault
 
 -- it was not connected in time, first or again, or the poll was not done in time
 pub data IsSlow (connected : Bool) (aim : Aim) (old new : Option (List Moment))
-    (seen seen' : Option (List Sight)) : Type 0 where
+    (seen seen' : Watch) : Type 0 where
   Connecting : Reaches connected aim.address old new (Ok false) → seen' ≡ seen
       → IsSlow connected aim old new seen seen'
   Preparing : (mid : Option (List Moment)) → Reaches connected aim.address old mid (Ok true)
-      → Prepares (outlasts aim.way) aim mid new seen seen' (Ok false)
-      → IsSlow connected aim old new seen seen'
+      → Prepares (outlasts aim.way) aim mid new seen.seen seen'.seen (Ok false)
+      → AsksNoGuard seen seen' → IsSlow connected aim old new seen seen'
   Polling : Drives connected aim old new seen seen' (Ok None)
       → IsSlow connected aim old new seen seen'
 
 -- the connection failed; or a text was not shown, or not asked for, or the connection after it failed; or the poll failed
 pub data FailsOnce (connected : Bool) (aim : Aim) (old new : Option (List Moment))
-    (seen seen' : Option (List Sight)) (fault : FieldFault) : Type 0 where
+    (seen seen' : Watch) (fault : FieldFault) : Type 0 where
   NoLine : (error : Error) → IsSystemAt aim.address error fault
       → Reaches connected aim.address old new (Err error) → seen' ≡ seen
       → FailsOnce connected aim old new seen seen' fault
   NotKnown : (mid : Option (List Moment)) → Reaches connected aim.address old mid (Ok true)
-      → Prepares (outlasts aim.way) aim mid new seen seen' (Err fault)
-      → FailsOnce connected aim old new seen seen' fault
+      → Prepares (outlasts aim.way) aim mid new seen.seen seen'.seen (Err fault)
+      → AsksNoGuard seen seen' → FailsOnce connected aim old new seen seen' fault
   LineFails : (why : RunFault) → IsOfCall aim.address why fault
       → Drives connected aim old new seen seen' (Err why)
       → FailsOnce connected aim old new seen seen' fault
 
 -- The poll is done; or the seconds are over; or it failed.
-abbrev pub Attempts : Bool → Aim → Option (List Moment) → Option (List Moment) → Option (List Sight)
-    → Option (List Sight) → Result (Option DonePoll) FieldFault → Type 0
+abbrev pub Attempts : Bool → Aim → Option (List Moment) → Option (List Moment) → Watch → Watch
+    → Result (Option DonePoll) FieldFault → Type 0
 Attempts connected aim old new seen seen' (Ok (Some done)) =
     Drives connected aim old new seen seen' (Ok (Some done))
 Attempts connected aim old new seen seen' (Ok None) = IsSlow connected aim old new seen seen'
@@ -223,33 +226,34 @@ Waits address seconds seen seen' (Err fault) = (error : Error)
 
 -- The steady clock has begun anew, and this many attempts failed, after each of which another one is made; whether the line is
 -- connected.
-pub data Tried (aim : Aim) (old : Option (List Moment)) (seen : Option (List Sight)) : ℕ → Bool
-    → Option (List Moment) → Option (List Sight) → Type 0 where
-  Begun : (now : Option (List Sight)) → Sees seen now (Starts None ∷ [])
+pub data Tried (aim : Aim) (old : Option (List Moment)) (seen : Watch) : ℕ → Bool
+    → Option (List Moment) → Watch → Type 0 where
+  Begun : (now : Watch) → Sees seen.seen now.seen (Starts None ∷ []) → AsksNoGuard seen now
       → Tried aim old seen 0 false old now
   Again : (count : ℕ) (connected next : Bool) (mid new : Option (List Moment))
-      (before after now : Option (List Sight)) (fault : FieldFault) (time : ℕ)
+      (before after now : Watch) (fault : FieldFault) (time : ℕ)
       → Tried aim old seen count connected mid before
       → Attempts connected aim mid new before after (Err fault)
       → next_line (outlasts aim.way) fault ≡ Some next
-      → Waits aim.address aim.seconds after now (Ok (Some time))
-      → Tried aim old seen (count + 1) next new now
+      → Waits aim.address aim.seconds after.seen now.seen (Ok (Some time))
+      → AsksNoGuard after now → Tried aim old seen (count + 1) next new now
 
--- so it was, and then an attempt came to this
-pub record Tries (aim : Aim) (old new : Option (List Moment)) (seen seen' : Option (List Sight))
+-- so it was, and then an attempt, of those that may be made, came to this
+pub record Tries (aim : Aim) (old new : Option (List Moment)) (seen seen' : Watch)
     (result : Result (Option DonePoll) FieldFault) : Type 0 where
   pub count : ℕ
+  pub within : count ≤ aim.retries
   pub connected : Bool
   pub mid : Option (List Moment)
-  pub before : Option (List Sight)
+  pub before : Watch
   pub tried : Tried aim old seen count connected mid before
   pub attempt : Attempts connected aim mid new before seen' result
 
 -- ---- a call
 
 -- the attempts led to this poll, which is done
-abbrev pub HasDone : Aim → Option (List Moment) → Option (List Moment) → Option (List Sight)
-    → Option (List Sight) → DonePoll → Type 0
+abbrev pub HasDone : Aim → Option (List Moment) → Option (List Moment) → Watch → Watch → DonePoll
+    → Type 0
 HasDone aim old new seen seen' done = Tries aim old new seen seen' (Ok (Some done))
 
 -- at the deadline the fault of the last attempt is returned if the system has words for it
@@ -257,38 +261,43 @@ abbrev pub GivesUp : FieldFault → Result (Option DonePoll) FieldFault → Type
 GivesUp (System place error) result = result ≡ Err (System place error)
 GivesUp _ result = result ≡ Ok None
 
+-- an attempt failed with this fault, and another one is made
+pub record IsRetried (aim : Aim) (old new : Option (List Moment)) (seen seen' : Watch)
+    (fault : FieldFault) : Type 0 where
+  pub next : Bool
+  pub tries : Tries aim old new seen seen' (Err fault)
+  pub may : next_line (outlasts aim.way) fault ≡ Some next
+  pub left : tries.count < aim.retries
+
 -- the deadline was over in an attempt, or after one
-pub data IsTooLate (aim : Aim) (old new : Option (List Moment)) (seen seen' : Option (List Sight))
+pub data IsTooLate (aim : Aim) (old new : Option (List Moment)) (seen seen' : Watch)
     : Type 0 where
   Slow : Tries aim old new seen seen' (Ok None) → IsTooLate aim old new seen seen'
-  Over : (fault : FieldFault) (next : Bool) (mid : Option (List Sight))
-      → Tries aim old new seen mid (Err fault) → next_line (outlasts aim.way) fault ≡ Some next
+  Over : (fault : FieldFault) (mid : Watch) → IsRetried aim old new seen mid fault
       → GivesUp fault (Ok None)
-      → Waits aim.address aim.seconds mid seen' (Ok None) → IsTooLate aim old new seen seen'
+      → Waits aim.address aim.seconds mid.seen seen'.seen (Ok None) → AsksNoGuard mid seen'
+      → IsTooLate aim old new seen seen'
 
--- Why a call fails: the clock does not begin; an attempt fails after which none is made; the deadline is over after a connection
--- that was refused or lost; the clock fails after an attempt; or this many attempts were made.
-pub data FailsToCall (aim : Aim) (old new : Option (List Moment)) (seen seen' : Option (List Sight))
+-- Why a call fails: the clock does not begin; an attempt fails after which none is made, for its fault or as the last one; the deadline
+-- is over after a connection that was refused or lost; or the clock fails after an attempt.
+pub data FailsToCall (aim : Aim) (old new : Option (List Moment)) (seen seen' : Watch)
     (fault : FieldFault) : Type 0 where
   NoClock : (error : Error) → IsSystemAt aim.address error fault
-      → Sees seen seen' (Starts (Some error) ∷ []) → new ≡ old
+      → Sees seen.seen seen'.seen (Starts (Some error) ∷ []) → AsksNoGuard seen seen' → new ≡ old
       → FailsToCall aim old new seen seen' fault
-  Fails : Tries aim old new seen seen' (Err fault) → next_line (outlasts aim.way) fault ≡ None
+  Fails : (tries : Tries aim old new seen seen' (Err fault))
+      → (next_line (outlasts aim.way) fault ≡ None) ⊎ (tries.count ≡ aim.retries)
       → FailsToCall aim old new seen seen' fault
-  Refused : (next : Bool) (mid : Option (List Sight)) → Tries aim old new seen mid (Err fault)
-      → next_line (outlasts aim.way) fault ≡ Some next → GivesUp fault (Err fault)
-      → Waits aim.address aim.seconds mid seen' (Ok None)
+  Refused : (mid : Watch) → IsRetried aim old new seen mid fault
+      → GivesUp fault (Err fault) → Waits aim.address aim.seconds mid.seen seen'.seen (Ok None)
+      → AsksNoGuard mid seen' → FailsToCall aim old new seen seen' fault
+  NoWait : (why : FieldFault) (mid : Watch) → IsRetried aim old new seen mid why
+      → Waits aim.address aim.seconds mid.seen seen'.seen (Err fault) → AsksNoGuard mid seen'
       → FailsToCall aim old new seen seen' fault
-  NoWait : (why : FieldFault) (next : Bool) (mid : Option (List Sight))
-      → Tries aim old new seen mid (Err why) → next_line (outlasts aim.way) why ≡ Some next
-      → Waits aim.address aim.seconds mid seen' (Err fault)
-      → FailsToCall aim old new seen seen' fault
-  TriedOut : (connected : Bool) → Tried aim old seen ATTEMPTS connected new seen'
-      → IsOther fault (Poll poll.Line) → FailsToCall aim old new seen seen' fault
 
 -- The poll is done; or the deadline is over; or it failed.
-abbrev pub Calls : Aim → Option (List Moment) → Option (List Moment) → Option (List Sight)
-    → Option (List Sight) → Result (Option DonePoll) FieldFault → Type 0
+abbrev pub Calls : Aim → Option (List Moment) → Option (List Moment) → Watch → Watch
+    → Result (Option DonePoll) FieldFault → Type 0
 Calls aim old new seen seen' (Ok (Some done)) = HasDone aim old new seen seen' done
 Calls aim old new seen seen' (Ok None) = IsTooLate aim old new seen seen'
 Calls aim old new seen seen' (Err fault) = FailsToCall aim old new seen seen' fault
@@ -296,7 +305,7 @@ Calls aim old new seen seen' (Err fault) = FailsToCall aim old new seen seen' fa
 -- So it is if the clocks of the rows are judged, too: a poll that is not done in time is reported with the deadline, and one whose rows
 -- are refused with the fault of the judgement.
 pub data FailsCalled (aim : Aim) (strict : Bool) (limit : Option Limit)
-    (old new : Option (List Moment)) (seen seen' : Option (List Sight)) (fault : FieldFault)
+    (old new : Option (List Moment)) (seen seen' : Watch) (fault : FieldFault)
     : Type 0 where
   NotCalled : FailsToCall aim old new seen seen' fault
       → FailsCalled aim strict limit old new seen seen' fault

@@ -1,5 +1,5 @@
 -- The readings in the place, when a program polls a meter and files what it read.
-use Rattle.std.specs.Prelude.{◌≡◌, ℕ, List, [], ◌∷◌, ◌++◌, Option, None, Some, Ok}
+use Rattle.std.specs.Prelude.{◌≡◌, ℕ, false, List, [], ◌∷◌, ◌++◌, Option, None, Some, Ok}
 use Rattle.dlms_headend.specs.Asking.{PlanValue}
 use Rattle.dlms_headend.specs.Lines.{IsFile}
 use Rattle.dlms_headend.specs.PollRun.{Call}
@@ -29,7 +29,8 @@ use Rattle.dlms_world.specs.Programs.{Held, Acts, IsFirst}
 use Rattle.dlms_world.specs.Sublists.{IsSublist}
 use Rattle.dlms_polling.specs.Polled.{IsDone, Known, plan_behind, secret_in, way_behind}
 use Rattle.dlms_polling.specs.Doing.{Does}
-use Rattle.dlms_polling.specs.Ways.{Way, Linked, Routed, rows_of}
+use Rattle.dlms_polling.specs.Guards.{Guarding}
+use Rattle.dlms_polling.specs.Ways.{Way, Linked, Routed, Secured, rows_of}
 use Rattle.dlms_polling.specs.declared.way.DonePoll.{DonePoll}
 use Rattle.dlms_polling.specs.declared.way.DonePoll.TheVariants as done
 use Rattle.dlms_lines.specs.Watching.{Sight}
@@ -61,25 +62,27 @@ PlaceHoldsCaptures {P} {A} {ghosts} meter =
 
 -- the calls of the poller in a poll over the link that is done; a poll over a route has none
 abbrev pub calls_in : (seconds : ℕ) (old new : Option (List Moment))
-    (seen seen' : Option (List Sight)) (way : Way) (done : DonePoll)
-    → Does seconds old new seen seen' way (Ok (Some done)) → List Call
-calls_in seconds old new seen seen' (Linked plan) (done.Linked poller) does =
-    (Next does.0.called.frame ∷ calls_of does.0.front) ++ On does.0.frame (Ok step.Done) ∷ []
-calls_in seconds old new seen seen' (Linked plan) (done.Routed end) does = []
-calls_in seconds old new seen seen' (Routed route terms) done does = []
+    (seen seen' : Option (List Sight)) (given given' : Option (List Guarding)) (way : Way)
+    (done : DonePoll)
+    → Does seconds old new seen seen' given given' way (Ok (Some done)) → List Call
+calls_in seconds old new seen seen' given given' (Linked plan) (done.Linked poller) does =
+    (Next does.0.0.called.frame ∷ calls_of does.0.0.front) ++ On does.0.0.frame (Ok step.Done) ∷ []
+calls_in seconds old new seen seen' given given' (Linked plan) (done.Routed end) does = []
+calls_in seconds old new seen seen' given given' (Routed route terms) done does = []
+calls_in seconds old new seen seen' given given' (Secured route terms) done does = []
 
--- The readings already there agreed with the meter; a poll without a route was done and filed; and the calls of its poller and
+-- The readings already there agreed with the meter; a poll in clear without a route was done and filed; and the calls of its poller and
 -- the meter's run were the two ends of one line. Then the readings that it put there agree with the meter, too: each row is a
 -- capture that it holds.
 abbrev pub WhatIsPutAgrees : {P A : Type 0} → {ghosts : Ghosts P} → Meter P A ghosts
     → Meter P A ghosts → Type 0
 WhatIsPutAgrees old new =
-    (polling : Polling) → polling.route ≡ None
+    (polling : Polling) → polling.route ≡ None → polling.is_protected ≡ false
     → (before after : Known) (done : IsDone polling before after)
     (m m' : MeterWorld) (steps : List Step) (run : MeterRun m steps m') → Stands old m
     → Stands new m' → DoAgree m done.rows
     → Joins (plan_behind polling.client (secret_in done.secret) done.rows)
-    (calls_in _ _ _ _ _ (way_behind polling done.secret done.rows) done.done
+    (calls_in _ _ _ _ _ _ _ (way_behind polling done.secret done.rows) done.done
     done.called.attempt.does)
     (turns_of m steps m' run)
     → (text : List ℕ) × (rows : List Row)
@@ -91,12 +94,12 @@ WhatIsPutAgrees old new =
 abbrev pub WhatIsPutIsHeld : {P A : Type 0} → {ghosts : Ghosts P} → Meter P A ghosts
     → Meter P A ghosts → Type 0
 WhatIsPutIsHeld old new =
-    (polling : Polling) → polling.route ≡ None
+    (polling : Polling) → polling.route ≡ None → polling.is_protected ≡ false
     → (before after : Known) (done : IsDone polling before after)
     (m m' : MeterWorld) (steps : List Step) (run : MeterRun m steps m') → Stands old m
     → Stands new m' → Holds m done.rows
     → Joins (plan_behind polling.client (secret_in done.secret) done.rows)
-    (calls_in _ _ _ _ _ (way_behind polling done.secret done.rows) done.done
+    (calls_in _ _ _ _ _ _ _ (way_behind polling done.secret done.rows) done.done
     done.called.attempt.does)
     (turns_of m steps m' run)
     → (text : List ℕ) × (rows : List Row)
@@ -105,14 +108,14 @@ WhatIsPutIsHeld old new =
 
 -- ---- a poll over a route, and the meter at the other end of its carrier
 
--- A poll over a route was done and filed, and its carrier delivered what passed between it and a client's end of a meter, in a life of
+-- A poll over a route, in clear, was done and filed, and its carrier delivered what passed between it and a client's end of a meter, in a life of
 -- the meter since the poll began. If the meter held the rows of the readings before, it holds those that were put there; and the
 -- rows of the poll are those that the meter's buffer had when it took the poll's GET.
 abbrev pub WhatARoutePutsIsHeld : {P A : Type 0} → {ghosts : Ghosts P} → Meter P A ghosts → Type 0
 WhatARoutePutsIsHeld new =
     (polling : Polling) (before after : Known) (is : IsDone polling before after)
     (route : Route) (terms : TermsValue) (end : PollEndValue) → is.done ≡ done.Routed end
-    → (poll : IsPolledOver route terms end)
+    → (poll : IsPolledOver route terms None end)
     (who : Client) (m m' : MeterWorld) (life : Life m m')
     → Delivers (passages (carried_in poll.beside.shares)) (served_to who m m' life)
     → Stands new m' → Holds m is.rows

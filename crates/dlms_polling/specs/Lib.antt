@@ -4,6 +4,7 @@ pub mod FirstBytes
 pub mod Secret
 pub mod Polled
 pub mod Captures
+pub mod Guards
 pub mod Ways
 pub mod Doing
 pub mod Calling

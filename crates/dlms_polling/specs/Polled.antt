@@ -1,9 +1,13 @@
 -- The course of a poll, from the secret to the file.
-use Rattle.std.specs.Prelude.{◌≡◌, ℕ, List, [], ◌∷◌, length, option_map, Option, Some, None, Result, Ok, Err, IsOk, MatchResult}
+use Rattle.std.specs.Prelude.{◌≡◌, ℕ, Bool, true, false, List, [], ◌∷◌, length, option_map, Option, Some, None, Result, Ok, Err, IsOk, MatchResult}
 use Rattle.std.specs.declared.io.Error.{Error}
 use Rattle.dlms_carrier.specs.declared.any.Route.{Route}
+use Rattle.dlms_carrier.specs.declared.any.Route.TheVariants.{Hdlc}
+use Rattle.dlms_frame.specs.Client.{sap_of}
 use Rattle.dlms_frame.specs.declared.client.Client.{Client}
+use Rattle.dlms_frame.specs.declared.frame.Address.TheVariants.{One}
 use Rattle.dlms_headend.specs.Asking.{PlanValue}
+use Rattle.dlms_headend.specs.CarrierPollValue.{TermsValue}
 use Rattle.dlms_headend.specs.Merged.{last_clock}
 use Rattle.dlms_headend.specs.declared.plan.Columns.TheVariants.{Asked as AsksColumns}
 use Rattle.dlms_headend.specs.declared.row.Row.{Row}
@@ -14,10 +18,11 @@ use Rattle.dlms_filing.specs.Printing.{Printed}
 use Rattle.dlms_ends.specs.declared.fault.RunFault.{RunFault}
 use Rattle.dlms_polling.specs.Calling.{FailsCalled, HasDone, aim_of}
 use Rattle.dlms_polling.specs.Clocks.{AreInTime, IsFirstAhead, Takes}
+use Rattle.dlms_polling.specs.Guards.{Guarding, watch}
 use Rattle.dlms_lines.specs.Faults.{IsOther}
 use Rattle.dlms_polling.specs.Keeping.{FilesNone, FilesPolled, HoldsFile, OpensFile}
 use Rattle.dlms_polling.specs.Secret.{FindsNoneSent, FindsSent}
-use Rattle.dlms_polling.specs.Ways.{IsDoneBy, Way, Linked, Routed, rows_of}
+use Rattle.dlms_polling.specs.Ways.{IsDoneBy, Way, Linked, Routed, Secured, rows_of}
 use Rattle.dlms_polling.specs.declared.way.DonePoll.{DonePoll}
 use Rattle.dlms_lines.specs.Watching.{Sight, Sees}
 use Rattle.dlms_lines.specs.Watching.Sight.{Dates}
@@ -40,22 +45,36 @@ abbrev pub secret_in : Option (List ℕ) → List ℕ
 secret_in None = []
 secret_in (Some secret) = secret
 
--- The way of such a poll: over the route, if there is one, and otherwise over this client's link.
-abbrev pub way_by : Option Route → Client → Option (List ℕ) → List Row → Way
-way_by None client secret before = Linked (plan_behind client (secret_in secret) before)
-way_by (Some route) client secret before = Routed route (record {
+-- the terms of a poll over a route, with this secret or with none
+abbrev pub terms_behind : Option (List ℕ) → List Row → TermsValue
+terms_behind secret before = record {
   secret = secret;
   after = last_clock before;
   columns = AsksColumns;
-})
+}
+
+-- the route, or without one that of this client to the meter at address 1
+abbrev pub route_or_link : Option Route → Client → Route
+route_or_link None client = Hdlc (sap_of client) (One 1) None
+route_or_link (Some route) client = route
+
+-- The way of such a poll. In clear it goes over the route, if there is one, and otherwise over this client's link. In a protected
+-- association it goes over a route, and no secret is sent.
+abbrev pub way_by : (is_protected : Bool) → Option Route → Client → Option (List ℕ) → List Row → Way
+way_by true route client secret before =
+    Secured (route_or_link route client) (terms_behind None before)
+way_by false None client secret before = Linked (plan_behind client (secret_in secret) before)
+way_by false (Some route) client secret before = Routed route (terms_behind secret before)
 
 abbrev pub way_behind : Polling → Option (List ℕ) → List Row → Way
-way_behind polling secret before = way_by polling.route polling.client secret before
+way_behind polling secret before =
+    way_by polling.is_protected polling.route polling.client secret before
 
--- the known questions of a head end: to the world, to the place of its readings, to its line, and the texts that it prints and
--- reports as errors
+-- the known questions of a head end: to the world, to what gives its guards, to the place of its readings, to its line, and the texts
+-- that it prints and reports as errors
 pub record Known : Type 0 where
   pub seen : Option (List Sight)
+  pub given : Option (List Guarding)
   pub asked : Option (List PlaceCall)
   pub past : Option (List Moment)
   pub printed : Printed
@@ -152,7 +171,8 @@ pub data IsUnready (polling : Polling) (seen seen' : Option (List Sight))
 -- ---- the whole of it
 
 -- It was ready; over the line each expected text was shown, and then a poll was done over the route or by this client, from the
--- second of the last row in the file on, with rows that are accepted; and they are filed.
+-- second of the last row in the file on, with rows that are accepted; and they are filed. A protected poll was done with the guard
+-- that was given for it, and what that accepted was kept.
 pub record IsDone (polling : Polling) (before after : Known) : Type 0 where
   pub secret : Option (List ℕ)
   pub rows : List Row
@@ -161,8 +181,8 @@ pub record IsDone (polling : Polling) (before after : Known) : Type 0 where
   pub asked : Option (List PlaceCall)
   pub ready : IsReady polling before.seen seen before.asked asked secret rows limit
   pub done : DonePoll
-  pub called : HasDone (aim_of polling (way_behind polling secret rows)) before.past after.past seen
-      after.seen done
+  pub called : HasDone (aim_of polling (way_behind polling secret rows)) before.past after.past
+      (watch seen before.given) (watch after.seen after.given) done
   pub takes : Takes polling.strict limit (rows_of done)
   pub polled : IsDoneBy (way_behind polling secret rows) done
   pub files : FilesPolled asked after.asked before.printed after.printed before.errors after.errors
@@ -175,20 +195,21 @@ PrintsNone before after = (after.printed ≡ before.printed) × (after.errors �
 -- Why it fails: it was not ready; the call failed, or its rows are not taken; or they were not filed.
 pub data PollFails (polling : Polling) (before after : Known) (fault : FieldFault) : Type 0 where
   NotReady : IsUnready polling before.seen after.seen before.asked after.asked fault
-      → after.past ≡ before.past → PrintsNone before after → PollFails polling before after fault
+      → after.past ≡ before.past → after.given ≡ before.given → PrintsNone before after
+      → PollFails polling before after fault
   NotCalled : (secret : Option (List ℕ)) (rows : List Row) (limit : Option Limit)
       (seen : Option (List Sight))
       → IsReady polling before.seen seen before.asked after.asked secret rows limit
       → FailsCalled (aim_of polling (way_behind polling secret rows)) polling.strict limit
-      before.past after.past seen after.seen fault
+      before.past after.past (watch seen before.given) (watch after.seen after.given) fault
       → PrintsNone before after
       → PollFails polling before after fault
   NotFiled : (secret : Option (List ℕ)) (rows : List Row) (limit : Option Limit)
       (seen : Option (List Sight)) (asked : Option (List PlaceCall))
       → IsReady polling before.seen seen before.asked asked secret rows limit
       → (done : DonePoll)
-      → HasDone (aim_of polling (way_behind polling secret rows)) before.past after.past seen
-      after.seen done
+      → HasDone (aim_of polling (way_behind polling secret rows)) before.past after.past
+      (watch seen before.given) (watch after.seen after.given) done
       → Takes polling.strict limit (rows_of done)
       → FilesNone (readings_of polling) asked after.asked before.printed after.printed before.errors
       after.errors rows (rows_of done) fault

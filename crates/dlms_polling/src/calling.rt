@@ -7,12 +7,14 @@ ghost use Rattle.dlms_headend.specs.Polling.{fresh_poll};
 ghost use Rattle.dlms_ends.specs.BothEnds.{IsDonePoll};
 ghost use Rattle.dlms_polling.specs.Calling.{Attempts, Calls, GivesUp, IsOfCall, IsUnaskedAt, Knows, Prepares, Reaches, Renews, Waits, aim_of, is_lost, next_line};
 ghost use Rattle.dlms_polling.specs.Doing.{Does, DoesLinked};
+ghost use Rattle.dlms_polling.specs.Guards.{watch};
 ghost use Rattle.dlms_polling.specs.Ways.{IsDoneBy, IsWay, outlasts, way_of};
 ghost use Rattle.dlms_lines.specs.Deadline.{IsOver};
 
+use crate::guards::Guards;
 use crate::poll_inputs::PollInputs;
 use crate::polling::Polling;
-use crate::routed::poll_over;
+use crate::routed::{poll_in_clear, poll_secured};
 use crate::way::{DonePoll, Way, again, fresh};
 use dlms_call::CallFault;
 use dlms_client::Fault;
@@ -24,8 +26,8 @@ use std::alloc::Global;
 use std::io::ErrorKind;
 use std::{io, slice};
 
-/// The most attempts of a poll. Each is followed by a pause of a second, and no deadline is that long.
-pub const ATTEMPTS: u32 = 131_072;
+/// The number of retries of a poll that does not bound them: each follows a pause of a second, and no deadline is that long.
+pub const MOST_RETRIES: u32 = 131_071;
 
 /// Whether a poll that may take this many seconds has to end at this one.
 pub fn has_to_end(seconds: u32, time: u64) -> bool
@@ -63,16 +65,17 @@ fn poll_within<T: Timer, S: End>(
 }
 
 /// Does a poll in this way over a connected line; `None` if the deadline, this many seconds, is over.
-fn poll_by<T: Timer, S: End>(
+fn poll_by<T: Timer, S: End, G: Guards>(
     alloc: Global,
     line: &mut S,
     timer: &mut T,
+    guards: &mut G,
     seconds: u32,
     way: &Way,
 ) -> Result<Option<DonePoll>, RunFault>
     requires { IsWay (way_of way.now) }
     ensures does { Does seconds (S.past line.old) (S.past line.new) (T.seen timer.old)
-        (T.seen timer.new) (way_of way.now) result }
+        (T.seen timer.new) (G.given guards.old) (G.given guards.new) (way_of way.now) result }
     ensures done { IfOk result (λ done. IfSome done (IsDoneBy (way_of way.now))) }
 {
     match way {
@@ -82,7 +85,14 @@ fn poll_by<T: Timer, S: End>(
             Err(fault) => Err(fault),
         },
         Way::Routed(route, terms) => {
-            match poll_over(alloc, line, timer, seconds, *route, again(terms)) {
+            match poll_in_clear(alloc, line, timer, seconds, *route, again(terms)) {
+                Ok(Some(end)) => Ok(Some(DonePoll::Routed(end))),
+                Ok(None) => Ok(None),
+                Err(fault) => Err(fault),
+            }
+        }
+        Way::Secured(route, terms) => {
+            match poll_secured(alloc, line, timer, guards, seconds, *route, again(terms)) {
                 Ok(Some(end)) => Ok(Some(DonePoll::Routed(end))),
                 Ok(None) => Ok(None),
                 Err(fault) => Err(fault),
@@ -224,9 +234,10 @@ fn prepare<'a, D: PollInputs, L: Dialling>(
 }
 
 /// One attempt: the line is connected, within the seconds that are left, the expected texts are asked for, and the poll is done over it.
-fn attempt<'a, D: PollInputs, L: Dialling>(
+fn attempt<'a, D: PollInputs, L: Dialling, G: Guards>(
     alloc: Global,
     inputs: &mut D,
+    guards: &mut G,
     line: &mut L,
     polling: &Polling<'a, '_>,
     way: &Way,
@@ -235,7 +246,8 @@ fn attempt<'a, D: PollInputs, L: Dialling>(
 ) -> Result<Option<DonePoll>, FieldFault<'a>>
     requires { IsWay (way_of way.now) }
     ensures attempts { Attempts connected (aim_of polling.now (way_of way.now)) (L.past line.old)
-        (L.past line.new) (D.seen inputs.old) (D.seen inputs.new) result }
+        (L.past line.new) (watch (D.seen inputs.old) (G.given guards.old))
+        (watch (D.seen inputs.new) (G.given guards.new)) result }
     ensures done { IfOk result (λ done. IfSome done (IsDoneBy (way_of way.now))) }
 {
     match reach(line, polling.address, left, connected) {
@@ -248,7 +260,7 @@ fn attempt<'a, D: PollInputs, L: Dialling>(
         Ok(false) => return Ok(None),
         Err(fault) => return Err(fault),
     }
-    match poll_by(alloc, line, inputs, polling.deadline, way) {
+    match poll_by(alloc, line, inputs, guards, polling.deadline, way) {
         Ok(done) => Ok(done),
         Err(fault) => Err(line_fault(polling.address, fault, line.failure())),
     }
@@ -315,18 +327,21 @@ fn outcome_at_deadline<'a>(fault: FieldFault<'a>) -> Result<Option<DonePoll>, Fi
 
 /// Calls a meter, and polls it in this way, once it has shown the expected texts. Returns the poll that is done, with its rows, and none
 /// if the seconds are over before. A connection that is refused or lost is made again, and a meter that does not answer is asked again, a
-/// second later, until then: over the same connection, but over the wrapper over a new one. If the line failed, the fault has the
-/// system's error.
-pub fn call<'a, D: PollInputs, L: Dialling>(
+/// second later, until then: over the same connection, but over the wrapper over a new one. After this number of retries the fault of
+/// the last attempt is returned. If the line failed, the fault has the system's error. A way that asks for protection has a new guard in
+/// each attempt.
+pub fn call<'a, D: PollInputs, L: Dialling, G: Guards>(
     alloc: Global,
     inputs: &mut D,
+    guards: &mut G,
     line: &mut L,
     polling: &Polling<'a, '_>,
     way: &Way,
 ) -> Result<Option<DonePoll>, FieldFault<'a>>
     requires { IsWay (way_of way.now) }
     ensures calls { Calls (aim_of polling.now (way_of way.now)) (L.past line.old)
-        (L.past line.new) (D.seen inputs.old) (D.seen inputs.new) result }
+        (L.past line.new) (watch (D.seen inputs.old) (G.given guards.old))
+        (watch (D.seen inputs.new) (G.given guards.new)) result }
     ensures done { IfOk result (λ done. IfSome done (IsDoneBy (way_of way.now))) }
 {
     match inputs.start() {
@@ -335,8 +350,8 @@ pub fn call<'a, D: PollInputs, L: Dialling>(
     }
     let mut connected = false;
     let mut left = polling.deadline;
-    'attempts: for _attempt in 0..ATTEMPTS {
-        let fault = match attempt(alloc, inputs, line, polling, way, left, connected) {
+    'attempts: for _attempt in 0..polling.retries {
+        let fault = match attempt(alloc, inputs, guards, line, polling, way, left, connected) {
             Ok(found) => return Ok(found),
             Err(fault) => fault,
         };
@@ -350,5 +365,5 @@ pub fn call<'a, D: PollInputs, L: Dialling>(
         }
         connected = next;
     }
-    Err(FieldFault::Other(RunFault::Poll(PollFault::Line)))
+    attempt(alloc, inputs, guards, line, polling, way, left, connected)
 }

@@ -1,7 +1,7 @@
 //! What holds for the readings filed from a meter.
 
 ghost use Rattle.std.specs.Prelude.{◌≡◌, ◌+◌};
-ghost use Rattle.dlms_polling.specs.declared.calling.TheConstants.{ATTEMPTS};
+ghost use Rattle.dlms_polling.specs.declared.calling.TheConstants.{MOST_RETRIES};
 ghost use Rattle.dlms_polling.specs.declared.clocks.TheConstants.{YEAR_2000};
 ghost use Rattle.dlms_polling.specs.declared.routed.TheConstants.{READS};
 ghost use Rattle.dlms_polling.specs.declared.secret.TheConstants.{MOST_READ};
@@ -13,6 +13,7 @@ ghost use Rattle.dlms_state.specs.declared.event.TheConstants.{MOST_SECRET};
 use dlms_carrier::AnyCarrier;
 use dlms_meter::Meter;
 use dlms_pages::Pages;
+use dlms_secured::Secured;
 use dlms_world::laws::{
     a_meter_holds_a_file, a_poll_over_a_carrier, a_poll_over_a_line, programs_are_runs,
 };
@@ -47,14 +48,14 @@ pub fn what_is_put_agrees<P: Pages, A: Allocator + Copy>(old: &Meter<P, A>, new:
 pub fn what_a_route_puts_is_held<P: Pages, A: Allocator + Copy>(meter: &Meter<P, A>)
     ensures { WhatARoutePutsIsHeld meter.now }
 {
-    a_poll_over_a_carrier::<AnyCarrier<A>, P, A>(meter);
+    a_poll_over_a_carrier::<Secured<AnyCarrier<A>>, P, A>(meter);
 }
 
 /// The numbers that clauses cite by name: the seconds from 1970 to 2000; the octets of the longest secret, and those that are read of
-/// a file; the most attempts of a call, and the most reads of a poll over a route; the octets of an APDU that asks for a text.
+/// a file; the retries of a call that does not bound them, and the most reads of a poll over a route; the octets of an APDU that asks for a text.
 pub fn the_numbers()
     ensures year { YEAR_2000 ≡ 946684800 }
     ensures secret { (MOST_SECRET ≡ 16) × (MOST_READ ≡ MOST_SECRET + 2) }
-    ensures calls { (ATTEMPTS ≡ 131072) × (READS ≡ 16777216) }
+    ensures calls { (MOST_RETRIES ≡ 131071) × (READS ≡ 16777216) }
     ensures texts { SIZE ≡ 1024 }
 {}

@@ -3,6 +3,7 @@
 
 mod calling;
 mod clocks;
+mod guards;
 mod keeping;
 pub mod laws;
 mod poll_inputs;
@@ -12,6 +13,8 @@ mod routed;
 mod secret;
 mod way;
 
+pub use calling::MOST_RETRIES;
+pub use guards::{Accepted, Guards, NoGuards};
 pub use poll_inputs::{HostPollInputs, PollInputs, SteadyPollInputs};
 pub use polling::{PollSetup, Polling, poll};
 pub use secret::{MOST_READ, secret_of};

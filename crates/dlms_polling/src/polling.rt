@@ -4,11 +4,13 @@ ghost use Rattle.std.specs.Prelude.{◌≡◌, IfErr, IfOk, IfSome, option_map};
 ghost use Rattle.dlms_carrier.specs.Any.{IsRoute};
 ghost use Rattle.dlms_polling.specs.Calling.{FailsCalled, HasDone, aim_of};
 ghost use Rattle.dlms_polling.specs.Clocks.{Takes};
-ghost use Rattle.dlms_polling.specs.Polled.{IsReady, IsUnready, JudgesFiled, Known, Limits, Polls, secret_in, way_behind};
+ghost use Rattle.dlms_polling.specs.Guards.{watch};
+ghost use Rattle.dlms_polling.specs.Polled.{IsReady, IsUnready, JudgesFiled, Known, Limits, Polls, route_or_link, secret_in, way_behind};
 ghost use Rattle.dlms_polling.specs.Ways.{IsDoneBy, IsWay, rows_of, way_of};
 
 use crate::calling::call;
 use crate::clocks::{Limit, first_ahead, judge};
+use crate::guards::Guards;
 use crate::keeping::{file_readings, hold_file, open_readings};
 use crate::poll_inputs::{HostPollInputs, PollInputs};
 use crate::secret::secret_to_send;
@@ -17,7 +19,7 @@ use arrayvec::ArrayVec;
 use dlms_client::Route;
 use dlms_ends::RunFault;
 use dlms_filing::{FilePlace, Holding, HostDisk, Output};
-use dlms_frame::Client;
+use dlms_frame::{Address, Client};
 use dlms_headend::{Columns, Plan, PollTerms, Readings, Row};
 use dlms_identity::Expected;
 use dlms_lines::{ClockFault, Dialling, FieldFault, MeterLine};
@@ -42,31 +44,41 @@ pub struct Polling<'a, 'e> {
     pub client: Client,
     /// For how many seconds the meter is talked to at most.
     pub deadline: u32,
+    /// How many times a meter is called again that does not answer, or whose connection is refused or lost; `MOST_RETRIES` leaves the
+    /// deadline as the only bound.
+    pub retries: u32,
     /// By how many seconds a row's clock may be past the system's; without it, by any.
     pub ahead: Option<u32>,
     /// Whether an answer is refused if one of its rows is not later than the row before it. Otherwise such rows are left out.
     pub strict: bool,
-    /// The texts that the meter must show before it is polled.
+    /// The texts that the meter must show before it is polled. They are asked for in clear.
     pub expected: &'e [Expected<'a>],
+    /// Whether each association is protected, with the guards of the setup. Then no secret is sent, and without a route the poll goes by
+    /// that of its client to the meter at address 1.
+    pub is_protected: bool,
 }
 
-/// The parts of a head end for a poll: its questions to the world, the place of its readings, and its line.
+/// The parts of a head end for a poll: its questions to the world, what gives the guards of its associations, the place of its
+/// readings, and its line.
 #[derive(Drop)]
-pub struct PollSetup<D, F, L> {
+pub struct PollSetup<D, G, F, L> {
     pub inputs: D,
+    pub guards: G,
     pub place: F,
     pub line: L,
 }
 
-impl<'r, R: Net + Files<File = File> + Clock> PollSetup<
+impl<'r, R: Net + Files<File = File> + Clock, G> PollSetup<
     HostPollInputs<'r, R>,
+    G,
     FilePlace<HostDisk<'r, R>>,
     MeterLine<'r, R>,
 > {
-    /// The system's clocks and files, and a line that is not connected yet, which waits for so many seconds for an answer.
-    pub fn of(rt: &'r R, wait: u32) -> Self {
+    /// The system's clocks and files, these guards, and a line that is not connected yet, which waits for so many seconds for an answer.
+    pub fn of(rt: &'r R, wait: u32, guards: G) -> Self {
         PollSetup {
             inputs: HostPollInputs::new(rt),
+            guards,
             place: FilePlace::of(rt),
             line: MeterLine::until(rt).waiting(wait),
         }
@@ -122,8 +134,9 @@ fn prepare_poll<'a, D: PollInputs, F: Holding>(
     place: &mut F,
     polling: &Polling<'a, '_>,
 ) -> Result<Ready, FieldFault<'a>>
-    ensures ready { IfOk result (λ ready. IsReady polling.now (D.seen inputs.old) (D.seen inputs.new)
-        (F.asked place.old) (F.asked place.new) (option_map (λ s. s.items) ready.secret) ready.readings ready.limit) }
+    ensures ready { IfOk result (λ ready. IsReady polling.now (D.seen inputs.old)
+        (D.seen inputs.new) (F.asked place.old) (F.asked place.new)
+        (option_map (λ s. s.items) ready.secret) ready.readings ready.limit) }
     ensures fails { IfErr result (IsUnready polling.now (D.seen inputs.old) (D.seen inputs.new)
         (F.asked place.old) (F.asked place.new)) }
 {
@@ -155,9 +168,10 @@ fn prepare_poll<'a, D: PollInputs, F: Holding>(
 }
 
 /// Polls the meter, and judges the clocks of the rows that came.
-fn call_meter<'a, D: PollInputs, L: Dialling>(
+fn call_meter<'a, D: PollInputs, G: Guards, L: Dialling>(
     alloc: Global,
     inputs: &mut D,
+    guards: &mut G,
     line: &mut L,
     polling: &Polling<'a, '_>,
     way: &Way,
@@ -166,13 +180,15 @@ fn call_meter<'a, D: PollInputs, L: Dialling>(
     requires { IsWay (way_of way.now) }
     ensures fails { IfErr result (FailsCalled
         (aim_of polling.now (way_of way.now)) polling.now.strict limit (L.past line.old)
-        (L.past line.new) (D.seen inputs.old) (D.seen inputs.new)) }
+        (L.past line.new) (watch (D.seen inputs.old) (G.given guards.old))
+        (watch (D.seen inputs.new) (G.given guards.new))) }
     ensures takes { IfOk result (λ done. HasDone (aim_of polling.now (way_of way.now))
-        (L.past line.old) (L.past line.new) (D.seen inputs.old) (D.seen inputs.new) done
+        (L.past line.old) (L.past line.new) (watch (D.seen inputs.old) (G.given guards.old))
+        (watch (D.seen inputs.new) (G.given guards.new)) done
         × Takes polling.now.strict limit (rows_of done)) }
     ensures done { IfOk result (IsDoneBy (way_of way.now)) }
 {
-    let called = call(alloc, inputs, line, polling, way);
+    let called = call(alloc, inputs, guards, line, polling, way);
     let done = match called {
         Ok(Some(done)) => done,
         Ok(None) => return Err(FieldFault::Late(polling.address, polling.deadline)),
@@ -194,7 +210,19 @@ fn or_empty(secret: Option<ArrayVec<u8, 16>>) -> ArrayVec<u8, 16>
     }
 }
 
-/// How the meter is polled from the last of the readings on, with this secret.
+/// The route, or without one that of a client to the meter at address 1.
+fn route_or_link(route: Option<Route>, client: Client) -> Route
+    requires { IfSome route IsRoute }
+    ensures route { result ≡ route_or_link route client }
+    ensures lawful { IsRoute result }
+{
+    match route {
+        Some(route) => route,
+        None => Route::Hdlc(client.sap(), Address::One(1), None),
+    }
+}
+
+/// How the meter is polled from the last of the readings on, with this secret, which no protected association sends.
 fn way_behind(
     polling: &Polling<'_, '_>,
     secret: Option<ArrayVec<u8, 16>>,
@@ -207,6 +235,16 @@ fn way_behind(
 {
     let after = readings.last();
     let columns = Columns::Asked;
+    if polling.is_protected {
+        let route = route_or_link(polling.route, polling.client);
+        let secret = None;
+        let terms = PollTerms {
+            secret,
+            after,
+            columns,
+        };
+        return Way::Secured(route, terms);
+    }
     match polling.route {
         Some(route) => Way::Routed(
             route,
@@ -230,10 +268,11 @@ fn way_behind(
 ///
 /// The secret and the file are read before the meter is called, and no other poll has the file until the end. Each row that is later
 /// than the row filed before it is filed; the number of rows left out is reported on the errors. Rows that are too far past the clock of
-/// the day are refused, and with `strict` also rows that do not rise: nothing is filed then.
-pub fn poll<'a, D: PollInputs, F: Holding, L: Dialling, O: Output, E: Output>(
+/// the day are refused, and with `strict` also rows that do not rise: nothing is filed then. A protected poll has a new guard in each
+/// attempt, and files nothing if its association was not newer than all earlier ones.
+pub fn poll<'a, D: PollInputs, G: Guards, F: Holding, L: Dialling, O: Output, E: Output>(
     alloc: Global,
-    setup: &mut PollSetup<D, F, L>,
+    setup: &mut PollSetup<D, G, F, L>,
     polling: &Polling<'a, '_>,
     output: &mut O,
     errors: &mut E,
@@ -241,6 +280,7 @@ pub fn poll<'a, D: PollInputs, F: Holding, L: Dialling, O: Output, E: Output>(
     requires { IfSome polling.now.route IsRoute }
     ensures { let before : Known = record {
       seen = D.seen setup.old.inputs;
+      given = G.given setup.old.guards;
       asked = F.asked setup.old.place;
       past = L.past setup.old.line;
       printed = O.printed output.old;
@@ -248,6 +288,7 @@ pub fn poll<'a, D: PollInputs, F: Holding, L: Dialling, O: Output, E: Output>(
     } in
         let after : Known = record {
           seen = D.seen setup.new.inputs;
+          given = G.given setup.new.guards;
           asked = F.asked setup.new.place;
           past = L.past setup.new.line;
           printed = O.printed output.new;
@@ -264,6 +305,7 @@ pub fn poll<'a, D: PollInputs, F: Holding, L: Dialling, O: Output, E: Output>(
     let done = match call_meter(
         alloc,
         &mut setup.inputs,
+        &mut setup.guards,
         &mut setup.line,
         polling,
         &way,

@@ -7,6 +7,7 @@ ghost use Rattle.dlms_headend.specs.CarrierPollValue.{terms_of};
 ghost use Rattle.dlms_headend.specs.PollerValue.{plan_of};
 ghost use Rattle.dlms_headend.specs.Polling.{fresh_poll};
 ghost use Rattle.dlms_headend.specs.Rows.{AreReadings};
+ghost use Rattle.dlms_polling.specs.declared.way.TheConstants.{SIZE};
 ghost use Rattle.dlms_polling.specs.Ways.{IsWay, asker_of, outlasts, rows_of, secret_by, way_of};
 
 use arrayvec::ArrayVec;
@@ -25,8 +26,10 @@ const SIZE: u16 = 1_024;
 pub enum Way {
     /// By this project's client, over its HDLC link to the meter at address 1.
     Linked(Plan),
-    /// Over this route, by these terms.
+    /// Over this route, by these terms, in clear.
     Routed(Route, PollTerms),
+    /// Over this route, by these terms, in an association that a guard protects.
+    Secured(Route, PollTerms),
 }
 
 /// A poll that is done.
@@ -106,6 +109,21 @@ pub fn again(terms: &PollTerms) -> PollTerms
     }
 }
 
+/// The plan of a client that asks for texts over this route, with the secret of these terms.
+fn asking_plan(route: Route, terms: &PollTerms) -> dlms_client::Plan
+    ensures { asking_plan result ≡ record {
+      route = route;
+      secret = (terms_of terms.now).secret;
+      size = SIZE;
+    } }
+{
+    dlms_client::Plan {
+        route,
+        secret: copy_of_any(&terms.secret),
+        size: SIZE,
+    }
+}
+
 impl Way {
     /// The plan of a client that asks the same meter for texts.
     pub fn asker(&self) -> dlms_client::Plan
@@ -119,11 +137,8 @@ impl Way {
                 secret: secret_by(plan.client, &plan.secret),
                 size: SIZE,
             },
-            Way::Routed(route, terms) => dlms_client::Plan {
-                route: *route,
-                secret: copy_of_any(&terms.secret),
-                size: SIZE,
-            },
+            Way::Routed(route, terms) => asking_plan(*route, terms),
+            Way::Secured(route, terms) => asking_plan(*route, terms),
         }
     }
 
@@ -134,6 +149,7 @@ impl Way {
         match self {
             Way::Linked(_) => true,
             Way::Routed(route, _) => route.outlasts(),
+            Way::Secured(route, _) => route.outlasts(),
         }
     }
 }

@@ -12,7 +12,7 @@ use dlms_identity::Expected;
 use dlms_lines::{Dialling, FieldFault, Timer};
 use dlms_meter::Meter;
 use dlms_pages::MemoryPages;
-use dlms_polling::{MOST_READ, PollInputs, PollSetup, Polling, poll};
+use dlms_polling::{MOST_READ, NoGuards, PollInputs, PollSetup, Polling, poll};
 use dlms_store::PAGES;
 use std::alloc::Global;
 use std::io;
@@ -292,12 +292,15 @@ fn a_meter_is_polled(rt: HostRuntime) {
             secret_file: Some("secret"),
             client: Client::Management,
             deadline: 600,
+            retries: 2,
             ahead: Some(60),
             strict: false,
             expected: &expected,
+            is_protected: false,
         };
         let mut setup = PollSetup {
             inputs: Table::new(&rt, rt.alloc(), b"12345678\n", fails),
+            guards: NoGuards,
             place: Shelf::new(&rt, rt.alloc(), "", usize::MAX),
             line: Wire::new(&rt, rt.alloc(), is_there),
         };

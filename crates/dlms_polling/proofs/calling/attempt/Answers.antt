@@ -10,7 +10,7 @@ pub returns-in-Err-prepare-clause-attempts : goal.returns-in-Err-prepare-clause-
 returns-in-Err-prepare-clause-attempts g c =
     let reached : Reaches c.args.connected c.args.polling.now.address.now (g.L.End.past c.args.line.now) (g.L.End.past c.reach.new.line) (Ok true) =
     subst (λ (b : Bool). Reaches c.args.connected c.args.polling.now.address.now (g.L.End.past c.args.line.now) (g.L.End.past c.reach.new.line) (Ok b)) c.in-Ok-true.field-0-test c.in-Ok-true.ensures in
-    NotKnown (g.L.End.past c.reach.new.line) reached c.in-Err-prepare.ensures
+    NotKnown (g.L.End.past c.reach.new.line) reached c.in-Err-prepare.ensures refl
 
 pub returns-in-Err-poll_by-clause-attempts : goal.returns-in-Err-poll_by-clause-attempts
 returns-in-Err-poll_by-clause-attempts g c =
@@ -31,4 +31,4 @@ returns-in-Ok-false-prepare-clause-attempts g c =
     let reached : Reaches c.args.connected c.args.polling.now.address.now (g.L.End.past c.args.line.now) (g.L.End.past c.reach.new.line) (Ok true) =
     subst (λ (b : Bool). Reaches c.args.connected c.args.polling.now.address.now (g.L.End.past c.args.line.now) (g.L.End.past c.reach.new.line) (Ok b)) c.in-Ok-true.field-0-test c.in-Ok-true.ensures in
     Preparing (g.L.End.past c.reach.new.line) reached
-    (subst (λ (b : Bool). Prepares (outlasts (way_of c.args.way.now)) (aim_of c.args.polling.now (way_of c.args.way.now)) (g.L.End.past c.reach.new.line) (g.L.End.past c.prepare.new.line) (g.D.Timer.seen c.args.inputs.now) (g.D.Timer.seen c.prepare.new.inputs) (Ok b)) c.in-Ok-false-prepare.field-0-test c.in-Ok-false-prepare.ensures)
+    (subst (λ (b : Bool). Prepares (outlasts (way_of c.args.way.now)) (aim_of c.args.polling.now (way_of c.args.way.now)) (g.L.End.past c.reach.new.line) (g.L.End.past c.prepare.new.line) (g.D.Timer.seen c.args.inputs.now) (g.D.Timer.seen c.prepare.new.inputs) (Ok b)) c.in-Ok-false-prepare.field-0-test c.in-Ok-false-prepare.ensures) refl

@@ -1,4 +1,4 @@
-use Rattle.std.proofs.Common.{ap, sym, subst, ◌≡◌, ◌∙◌, List}
+use Rattle.std.proofs.Common.{ap, sym, subst, ◌≡◌, ◌∙◌, List, None}
 use Rattle.dlms_headend.specs.Merged.{merged}
 use Rattle.dlms_headend.specs.declared.row.Row.{Row}
 use Rattle.dlms_world.specs.Carrier.{EndsOnCarrier, Holds, plan_of, served_to}
@@ -10,7 +10,7 @@ use Rattle.dlms_polling.proofs.laws.what_a_route_puts_is_held.Goals as goal
 
 pub returns : goal.returns
 returns g c = λ polling before after is route terms end routed poll who m m' life delivers stands holds.
-    let ends = c.a_poll_over_a_carrier.ensures who poll.carrier terms poll.calls end.poll poll.beside m m' life is.rows poll.done delivers stands holds in
+    let ends = c.a_poll_over_a_carrier.ensures who (record { carrier = poll.carrier; guard = None }) terms poll.calls end.poll poll.beside m m' life is.rows poll.done delivers stands holds in
     let (same, text, spelled, gives) = is.files.files in
     let rows : rows_of is.done ≡ end.poll.talk.rows = ap (λ (d : DonePoll). rows_of d) routed in
     let whole = same ∙ ap (λ (rs : List Row). merged is.rows (risers rs)) rows in (
