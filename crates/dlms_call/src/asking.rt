@@ -13,6 +13,7 @@ ghost use Rattle.dlms_data.specs.Writing.{Fits};
 
 use crate::client_end::ClientEnd;
 use crate::fault::CallFault;
+use crate::watch::{Unwatched, Watch};
 use dlms_client::{Answer, Fault, Outcome, Plan};
 use dlms_data::{Data, Descriptor, Selector, fits};
 use dlms_ends::End;
@@ -68,7 +69,7 @@ fn open<S: End, A: Allocator + Copy>(line: &mut S, head: &mut ClientEnd<A>) -> R
 {
     match head.send(line) {
         Ok(()) => {
-            let told = head.settle(line, NO_BOUND);
+            let told = head.settle(line, NO_BOUND, &mut Unwatched);
             opening_result(told)
         }
         Err(fault) => Err(fault),
@@ -76,16 +77,17 @@ fn open<S: End, A: Allocator + Copy>(line: &mut S, head: &mut ClientEnd<A>) -> R
 }
 
 /// A request is sent, and its answer is awaited.
-fn request_answer<S: End, A: Allocator + Copy>(
+fn request_answer<S: End, A: Allocator + Copy, V: Watch>(
     line: &mut S,
     head: &mut ClientEnd<A>,
     most: usize,
+    watch: &mut V,
 ) -> Result<Answer, CallFault>
     ensures { GoesOut most answer_in (S.past line.old) (S.past line.new) head.old result head.new }
 {
     match head.send(line) {
         Ok(()) => {
-            let told = head.settle(line, most);
+            let told = head.settle(line, most, watch);
             answer_in(told)
         }
         Err(fault) => Err(fault),
@@ -140,11 +142,25 @@ pub fn get<S: End, A: Allocator + Copy>(
     ensures { Requests most (IsFree head.old) Get (get_normal INVOKE attribute None)
         (S.past line.old) (S.past line.new) head.old result head.new }
 {
+    get_watched(line, head, attribute, most, &mut Unwatched)
+}
+
+/// The same, and shows after each read of the line what has come of the value.
+pub fn get_watched<S: End, A: Allocator + Copy, V: Watch>(
+    line: &mut S,
+    head: &mut ClientEnd<A>,
+    attribute: Descriptor,
+    most: usize,
+    watch: &mut V,
+) -> Result<Answer, CallFault>
+    ensures { Requests most (IsFree head.old) Get (get_normal INVOKE attribute None)
+        (S.past line.old) (S.past line.new) head.old result head.new }
+{
     if !head.is_free() {
         return Err(CallFault::Talk(Fault::Form));
     }
     match head.get(attribute) {
-        Ok(()) => request_answer(line, head, most),
+        Ok(()) => request_answer(line, head, most, watch),
         Err(fault) => Err(CallFault::from(fault)),
     }
 }
@@ -162,6 +178,22 @@ pub fn get_part<S: End, A: Allocator + Copy>(
         (get_normal INVOKE attribute (Some (selection_of selector))) (S.past line.old)
         (S.past line.new) head.old result head.new }
 {
+    get_part_watched(line, head, attribute, selector, most, &mut Unwatched)
+}
+
+/// The same, and shows after each read of the line what has come of the value.
+pub fn get_part_watched<S: End, A: Allocator + Copy, V: Watch>(
+    line: &mut S,
+    head: &mut ClientEnd<A>,
+    attribute: Descriptor,
+    selector: Selector<A>,
+    most: usize,
+    watch: &mut V,
+) -> Result<Answer, CallFault>
+    ensures { Requests most (IsFree head.old × Fits (value_of selector.value)) Get
+        (get_normal INVOKE attribute (Some (selection_of selector))) (S.past line.old)
+        (S.past line.new) head.old result head.new }
+{
     if !head.is_free() {
         drop(selector);
         return Err(CallFault::Talk(Fault::Form));
@@ -171,7 +203,7 @@ pub fn get_part<S: End, A: Allocator + Copy>(
         return Err(CallFault::Talk(Fault::Form));
     }
     match head.get_part(attribute, selector) {
-        Ok(()) => request_answer(line, head, most),
+        Ok(()) => request_answer(line, head, most, watch),
         Err(fault) => Err(CallFault::from(fault)),
     }
 }
@@ -196,7 +228,7 @@ pub fn set<S: End, A: Allocator + Copy>(
         return Err(CallFault::Talk(Fault::Form));
     }
     match head.set(attribute, value) {
-        Ok(()) => request_answer(line, head, NO_BOUND),
+        Ok(()) => request_answer(line, head, NO_BOUND, &mut Unwatched),
         Err(fault) => Err(CallFault::from(fault)),
     }
 }
@@ -221,7 +253,7 @@ pub fn act<S: End, A: Allocator + Copy>(
         return Err(CallFault::Talk(Fault::Form));
     }
     match head.act(method, parameter) {
-        Ok(()) => request_answer(line, head, NO_BOUND),
+        Ok(()) => request_answer(line, head, NO_BOUND, &mut Unwatched),
         Err(fault) => Err(CallFault::from(fault)),
     }
 }
@@ -242,7 +274,7 @@ pub fn end<S: End, A: Allocator + Copy>(
         Outcome::Down => Ok(()),
         _ => match head.send(line) {
             Ok(()) => {
-                let told = head.settle(line, NO_BOUND);
+                let told = head.settle(line, NO_BOUND, &mut Unwatched);
                 release_result(told)
             }
             Err(fault) => Err(fault),

@@ -17,6 +17,7 @@ ghost use Rattle.dlms_call.specs.declared.fault.CallFault.TheVariants.{Memory};
 ghost use Rattle.dlms_call.specs.Talking.{Goes, IsOneRead, Listens, Settles, TakesPiece, TakesTimeout, TellsError, Writes, cause, later};
 
 use crate::fault::CallFault;
+use crate::watch::Watch;
 use dlms_association::Terms;
 use dlms_carrier::AnyCarrier;
 use dlms_client::{AskFault, Client, Fault, Granted, Outcome, Plan};
@@ -246,14 +247,34 @@ impl<A: Allocator + Copy> ClientEnd<A> {
         }
     }
 
-    /// Reads the line until an outcome for the caller. More octets of a value than `most` are the fault `TooLarge`, and no request
-    /// for more of it goes out.
-    pub(crate) fn settle<S: End>(&mut self, end: &mut S, most: usize) -> Result<Outcome, CallFault>
+    /// Reads the line once, and shows what has come of the value.
+    fn listen_watched<S: End, V: Watch>(
+        &mut self,
+        end: &mut S,
+        piece: &mut [u8; PIECE],
+        most: usize,
+        watch: &mut V,
+    ) -> Result<Outcome, CallFault>
+        ensures { Listens most (S.past end.old) (S.past end.new) self.old result self.new }
+    {
+        let told = self.listen(end, piece, most);
+        watch.look(self.value());
+        told
+    }
+
+    /// Reads the line until an outcome for the caller, and shows after each read what has come of the value. More octets of a value
+    /// than `most` are the fault `TooLarge`, and no request for more of it goes out.
+    pub(crate) fn settle<S: End, V: Watch>(
+        &mut self,
+        end: &mut S,
+        most: usize,
+        watch: &mut V,
+    ) -> Result<Outcome, CallFault>
         ensures { Settles most (S.past end.old) (S.past end.new) self.old result self.new }
     {
         let mut piece = [0u8; PIECE];
         'reads: for _read in 0..READS {
-            match self.listen(end, &mut piece, most) {
+            match self.listen_watched(end, &mut piece, most, watch) {
                 Ok(Outcome::Nothing) => {}
                 Ok(Outcome::Associated) => return Ok(Outcome::Associated),
                 Ok(Outcome::Answered(answer)) => return Ok(Outcome::Answered(answer)),

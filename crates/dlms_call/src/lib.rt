@@ -4,7 +4,9 @@
 mod asking;
 mod client_end;
 mod fault;
+mod watch;
 
-pub use asking::{act, begin, end, get, get_part, set};
+pub use asking::{act, begin, end, get, get_part, get_part_watched, get_watched, set};
 pub use client_end::ClientEnd;
 pub use fault::CallFault;
+pub use watch::{Unwatched, Watch};
