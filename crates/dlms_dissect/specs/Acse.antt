@@ -59,3 +59,12 @@ requires_authentication (unused ∷ bits ∷ []) =
     else if (unused == 7) && (bits == 0x00) then Some false
     else None
 requires_authentication _ = None
+
+-- the user information among these fields, an octet-string, which is an initiate request or response
+abbrev pub HasInitiate : List ℕ → Option (List ℕ) → Type 0
+HasInitiate fields octets = (user : Option (List ℕ)) × (IsFound 0xbe fields user × (octets ≡ option_and_then title_in user))
+
+-- the same, in the fields of an APDU that is one field
+abbrev pub InitiateIn : Option (ℕ × List ℕ × List ℕ) → Option (List ℕ) → Type 0
+InitiateIn None octets = octets ≡ None
+InitiateIn (Some f) octets = HasInitiate f.1 octets

@@ -1,7 +1,7 @@
 //! The fields of an association's APDUs that the meter's readers do not return. They contain no octet of a secret.
 
 ghost use Rattle.std.specs.Prelude.{◌≡◌, ◌<◌, length, option_map, IfSome};
-ghost use Rattle.dlms_dissect.specs.Acse.{IsFound, counted_at, field_at, is_counted, object_number, requires_authentication, title_in};
+ghost use Rattle.dlms_dissect.specs.Acse.{HasInitiate, InitiateIn, IsFound, counted_at, field_at, is_counted, object_number, requires_authentication, title_in};
 
 use crate::nodes::length_at;
 
@@ -111,6 +111,26 @@ fn requires_authentication(value: &[u8]) -> Option<bool>
         [0x07, 0x80] => Some(true),
         [0x07, 0x00] => Some(false),
         _ => None,
+    }
+}
+
+/// The octets of the initiate request or response in these fields.
+fn initiate_in(fields: &[u8]) -> Option<&[u8]>
+    ensures { HasInitiate fields.now (option_map (λ octets. octets.now) result) }
+{
+    match find(fields, 0xbe) {
+        Some(user) => title_in(user),
+        None => None,
+    }
+}
+
+/// The octets of the initiate request or response in an association's APDU, ciphered or not.
+pub fn initiate_of(bytes: &[u8]) -> Option<&[u8]>
+    ensures { InitiateIn (field_at bytes.now) (option_map (λ octets. octets.now) result) }
+{
+    match field_at(bytes) {
+        Some((_, fields, _)) => initiate_in(fields),
+        None => None,
     }
 }
 

@@ -33,7 +33,7 @@ mod veiled;
 mod walk;
 mod whole;
 
-pub use acse::{Acse, CipheredInitiate, acse_of, is_counted};
+pub use acse::{Acse, CipheredInitiate, acse_of, initiate_of, is_counted};
 pub use apdus::{Apdu, read_apdu};
 pub use association::{Association, without_secret};
 pub use control::{Control, has_poll, name_of, read};

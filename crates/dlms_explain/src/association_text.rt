@@ -3,7 +3,7 @@
 use crate::foreign_text::write_ciphered;
 use crate::names_text::write_conformance;
 use crate::words::{Text, line, named_line, number_line, octets_line};
-use dlms_acse::{Initiate, Mechanism, Verdict};
+use dlms_acse::{Conformance, Initiate, Mechanism, Verdict};
 use dlms_dissect::{Acse, Association, CipheredInitiate};
 use dlms_names::{diagnostic, initiate_error, release_request, release_response};
 use std::alloc::Allocator;
@@ -131,6 +131,28 @@ fn write_initiate<A: Allocator>(text: &mut Text<A>, initiate: Option<Initiate>) 
     }
 }
 
+/// The lines of an initiate request that was ciphered.
+pub fn write_initiate_request<A: Allocator>(text: &mut Text<A>, initiate: Option<Initiate>) {
+    line(text, 1, "initiate request");
+    write_initiate(text, initiate);
+}
+
+/// The lines of what a response grants.
+fn write_granted<A: Allocator>(text: &mut Text<A>, conformance: Conformance, size: u16) {
+    line(text, 2, "DLMS version 6");
+    write_conformance(text, 2, conformance);
+    write_size(text, size);
+}
+
+/// The lines of an initiate response that was ciphered.
+pub fn write_initiate_response<A: Allocator>(text: &mut Text<A>, response: Option<Verdict>) {
+    line(text, 1, "initiate response");
+    match response {
+        Some(Verdict::Accepted { conformance, size }) => write_granted(text, conformance, size),
+        _ => line(text, 2, "none that is readable"),
+    }
+}
+
 /// The lines of an association request.
 pub fn write_request<A: Allocator>(text: &mut Text<A>, request: Association, acse: Acse<'_>) {
     line(text, 1, "association request");
@@ -155,9 +177,7 @@ pub fn write_response<A: Allocator>(text: &mut Text<A>, response: Verdict, acse:
         Verdict::Accepted { conformance, size } => {
             write_outcome(text, 0);
             write_response_names(text, acse);
-            line(text, 2, "DLMS version 6");
-            write_conformance(text, 2, conformance);
-            write_size(text, size);
+            write_granted(text, conformance, size);
         }
         Verdict::Refused {
             diagnostic: cause,

@@ -8,6 +8,7 @@ use crate::layout::Layout;
 use crate::session::Form;
 use crate::words::{Text, number};
 use dlms_capture::{File, Next, Packet, Segment, Stamp, segment_of};
+use dlms_security::Opener;
 use std::alloc::{AllocError, Allocator};
 
 /// How many connections are followed at once; of more the one that was longest silent is let go.
@@ -21,36 +22,38 @@ const CUT: &str = "(the capture ends within a packet)";
 
 /// A capture that is explained as it comes.
 #[derive(Drop)]
-pub struct Captured<A: Allocator> {
+pub struct Captured<A: Allocator, O> {
     alloc: A,
     form: Form,
+    opener: O,
     file: File<A>,
-    connections: Vec<Box<Connection<A>, A>, A>,
+    connections: Vec<Box<Connection<A, O>, A>, A>,
     /// How many packets were of other traffic.
     others: u64,
     is_broken: bool,
 }
 
 /// The connection of these ends, taken out, or one that begins here.
-fn connection_of<A: Allocator + Copy>(
+fn connection_of<A: Allocator + Copy, O: Opener>(
     alloc: A,
     form: Form,
-    connections: &mut Vec<Box<Connection<A>, A>, A>,
+    opener: O,
+    connections: &mut Vec<Box<Connection<A, O>, A>, A>,
     segment: Segment<'_>,
-) -> Result<Box<Connection<A>, A>, AllocError> {
+) -> Result<Box<Connection<A, O>, A>, AllocError> {
     let at = connections
         .iter()
         .position(|connection| connection.is_of(segment.ends));
     match at {
         Some(at) if at < connections.len() => Ok(connections.remove(at)),
-        _ => Ok(Box::new(alloc, Connection::new(alloc, form, segment))?),
+        _ => Ok(Box::new(alloc, Connection::new(alloc, form, opener, segment))?),
     }
 }
 
 /// Drops the connection that was silent longest: explains the segments that wait in it, and returns how many segments are of other
 /// traffic.
-fn end_oldest<A: Allocator + Copy>(
-    connections: &mut Vec<Box<Connection<A>, A>, A>,
+fn end_oldest<A: Allocator + Copy, O: Opener>(
+    connections: &mut Vec<Box<Connection<A, O>, A>, A>,
     text: &mut Text<A>,
 ) -> u64
     requires { 0 < length connections.old.items }
@@ -62,9 +65,9 @@ fn end_oldest<A: Allocator + Copy>(
 }
 
 /// Appends a connection to the others; returns how many segments are then known to be of other traffic.
-fn keep<A: Allocator + Copy>(
-    connections: &mut Vec<Box<Connection<A>, A>, A>,
-    connection: Box<Connection<A>, A>,
+fn keep<A: Allocator + Copy, O: Opener>(
+    connections: &mut Vec<Box<Connection<A, O>, A>, A>,
+    connection: Box<Connection<A, O>, A>,
     text: &mut Text<A>,
 ) -> u64 {
     if connections.push(connection).is_err() {
@@ -78,15 +81,16 @@ fn keep<A: Allocator + Copy>(
 }
 
 /// Explains a segment, and returns how many are of other traffic.
-fn explain_segment<A: Allocator + Copy>(
+fn explain_segment<A: Allocator + Copy, O: Opener>(
     alloc: A,
     form: Form,
-    connections: &mut Vec<Box<Connection<A>, A>, A>,
+    opener: O,
+    connections: &mut Vec<Box<Connection<A, O>, A>, A>,
     stamp: Option<Stamp>,
     segment: Segment<'_>,
     text: &mut Text<A>,
 ) -> u64 {
-    let Ok(mut connection) = connection_of(alloc, form, connections, segment) else {
+    let Ok(mut connection) = connection_of(alloc, form, opener, connections, segment) else {
         text.refuse();
         return 0;
     };
@@ -96,15 +100,26 @@ fn explain_segment<A: Allocator + Copy>(
 }
 
 /// Explains a packet, and returns how many are of other traffic.
-fn explain_packet<A: Allocator + Copy>(
+fn explain_packet<A: Allocator + Copy, O: Opener>(
     alloc: A,
     form: Form,
-    connections: &mut Vec<Box<Connection<A>, A>, A>,
+    opener: O,
+    connections: &mut Vec<Box<Connection<A, O>, A>, A>,
     packet: Packet<'_>,
     text: &mut Text<A>,
 ) -> u64 {
     match segment_of(packet) {
-        Some(segment) => { explain_segment(alloc, form, connections, packet.stamp, segment, text) }
+        Some(segment) => {
+            explain_segment(
+                alloc,
+                form,
+                opener,
+                connections,
+                packet.stamp,
+                segment,
+                text,
+            )
+        }
         None => 1,
     }
 }
@@ -121,12 +136,13 @@ fn write_others<A: Allocator>(text: &mut Text<A>, layout: Layout, count: u64) {
     end_note(text, layout);
 }
 
-impl<A: Allocator + Copy> Captured<A> {
+impl<A: Allocator + Copy, O: Opener> Captured<A, O> {
     /// Before the first octet. No memory is taken here.
-    pub fn new(alloc: A, form: Form) -> Self {
+    pub fn new(alloc: A, form: Form, opener: O) -> Self {
         Captured {
             alloc,
             form,
+            opener,
             file: File::new(alloc),
             connections: Vec::new(alloc),
             others: 0,
@@ -140,7 +156,14 @@ impl<A: Allocator + Copy> Captured<A> {
             match self.file.next() {
                 Ok(Next::Packet(packet)) => {
                     let connections = &mut self.connections;
-                    let others = explain_packet(self.alloc, self.form, connections, packet, text);
+                    let others = explain_packet(
+                        self.alloc,
+                        self.form,
+                        self.opener,
+                        connections,
+                        packet,
+                        text,
+                    );
                     self.others = self.others.saturating_add(others);
                 }
                 Ok(Next::More) => return,

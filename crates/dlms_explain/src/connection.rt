@@ -7,6 +7,7 @@ use crate::words::Text;
 use crate::wrapper::Wrapped;
 use dlms_capture::{Ends, Order, Segment, Stamp, Transport};
 use dlms_dissect::Side;
+use dlms_security::Opener;
 use std::alloc::{AllocError, Allocator};
 
 /// The port of DLMS/COSEM (the registry of service names: dlms-cosem).
@@ -30,7 +31,7 @@ const MOST_WAITING: u32 = 65;
 
 /// A connection, of which some segments have come.
 #[derive(Drop)]
-pub struct Connection<A: Allocator> {
+pub struct Connection<A: Allocator, O> {
     alloc: A,
     form: Form,
     /// The client's end, and the meter's.
@@ -38,8 +39,8 @@ pub struct Connection<A: Allocator> {
     up: Order<A>,
     down: Order<A>,
     carries: Carries,
-    frames: Explainer<A>,
-    wrapped: Wrapped<A>,
+    frames: Explainer<A, O>,
+    wrapped: Wrapped<A, O>,
     /// The octets that are next, and not told yet.
     fresh: Vec<u8, A>,
     /// How many segments were of other traffic, and are not counted yet.
@@ -84,9 +85,9 @@ fn content_of(ends: Ends, octets: &[u8]) -> Carries {
     }
 }
 
-impl<A: Allocator + Copy> Connection<A> {
+impl<A: Allocator + Copy, O: Opener> Connection<A, O> {
     /// Before its first segment.
-    pub fn new(alloc: A, form: Form, segment: Segment<'_>) -> Self {
+    pub fn new(alloc: A, form: Form, opener: O, segment: Segment<'_>) -> Self {
         let Ends { from, to } = segment.ends;
         let ends = if is_from_meter(segment) {
             Ends { from: to, to: from }
@@ -100,8 +101,8 @@ impl<A: Allocator + Copy> Connection<A> {
             up: Order::new(alloc),
             down: Order::new(alloc),
             carries: Carries::Nothing,
-            frames: Explainer::new(alloc, form),
-            wrapped: Wrapped::new(alloc, form),
+            frames: Explainer::with_opener(alloc, form, opener),
+            wrapped: Wrapped::new(alloc, form, opener),
             fresh: Vec::new(alloc),
             others: 0,
         }

@@ -13,6 +13,7 @@ use crate::frame_text::{write_came, write_frame, write_information, write_no_llc
 use crate::json::{begin_note, end_note, write_note};
 use crate::layout::Layout;
 use crate::logged::logged_of;
+use crate::opening::{Opening, write_initiate, write_verdict};
 use crate::service_text::{write_fault, write_joined, write_said, write_whole};
 use crate::session::Form;
 use crate::short::{Beside, View, write_view};
@@ -26,6 +27,7 @@ use dlms_dissect::{
 };
 use dlms_frame::Frame;
 use dlms_names::apdu_name;
+use dlms_security::{NoKeys, Opener};
 use std::alloc::{AllocError, Allocator, Global};
 use std::str;
 
@@ -33,13 +35,13 @@ use std::str;
 ///
 /// It keeps a stretch of bytes for each direction, what is under way of eight talks, and no more.
 #[derive(Drop)]
-pub struct Explainer<A: Allocator = Global> {
+pub struct Explainer<A: Allocator = Global, O = NoKeys> {
     alloc: A,
     client: Stretch<A>,
     meter: Stretch<A>,
     bare: Stretch<A>,
     talks: Talks<A>,
-    view: View<A>,
+    view: View<A, O>,
     /// How far a dump has come whose lines stand here.
     dump: Option<Offset>,
 }
@@ -178,8 +180,43 @@ fn open_len<A: Allocator + Copy>(
     bytes.len().saturating_sub(closed)
 }
 
-/// The lines of an APDU, and with `hex`, how many of its octets may be shown beside them.
-pub fn explain_apdu<A: Allocator + Copy>(
+/// The lines of an APDU, and with `hex`, how many of its octets may be shown beside them; of a ciphered one also those of the APDU in
+/// it, if keys open it.
+pub fn explain_apdu<A: Allocator + Copy, O: Opener>(
+    text: &mut Text<A>,
+    alloc: A,
+    opening: &mut Opening<O>,
+    side: Option<Side>,
+    services: &mut Services<A>,
+    bytes: &[u8],
+) -> usize {
+    let shown = explain_closed(text, alloc, opening.hex, side, services, bytes);
+    if let Some((is_part, opened)) = opening.opened(side, bytes) {
+        write_verdict(text, is_part, &opened);
+        if let Ok(plain) = &opened {
+            explain_inside(text, alloc, side, services, plain.apdu.as_slice());
+        }
+    }
+    shown
+}
+
+/// The lines of an APDU that was ciphered.
+fn explain_inside<A: Allocator + Copy>(
+    text: &mut Text<A>,
+    alloc: A,
+    side: Option<Side>,
+    services: &mut Services<A>,
+    bytes: &[u8],
+) {
+    text.go_in();
+    if !write_initiate(text, bytes) {
+        explain_closed(text, alloc, false, side, services, bytes);
+    }
+    text.go_out();
+}
+
+/// The lines of an APDU, of a ciphered one without its content, and with `hex`, how many of its octets may be shown beside them.
+fn explain_closed<A: Allocator + Copy>(
     text: &mut Text<A>,
     alloc: A,
     hex: bool,
@@ -255,32 +292,32 @@ fn explain_read<A: Allocator + Copy>(
 
 /// The lines of the APDU that the last information frame of this side completed, and how many of its octets may be shown beside
 /// them.
-fn explain_whole<A: Allocator + Copy>(
+fn explain_whole<A: Allocator + Copy, O: Opener>(
     text: &mut Text<A>,
     alloc: A,
-    hex: bool,
+    opening: &mut Opening<O>,
     side: Option<Side>,
     talk: &mut Talk<A>,
 ) -> usize {
     match side {
         Some(Side::Meter) => {
             let apdu = talk.meter.apdu();
-            let shown = explain_apdu(text, alloc, hex, side, &mut talk.services, apdu);
+            let shown = explain_apdu(text, alloc, opening, side, &mut talk.services, apdu);
             talk.services.pass();
             shown
         }
         _ => {
             let apdu = talk.client.apdu();
-            explain_apdu(text, alloc, hex, side, &mut talk.services, apdu)
+            explain_apdu(text, alloc, opening, side, &mut talk.services, apdu)
         }
     }
 }
 
 /// The lines of an APDU by itself, as in a frame that is not taken: nothing is known of earlier ones, and it changes nothing.
-fn explain_alone<A: Allocator + Copy>(
+fn explain_alone<A: Allocator + Copy, O: Opener>(
     text: &mut Text<A>,
     alloc: A,
-    hex: bool,
+    opening: &mut Opening<O>,
     side: Option<Side>,
     raw: bool,
     info: &[u8],
@@ -289,7 +326,15 @@ fn explain_alone<A: Allocator + Copy>(
         write_no_llc(text);
         return 0;
     };
-    explain_apdu(text, alloc, hex, side, &mut Services::new(alloc, raw), apdu).saturating_add(LLC)
+    explain_apdu(
+        text,
+        alloc,
+        opening,
+        side,
+        &mut Services::new(alloc, raw),
+        apdu,
+    )
+    .saturating_add(LLC)
 }
 
 /// Appends the lines of an APDU by itself, from this side or from either: nothing is known of earlier ones. Of secrets, and of
@@ -302,15 +347,16 @@ pub fn write_apdu<A: Allocator + Copy>(
 ) -> Result<(), AllocError> {
     let mut text = Text::behind(words);
     let mut services = Services::new(alloc, false);
-    explain_apdu(&mut text, alloc, false, side, &mut services, bytes);
+    let mut opening = Opening::new(NoKeys, false);
+    explain_apdu(&mut text, alloc, &mut opening, side, &mut services, bytes);
     text.end(words)
 }
 
 /// The lines of an information frame, and how many octets of its information may be shown beside them: none of an APDU in segments.
-fn explain_information<A: Allocator + Copy>(
+fn explain_information<A: Allocator + Copy, O: Opener>(
     text: &mut Text<A>,
     alloc: A,
-    hex: bool,
+    opening: &mut Opening<O>,
     side: Option<Side>,
     talk: &mut Talk<A>,
     numbers: Numbers,
@@ -324,10 +370,10 @@ fn explain_information<A: Allocator + Copy>(
     write_came(text, came);
     let raw = talk.services.is_raw();
     match came {
-        Came::Apart => explain_alone(text, alloc, hex, side, raw, info),
-        Came::NoPoll if !frame.segmented => explain_alone(text, alloc, hex, side, raw, info),
+        Came::Apart => explain_alone(text, alloc, opening, side, raw, info),
+        Came::NoPoll if !frame.segmented => explain_alone(text, alloc, opening, side, raw, info),
         Came::Whole(count) => {
-            let shown = explain_whole(text, alloc, hex, side, talk);
+            let shown = explain_whole(text, alloc, opening, side, talk);
             if count == 1 {
                 shown.saturating_add(LLC)
             } else {
@@ -355,10 +401,10 @@ fn explain_parameters<A: Allocator>(text: &mut Text<A>, info: &[u8]) -> usize {
 }
 
 /// The lines of a frame's content, and how many octets of its information may be shown beside them.
-fn explain_content<A: Allocator + Copy>(
+fn explain_content<A: Allocator + Copy, O: Opener>(
     text: &mut Text<A>,
     alloc: A,
-    hex: bool,
+    opening: &mut Opening<O>,
     side: Option<Side>,
     talk: &mut Talk<A>,
     frame: &Frame<'_>,
@@ -373,11 +419,11 @@ fn explain_content<A: Allocator + Copy>(
                 receive,
                 poll,
             };
-            explain_information(text, alloc, hex, side, talk, numbers, frame)
+            explain_information(text, alloc, opening, side, talk, numbers, frame)
         }
         Control::Ui => {
             let raw = talk.services.is_raw();
-            explain_alone(text, alloc, hex, side, raw, frame.info)
+            explain_alone(text, alloc, opening, side, raw, frame.info)
         }
         _ => 0,
     }
@@ -407,9 +453,9 @@ fn beside_of<'a>(octets: &'a [u8], info: usize, shown: usize) -> Beside<'a>
 }
 
 /// Explains a frame with these octets, of this side, in its session.
-fn tell_frame<A: Allocator + Copy>(
+fn tell_frame<A: Allocator + Copy, O: Opener>(
     text: &mut Text<A>,
-    view: &mut View<A>,
+    view: &mut View<A, O>,
     alloc: A,
     side: Option<Side>,
     talk: &mut Talk<A>,
@@ -420,12 +466,12 @@ fn tell_frame<A: Allocator + Copy>(
     if view.form.is_at_once() {
         write_frame(text, side, heading);
         end(text);
-        explain_content(text, alloc, false, side, talk, frame);
+        explain_content(text, alloc, &mut view.opening, side, talk, frame);
         return;
     }
     let hex = view.form.hex;
     view.full.clear();
-    let shown = explain_content(&mut view.full, alloc, hex, side, talk, frame);
+    let shown = explain_content(&mut view.full, alloc, &mut view.opening, side, talk, frame);
     if view.full.check_memory().is_err() {
         text.refuse();
     }
@@ -435,9 +481,9 @@ fn tell_frame<A: Allocator + Copy>(
 }
 
 /// Explains a frame with these octets.
-fn explain_frame<A: Allocator + Copy>(
+fn explain_frame<A: Allocator + Copy, O: Opener>(
     text: &mut Text<A>,
-    view: &mut View<A>,
+    view: &mut View<A, O>,
     alloc: A,
     said: Option<Side>,
     talks: &mut Talks<A>,
@@ -445,7 +491,9 @@ fn explain_frame<A: Allocator + Copy>(
     octets: &[u8],
 ) {
     let side = side_of(said, frame);
-    let mut talk = talks.take(alloc, parties_of(side, frame));
+    let parties = parties_of(side, frame);
+    view.opening.follow(parties);
+    let mut talk = talks.take(alloc, parties);
     tell_frame(text, view, alloc, side, &mut talk, frame, octets);
     if talks.put(talk).is_err() {
         text.refuse();
@@ -472,9 +520,9 @@ fn explain_stray<A: Allocator>(
 }
 
 /// The lines of the bytes of a stretch.
-fn explain_bytes<A: Allocator + Copy>(
+fn explain_bytes<A: Allocator + Copy, O: Opener>(
     text: &mut Text<A>,
-    view: &mut View<A>,
+    view: &mut View<A, O>,
     alloc: A,
     said: Option<Side>,
     stretch: &mut Stretch<A>,
@@ -527,8 +575,18 @@ fn pass<A: Allocator>(text: &mut Text<A>, form: Form, bytes: &[u8]) {
 }
 
 impl<A: Allocator + Copy> Explainer<A> {
-    /// Before the first line. No memory is taken here.
+    /// Before the first line, without keys. No memory is taken here.
     pub fn new(alloc: A, form: Form) -> Self
+        ensures raw { result.talks.raw ≡ form.raw }
+        ensures form { result.view.form ≡ form }
+    {
+        Explainer::with_opener(alloc, form, NoKeys)
+    }
+}
+
+impl<A: Allocator + Copy, O: Opener> Explainer<A, O> {
+    /// Before the first line, with what opens ciphered APDUs. No memory is taken here.
+    pub fn with_opener(alloc: A, form: Form, opener: O) -> Self
         ensures raw { result.talks.raw ≡ form.raw }
         ensures form { result.view.form ≡ form }
     {
@@ -538,7 +596,7 @@ impl<A: Allocator + Copy> Explainer<A> {
             meter: Stretch::new(alloc),
             bare: Stretch::new(alloc),
             talks: Talks::new(alloc, form.raw),
-            view: View::new(alloc, form),
+            view: View::new(alloc, form, opener),
             dump: None,
         }
     }

@@ -3,7 +3,7 @@
 use crate::echo_text::is_steering;
 use crate::layout::Layout;
 use crate::short::{View, has_service, service};
-use crate::words::{Text, number, octet, octets};
+use crate::words::{Text, Verdict, number, octet, octets};
 use dlms_dissect::{Heading, Side, lower, name_of, read, upper};
 use dlms_frame::Address;
 use std::alloc::Allocator;
@@ -156,13 +156,36 @@ fn write_object<A: Allocator>(text: &mut Text<A>, full: &str) {
     }
 }
 
-/// The service, the object and the rest of the full explanation.
-fn write_rest<A: Allocator>(text: &mut Text<A>, full: &str, has_service: bool) {
+/// The service, the object and the rest of an explanation.
+fn write_lines<A: Allocator>(text: &mut Text<A>, full: &str, has_service: bool) {
     if has_service {
         write_service(text, full);
     }
     write_object(text, full);
     write_told(text, full, has_service);
+}
+
+/// The outcome of opening a ciphered APDU: the APDU in it with its explanation, or why it was not opened.
+fn write_verdict<A: Allocator>(text: &mut Text<A>, verdict: Verdict, inside: &str) {
+    match verdict.is_authenticated {
+        Some(is_authenticated) => {
+            text.push(",\"opened\":{\"authenticated\":");
+            text.either(is_authenticated, "true", "false");
+            write_lines(text, inside, true);
+            text.push("}");
+        }
+        None => write_string(text, ",\"closed\":", verdict.words),
+    }
+}
+
+/// The service, the object and the rest of the full explanation, and those of a ciphered APDU that was opened.
+fn write_rest<A: Allocator>(text: &mut Text<A>, full: &Text<A>, has_service: bool) {
+    let (outside, opened) = full.parts();
+    write_lines(text, outside, has_service);
+    match opened {
+        Some((verdict, inside)) => write_verdict(text, verdict, inside),
+        None => {}
+    }
 }
 
 /// The octets beside it, if there are some, and the end of an object.
@@ -186,9 +209,9 @@ fn write_ends<A: Allocator>(text: &mut Text<A>, client: Address, meter: Address)
 }
 
 /// A frame: its time, its ends, its control field, the number of octets between its flags, and its full explanation.
-pub fn write_json<A: Allocator>(
+pub fn write_json<A: Allocator, O>(
     text: &mut Text<A>,
-    view: &View<A>,
+    view: &View<A, O>,
     side: Option<Side>,
     heading: Heading,
     beside: &[u8],
@@ -201,14 +224,14 @@ pub fn write_json<A: Allocator>(
     let control = read(heading.control);
     write_string(text, ",\"kind\":", name_of(control));
     write_number(text, ",\"length\":", heading.len as u64);
-    write_rest(text, view.full.as_str(), has_service(control));
+    write_rest(text, &view.full, has_service(control));
     end_object(text, beside);
 }
 
 /// An APDU in the wrapper: its time, the client's port and the meter's, and its full explanation.
-pub fn write_json_wrapped<A: Allocator>(
+pub fn write_json_wrapped<A: Allocator, O>(
     text: &mut Text<A>,
-    view: &View<A>,
+    view: &View<A, O>,
     side: Side,
     ports: (u16, u16),
     beside: &[u8],
@@ -217,6 +240,6 @@ pub fn write_json_wrapped<A: Allocator>(
     write_number(text, ",\"client\":", u64::from(ports.0));
     write_number(text, ",\"meter\":", u64::from(ports.1));
     write_string(text, ",\"kind\":", "wrapper");
-    write_rest(text, view.full.as_str(), true);
+    write_rest(text, &view.full, true);
     end_object(text, beside);
 }

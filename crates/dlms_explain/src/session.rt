@@ -9,6 +9,7 @@ use crate::json::write_note;
 use crate::layout::Layout;
 use crate::words::Text;
 use dlms_capture::is_capture;
+use dlms_security::{NoKeys, Opener};
 use memchr::memchr;
 use std::alloc::Allocator;
 use std::io::{ErrorKind, Read, Write};
@@ -71,19 +72,19 @@ impl Form {
 
 /// An explanation under way: the line that comes, and the text that is not written yet.
 #[derive(Drop)]
-struct Session<A: Allocator> {
-    explainer: Explainer<A>,
+struct Session<A: Allocator, O> {
+    explainer: Explainer<A, O>,
     layout: Layout,
     line: Vec<u8, A>,
     is_long: bool,
     text: Text<A>,
 }
 
-impl<A: Allocator + Copy> Session<A> {
+impl<A: Allocator + Copy, O: Opener> Session<A, O> {
     /// Before the first octet. No memory is taken here.
-    fn new(alloc: A, form: Form) -> Self {
+    fn new(alloc: A, form: Form, opener: O) -> Self {
         Session {
-            explainer: Explainer::new(alloc, form),
+            explainer: Explainer::with_opener(alloc, form, opener),
             layout: form.layout,
             line: Vec::new(alloc),
             is_long: false,
@@ -176,8 +177,8 @@ fn read_front<R: Read>(input: &mut R, room: &mut [u8; ROOM]) -> Result<usize, Ex
 }
 
 /// Explains a capture, whose first octets are these, into a text that is written as it grows.
-fn tell_capture<A: Allocator + Copy, R: Read, W: Write>(
-    captured: &mut Captured<A>,
+fn tell_capture<A: Allocator + Copy, O: Opener, R: Read, W: Write>(
+    captured: &mut Captured<A, O>,
     text: &mut Text<A>,
     front: &[u8],
     input: &mut R,
@@ -199,21 +200,22 @@ fn tell_capture<A: Allocator + Copy, R: Read, W: Write>(
 
 /// Explains a capture, whose first octets are these.
 #[inline(never)]
-fn explain_capture<A: Allocator + Copy, R: Read, W: Write>(
+fn explain_capture<A: Allocator + Copy, O: Opener, R: Read, W: Write>(
     alloc: A,
     form: Form,
+    opener: O,
     front: &[u8],
     input: &mut R,
     output: &mut W,
 ) -> Result<(), ExplainFault> {
-    let mut captured = Captured::new(alloc, form);
+    let mut captured = Captured::new(alloc, form, opener);
     let mut text = Text::new(String::new(alloc));
     tell_capture(&mut captured, &mut text, front, input, output)
 }
 
 /// Explains lines, whose first octets are already in the buffer.
-fn tell_lines<A: Allocator + Copy, R: Read, W: Write>(
-    session: &mut Session<A>,
+fn tell_lines<A: Allocator + Copy, O: Opener, R: Read, W: Write>(
+    session: &mut Session<A, O>,
     room: &mut [u8; ROOM],
     front: usize,
     input: &mut R,
@@ -239,9 +241,10 @@ fn tell_lines<A: Allocator + Copy, R: Read, W: Write>(
 
 /// Explains lines, whose first octets are already in the buffer.
 #[inline(never)]
-fn explain_lines<A: Allocator + Copy, R: Read, W: Write>(
+fn explain_lines<A: Allocator + Copy, O: Opener, R: Read, W: Write>(
     alloc: A,
     form: Form,
+    opener: O,
     room: &mut [u8; ROOM],
     front: usize,
     input: &mut R,
@@ -249,7 +252,7 @@ fn explain_lines<A: Allocator + Copy, R: Read, W: Write>(
 ) -> Result<(), ExplainFault>
     requires { front ≤ length room.old }
 {
-    let mut session = Session::new(alloc, form);
+    let mut session = Session::new(alloc, form, opener);
     tell_lines(&mut session, room, front, input, output)
 }
 
@@ -266,10 +269,22 @@ pub fn explain<A: Allocator + Copy, R: Read, W: Write>(
     input: &mut R,
     output: &mut W,
 ) -> Result<(), ExplainFault> {
+    explain_with(alloc, form, NoKeys, input, output)
+}
+
+/// The same, with what opens ciphered APDUs: below the lines of each a line says whether it was opened, and then the APDU in it is
+/// explained.
+pub fn explain_with<A: Allocator + Copy, O: Opener, R: Read, W: Write>(
+    alloc: A,
+    form: Form,
+    opener: O,
+    input: &mut R,
+    output: &mut W,
+) -> Result<(), ExplainFault> {
     let mut room = [0u8; ROOM];
     let front = read_front(input, &mut room)?;
     if is_capture(&room[..front]) {
-        return explain_capture(alloc, form, &room[..front], input, output);
+        return explain_capture(alloc, form, opener, &room[..front], input, output);
     }
-    explain_lines(alloc, form, &mut room, front, input, output)
+    explain_lines(alloc, form, opener, &mut room, front, input, output)
 }

@@ -5,10 +5,12 @@ ghost use Rattle.std.specs.Prelude.{◌≡◌};
 use crate::frame_text::write_frame;
 use crate::json::{write_json, write_json_wrapped};
 use crate::layout::Layout;
+use crate::opening::Opening;
 use crate::session::Form;
 use crate::words::{Text, end, number, octets};
 use dlms_dissect::{Control, Heading, Side, lower, name_of, read, upper};
 use dlms_frame::Address;
+use dlms_security::Opener;
 use std::alloc::Allocator;
 
 /// How wide the column of the two ends is, and that of the service.
@@ -18,23 +20,26 @@ const SERVICE: usize = 36;
 
 /// How an explanation is written, and the state for that.
 #[derive(Drop)]
-pub struct View<A: Allocator> {
+pub struct View<A: Allocator, O> {
     pub form: Form,
     /// The time of the octets that come, as their log or capture has it.
     pub stamp: String<A>,
     /// The full explanation of a frame.
     pub full: Text<A>,
+    /// What opens ciphered APDUs.
+    pub opening: Opening<O>,
 }
 
-impl<A: Allocator + Copy> View<A> {
+impl<A: Allocator + Copy, O: Opener> View<A, O> {
     /// Before the first frame. No memory is taken here.
-    pub fn new(alloc: A, form: Form) -> Self
+    pub fn new(alloc: A, form: Form, opener: O) -> Self
         ensures { result.form ≡ form }
     {
         View {
             form,
             stamp: String::new(alloc),
-            full: Text::new(String::new(alloc)),
+            full: Text::flat_if(form.layout.is_one_line(), String::new(alloc)),
+            opening: Opening::new(opener, form.hex),
         }
     }
 
@@ -105,7 +110,7 @@ pub fn service(line: &str) -> &str {
 }
 
 /// The time of an explanation in one line.
-fn write_front<A: Allocator>(text: &mut Text<A>, view: &View<A>) {
+fn write_front<A: Allocator, O>(text: &mut Text<A>, view: &View<A, O>) {
     if view.stamp.is_empty() {
         return;
     }
@@ -118,11 +123,24 @@ fn is_left_out(line: &str) -> bool {
     line.ends_with(" segments joined") || line.trim_start().starts_with("conformance: ")
 }
 
-/// The service and the lines below it in full, except for the parts of a value.
-fn write_rest<A: Allocator>(text: &mut Text<A>, view: &View<A>) {
+/// The service and the lines below it in full, except for the parts of a value; of a ciphered APDU that was opened those of the APDU
+/// in it, and what authenticates it.
+fn write_rest<A: Allocator>(text: &mut Text<A>, full: &Text<A>) {
+    match full.parts() {
+        (_, Some((verdict, inside))) if !verdict.is_part && verdict.is_authenticated.is_some() => {
+            write_lines(text, inside);
+            text.push("; ");
+            text.push(verdict.words);
+        }
+        _ => write_lines(text, full.as_str()),
+    }
+}
+
+/// The first line and those below it, except for the parts of a value.
+fn write_lines<A: Allocator>(text: &mut Text<A>, full: &str) {
     let from = text.len();
     let mut count: u64 = 0;
-    for line in view.full.as_str().lines() {
+    for line in full.lines() {
         if depth(line) > 4 || is_left_out(line) {
             continue;
         }
@@ -165,9 +183,9 @@ pub fn has_service(control: Control) -> bool {
 }
 
 /// The line of a frame: the time, the ends, and the service with the lines below it in full, or the control field.
-fn write_short<A: Allocator>(
+fn write_short<A: Allocator, O>(
     text: &mut Text<A>,
-    view: &View<A>,
+    view: &View<A, O>,
     side: Option<Side>,
     heading: Heading,
     beside: Beside<'_>,
@@ -176,7 +194,7 @@ fn write_short<A: Allocator>(
     write_ends(text, side, heading);
     let control = read(heading.control);
     if has_service(control) {
-        write_rest(text, view);
+        write_rest(text, &view.full);
     } else {
         write_control(text, control);
     }
@@ -185,9 +203,9 @@ fn write_short<A: Allocator>(
 }
 
 /// The explanation of a frame, put together in the requested form.
-pub fn write_view<A: Allocator>(
+pub fn write_view<A: Allocator, O>(
     text: &mut Text<A>,
-    view: &View<A>,
+    view: &View<A, O>,
     side: Option<Side>,
     heading: Heading,
     beside: Beside<'_>,
@@ -205,9 +223,9 @@ pub fn write_view<A: Allocator>(
 }
 
 /// The line of an APDU in the wrapper: the time, the client's port and the meter's, and the service.
-pub fn write_wrapped<A: Allocator>(
+pub fn write_wrapped<A: Allocator, O>(
     text: &mut Text<A>,
-    view: &View<A>,
+    view: &View<A, O>,
     side: Side,
     ports: (u16, u16),
     beside: Beside<'_>,
@@ -222,7 +240,7 @@ pub fn write_wrapped<A: Allocator>(
     text.either(side == Side::Client, " > ", " < ");
     number(text, u64::from(ports.1));
     fill(text, from, ENDS);
-    write_rest(text, view);
+    write_rest(text, &view.full);
     write_beside(text, beside);
     end(text);
 }

@@ -11,11 +11,27 @@ const DIGITS: [&str; 16] = [
     "0", "1", "2", "3", "4", "5", "6", "7", "8", "9", "a", "b", "c", "d", "e", "f",
 ];
 
+/// The outcome of opening a ciphered APDU.
+#[derive(Clone, Copy)]
+pub struct Verdict {
+    /// It is the initiate request or response in an APDU, and not the APDU itself.
+    pub is_part: bool,
+    /// Whether a tag authenticates it; nothing if it was not opened.
+    pub is_authenticated: Option<bool>,
+    pub words: &'static str,
+}
+
 /// A text that is put together. Once a growth was refused it accepts no more words, and says so at its end.
 #[derive(Drop)]
 pub struct Text<A: Allocator> {
     words: String<A>,
     is_refused: bool,
+    /// Lines are not indented by the APDU that they are inside.
+    is_flat: bool,
+    /// How many levels all lines are deeper.
+    depth: u8,
+    /// Where the line of a verdict begins, and the verdict.
+    verdict: Option<(usize, Verdict)>,
 }
 
 impl<A: Allocator> Text<A> {
@@ -23,9 +39,55 @@ impl<A: Allocator> Text<A> {
     pub fn new(words: String<A>) -> Text<A>
         ensures { result.is_refused ≡ false }
     {
+        Text::flat_if(false, words)
+    }
+
+    /// The same; if this is true, lines are not indented by the APDU that they are inside.
+    pub fn flat_if(is_flat: bool, words: String<A>) -> Text<A>
+        ensures { result.is_refused ≡ false }
+    {
         Text {
             words,
             is_refused: false,
+            is_flat,
+            depth: 0,
+            verdict: None,
+        }
+    }
+
+    /// The line of this verdict begins here.
+    pub fn mark(&mut self, verdict: Verdict)
+        ensures { self.new.is_refused ≡ self.old.is_refused }
+    {
+        self.verdict = Some((self.words.len(), verdict));
+    }
+
+    /// The lines that follow are of an APDU inside another one.
+    pub fn go_in(&mut self)
+        ensures { self.new.is_refused ≡ self.old.is_refused }
+    {
+        self.depth = if self.is_flat { 0 } else { 2 };
+    }
+
+    /// The lines that follow are not.
+    pub fn go_out(&mut self)
+        ensures { self.new.is_refused ≡ self.old.is_refused }
+    {
+        self.depth = 0;
+    }
+
+    /// The words before a verdict, the verdict, and the lines after its own; all words if there is none.
+    pub fn parts(&self) -> (&str, Option<(Verdict, &str)>) {
+        let all = self.words.as_str();
+        let Some((at, verdict)) = self.verdict else {
+            return (all, None);
+        };
+        let (Some(before), Some(rest)) = (all.get(..at), all.get(at..)) else {
+            return (all, None);
+        };
+        match rest.split_once("\n") {
+            Some((_, inside)) => (before, Some((verdict, inside))),
+            None => (before, Some((verdict, ""))),
         }
     }
 
@@ -79,6 +141,8 @@ impl<A: Allocator> Text<A> {
     {
         self.words.clear();
         self.is_refused = false;
+        self.depth = 0;
+        self.verdict = None;
     }
 
     /// A growth of something else was refused.
@@ -123,7 +187,7 @@ impl<A: Allocator + Copy> Text<A> {
 
 /// Begins a line, two blanks deeper for each level.
 pub fn begin<A: Allocator>(text: &mut Text<A>, depth: u8) {
-    for _ in 0..depth {
+    for _ in 0..depth.saturating_add(text.depth) {
         text.push("  ");
     }
 }

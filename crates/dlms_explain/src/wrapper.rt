@@ -9,6 +9,7 @@ use crate::short::{Beside, View, write_beside, write_wrapped};
 use crate::words::{Text, end, line, number};
 use byteorder::{BigEndian, ByteOrder};
 use dlms_dissect::{Services, Side};
+use dlms_security::Opener;
 use std::alloc::Allocator;
 
 /// How long the head is.
@@ -28,21 +29,21 @@ struct Head {
 
 /// The requested object between two ports, and how it is reported.
 #[derive(Drop)]
-struct Asked<A: Allocator> {
+struct Asked<A: Allocator, O> {
     alloc: A,
     raw: bool,
     /// The client's and the meter's port of the last APDU.
     ports: (u16, u16),
     services: Services<A>,
-    view: View<A>,
+    view: View<A, O>,
 }
 
 /// Both directions of a connection, and the requested objects.
 #[derive(Drop)]
-pub struct Wrapped<A: Allocator> {
+pub struct Wrapped<A: Allocator, O> {
     client: Vec<u8, A>,
     meter: Vec<u8, A>,
-    asked: Asked<A>,
+    asked: Asked<A, O>,
 }
 
 /// The head in front, once it is there.
@@ -75,7 +76,27 @@ const NO_WRAPPER: &str = "(octets that are of no wrapper)";
 /// Shown for an APDU that is not complete.
 const NOT_WHOLE: &str = "(the last APDU is not whole)";
 
-impl<A: Allocator + Copy> Asked<A> {
+/// Explains an APDU in the view's text. Returns how many of its octets may be shown beside it.
+fn explain_view<A: Allocator + Copy, O: Opener>(
+    view: &mut View<A, O>,
+    alloc: A,
+    side: Side,
+    services: &mut Services<A>,
+    apdu: &[u8],
+) -> usize {
+    let said = Some(side);
+    view.full.clear();
+    explain_apdu(
+        &mut view.full,
+        alloc,
+        &mut view.opening,
+        said,
+        services,
+        apdu,
+    )
+}
+
+impl<A: Allocator + Copy, O: Opener> Asked<A, O> {
     /// What was asked for between other ports is forgotten.
     fn follow(&mut self, side: Side, head: Head) {
         let ports = match side {
@@ -84,6 +105,7 @@ impl<A: Allocator + Copy> Asked<A> {
         };
         if self.ports != ports {
             self.services = Services::new(self.alloc, self.raw);
+            self.view.opening.forget();
             self.ports = ports;
         }
     }
@@ -92,16 +114,7 @@ impl<A: Allocator + Copy> Asked<A> {
     fn tell_view(&mut self, side: Side, head: Head, whole: &[u8], text: &mut Text<A>) {
         let apdu = whole.get(HEAD..).unwrap_or(&[]);
         let hex = self.view.form.hex;
-        self.view.full.clear();
-        let said = Some(side);
-        let shown = explain_apdu(
-            &mut self.view.full,
-            self.alloc,
-            hex,
-            said,
-            &mut self.services,
-            apdu,
-        );
+        let shown = explain_view(&mut self.view, self.alloc, side, &mut self.services, apdu);
         if self.view.full.check_memory().is_err() {
             text.refuse();
         }
@@ -131,7 +144,14 @@ impl<A: Allocator + Copy> Asked<A> {
             let said = Some(side);
             write_head(text, side, head);
             end(text);
-            explain_apdu(text, self.alloc, false, said, &mut self.services, apdu);
+            explain_apdu(
+                text,
+                self.alloc,
+                &mut self.view.opening,
+                said,
+                &mut self.services,
+                apdu,
+            );
         } else {
             self.tell_view(side, head, whole, text);
         }
@@ -177,9 +197,9 @@ impl<A: Allocator + Copy> Asked<A> {
     }
 }
 
-impl<A: Allocator + Copy> Wrapped<A> {
+impl<A: Allocator + Copy, O: Opener> Wrapped<A, O> {
     /// Before the first octet. No memory is taken here.
-    pub fn new(alloc: A, form: Form) -> Self
+    pub fn new(alloc: A, form: Form, opener: O) -> Self
         ensures raw { result.asked.services.raw ≡ form.raw }
         ensures form { result.asked.view.form ≡ form }
     {
@@ -191,7 +211,7 @@ impl<A: Allocator + Copy> Wrapped<A> {
                 raw: form.raw,
                 ports: (0, 0),
                 services: Services::new(alloc, form.raw),
-                view: View::new(alloc, form),
+                view: View::new(alloc, form, opener),
             },
         }
     }
