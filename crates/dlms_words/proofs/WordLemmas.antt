@@ -1,5 +1,5 @@
 -- The job of the command line.
-use Rattle.std.proofs.Common.{◌≡◌, ◌∙◌, ◌&&◌, ℕ, refl, sym, ap, subst, inl, inr, Bool, true, false, not, List, [], ◌∷◌, Option, Some, None, codes, Bor}
+use Rattle.std.proofs.Common.{◌≡◌, ◌∙◌, ◌&&◌, ℕ, refl, sym, ap, subst, inl, inr, Bool, true, false, not, List, [], ◌∷◌, Option, Some, None, codes, Bor, IsTrue}
 use Rattle.std.specs.Prelude.{◌⊎◌, cond, find, is_some, option_map}
 use Rattle.std.specs.List.{list_any}
 use Rattle.clap.specs.Words.{App, HasMatchesOf, Row, Shape, Text, built, fault_of, subcommand_of, subcommand_rows_of}
@@ -77,6 +77,11 @@ same_some e = cc
 abbrev pub IsNot : Text → Option (Text × List Row) → Type 0
 IsNot name met = option_map (λ p. p.0) met ≡ Some name → ⊥
 
+-- there is none if there is not some
+pub none_if_not_some : {A : Type 0} (o : Option A) → IsTrue (not (is_some o)) → o ≡ None
+none_if_not_some None h = refl
+none_if_not_some (Some x) h = cc
+
 -- what was met under a name has rows
 pub met_named : (name : Text) (met : Option (Text × List Row)) → option_map (λ p. p.0) met ≡ Some name → (rows : List Row) × (met ≡ Some (name, rows))
 met_named name None e = absurd (cc e)
@@ -88,10 +93,10 @@ other_name name met found is not_it has = not_it (ap (option_map (λ p. p.0)) (i
 -- the command line of a job with another name than the others
 pub polls_else : (words : List Text) (met : Option (Text × List Row)) → fault_of dlms words ≡ [] → met ≡ subcommand_of dlms words
     → IsNot (codes "format") met → IsNot (codes "replay") met → IsNot (codes "loopback") met → IsNot (codes "serve") met
-    → IsNot (codes "get") met → IsNot (codes "list") met → IsNot (codes "profile") met → IsNot (codes "set") met → IsNot (codes "act") met
+    → IsNot (codes "get") met → IsNot (codes "list") met → IsNot (codes "profile") met → IsNot (codes "clock") met → IsNot (codes "set") met → IsNot (codes "act") met
     → IsNot (codes "explain") met → IsNot (codes "show") met → IsNot (codes "plot") met → IsNot (codes "keys") met
     → (rows : List Row) × (subcommand_of dlms words ≡ Some (codes "poll", rows))
-polls_else words met none is formats replays loops serves gets lists profiles sets acts explains shows plots keys =
+polls_else words met none is formats replays loops serves gets lists profiles clocks sets acts explains shows plots keys =
     let found = subcommand_of dlms words in
     elim (command_met words none) [
       | inl has ↦ absurd (other_name _ met found is formats has)
@@ -110,18 +115,21 @@ polls_else words met none is formats replays loops serves gets lists profiles se
                   | inr rest ↦ elim rest [
                     | inl has ↦ absurd (other_name _ met found is profiles has)
                     | inr rest ↦ elim rest [
-                      | inl has ↦ absurd (other_name _ met found is sets has)
+                      | inl has ↦ absurd (other_name _ met found is clocks has)
                       | inr rest ↦ elim rest [
-                        | inl has ↦ absurd (other_name _ met found is acts has)
+                        | inl has ↦ absurd (other_name _ met found is sets has)
                         | inr rest ↦ elim rest [
-                          | inl has ↦ absurd (other_name _ met found is explains has)
+                          | inl has ↦ absurd (other_name _ met found is acts has)
                           | inr rest ↦ elim rest [
-                            | inl has ↦ absurd (other_name _ met found is shows has)
+                            | inl has ↦ absurd (other_name _ met found is explains has)
                             | inr rest ↦ elim rest [
-                              | inl has ↦ absurd (other_name _ met found is plots has)
+                              | inl has ↦ absurd (other_name _ met found is shows has)
                               | inr rest ↦ elim rest [
-                                | inl has ↦ absurd (other_name _ met found is keys has)
-                                | inr no_more ↦ absurd no_more
+                                | inl has ↦ absurd (other_name _ met found is plots has)
+                                | inr rest ↦ elim rest [
+                                  | inl has ↦ absurd (other_name _ met found is keys has)
+                                  | inr no_more ↦ absurd no_more
+                                ]
                               ]
                             ]
                           ]

@@ -107,18 +107,20 @@ poll_command = with_rules (new_app (codes "poll"))
     ∷ number_rule (codes "deadline") 1 86400 ∷ flag_rule (codes "check-clock")
     ∷ number_rule (codes "ahead") 0 31536000 ∷ flag_rule (codes "strict")
     ∷ options_rule (codes "expect") ∷ number_rule (codes "timeout") 1 3600
+    ∷ number_rule (codes "retries") 0 100
     ∷ flag_rule (codes "wrapper") ∷ number_rule (codes "client") 1 127
     ∷ option_rule (codes "server") ∷ flag_rule (codes "wide")
-    ∷ number_rule (codes "information") 128 2030 ∷ [])
+    ∷ number_rule (codes "information") 128 2030 ∷ option_rule (codes "security")
+    ∷ option_rule (codes "counter-from") ∷ [])
 
 -- the meter to ask, the client that asks, whether the frames are explained, and the longest value
 abbrev pub asking_rules : List Rule
 asking_rules =
     option_rule (codes "server") ∷ flag_rule (codes "wide")
     ∷ number_rule (codes "information") 128 2030 ∷ flag_rule (codes "wrapper")
-    ∷ number_rule (codes "timeout") 1 3600
+    ∷ number_rule (codes "timeout") 1 3600 ∷ number_rule (codes "retries") 0 100
     ∷ number_rule (codes "client") 1 127 ∷ option_rule (codes "secret-file")
-    ∷ option_rule (codes "security")
+    ∷ option_rule (codes "security") ∷ option_rule (codes "counter-from")
     ∷ short_flag_rule (codes "verbose") 118 ∷ number_rule (codes "most") 1 16777216 ∷ []
 
 abbrev pub get_command : App
@@ -137,7 +139,14 @@ profile_command = with_rules
     (with_rules (new_app (codes "profile"))
     (wanted_rule (codes "PLACE") ∷ value_rule (codes "NAME") ∷ option_rule (codes "from")
     ∷ option_rule (codes "to") ∷ number_rule (codes "last") 1 1000000 ∷ flag_rule (codes "csv")
-    ∷ flag_rule (codes "json") ∷ flag_rule (codes "raw") ∷ []))
+    ∷ flag_rule (codes "json") ∷ flag_rule (codes "raw") ∷ flag_rule (codes "quiet") ∷ []))
+    asking_rules
+
+abbrev pub clock_command : App
+clock_command = with_rules
+    (with_rules (new_app (codes "clock"))
+    (wanted_rule (codes "PLACE") ∷ flag_rule (codes "set")
+    ∷ number_rule (codes "threshold") 0 86400 ∷ flag_rule (codes "json") ∷ []))
     asking_rules
 
 abbrev pub set_command : App
@@ -157,7 +166,7 @@ act_command = with_rules
 abbrev pub explain_command : App
 explain_command = with_rules (new_app (codes "explain"))
     (value_rule (codes "FILE") ∷ flag_rule (codes "raw") ∷ flag_rule (codes "short")
-    ∷ flag_rule (codes "hex") ∷ flag_rule (codes "json") ∷ [])
+    ∷ flag_rule (codes "hex") ∷ flag_rule (codes "json") ∷ option_rule (codes "keys") ∷ [])
 
 abbrev pub show_command : App
 show_command = with_rules (new_app (codes "show"))
@@ -186,8 +195,8 @@ top = record (new_app (codes "dlms")) {
 
 abbrev pub commands : List App
 commands = format_command ∷ replay_command ∷ loopback_command ∷ serve_command ∷ poll_command
-    ∷ get_command ∷ list_command ∷ profile_command ∷ set_command ∷ act_command ∷ explain_command
-    ∷ show_command ∷ plot_command ∷ keys_command ∷ []
+    ∷ get_command ∷ list_command ∷ profile_command ∷ clock_command ∷ set_command ∷ act_command
+    ∷ explain_command ∷ show_command ∷ plot_command ∷ keys_command ∷ []
 
 abbrev pub dlms : App
 dlms = with_commands top commands

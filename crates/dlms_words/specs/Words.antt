@@ -7,7 +7,7 @@ use Rattle.clap.specs.Words.{Row, Text, all_of, first_of}
 use Rattle.clap.specs.declared.error.Error.{Error}
 use Rattle.clap.specs.declared.error.kind.ErrorKind.TheVariants.{ArgumentConflict, InvalidValue}
 use Rattle.dlms_words.specs.declared.commands.Job.{Job}
-use Rattle.dlms_words.specs.declared.commands.Job.TheVariants.{Format, Replay, Loopback, Serve, Poll, Get, List as ListOf, Profile, Set, Act, Explain, Show, Plot, Keys}
+use Rattle.dlms_words.specs.declared.commands.Job.TheVariants.{Format, Replay, Loopback, Serve, Poll, Get, List as ListOf, Profile, Clock, Set, Act, Explain, Show, Plot, Keys}
 use Rattle.dlms_words.specs.declared.commands.Asking.{Asking}
 use Rattle.dlms_words.specs.declared.commands.Expecting.{Expecting}
 use Rattle.dlms_words.specs.declared.commands.MeterOptions.{MeterOptions}
@@ -18,7 +18,7 @@ use Rattle.dlms_words.specs.declared.commands.TableFormat.TheVariants as table
 use Rattle.dlms_words.specs.declared.commands.ValueFormat.{ValueFormat}
 use Rattle.dlms_words.specs.declared.commands.ValueFormat.TheVariants as value
 use Rattle.dlms_words.specs.declared.commands.ValueFormat.TheVariants.{Encoding}
-use Rattle.dlms_words.specs.declared.words.TheConstants.{AHEAD, CLIENT, DEADLINE, IDLE, INACTIVITY, MOST, TICK, TIMEOUT, TURN}
+use Rattle.dlms_words.specs.declared.words.TheConstants.{AHEAD, CLIENT, DEADLINE, IDLE, INACTIVITY, MOST, THRESHOLD, TICK, TIMEOUT, TURN}
 use Rattle.dlms_words.specs.Addresses.{IsAddress, is_device, line_of}
 use Rattle.dlms_words.specs.Numbers.{IsNumberOf}
 use Rattle.dlms_frame.specs.declared.client.Client.{Client}
@@ -117,7 +117,8 @@ ChoosesFormat rows format = (json : Bool) × IsSaid (first_of (codes "json") row
     × (format ≡ output_format json)
 
 -- the meter and the way to it: its place and address, the size of its frames, the carrier, the
--- secret, and how long an answer is waited for
+-- secret, the keys and where the last counter is read, how long an answer is waited for, and how
+-- often the meter is called again
 pub record IsMeter (rows : List Row) (meter : MeterOptions) : Type 0 where
   pub place : meter.place.now ≡ unwrap_or (first_of (codes "PLACE") rows) []
   pub server : option_map (λ s. s.now) meter.server ≡ first_of (codes "server") rows
@@ -125,14 +126,15 @@ pub record IsMeter (rows : List Row) (meter : MeterOptions) : Type 0 where
   pub information : MaySayFor (codes "information") rows meter.information
   pub wrapper : IsSaid (first_of (codes "wrapper") rows) meter.wrapper
   pub secret : option_map (λ f. f.now) meter.secret_file ≡ first_of (codes "secret-file") rows
+  pub security : option_map (λ f. f.now) meter.security ≡ first_of (codes "security") rows
+  pub counter : option_map (λ n. n.now) meter.counter_from ≡ first_of (codes "counter-from") rows
   pub timeout : IsSaidFor (codes "timeout") rows TIMEOUT meter.timeout
+  pub retries : MaySayFor (codes "retries") rows meter.retries
 
--- the meter to ask, the client that asks and its keys, whether the frames are explained, and the
--- longest value
+-- the meter to ask, the client that asks, whether the frames are explained, and the longest value
 pub record IsAsking (rows : List Row) (asking : Asking) : Type 0 where
   pub meter : IsMeter rows asking.meter
   pub client : IsSaidFor (codes "client") rows CLIENT asking.client
-  pub security : option_map (λ f. f.now) asking.security ≡ first_of (codes "security") rows
   pub verbose : IsSaid (first_of (codes "verbose") rows) asking.verbose
   pub most : IsSaidFor (codes "most") rows MOST asking.most
 
@@ -195,6 +197,12 @@ Asks met (Profile options) = (rows : List Row) × (met ≡ Some (codes "profile"
     × MaySayFor (codes "last") rows options.last
     × ChoosesTable rows options.format
     × IsSaid (first_of (codes "raw") rows) options.raw
+    × IsSaid (first_of (codes "quiet") rows) options.quiet
+Asks met (Clock options) = (rows : List Row) × (met ≡ Some (codes "clock", rows))
+    × IsAsking rows options.asking
+    × IsSaid (first_of (codes "set") rows) options.set
+    × IsSaidFor (codes "threshold") rows THRESHOLD options.threshold
+    × ChoosesFormat rows options.format
 Asks met (Set options) = (rows : List Row) × (met ≡ Some (codes "set", rows))
     × IsAsking rows options.asking
     × (options.name.now ≡ unwrap_or (first_of (codes "NAME") rows) [])
@@ -210,6 +218,7 @@ Asks met (Explain options) = (rows : List Row) × (met ≡ Some (codes "explain"
     × IsSaid (first_of (codes "raw") rows) options.raw
     × IsSaid (first_of (codes "short") rows) options.short
     × IsSaid (first_of (codes "hex") rows) options.hex × ChoosesFormat rows options.format
+    × (option_map (λ f. f.now) options.keys ≡ first_of (codes "keys") rows)
 Asks met (Show options) = (rows : List Row) × (met ≡ Some (codes "show", rows))
     × (options.file.now ≡ unwrap_or (file_in rows) [])
     × IsSaid (first_of (codes "plot") rows) options.plot
@@ -223,7 +232,8 @@ Asks met (Keys options) = (rows : List Row) × (met ≡ Some (codes "keys", rows
 
 -- the commands that make a request of any meter
 abbrev pub requests : List Text
-requests = codes "get" ∷ codes "list" ∷ codes "profile" ∷ codes "set" ∷ codes "act" ∷ []
+requests = codes "get" ∷ codes "list" ∷ codes "profile" ∷ codes "clock" ∷ codes "set" ∷ codes "act"
+    ∷ []
 
 -- what was found is none of these commands
 abbrev pub IsNoneOf : List Text → Met → Type 0
@@ -279,10 +289,23 @@ ShowsSecret met = (command : Text) × (rows : List Row) × (met ≡ Some (comman
     × IsTrue (is_some (first_of (codes "security") rows))
     × IsTrue (is_some (first_of (codes "secret-file") rows))
 
--- two are given and one is wanted
+-- the meter's last counter is to be read for an association that is not protected
+abbrev pub ReadsIdleCounter : Met → Type 0
+ReadsIdleCounter met = (command : Text) × (rows : List Row) × (met ≡ Some (command, rows))
+    × IsTrue (is_some (first_of (codes "counter-from") rows))
+    × (first_of (codes "security") rows ≡ None)
+
+-- texts are expected, for which the meter is asked in clear, and the association is to be protected
+abbrev pub ExpectsInClear : Met → Type 0
+ExpectsInClear met = (command : Text) × (rows : List Row) × (met ≡ Some (command, rows))
+    × IsTrue (is_some (first_of (codes "expect") rows))
+    × IsTrue (is_some (first_of (codes "security") rows))
+
+-- two are given and one is wanted, or one is given that needs another
 abbrev pub AsksBoth : Met → Type 0
 AsksBoth met = AsksTwoClients met ⊎ GivesClientTwice met ⊎ NamesTwoPlaces met ⊎ WrapsLine met
-    ⊎ WidensPort met ⊎ SizesMessages met ⊎ ShowsSecret met
+    ⊎ WidensPort met ⊎ SizesMessages met ⊎ ShowsSecret met ⊎ ReadsIdleCounter met
+    ⊎ ExpectsInClear met
 
 -- the line of a place, unless it is the device of a serial line
 abbrev pub line_address : Option Text → Option Text

@@ -17,8 +17,14 @@ pub struct MeterOptions<'a> {
     pub wrapper: bool,
     /// The file of the client's secret, if one is given.
     pub secret_file: Option<&'a str>,
+    /// The file of the client's keys, if the association is to be protected.
+    pub security: Option<&'a str>,
+    /// The object that has the last frame counter that the meter accepted from the client, if it is to be read.
+    pub counter_from: Option<&'a str>,
     /// For how many seconds an answer is waited for.
     pub timeout: u32,
+    /// How many times a meter that does not answer is called again, if that is given.
+    pub retries: Option<u32>,
 }
 
 /// The meter to ask, and the client that asks. Without a file of its secret, none is sent.
@@ -27,8 +33,6 @@ pub struct Asking<'a> {
     pub meter: MeterOptions<'a>,
     /// The client's address, 1 to 127.
     pub client: u32,
-    /// The file of the client's keys, if the association is to be protected.
-    pub security: Option<&'a str>,
     /// Whether the frames are explained.
     pub verbose: bool,
     /// How many octets the encoding of a value from the meter has at most.
@@ -166,6 +170,19 @@ pub struct ProfileOptions<'a> {
     pub format: TableFormat,
     /// Whether values are printed as the meter sends them, without their scalers and units.
     pub raw: bool,
+    /// Whether no progress is shown.
+    pub quiet: bool,
+}
+
+/// The options of `clock`.
+#[derive(Clone, Copy)]
+pub struct ClockOptions<'a> {
+    pub asking: Asking<'a>,
+    /// Whether the clock is set.
+    pub set: bool,
+    /// By how many seconds a clock may be off that is not set.
+    pub threshold: u32,
+    pub format: OutputFormat,
 }
 
 /// The options of `set`.
@@ -204,6 +221,8 @@ pub struct ExplainOptions<'a> {
     /// Whether each frame's octets are printed beside it.
     pub hex: bool,
     pub format: OutputFormat,
+    /// The file with the keys that open ciphered APDUs.
+    pub keys: Option<&'a str>,
 }
 
 /// The options of `show`.
@@ -254,6 +273,8 @@ pub enum Job<'a> {
     List(ListOptions<'a>),
     /// Prints rows of a meter's profile.
     Profile(ProfileOptions<'a>),
+    /// Compares a meter's clock with the system's, and sets it if that is asked for.
+    Clock(ClockOptions<'a>),
     /// Sets an attribute of a meter.
     Set(SetOptions<'a>),
     /// Calls a method of a meter.

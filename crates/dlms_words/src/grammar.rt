@@ -7,7 +7,7 @@ ghost use Rattle.dlms_words.specs.Grammar.{AreAllLocal, app_for, dlms, top};
 
 use crate::arguments::{Argument, Kind, with_arguments, with_commands};
 use crate::help::{
-    ABOUT, ACT_ABOUT, EXPLAIN_ABOUT, FORMAT_ABOUT, GET_ABOUT, KEYS_ABOUT, LIST_ABOUT,
+    ABOUT, ACT_ABOUT, CLOCK_ABOUT, EXPLAIN_ABOUT, FORMAT_ABOUT, GET_ABOUT, KEYS_ABOUT, LIST_ABOUT,
     LOOPBACK_ABOUT, PLOT_ABOUT, POLL_ABOUT, PROFILE_ABOUT, REPLAY_ABOUT, SERVE_ABOUT, SET_ABOUT,
     SHOW_ABOUT,
 };
@@ -41,6 +41,12 @@ const TIMEOUT: Argument = Argument {
     help: "For how long an answer is waited for, 1 to 3600 [default: 2]",
 };
 
+const RETRIES: Argument = Argument {
+    name: "retries",
+    kind: Kind::Number("COUNT", 0, 100),
+    help: "How many times a meter that does not answer is called again, 0 to 100 [default: 0; a poll goes on until its deadline]",
+};
+
 const SERVER: Argument = Argument {
     name: "server",
     kind: Kind::Option("UPPER[/LOWER]"),
@@ -65,6 +71,18 @@ const SECRET_FILE: Argument = Argument {
     help: "The file with the client's secret",
 };
 
+const SECURITY: Argument = Argument {
+    name: "security",
+    kind: Kind::Option("FILE"),
+    help: "Protects the association with the keys in FILE (security suite 0)",
+};
+
+const COUNTER_FROM: Argument = Argument {
+    name: "counter-from",
+    kind: Kind::Option("NAME"),
+    help: "With --security: reads the last counter from the object NAME of class Data, as the public client",
+};
+
 /// The meter to ask, the client that asks, whether the frames are explained, and the longest value.
 const ASKING: &[Argument] = &[
     SERVER,
@@ -72,17 +90,15 @@ const ASKING: &[Argument] = &[
     INFORMATION,
     WRAPPER,
     TIMEOUT,
+    RETRIES,
     Argument {
         name: "client",
         kind: Kind::Number("SAP", 1, 127),
         help: "The client's address, 1 to 127 [default: 16, the public client]",
     },
     SECRET_FILE,
-    Argument {
-        name: "security",
-        kind: Kind::Option("FILE"),
-        help: "Protects the association with the keys in FILE (security suite 0)",
-    },
+    SECURITY,
+    COUNTER_FROM,
     Argument {
         name: "verbose",
         kind: Kind::ShortFlag('v'),
@@ -96,7 +112,7 @@ const ASKING: &[Argument] = &[
 ];
 
 /// The program's commands.
-const COMMANDS: [CommandWords; 14] = [
+const COMMANDS: [CommandWords; 15] = [
     CommandWords {
         name: "format",
         about: "Makes a new meter in FILE",
@@ -260,6 +276,7 @@ const COMMANDS: [CommandWords; 14] = [
                 help: "Polls only a meter whose object NAME shows TEXT; may be given up to four times",
             },
             TIMEOUT,
+            RETRIES,
             WRAPPER,
             Argument {
                 name: "client",
@@ -269,6 +286,8 @@ const COMMANDS: [CommandWords; 14] = [
             SERVER,
             WIDE,
             INFORMATION,
+            SECURITY,
+            COUNTER_FROM,
         ],
         more: &[],
     },
@@ -371,6 +390,40 @@ const COMMANDS: [CommandWords; 14] = [
                 kind: Kind::Flag,
                 help: "Prints the numbers of the meter, without scalers and units",
             },
+            Argument {
+                name: "quiet",
+                kind: Kind::Flag,
+                help: "Shows no progress on a terminal",
+            },
+        ],
+        more: ASKING,
+    },
+    CommandWords {
+        name: "clock",
+        about: "Compares the clock of the meter at PLACE with the system's, and sets it",
+        long_about: CLOCK_ABOUT,
+        example: "Example:\n  dlms clock 127.0.0.1:4059 --set --client 1 --secret-file secret",
+        arguments: &[
+            Argument {
+                name: "PLACE",
+                kind: Kind::Wanted,
+                help: "Where the meter is, HOST:PORT or a serial line",
+            },
+            Argument {
+                name: "set",
+                kind: Kind::Flag,
+                help: "Sets the clock if it is off by more than the threshold",
+            },
+            Argument {
+                name: "threshold",
+                kind: Kind::Number("SECONDS", 0, 86_400),
+                help: "With --set: by how many seconds the clock may be off, 0 to 86400 [default: 5]",
+            },
+            Argument {
+                name: "json",
+                kind: Kind::Flag,
+                help: "Prints JSON",
+            },
         ],
         more: ASKING,
     },
@@ -462,6 +515,11 @@ const COMMANDS: [CommandWords; 14] = [
                 name: "json",
                 kind: Kind::Flag,
                 help: "Prints an object of JSON for each frame",
+            },
+            Argument {
+                name: "keys",
+                kind: Kind::Option("FILE"),
+                help: "Opens ciphered APDUs with the keys in FILE (security suite 0)",
             },
         ],
         more: &[],

@@ -88,11 +88,11 @@ or the new one. Prints a line \"clock,r0,r1,r2\" for each new row, before it is 
 again with the next poll. A row is filed if it is later than FILE's last row and than every row before it in the answer; a line on \
 standard error says how many rows were left out, and which was the first. With --strict such an answer is refused instead. Until \
 the deadline, a connection that is refused or lost is made again, and a meter that does not answer is asked again, one second \
-later. With --expect NAME=TEXT the meter is polled only if its object NAME of class Data shows TEXT, as in \
+later. With --security every message is protected with the keys in FILE, as in get. With --expect NAME=TEXT the meter is polled only if its object NAME of class Data shows TEXT, as in \
 --expect 0.0.42.0.0.255=RTL0000000000001; up to four may be given, and if one differs, nothing is filed. Without --expect the \
 first poll into a new FILE writes on standard error what the meter calls itself. Only one poll at a time uses FILE, by a lock on \
 FILE.lock, which stays there. A frame without an answer within two seconds, or --timeout, is sent again, at most three times; over the wrapper nothing is sent \
-again, and the poll begins anew over another connection.
+again, and the poll begins anew over another connection. With --retries COUNT it begins anew at most COUNT times.
 
 Exit status: 0; 1 after a fault (dlms: io, with the file or PLACE and the system's message on a second line; dlms: server for an \
 invalid address; dlms: place if PLACE does not fit the options; dlms: line N for a line of FILE that is not a line of readings; \
@@ -100,16 +100,16 @@ dlms: secret for a secret of more than 16 bytes; dlms: line if nobody answers, \
 or the deadline is over, as a second line says; dlms: protocol (also if the rows have other columns than the clock and the three \
 registers), dlms: refused N or dlms: result N for the poll; dlms: clock N if, with --strict, row N is not later than the one \
 before it; dlms: ahead N if row N is too far past the system's clock, of the poll or of FILE, as a second line says; dlms: expect \
-if the meter does not show an expected TEXT; dlms: memory); 2 for invalid arguments, and for this help.";
+if the meter does not show an expected TEXT; with --security dlms: keys, dlms: counters or dlms: security, as for get; dlms: memory); 2 for invalid arguments, and for this help.";
 
 /// What `get` does, for its help.
 pub const GET_ABOUT: &str = "Asks the meter at PLACE for attributes, and prints their values.
 
 PLACE is HOST:PORT for TCP, or a path that begins with / for a serial line. The meter is asked over HDLC, or with --wrapper over the TCP wrapper (IEC 62056-47). PLACE may also say which, as hdlc://HOST:PORT, wrapper://HOST:PORT or serial:///dev/ttyUSB0. Set a serial line up first, as with \"stty -F /dev/ttyUSB0 9600 raw -echo\"; no other program may be using it.
 
-NAMES is a logical name with the number of an attribute after a slash, 2 without one: 1.0.1.8.0.255, 1.0.99.1.0.255/3; or several of them with commas between them. The class of an object is the one that --class gives. Without it, 0.0.1.0.0.255 is the clock, 0.0.40.0.0.255, 0.0.41.0.0.255 and 0.0.42.0.0.255 have the classes 15, 17 and 1, and any other is looked up in the meter's object list. Prints one line for each value, as explain prints them, and the elements of an array or a structure below it; for a register its number with its scaler and unit, as 0.042 kWh, with energies in thousands of their unit. If there are several names, each value comes after its name, and a name that the meter refuses or does not have does not stop the others. With --raw it prints the value's encoding in pairs of hexadecimal digits, whatever else is given; with --json an object of JSON with name, attribute, class and value, and for a register scaler and unit if it has them. Asks as the public client, 16, or as the client of --client, with the secret in the file of --secret-file, or without one. With --security every message is protected with the keys in FILE (security suite 0), as dlms keys --help describes it. --server gives the meter's address [default: 1]: UPPER, in one octet, or UPPER/LOWER, in two octets if both are below 128 and in four otherwise; with --wide it always has four. With --information the link proposes that the meter sends up to so many octets of information in a frame, 128 to 2030, and the program sends fewer than 128 if the meter's answer asks for that; otherwise nothing is proposed, and a frame has at most 128. Over the wrapper --server is the meter's wrapper port, 0 to 65535, and --client the client's. With -v each frame, or each message of the wrapper, is explained on standard error. A value whose encoding has more than 4194304 octets, or more than --most, is not printed: its next block is not asked for. A frame without an answer within two seconds, or --timeout, is sent again, at most three times; over the wrapper nothing is sent again, and such a silence is dlms: line.
+NAMES is a logical name with the number of an attribute after a slash, 2 without one: 1.0.1.8.0.255, 1.0.99.1.0.255/3; or several of them with commas between them. The class of an object is the one that --class gives. Without it, 0.0.1.0.0.255 is the clock, 0.0.40.0.0.255, 0.0.41.0.0.255 and 0.0.42.0.0.255 have the classes 15, 17 and 1, and any other is looked up in the meter's object list. Prints one line for each value, as explain prints them, and the elements of an array or a structure below it; for a register its number with its scaler and unit, as 0.042 kWh, with energies in thousands of their unit. If there are several names, each value comes after its name, and a name that the meter refuses or does not have does not stop the others. With --raw it prints the value's encoding in pairs of hexadecimal digits, whatever else is given; with --json an object of JSON with name, attribute, class and value, and for a register scaler and unit if it has them. Asks as the public client, 16, or as the client of --client, with the secret in the file of --secret-file, or without one. With --security every message is protected with the keys in FILE (security suite 0), as dlms keys --help describes it. --server gives the meter's address [default: 1]: UPPER, in one octet, or UPPER/LOWER, in two octets if both are below 128 and in four otherwise; with --wide it always has four. With --information the link proposes that number, 128 to 2030, as the most octets of information in a frame of the meter, and the program sends fewer than 128 if the meter's answer asks for that; otherwise nothing is proposed, and a frame has at most 128. Over the wrapper --server is the meter's wrapper port, 0 to 65535, and --client the client's. With -v each frame, or each message of the wrapper, is explained on standard error. A value whose encoding has more than 4194304 octets, or more than --most, is not printed: its next block is not asked for. A frame without an answer within two seconds, or --timeout, is sent again, at most three times; over the wrapper nothing is sent again, and such a silence is dlms: line. With --retries COUNT a meter that refuses the connection, or does not answer before the request was sent, is called again a second later, up to COUNT times.
 
-Exit status: 0; 1 after a fault (dlms: io, with PLACE or the file and the system's message on a second line; dlms: name or dlms: server for an invalid name or address; dlms: place if PLACE does not fit the options; dlms: class for an object that is not in the list; dlms: secret for a secret of more than 16 bytes; dlms: large for a value of more octets than allowed; dlms: line, dlms: protocol, dlms: refused N, dlms: denied N or dlms: result N for the exchange; dlms: memory); 2 for invalid arguments, and for this help.";
+Exit status: 0; 1 after a fault (dlms: io, with PLACE or the file and the system's message on a second line; dlms: name or dlms: server for an invalid name or address; dlms: place if PLACE does not fit the options; dlms: class for an object that is not in the list; dlms: secret for a secret of more than 16 bytes; dlms: large for a value of more octets than allowed; dlms: line, dlms: protocol, dlms: refused N, dlms: denied N or dlms: result N for the exchange; with --security dlms: keys for an invalid FILE, dlms: counters for its counters, and dlms: security if the meter does not prove itself, or a message is not protected as it must be; dlms: memory); 2 for invalid arguments, and for this help.";
 
 /// What `list` does, for its help.
 pub const LIST_ABOUT: &str =
@@ -128,9 +128,24 @@ the last N with --last. A TIME is 2026-01-31, 2026-01-31T12:00 or 2026-01-31T12:
 all of that day. Prints a table with a column for each capture object, times as 2026-01-31T12:00:00, and numbers with their scalers \
 and units; with --csv a line of names and a line for each row; with --json an object with columns and rows. With --raw numbers are \
 printed as the meter sends them. A null is printed as the value that it stands for: that of the row before, or for a clock the time \
-one capture period later. PLACE and the options for the meter and the client are the same as in get.
+one capture period later. The rows of a table and of CSV are printed as they come; JSON is printed once it is complete. If standard \
+error is a terminal, it shows meanwhile how many rows have come, unless --quiet is given. PLACE and the options for the meter and \
+the client are the same as in get.
 
 Exit status: the same as for get; dlms: time for an invalid TIME.";
+
+/// What `clock` does, for its help.
+pub const CLOCK_ABOUT: &str =
+    "Compares the clock of the meter at PLACE with the system's, and sets it if that is asked for.
+
+Prints the time of the meter's clock, 0.0.1.0.0.255, with its offset from UTC, the system's time, and by how many seconds the \
+meter's clock is ahead or behind. A clock that says no offset is taken to show UTC. With --set a clock that is off by more than \
+--threshold seconds is corrected: it is shifted by the difference if that is at most 900 seconds and the meter has the method for \
+it; otherwise it is set to the system's time, with the offset that it had. Then it is read and compared again. With --json it prints \
+an object with meter, system, ahead (in seconds, negative if the clock is behind), done, which is nothing, shifted or set, and, if the \
+clock was corrected, after, with the first three once more. PLACE and the options for the meter and the client are the same as in get.
+
+Exit status: the same as for set, also if a clock is off and not set.";
 
 /// What `set` does, for its help.
 pub const SET_ABOUT: &str = "Sets an attribute of the meter at PLACE.
@@ -162,8 +177,17 @@ address, > or <, the meter's address, and what the APDU says without the parts o
 it, up to the first that may not be shown or is shown by its length; for a segment, only its head. With --json each line is an \
 object: time, from, client, meter, lower, kind, length, service, object, told and octets for a frame, and its text for anything else.
 
+With --keys ciphered APDUs of security suite 0 are opened, under global and dedicated keys, and explained below their own lines, after \
+one that says \"authenticated\", \"encrypted only: not authenticated\", \"tag wrong\", or why else it was not opened; with --short the \
+line is that of the APDU inside; with --json it is in opened, with authenticated, service, object and told, or the reason is in closed. \
+FILE is a TOML text that only its owner may read: at most 256 [[station]] tables with title, the system title of a meter, or of a \
+client, in 16 hexadecimal digits; encryption-key, its global unicast key in 32; and authentication-key, in 32, which is needed if there \
+is a tag. A message is opened with the keys of its sender or receiver, whose titles are in it or in the association before it; if it has \
+a tag, the keys of the other stations are tried too. No key is printed, nor is a secret. An APDU of more than 1024 octets is not opened. \
+Counters are not compared: old messages are opened too.
+
 Exit status: 0, also if the reader of the output closes it early; 1 after a fault (dlms: io, with FILE or the stream and the \
-system's message on a second line; dlms: memory); 2 for invalid arguments, and for this help.";
+system's message on a second line; dlms: keys, with the file of keys; dlms: memory); 2 for invalid arguments, and for this help.";
 
 /// What `show` does, for its help.
 pub const SHOW_ABOUT: &str =

@@ -3,13 +3,13 @@ ghost use Rattle.std.specs.Prelude.{◌≡◌, ◌⊎◌, ◌↔◌, [], List, N
 ghost use Rattle.clap.specs.Values.{kind_of};
 ghost use Rattle.clap.specs.Words.{all_of, fault_of, first_of, Row, FailsBy, HasKind, subcommand_rows_of, subcommand_of};
 ghost use Rattle.dlms_words.specs.Grammar.{dlms};
-ghost use Rattle.dlms_words.specs.Words.{asker as client_by, address_in, line_address, GivesClientTwice, IsMeter, NamesClientAnd, Asks, AsksBoth, AsksTwoClients, WrapsLine, MaySay, MaySayFor, table_format, IsAsking, IsClear, IsExpecting, IsNoneOf, IsUnclear, NamesNoAddress, NamesTwoPlaces, nth_of, output_format, requests, IsSaid, IsSaidFor, Says, SaysAhead, SaysStops, ShowsSecret, SizesMessages, WidensPort, value_format};
+ghost use Rattle.dlms_words.specs.Words.{asker as client_by, address_in, line_address, GivesClientTwice, IsMeter, NamesClientAnd, Asks, AsksBoth, AsksTwoClients, WrapsLine, MaySay, MaySayFor, table_format, IsAsking, IsClear, IsExpecting, IsNoneOf, IsUnclear, NamesNoAddress, NamesTwoPlaces, nth_of, output_format, requests, IsSaid, IsSaidFor, Says, SaysAhead, SaysStops, ReadsIdleCounter, ShowsSecret, SizesMessages, WidensPort, ExpectsInClear, value_format};
 
 use crate::addresses::{is_address, is_device, split_place};
 use crate::commands::{
-    ActOptions, Asking, Expecting, ExplainOptions, FormatOptions, GetOptions, Job, KeysOptions,
-    ListOptions, LoopbackOptions, MeterOptions, OutputFormat, PlotOptions, PollOptions,
-    ProfileOptions, ServeOptions, SetOptions, ShowOptions, TableFormat, ValueFormat,
+    ActOptions, Asking, ClockOptions, Expecting, ExplainOptions, FormatOptions, GetOptions, Job,
+    KeysOptions, ListOptions, LoopbackOptions, MeterOptions, OutputFormat, PlotOptions,
+    PollOptions, ProfileOptions, ServeOptions, SetOptions, ShowOptions, TableFormat, ValueFormat,
 };
 use crate::grammar::program;
 use clap::error::ErrorKind;
@@ -44,6 +44,9 @@ const AHEAD: u32 = 86_400;
 /// The default client: the public client (IEC 62056-46, reserved addresses).
 const CLIENT: u32 = 16;
 
+/// The default number of seconds by which a clock may be off that is not set.
+const THRESHOLD: u32 = 5;
+
 /// How many octets the encoding of a value from the meter has at most when nothing is said: 4 MiB.
 const MOST: u32 = 4_194_304;
 
@@ -67,6 +70,12 @@ const NO_FRAMES: &str = "the argument '--information' cannot be used with '--wra
 
 /// The message if an association is to be protected, and a secret is given.
 const NO_SECRET: &str = "the argument '--security' cannot be used with '--secret-file'";
+
+/// The message if the meter's last counter is to be read for an association that is not protected.
+const NO_KEYS: &str = "the argument '--counter-from' cannot be used without '--security'";
+
+/// The message if texts are expected of a meter that is to be asked for nothing in clear.
+const EXPECTS_IN_CLEAR: &str = "the argument '--expect' cannot be used with '--security'";
 
 /// The message if an address is invalid.
 const NO_ADDRESS: &str = "an address is expected as HOST:PORT, with a port of 0 to 65535";
@@ -288,7 +297,10 @@ fn meter<'a>(matches: &ArgMatches<'a>, command: &str) -> MeterOptions<'a>
         information: given_number_for(matches, command, "information"),
         wrapper,
         secret_file: value_for(matches, command, "secret-file"),
+        security: value_for(matches, command, "security"),
+        counter_from: value_for(matches, command, "counter-from"),
         timeout: number_for(matches, command, "timeout", TIMEOUT),
+        retries: given_number_for(matches, command, "retries"),
     }
 }
 
@@ -340,6 +352,7 @@ fn explain_job<'a>(matches: &ArgMatches<'a>) -> Job<'a>
         short,
         hex,
         format: output_format(json),
+        keys: value_for(matches, "explain", "keys"),
     })
 }
 
@@ -376,7 +389,6 @@ fn asking<'a>(matches: &ArgMatches<'a>, command: &str) -> Asking<'a>
     Asking {
         meter: meter(matches, command),
         client: number_for(matches, command, "client", CLIENT),
-        security: value_for(matches, command, "security"),
         verbose,
         most: number_for(matches, command, "most", MOST),
     }
@@ -417,6 +429,7 @@ fn profile_job<'a>(matches: &ArgMatches<'a>) -> Job<'a>
     let csv = is_given(value_for(matches, "profile", "csv"));
     let json = is_given(value_for(matches, "profile", "json"));
     let raw = is_given(value_for(matches, "profile", "raw"));
+    let quiet = is_given(value_for(matches, "profile", "quiet"));
     Job::Profile(ProfileOptions {
         asking: asking(matches, "profile"),
         name: value_for(matches, "profile", "NAME"),
@@ -425,6 +438,22 @@ fn profile_job<'a>(matches: &ArgMatches<'a>) -> Job<'a>
         last: given_number_for(matches, "profile", "last"),
         format: table_format(csv, json),
         raw,
+        quiet,
+    })
+}
+
+/// The values of `clock`.
+fn clock_job<'a>(matches: &ArgMatches<'a>) -> Job<'a>
+    ensures { (rows : List Row) → subcommand_rows_of matches.now ≡ Some (codes "clock", rows)
+        → Asks (Some (codes "clock", rows)) result }
+{
+    let set = is_given(value_for(matches, "clock", "set"));
+    let json = is_given(value_for(matches, "clock", "json"));
+    Job::Clock(ClockOptions {
+        asking: asking(matches, "clock"),
+        set,
+        threshold: number_for(matches, "clock", "threshold", THRESHOLD),
+        format: output_format(json),
     })
 }
 
@@ -467,6 +496,9 @@ fn request_job<'a>(matches: &ArgMatches<'a>) -> Option<Job<'a>>
     }
     if matches.subcommand_name() == Some("profile") {
         return Some(profile_job(matches));
+    }
+    if matches.subcommand_name() == Some("clock") {
+        return Some(clock_job(matches));
     }
     if matches.subcommand_name() == Some("set") {
         return Some(set_job(matches));
@@ -576,7 +608,31 @@ fn shows_secret(matches: &ArgMatches<'_>) -> bool
     is_protected && has_secret
 }
 
-/// The message if two are given and one is wanted.
+/// Whether the meter's last counter is to be read for an association that is not protected.
+fn reads_idle_counter(matches: &ArgMatches<'_>) -> bool
+    ensures { IsTrue result ↔ ReadsIdleCounter (subcommand_rows_of matches.now) }
+{
+    let Some(command) = matches.subcommand_name() else {
+        return false;
+    };
+    let reads_counter = is_named(matches, command, "counter-from");
+    let is_protected = is_named(matches, command, "security");
+    reads_counter && !is_protected
+}
+
+/// Whether texts are expected of a meter, for which it is asked in clear, and the association is to be protected.
+fn expects_in_clear(matches: &ArgMatches<'_>) -> bool
+    ensures { IsTrue result ↔ ExpectsInClear (subcommand_rows_of matches.now) }
+{
+    let Some(command) = matches.subcommand_name() else {
+        return false;
+    };
+    let expects = is_named(matches, command, "expect");
+    let is_protected = is_named(matches, command, "security");
+    expects && is_protected
+}
+
+/// The message if two are given and one is wanted, or one is given that needs another.
 fn conflict(matches: &ArgMatches<'_>) -> Option<&'static str>
     ensures some { OnSome result (AsksBoth (subcommand_rows_of matches.now)) }
     ensures none { IfNone result (AsksBoth (subcommand_rows_of matches.now) → ⊥) }
@@ -601,6 +657,12 @@ fn conflict(matches: &ArgMatches<'_>) -> Option<&'static str>
     }
     if shows_secret(matches) {
         return Some(NO_SECRET);
+    }
+    if reads_idle_counter(matches) {
+        return Some(NO_KEYS);
+    }
+    if expects_in_clear(matches) {
+        return Some(EXPECTS_IN_CLEAR);
     }
     None
 }

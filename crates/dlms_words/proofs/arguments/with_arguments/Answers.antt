@@ -1,6 +1,6 @@
 use Rattle.std.proofs.Common.{◌≡◌, ◌∙◌, false, ap, List, map}
 use Rattle.std.proofs.lemmas.Result.{IfOk-weaker}
-use Rattle.clap.specs.Words.{AddsArg, AddsInTurn, Rule, app_of, rule_of}
+use Rattle.clap.specs.Words.{AddsArg, AddsInTurn, Rule, app_of}
 use Rattle.clap.specs.declared.builder.command.Command.TheViews.{out-Command as fields_of}
 use Rattle.dlms_words.specs.Grammar.{rule_for, with_rules}
 use Rattle.dlms_words.proofs.ArgumentLemmas.{added, none_global}

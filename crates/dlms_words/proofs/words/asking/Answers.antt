@@ -1,4 +1,4 @@
-use Rattle.std.proofs.Common.{rules, refl, subst}
+use Rattle.std.proofs.Common.{subst}
 use Rattle.std.specs.Prelude.{Option}
 use Rattle.clap.specs.Words.{Text}
 use Rattle.dlms_words.specs.Words.{IsSaid}
@@ -8,7 +8,6 @@ pub returns : goal.returns
 returns c = λ rows met. record {
   meter = c.meter.ensures rows met;
   client = c.number_for.ensures rows met;
-  security = c.value_for-2.ensures rows met;
   verbose = subst (λ (said : Option Text). IsSaid said c.is_given-verbose.result) (c.value_for.ensures rows met) c.is_given-verbose.ensures;
   most = c.number_for-2.ensures rows met;
 }

@@ -1,5 +1,5 @@
-use Rattle.std.proofs.Common.{rules, ◌≡◌, List, Option, Some, IsTrue, codes, subst}
-use Rattle.clap.specs.Words.{Row, Text, first_of, subcommand_rows_of}
+use Rattle.std.proofs.Common.{rules, Option, codes, subst}
+use Rattle.clap.specs.Words.{Text, subcommand_rows_of}
 use Rattle.dlms_words.specs.Words.{IsSaid}
 use Rattle.dlms_words.proofs.WordLemmas.{met_named}
 use Rattle.dlms_words.proofs.words.asks_two_clients.Goals as goal

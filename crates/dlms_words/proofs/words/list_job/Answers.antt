@@ -1,4 +1,4 @@
-use Rattle.std.proofs.Common.{rules, refl, subst}
+use Rattle.std.proofs.Common.{refl, subst}
 use Rattle.std.specs.Prelude.{Option}
 use Rattle.clap.specs.Words.{Text}
 use Rattle.dlms_words.specs.Words.{IsSaid}

@@ -1,5 +1,5 @@
-use Rattle.std.proofs.Common.{rules, ◌≡◌, sym, List, Option, Some, Bool, IsTrue, codes, subst}
-use Rattle.clap.specs.Words.{Row, Text, first_of, subcommand_rows_of}
+use Rattle.std.proofs.Common.{rules, sym, Bool, IsTrue, codes, subst}
+use Rattle.clap.specs.Words.{subcommand_rows_of}
 use Rattle.dlms_words.proofs.WordLemmas.{met_named}
 use Rattle.dlms_words.proofs.words.names_two_places.Goals as goal
 

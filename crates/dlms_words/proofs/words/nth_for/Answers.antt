@@ -1,4 +1,4 @@
-use Rattle.std.proofs.Common.{◌≡◌, ◌∙◌, sym, ap, Some, None, option_map}
+use Rattle.std.proofs.Common.{◌≡◌, ◌∙◌, sym, ap, option_map}
 use Rattle.clap.proofs.WalkLemmas.{raw_values-rows}
 use Rattle.clap.specs.Words.{all_of, found_of}
 use Rattle.clap.specs.Walk.{rows_of}

@@ -22,10 +22,15 @@ returns-then-eq-3-clause-some c =
 
 pub returns-then-eq-4-clause-some : goal.returns-then-eq-4-clause-some
 returns-then-eq-4-clause-some c =
-    let named = met_named (codes "set") (subcommand_rows_of c.args.matches.now) (search rules) in
-    subst (λ (m : Option (Text × List Row)). Asks m c.set_job.result) (sym named.1) (c.set_job.ensures named.0 named.1)
+    let named = met_named (codes "clock") (subcommand_rows_of c.args.matches.now) (search rules) in
+    subst (λ (m : Option (Text × List Row)). Asks m c.clock_job.result) (sym named.1) (c.clock_job.ensures named.0 named.1)
 
 pub returns-then-eq-5-clause-some : goal.returns-then-eq-5-clause-some
 returns-then-eq-5-clause-some c =
+    let named = met_named (codes "set") (subcommand_rows_of c.args.matches.now) (search rules) in
+    subst (λ (m : Option (Text × List Row)). Asks m c.set_job.result) (sym named.1) (c.set_job.ensures named.0 named.1)
+
+pub returns-then-eq-6-clause-some : goal.returns-then-eq-6-clause-some
+returns-then-eq-6-clause-some c =
     let named = met_named (codes "act") (subcommand_rows_of c.args.matches.now) (search rules) in
     subst (λ (m : Option (Text × List Row)). Asks m c.act_job.result) (sym named.1) (c.act_job.ensures named.0 named.1)

@@ -1,7 +1,4 @@
-use Rattle.std.proofs.Common.{rules, refl, subst}
-use Rattle.std.specs.Prelude.{Option}
-use Rattle.clap.specs.Words.{Text}
-use Rattle.dlms_words.specs.Words.{IsSaid}
+use Rattle.std.proofs.Common.{rules, refl}
 use Rattle.dlms_words.proofs.words.set_job.Goals as goal
 
 pub returns : goal.returns

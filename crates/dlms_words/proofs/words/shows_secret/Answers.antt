@@ -1,4 +1,4 @@
-use Rattle.std.proofs.Common.{rules, ◌≡◌, ◌∙◌, sym, List, Option, Some, Bool, IsTrue, is_some, codes, subst}
+use Rattle.std.proofs.Common.{rules, ◌∙◌, sym, List, Bool, IsTrue, is_some, codes, subst}
 use Rattle.clap.specs.Words.{Row, Text, first_of, subcommand_rows_of}
 use Rattle.dlms_words.proofs.WordLemmas.{met_named, same_some}
 use Rattle.dlms_words.proofs.words.shows_secret.Goals as goal
