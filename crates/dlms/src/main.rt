@@ -1,8 +1,9 @@
 //! The program: a meter in a file or in memory, and what reads it.
 #![tactic(auto)]
 
-use dlms_command::{Fault, finish, run};
+use dlms_command::{Fault, Terminals, finish, run};
 use std::alloc::{AllocError, Allocator};
+use std::io::IsTerminal;
 use std::process::ExitCode;
 use std::rt::Env;
 use std::{env, io};
@@ -33,7 +34,19 @@ fn slices_of<'a, A: Allocator>(
 /// Carries out the job of the arguments, on the standard streams.
 fn status_by(rt: &HostRuntime, words: &[&str]) -> io::Result<u8> {
     let mut errors = rt.stderr();
-    run(rt, words, &mut rt.stdin(), &mut io::writer(rt), &mut errors)
+    let terminals = Terminals {
+        output: rt.stdout().is_terminal(),
+        errors: errors.is_terminal(),
+    };
+    let mut output = io::writer(rt);
+    run(
+        rt,
+        words,
+        &mut rt.stdin(),
+        &mut output,
+        &mut errors,
+        terminals,
+    )
 }
 
 /// Says that memory is wanting.

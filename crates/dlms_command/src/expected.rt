@@ -1,6 +1,6 @@
 //! The texts that a meter must show before it is polled, as `--expect` gives them.
 
-use crate::fault::Fault;
+use dlms_faults::Fault;
 use dlms_identity::Expected;
 use dlms_text::name_of;
 use dlms_words::Expecting;

@@ -8,14 +8,20 @@ ghost use Rattle.dlms_words.specs.Grammar.{dlms};
 ghost use Rattle.dlms_words.specs.Words.{AsksBoth, IsClear, NamesNoAddress};
 
 use clap::error::ErrorKind;
-use dlms_explain::{ExplainFault, Form as ExplainForm, Layout, explain};
+use dlms_asking::{
+    PollGuards, PollLine, ask_for_clock, ask_for_profile, ask_to_act, ask_to_get, ask_to_list,
+    ask_to_set, guards_of, poll_line, poll_secret, public_route, run_keys, stations_of,
+};
+use dlms_explain::{ExplainFault, Form as ExplainForm, Layout, explain_with};
 use dlms_filing::FilePlace;
 use dlms_loopback::{loopback, sockets};
 use dlms_meter::Meter;
 use dlms_pages::{FilePages, MemoryPages, Pages};
 use dlms_plot::{Form, plot_readings};
-use dlms_polling::{PollSetup, Polling, poll};
+use dlms_polling::{MOST_RETRIES, PollSetup, Polling, poll};
+use dlms_printing::Showing;
 use dlms_program::{Buffered, Sink, Source, replay};
+use dlms_security::{NoKeys, Opener};
 use dlms_serving::{Carrier, Serving, Times, serve, serve_line};
 use dlms_show::{Curve, ShowFault, show_file};
 use dlms_store::{AddFault, OpenFault, PAGES};
@@ -34,36 +40,17 @@ use std::rt::Files;
 use std::time::Clock;
 use std::{fs, io};
 
-mod asking;
-mod buffer_rows;
-mod columns;
 mod demo;
 mod expected;
-mod explained_messages;
-mod explained_stream;
-mod fault;
-mod given;
 mod introduced;
-mod keys;
-mod objects;
 mod occupant;
-mod other_values;
-mod profile;
-mod requests;
-mod route;
-mod security;
 mod streams;
-mod table;
-mod telling;
 mod watched;
 
-use asking::{ask_for_profile, ask_to_act, ask_to_get, ask_to_list, ask_to_set};
+pub use dlms_faults::Fault;
 use expected::expected_of;
-pub use fault::Fault;
 use introduced::{introduce, is_new};
-use keys::run_keys;
 use occupant::refuse_occupied;
-use route::{PollLine, poll_line, poll_secret, public_route};
 use streams::{Input, Output, flush};
 use watched::Watched;
 
@@ -85,6 +72,24 @@ const INPUT_NAME: &str = "-";
 
 /// The descriptor of standard error (POSIX, STDERR_FILENO).
 const STANDARD_ERROR: RawFd = 2;
+
+/// Which of the streams are terminals.
+#[derive(Clone, Copy, Debug, PartialEq, Eq)]
+pub struct Terminals {
+    pub output: bool,
+    pub errors: bool,
+}
+
+/// What is shown of the progress of a command: nothing if nobody watches the errors; only a line at the end if what is printed goes to
+/// a terminal too.
+fn showing_for(terminals: Terminals, is_quiet: bool) -> Showing {
+    match terminals {
+        _ if is_quiet => Showing::Nothing,
+        Terminals { errors: false, .. } => Showing::Nothing,
+        Terminals { output: true, .. } => Showing::Total,
+        Terminals { output: false, .. } => Showing::Progress,
+    }
+}
 
 /// The status of a run that came to its end.
 pub const DONE: u8 = 0;
@@ -411,11 +416,18 @@ fn run_serve<'a, H: Net + Files<File = File> + Clock + AllocGlobal, W: Write, E:
     served
 }
 
-/// Polls the meter at an address once. A new file of readings begins with the name of the meter, among the errors.
+/// Polls the meter at an address once. A new file of readings begins with the name of the meter, among the errors; not if the poll is
+/// protected, since the name is asked for in clear.
 #[inline(never)]
-fn run_poll_of<'a, H: Net + Files<File = File> + Clock + AllocGlobal, W: Write, E: Write>(
+fn run_poll_of<
+    'a,
+    H: Net + Files<File = File> + Clock + AllocGlobal + RandomSource,
+    W: Write,
+    E: Write,
+>(
     host: &H,
     polling: &Polling<'a, '_>,
+    guards: PollGuards<'a, '_, H>,
     timeout: u32,
     output: &mut W,
     errors: &mut E,
@@ -423,19 +435,23 @@ fn run_poll_of<'a, H: Net + Files<File = File> + Clock + AllocGlobal, W: Write, 
     requires { IfSome polling.now.route IsRoute }
 {
     let new_file = polling.readings.filter(|file| is_new(host, *file));
-    let mut setup = PollSetup::of(host, timeout);
+    let mut setup = PollSetup::of(host, timeout, guards);
     let told = match poll(host.alloc(), &mut setup, polling, output, errors) {
         Ok(()) => Ok(()),
-        Err(fault) => Err(Fault::of_field(
-            host.alloc(),
-            polling.address,
-            polling.readings,
-            polling.secret_file,
-            fault,
-        )),
+        Err(fault) => match setup.guards.told(&fault) {
+            Some(own) => Err(own),
+            None => Err(Fault::of_field(
+                host.alloc(),
+                polling.address,
+                polling.readings,
+                polling.secret_file,
+                fault,
+            )),
+        },
     };
+    let is_introduced = polling.expected.is_empty() && !polling.is_protected;
     match new_file {
-        Some(file) if told.is_ok() && polling.expected.is_empty() => {
+        Some(file) if told.is_ok() && is_introduced => {
             let route = public_route(polling.route);
             let line = &mut setup.line;
             let _told = introduce(host.alloc(), line, route, polling.address, file, errors);
@@ -446,29 +462,42 @@ fn run_poll_of<'a, H: Net + Files<File = File> + Clock + AllocGlobal, W: Write, 
     told
 }
 
-/// Polls the meter at an address once, if it shows the texts of `--expect`.
-fn run_poll<'a, H: Net + Files<File = File> + Clock + AllocGlobal, W: Write, E: Write>(
-    host: &H,
-    options: &PollOptions<'a>,
-    output: &mut W,
-    errors: &mut E,
-) -> Result<(), Fault<'a>> {
+/// Polls the meter at an address once, if it shows the texts of `--expect`; with `--security` in a protected association.
+fn run_poll<
+    'a,
+    H: Net + Files<File = File> + Clock + AllocGlobal + RandomSource,
+    W: Write,
+    E: Write,
+>(host: &H, options: &PollOptions<'a>, output: &mut W, errors: &mut E) -> Result<(), Fault<'a>> {
     let PollLine { address, route } = poll_line(options)?;
-    let expected = expected_of(host.alloc(), &options.expecting)?;
+    let (guards, left) = guards_of(host, options)?;
+    let expected = match expected_of(host.alloc(), &options.expecting) {
+        Ok(expected) => expected,
+        Err(fault) => {
+            drop(guards);
+            return Err(fault);
+        }
+    };
     let polling = Polling {
         address,
         route,
         readings: options.readings,
         secret_file: poll_secret(options, route),
         client: options.client,
-        deadline: options.deadline,
+        deadline: left,
+        retries: options.meter.retries.unwrap_or(MOST_RETRIES),
         ahead: options.ahead,
         strict: options.strict,
         expected: expected.as_slice(),
+        is_protected: options.meter.security.is_some(),
     };
-    let told = run_poll_of(host, &polling, options.meter.timeout, output, errors);
+    let timeout = options.meter.timeout;
+    let told = run_poll_of(host, &polling, guards, timeout, output, errors);
     drop(expected);
-    told
+    match told {
+        Err(Fault::Late(place, _)) => Err(Fault::Late(place, options.deadline)),
+        told => told,
+    }
 }
 
 /// The file's name, unless it is the one that means standard input.
@@ -493,25 +522,45 @@ fn run_explain<'a, H: Files<File = File> + AllocGlobal, R: Read + Drop, W: Write
         raw: options.raw,
         hex: options.hex,
     };
-    let Some(file) = named_file(options.file) else {
-        return explain_input(host, form, INPUT, input, output);
+    let Some(keys) = options.keys else {
+        return explain_file(host, form, NoKeys, options.file, input, output);
+    };
+    let stations = stations_of(host, keys)?;
+    let told = explain_file(host, form, &stations, options.file, input, output);
+    drop(stations);
+    told
+}
+
+/// The same, with what opens ciphered APDUs.
+#[inline(never)]
+fn explain_file<'a, H: Files<File = File> + AllocGlobal, O: Opener, R: Read + Drop, W: Write>(
+    host: &H,
+    form: ExplainForm,
+    opener: O,
+    file: Option<&'a str>,
+    input: R,
+    output: &mut W,
+) -> Result<(), Fault<'a>> {
+    let Some(file) = named_file(file) else {
+        return explain_input(host, form, opener, INPUT, input, output);
     };
     match fs::open(host, file) {
-        Ok(opened) => explain_input(host, form, file, opened, output),
+        Ok(opened) => explain_input(host, form, opener, file, opened, output),
         Err(error) => Err(Fault::of_system(host.alloc(), file, &error)),
     }
 }
 
 /// Explains the frames on an input. The explanation of a line is written before the next line is waited for.
-fn explain_input<'a, H: AllocGlobal, R: Read + Drop, W: Write>(
+fn explain_input<'a, H: AllocGlobal, O: Opener, R: Read + Drop, W: Write>(
     host: &H,
     form: ExplainForm,
+    opener: O,
     place: &'a str,
     input: R,
     output: &mut W,
 ) -> Result<(), Fault<'a>> {
     let mut reader = buffer_input(host.alloc(), input)?;
-    let explained = match explain(host.alloc(), form, &mut reader, output) {
+    let explained = match explain_with(host.alloc(), form, opener, &mut reader, output) {
         Ok(()) => Ok(()),
         Err(ExplainFault::Memory) => Err(Fault::MEMORY),
         Err(ExplainFault::Input) => Err(Fault::Input(place)),
@@ -632,7 +681,14 @@ fn run_job<
     R: Read + Drop,
     W: Write,
     E: Write,
->(host: &H, job: Job<'a>, input: R, output: &mut W, errors: &mut E) -> Result<(), Fault<'a>> {
+>(
+    host: &H,
+    job: Job<'a>,
+    input: R,
+    output: &mut W,
+    errors: &mut E,
+    terminals: Terminals,
+) -> Result<(), Fault<'a>> {
     match job {
         Job::Format(options) => unread(run_format(host, &options, output), input),
         Job::Replay(Some(file)) => run_replay_file(host, file, input, output),
@@ -643,7 +699,14 @@ fn run_job<
         Job::Explain(options) => run_explain(host, &options, input, output),
         Job::Get(options) => unread(ask_to_get(host, &options, output, errors), input),
         Job::List(options) => unread(ask_to_list(host, &options, output, errors), input),
-        Job::Profile(options) => unread(ask_for_profile(host, &options, output, errors), input),
+        Job::Profile(options) => {
+            let showing = showing_for(terminals, options.quiet);
+            unread(
+                ask_for_profile(host, &options, showing, output, errors),
+                input,
+            )
+        }
+        Job::Clock(options) => unread(ask_for_clock(host, &options, output, errors), input),
         Job::Set(options) => unread(ask_to_set(host, &options, output, errors), input),
         Job::Act(options) => unread(ask_to_act(host, &options, output, errors), input),
         Job::Show(options) => unread(run_show(host, &options, output), input),
@@ -690,13 +753,21 @@ fn outcome<'a>(
 }
 
 /// Does the job that the arguments name (the first is the program's own name), and returns its status. A replay reads the input,
-/// output is printed on the output, and a fault's name and the help go to the errors. An Err comes if the errors can't be written.
+/// output is printed on the output, and a fault's name and the help go to the errors, with the progress if they are a terminal. An Err
+/// comes if the errors can't be written.
 pub fn run<
     H: Net + Files<File = File> + Clock + AllocGlobal + RandomSource,
     R: Read + Drop,
     W: Write,
     E: Write,
->(host: &H, words: &[&str], input: R, output: &mut W, errors: &mut E) -> io::Result<u8>
+>(
+    host: &H,
+    words: &[&str],
+    input: R,
+    output: &mut W,
+    errors: &mut E,
+    terminals: Terminals,
+) -> io::Result<u8>
     // Arguments that ask for nothing give the status 2 (or 1 if memory runs out), and no others give 2: those that clap refuses, those with
     // two options that exclude each other, and those without a valid address.
     ensures done { IfOk result (λ status. status ≡ DONE
@@ -710,7 +781,7 @@ pub fn run<
     match job(host.alloc(), words) {
         Ok(job) => {
             let mut output = Watched::new(output);
-            let ended = run_job(host, job, input, &mut output, errors);
+            let ended = run_job(host, job, input, &mut output, errors, terminals);
             finish(outcome(host.alloc(), &job, ended, output.failure()), errors)
         }
         Err(error) if error.kind() == ErrorKind::OutOfMemory => {

@@ -8,7 +8,7 @@
 #![tactic(auto)]
 
 use anyhow::Result;
-use dlms_command::run;
+use dlms_command::{Terminals, run};
 use sha2::{Digest, Sha256};
 use std::alloc::{AllocError, Global};
 use std::fs;
@@ -31,6 +31,12 @@ const PROGRAM: &str = "dlms";
 
 /// The kind of a case whose lines are given one by one.
 const TALK: &str = "talk";
+
+/// Nobody watches the streams of a case.
+const NO_TERMINALS: Terminals = Terminals {
+    output: false,
+    errors: false,
+};
 
 /// A case as the list has it: the words after its status are the program's arguments.
 #[derive(Clone, Copy)]
@@ -136,7 +142,8 @@ fn talked<R: Net + Files<File = File> + Clock + AllocGlobal + RandomSource>(
 ) -> Result<(u8, Vec<u8>)> {
     let turns = Turns::new();
     let mut output = Hearing::new(rt.alloc(), &turns);
-    match run(rt, words, Asking::new(input, &turns), &mut output, errors) {
+    let asking = Asking::new(input, &turns);
+    match run(rt, words, asking, &mut output, errors, NO_TERMINALS) {
         Ok(status) => Ok((status, output.into_heard())),
         Err(fault) => {
             drop(output);
@@ -157,7 +164,7 @@ fn printed<R: Net + Files<File = File> + Clock + AllocGlobal + RandomSource>(
         return talked(rt, words, input, errors);
     }
     let mut output = Vec::new(rt.alloc());
-    match run(rt, words, input, &mut output, errors) {
+    match run(rt, words, input, &mut output, errors, NO_TERMINALS) {
         Ok(status) => Ok((status, output)),
         Err(fault) => {
             drop(output);

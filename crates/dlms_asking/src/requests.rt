@@ -2,15 +2,14 @@
 
 ghost use Rattle.std.specs.Prelude.{◌≤◌, ◌<◌, ◌+◌, ◌≡◌, ◌⊎◌, MatchOption};
 ghost use Rattle.dlms_data.specs.declared.date_time.TheConstants.{LAST_SECOND};
-ghost use Rattle.dlms_command.specs.declared.requests.TheConstants.{BEGINNING};
+ghost use Rattle.dlms_asking.specs.declared.requests.TheConstants.{BEGINNING};
 
-use crate::fault::Fault;
-use crate::objects::class_named;
-use crate::telling::{Teller, put_clock, put_line};
 use dlms_call::{CallFault, ClientEnd, act, end, get, set};
 use dlms_client::Answer;
 use dlms_data::{Data, Descriptor, LAST_SECOND};
 use dlms_ends::End;
+use dlms_faults::Fault;
+use dlms_printing::{Teller, class_named, put_clock, put_line};
 use dlms_text::{Front, Name, ValueFault, front_of, name_of, value_of};
 use dlms_words::{OutputFormat, ValueFormat};
 use std::alloc::Global;
@@ -25,7 +24,7 @@ const ASSOCIATION: u16 = 15;
 const CURRENT: [u8; 6] = [0, 0, 40, 0, 0, 255];
 
 /// The attribute of its object list, and of what most classes keep.
-const SECOND: u8 = 2;
+pub const SECOND: u8 = 2;
 
 /// The classes Register, Extended register and Demand register.
 const REGISTER: u16 = 3;
@@ -49,7 +48,7 @@ const DATA: u16 = 1;
 const ASSIGNMENT: u16 = 17;
 
 /// The class Clock, whose time its attribute 2 is.
-const CLOCK: u16 = 8;
+pub const CLOCK: u16 = 8;
 
 /// The second of a meter's clock, counted from 2000-01-01 00:00:00, at this second of the system's; `None` if no meter's clock can
 /// show it, before 2000 or after 2099.
@@ -445,7 +444,7 @@ impl<'a, S: End> MeterSession<'a, '_, S> {
     }
 
     /// Sets an attribute.
-    fn set_to(
+    pub fn set_to(
         &mut self,
         said: &'a str,
         attribute: Descriptor,
@@ -569,7 +568,7 @@ fn clock_called_by(method: Descriptor) -> Option<Descriptor> {
 }
 
 /// The octets of a date-time that an encoding says, as an octet-string or as a date-time.
-fn clock_in(bytes: &[u8]) -> Option<[u8; 12]> {
+pub fn clock_in(bytes: &[u8]) -> Option<[u8; 12]> {
     match bytes {
         [DATE_TIME, octets @ ..] => twelve(octets),
         [OCTET_STRING, 12, octets @ ..] => twelve(octets),

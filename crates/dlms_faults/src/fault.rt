@@ -8,7 +8,7 @@ use dlms_counters::{CounterFault, OpenFault as NotOpened};
 use dlms_ends::RunFault;
 use dlms_headend::{ColumnList, PollFault, ReadingsFault};
 use dlms_identity::Expected;
-use dlms_keys::{CountersFault, FileFault, Setting, SettingsFault};
+use dlms_keys::{CountersFault, FileFault, SettingsFault, StationsFault};
 use dlms_lines::{ClockFault, FieldFault};
 use dlms_names::{
     access_result, action_result, diagnostic, initiate_error, service_error, state_error,
@@ -86,8 +86,6 @@ pub enum Fault<'a> {
     Counters(&'a str, CountersFault),
     /// A call of the system failed for that file, in these words.
     CountersSystem(&'a str, String),
-    /// This setting of this file asks for what no association can have yet.
-    Unsupported(&'a str, Setting),
     /// The file of frame counters that this file of settings names could not be kept.
     Stored(&'a str, CounterFault),
     /// The security layer ended the association with the meter at this place.
@@ -141,6 +139,7 @@ impl<'a> Fault<'a> {
             }
             (RunFault::Poll(fault), _) => Fault::Poll(place, fault),
             (RunFault::Columns(list), _) => Fault::Columns(place, list),
+            (RunFault::Insecure(fault), _) => Fault::Security(place, fault),
             (fault, _) => Fault::Run(fault),
         }
     }
@@ -277,7 +276,9 @@ fn write_poll<W: fmt::Write>(
             let name = diagnostic(*number).unwrap_or("for a reason without a name");
             write!(f, "\n  {address}: the association is refused, {name}")?;
             if *number == AUTHENTICATION_FAILURE {
-                f.write_str("\n  --secret-file names the file with the client's secret")?;
+                f.write_str(
+                    "\n  --secret-file names the file with the client's secret, --security the one with its keys",
+                )?;
             }
             Ok(())
         }
@@ -395,6 +396,22 @@ fn write_stranger<W: fmt::Write>(
 }
 
 /// Names the setting that is missing or invalid, and the values that it may have. No value is written, since it could be a key.
+fn write_setting<W: fmt::Write>(f: &mut fmt::Formatter<W>, fault: &SettingsFault) -> fmt::Result {
+    match fault {
+        SettingsFault::Missing(setting) => {
+            let name = setting.name();
+            write!(f, "{name} is missing")
+        }
+        SettingsFault::Invalid(setting) => {
+            let name = setting.name();
+            let meaning = setting.meaning();
+            write!(f, "{name} is invalid: {meaning} is expected")
+        }
+        fault => write!(f, "{fault}"),
+    }
+}
+
+/// Says why a file of settings or of stations is refused.
 fn write_keys<W: fmt::Write>(
     f: &mut fmt::Formatter<W>,
     file: &str,
@@ -402,14 +419,10 @@ fn write_keys<W: fmt::Write>(
 ) -> fmt::Result {
     write!(f, "keys\n  {file}: ")?;
     match fault {
-        FileFault::Settings(SettingsFault::Missing(setting)) => {
-            let name = setting.name();
-            write!(f, "{name} is missing")
-        }
-        FileFault::Settings(SettingsFault::Invalid(setting)) => {
-            let name = setting.name();
-            let meaning = setting.meaning();
-            write!(f, "{name} is invalid: {meaning} is expected")
+        FileFault::Settings(fault) => write_setting(f, fault),
+        FileFault::Stations(StationsFault::At(number, fault)) => {
+            write!(f, "station {number}: ")?;
+            write_setting(f, fault)
         }
         fault => write!(f, "{fault}"),
     }
@@ -589,15 +602,6 @@ impl fmt::Display for Fault<'_> {
             Fault::CountersSystem(file, words) => {
                 let words = without_number(words.as_str());
                 write!(f, "io\n  {file}: its file of counters: {words}")
-            }
-            Fault::Unsupported(file, setting) => {
-                let name = setting.name();
-                let only = if *setting == Setting::Policy {
-                    "\"authenticated-encrypted\""
-                } else {
-                    "false"
-                };
-                write!(f, "keys\n  {file}: only {name} = {only} is supported")
             }
             Fault::Stored(file, fault) => write_stored(f, file, fault),
             Fault::Security(place, fault) => write_security(f, place, fault),

@@ -1,8 +1,9 @@
 //! The file of frame counters that a client's settings name: made, or shown.
 
-use crate::fault::Fault;
+use dlms_faults::Fault;
 use dlms_keys::{
-    CountersFault, FileFault, Settings, counters_path, make_counters, open_counters, read_settings,
+    CountersFault, FileFault, Settings, Stations, counters_path, make_counters, open_counters,
+    read_settings, read_stations,
 };
 use dlms_security::{Form, Policy};
 use dlms_words::KeysOptions;
@@ -44,6 +45,19 @@ pub fn settings_of<'a, H: Files + AllocGlobal>(
 ) -> Result<Settings, Fault<'a>> {
     match read_settings(host, file) {
         Ok(settings) => Ok(settings),
+        Err(FileFault::System(error)) => Err(Fault::of_system(host.alloc(), file, &error)),
+        Err(fault) => Err(Fault::Keys(file, fault)),
+    }
+}
+
+/// The stations of a file of keys.
+#[inline(never)]
+pub fn stations_of<'a, H: Files + AllocGlobal>(
+    host: &H,
+    file: &'a str,
+) -> Result<Stations, Fault<'a>> {
+    match read_stations(host, file) {
+        Ok(stations) => Ok(stations),
         Err(FileFault::System(error)) => Err(Fault::of_system(host.alloc(), file, &error)),
         Err(fault) => Err(Fault::Keys(file, fault)),
     }

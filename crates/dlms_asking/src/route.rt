@@ -3,8 +3,8 @@
 ghost use Rattle.std.specs.Prelude.{IfOk, IfSome};
 ghost use Rattle.dlms_carrier.specs.Any.{IsRoute};
 
-use crate::fault::Fault;
 use dlms_client::Route;
+use dlms_faults::Fault;
 use dlms_frame::{Address, Client};
 use dlms_text::server_of;
 use dlms_words::{MeterOptions, PollOptions, split_place};
@@ -108,14 +108,15 @@ fn lawful<'a>(route: Route, place: &'a str) -> Result<Route, Fault<'a>>
     }
 }
 
-/// The line of a poll.
+/// The line of a poll. A protected poll goes by a route in each case.
 pub fn poll_line<'a>(options: &PollOptions<'a>) -> Result<PollLine<'a>, Fault<'a>>
     ensures { IfOk result (λ line. IfSome line.route IsRoute) }
 {
     let meter = &options.meter;
     let (carrier, address) = line_of(meter)?;
     let is_addressed = options.sap.is_some() || meter.server.is_some() || meter.wide;
-    if carrier == Carrier::Hdlc && !is_addressed && meter.information.is_none() {
+    let is_routed = is_addressed || meter.security.is_some();
+    if carrier == Carrier::Hdlc && !is_routed && meter.information.is_none() {
         return Ok(PollLine {
             address,
             route: None,

@@ -3,10 +3,10 @@
 ghost use Rattle.std.specs.Prelude.{◌≤◌, IfOk};
 ghost use Rattle.dlms_data.specs.declared.date_time.TheConstants.{LAST_SECOND};
 
-use crate::fault::Fault;
 use crate::requests::{read_value, second_of};
 use dlms_data::{Data, octet_string_of};
 use dlms_ends::RunFault;
+use dlms_faults::Fault;
 use std::alloc::Global;
 use std::io::{ErrorKind, Read};
 use std::rt::Files;
@@ -20,7 +20,7 @@ const MOST_IN_FILE: usize = 65_536;
 const PIECE: usize = 512;
 
 /// The second of the system's clock, if a meter's clock can show it.
-fn now<'a, H: Clock>(host: &H) -> Result<u32, Fault<'a>>
+pub fn now<'a, H: Clock>(host: &H) -> Result<u32, Fault<'a>>
     ensures { IfOk result (λ second. second ≤ LAST_SECOND) }
 {
     match host.since_1970() {

@@ -1,6 +1,6 @@
 //! The objects of a meter, as its object list has them.
 
-use crate::telling::{append_code, append_labelled};
+use crate::values::{append_code, append_labelled};
 use dlms_data::Data;
 use dlms_explain::write_code;
 use dlms_names::class_of;

@@ -1,11 +1,11 @@
 //! The output for a meter's values and objects.
 
-use crate::fault::Fault;
 use crate::objects::{append_object, append_object_json};
 use crate::other_values::{append_any_json, append_float, append_other, float_in};
 use dlms_call::CallFault;
 use dlms_data::{Data, Descriptor};
 use dlms_explain::write_value;
+use dlms_faults::Fault;
 use dlms_names::unit_name;
 use dlms_text::{
     Front, ValueFault, append_decimal, append_number, append_pairs, append_quoted, first_of,

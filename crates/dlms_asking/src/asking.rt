@@ -2,8 +2,9 @@
 
 ghost use Rattle.dlms_client.specs.Plan.{IsPlan, plan_of};
 
+use crate::clock::{ClockRequest, clock_request};
+use crate::counter::last_counter;
 use crate::explained_stream::{ExplainedStream, Explanation};
-use crate::fault::Fault;
 use crate::given::value_given;
 use crate::profile::{ProfileRequest, request_of};
 use crate::requests::{MeterSession, read_name};
@@ -14,19 +15,22 @@ use dlms_call::{CallFault, ClientEnd, begin};
 use dlms_client::{Plan, Route};
 use dlms_data::Data;
 use dlms_ends::End;
+use dlms_faults::Fault;
 use dlms_frame::Client;
+use dlms_headend::PollFault;
 use dlms_lines::{Dialling, FieldFault, MeterLine};
-use dlms_polling::{HostPollInputs, secret_of};
+use dlms_polling::{HostPollInputs, PollInputs, secret_of};
+use dlms_printing::{Following, Progress, Showing, Unfollowed};
 use dlms_secured::{Guard, SecuredFault};
 use dlms_security::UnprotectFault;
 use dlms_words::{
-    ActOptions, Asking, GetOptions, ListOptions, OutputFormat, ProfileOptions, SetOptions,
-    ValueFormat,
+    ActOptions, Asking, ClockOptions, GetOptions, ListOptions, MeterOptions, OutputFormat,
+    ProfileOptions, SetOptions, ValueFormat,
 };
 use std::alloc::Global;
 use std::fs::File;
 use std::io;
-use std::io::Write;
+use std::io::{Read, Write};
 use std::net::Net;
 use std::random::RandomSource;
 use std::rt::Files;
@@ -36,13 +40,16 @@ use std::time::Clock;
 const SIZE: u16 = 1_024;
 
 /// The frame counters that are reserved for an association.
-const FEW_COUNTERS: u32 = 1_000;
+pub const FEW_COUNTERS: u32 = 1_000;
+
+/// The frame counters for a further name: its value in a few blocks, its scaler, and the answer's confirmations.
+const NAME_COUNTERS: u32 = 16;
 
 /// The octets of a value in a block, for which further counters are reserved.
-const LEAST_BLOCK: u32 = 512;
+pub const LEAST_BLOCK: u32 = 512;
 
 /// A message that is not newer than those of earlier associations.
-const STALE: SecuredFault = SecuredFault::Message(UnprotectFault::OldCounter);
+pub const STALE: SecuredFault = SecuredFault::Message(UnprotectFault::OldCounter);
 
 /// For how many seconds the addresses of a place are tried.
 const CONNECT_SECONDS: u32 = 60;
@@ -69,15 +76,14 @@ pub enum Request<'a> {
         class: u16,
     },
     Profile(ProfileRequest<'a>),
+    Clock(ClockRequest),
 }
 
-/// A call of a meter: the address or the device of the line to it, and the association on that line, with its protection if it has
-/// one.
+/// A call of a meter: the address or the device of the line to it, and the association on that line.
 #[derive(Drop)]
 struct Call<'a> {
     line: &'a str,
     plan: Plan,
-    protection: Option<Protection<'a>>,
 }
 
 /// The secret in the file, if a file is given.
@@ -100,10 +106,12 @@ fn secret<'a, H: Files + Clock>(
 
 /// The request, once the association is open.
 #[inline(never)]
-fn run_request<'a, S: End, W: Write>(
+fn run_request<'a, H: Clock, S: End, W: Write, P: Following>(
+    host: &H,
     talk: &mut MeterSession<'a, '_, S>,
     request: Request<'a>,
     output: &mut W,
+    progress: &mut P,
 ) -> Result<(), Fault<'a>> {
     match request {
         Request::Get {
@@ -114,7 +122,8 @@ fn run_request<'a, S: End, W: Write>(
         Request::List { format } => talk.list_all(format, output),
         Request::Set { name, value, class } => talk.set_one(name, value, class, output),
         Request::Act { name, value, class } => talk.act_one(name, value, class, output),
-        Request::Profile(profile) => talk.profile_one(profile, output),
+        Request::Profile(profile) => talk.profile_one(profile, output, progress),
+        Request::Clock(clock) => talk.clock_one(host, clock, output),
     }
 }
 
@@ -139,7 +148,7 @@ fn associate<S: End>(
 
 /// An association over a line, if its addresses are valid.
 #[inline(never)]
-fn open_association<'a, S: End>(
+pub fn open_association<'a, S: End>(
     alloc: Global,
     place: &'a str,
     plan: Plan,
@@ -170,7 +179,7 @@ fn keep<'a>(
     head: &ClientEnd<Global>,
 ) -> Result<(), Fault<'a>> {
     match counters {
-        Some(counters) => counters.keep(head),
+        Some(counters) => counters.keep(head.peer(), head.last_accepted()),
         None => Ok(()),
     }
 }
@@ -182,36 +191,40 @@ fn heed<'a>(
     head: &ClientEnd<Global>,
 ) -> Result<(), Fault<'a>> {
     match counters {
-        Some(counters) if !counters.is_fresh(head) => Err(Fault::Security(place, STALE)),
+        Some(counters) if !counters.is_fresh(head.peer(), head.last_accepted()) => {
+            Err(Fault::Security(place, STALE))
+        }
         counters => keep(counters, head),
     }
 }
 
-/// An association over a line, the request in it, and its end, whatever came of the request.
+/// An association over a line, the request in it, and its end, whatever came of the request. The request is taken once the
+/// association is open.
 #[inline(never)]
-fn exchange<'a, S: End, W: Write>(
-    alloc: Global,
+fn exchange<'a, H: Clock + AllocGlobal, S: End, W: Write, P: Following>(
+    host: &H,
     asking: &Asking<'a>,
     plan: Plan,
     protection: Option<Protection<'a>>,
     line: &mut S,
-    request: Request<'a>,
+    waiting: &mut Option<Request<'a>>,
     output: &mut W,
+    progress: &mut P,
     refused: &mut Vec<Fault<'a>>,
 ) -> Result<(), Fault<'a>> {
+    let alloc = host.alloc();
     let place = asking.meter.place;
     let (guard, mut counters) = parted(protection);
     let head = match open_association(alloc, place, plan, guard, line) {
         Ok(head) => head,
-        Err(fault) => {
-            drop(request);
-            return Err(fault);
-        }
+        Err(fault) => return Err(fault),
     };
     if let Err(fault) = heed(place, &mut counters, &head) {
-        drop(request);
         return Err(fault);
     }
+    let Some(request) = waiting.take() else {
+        return Ok(());
+    };
     let mut talk = MeterSession {
         alloc,
         place,
@@ -220,7 +233,7 @@ fn exchange<'a, S: End, W: Write>(
         most: asking.most,
         refused,
     };
-    let outcome = run_request(&mut talk, request, output);
+    let outcome = run_request(host, &mut talk, request, output, progress);
     talk.end();
     let kept = keep(&mut counters, &talk.head);
     outcome?;
@@ -231,7 +244,7 @@ fn exchange<'a, S: End, W: Write>(
 fn look<'a>(request: &Request<'a>) -> Result<(), Fault<'a>> {
     let names = match request {
         Request::Get { names, .. } => names,
-        Request::List { .. } => return Ok(()),
+        Request::List { .. } | Request::Clock(_) => return Ok(()),
         Request::Set { name, .. } => name,
         Request::Profile(profile) => {
             read_name(profile.name())?;
@@ -275,13 +288,13 @@ fn connect<'a, L: Dialling>(
 
 /// The line to the meter at a place.
 #[inline(never)]
-fn line_to<'a, 'r, H: Net + Files<File = File> + Clock + AllocGlobal>(
+pub fn line_to<'a, 'r, H: Net + Files<File = File> + Clock + AllocGlobal>(
     host: &'r H,
-    asking: &Asking<'a>,
+    meter: &MeterOptions<'a>,
     address: &str,
 ) -> Result<MeterLine<'r, H>, Fault<'a>> {
-    let mut line = MeterLine::new(host).waiting(asking.meter.timeout);
-    match connect(host.alloc(), &mut line, asking.meter.place, address) {
+    let mut line = MeterLine::new(host).waiting(meter.timeout);
+    match connect(host.alloc(), &mut line, meter.place, address) {
         Ok(()) => Ok(line),
         Err(fault) => {
             drop(line);
@@ -299,47 +312,41 @@ fn explanation(is_verbose: bool, route: Route) -> Explanation {
     }
 }
 
-/// The line to a meter, explained on standard error if that is asked for.
-fn explained_line_to<'a, 'r, 'e, H: Net + Files<File = File> + Clock + AllocGlobal, E: Write>(
-    host: &'r H,
-    asking: &Asking<'a>,
-    address: &str,
-    explanation: Explanation,
-    errors: &'e mut E,
-) -> Result<ExplainedStream<'e, MeterLine<'r, H>, E>, Fault<'a>> {
-    let line = match line_to(host, asking, address) {
-        Ok(line) => line,
-        Err(fault) => return Err(fault),
-    };
-    match ExplainedStream::new(host.alloc(), line, explanation, errors) {
-        Ok(line) => Ok(line),
-        Err(error) => Err(Fault::from(error)),
-    }
-}
-
-/// How many frame counters are reserved for an association with this request: as many as messages may be needed for the longest value.
+/// How many frame counters are reserved for an association with this request: a step, with some for each name, and as many as the
+/// longest value may need messages.
 fn counters_for(asking: &Asking<'_>, request: &Request<'_>) -> u32 {
-    match request {
-        Request::Set { .. } | Request::Act { .. } => FEW_COUNTERS,
-        _ => FEW_COUNTERS.saturating_add(asking.most / LEAST_BLOCK),
-    }
+    let names = match request {
+        Request::Set { .. } | Request::Act { .. } | Request::Clock(_) => return FEW_COUNTERS,
+        Request::Get { names, .. } => names.bytes().filter(|octet| *octet == b',').count(),
+        _ => 0,
+    };
+    let for_names = u32::try_from(names)
+        .unwrap_or(0)
+        .saturating_mul(NAME_COUNTERS);
+    FEW_COUNTERS
+        .saturating_add(for_names)
+        .saturating_add(asking.most / LEAST_BLOCK)
 }
 
 /// What protects the association, if it is to be protected.
-fn protection<'a, H: Files<File = File> + AllocGlobal + RandomSource>(
+fn protection<'a, H: Net + Files<File = File> + Clock + AllocGlobal + RandomSource>(
     host: &H,
     asking: &Asking<'a>,
-    request: &Request<'a>,
+    waiting: &Option<Request<'a>>,
 ) -> Result<Option<Protection<'a>>, Fault<'a>> {
-    let Some(file) = asking.security else {
+    let (Some(file), Some(request)) = (asking.meter.security, waiting) else {
         return Ok(None);
     };
-    let protection = protection_of(host, file, counters_for(asking, request))?;
+    let last = match asking.meter.counter_from {
+        Some(name) => Some(last_counter(host, &asking.meter, name)?),
+        None => None,
+    };
+    let protection = protection_of(host, file, last, counters_for(asking, request))?;
     Ok(Some(protection))
 }
 
 /// The call that is asked for, if the request's names are valid.
-fn call_of<'a, H: Files<File = File> + Clock + AllocGlobal + RandomSource>(
+fn call_of<'a, H: Files<File = File> + Clock + AllocGlobal>(
     host: &H,
     asking: &Asking<'a>,
     request: &Request<'a>,
@@ -347,7 +354,6 @@ fn call_of<'a, H: Files<File = File> + Clock + AllocGlobal + RandomSource>(
     look(request)?;
     let (route, line) = route_of(&asking.meter, asking.client)?;
     let secret = secret(host, host.alloc(), asking)?;
-    let protection = protection(host, asking, request)?;
     Ok(Call {
         line,
         plan: Plan {
@@ -355,7 +361,6 @@ fn call_of<'a, H: Files<File = File> + Clock + AllocGlobal + RandomSource>(
             secret,
             size: SIZE,
         },
-        protection,
     })
 }
 
@@ -386,36 +391,16 @@ fn close<S: Drop, E>(line: ExplainedStream<'_, S, E>) {
     drop(line);
 }
 
-/// Asks a meter over the line to it.
-fn ask_over<'a, 'r, 'e, H: Net + Files<File = File> + Clock + AllocGlobal, W: Write, E: Write>(
-    host: &'r H,
-    asking: &Asking<'a>,
-    plan: Plan,
-    protection: Option<Protection<'a>>,
-    line: ExplainedStream<'e, MeterLine<'r, H>, E>,
-    request: Request<'a>,
-    output: &mut W,
-    refused: &mut Vec<Fault<'a>>,
-) -> Result<(), Fault<'a>> {
-    let mut line = line;
-    let talked = exchange(
-        host.alloc(),
-        asking,
-        plan,
-        protection,
-        &mut line,
-        request,
-        output,
-        refused,
-    );
-    let told = with_system_error(
-        host.alloc(),
-        asking.meter.place,
-        talked,
-        line.stream.failure(),
-    );
-    close(line);
-    told
+/// A line that keeps the system's error if it failed.
+trait Failing {
+    /// The error, if the line failed.
+    fn error(&self) -> Option<io::Error>;
+}
+
+impl<H: Net + Files<File = File> + Clock + AllocGlobal> Failing for MeterLine<'_, H> {
+    fn error(&self) -> Option<io::Error> {
+        self.failure()
+    }
 }
 
 /// The result of a request in which these names failed: its last fault, after the others went to standard error.
@@ -439,40 +424,187 @@ fn with_refused<'a, E: Write>(
     }
 }
 
-/// Makes a call of a meter.
-fn ask_by<'a, H: Net + Files<File = File> + Clock + AllocGlobal, W: Write, E: Write>(
+/// Asks a meter over the line to it. What passes is explained on `explained` if that is asked for.
+fn ask_over<
+    'a,
+    H: Clock + AllocGlobal,
+    L: Read + Write + Failing + Drop,
+    W: Write,
+    X: Write,
+    P: Following,
+>(
     host: &H,
     asking: &Asking<'a>,
-    call: Call<'a>,
-    request: Request<'a>,
+    plan: Plan,
+    protection: Option<Protection<'a>>,
+    line: L,
+    waiting: &mut Option<Request<'a>>,
     output: &mut W,
-    errors: &mut E,
+    explained: &mut X,
+    progress: &mut P,
+    refused: &mut Vec<Fault<'a>>,
 ) -> Result<(), Fault<'a>> {
-    let Call {
-        line,
-        plan,
-        protection,
-    } = call;
+    let alloc = host.alloc();
     let explanation = explanation(asking.verbose, plan.route);
-    let line = match explained_line_to(host, asking, line, explanation, errors) {
+    let mut line = match ExplainedStream::new(alloc, line, explanation, explained) {
         Ok(line) => line,
-        Err(fault) => {
-            drop(request);
-            return Err(fault);
+        Err(_) => {
+            drop(protection);
+            return Err(Fault::MEMORY);
         }
     };
-    let mut refused = Vec::new(host.alloc());
-    let talked = ask_over(
+    let talked = exchange(
+        host, asking, plan, protection, &mut line, waiting, output, progress, refused,
+    );
+    let told = with_system_error(alloc, asking.meter.place, talked, line.stream.error());
+    close(line);
+    told
+}
+
+/// What is shown of the progress of a request.
+fn showing_of(waiting: &Option<Request<'_>>) -> Showing {
+    match waiting {
+        Some(Request::Profile(profile)) => profile.showing(),
+        _ => Showing::Nothing,
+    }
+}
+
+/// Asks a meter over the line to it, and shows the progress on standard error.
+fn ask_with_progress<
+    'a,
+    H: Clock + AllocGlobal,
+    L: Read + Write + Failing + Drop,
+    W: Write,
+    E: Write,
+>(
+    host: &H,
+    asking: &Asking<'a>,
+    plan: Plan,
+    protection: Option<Protection<'a>>,
+    line: L,
+    waiting: &mut Option<Request<'a>>,
+    output: &mut W,
+    errors: &mut E,
+    refused: &mut Vec<Fault<'a>>,
+) -> Result<(), Fault<'a>> {
+    let mut progress = Progress::new(host, host.alloc(), errors, showing_of(waiting));
+    let told = ask_over(
         host,
         asking,
         plan,
         protection,
         line,
-        request,
+        waiting,
         output,
-        &mut refused,
+        &mut io::sink(),
+        &mut progress,
+        refused,
     );
-    with_refused(refused, talked, errors)
+    drop(progress);
+    told
+}
+
+/// Calls a meter once.
+fn ask_once<
+    'a,
+    H: Net + Files<File = File> + Clock + AllocGlobal + RandomSource,
+    W: Write,
+    E: Write,
+>(
+    host: &H,
+    asking: &Asking<'a>,
+    call: Call<'a>,
+    waiting: &mut Option<Request<'a>>,
+    output: &mut W,
+    errors: &mut E,
+) -> Result<(), Fault<'a>> {
+    let Call { line, plan } = call;
+    let protection = protection(host, asking, waiting)?;
+    let line = match line_to(host, &asking.meter, line) {
+        Ok(line) => line,
+        Err(fault) => {
+            drop(protection);
+            return Err(fault);
+        }
+    };
+    let mut refused = Vec::new(host.alloc());
+    let told = if asking.verbose {
+        ask_over(
+            host,
+            asking,
+            plan,
+            protection,
+            line,
+            waiting,
+            output,
+            errors,
+            &mut Unfollowed,
+            &mut refused,
+        )
+    } else {
+        ask_with_progress(
+            host,
+            asking,
+            plan,
+            protection,
+            line,
+            waiting,
+            output,
+            errors,
+            &mut refused,
+        )
+    };
+    with_refused(refused, told, errors)
+}
+
+/// Whether the meter at this place did not answer, or its connection was refused or lost.
+pub fn is_silence(place: &str, fault: &Fault<'_>) -> bool {
+    match fault {
+        Fault::System(at, _) => *at == place,
+        Fault::Late(..) | Fault::Poll(_, PollFault::Line) | Fault::Call(_, CallFault::Io) => true,
+        _ => false,
+    }
+}
+
+/// The call for a request that waits.
+fn call_again<'a, H: Files<File = File> + Clock + AllocGlobal>(
+    host: &H,
+    asking: &Asking<'a>,
+    waiting: &Option<Request<'a>>,
+) -> Result<Option<Call<'a>>, Fault<'a>> {
+    match waiting {
+        Some(request) => Ok(Some(call_of(host, asking, request)?)),
+        None => Ok(None),
+    }
+}
+
+/// Calls a meter. One that does not answer is called again, a second later, as often as `--retries` says, but not once it may have
+/// got the request.
+fn ask_by<'a, H: Net + Files<File = File> + Clock + AllocGlobal + RandomSource, W: Write, E: Write>(
+    host: &H,
+    asking: &Asking<'a>,
+    call: Call<'a>,
+    waiting: &mut Option<Request<'a>>,
+    output: &mut W,
+    errors: &mut E,
+) -> Result<(), Fault<'a>> {
+    let mut told = ask_once(host, asking, call, waiting, output, errors);
+    'calls: for _call in 0..asking.meter.retries.unwrap_or(0) {
+        if waiting.is_none() {
+            return told;
+        }
+        match told {
+            Err(fault) if is_silence(asking.meter.place, &fault) => drop(fault),
+            told => return told,
+        }
+        let mut inputs = HostPollInputs::new(host);
+        inputs.pause();
+        let Some(call) = call_again(host, asking, waiting)? else {
+            return Ok(());
+        };
+        told = ask_once(host, asking, call, waiting, output, errors);
+    }
+    told
 }
 
 /// Asks a meter.
@@ -484,13 +616,17 @@ fn ask<'a, H: Net + Files<File = File> + Clock + AllocGlobal + RandomSource, W: 
     output: &mut W,
     errors: &mut E,
 ) -> Result<(), Fault<'a>> {
-    match call_of(host, asking, &request) {
-        Ok(call) => ask_by(host, asking, call, request, output, errors),
+    let call = match call_of(host, asking, &request) {
+        Ok(call) => call,
         Err(fault) => {
             drop(request);
-            Err(fault)
+            return Err(fault);
         }
-    }
+    };
+    let mut waiting = Some(request);
+    let told = ask_by(host, asking, call, &mut waiting, output, errors);
+    drop(waiting);
+    told
 }
 
 /// The number of a class; 0 for a number that is not of 16 bits.
@@ -528,15 +664,34 @@ pub fn ask_to_list<
     ask(host, &options.asking, request, output, errors)
 }
 
-/// Asks a meter for rows of a profile, and prints them.
+/// Asks a meter for rows of a profile, and prints them while they come. This is shown of the progress, unless the bytes of the line
+/// are explained.
 #[inline(never)]
 pub fn ask_for_profile<
     'a,
     H: Net + Files<File = File> + Clock + AllocGlobal + RandomSource,
     W: Write,
     E: Write,
->(host: &H, options: &ProfileOptions<'a>, output: &mut W, errors: &mut E) -> Result<(), Fault<'a>> {
-    let request = Request::Profile(request_of(options)?);
+>(
+    host: &H,
+    options: &ProfileOptions<'a>,
+    showing: Showing,
+    output: &mut W,
+    errors: &mut E,
+) -> Result<(), Fault<'a>> {
+    let request = Request::Profile(request_of(options, showing)?);
+    ask(host, &options.asking, request, output, errors)
+}
+
+/// Compares a meter's clock with the system's, and corrects it if that is asked for.
+#[inline(never)]
+pub fn ask_for_clock<
+    'a,
+    H: Net + Files<File = File> + Clock + AllocGlobal + RandomSource,
+    W: Write,
+    E: Write,
+>(host: &H, options: &ClockOptions<'a>, output: &mut W, errors: &mut E) -> Result<(), Fault<'a>> {
+    let request = Request::Clock(clock_request(options));
     ask(host, &options.asking, request, output, errors)
 }
 

@@ -1,10 +1,11 @@
 //! The rows of a profile as a table, as CSV or as JSON.
 
 use crate::buffer_rows::BufferRows;
-use crate::fault::Fault;
 use crate::other_values::{append_float, is_float};
-use crate::telling::{append_code, append_labelled, put};
+use crate::progress::{RowsSeen, append_blanks};
+use crate::values::{append_code, append_labelled, put};
 use dlms_buffer::{BufferFault, Cell, Column, LastRow, append_cell, append_value};
+use dlms_faults::Fault;
 use dlms_names::{code_name, unit_name};
 use dlms_text::append_quoted;
 use dlms_values::Value;
@@ -123,7 +124,7 @@ fn is_number(value: &Value<'_>) -> bool {
 }
 
 /// Appends a field of CSV (RFC 4180): in quotes if it has a comma, a quote or a line end.
-fn append_field(text: &mut Vec<u8>, field: &[u8]) -> Result<(), AllocError> {
+pub fn append_field(text: &mut Vec<u8>, field: &[u8]) -> Result<(), AllocError> {
     let is_plain = field.iter().all(|octet| *octet != b','
         && *octet != b'"'
         && *octet != b'\r'
@@ -141,18 +142,10 @@ fn append_field(text: &mut Vec<u8>, field: &[u8]) -> Result<(), AllocError> {
     text.extend_from_slice(b"\"")
 }
 
-/// Appends blanks.
-fn append_blanks(text: &mut Vec<u8>, count: usize) -> Result<(), AllocError> {
-    for _ in 0..count {
-        text.extend_from_slice(b" ")?;
-    }
-    Ok(())
-}
-
 impl<'p> Table<'p> {
     /// Appends what a cell shows: a time as ISO 8601, a number with its scaler, octets as text if they are printable. With `raw` it is
     /// the value as the meter sends it.
-    fn append_cell(
+    pub fn append_cell(
         &self,
         alloc: Global,
         text: &mut Vec<u8>,
@@ -167,6 +160,40 @@ impl<'p> Table<'p> {
         }
         let period = if shape.has_times() { self.period } else { 0 };
         append_cell(text, cell, period, shape.scaler)
+    }
+
+    /// Whether a null of this column stands for a later time than the row before it.
+    pub fn moves_on(&self, shape: &ColumnShape) -> bool {
+        !self.raw && self.period > 0 && shape.has_times()
+    }
+
+    /// The column of the rows' times: the first clock, unless values are printed as the meter sends them.
+    pub fn clock_column(&self) -> Option<usize> {
+        if self.raw {
+            return None;
+        }
+        for (at, shape) in self.shapes.iter().enumerate() {
+            if shape.is_time() {
+                return Some(at);
+            }
+        }
+        None
+    }
+
+    /// Notes a row that is printed, with its time if it has one.
+    fn note(
+        &self,
+        alloc: Global,
+        cells: &[Cell<'_>],
+        seen: &mut RowsSeen,
+    ) -> Result<(), AllocError> {
+        let mut time = Vec::new(alloc);
+        if let Some(at) = self.clock_column() {
+            if let (Some(shape), Some(cell)) = (self.shapes.get(at), cells.get(at)) {
+                self.append_cell(alloc, &mut time, shape, cell)?;
+            }
+        }
+        seen.note(time.as_slice())
     }
 
     /// Appends a cell of JSON: a number, a truth value, null, or a string.
@@ -226,7 +253,7 @@ impl<'p> Table<'p> {
     }
 
     /// Appends what stands before the rows.
-    fn append_head(
+    pub fn append_head(
         &self,
         alloc: Global,
         text: &mut Vec<u8>,
@@ -264,7 +291,7 @@ impl<'p> Table<'p> {
     }
 
     /// The widths of the titles.
-    fn title_widths(&self, alloc: Global) -> Result<Vec<usize>, AllocError> {
+    pub fn title_widths(&self, alloc: Global) -> Result<Vec<usize>, AllocError> {
         let mut widths = Vec::new(alloc);
         let mut field = Vec::new(alloc);
         for shape in self.shapes {
@@ -325,6 +352,7 @@ impl<'p> Table<'p> {
         widths: &[usize],
         skipped: u32,
         output: &mut W,
+        seen: &mut RowsSeen,
     ) -> Result<(), Fault<'a>> {
         let mut rows = match BufferRows::of(bytes) {
             Ok(rows) => rows,
@@ -345,12 +373,13 @@ impl<'p> Table<'p> {
                 }
                 self.append_row(alloc, &mut text, format, widths, row.cells.as_slice())?;
                 put(output, text.as_slice())?;
+                self.note(alloc, row.cells.as_slice(), seen)?;
             }
         }
         Ok(())
     }
 
-    /// Prints the rows in the encoding of a buffer.
+    /// Prints the rows in the whole encoding of a buffer, and notes them.
     pub fn put<'a, W: Write>(
         &self,
         alloc: Global,
@@ -358,6 +387,7 @@ impl<'p> Table<'p> {
         format: TableFormat,
         bytes: &[u8],
         output: &mut W,
+        seen: &mut RowsSeen,
     ) -> Result<(), Fault<'a>> {
         let mut widths = self.title_widths(alloc)?;
         let count = match self.measure(alloc, format, bytes, &mut widths) {
@@ -384,6 +414,7 @@ impl<'p> Table<'p> {
             widths.as_slice(),
             skipped,
             output,
+            seen,
         )?;
         if format == TableFormat::Json {
             put(output, b"\n]}\n")?;
@@ -393,7 +424,7 @@ impl<'p> Table<'p> {
 }
 
 /// Appends a field of a table, and the blanks to the next column, if there is one.
-fn append_padded(
+pub fn append_padded(
     text: &mut Vec<u8>,
     field: &[u8],
     widths: &[usize],

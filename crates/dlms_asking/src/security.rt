@@ -1,18 +1,20 @@
 //! The protection of an association: its keys, its challenge, and the frame counters that it may use.
 
-use crate::fault::Fault;
 use crate::keys::{of_counters, settings_of};
-use dlms_call::ClientEnd;
-use dlms_cipher::Keys;
-use dlms_keys::{Setting, Settings, StoredCounters, counters_path, open_counters};
-use dlms_secured::Guard;
-use dlms_security::{Policy, StoredState};
+use dlms_counters::CounterFault;
+use dlms_faults::Fault;
+use dlms_keys::{Settings, StoredCounters, counters_path, open_counters};
+use dlms_secured::{Guard, Terms};
+use dlms_security::StoredState;
 use std::alloc::Global;
 use std::fs::{File, Files};
 use std::random::RandomSource;
 
-/// How many octets a challenge has.
-const CHALLENGE: usize = 16;
+/// How many octets a challenge and a dedicated key have.
+const RANDOM: usize = 16;
+
+/// How many octets a system title has.
+const TITLE: usize = 8;
 
 /// What protects an association, and the file of its counters; both are large, and on the heap.
 #[derive(Drop)]
@@ -29,9 +31,13 @@ pub struct Counters<'a> {
 }
 
 impl<'a> Counters<'a> {
-    /// Keeps the counter of the last message that was accepted from the meter.
-    pub fn keep(&mut self, head: &ClientEnd<Global>) -> Result<(), Fault<'a>> {
-        let (Some(title), Some(counter)) = (head.peer(), head.last_accepted()) else {
+    /// Keeps the counter of the last message that was accepted from the meter with this title, if one was.
+    pub fn keep(
+        &mut self,
+        title: Option<[u8; TITLE]>,
+        counter: Option<u32>,
+    ) -> Result<(), Fault<'a>> {
+        let (Some(title), Some(counter)) = (title, counter) else {
             return Ok(());
         };
         match self.stored.accept(&title, counter) {
@@ -40,9 +46,24 @@ impl<'a> Counters<'a> {
         }
     }
 
-    /// Whether the meter's last message is newer than all of earlier associations.
-    pub fn is_fresh(&self, head: &ClientEnd<Global>) -> bool {
-        match (head.peer(), head.last_accepted()) {
+    /// Skips the counters up to one that the meter accepted last.
+    fn skip(&mut self, last: u32) -> Result<(), Fault<'a>> {
+        let Some(first) = last.checked_add(1) else {
+            return Err(Fault::Stored(self.file, CounterFault::Exhausted));
+        };
+        let step = first.saturating_sub(self.stored.reserved());
+        if step == 0 {
+            return Ok(());
+        }
+        match self.stored.reserve(step) {
+            Ok(_) => Ok(()),
+            Err(fault) => Err(Fault::Stored(self.file, fault)),
+        }
+    }
+
+    /// Whether a message with this counter from the meter with this title is newer than all of earlier associations.
+    pub fn is_fresh(&self, title: Option<[u8; TITLE]>, counter: Option<u32>) -> bool {
+        match (title, counter) {
             (Some(title), Some(counter)) => match self.stored.accepted(&title) {
                 Some(last) => last < counter,
                 None => true,
@@ -52,23 +73,12 @@ impl<'a> Counters<'a> {
     }
 }
 
-/// Refuses settings that no association can have yet.
-fn refuse_unsupported<'a>(file: &'a str, settings: &Settings) -> Result<(), Fault<'a>> {
-    if settings.policy != Policy::AuthenticatedEncrypted {
-        return Err(Fault::Unsupported(file, Setting::Policy));
-    }
-    if settings.dedicated {
-        return Err(Fault::Unsupported(file, Setting::Dedicated));
-    }
-    Ok(())
-}
-
-/// A challenge that nobody can guess.
-fn challenge<'a, H: AllocGlobal + RandomSource>(
+/// Octets that nobody can guess: a challenge, or a dedicated key.
+fn random_octets<'a, H: AllocGlobal + RandomSource>(
     host: &H,
     file: &'a str,
-) -> Result<[u8; CHALLENGE], Fault<'a>> {
-    let mut octets = [0u8; CHALLENGE];
+) -> Result<[u8; RANDOM], Fault<'a>> {
+    let mut octets = [0u8; RANDOM];
     match host.fill_bytes(&mut octets) {
         Ok(()) => Ok(octets),
         Err(error) => Err(Fault::of_system(host.alloc(), file, &error)),
@@ -99,16 +109,23 @@ fn counters_of<'a, H: Files<File = File> + AllocGlobal>(
 fn guard_of<'a>(
     alloc: Global,
     settings: &Settings,
-    challenge: &[u8; CHALLENGE],
+    challenge: &[u8; RANDOM],
+    dedicated: Option<[u8; RANDOM]>,
     reserved: u32,
 ) -> Result<Box<Guard>, Fault<'a>> {
-    let keys = Keys::new(settings.encryption_key, settings.authentication_key);
+    let terms = Terms {
+        title: settings.title,
+        encryption_key: settings.encryption_key,
+        authentication_key: settings.authentication_key,
+        policy: settings.policy,
+        form: settings.messages,
+    };
     let stored = StoredState {
         peer: None,
         reserved,
         accepted: None,
     };
-    let guard = Guard::new(settings.title, keys, stored, settings.messages, challenge);
+    let guard = Guard::new(&terms, stored, challenge, dedicated);
     match Box::new(alloc, guard) {
         Ok(guard) => Ok(guard),
         Err(_) => Err(Fault::MEMORY),
@@ -116,20 +133,30 @@ fn guard_of<'a>(
 }
 
 /// What protects an association by the settings in a file: `count` counters are reserved for it, and stored before the first is used.
+/// They come after the last one that the meter accepted, if that is given, and after all that were reserved before.
 #[inline(never)]
 pub fn protection_of<'a, H: Files<File = File> + AllocGlobal + RandomSource>(
     host: &H,
     file: &'a str,
+    last: Option<u32>,
     count: u32,
 ) -> Result<Protection<'a>, Fault<'a>> {
     let settings = settings_of(host, file)?;
-    refuse_unsupported(file, &settings)?;
-    let challenge = challenge(host, file)?;
+    let challenge = random_octets(host, file)?;
+    let dedicated = if settings.dedicated {
+        Some(random_octets(host, file)?)
+    } else {
+        None
+    };
     let mut counters = counters_of(host, file, &settings)?;
+    if let Some(last) = last {
+        counters.skip(last)?;
+    }
     let mut guard = guard_of(
         host.alloc(),
         &settings,
         &challenge,
+        dedicated,
         counters.stored.reserved(),
     )?;
     match counters.stored.reserve(count) {

@@ -1,12 +1,12 @@
 //! Rows of a profile: the requests for its columns and its buffer.
 
-use crate::fault::Fault;
 use crate::requests::{MeterSession, is_answer, read_name, scaler_of};
-use crate::table::{ColumnShape, Table};
 use dlms_buffer::{BufferFault, Column, by_range, column_of, first_of_last, from_entry};
-use dlms_call::{CallFault, get_part};
+use dlms_call::{CallFault, Watch, get_part_watched, get_watched};
 use dlms_data::{Descriptor, LAST_SECOND, Selector, octets, secs};
 use dlms_ends::End;
+use dlms_faults::Fault;
+use dlms_printing::{ColumnShape, Following, RowPrinter, Showing, Table};
 use dlms_values::{Value, read};
 use dlms_words::{ProfileOptions, TableFormat, number};
 use std::alloc::Global;
@@ -41,7 +41,7 @@ pub struct TimeRange {
     to: [u8; 12],
 }
 
-/// Which rows of a profile are printed, and how.
+/// Which rows of a profile are printed, and how, and what is shown of the progress.
 #[derive(Clone, Copy)]
 pub struct ProfileRequest<'a> {
     name: &'a str,
@@ -49,6 +49,7 @@ pub struct ProfileRequest<'a> {
     last: Option<u32>,
     format: TableFormat,
     raw: bool,
+    showing: Showing,
 }
 
 /// The number of one or two digits.
@@ -124,14 +125,18 @@ fn range_of<'a>(options: &ProfileOptions<'a>) -> Result<Option<TimeRange>, Fault
     }))
 }
 
-/// The request that the options make.
-pub fn request_of<'a>(options: &ProfileOptions<'a>) -> Result<ProfileRequest<'a>, Fault<'a>> {
+/// The request that the options make, of whose progress this is shown.
+pub fn request_of<'a>(
+    options: &ProfileOptions<'a>,
+    showing: Showing,
+) -> Result<ProfileRequest<'a>, Fault<'a>> {
     Ok(ProfileRequest {
         name: options.name.unwrap_or(LOAD_PROFILE),
         range: range_of(options)?,
         last: options.last,
         format: options.format,
         raw: options.raw,
+        showing,
     })
 }
 
@@ -139,6 +144,11 @@ impl<'a> ProfileRequest<'a> {
     /// The name of the profile.
     pub fn name(&self) -> &'a str {
         self.name
+    }
+
+    /// What is shown of its progress.
+    pub fn showing(&self) -> Showing {
+        self.showing
     }
 }
 
@@ -263,65 +273,98 @@ impl<'a, S: End> MeterSession<'a, '_, S> {
         }
     }
 
-    /// Asks for the rows. The buffer's encoding is the client's value then.
-    fn fetch_rows(
+    /// Asks for the rows, and shows what has come of them. The buffer's encoding is the client's value then.
+    fn fetch_rows<V: Watch>(
         &mut self,
         request: &ProfileRequest<'a>,
         code: [u8; 6],
-        clock: Option<Column>,
+        part: Option<Selector<Global>>,
+        watch: &mut V,
     ) -> Result<(), Fault<'a>> {
         let attribute = Descriptor {
             class: PROFILE,
             name: code,
             id: BUFFER,
         };
-        match self.part(request, code, clock)? {
-            None => self.fetch(request.name, attribute),
-            Some(selector) => {
-                let most = self.most as usize;
-                let answer = get_part(self.line, &mut self.head, attribute, selector, most);
-                self.judge(request.name, false, answer)
+        let most = self.most as usize;
+        let answer = match part {
+            None => get_watched(self.line, &mut self.head, attribute, most, watch),
+            Some(part) => {
+                get_part_watched(self.line, &mut self.head, attribute, part, most, watch)
             }
-        }
+        };
+        self.judge(request.name, false, answer)
     }
 
-    /// Prints rows of a profile with these columns.
-    fn put_rows<W: Write>(
+    /// Prints rows of a profile with these columns, while they come.
+    fn put_rows<W: Write, P: Following>(
         &mut self,
         request: &ProfileRequest<'a>,
         code: [u8; 6],
         shapes: &mut [ColumnShape],
         output: &mut W,
+        progress: &mut P,
     ) -> Result<(), Fault<'a>> {
         if !request.raw {
             self.scale(request.name, shapes);
         }
         let period = self.period(request.name, code)?;
-        self.fetch_rows(request, code, clock_among(shapes))?;
+        let part = self.part(request, code, clock_among(shapes))?;
         let table = Table {
             shapes,
             period,
             raw: request.raw,
             last: request.last,
         };
-        table.put(
+        self.print_rows(request, code, part, table, output, progress)
+    }
+
+    /// Asks for the rows, and prints them while they come. A fault of theirs came before one of the line.
+    fn print_rows<W: Write, P: Following>(
+        &mut self,
+        request: &ProfileRequest<'a>,
+        code: [u8; 6],
+        part: Option<Selector<Global>>,
+        table: Table<'_>,
+        output: &mut W,
+        progress: &mut P,
+    ) -> Result<(), Fault<'a>> {
+        let mut printer = match RowPrinter::new(
             self.alloc,
             request.name,
+            table,
             request.format,
-            self.head.value(),
             output,
-        )
+            progress,
+        ) {
+            Ok(printer) => printer,
+            Err(_) => {
+                drop(part);
+                return Err(Fault::MEMORY);
+            }
+        };
+        let fetched = self.fetch_rows(request, code, part, &mut printer);
+        let printed = printer.finish(self.head.value(), fetched.is_ok());
+        drop(printer);
+        match printed {
+            Ok(()) => fetched,
+            Err(fault) => {
+                drop(fetched);
+                Err(fault)
+            }
+        }
     }
 
     /// Prints rows of a profile.
-    pub fn profile_one<W: Write>(
+    pub fn profile_one<W: Write, P: Following>(
         &mut self,
         request: ProfileRequest<'a>,
         output: &mut W,
+        progress: &mut P,
     ) -> Result<(), Fault<'a>> {
         let code = read_name(request.name)?.code;
         let mut shapes = self.columns(&request, code)?;
-        let told = self.put_rows(&request, code, &mut shapes, output);
+        let told = self.put_rows(&request, code, &mut shapes, output, progress);
         drop(shapes);
         told
     }

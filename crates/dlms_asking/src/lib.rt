@@ -1,0 +1,20 @@
+//! The commands that ask a meter: the line and the route to it, the association and its protection, the requests.
+#![tactic(auto)]
+
+mod asking;
+mod clock;
+mod counter;
+mod explained_messages;
+mod explained_stream;
+mod given;
+mod guards;
+mod keys;
+mod profile;
+mod requests;
+mod route;
+mod security;
+
+pub use asking::{ask_for_clock, ask_for_profile, ask_to_act, ask_to_get, ask_to_list, ask_to_set};
+pub use guards::{PollGuards, guards_of};
+pub use keys::{run_keys, stations_of};
+pub use route::{PollLine, poll_line, poll_secret, public_route};
