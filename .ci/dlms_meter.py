@@ -1,11 +1,13 @@
 """A meter in Python, written from the standards (IEC 62056-46, -47, -5-3, -6-1, -6-2), over HDLC and the TCP wrapper on 127.0.0.1, and how the
 scripts that speak through it run the program and count what they try."""
+import calendar
 import os
 import socket
 import struct
 import subprocess
 import sys
 import threading
+import time
 
 from dlms_frames import check
 
@@ -259,6 +261,40 @@ def element(of_class, version, name, attributes, methods):
 
 def key(of_class, name, number):
     return of_class, code(name), number
+
+
+# The rows of a poll: seconds from 2000-01-01 on and three registers, a quarter of an hour apart from 2026-10-26 on.
+POLL_ROWS = [(846_633_600 + 900 * at, 1000 + 7 * at, at // 3, 2 ** 32 - 5 + at & 0xFFFFFFFF) for at in range(40)]
+
+
+def clock_of(second):
+    """The date-time of a second from 2000-01-01 on, as this project's meter writes one: day of the week and hundredths are there, the deviation is not."""
+    at = time.gmtime(second + calendar.timegm((2000, 1, 1, 0, 0, 0)))
+    return struct.pack(">HBBBBBBBHB", at.tm_year, at.tm_mon, at.tm_mday, at.tm_wday + 1, at.tm_hour, at.tm_min, at.tm_sec, 0, 0x8000, 0)
+
+
+def second_of(clock):
+    year, month, day, _, hour, minute, second = struct.unpack(">HBBBBBB", clock[:8])
+    return calendar.timegm((year, month, day, hour, minute, second)) - calendar.timegm((2000, 1, 1, 0, 0, 0))
+
+
+def lines_of(rows):
+    """The text of a readings file with these rows."""
+    return "".join("%d,%d,%d,%d\n" % row for row in rows)
+
+
+def poll_profile(rows, selections):
+    """The profile of a poll (IEC 62056-6-2, Profile generic): a clock and three registers. It selects by range (selector 1), and notes each
+    selection."""
+    columns = array([structure([b"\x12" + of_class.to_bytes(2, "big"), octet_string(code(name)), b"\x0f\x02", b"\x12\x00\x00"])
+                     for of_class, name in ((8, "0.0.1.0.0.255"), (3, "1.0.1.8.0.255"), (3, "1.0.2.8.0.255"), (3, "1.0.3.8.0.255"))])
+
+    def buffer(selection):
+        selections.append(selection)
+        first = second_of(selection.split(b"\x09\x0c")[1]) if selection[:2] == b"\x01\x01" else 0
+        return array([structure([octet_string(clock_of(row[0])), *[b"\x06" + it.to_bytes(4, "big") for it in row[1:]]]) for row in rows if row[0] >= first])
+
+    return {key(7, "1.0.99.1.0.255", 3): columns, key(7, "1.0.99.1.0.255", 2): buffer}
 
 
 def verdict():
