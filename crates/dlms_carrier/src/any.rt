@@ -18,7 +18,7 @@ use std::marker::Model;
 #[derive(Clone, Copy, Debug, PartialEq, Eq)]
 pub enum Route {
     /// An HDLC link, from the client with this service access point, 1 to 127, to the meter at this address. If there is a number,
-    /// 128 to 2,030, the link proposes that the meter sends up to so many octets of information in a frame.
+    /// 128 to 2,030, the link proposes it as the most octets of information in a frame of the meter.
     Hdlc(u8, Address, Option<u16>),
     /// The TCP wrapper, from this wrapper port of the client, which is not 0, to this one of the meter.
     Tcp(u16, u16),

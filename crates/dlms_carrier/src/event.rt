@@ -17,7 +17,7 @@ pub enum Event {
     TimedOut,
     /// The wrapper refuses the header of the next message for this cause, and the connection is over.
     Refused(HeaderFault),
-    /// The security layer refuses what came or what was to go out, and the connection is over.
+    /// The security layer refuses an APDU that came or one that was to be sent, and the connection is over.
     Insecure,
 }
 

@@ -82,7 +82,7 @@ impl ClientLink {
     }
 
     /// A closed link from the client with this service access point to the meter at this address. If a proposal is given, 128 to 2,030,
-    /// its SNRM proposes that the meter sends up to so many octets of information in a frame, and the client 128 (IEC 62056-46,
+    /// its SNRM proposes that number as the most octets of information in a frame of the meter, and 128 for its own (IEC 62056-46,
     /// 6.4.4.4.3.2). Then the link sends at most 128 octets in a frame, and fewer if the UA says that the meter receives fewer.
     /// Information of a UA that cannot be read, or names less than 32, leaves 128.
     pub fn proposing(own: u8, server: Address, proposal: Option<u16>) -> Self

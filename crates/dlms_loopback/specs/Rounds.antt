@@ -65,8 +65,8 @@ TellsOpening told told' (opening.Place e) fault = (told' ≡ Some e) × TellsErr
 TellsOpening told told' (opening.Readings why) fault = (told' ≡ told) × (fault ≡ Readings why)
 
 -- the readings of the place, or why they were not opened
-abbrev pub OpensReadings : Option (List PlaceCall) → Option (List PlaceCall) → Option Error → Option Error
-    → Result (List Row) RunFault → Type 0
+abbrev pub OpensReadings : Option (List PlaceCall) → Option (List PlaceCall) → Option Error
+    → Option Error → Result (List Row) RunFault → Type 0
 OpensReadings old new told told' (Ok rows) = OpensRows old new (Ok rows) × (told' ≡ told)
 OpensReadings old new told told' (Err fault) = (why : OpeningFault) × OpensRows old new (Err why)
     × TellsOpening told told' why fault
@@ -191,7 +191,8 @@ pub record ArePolled (secret : List ℕ) (count : ℕ) (before after : List Row)
 -- ---- what it fails for
 
 -- The file is held, if one is given; or that failed.
-abbrev pub HoldsFile : {T : Type 0} → Option (List ℕ) → Option (List PlaceCall) → Option (List PlaceCall)
+abbrev pub HoldsFile : {T : Type 0} → Option (List ℕ) → Option (List PlaceCall)
+    → Option (List PlaceCall)
     → Option Error → Option Error → Result T RunFault → Type 0
 HoldsFile None asked asked' told told' result = Asks asked asked' [] × (told' ≡ told) × IsOk result
 HoldsFile (Some file) asked asked' told told' (Ok done) = Asks asked asked' (Holds file None ∷ [])

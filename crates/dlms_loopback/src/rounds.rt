@@ -215,7 +215,8 @@ fn poll_once<F: Filing, S: End>(
           asked = F.asked place.new;
         } in
         ReadsRows (plan_from SECRET.now
-        (last_clock readings.old)) before after meter.old meter.new told.old told.new readings.old result readings.new }
+        (last_clock readings.old)) before after meter.old meter.new told.old told.new readings.old
+        result readings.new }
 {
     let poller = managements_poller(alloc, readings.last());
     match poll(&mut line.head, &mut line.tail, meter, poller) {
@@ -245,7 +246,8 @@ fn rounds<F: Filing, S: End>(
           asked = F.asked place.new;
         } in
         (w : MeterWorld) → IsInWorld meter w
-        → Rounds meter SECRET.now stops before after told.old told.new readings.old result readings.new }
+        → Rounds meter SECRET.now stops before after told.old told.new readings.old result
+        readings.new }
 {
     let mut meter = meter;
     poll_once(alloc, place, readings, told, line, &mut meter)?;
@@ -278,7 +280,8 @@ fn poll_readings<F: Holding, S: Joining>(
         } in
         let name = option_map (λ x. x.now) file.entry in
         IfOk result
-        (HasPolled ⟦<MemoryPages<Global> as Pages>⟧ alloc name SECRET.now stops before after told.old told.new) }
+        (HasPolled ⟦<MemoryPages<Global> as Pages>⟧ alloc name SECRET.now stops before after told.old
+        told.new) }
     ensures fails { let before : Seen = record {
       head = S.past line.old.head;
       tail = S.past line.old.tail;
@@ -291,7 +294,8 @@ fn poll_readings<F: Holding, S: Joining>(
         } in
         let name = option_map (λ x. x.now) file.entry in
         IfErr result
-        (LoopFails ⟦<MemoryPages<Global> as Pages>⟧ alloc name SECRET.now stops before after told.old told.new) }
+        (LoopFails ⟦<MemoryPages<Global> as Pages>⟧ alloc name SECRET.now stops before after told.old
+        told.new) }
 {
     match hold_file(place, file, told) {
         Ok(()) => {}
@@ -341,8 +345,8 @@ pub fn loopback<F: Holding, S: Joining, O: Output>(
         } in
         let name = option_map (λ x. x.now) file.entry in
         IfOk result
-        (λ _. Loops ⟦<MemoryPages<Global> as Pages>⟧ alloc name SECRET.now stops before after told.old told.new
-        (O.printed output.old) (O.printed output.new)) }
+        (λ _. Loops ⟦<MemoryPages<Global> as Pages>⟧ alloc name SECRET.now stops before after told.old
+        told.new (O.printed output.old) (O.printed output.new)) }
     ensures fails { let before : Seen = record {
       head = S.past line.old.head;
       tail = S.past line.old.tail;
@@ -355,8 +359,8 @@ pub fn loopback<F: Holding, S: Joining, O: Output>(
         } in
         let name = option_map (λ x. x.now) file.entry in
         IfErr result
-        (Unlooped ⟦<MemoryPages<Global> as Pages>⟧ alloc name SECRET.now stops before after told.old told.new
-        (O.printed output.old) (O.printed output.new)) }
+        (Unlooped ⟦<MemoryPages<Global> as Pages>⟧ alloc name SECRET.now stops before after told.old
+        told.new (O.printed output.old) (O.printed output.new)) }
 {
     match poll_readings(alloc, place, line, file, stops, told) {
         Ok(readings) => print(&readings, output),

@@ -347,7 +347,8 @@ impl<'a, A: Allocator + Copy> Judge<'a, A> {
         ensures counts { (result ≡ Verdict.Counts)
             ↔ MayCountBody slot index page self.now.more self.now.survey.now }
         ensures says { Says self.now.image.now page result }
-        ensures exact { result ≡ body_at self.now.image.now self.now.survey.now.found self.now.more slot index page self.now.survey.now.active }
+        ensures exact { result ≡ body_at self.now.image.now self.now.survey.now.found self.now.more
+            slot index page self.now.survey.now.active }
     {
         let Ok((_, edition)) = self.survey.active else {
             return at_place(self.image, page);
@@ -369,7 +370,8 @@ impl<'a, A: Allocator + Copy> Judge<'a, A> {
     fn journal(&self, index: u16, page: u16) -> Verdict
         ensures counts { (result ≡ Verdict.Counts) ↔ CountsJournal index self.now.survey.now }
         ensures says { Says self.now.image.now page result }
-        ensures exact { IsJournalTold self.now.image.now index page self.now.survey.now.found result }
+        ensures exact { IsJournalTold self.now.image.now index page self.now.survey.now.found
+            result }
     {
         let Ok(found) = &self.survey.found else {
             return at_place(self.image, page);
@@ -388,7 +390,8 @@ impl<'a, A: Allocator + Copy> Judge<'a, A> {
     fn ring_reason(&self, page: u16, number: u64, named: Named) -> Verdict
         ensures counts { result ≢ Verdict.Counts }
         ensures says { Says self.now.image.now page result }
-        ensures exact { result ≡ ring_told self.now.image.now page number named self.now.survey.now.active }
+        ensures exact { result ≡ ring_told self.now.image.now page number named
+            self.now.survey.now.active }
     {
         let Ok((_, edition)) = self.survey.active else {
             return at_place(self.image, page);
@@ -409,7 +412,8 @@ impl<'a, A: Allocator + Copy> Judge<'a, A> {
         ensures counts { index < RING_PAGES → (result ≡ Verdict.Counts)
             ↔ CountsRing index page self.now.named self.now.survey.now }
         ensures says { Says self.now.image.now page result }
-        ensures exact { result ≡ ring_at self.now.image.now self.now.survey.now index page self.now.named }
+        ensures exact { result ≡ ring_at self.now.image.now self.now.survey.now index page
+            self.now.named }
     {
         let Some(named) = self.named else {
             return at_place(self.image, page);
@@ -439,8 +443,8 @@ impl<'a, A: Allocator + Copy> Judge<'a, A> {
         ensures ring { (k : ℕ) → page ≡ RING + k → k < RING_PAGES → (result ≡ Verdict.Counts)
             ↔ CountsRing k page self.now.named self.now.survey.now }
         // The verdict on a page, by its place.
-        ensures exact { IsToldAt self.now.image.now self.now.survey.now self.now.more self.now.named page
-            (place_at page) result }
+        ensures exact { IsToldAt self.now.image.now self.now.survey.now self.now.more self.now.named
+            page (place_at page) result }
         // What that says of its octets.
         ensures says { Says self.now.image.now page result }
     {

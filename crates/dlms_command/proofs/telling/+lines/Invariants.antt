@@ -1,8 +1,0 @@
-use Rattle.std.proofs.Common.{◌+◌, ◌*◌}
-use Rattle.dlms_command.proofs.telling.+lines.Given as goal
-
-abbrev pub decreases-tell_items : goal.decreases-tell_items
-decreases-tell_items g l = 2 * l.room
-
-abbrev pub decreases-tell_tree : goal.decreases-tell_tree
-decreases-tell_tree g l = 2 * l.room + 1
