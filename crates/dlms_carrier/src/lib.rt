@@ -9,8 +9,6 @@ mod kept;
 pub mod laws;
 mod phase;
 mod tcp;
-#[cfg(test)]
-mod tests;
 
 pub use any::{AnyCarrier, Route};
 pub use carrier::Carrier;

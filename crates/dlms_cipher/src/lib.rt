@@ -10,7 +10,5 @@ mod ghash;
 mod keys;
 pub mod laws;
 mod tables;
-#[cfg(test)]
-mod tests;
 
 pub use keys::{Keys, WrongTag};

@@ -13,8 +13,6 @@ mod secured;
 mod stage;
 mod taken;
 mod terms;
-#[cfg(test)]
-mod tests;
 
 pub use fault::SecuredFault;
 pub use guard::Guard;

@@ -12,8 +12,6 @@ mod opening;
 mod policy;
 mod security;
 mod stored;
-#[cfg(test)]
-mod tests;
 
 pub use fault::{ProtectFault, UnprotectFault};
 pub use form::{Form, MOST_APDU, MOST_MESSAGE, kind_of};

@@ -6,8 +6,6 @@ mod header;
 pub mod laws;
 mod message;
 mod reader;
-#[cfg(test)]
-mod tests;
 
 pub use fault::{DatagramFault, HeaderFault};
 pub use header::{Header, VERSION, read_header, write_header};

@@ -97,9 +97,7 @@ fn put_request(words: &mut Words<'_>, answer: &mut String) -> Result<(), RowFaul
     let Ok(services) = u32::from_str_radix(words.word()?, 16) else {
         return Err(RowFault::Form);
     };
-    let Ok(size) = u16::try_from(words.number()?) else {
-        return Err(RowFault::Form);
-    };
+    let size = words.short()?;
     if secret.len() > 16 {
         return Err(RowFault::Form);
     }

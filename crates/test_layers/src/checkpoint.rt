@@ -33,14 +33,6 @@ fn put_bodies(checkpoint: &Checkpoint, answer: &mut String) -> Result<(), RowFau
     Ok(())
 }
 
-/// The body of this number.
-fn put_body(checkpoint: &Checkpoint, index: u32, answer: &mut String) -> Result<(), RowFault> {
-    match u16::try_from(index) {
-        Ok(index) => put_hex(answer, checkpoint.body(index)),
-        Err(_) => Err(RowFault::Form),
-    }
-}
-
 /// Whether a state's checkpoint names this ring page.
 fn is_named(state: &State<&LocalHeap>, page: u64) -> bool
     ensures { IsTrue result → IsNamed state.now.rows page }
@@ -204,8 +196,8 @@ impl Bench for CheckpointBench<'_> {
         match call {
             "bodies" => put_bodies(&checkpoint_of(self.state.state()?), answer),
             "body" => {
-                let index = words.number()?;
-                put_body(&checkpoint_of(self.state.state()?), index, answer)
+                let index = words.short()?;
+                put_hex(answer, checkpoint_of(self.state.state()?).body(index))
             }
             "ring" => put_ring(self.state.state()?, words.long()?, answer),
             "take-all" => self.take_all(),

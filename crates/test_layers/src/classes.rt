@@ -33,13 +33,8 @@ fn put_result(answer: &mut String, refusal: AccessResult) -> Result<(), RowFault
 /// Client, class, name in hexadecimal digits, number of the attribute or method.
 fn asked_of(words: &mut Words<'_>) -> Result<Asked, RowFault> {
     let client = client_of(words.word()?)?;
-    let Ok(class) = u16::try_from(words.number()?) else {
-        return Err(RowFault::Form);
-    };
-    let mut name = [0u8; 6];
-    if hex::decode_to_slice(words.word()?.as_bytes(), &mut name).is_err() {
-        return Err(RowFault::Form);
-    }
+    let class = words.short()?;
+    let name = words.octets()?;
     let id = words.byte()?;
     Ok(Asked {
         client,
@@ -127,19 +122,28 @@ fn put_get<'h>(
     put_got(room, state, taken, asked, Some(&selector), answer)
 }
 
-/// Whether SET of a value plans an event: 0, or the result.
-fn put_plan(room: Room<'_>, words: &mut Words<'_>, answer: &mut String) -> Result<(), RowFault> {
-    let asked = asked_of(words)?;
-    let value = value_of(room.ample, &words.bytes()?)?;
-    match plan_set(asked.client, asked.descriptor, &value) {
-        Ok(_) => Ok(answer.push_str("result 0")?),
-        Err(result) => put_result(answer, result),
+/// The event that SET of a value plans, or ACTION of a method with a parameter or without one.
+fn planned(
+    heap: &LocalHeap,
+    is_set: bool,
+    words: &mut Words<'_>,
+) -> Result<Result<Event, AccessResult>, RowFault> {
+    let Asked { client, descriptor } = asked_of(words)?;
+    if words.is_empty() {
+        let without: Option<&Data<&LocalHeap>> = None;
+        return Ok(plan_action(client, descriptor, without));
     }
+    let value = value_of(heap, &words.bytes()?)?;
+    Ok(if is_set {
+        plan_set(client, descriptor, &value)
+    } else {
+        plan_action(client, descriptor, Some(&value))
+    })
 }
 
 /// Has the state take a planned event.
-fn put_taken<'h>(
-    state: &mut State<&'h LocalHeap>,
+fn put_taken(
+    state: &mut State<&LocalHeap>,
     event: Event,
     answer: &mut String,
 ) -> Result<(), RowFault> {
@@ -153,63 +157,34 @@ fn put_taken<'h>(
     }
 }
 
-/// SET of a value, which the state takes.
-fn put_set<'h>(
-    room: Room<'h>,
-    state: &mut State<&'h LocalHeap>,
-    words: &mut Words<'_>,
-    answer: &mut String,
-) -> Result<(), RowFault> {
-    let asked = asked_of(words)?;
-    let value = value_of(room.ample, &words.bytes()?)?;
-    match plan_set(asked.client, asked.descriptor, &value) {
-        Ok(event) => put_taken(state, event, answer),
-        Err(result) => put_result(answer, result),
-    }
-}
-
-/// The event that ACTION of a method plans with this parameter.
-fn put_planned(
-    asked: Asked,
-    parameter: Option<&Data<&LocalHeap>>,
-    answer: &mut String,
-) -> Result<(), RowFault> {
-    match plan_action(asked.client, asked.descriptor, parameter) {
-        Ok(event) => put_shown(answer, &event),
-        Err(result) => put_result(answer, result),
-    }
-}
-
-/// ACTION of a method, followed by a parameter.
-fn put_action(room: Room<'_>, words: &mut Words<'_>, answer: &mut String) -> Result<(), RowFault> {
-    let asked = asked_of(words)?;
-    if words.is_empty() {
-        return put_planned(asked, None, answer);
-    }
-    let parameter = value_of(room.ample, &words.bytes()?)?;
-    put_planned(asked, Some(&parameter), answer)
-}
-
-/// ACTION of a method with a parameter, which the state takes.
-fn put_acted<'h>(
-    room: Room<'h>,
-    state: &mut State<&'h LocalHeap>,
-    words: &mut Words<'_>,
-    answer: &mut String,
-) -> Result<(), RowFault> {
-    let asked = asked_of(words)?;
-    let parameter = value_of(room.ample, &words.bytes()?)?;
-    match plan_action(asked.client, asked.descriptor, Some(&parameter)) {
-        Ok(event) => put_taken(state, event, answer),
-        Err(result) => put_result(answer, result),
-    }
-}
-
 impl<'h> ClassesBench<'h> {
     pub fn new(room: Room<'h>) -> Self {
         ClassesBench {
             room,
             state: StateBench::new(room.ample),
+        }
+    }
+
+    /// A planned event: that it is planned, the event itself, or what becomes of it.
+    fn put_event(&mut self, call: &str, event: Event, answer: &mut String) -> Result<(), RowFault> {
+        match call {
+            "plan-set" => Ok(answer.push_str("result 0")?),
+            "action" => put_shown(answer, &event),
+            _ => put_taken(self.state.state_mut()?, event, answer),
+        }
+    }
+
+    /// SET or ACTION.
+    fn plan(
+        &mut self,
+        call: &str,
+        words: &mut Words<'_>,
+        answer: &mut String,
+    ) -> Result<(), RowFault> {
+        let is_set = call == "set" || call == "plan-set";
+        match planned(self.room.ample, is_set, words)? {
+            Ok(event) => self.put_event(call, event, answer),
+            Err(result) => put_result(answer, result),
         }
     }
 }
@@ -221,10 +196,7 @@ impl Bench for ClassesBench<'_> {
         match call {
             "get" => put_get(room, self.state.state()?, Taken::Value, words, answer),
             "sent" => put_get(room, self.state.state()?, Taken::Encoded, words, answer),
-            "set" => put_set(room, self.state.state_mut()?, words, answer),
-            "plan-set" => put_plan(room, words, answer),
-            "action" => put_action(room, words, answer),
-            "act" => put_acted(room, self.state.state_mut()?, words, answer),
+            "set" | "plan-set" | "action" | "act" => self.plan(call, words, answer),
             _ => self.state.call(call, words, answer),
         }
     }

@@ -165,6 +165,16 @@ fn put_nested(room: Room<'_>, levels: u32, answer: &mut String) -> Result<(), Ro
     put_truth(answer, fits(&value))
 }
 
+/// A number of a byte, with its sign.
+fn small_of(words: &mut Words<'_>) -> Result<i8, RowFault> {
+    let number = words.signed()?;
+    if -128 <= number && number <= 127 {
+        Ok(number as i8)
+    } else {
+        Err(RowFault::Form)
+    }
+}
+
 /// A structure made of octets and a number: the number of its values, and its spelling after other bytes.
 fn put_structure(
     room: Room<'_>,
@@ -247,10 +257,7 @@ impl<'h> DataBench<'h> {
             "nested" => put_nested(self.room, words.number()?, answer),
             "structure" => {
                 let octets = words.bytes()?;
-                let Ok(number) = i8::try_from(words.signed()?) else {
-                    return Err(RowFault::Form);
-                };
-                put_structure(self.room, &octets, number, answer)
+                put_structure(self.room, &octets, small_of(words)?, answer)
             }
             "first-bits" => {
                 let bytes = words.bytes()?;

@@ -17,9 +17,11 @@ pub fn in_place<const MOST: usize>(bytes: &[u8]) -> Result<ArrayVec<u8, MOST>, R
 
 /// A shift, in seconds.
 fn shift_of(words: &mut Words<'_>) -> Result<Event, RowFault> {
-    match i16::try_from(words.signed()?) {
-        Ok(by) => Ok(Event::Shift(by)),
-        Err(_) => Err(RowFault::Form),
+    let by = words.signed()?;
+    if -32_768 <= by && by <= 32_767 {
+        Ok(Event::Shift(by as i16))
+    } else {
+        Err(RowFault::Form)
     }
 }
 

@@ -33,11 +33,7 @@ fn address_of(words: &mut Words<'_>) -> Result<Address, RowFault> {
     match words.word()? {
         "one" => Ok(Address::One(words.byte()?)),
         "two" => Ok(Address::Two(words.byte()?, words.byte()?)),
-        "four" => {
-            let upper = u16::try_from(words.number()?).map_err(|_| RowFault::Form)?;
-            let lower = u16::try_from(words.number()?).map_err(|_| RowFault::Form)?;
-            Ok(Address::Four(upper, lower))
-        }
+        "four" => Ok(Address::Four(words.short()?, words.short()?)),
         _ => Err(RowFault::Form),
     }
 }

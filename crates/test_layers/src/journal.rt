@@ -50,9 +50,7 @@ fn put_page(words: &mut Words<'_>, answer: &mut String) -> Result<(), RowFault> 
     let Some(kind) = PageKind::of_number(words.byte()?) else {
         return Err(RowFault::Form);
     };
-    let Ok(index) = u16::try_from(words.number()?) else {
-        return Err(RowFault::Form);
-    };
+    let index = words.short()?;
     let generation = words.long()?;
     let payload = words.bytes()?;
     if payload.len() > MOST_PAYLOAD {

@@ -4,6 +4,7 @@ use crate::acse::AcseBench;
 use crate::apdu::ApduBench;
 use crate::bench::{Room, play};
 use crate::blocks::BlocksBench;
+use crate::carrier::CarrierBench;
 use crate::checkpoint::CheckpointBench;
 use crate::classes::ClassesBench;
 use crate::data::DataBench;
@@ -14,6 +15,7 @@ use crate::journal::JournalBench;
 use crate::link::LinkBench;
 use crate::profile::ProfileBench;
 use crate::scenario::Line;
+use crate::security::SecurityBench;
 use crate::state::StateBench;
 
 /// A crate under test.
@@ -22,6 +24,7 @@ pub enum Subject {
     Acse,
     Apdu,
     Blocks,
+    Carrier,
     Checkpoint,
     Classes,
     Data,
@@ -30,13 +33,15 @@ pub enum Subject {
     Journal,
     Link,
     Profile,
+    Security,
     State,
 }
 
-pub const SUBJECTS: [Subject; 12] = [
+pub const SUBJECTS: [Subject; 14] = [
     Subject::Acse,
     Subject::Apdu,
     Subject::Blocks,
+    Subject::Carrier,
     Subject::Checkpoint,
     Subject::Classes,
     Subject::Data,
@@ -45,6 +50,7 @@ pub const SUBJECTS: [Subject; 12] = [
     Subject::Journal,
     Subject::Link,
     Subject::Profile,
+    Subject::Security,
     Subject::State,
 ];
 
@@ -55,6 +61,7 @@ impl Subject {
             Subject::Acse => "dlms_acse.txt",
             Subject::Apdu => "dlms_apdu.txt",
             Subject::Blocks => "dlms_blocks.txt",
+            Subject::Carrier => "dlms_carrier.txt",
             Subject::Checkpoint => "dlms_checkpoint.txt",
             Subject::Classes => "dlms_classes.txt",
             Subject::Data => "dlms_data.txt",
@@ -63,6 +70,7 @@ impl Subject {
             Subject::Journal => "dlms_journal.txt",
             Subject::Link => "dlms_link.txt",
             Subject::Profile => "dlms_profile.txt",
+            Subject::Security => "dlms_security.txt",
             Subject::State => "dlms_state.txt",
         }
     }
@@ -78,6 +86,7 @@ impl Subject {
             Subject::Acse => play(AcseBench, lines, answers),
             Subject::Apdu => play(ApduBench::new(room), lines, answers),
             Subject::Blocks => play(BlocksBench::new(room), lines, answers),
+            Subject::Carrier => play(CarrierBench::new(), lines, answers),
             Subject::Checkpoint => play(CheckpointBench::new(room), lines, answers),
             Subject::Classes => play(ClassesBench::new(room), lines, answers),
             Subject::Data => play(DataBench::new(room), lines, answers),
@@ -86,6 +95,7 @@ impl Subject {
             Subject::Journal => play(JournalBench, lines, answers),
             Subject::Link => play(LinkBench::new(), lines, answers),
             Subject::Profile => play(ProfileBench::new(room.heap), lines, answers),
+            Subject::Security => play(SecurityBench::new(), lines, answers),
             Subject::State => play(StateBench::new(room.heap), lines, answers),
         }
     }

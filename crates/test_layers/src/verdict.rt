@@ -40,7 +40,7 @@ enum Match {
 /// The text of a written answer: a word with `*` or `~` is written out as bytes.
 fn written_out(answer: &str, text: &mut String) -> Result<(), RowFault> {
     let mut is_first = true;
-    for word in answer.split_whitespace() {
+    for word in answer.trim().split(" ") {
         if !is_first {
             text.push(' ')?;
         }

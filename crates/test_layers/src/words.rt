@@ -1,19 +1,21 @@
 //! The words of a line.
 
+ghost use Rattle.std.specs.Prelude.{◌≤◌, IfOk};
+
 use crate::fault::RowFault;
 use crate::hexadecimal::bytes_of;
 use dlms_frame::Client;
 use std::alloc::Global;
-use std::str::SplitWhitespace;
+use std::str::Split;
 
 /// One above the greatest number that a row can have.
 pub const NUMBERS_END: u128 = 18_446_744_073_709_551_616;
 
-/// The arguments of a line's call, word by word.
+/// The arguments of a line's call, word by word. One blank is between two words.
 #[derive(Drop)]
 pub struct Words<'t> {
     alloc: Global,
-    words: SplitWhitespace<'t>,
+    words: Split<'t, &'static str>,
     ahead: Option<&'t str>,
 }
 
@@ -21,7 +23,7 @@ impl<'t> Words<'t> {
     pub fn new(alloc: Global, text: &'t str) -> Self {
         Words {
             alloc,
-            words: text.split_whitespace(),
+            words: text.trim().split(" "),
             ahead: None,
         }
     }
@@ -43,22 +45,40 @@ impl<'t> Words<'t> {
     pub fn word(&mut self) -> Result<&'t str, RowFault> {
         let next = self.ahead();
         self.ahead = None;
-        next.ok_or(RowFault::Form)
+        match next {
+            Some(word) => Ok(word),
+            None => Err(RowFault::Form),
+        }
+    }
+
+    /// The next word, which is a number of at most this.
+    fn at_most(&mut self, most: u64) -> Result<u64, RowFault>
+        ensures { IfOk result (λ number. number ≤ most) }
+    {
+        match self.word()?.parse::<u64>() {
+            Ok(number) if number <= most => Ok(number),
+            _ => Err(RowFault::Form),
+        }
     }
 
     /// The next word, which is a number.
     pub fn number(&mut self) -> Result<u32, RowFault> {
-        self.word()?.parse::<u32>().map_err(|_| RowFault::Form)
+        Ok(self.at_most(4_294_967_295)? as u32)
+    }
+
+    /// The next word, which is a number of two bytes.
+    pub fn short(&mut self) -> Result<u16, RowFault> {
+        Ok(self.at_most(65_535)? as u16)
     }
 
     /// The next word, which is a number of a byte.
     pub fn byte(&mut self) -> Result<u8, RowFault> {
-        self.word()?.parse::<u8>().map_err(|_| RowFault::Form)
+        Ok(self.at_most(255)? as u8)
     }
 
     /// The next word, which is a number of eight bytes.
     pub fn long(&mut self) -> Result<u64, RowFault> {
-        self.word()?.parse::<u64>().map_err(|_| RowFault::Form)
+        self.at_most(u64::MAX)
     }
 
     /// The next word, which is the number of a row, or one above the last.
@@ -71,7 +91,19 @@ impl<'t> Words<'t> {
 
     /// The next word, which is a number with a sign.
     pub fn signed(&mut self) -> Result<i64, RowFault> {
-        self.word()?.parse::<i64>().map_err(|_| RowFault::Form)
+        match self.word()?.parse::<i64>() {
+            Ok(number) => Ok(number),
+            Err(_) => Err(RowFault::Form),
+        }
+    }
+
+    /// The next word, as exactly `N` bytes.
+    pub fn octets<const N: usize>(&mut self) -> Result<[u8; N], RowFault> {
+        let mut octets = [0u8; N];
+        match hex::decode_to_slice(self.word()?.as_bytes(), &mut octets) {
+            Ok(()) => Ok(octets),
+            Err(_) => Err(RowFault::Form),
+        }
     }
 
     /// The next word, as bytes.
