@@ -259,7 +259,7 @@ impl<R: Abort> Dialling for Wire<'_, R> {
 }
 
 /// The outcome of a poll.
-#[derive(Clone, Copy, Debug, PartialEq, Eq)]
+#[derive(Clone, Copy, PartialEq, Eq)]
 enum Came {
     Rows,
     Late,
@@ -313,10 +313,10 @@ fn a_meter_is_polled(rt: HostRuntime) {
             Err(FieldFault::Stranger(_, _)) => Came::Stranger,
             Err(_) => Came::Elsewhere,
         };
-        assert_eq!(rt; polled, came);
-        assert_eq!(rt; setup.place.stands(FILED), came == Came::Rows);
-        assert_eq!(rt; sheet.has(FILED.as_bytes()), came == Came::Rows);
-        assert_eq!(rt; setup.line.happened.is_empty(), fails >= 6 && fails < 9);
+        assert!(rt; polled == came);
+        assert!(rt; setup.place.stands(FILED) == (came == Came::Rows));
+        assert!(rt; sheet.has(FILED.as_bytes()) == (came == Came::Rows));
+        assert!(rt; setup.line.happened.is_empty() == (fails >= 6 && fails < 9));
     }
 }
 

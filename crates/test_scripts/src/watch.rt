@@ -142,10 +142,8 @@ fn a_connection_is_served(rt: HostRuntime) {
         let porch = Porch::new(&rt, rt.alloc(), &plays, end);
         let mut server = Server::new(porch, Ticks::new(0, 0), Log::quiet(), &mut errors);
         let served = serve_all(&mut server, rules, &mut meter, "here");
-        assert_eq!(rt;
-            matches!(served, Err(FieldFault::System("here", _))),
-            is_of_port
-        );
+        let is_of_system = matches!(served, Err(FieldFault::System("here", _)));
+        assert!(rt; is_of_system == is_of_port);
         assert!(rt; served.is_err());
         assert!(rt; are_numbered(server.watch.noted.as_slice(), numbers));
     }
@@ -185,13 +183,11 @@ fn a_line_is_served(rt: HostRuntime) {
         let porch = Porch::new(&rt, rt.alloc(), &[], end);
         let mut server = Server::new(porch, Ticks::new(0, 0), Log::quiet(), &mut errors);
         let served = serve_turns(&mut server, rules, &mut meter, &mut line, "here");
-        assert_eq!(rt;
-            matches!(served, Err(FieldFault::System("here", _))),
-            is_gone
-        );
+        let is_of_system = matches!(served, Err(FieldFault::System("here", _)));
+        assert!(rt; is_of_system == is_gone);
         assert!(rt; served.is_err());
         assert!(rt; are_numbered(server.watch.noted.as_slice(), numbers));
         let is_answered = line.has(2, false, true, &UA);
-        assert_eq!(rt; is_answered, asks && is_gone);
+        assert!(rt; is_answered == (asks && is_gone));
     }
 }

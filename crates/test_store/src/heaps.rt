@@ -79,18 +79,19 @@ pub fn play_writes(report: &mut Report<'_>) -> Result<()> {
     for heap in 0..HEAPS {
         let size = heap.saturating_mul(STEP);
         let (end, kept) = on_heap(report, size)?;
-        report.compare((size, "an end"), end.is_some(), true)?;
-        report.compare((size, "kept"), kept, 0)?;
+        report.compare((size, "an end"), end.is_some(), true);
+        report.compare((size, "kept"), kept, 0);
         if let Some(count) = end.and_then(|end| counts.get_mut(end)) {
             *count = count.saturating_add(1);
         }
     }
     let [no_pages, none, one, both] = counts;
-    report.compare(("pages refused", no_pages), 8 < no_pages, true)?;
+    report.compare(("pages refused", no_pages), 8 < no_pages, true);
     let refused = none.saturating_add(one);
-    report.compare(("writes refused", refused), 2 < refused, true)?;
-    report.compare(("passed", both), 8 < both, true)?;
-    Ok(report.end()?)
+    report.compare(("writes refused", refused), 2 < refused, true);
+    report.compare(("passed", both), 8 < both, true);
+    report.end();
+    Ok(())
 }
 
 /// A store's rows take 24 bytes each, 23,040 in all: they have room from 23 KiB on.
@@ -156,11 +157,12 @@ pub fn play_recoveries(report: &mut Report<'_>) -> Result<()> {
     report.begin("refused rows");
     for (kilobytes, fault) in &ROWS {
         let Some((found, pending)) = found_on_heap(report.alloc(), *kilobytes)? else {
-            report.compare((*kilobytes, "formatted"), false, true)?;
+            report.compare((*kilobytes, "formatted"), false, true);
             continue;
         };
-        report.compare((*kilobytes, "opened"), found, *fault)?;
-        report.compare((*kilobytes, "opened with room"), pending, Some(0))?;
+        report.compare((*kilobytes, "opened"), found, *fault);
+        report.compare((*kilobytes, "opened with room"), pending, Some(0));
     }
-    Ok(report.end()?)
+    report.end();
+    Ok(())
 }

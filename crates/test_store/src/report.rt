@@ -2,7 +2,6 @@
 
 use std::alloc::Global;
 use std::fmt::Debug;
-use std::io;
 
 /// The cases of a group, and whether any of an earlier group came out otherwise than it is to.
 #[derive(Drop)]
@@ -43,28 +42,32 @@ impl<'r> Report<'r> {
         self.differing = 0;
     }
 
-    /// One more case of the group. If it differs it is named, with the actual and the expected result.
+    /// One more case of the group. If it differs it is named, with the actual and the expected result; that it cannot be printed is
+    /// ignored, since it is counted.
     pub fn compare<C: Debug + Drop, T: PartialEq + Debug + Drop>(
         &mut self,
         case: C,
         found: T,
         expected: T,
-    ) -> io::Result<()> {
+    ) {
         self.cases = self.cases.saturating_add(1);
-        if found == expected {
-            return Ok(());
+        let is_same = found == expected;
+        if !is_same {
+            self.differing = self.differing.saturating_add(1);
+            let _printed = println!(self.rt;
+                "{}, {case:?}: {found:?}, not {expected:?}",
+                self.group
+            );
         }
-        self.differing = self.differing.saturating_add(1);
-        println!(self.rt; "{}, {case:?}: {found:?}, not {expected:?}", self.group)
     }
 
-    /// Says how many cases the group had, and how many of them differ.
-    pub fn end(&mut self) -> io::Result<()> {
-        self.is_clean = self.is_clean && self.differing == 0;
-        println!(self.rt;
+    /// Says how many cases the group had, and how many of them differ. If that cannot be printed, the run is not clean.
+    pub fn end(&mut self) {
+        let printed = println!(self.rt;
             "{}: {} cases, {} differ",
             self.group, self.cases, self.differing
-        )
+        );
+        self.is_clean = self.is_clean && self.differing == 0 && printed.is_ok();
     }
 
     /// Whether no case of a group that ended came out otherwise.
