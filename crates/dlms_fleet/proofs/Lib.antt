@@ -1,0 +1,5 @@
+pub mod Alone
+pub mod Ends
+mod Example
+mod Frees
+mod Serving

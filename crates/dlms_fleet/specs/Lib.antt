@@ -1,0 +1,7 @@
+pub mod Acts
+pub mod Alone
+pub mod Example
+pub mod Inputs
+pub mod Runs
+pub mod RunningJob
+pub mod Seats
