@@ -1,0 +1,2 @@
+pub mod PollJobs
+pub mod Polled
