@@ -1,0 +1,222 @@
+//! Polls the meters of a list, side by side, once or again and again.
+
+ghost use Rattle.std.specs.Prelude.{◌≤◌, ◌<◌};
+
+use crate::descriptors::{open_files, polls_within};
+use crate::fault::{CollectFault, FaultText};
+use crate::list::{Defaults, Meter, read_list};
+use crate::meter_file::path_of;
+use crate::named::RowFormat;
+use crate::report::{Tally, failed_lines, print_failures, print_tally};
+use crate::round::{Round, moment};
+use dlms_filing::{FilePlace, Filing, Holding, HostDisk, Output};
+use dlms_pages::sync_folder;
+use std::fs::{File, Files};
+use std::io::Write;
+use std::net::Net;
+use std::thread;
+use std::time::{Clock, Duration, Instant};
+
+/// The name of a path in the folder of the readings files; no file of this path is opened.
+const PROBE: &str = "collect";
+
+/// The meters to poll, and how.
+#[derive(Clone, Copy)]
+pub struct Collection<'a> {
+    /// The text of the list.
+    pub list: &'a str,
+    /// The folder of the readings files, which has to exist.
+    pub folder: &'a str,
+    /// The client of the meters whose lines name none.
+    pub defaults: Defaults<'a>,
+    /// How a row is printed.
+    pub format: RowFormat,
+    /// How many polls may run at once; at least one does. Fewer do if the system does not allow that many open files.
+    pub at_once: usize,
+    /// For how many seconds a meter is talked to at most.
+    pub deadline: u32,
+    /// A new round begins this many seconds after the one before it began, or at its end if that is later. At 0 there is one round.
+    pub every: u32,
+    /// How many times a meter is polled again in a round whose connection was refused or lost, or that did not answer.
+    pub retries: u32,
+    /// Whether no progress and no closing line is printed.
+    pub quiet: bool,
+    /// The file for the list's lines of the meters that failed. It is replaced after each round.
+    pub failed: Option<&'a str>,
+}
+
+/// The number of seats for this many meters.
+fn seats_for(at_once: usize, meters: usize, files: Option<u64>) -> usize
+    ensures few { result ≤ meters }
+    ensures some { 0 < meters → 0 < result }
+{
+    let wanted = at_once.max(1).min(meters);
+    match files {
+        Some(files) => wanted.min(polls_within(files)),
+        None => wanted,
+    }
+}
+
+/// The seats of a collection. If the system does not allow as many as were wanted, a line says so. Errors in writing are ignored.
+fn seats<E: Write>(collection: &Collection<'_>, meters: usize, errors: &mut E) -> usize {
+    let files = open_files();
+    let wanted = seats_for(collection.at_once, meters, None);
+    let seats = seats_for(collection.at_once, meters, files);
+    if seats < wanted {
+        let files = files.unwrap_or(0);
+        let _written = writeln!(
+            errors,
+            "{seats} at once: the system allows {files} open files (ulimit -n)"
+        );
+    }
+    seats
+}
+
+/// The file of the meters that failed, held if one is wanted.
+fn hold_failed<'a, 'r, R: Files<File = File> + AllocGlobal>(
+    rt: &'r R,
+    collection: &Collection<'a>,
+) -> Result<FilePlace<HostDisk<'r, R>>, CollectFault<'a>> {
+    let mut place = FilePlace::of(rt);
+    let Some(file) = collection.failed else {
+        return Ok(place);
+    };
+    match place.hold(file) {
+        Ok(()) => Ok(place),
+        Err(error) => {
+            drop(place);
+            Err(CollectFault::System(file, error))
+        }
+    }
+}
+
+/// Puts the lines of the meters that failed into their file, if one is wanted.
+fn put_failed<'a, F: Filing>(
+    place: &mut F,
+    collection: &Collection<'a>,
+    text: &str,
+) -> Result<(), CollectFault<'a>> {
+    let file = collection.failed.unwrap_or("");
+    if let Err(error) = place.lay(text) {
+        return Err(CollectFault::System(file, error));
+    }
+    match place.put() {
+        Ok(()) => Ok(()),
+        Err(error) => Err(CollectFault::System(file, error)),
+    }
+}
+
+/// Waits until the next round begins.
+fn wait_for_round<R: Clock>(rt: &R, start: Instant, now: Instant, every: u32) {
+    let passed = now.duration_since(start).as_secs();
+    let left = u64::from(every).saturating_sub(passed);
+    if left > 0 {
+        thread::sleep(rt, Duration::from_secs(left));
+    }
+}
+
+/// A round, and what is reported of it.
+fn run_round<
+    'a,
+    'l,
+    R: Net + Files<File = File> + Clock + AllocGlobal,
+    O: Output,
+    E: Write,
+    T: FaultText,
+    F: Filing,
+>(
+    rt: &R,
+    collection: &'l Collection<'a>,
+    texts: &T,
+    meters: &'l [Meter<'a>],
+    probe: &'l str,
+    seats: usize,
+    shows: bool,
+    failed: &mut F,
+    output: &'l mut O,
+    errors: &'l mut E,
+) -> Result<Tally, CollectFault<'a>> {
+    let alloc = rt.alloc();
+    let mut round = Round::new(
+        rt,
+        &*collection,
+        &*meters,
+        &*probe,
+        seats,
+        shows,
+        &mut *output,
+        &mut *errors,
+    )?;
+    let ended = round.run();
+    let tally = round.tally();
+    let failures = round.into_failures();
+    ended?;
+    print_failures(
+        alloc,
+        texts,
+        collection.folder,
+        collection.deadline,
+        meters,
+        failures.as_slice(),
+        errors,
+    )?;
+    if !collection.quiet {
+        print_tally(&tally, errors);
+    }
+    let text = failed_lines(alloc, meters, failures.as_slice())?;
+    put_failed(failed, collection, text.as_str())?;
+    Ok(tally)
+}
+
+/// Polls the meters of a list side by side, and files the rows of each into `FOLDER/NAME.csv` by the rules of `poll`: the new rows are
+/// printed in the wanted format before their file is put. After a round a line on the errors reports each meter
+/// that failed, with the text that `texts` has for it. Progress is shown on the errors if they are a terminal, for which the caller has
+/// checked that the rows do not go there too. Returns what came of the last round.
+pub fn collect<
+    'a,
+    R: Net + Files<File = File> + Clock + AllocGlobal,
+    O: Output,
+    E: Write,
+    T: FaultText,
+>(
+    rt: &R,
+    collection: &Collection<'a>,
+    texts: &T,
+    output: &mut O,
+    errors: &mut E,
+    is_terminal: bool,
+) -> Result<Tally, CollectFault<'a>> {
+    let alloc = rt.alloc();
+    let meters = match read_list(alloc, collection.list, &collection.defaults) {
+        Ok(meters) => meters,
+        Err(fault) => return Err(CollectFault::List(fault)),
+    };
+    let probe = path_of(alloc, collection.folder, PROBE)?;
+    if let Err(error) = sync_folder(rt, probe.as_str()) {
+        return Err(CollectFault::System(collection.folder, error));
+    }
+    let mut failed = hold_failed(rt, collection)?;
+    let seats = seats(collection, meters.len(), errors);
+    let shows = is_terminal && !collection.quiet;
+    let mut tally = Tally::new();
+    'rounds: for _ in 0..u64::MAX {
+        let start = moment(rt)?;
+        tally = run_round(
+            rt,
+            collection,
+            texts,
+            meters.as_slice(),
+            probe.as_str(),
+            seats,
+            shows,
+            &mut failed,
+            output,
+            errors,
+        )?;
+        if collection.every == 0 {
+            break;
+        }
+        wait_for_round(rt, start, moment(rt)?, collection.every);
+    }
+    Ok(tally)
+}
