@@ -43,6 +43,7 @@ use std::{fs, io};
 mod demo;
 mod expected;
 mod introduced;
+mod meters;
 mod occupant;
 mod streams;
 mod watched;
@@ -50,6 +51,7 @@ mod watched;
 pub use dlms_faults::Fault;
 use expected::expected_of;
 use introduced::{introduce, is_new};
+use meters::run_collect;
 use occupant::refuse_occupied;
 use streams::{Input, Output, flush};
 use watched::Watched;
@@ -696,6 +698,13 @@ fn run_job<
         Job::Loopback(options) => unread(run_loopback(host, &options, output), input),
         Job::Serve(options) => unread(run_serve(host, &options, output, errors), input),
         Job::Poll(options) => unread(run_poll(host, &options, output, errors), input),
+        Job::Collect(options) => {
+            let is_terminal = terminals.errors && !terminals.output;
+            unread(
+                run_collect(host, &options, is_terminal, output, errors),
+                input,
+            )
+        }
         Job::Explain(options) => run_explain(host, &options, input, output),
         Job::Get(options) => unread(ask_to_get(host, &options, output, errors), input),
         Job::List(options) => unread(ask_to_list(host, &options, output, errors), input),

@@ -94,6 +94,10 @@ pub enum Fault<'a> {
     Now,
     /// This is no time.
     Time(&'a str),
+    /// The line of this number in this list of meters is refused, for these words.
+    List(&'a str, usize, String),
+    /// This many meters of a list were not polled.
+    Failed(usize),
     /// The profile of this name has no clock among its columns.
     NoClock(&'a str),
     /// The columns or the rows of the profile of this name cannot be read.
@@ -591,6 +595,15 @@ impl fmt::Display for Fault<'_> {
                 f,
                 "time\n  {text}: a time is expected, as 2026-01-31, 2026-01-31T12:00 or 2026-01-31T12:00:00"
             ),
+            Fault::List(file, number, words) => {
+                let number = *number;
+                let words = words.as_str();
+                write!(f, "list {number}\n  {file}: {words}")
+            }
+            Fault::Failed(count) => {
+                let count = *count;
+                write!(f, "failed {count}")
+            }
             Fault::NoClock(name) => write!(
                 f,
                 "protocol\n  {name}: the profile has no clock among its columns, so it cannot be asked for by time"

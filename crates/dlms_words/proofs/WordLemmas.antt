@@ -94,9 +94,9 @@ other_name name met found is not_it has = not_it (ap (option_map (λ p. p.0)) (i
 pub polls_else : (words : List Text) (met : Option (Text × List Row)) → fault_of dlms words ≡ [] → met ≡ subcommand_of dlms words
     → IsNot (codes "format") met → IsNot (codes "replay") met → IsNot (codes "loopback") met → IsNot (codes "serve") met
     → IsNot (codes "get") met → IsNot (codes "list") met → IsNot (codes "profile") met → IsNot (codes "clock") met → IsNot (codes "set") met → IsNot (codes "act") met
-    → IsNot (codes "explain") met → IsNot (codes "show") met → IsNot (codes "plot") met → IsNot (codes "keys") met
+    → IsNot (codes "explain") met → IsNot (codes "show") met → IsNot (codes "plot") met → IsNot (codes "keys") met → IsNot (codes "collect") met
     → (rows : List Row) × (subcommand_of dlms words ≡ Some (codes "poll", rows))
-polls_else words met none is formats replays loops serves gets lists profiles clocks sets acts explains shows plots keys =
+polls_else words met none is formats replays loops serves gets lists profiles clocks sets acts explains shows plots keys collects =
     let found = subcommand_of dlms words in
     elim (command_met words none) [
       | inl has ↦ absurd (other_name _ met found is formats has)
@@ -109,26 +109,29 @@ polls_else words met none is formats replays loops serves gets lists profiles cl
             | inr rest ↦ elim rest [
               | inl has ↦ has
               | inr rest ↦ elim rest [
-                | inl has ↦ absurd (other_name _ met found is gets has)
+                | inl has ↦ absurd (other_name _ met found is collects has)
                 | inr rest ↦ elim rest [
-                  | inl has ↦ absurd (other_name _ met found is lists has)
+                  | inl has ↦ absurd (other_name _ met found is gets has)
                   | inr rest ↦ elim rest [
-                    | inl has ↦ absurd (other_name _ met found is profiles has)
+                    | inl has ↦ absurd (other_name _ met found is lists has)
                     | inr rest ↦ elim rest [
-                      | inl has ↦ absurd (other_name _ met found is clocks has)
+                      | inl has ↦ absurd (other_name _ met found is profiles has)
                       | inr rest ↦ elim rest [
-                        | inl has ↦ absurd (other_name _ met found is sets has)
+                        | inl has ↦ absurd (other_name _ met found is clocks has)
                         | inr rest ↦ elim rest [
-                          | inl has ↦ absurd (other_name _ met found is acts has)
+                          | inl has ↦ absurd (other_name _ met found is sets has)
                           | inr rest ↦ elim rest [
-                            | inl has ↦ absurd (other_name _ met found is explains has)
+                            | inl has ↦ absurd (other_name _ met found is acts has)
                             | inr rest ↦ elim rest [
-                              | inl has ↦ absurd (other_name _ met found is shows has)
+                              | inl has ↦ absurd (other_name _ met found is explains has)
                               | inr rest ↦ elim rest [
-                                | inl has ↦ absurd (other_name _ met found is plots has)
+                                | inl has ↦ absurd (other_name _ met found is shows has)
                                 | inr rest ↦ elim rest [
-                                  | inl has ↦ absurd (other_name _ met found is keys has)
-                                  | inr no_more ↦ absurd no_more
+                                  | inl has ↦ absurd (other_name _ met found is plots has)
+                                  | inr rest ↦ elim rest [
+                                    | inl has ↦ absurd (other_name _ met found is keys has)
+                                    | inr no_more ↦ absurd no_more
+                                  ]
                                 ]
                               ]
                             ]

@@ -8,7 +8,7 @@ use Rattle.clap.specs.declared.builder.command.Command.TheViews.{out-Command as 
 use Rattle.clap.specs.declared.builder.value_parser.ValueParser.TheVariants as parser
 use Rattle.dlms_words.specs.declared.arguments.Argument.{Argument}
 use Rattle.dlms_words.specs.declared.arguments.Kind.{Kind}
-use Rattle.dlms_words.specs.declared.arguments.Kind.TheVariants.{Value, Wanted, Flag, ShortFlag, Option as OptionOf, Options, Number}
+use Rattle.dlms_words.specs.declared.arguments.Kind.TheVariants.{Value, Wanted, Flag, ShortFlag, Option as OptionOf, Needed, Options, Number}
 use Rattle.dlms_words.specs.declared.grammar.CommandWords.{CommandWords}
 
 -- ---- what a command may be given
@@ -31,6 +31,10 @@ short_flag_rule name letter = record (flag_rule name) { short = Some letter }
 abbrev pub option_rule : Text → Rule
 option_rule name = record (new_rule name) { long = Some name; value_names = 1 }
 
+-- an option that is required
+abbrev pub needed_rule : Text → Rule
+needed_rule name = record (option_rule name) { required = true }
+
 -- an option that may be given several times
 abbrev pub options_rule : Text → Rule
 options_rule name = record (option_rule name) { action = Some Append }
@@ -47,6 +51,7 @@ rule_as Wanted name = wanted_rule name
 rule_as Flag name = flag_rule name
 rule_as (ShortFlag letter) name = short_flag_rule name letter
 rule_as (OptionOf value) name = option_rule name
+rule_as (Needed value) name = needed_rule name
 rule_as (Options value) name = options_rule name
 rule_as (Number value least most) name = number_rule name least most
 
@@ -112,6 +117,14 @@ poll_command = with_rules (new_app (codes "poll"))
     ∷ option_rule (codes "server") ∷ flag_rule (codes "wide")
     ∷ number_rule (codes "information") 128 2030 ∷ option_rule (codes "security")
     ∷ option_rule (codes "counter-from") ∷ [])
+
+abbrev pub collect_command : App
+collect_command = with_rules (new_app (codes "collect"))
+    (wanted_rule (codes "LIST") ∷ needed_rule (codes "readings")
+    ∷ option_rule (codes "secret-file") ∷ number_rule (codes "client") 1 127
+    ∷ number_rule (codes "at-once") 1 100000 ∷ number_rule (codes "deadline") 1 86400
+    ∷ number_rule (codes "every") 1 31536000 ∷ number_rule (codes "retries") 0 100
+    ∷ option_rule (codes "failed") ∷ flag_rule (codes "quiet") ∷ flag_rule (codes "json") ∷ [])
 
 -- the meter to ask, the client that asks, whether the frames are explained, and the longest value
 abbrev pub asking_rules : List Rule
@@ -195,7 +208,7 @@ top = record (new_app (codes "dlms")) {
 
 abbrev pub commands : List App
 commands = format_command ∷ replay_command ∷ loopback_command ∷ serve_command ∷ poll_command
-    ∷ get_command ∷ list_command ∷ profile_command ∷ clock_command ∷ set_command ∷ act_command
+    ∷ collect_command ∷ get_command ∷ list_command ∷ profile_command ∷ clock_command ∷ set_command ∷ act_command
     ∷ explain_command ∷ show_command ∷ plot_command ∷ keys_command ∷ []
 
 abbrev pub dlms : App

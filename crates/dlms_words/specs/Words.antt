@@ -7,7 +7,7 @@ use Rattle.clap.specs.Words.{Row, Text, all_of, first_of}
 use Rattle.clap.specs.declared.error.Error.{Error}
 use Rattle.clap.specs.declared.error.kind.ErrorKind.TheVariants.{ArgumentConflict, InvalidValue}
 use Rattle.dlms_words.specs.declared.commands.Job.{Job}
-use Rattle.dlms_words.specs.declared.commands.Job.TheVariants.{Format, Replay, Loopback, Serve, Poll, Get, List as ListOf, Profile, Clock, Set, Act, Explain, Show, Plot, Keys}
+use Rattle.dlms_words.specs.declared.commands.Job.TheVariants.{Format, Replay, Loopback, Serve, Poll, Collect, Get, List as ListOf, Profile, Clock, Set, Act, Explain, Show, Plot, Keys}
 use Rattle.dlms_words.specs.declared.commands.Asking.{Asking}
 use Rattle.dlms_words.specs.declared.commands.Expecting.{Expecting}
 use Rattle.dlms_words.specs.declared.commands.MeterOptions.{MeterOptions}
@@ -18,7 +18,7 @@ use Rattle.dlms_words.specs.declared.commands.TableFormat.TheVariants as table
 use Rattle.dlms_words.specs.declared.commands.ValueFormat.{ValueFormat}
 use Rattle.dlms_words.specs.declared.commands.ValueFormat.TheVariants as value
 use Rattle.dlms_words.specs.declared.commands.ValueFormat.TheVariants.{Encoding}
-use Rattle.dlms_words.specs.declared.words.TheConstants.{AHEAD, CLIENT, DEADLINE, IDLE, INACTIVITY, MOST, THRESHOLD, TICK, TIMEOUT, TURN}
+use Rattle.dlms_words.specs.declared.words.TheConstants.{AHEAD, AT_ONCE, CLIENT, DEADLINE, IDLE, INACTIVITY, MOST, THRESHOLD, TICK, TIMEOUT, TURN}
 use Rattle.dlms_words.specs.Addresses.{IsAddress, is_device, line_of}
 use Rattle.dlms_words.specs.Numbers.{IsNumberOf}
 use Rattle.dlms_frame.specs.declared.client.Client.{Client}
@@ -182,6 +182,18 @@ Asks met (Poll options) = (rows : List Row) × (met ≡ Some (codes "poll", rows
     × ChecksClock rows options.ahead
     × IsSaid (first_of (codes "strict") rows) options.strict
     × IsExpecting (all_of (codes "expect") rows) options.expecting
+Asks met (Collect options) = (rows : List Row) × (met ≡ Some (codes "collect", rows))
+    × (options.list.now ≡ unwrap_or (first_of (codes "LIST") rows) [])
+    × (options.readings.now ≡ unwrap_or (first_of (codes "readings") rows) [])
+    × (option_map (λ f. f.now) options.secret_file ≡ first_of (codes "secret-file") rows)
+    × MaySayFor (codes "client") rows options.client
+    × IsSaidFor (codes "at-once") rows AT_ONCE options.at_once
+    × IsSaidFor (codes "deadline") rows DEADLINE options.deadline
+    × MaySayFor (codes "every") rows options.every
+    × IsSaidFor (codes "retries") rows 0 options.retries
+    × (option_map (λ f. f.now) options.failed ≡ first_of (codes "failed") rows)
+    × IsSaid (first_of (codes "quiet") rows) options.quiet
+    × ChoosesFormat rows options.format
 Asks met (Get options) = (rows : List Row) × (met ≡ Some (codes "get", rows))
     × IsAsking rows options.asking
     × (options.names.now ≡ unwrap_or (first_of (codes "NAMES") rows) [])

@@ -3,7 +3,7 @@
 ghost use Rattle.std.specs.Prelude.{◌≡◌, false, IfOk, map};
 ghost use Rattle.clap.specs.Words.{app_of, rule_of};
 ghost use Rattle.clap.specs.declared.builder.command.Command.TheViews.{out-Command as fields_of};
-ghost use Rattle.dlms_words.specs.Grammar.{AreLocal, AreAllLocal, flag_rule, number_rule, option_rule, options_rule, rule_for, short_flag_rule, value_rule, wanted_rule, with_commands, with_rules};
+ghost use Rattle.dlms_words.specs.Grammar.{AreLocal, AreAllLocal, flag_rule, needed_rule, number_rule, option_rule, options_rule, rule_for, short_flag_rule, value_rule, wanted_rule, with_commands, with_rules};
 
 use clap::builder::ValueParser;
 use clap::{Arg, ArgAction, Command};
@@ -55,6 +55,14 @@ fn option<'a>(alloc: Global, name: &'a str, value: &'a str, help: &'a str) -> Ar
         .help(help)
 }
 
+/// An option that is required, `--NAME VALUE`.
+fn needed<'a>(alloc: Global, name: &'a str, value: &'a str, help: &'a str) -> Arg<'a>
+    ensures rule { rule_of result ≡ needed_rule name.entry.now }
+    ensures local { result.global ≡ false }
+{
+    option(alloc, name, value, help).required(true)
+}
+
 /// An option that may be given several times, `--NAME VALUE --NAME VALUE`.
 fn options<'a>(alloc: Global, name: &'a str, value: &'a str, help: &'a str) -> Arg<'a>
     ensures rule { rule_of result ≡ options_rule name.entry.now }
@@ -92,6 +100,8 @@ pub enum Kind {
     ShortFlag(char),
     /// An option, `--NAME VALUE`, with this name for its value.
     Option(&'static str),
+    /// An option that is required, with this name for its value.
+    Needed(&'static str),
     /// An option that may be given several times, with this name for its value.
     Options(&'static str),
     /// An option with this name for its value, which is a number from the first to the second.
@@ -118,6 +128,7 @@ fn argument_for<'a>(alloc: Global, given: &Argument) -> Arg<'a>
         Kind::Flag => flag(alloc, name, help),
         Kind::ShortFlag(letter) => short_flag(alloc, name, letter, help),
         Kind::Option(value) => option(alloc, name, value, help),
+        Kind::Needed(value) => needed(alloc, name, value, help),
         Kind::Options(value) => options(alloc, name, value, help),
         Kind::Number(value, least, most) => number(alloc, name, value, least, most, help),
     }

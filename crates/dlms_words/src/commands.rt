@@ -137,6 +137,32 @@ pub struct PollOptions<'a> {
     pub expecting: Expecting<'a>,
 }
 
+/// The options of `collect`.
+#[derive(Clone, Copy)]
+pub struct CollectOptions<'a> {
+    /// The file with the list of meters.
+    pub list: &'a str,
+    /// The folder of the readings files.
+    pub readings: &'a str,
+    /// The file of the client's secret, for meters whose line names none.
+    pub secret_file: Option<&'a str>,
+    /// The address of the client, 1 to 127, for meters whose line names none, if one is given.
+    pub client: Option<u32>,
+    /// How many meters are polled at once at most.
+    pub at_once: u32,
+    /// How many seconds the poll of a meter may take.
+    pub deadline: u32,
+    /// The seconds from the beginning of a round to the next, if there is more than one round.
+    pub every: Option<u32>,
+    /// How many times a meter is polled again in a round after a poll that failed.
+    pub retries: u32,
+    /// The file for the list of meters that failed, if one is given.
+    pub failed: Option<&'a str>,
+    /// Whether no progress is shown.
+    pub quiet: bool,
+    pub format: OutputFormat,
+}
+
 /// The options of `get`.
 #[derive(Clone, Copy)]
 pub struct GetOptions<'a> {
@@ -267,6 +293,8 @@ pub enum Job<'a> {
     Serve(ServeOptions<'a>),
     /// Polls a meter once, into a readings file if one is given.
     Poll(PollOptions<'a>),
+    /// Polls the meters of a list, many at once, each into a readings file of its own.
+    Collect(CollectOptions<'a>),
     /// Prints attributes of a meter.
     Get(GetOptions<'a>),
     /// Lists a meter's objects.

@@ -7,9 +7,9 @@ ghost use Rattle.dlms_words.specs.Grammar.{AreAllLocal, app_for, dlms, top};
 
 use crate::arguments::{Argument, Kind, with_arguments, with_commands};
 use crate::help::{
-    ABOUT, ACT_ABOUT, CLOCK_ABOUT, EXPLAIN_ABOUT, FORMAT_ABOUT, GET_ABOUT, KEYS_ABOUT, LIST_ABOUT,
-    LOOPBACK_ABOUT, PLOT_ABOUT, POLL_ABOUT, PROFILE_ABOUT, REPLAY_ABOUT, SERVE_ABOUT, SET_ABOUT,
-    SHOW_ABOUT,
+    ABOUT, ACT_ABOUT, CLOCK_ABOUT, COLLECT_ABOUT, EXPLAIN_ABOUT, FORMAT_ABOUT, GET_ABOUT,
+    KEYS_ABOUT, LIST_ABOUT, LOOPBACK_ABOUT, PLOT_ABOUT, POLL_ABOUT, PROFILE_ABOUT, REPLAY_ABOUT,
+    SERVE_ABOUT, SET_ABOUT, SHOW_ABOUT,
 };
 use clap::Command;
 use std::alloc::{AllocError, Global};
@@ -112,7 +112,7 @@ const ASKING: &[Argument] = &[
 ];
 
 /// The program's commands.
-const COMMANDS: [CommandWords; 15] = [
+const COMMANDS: [CommandWords; 16] = [
     CommandWords {
         name: "format",
         about: "Makes a new meter in FILE",
@@ -288,6 +288,66 @@ const COMMANDS: [CommandWords; 15] = [
             INFORMATION,
             SECURITY,
             COUNTER_FROM,
+        ],
+        more: &[],
+    },
+    CommandWords {
+        name: "collect",
+        about: "Polls the meters of LIST, many at once, and prints the new rows",
+        long_about: COLLECT_ABOUT,
+        example: "Example:\n  dlms collect meters.txt --readings readings",
+        arguments: &[
+            Argument {
+                name: "LIST",
+                kind: Kind::Wanted,
+                help: "The file with a line for each meter, NAME PLACE",
+            },
+            Argument {
+                name: "readings",
+                kind: Kind::Needed("DIR"),
+                help: "The folder of the readings files, NAME.csv",
+            },
+            SECRET_FILE,
+            Argument {
+                name: "client",
+                kind: Kind::Number("SAP", 1, 127),
+                help: "Asks as the client with this address, 1 to 127 [default: 1, management]",
+            },
+            Argument {
+                name: "at-once",
+                kind: Kind::Number("N", 1, 100_000),
+                help: "How many meters are polled at once at most, 1 to 100000 [default: 1000]",
+            },
+            Argument {
+                name: "deadline",
+                kind: Kind::Number("SECONDS", 1, 86_400),
+                help: "The most seconds that the poll of a meter may take, 1 to 86400 [default: 300]",
+            },
+            Argument {
+                name: "every",
+                kind: Kind::Number("SECONDS", 1, 31_536_000),
+                help: "Polls all meters again and again, this many seconds from one beginning to the next",
+            },
+            Argument {
+                name: "retries",
+                kind: Kind::Number("COUNT", 0, 100),
+                help: "How many times a meter is polled again after a poll that failed, 0 to 100 [default: 0]",
+            },
+            Argument {
+                name: "failed",
+                kind: Kind::Option("FILE"),
+                help: "Writes the lines of the meters that failed to FILE, as a list",
+            },
+            Argument {
+                name: "quiet",
+                kind: Kind::Flag,
+                help: "Shows no progress on a terminal",
+            },
+            Argument {
+                name: "json",
+                kind: Kind::Flag,
+                help: "Prints an object of JSON for each row",
+            },
         ],
         more: &[],
     },

@@ -102,6 +102,26 @@ registers), dlms: refused N or dlms: result N for the poll; dlms: clock N if, wi
 before it; dlms: ahead N if row N is too far past the system's clock, of the poll or of FILE, as a second line says; dlms: expect \
 if the meter does not show an expected TEXT; with --security dlms: keys, dlms: counters or dlms: security, as for get; dlms: memory); 2 for invalid arguments, and for this help.";
 
+/// What `collect` does, for its help.
+pub const COLLECT_ABOUT: &str =
+    "Polls the load profiles of the meters of LIST, many at once, and prints the new rows.
+
+LIST has a line for each meter: a NAME of letters, digits, \".\", \"_\" and \"-\", which no other line has; its PLACE as HOST:PORT, \
+or HOST for port 4059; and options, as client=SAP, secret-file=FILE, carrier=wrapper (or hdlc) and server=ADDRESS, with a space before \
+each. Empty lines, and lines that begin with #, are left out. A line without client= or secret-file= has those of --client and \
+--secret-file; without these too, the meter is polled as the management client with the secret 12345678, as poll does it.
+
+The rows of a meter go into DIR/NAME.csv by the rules of poll: only rows later than those in the file are requested, each is printed \
+before it is filed, and no other program has the file meanwhile. DIR must exist. A row is printed as NAME,clock,r0,r1,r2, with --json \
+as an object with meter, clock and registers. At most --at-once meters are polled at once, fewer if the system allows fewer open files \
+(ulimit -n). A meter whose poll takes longer than --deadline fails. With --retries COUNT a meter that refused or lost the connection, \
+or did not answer, is polled again after the others, up to COUNT times. With --every the whole list is polled again and again, until \
+the program is stopped. If standard error is a terminal, it shows how far the round has come, unless --quiet is given. At the end of a \
+round a line on standard error reports each meter that failed, and with --failed their lines are put into FILE, as the LIST of another run.
+
+Exit status: 0 if every meter was polled; 1 if one failed (dlms: failed N), or after a fault (dlms: io, with the file or folder and the \
+system's message on a second line; dlms: list N for line N of LIST; dlms: memory); 2 for invalid arguments, and for this help.";
+
 /// What `get` does, for its help.
 pub const GET_ABOUT: &str = "Asks the meter at PLACE for attributes, and prints their values.
 

@@ -12,9 +12,10 @@ mod words;
 
 pub use addresses::{Place, split_place};
 pub use commands::{
-    ActOptions, Asking, ClockOptions, Expecting, ExplainOptions, FormatOptions, GetOptions, Job,
-    KeysOptions, ListOptions, LoopbackOptions, MeterOptions, OutputFormat, PlotOptions,
-    PollOptions, ProfileOptions, ServeOptions, SetOptions, ShowOptions, TableFormat, ValueFormat,
+    ActOptions, Asking, ClockOptions, CollectOptions, Expecting, ExplainOptions, FormatOptions,
+    GetOptions, Job, KeysOptions, ListOptions, LoopbackOptions, MeterOptions, OutputFormat,
+    PlotOptions, PollOptions, ProfileOptions, ServeOptions, SetOptions, ShowOptions, TableFormat,
+    ValueFormat,
 };
 pub use numbers::number;
 pub use words::job;

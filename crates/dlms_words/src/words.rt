@@ -7,9 +7,10 @@ ghost use Rattle.dlms_words.specs.Words.{asker as client_by, address_in, line_ad
 
 use crate::addresses::{is_address, is_device, split_place};
 use crate::commands::{
-    ActOptions, Asking, ClockOptions, Expecting, ExplainOptions, FormatOptions, GetOptions, Job,
-    KeysOptions, ListOptions, LoopbackOptions, MeterOptions, OutputFormat, PlotOptions,
-    PollOptions, ProfileOptions, ServeOptions, SetOptions, ShowOptions, TableFormat, ValueFormat,
+    ActOptions, Asking, ClockOptions, CollectOptions, Expecting, ExplainOptions, FormatOptions,
+    GetOptions, Job, KeysOptions, ListOptions, LoopbackOptions, MeterOptions, OutputFormat,
+    PlotOptions, PollOptions, ProfileOptions, ServeOptions, SetOptions, ShowOptions, TableFormat,
+    ValueFormat,
 };
 use crate::grammar::program;
 use clap::error::ErrorKind;
@@ -22,6 +23,9 @@ const DEADLINE: u32 = 300;
 
 /// The default number of seconds for which an answer is waited for.
 const TIMEOUT: u32 = 2;
+
+/// The default number of meters that are polled at once at most.
+const AT_ONCE: u32 = 1_000;
 
 /// The default step, in seconds, in which a serving meter learns of the clock.
 const TICK: u32 = 1;
@@ -322,6 +326,28 @@ fn poll_job<'a>(matches: &ArgMatches<'a>) -> Job<'a>
         ahead: ahead(checks, value_for(matches, "poll", "ahead")),
         strict,
         expecting: expecting(matches),
+    })
+}
+
+/// The values of `collect`.
+fn collect_job<'a>(matches: &ArgMatches<'a>) -> Job<'a>
+    ensures { (rows : List Row) → subcommand_rows_of matches.now ≡ Some (codes "collect", rows)
+        → Asks (Some (codes "collect", rows)) result }
+{
+    let quiet = is_given(value_for(matches, "collect", "quiet"));
+    let json = is_given(value_for(matches, "collect", "json"));
+    Job::Collect(CollectOptions {
+        list: value_for(matches, "collect", "LIST").unwrap_or(""),
+        readings: value_for(matches, "collect", "readings").unwrap_or(""),
+        secret_file: value_for(matches, "collect", "secret-file"),
+        client: given_number_for(matches, "collect", "client"),
+        at_once: number_for(matches, "collect", "at-once", AT_ONCE),
+        deadline: number_for(matches, "collect", "deadline", DEADLINE),
+        every: given_number_for(matches, "collect", "every"),
+        retries: number_for(matches, "collect", "retries", 0),
+        failed: value_for(matches, "collect", "failed"),
+        quiet,
+        format: output_format(json),
     })
 }
 
@@ -779,6 +805,9 @@ pub fn job<'a>(alloc: Global, words: &'a [&'a str]) -> Result<Job<'a>, Error>
     }
     if matches.subcommand_name() == Some("keys") {
         return Ok(keys_job(&matches));
+    }
+    if matches.subcommand_name() == Some("collect") {
+        return Ok(collect_job(&matches));
     }
     Ok(poll_job(&matches))
 }
