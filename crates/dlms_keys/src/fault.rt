@@ -46,7 +46,7 @@ pub enum StationsFault {
 }
 
 /// Why a file of settings or of stations is refused.
-#[derive(Debug, Error, Drop)]
+#[derive(Clone, Copy, Debug, Error)]
 pub enum FileFault {
     /// A call of the system failed.
     #[error("{0}")]
@@ -72,7 +72,7 @@ impl From<io::Error> for FileFault {
 }
 
 /// Why a file of counters was not made or opened.
-#[derive(Debug, Error, Drop)]
+#[derive(Clone, Copy, Debug, Error)]
 pub enum CountersFault {
     /// A call of the system failed.
     #[error("{0}")]
