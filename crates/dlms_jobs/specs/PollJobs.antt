@@ -19,11 +19,12 @@ use Rattle.dlms_fleet.specs.declared.job.JobStep.TheVariants as taken
 
 -- ---- the octets to send
 
--- why the octets of a poll are not sent: the security layer ended the association, or memory was refused
+-- why the octets of a poll are not sent: the security layer ended the association, or there are some, and memory was refused
 pub data Withholds (p : PollAt) (why : RunFault) : Type 0 where
   IsInsecure : (fault : SecuredFault) → fault_of p.carrier ≡ Some fault → why ≡ Insecure fault
       → Withholds p why
-  HasNoMemory : fault_of p.carrier ≡ None → why ≡ Memory → Withholds p why
+  HasNoMemory : fault_of p.carrier ≡ None → 0 < length (out_of p.carrier) → why ≡ Memory
+      → Withholds p why
 
 -- the octets of the poll's last call are added to those to send, or withheld
 abbrev pub Collects : List ℕ → List ℕ → PollAt → Result PollOutcome RunFault → Type 0

@@ -27,6 +27,8 @@ pub struct PollJob {
     alloc: Global,
     poll: CarrierPoll<Secured<AnyCarrier>>,
     left: usize,
+    /// The counter of the first message that was accepted.
+    first: Option<u32>,
 }
 
 impl Model for PollJob {
@@ -84,6 +86,7 @@ impl PollJob {
             alloc,
             poll: CarrierPoll::new(alloc, carrier, terms),
             left: MOST_BYTES,
+            first: None,
         };
         let job = Box::new(alloc, job)?;
         Ok(job)
@@ -97,7 +100,11 @@ impl PollJob {
         if let Some(fault) = self.secured_fault() {
             return Err(RunFault::Insecure(fault));
         }
-        match out.extend_from_slice(self.poll.out()) {
+        let octets = self.poll.out();
+        if octets.is_empty() {
+            return Ok(PollOutcome::Nothing);
+        }
+        match out.extend_from_slice(octets) {
             Ok(()) => Ok(PollOutcome::Nothing),
             Err(_) => Err(RunFault::Memory),
         }
@@ -210,6 +217,13 @@ impl PollJob {
         }
     }
 
+    /// Remembers the counter of the message that was accepted first.
+    fn remember_first(&mut self)
+        ensures { self.new ≡ self.old }
+    {
+        self.first = self.first.or(self.last_accepted());
+    }
+
     /// The rows that were polled; none before they are there.
     pub fn rows(&self) -> &[Row]
         ensures rows { result.now ≡ self.now.poll.talk.rows }
@@ -233,6 +247,12 @@ impl PollJob {
             Some(guard) => guard.last_accepted(),
             None => None,
         }
+    }
+
+    /// The counter of the first message that the guard accepted, by which the association is judged; none without a guard. If two
+    /// messages come in one read, that of the second is reported.
+    pub fn first_accepted(&self) -> Option<u32> {
+        self.first
     }
 
     /// The meter's system title, to be stored; none before the meter sent it, or without a guard.
@@ -264,6 +284,7 @@ impl Job for PollJob {
     fn read(&mut self, bytes: &[u8]) -> JobStep<Vec<u8>, RunFault> {
         let mut out = Vec::new(self.alloc);
         let result = self.take(bytes, &mut out);
+        self.remember_first();
         step_for(out, result)
     }
 
