@@ -7,6 +7,7 @@ ghost use Rattle.dlms_lines.specs.Deadline.{IsUntil, wait_within};
 
 use crate::deadline::Deadline;
 use crate::line::{Line, WAIT_SECONDS};
+use crate::place::host_and_port;
 use crate::serial::{Serial, is_device};
 use crate::steady::HostClock;
 use crate::wire::Wire;
@@ -22,10 +23,10 @@ use std::time::{Clock, Duration, Instant};
 /// For how many seconds a connection is waited for.
 pub const CONNECT_SECONDS: u64 = 8;
 
-/// For how many milliseconds nothing has to come before the poll begins.
+/// For how many milliseconds nothing has to arrive on a serial line before it is used.
 const QUIET_MILLISECONDS: u64 = 50;
 
-/// The most reads before the poll begins.
+/// The most reads of a serial line before it is used.
 const QUIET_READS: u32 = 64;
 
 /// An end that can be connected to an address, or is a device.
@@ -56,20 +57,15 @@ fn quiet<S: Read + Write>(stream: &mut S) -> io::Result<()> {
     Ok(())
 }
 
-/// The stream gives up after a while, sends bytes at once, and has nothing to be read.
-fn prepare<S: Read + Write + OpenStream>(stream: &mut S, wait: u64) -> io::Result<()> {
+/// The stream gives up after a while, and sends bytes at once. Nothing of an earlier connection is on it.
+fn prepare<S: OpenStream>(stream: &mut S, wait: u64) -> io::Result<()> {
     stream.set_nodelay(true)?;
-    stream.set_read_timeout(Some(Duration::from_millis(QUIET_MILLISECONDS)))?;
-    quiet(stream)?;
     stream.set_read_timeout(Some(Duration::from_secs(wait)))?;
     stream.set_write_timeout(Some(Duration::from_secs(wait)))
 }
 
 /// A connection that is no standard stream, and is ready.
-fn make_ready<S: Read + Write + OpenStream + AsRawFd + Drop>(
-    stream: S,
-    wait: u64,
-) -> io::Result<S> {
+fn make_ready<S: OpenStream + AsRawFd + Drop>(stream: S, wait: u64) -> io::Result<S> {
     refuse_standard(stream.as_raw_fd())?;
     let mut stream = stream;
     prepare(&mut stream, wait)?;
@@ -100,8 +96,11 @@ fn connect_first<R: Net + Clock>(
     address: &str,
     deadline: Deadline,
 ) -> io::Result<Option<R::Stream>> {
+    let Some(place) = host_and_port(address) else {
+        return Err(ErrorKind::InvalidInput.into());
+    };
     let mut last = io::Error::from(ErrorKind::AddrNotAvailable);
-    for place in address.to_socket_addrs(rt)? {
+    for place in place.to_socket_addrs(rt)? {
         let Some(seconds) = wait_within(deadline.left(Instant::now(rt)?)) else {
             return Ok(None);
         };

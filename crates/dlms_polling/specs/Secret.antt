@@ -11,9 +11,15 @@ use Rattle.dlms_lines.specs.declared.fault.FieldFault.{FieldFault}
 use Rattle.dlms_lines.specs.declared.fault.FieldFault.TheVariants.{System, Secret}
 use Rattle.dlms_state.specs.declared.event.TheConstants.{MOST_SECRET}
 
--- the bytes without one line feed at their end, if they have one
-abbrev pub IsWithoutLineFeed : List ℕ → List ℕ → Type 0
-IsWithoutLineFeed bytes rest = (bytes ≡ rest ++ 10 ∷ [])
+-- the bytes without this one at their end, if they have it there
+abbrev pub IsWithout : ℕ → List ℕ → List ℕ → Type 0
+IsWithout byte bytes rest = (bytes ≡ rest ++ byte ∷ [])
+    ⊎ ((rest ≡ bytes) × ((before : List ℕ) → bytes ≡ before ++ byte ∷ [] → ⊥))
+
+-- the bytes without the end of a line, if they have one: a line feed, and a carriage return before it if one is there
+abbrev pub IsWithoutLineEnd : List ℕ → List ℕ → Type 0
+IsWithoutLineEnd bytes rest =
+    ((line : List ℕ) × (bytes ≡ line ++ 10 ∷ []) × IsWithout 13 line rest)
     ⊎ ((rest ≡ bytes) × ((before : List ℕ) → bytes ≡ before ++ 10 ∷ [] → ⊥))
 
 -- the secret of a client as a new meter knows it; the public client has none
@@ -30,14 +36,14 @@ abbrev pub Finds : List ℕ → Option (List ℕ) → Option (List Sight) → Op
 Finds first None seen seen' secret = (secret ≡ first) × Sees seen seen' []
 Finds first (Some file) seen seen' secret = (bytes : List ℕ)
     × Sees seen seen' (Reads file (Ok bytes) ∷ [])
-    × ((rest : List ℕ) → IsWithoutLineFeed bytes rest → secret ≡ rest)
+    × ((rest : List ℕ) → IsWithoutLineEnd bytes rest → secret ≡ rest)
 
 -- why there is none: the file could not be read, or its contents are too long
 abbrev pub FindsNoneIn : List ℕ → Option (List Sight) → Option (List Sight) → FieldFault → Type 0
 FindsNoneIn file seen seen' (System place error) = (place.now ≡ file)
     × Sees seen seen' (Reads file (Err error) ∷ [])
 FindsNoneIn file seen seen' Secret = (bytes : List ℕ) × Sees seen seen' (Reads file (Ok bytes) ∷ [])
-    × ((rest : List ℕ) → IsWithoutLineFeed bytes rest → MOST_SECRET < length rest)
+    × ((rest : List ℕ) → IsWithoutLineEnd bytes rest → MOST_SECRET < length rest)
 FindsNoneIn file seen seen' _ = ⊥
 
 abbrev pub FindsNone : Option (List ℕ) → Option (List Sight) → Option (List Sight) → FieldFault

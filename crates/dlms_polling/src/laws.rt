@@ -55,7 +55,7 @@ pub fn what_a_route_puts_is_held<P: Pages, A: Allocator + Copy>(meter: &Meter<P,
 /// a file; the retries of a call that does not bound them, and the most reads of a poll over a route; the octets of an APDU that asks for a text.
 pub fn the_numbers()
     ensures year { YEAR_2000 ≡ 946684800 }
-    ensures secret { (MOST_SECRET ≡ 16) × (MOST_READ ≡ MOST_SECRET + 2) }
+    ensures secret { (MOST_SECRET ≡ 16) × (MOST_READ ≡ MOST_SECRET + 3) }
     ensures calls { (MOST_RETRIES ≡ 131071) × (READS ≡ 16777216) }
     ensures texts { SIZE ≡ 1024 }
 {}

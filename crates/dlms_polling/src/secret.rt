@@ -2,7 +2,7 @@
 
 ghost use Rattle.std.specs.Prelude.{◌≡◌, ◌<◌, ℕ, List, [], Some, length, option_map, IfErr, IfOk, MatchOption};
 ghost use Rattle.dlms_polling.specs.FirstBytes.{AreFirst, IsByte, ReadsByte};
-ghost use Rattle.dlms_polling.specs.Secret.{Finds, FindsGiven, FindsNone, FindsNoneIn, FindsNoneSent, FindsNoSecret, FindsSecret, FindsSent, IsWithoutLineFeed, first_of};
+ghost use Rattle.dlms_polling.specs.Secret.{Finds, FindsGiven, FindsNone, FindsNoneIn, FindsNoneSent, FindsNoSecret, FindsSecret, FindsSent, IsWithout, IsWithoutLineEnd, first_of};
 
 use crate::poll_inputs::PollInputs;
 use arrayvec::ArrayVec;
@@ -14,25 +14,35 @@ use std::fs::Files;
 use std::io::Read;
 use std::{fs, io};
 
-/// The bytes that are read of a file: those of the longest secret, a line feed, and one that is too many.
-pub const MOST_READ: usize = 18;
+/// The bytes that are read of a file: those of the longest secret, the two of the end of a line, and one that is too many.
+pub const MOST_READ: usize = 19;
 
-/// The bytes without one line feed at their end.
-fn without_line_feed(bytes: &[u8]) -> &[u8]
-    ensures { IsWithoutLineFeed bytes.now result.now }
+/// The bytes without this one at their end, if they have it there.
+fn without_last(bytes: &[u8], byte: u8) -> &[u8]
+    ensures { IsWithout byte bytes.now result.now }
 {
     match bytes.split_last() {
-        Some((b'\n', rest)) => rest,
+        Some((last, rest)) if *last == byte => rest,
         _ => bytes,
     }
 }
 
-/// The secret in a file of these bytes: all of them, without one line feed at their end. `None` if it has more than 16 bytes.
+/// The bytes without the end of a line, if they have one.
+fn without_line_end(bytes: &[u8]) -> &[u8]
+    ensures { IsWithoutLineEnd bytes.now result.now }
+{
+    match bytes.split_last() {
+        Some((b'\n', line)) => without_last(line, b'\r'),
+        _ => bytes,
+    }
+}
+
+/// The secret in a file of these bytes: all of them, without the end of a line. `None` if it has more than 16 bytes.
 pub fn secret_in(bytes: &[u8]) -> Option<ArrayVec<u8, 16>>
-    ensures { (rest : List ℕ) → IsWithoutLineFeed bytes.now rest
+    ensures { (rest : List ℕ) → IsWithoutLineEnd bytes.now rest
         → MatchOption result (MOST_SECRET < length rest) (λ secret. secret.items ≡ rest) }
 {
-    let rest = without_line_feed(bytes);
+    let rest = without_line_end(bytes);
     if rest.len() > MOST_SECRET {
         return None;
     }

@@ -2,6 +2,7 @@
 #![tactic(auto)]
 
 mod carrier;
+mod gauge;
 pub mod guess_laws;
 mod guesses;
 mod hanging_up;

@@ -1,5 +1,6 @@
 //! The system's clock and a TCP port of it, as a meter that serves watches them.
 
+use crate::gauge::Gauge;
 use crate::guesses::{Guesses, Origin};
 use crate::queue::{MOST_WAITING, Place, giving_way, next_of, round_of};
 use crate::watch::{Peer, Watch};
@@ -12,8 +13,11 @@ use std::{io, thread};
 /// For how many seconds a read or a write of a connection waits.
 const WAKE_SECONDS: u64 = 1;
 
-/// For how many milliseconds the next connection is waited for before it is asked for again.
+/// The milliseconds of a pause if the system does not report connections.
 const PAUSE_MILLISECONDS: u64 = 10;
+
+/// The milliseconds of a second.
+const SECOND: u64 = 1_000;
 
 /// So many connections are taken from the system at once.
 const MOST_TAKEN: usize = 1_024;
@@ -24,6 +28,8 @@ pub struct PortWatch<'r, R: Clock, L: OpenListener> {
     rt: &'r R,
     start: Instant,
     listener: L,
+    /// Reports a connection, if the system does.
+    gauge: Option<Gauge<Global>>,
     peers: Vec<Peer<L::Stream>>,
     places: Vec<Place>,
     guesses: Guesses,
@@ -38,17 +44,35 @@ pub struct PortWatch<'r, R: Clock, L: OpenListener> {
 impl<'r, R: Clock, L: OpenListener> PortWatch<'r, R, L> {
     /// Nobody waits, and nobody was refused.
     #[inline(never)]
-    pub fn new(rt: &'r R, alloc: Global, start: Instant, listener: L) -> Self {
+    pub fn new(
+        rt: &'r R,
+        alloc: Global,
+        start: Instant,
+        listener: L,
+        gauge: Option<Gauge<Global>>,
+    ) -> Self {
         PortWatch {
             rt,
             start,
             listener,
+            gauge,
             peers: Vec::new(alloc),
             places: Vec::new(alloc),
             guesses: Guesses::none(alloc),
             round: 0,
             prefers_known: true,
             served: None,
+        }
+    }
+
+    /// How long the clock's second lasts; no time if the clock fails.
+    fn left_of_second(&self) -> Duration {
+        match self.start.elapsed(self.rt) {
+            Ok(passed) => {
+                let passed = u64::from(passed.subsec_millis());
+                Duration::from_millis(SECOND.saturating_sub(passed))
+            }
+            Err(_) => Duration::ZERO,
         }
     }
 
@@ -167,7 +191,16 @@ where
         }
     }
 
+    /// Waits for a connection, at most until the clock's next second: then the meter learns of it, and an address that had to wait may have
+    /// its turn.
     fn pause(&mut self) {
-        thread::sleep(self.rt, Duration::from_millis(PAUSE_MILLISECONDS));
+        let left = self.left_of_second();
+        let waited = match &mut self.gauge {
+            Some(gauge) => gauge.wait(left).is_ok(),
+            None => false,
+        };
+        if !waited {
+            thread::sleep(self.rt, Duration::from_millis(PAUSE_MILLISECONDS));
+        }
     }
 }

@@ -6,6 +6,7 @@ ghost use Rattle.dlms_serving.specs.Connection.{timed};
 ghost use Rattle.dlms_serving.specs.Serving.{Closes, Passes, Serves, ServesAll, ServesNext, ServesOne, Visits, is_refused};
 
 use crate::carrier::Carrier;
+use crate::gauge::Gauge;
 use crate::hanging_up::hang_up;
 use crate::log::Log;
 use crate::port_watch::PortWatch;
@@ -17,6 +18,7 @@ use dlms_ends::RunFault;
 use dlms_lines::FieldFault;
 use dlms_meter::Meter;
 use dlms_pages::{Pages, refuse_standard};
+use mio::Interest;
 use std::alloc::Global;
 use std::fmt::Display;
 use std::io;
@@ -226,7 +228,7 @@ fn announce<L: OpenListener, W: Write>(listener: &L, output: &mut W) -> io::Resu
     output.flush()
 }
 
-/// Looks at the clock, and serves a connection if there is one. While there is none, that takes a hundredth of a second.
+/// Looks at the clock, and serves a connection if there is one. If there is none, the watch pauses.
 fn serve_next<'f, W: Watch + Drop, P: Pages, E: Write>(
     server: &mut Server<'_, W, E>,
     rules: Rules,
@@ -313,6 +315,7 @@ pub fn serve<'a, R: Net + Clock + AllocGlobal, P: Pages, W: Write, E: Write>(
     if let Err(error) = announce(&listener, output) {
         return Err(FieldFault::Other(RunFault::from(error)));
     }
+    let gauge = Gauge::new(rt, rt.alloc(), listener.as_raw_fd(), Interest::READABLE);
     let ticks = Ticks::new(meter.state().last(), serving.load);
     let log = log_of(rt, serving);
     let rules = Rules {
@@ -322,7 +325,7 @@ pub fn serve<'a, R: Net + Clock + AllocGlobal, P: Pages, W: Write, E: Write>(
         carrier: serving.carrier,
     };
     let mut server = Server::new(
-        PortWatch::new(rt, rt.alloc(), start, listener),
+        PortWatch::new(rt, rt.alloc(), start, listener, gauge),
         ticks,
         log,
         errors,
