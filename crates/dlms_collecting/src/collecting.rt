@@ -14,6 +14,7 @@ use dlms_pages::sync_folder;
 use std::fs::{File, Files};
 use std::io::Write;
 use std::net::Net;
+use std::random::RandomSource;
 use std::thread;
 use std::time::{Clock, Duration, Instant};
 
@@ -115,11 +116,11 @@ fn wait_for_round<R: Clock>(rt: &R, start: Instant, now: Instant, every: u32) {
     }
 }
 
-/// A round, and what is reported of it.
+/// Runs a round, and reports its result.
 fn run_round<
     'a,
     'l,
-    R: Net + Files<File = File> + Clock + AllocGlobal,
+    R: Net + Files<File = File> + Clock + AllocGlobal + RandomSource,
     O: Output,
     E: Write,
     T: FaultText,
@@ -170,11 +171,11 @@ fn run_round<
 
 /// Polls the meters of a list side by side, and files the rows of each into `FOLDER/NAME.csv` by the rules of `poll`: the new rows are
 /// printed in the wanted format before their file is put. After a round a line on the errors reports each meter
-/// that failed, with the text that `texts` has for it. Progress is shown on the errors if they are a terminal, for which the caller has
-/// checked that the rows do not go there too. Returns what came of the last round.
+/// that failed, with the text that `texts` has for it. Progress is shown on the errors if `is_terminal`: they are a terminal, and the
+/// rows do not go to it. Returns the result of the last round.
 pub fn collect<
     'a,
-    R: Net + Files<File = File> + Clock + AllocGlobal,
+    R: Net + Files<File = File> + Clock + AllocGlobal + RandomSource,
     O: Output,
     E: Write,
     T: FaultText,

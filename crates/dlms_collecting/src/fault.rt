@@ -2,6 +2,7 @@
 
 use crate::list_fault::ListFault;
 use dlms_ends::RunFault;
+use dlms_guards::GuardFault;
 use dlms_headend::PollFault;
 use dlms_lines::{ClockFault, FieldFault};
 use std::alloc::{AllocError, AllocFailed};
@@ -49,6 +50,8 @@ pub enum MeterFault {
     Late,
     /// One of its rows is refused for its clock.
     Clock(ClockFault),
+    /// Its association could not be protected, or its counter was not kept.
+    Guard(GuardFault),
     /// Anything else.
     Other(RunFault),
 }
@@ -90,8 +93,9 @@ impl MeterFault {
         file: &'a str,
         secret_file: &'a str,
         deadline: u32,
-    ) -> FieldFault<'a> {
-        match *self {
+    ) -> PollFailure<'a> {
+        PollFailure::Poll(match *self {
+            MeterFault::Guard(fault) => return PollFailure::Guard(fault),
             MeterFault::File(error) => FieldFault::System(file, error),
             MeterFault::SecretFile(error) => FieldFault::System(secret_file, error),
             MeterFault::Secret => FieldFault::Secret,
@@ -99,25 +103,38 @@ impl MeterFault {
             MeterFault::Late => FieldFault::Late(place, deadline),
             MeterFault::Clock(fault) => FieldFault::Clock(place, fault),
             MeterFault::Other(fault) => FieldFault::Other(fault),
-        }
+        })
     }
+}
+
+/// The fault that `poll` reports for a meter.
+#[derive(Clone, Copy)]
+pub enum PollFailure<'a> {
+    /// The poll or its file failed.
+    Poll(FieldFault<'a>),
+    /// The association could not be protected, or the meter's counter was not kept.
+    Guard(GuardFault),
 }
 
 /// A meter whose poll failed.
 #[derive(Clone, Copy)]
 pub struct FailedMeter<'a> {
+    /// Its name in the list.
+    pub name: &'a str,
     /// Its host, or its host and its port, as the list has them.
     pub place: &'a str,
     /// Its readings file.
     pub file: &'a str,
     /// The file of its client's secret; empty if there is none.
     pub secret_file: &'a str,
+    /// The file of its client's settings; empty if the association is in clear.
+    pub security: &'a str,
     /// The fault that `poll` reports.
-    pub fault: FieldFault<'a>,
+    pub fault: PollFailure<'a>,
 }
 
 /// The messages of failed polls.
 pub trait FaultText {
-    /// Appends the message for a meter whose poll failed. The caller joins its lines to one.
-    fn append_fault(&self, text: &mut String, failed: &FailedMeter<'_>) -> Result<(), AllocError>;
+    /// Appends the line about a meter whose poll failed, with its line feed.
+    fn append_fault(&self, text: &mut Vec<u8>, failed: &FailedMeter<'_>) -> Result<(), AllocError>;
 }

@@ -18,8 +18,8 @@ mod schedule;
 mod wires;
 
 pub use collecting::{Collection, collect};
-pub use fault::{CollectFault, FailedMeter, FaultText, MeterFault};
+pub use fault::{CollectFault, FailedMeter, FaultText, MeterFault, PollFailure};
 pub use list::{Defaults, Meter, read_list};
 pub use list_fault::{LineFault, ListFault};
-pub use named::RowFormat;
+pub use named::{Named, RowFormat, append_second};
 pub use report::Tally;

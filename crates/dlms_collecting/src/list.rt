@@ -7,12 +7,10 @@ ghost use Rattle.dlms_collecting.specs.List.{begins_name, is_mark, is_name, is_n
 use crate::list_fault::{LineFault, ListFault};
 use dlms_client::Route;
 use dlms_frame::{Address, Client};
+use dlms_lines::host_and_port;
 use dlms_text::server_of;
 use std::alloc::Global;
 use std::collections::HashSet;
-
-/// The registered port of DLMS/COSEM.
-const PORT: u16 = 4_059;
 
 /// The address, or the wrapper port, of a meter's management logical device (IEC 62056-46 and -47, reserved addresses).
 const SERVER: u8 = 1;
@@ -37,6 +35,8 @@ pub struct Meter<'a> {
     pub is_plain: bool,
     /// The file of the client's secret.
     pub secret_file: Option<&'a str>,
+    /// The file of the client's settings, if the association is to be protected.
+    pub security: Option<&'a str>,
 }
 
 /// The client of the meters whose lines name none.
@@ -54,8 +54,16 @@ struct Options<'a> {
     default_client: Option<u8>,
     client: Option<&'a str>,
     secret_file: Option<&'a str>,
+    security: Option<&'a str>,
     carrier: Option<&'a str>,
     server: Option<&'a str>,
+}
+
+/// The names and the files of settings of the lines before. No two meters have the same.
+#[derive(Drop)]
+struct Earlier<'a> {
+    names: HashSet<&'a str>,
+    settings: HashSet<&'a str>,
 }
 
 /// Whether a byte is a low line or a hyphen.
@@ -96,27 +104,6 @@ fn is_name(word: &[u8]) -> bool
     begins_name(word) && are_name_bytes(word)
 }
 
-/// The address of IP version 6 in the brackets, or the whole text.
-fn without_brackets(host: &str) -> &str {
-    match host.strip_prefix('[') {
-        Some(rest) => rest.strip_suffix(']').unwrap_or(host),
-        None => host,
-    }
-}
-
-/// The host and the port of a place; `None` if the place has neither form.
-pub fn host_and_port(place: &str) -> Option<(&str, u16)> {
-    let (host, port) = match place.rsplit_once(':') {
-        Some((host, digits)) if !place.ends_with(']') => (host, digits.parse::<u16>().ok()?),
-        _ => (place, PORT),
-    };
-    let host = without_brackets(host);
-    if host.is_empty() {
-        return None;
-    }
-    Some((host, port))
-}
-
 /// Keeps the value of an option that was not given before.
 fn keep<'a>(option: &mut Option<&'a str>, value: &'a str) -> Result<(), LineFault> {
     if option.is_some() {
@@ -136,6 +123,7 @@ impl<'a> Options<'a> {
             default_client: defaults.client,
             client: None,
             secret_file: None,
+            security: None,
             carrier: None,
             server: None,
         }
@@ -151,7 +139,8 @@ impl<'a> Options<'a> {
             "secret-file" => keep(&mut self.secret_file, value),
             "carrier" => keep(&mut self.carrier, value),
             "server" => keep(&mut self.server, value),
-            "expect" | "security" => Err(LineFault::NotYet),
+            "security" => keep(&mut self.security, value),
+            "expect" => Err(LineFault::NotYet),
             _ => Err(LineFault::Option),
         }
     }
@@ -252,6 +241,7 @@ fn with_options<'a>(
                 && options.carrier != Some("wrapper")
                 && !is_address(options),
             secret_file: options.secret_file,
+            security: options.security,
         }),
         Err(LineFault::Carrier) => Err((options.carrier.unwrap_or(""), LineFault::Carrier)),
         Err(fault) => Err((options.server.unwrap_or(""), fault)),
@@ -277,18 +267,45 @@ fn meter_of<'a>(line: &'a str, defaults: &Defaults<'a>) -> Result<Meter<'a>, (&'
             return Err((word, fault));
         }
     }
-    options.secret_file = options.secret_file.or(defaults.secret_file);
+    if let Some(file) = options.security
+        && options.secret_file.is_some()
+    {
+        return Err((file, LineFault::NoSecret));
+    }
+    if options.security.is_none() {
+        options.secret_file = options.secret_file.or(defaults.secret_file);
+    }
     with_options(line, name, place, &options)
 }
 
-/// The meters of a list. Empty lines, and lines that begin with `#`, have none. No two meters have the same name.
+impl<'a> Earlier<'a> {
+    /// Adds the name and the file of settings of the meter in this line, unless an earlier line has one of them.
+    fn add(&mut self, number: usize, meter: &Meter<'a>) -> Result<(), ListFault<'a>> {
+        if !self.names.insert(meter.name)? {
+            return Err(ListFault::Line(number, meter.name, LineFault::NameTwice));
+        }
+        let Some(file) = meter.security else {
+            return Ok(());
+        };
+        if !self.settings.insert(file)? {
+            return Err(ListFault::Line(number, file, LineFault::SecurityTwice));
+        }
+        Ok(())
+    }
+}
+
+/// The meters of a list. Empty lines, and lines that begin with `#`, have none. No two meters have the same name or the same file of
+/// settings.
 pub fn read_list<'a>(
     alloc: Global,
     text: &'a str,
     defaults: &Defaults<'a>,
 ) -> Result<Vec<Meter<'a>>, ListFault<'a>> {
     let mut meters = Vec::new(alloc);
-    let mut names = HashSet::new(alloc);
+    let mut earlier = Earlier {
+        names: HashSet::new(alloc),
+        settings: HashSet::new(alloc),
+    };
     let mut number = 0usize;
     for line in text.lines() {
         number = number.saturating_add(1);
@@ -300,9 +317,7 @@ pub fn read_list<'a>(
             Ok(meter) => meter,
             Err((word, fault)) => return Err(ListFault::Line(number, word, fault)),
         };
-        if !names.insert(meter.name)? {
-            return Err(ListFault::Line(number, meter.name, LineFault::NameTwice));
-        }
+        earlier.add(number, &meter)?;
         meters.push(meter)?;
     }
     Ok(meters)

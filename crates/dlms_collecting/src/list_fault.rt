@@ -22,6 +22,10 @@ pub enum LineFault {
     OptionTwice,
     /// `collect` does not have this option of `poll` yet.
     NotYet,
+    /// The line names a secret that would be sent in clear, and a file of settings too.
+    NoSecret,
+    /// An earlier line has the same file of settings.
+    SecurityTwice,
     /// The option's value is not a client.
     Client,
     /// The option's value is not a carrier.
@@ -44,10 +48,14 @@ impl LineFault {
             LineFault::Place => "a place is expected, as HOST or HOST:PORT",
             LineFault::Serial => "a serial line cannot be collected from: dlms poll polls it",
             LineFault::Option => {
-                "client=, secret-file=, carrier= or server= is expected, with a value"
+                "client=, secret-file=, security=, carrier= or server= is expected, with a value"
             }
             LineFault::OptionTwice => "this option is given twice",
             LineFault::NotYet => "collect does not have this option yet: dlms poll has it",
+            LineFault::NoSecret => "security= cannot be used with secret-file=",
+            LineFault::SecurityTwice => {
+                "an earlier line has these settings: each meter needs settings and counters of its own"
+            }
             LineFault::Client => "public, reader, management or a number from 1 to 127 is expected",
             LineFault::Carrier => "hdlc or wrapper is expected",
             LineFault::Server => "an address is expected as UPPER or UPPER/LOWER",

@@ -37,15 +37,6 @@ impl Tally {
 /// A meter that failed: its number in the list, and why.
 pub type Failure = (usize, MeterFault);
 
-/// Appends a message, its lines joined to one.
-fn append_joined(line: &mut String, message: &str) -> Result<(), AllocError> {
-    for part in message.lines() {
-        line.push_str(": ")?;
-        line.push_str(part.trim())?;
-    }
-    Ok(())
-}
-
 /// The line about a meter that failed.
 fn failure_line<T: FaultText>(
     alloc: Global,
@@ -54,20 +45,19 @@ fn failure_line<T: FaultText>(
     deadline: u32,
     meter: &Meter<'_>,
     fault: &MeterFault,
-) -> Result<String, AllocError> {
+) -> Result<Vec<u8>, AllocError> {
     let path = path_of(alloc, folder, meter.name)?;
     let secret_file = meter.secret_file.unwrap_or("");
     let failed = FailedMeter {
+        name: meter.name,
         place: meter.place,
         file: path.as_str(),
         secret_file,
+        security: meter.security.unwrap_or(""),
         fault: fault.of_poll(meter.place, path.as_str(), secret_file, deadline),
     };
-    let mut message = String::new(alloc);
-    texts.append_fault(&mut message, &failed)?;
-    let mut line = String::from_str(alloc, meter.name)?;
-    append_joined(&mut line, message.as_str())?;
-    line.push_str("\n")?;
+    let mut line = Vec::new(alloc);
+    texts.append_fault(&mut line, &failed)?;
     Ok(line)
 }
 
@@ -84,7 +74,7 @@ pub fn print_failures<T: FaultText, E: Write>(
     for (number, fault) in failures {
         if let Some(meter) = meters.get(*number) {
             let line = failure_line(alloc, texts, folder, deadline, meter, fault)?;
-            let _written = errors.write_all(line.as_bytes());
+            let _written = errors.write_all(line.as_slice());
         }
     }
     Ok(())

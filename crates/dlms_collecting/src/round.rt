@@ -6,7 +6,7 @@ ghost use Rattle.dlms_collecting.specs.declared.round.TheConstants.{ANSWER_SECON
 
 use crate::collecting::Collection;
 use crate::fault::{CollectFault, MeterFault};
-use crate::list::{Meter, host_and_port};
+use crate::list::Meter;
 use crate::meter_file::{MeterFile, path_of};
 use crate::named::Named;
 use crate::pace::{Pace, TICKS_A_SECOND};
@@ -18,11 +18,13 @@ use dlms_ends::RunFault;
 use dlms_filing::Output;
 use dlms_fleet::{Fleet, Limits, Outcome, take_all};
 use dlms_jobs::PollJob;
+use dlms_lines::host_and_port;
 use dlms_pages::sync_folder;
 use std::fs::{File, Files};
 use std::io;
 use std::io::{ErrorKind, Write};
 use std::net::{Net, SocketAddr, ToSocketAddrs};
+use std::random::RandomSource;
 use std::time::{Clock, Duration, Instant};
 
 /// For how many seconds an answer is waited for, as in `poll`.
@@ -34,7 +36,7 @@ const MOST_STARTS: usize = 64;
 /// The most polls that are filed in a turn: the files of a group.
 const GROUP: usize = 64;
 
-/// A round: the polls that run, those that wait, and what came of the others.
+/// A round: the polls that run and those that wait, and the result of the others.
 #[derive(Drop)]
 pub struct Round<'a, 'l, 'r, R, O, E> {
     rt: &'r R,
@@ -92,14 +94,14 @@ pub fn moment<'a, R: Clock>(rt: &R) -> Result<Instant, CollectFault<'a>> {
     }
 }
 
-impl<'a, 'l, 'r, R: Net + Files<File = File> + Clock + AllocGlobal, O: Output, E: Write> Round<
+impl<
     'a,
     'l,
     'r,
-    R,
-    O,
-    E,
-> {
+    R: Net + Files<File = File> + Clock + AllocGlobal + RandomSource,
+    O: Output,
+    E: Write,
+> Round<'a, 'l, 'r, R, O, E> {
     /// A round over these meters on this many seats. `probe` is a path in the folder of the readings files.
     pub fn new(
         rt: &'r R,
@@ -197,7 +199,7 @@ impl<'a, 'l, 'r, R: Net + Files<File = File> + Clock + AllocGlobal, O: Output, E
         let Ok(path) = path_of(alloc, self.collection.folder, meter.name) else {
             return Err(MeterFault::Other(RunFault::Memory));
         };
-        let file = MeterFile::open(self.rt, number, path)?;
+        let mut file = MeterFile::open(self.rt, number, path)?;
         let job = file.job(self.rt, meter)?;
         if let Err(error) = self.wires.connect(self.rt, address, file) {
             return Err(MeterFault::Line(error));
@@ -252,7 +254,7 @@ impl<'a, 'l, 'r, R: Net + Files<File = File> + Clock + AllocGlobal, O: Output, E
         }
     }
 
-    /// Files a poll that ended, or counts its failure. Returns whether it put its file.
+    /// Keeps the meter's counter, and files a poll that ended, or counts its failure. Returns whether it put its file.
     fn finish(
         &mut self,
         ended: EndedPoll<MeterFile<'r, R>, Box<PollJob>>,
@@ -266,11 +268,12 @@ impl<'a, 'l, 'r, R: Net + Files<File = File> + Clock + AllocGlobal, O: Output, E
         } = ended;
         let mut file = cargo;
         let number = file.number;
-        let filed = match outcome {
-            Outcome::Done => self.file(&mut file, &job),
-            Outcome::Fails(fault) => Ok(Some(MeterFault::Other(fault))),
-            Outcome::Lost => Ok(Some(loss(failure))),
-            Outcome::Late => Ok(Some(MeterFault::Late)),
+        let filed = match (file.keep_counter(&job), outcome) {
+            (Err(fault), _) => Ok(Some(fault)),
+            (Ok(()), Outcome::Done) => self.file(&mut file, &job),
+            (Ok(()), Outcome::Fails(fault)) => Ok(Some(MeterFault::Other(fault))),
+            (Ok(()), Outcome::Lost) => Ok(Some(loss(failure))),
+            (Ok(()), Outcome::Late) => Ok(Some(MeterFault::Late)),
         };
         drop(file);
         drop(job);

@@ -28,7 +28,7 @@ const MOST_WRITES: u32 = 64;
 /// For how many ticks a connection is waited for: 8 seconds, as in `poll`.
 const CONNECT_TICKS: u32 = 8 * TICKS_A_SECOND;
 
-/// The connection of a seat, the bytes that have to go out, and what the seat's poll is for.
+/// The connection of a seat, the bytes that wait to be written, and what the seat's poll is for.
 #[derive(Drop)]
 struct Wire<C> {
     stream: TcpStream,
@@ -36,7 +36,7 @@ struct Wire<C> {
     /// The ticks since the connection was begun, until it is there.
     waited: u32,
     out: Vec<u8>,
-    /// How many of these bytes went out.
+    /// How many of these bytes were written.
     sent: usize,
     failure: Option<io::Error>,
     /// Its place among the running seats.
@@ -105,12 +105,12 @@ pub struct Wires<C, T> {
     is_short: bool,
 }
 
-/// Writes the bytes after those that went out.
+/// Writes the bytes after those that were written.
 fn write_rest(stream: &mut TcpStream, out: &[u8], sent: usize) -> io::Result<usize> {
     stream.write(out.get(sent..).unwrap_or(&[]))
 }
 
-/// Writes what has to go out, as far as the system takes it.
+/// Writes the bytes that wait, as many as the system accepts.
 fn write_on<C>(wire: &mut Wire<C>) -> io::Result<()> {
     for _ in 0..MOST_WRITES {
         if wire.sent >= wire.out.len() {
@@ -128,7 +128,7 @@ fn write_on<C>(wire: &mut Wire<C>) -> io::Result<()> {
     Ok(())
 }
 
-/// Appends a message to what has to go out, and writes as much as the system takes.
+/// Appends a message to the bytes that wait, and writes as many as the system accepts.
 fn send_on<C>(wire: &mut Wire<C>, message: &[u8]) -> io::Result<()> {
     wire.out.extend_from_slice(message)?;
     write_on(wire)
@@ -326,7 +326,7 @@ impl<C: Drop, T: Drop> Wires<C, T> {
         }
     }
 
-    /// Has the system report again what is there on a connection of which not all was read.
+    /// Registers a connection again of which not all was read, so that the system reports it again.
     fn ask_again(&mut self, number: usize) -> io::Result<()> {
         let Some(Seat::Running(wire)) = self.seats.get_mut(number) else {
             return Ok(());
