@@ -11,6 +11,7 @@ mod exchange;
 mod groups;
 mod management;
 mod measurement;
+mod objects;
 mod results;
 mod services;
 mod units;
@@ -19,6 +20,7 @@ pub use class::Class;
 pub use classes::class_of;
 pub use codes::code_name;
 pub use groups::{medium_name, phase_name, processing_name, quantity_name};
+pub use objects::{KnownObject, OBJECTS, code_of};
 pub use results::{
     access_result, action_result, diagnostic, initiate_error, release_request, release_response,
     service_error, state_error,

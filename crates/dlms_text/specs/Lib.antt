@@ -7,3 +7,4 @@ pub mod Values
 pub mod Servers
 pub mod Entries
 pub mod Decimals
+pub mod Written

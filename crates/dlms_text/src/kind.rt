@@ -62,3 +62,45 @@ pub fn kind_of(word: &str) -> Option<Kind>
         _ => None,
     }
 }
+
+/// The kind in which a value with this tag is written (A-XDR, IEC 62056-6-2, common data types); none for other types.
+pub fn kind_of_tag(tag: u8) -> Option<Kind> {
+    match tag {
+        3 => Some(Kind::Bool),
+        5 => Some(Kind::DoubleLong),
+        6 => Some(Kind::DoubleLongUnsigned),
+        9 => Some(Kind::Text),
+        10 => Some(Kind::Visible),
+        12 => Some(Kind::Utf8),
+        15 => Some(Kind::Integer),
+        16 => Some(Kind::Long),
+        17 => Some(Kind::Unsigned),
+        18 => Some(Kind::LongUnsigned),
+        20 => Some(Kind::Long64),
+        21 => Some(Kind::Long64Unsigned),
+        22 => Some(Kind::Enum),
+        _ => None,
+    }
+}
+
+impl Kind {
+    /// What is written in this kind, for a message.
+    pub fn meaning(self) -> &'static str {
+        match self {
+            Kind::Unsigned => "a number of 0 to 255 (u8)",
+            Kind::LongUnsigned => "a number of 0 to 65535 (u16)",
+            Kind::DoubleLongUnsigned => "a number of 0 to 4294967295 (u32)",
+            Kind::Long64Unsigned => "a number of 0 to 18446744073709551615 (u64)",
+            Kind::Integer => "a number of -128 to 127 (i8)",
+            Kind::Long => "a number of -32768 to 32767 (i16)",
+            Kind::DoubleLong => "a number of -2147483648 to 2147483647 (i32)",
+            Kind::Long64 => "a number of -9223372036854775808 to 9223372036854775807 (i64)",
+            Kind::Enum => "a number of 0 to 255 (enum)",
+            Kind::Bool => "true or false (bool)",
+            Kind::Text => "a text (text)",
+            Kind::Visible => "a text (visible)",
+            Kind::Utf8 => "a text (utf8)",
+            Kind::Hex | Kind::Raw => "pairs of hexadecimal digits",
+        }
+    }
+}

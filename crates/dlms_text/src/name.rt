@@ -14,7 +14,7 @@ pub struct Name {
 }
 
 /// The value group before the first point, and the text after it.
-fn group(text: &str) -> Option<(u8, &str)>
+pub fn group(text: &str) -> Option<(u8, &str)>
     ensures { MatchOption result ((n : ℕ) → has 46 text.now ≡ true
         → IsBelow 256 (before 46 text.now) n → ⊥)
         (λ x. (has 46 text.now ≡ true) × IsBelow 256 (before 46 text.now) x.0
@@ -25,7 +25,7 @@ fn group(text: &str) -> Option<(u8, &str)>
 }
 
 /// The six value groups of a code.
-fn code(text: &str) -> Option<[u8; 6]>
+pub fn code(text: &str) -> Option<[u8; 6]>
     ensures some { IfSome result (AreGroups text.now) }
     ensures none { IfNone result ((a b c d e f : ℕ)
         → AreGroups text.now (a ∷ b ∷ c ∷ d ∷ e ∷ f ∷ []) → ⊥) }

@@ -151,8 +151,12 @@ fn numeral<A: Allocator>(kind: Kind, text: &str) -> Result<Data<A>, ValueFault>
     }
 }
 
-/// The value after the word of a kind.
-fn behind_word<A: Allocator + Copy>(alloc: A, kind: Kind, text: &str) -> Result<Data<A>, ValueFault>
+/// The value that a text writes in this kind, as after the kind's word and a colon. The fault is `Form` if the text writes none.
+pub fn value_as<A: Allocator + Copy>(
+    alloc: A,
+    kind: Kind,
+    text: &str,
+) -> Result<Data<A>, ValueFault>
     ensures ok { IfOk result (λ v. Writes kind text.now (data_of v)) }
     ensures err { IfErr result (Fails (Writes kind text.now) (NeedsMemory kind text.now)) }
 {
@@ -184,7 +188,7 @@ fn worded<A: Allocator + Copy>(alloc: A, text: &str) -> Result<Data<A>, ValueFau
         return Err(ValueFault::Form);
     };
     match kind_of(word) {
-        Some(kind) => behind_word(alloc, kind, rest),
+        Some(kind) => value_as(alloc, kind, rest),
         None => Err(ValueFault::Form),
     }
 }

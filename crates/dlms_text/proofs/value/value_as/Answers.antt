@@ -3,7 +3,7 @@ use Rattle.dlms_text.specs.Values.{NeedsMemory, Writes}
 use Rattle.dlms_text.specs.declared.kind.Kind.{Kind}
 use Rattle.dlms_text.specs.declared.kind.Kind.TheVariants as kind
 use Rattle.dlms_text.proofs.ValueLemmas.{err_of_kind}
-use Rattle.dlms_text.proofs.value.behind_word.Goals as goal
+use Rattle.dlms_text.proofs.value.value_as.Goals as goal
 
 pub returns-in-Bool-clause-err : goal.returns-in-Bool-clause-err
 returns-in-Bool-clause-err g c = err_of_kind c.boolean.result c.args.kind kind.Bool c.args.text.now c.in-Bool.is c.boolean.ensures.err
